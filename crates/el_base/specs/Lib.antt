@@ -1,0 +1,6 @@
+pub mod formers
+pub mod Logs
+pub mod Names
+pub mod Numbers
+pub mod Widths
+pub mod Words

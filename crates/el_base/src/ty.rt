@@ -1,0 +1,73 @@
+ghost use Rattle.std.specs.Prelude.{◌≡◌};
+ghost use Rattle.el_base.specs.Widths.{ty_width, ty_signed};
+ghost use Rattle.el_base.specs.Names.{ty_name};
+
+use crate::name::Name;
+
+/// An integer type of fixed width (ISO/IEC 9899:1999 7.18.1.1): signed ones are two's complement.
+#[derive(Clone, Copy, Debug, PartialEq, Eq)]
+pub enum Ty {
+    I8,
+    U8,
+    I16,
+    U16,
+    I32,
+    U32,
+    I64,
+    U64,
+}
+
+impl Ty {
+    /// Whether the type has negative numbers.
+    pub fn signed(self) -> bool
+        ensures { result ≡ ty_signed self }
+    {
+        match self {
+            Ty::I8 | Ty::I16 | Ty::I32 | Ty::I64 => true,
+            Ty::U8 | Ty::U16 | Ty::U32 | Ty::U64 => false,
+        }
+    }
+
+    /// The width, in bits.
+    pub fn width(self) -> u32
+        ensures { result ≡ ty_width self }
+    {
+        match self {
+            Ty::I8 | Ty::U8 => 8,
+            Ty::I16 | Ty::U16 => 16,
+            Ty::I32 | Ty::U32 => 32,
+            Ty::I64 | Ty::U64 => 64,
+        }
+    }
+
+    /// The type's word in a net text.
+    pub fn name(self) -> &'static str
+        ensures { result.now ≡ ty_name self }
+    {
+        match self {
+            Ty::I8 => "i8",
+            Ty::U8 => "u8",
+            Ty::I16 => "i16",
+            Ty::U16 => "u16",
+            Ty::I32 => "i32",
+            Ty::U32 => "u32",
+            Ty::I64 => "i64",
+            Ty::U64 => "u64",
+        }
+    }
+}
+
+/// A scalar parameter of a kernel or circuit.
+#[derive(Debug, Drop)]
+pub struct Scalar {
+    pub name: Name,
+    pub ty: Ty,
+}
+
+/// An array parameter: its elements' type and their number.
+#[derive(Debug, Drop)]
+pub struct Array {
+    pub name: Name,
+    pub ty: Ty,
+    pub len: u64,
+}
