@@ -1,4 +1,5 @@
 pub mod formers
+pub mod Digits
 pub mod Logs
 pub mod Names
 pub mod Numbers

@@ -1,5 +1,5 @@
 -- Whole numbers and their patterns: what a type can hold, and two's complement (ISO/IEC 9899:1999 6.2.5, 6.2.6.2, 6.3.1.3).
-use Rattle.std.specs.Prelude.{ℕ, ◌+◌, ◌-◌, ◌*◌, ◌^◌, ◌<◌, pos, negsuc, ℤ, ◌-ℤ◌, ◌≤ℤ◌, nat_lt, if◌then◌else◌, Bool, true, false}
+use Rattle.std.specs.Prelude.{ℕ, ◌-◌, ◌^◌, pos, ℤ, ◌-ℤ◌, ◌≤ℤ◌, nat_lt, if◌then◌else◌, Bool, true, false}
 use Rattle.std.specs.Int.{int_rem_euclid}
 use Rattle.std.specs.Int.RustNames.{unsigned_abs}
 use Rattle.el_base.specs.declared.ty.Ty.{Ty}

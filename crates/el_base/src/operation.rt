@@ -1,4 +1,6 @@
-ghost use Rattle.std.specs.Prelude.{◌≡◌};
+ghost use Rattle.std.specs.Prelude.{◌≡◌, IfSome};
+ghost use Rattle.el_base.specs.declared.operation.Op1.{Op1};
+ghost use Rattle.el_base.specs.declared.operation.Op2.{Op2};
 ghost use Rattle.el_base.specs.Widths.{op1_in, op1_out, op2_in, op2_out};
 ghost use Rattle.el_base.specs.Names.{op1_name, op2_name};
 
@@ -30,6 +32,34 @@ pub enum Op1 {
     Cut64to16,
     Cut64to32,
 }
+
+/// All operations on one pattern.
+const OP1S: [Op1; 24] = [
+    Op1::Neg32,
+    Op1::Neg64,
+    Op1::Not32,
+    Op1::Not64,
+    Op1::Zero32,
+    Op1::Zero64,
+    Op1::S8to16,
+    Op1::S8to32,
+    Op1::S8to64,
+    Op1::S16to32,
+    Op1::S16to64,
+    Op1::S32to64,
+    Op1::U8to16,
+    Op1::U8to32,
+    Op1::U8to64,
+    Op1::U16to32,
+    Op1::U16to64,
+    Op1::U32to64,
+    Op1::Cut16to8,
+    Op1::Cut32to8,
+    Op1::Cut32to16,
+    Op1::Cut64to8,
+    Op1::Cut64to16,
+    Op1::Cut64to32,
+];
 
 impl Op1 {
     /// The width of the operand, in bits.
@@ -113,6 +143,19 @@ impl Op1 {
             Op1::Cut64to32 => "cut64to32",
         }
     }
+
+    /// The operation of that word; `None` where none has it.
+    pub fn of_name(bytes: &[u8]) -> Option<Op1>
+        ensures named { IfSome result (λ op. op1_name op ≡ bytes.now) }
+        ensures every { (op : Op1) → op1_name op ≡ bytes.now → result ≡ Some op }
+    {
+        for op in OP1S {
+            if op.name().as_bytes() == bytes {
+                return Some(op);
+            }
+        }
+        None
+    }
 }
 
 /// An operation on two patterns of one width, named as in a net text.
@@ -157,6 +200,48 @@ pub enum Op2 {
     Les32,
     Les64,
 }
+
+/// All operations on two patterns.
+const OP2S: [Op2; 38] = [
+    Op2::Add32,
+    Op2::Add64,
+    Op2::Sub32,
+    Op2::Sub64,
+    Op2::Mul32,
+    Op2::Mul64,
+    Op2::And32,
+    Op2::And64,
+    Op2::Or32,
+    Op2::Or64,
+    Op2::Xor32,
+    Op2::Xor64,
+    Op2::Shl32,
+    Op2::Shl64,
+    Op2::Shru32,
+    Op2::Shru64,
+    Op2::Shrs32,
+    Op2::Shrs64,
+    Op2::Divu32,
+    Op2::Divu64,
+    Op2::Remu32,
+    Op2::Remu64,
+    Op2::Divs32,
+    Op2::Divs64,
+    Op2::Rems32,
+    Op2::Rems64,
+    Op2::Eq32,
+    Op2::Eq64,
+    Op2::Ne32,
+    Op2::Ne64,
+    Op2::Ltu32,
+    Op2::Ltu64,
+    Op2::Leu32,
+    Op2::Leu64,
+    Op2::Lts32,
+    Op2::Lts64,
+    Op2::Les32,
+    Op2::Les64,
+];
 
 impl Op2 {
     /// The width of both operands, in bits.
@@ -295,5 +380,18 @@ impl Op2 {
             Op2::Les32 => "les32",
             Op2::Les64 => "les64",
         }
+    }
+
+    /// The operation of that word; `None` where none has it.
+    pub fn of_name(bytes: &[u8]) -> Option<Op2>
+        ensures named { IfSome result (λ op. op2_name op ≡ bytes.now) }
+        ensures every { (op : Op2) → op2_name op ≡ bytes.now → result ≡ Some op }
+    {
+        for op in OP2S {
+            if op.name().as_bytes() == bytes {
+                return Some(op);
+            }
+        }
+        None
     }
 }

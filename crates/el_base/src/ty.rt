@@ -1,7 +1,9 @@
-ghost use Rattle.std.specs.Prelude.{◌≡◌};
+ghost use Rattle.std.specs.Prelude.{◌≡◌, IfOk, IfSome};
+ghost use Rattle.el_base.specs.declared.ty.Ty.{Ty};
 ghost use Rattle.el_base.specs.Widths.{ty_width, ty_signed};
 ghost use Rattle.el_base.specs.Names.{ty_name};
 
+use crate::memory::Memory;
 use crate::name::Name;
 
 /// An integer type of fixed width (ISO/IEC 9899:1999 7.18.1.1): signed ones are two's complement.
@@ -16,6 +18,18 @@ pub enum Ty {
     I64,
     U64,
 }
+
+/// All types.
+const TYPES: [Ty; 8] = [
+    Ty::I8,
+    Ty::U8,
+    Ty::I16,
+    Ty::U16,
+    Ty::I32,
+    Ty::U32,
+    Ty::I64,
+    Ty::U64,
+];
 
 impl Ty {
     /// Whether the type has negative numbers.
@@ -55,6 +69,19 @@ impl Ty {
             Ty::U64 => "u64",
         }
     }
+
+    /// The type of that word; `None` where no type has it.
+    pub fn of_name(bytes: &[u8]) -> Option<Ty>
+        ensures named { IfSome result (λ t. ty_name t ≡ bytes.now) }
+        ensures every { (t : Ty) → ty_name t ≡ bytes.now → result ≡ Some t }
+    {
+        for ty in TYPES {
+            if ty.name().as_bytes() == bytes {
+                return Some(ty);
+            }
+        }
+        None
+    }
 }
 
 /// A scalar parameter of a kernel or circuit.
@@ -64,10 +91,43 @@ pub struct Scalar {
     pub ty: Ty,
 }
 
+impl Scalar {
+    /// An equal scalar.
+    ///
+    /// # Errors
+    ///
+    /// [`Memory`] where memory is wanting.
+    pub fn copy(&self) -> Result<Scalar, Memory>
+        ensures { IfOk result (λ s. s ≡ self.now) }
+    {
+        Ok(Scalar {
+            name: self.name.copy()?,
+            ty: self.ty,
+        })
+    }
+}
+
 /// An array parameter: its elements' type and their number.
 #[derive(Debug, Drop)]
 pub struct Array {
     pub name: Name,
     pub ty: Ty,
     pub len: u64,
+}
+
+impl Array {
+    /// An equal array.
+    ///
+    /// # Errors
+    ///
+    /// [`Memory`] where memory is wanting.
+    pub fn copy(&self) -> Result<Array, Memory>
+        ensures { IfOk result (λ a. a ≡ self.now) }
+    {
+        Ok(Array {
+            name: self.name.copy()?,
+            ty: self.ty,
+            len: self.len,
+        })
+    }
 }

@@ -1,0 +1,5 @@
+pub mod DigitLemmas
+pub mod ReadLemmas
+pub mod PatternLemmas
+pub mod NameLemmas
+pub mod WrittenLemmas
