@@ -1,0 +1,131 @@
+//! The adapters over the real files and streams. They tell nothing of content.
+ghost use Rattle.std.specs.Prelude.{◌≡◌, ◌<◌, ◌≤◌, [], IsOk, Ok, length};
+ghost use Rattle.std.specs.Io.KnownBytes.{Consumes, IsAtEnd};
+ghost use Rattle.el_io.specs.declared.files.Got.TheVariants as got;
+
+use crate::files::{FileFail, Files, Got};
+use crate::sink::{Sink, SinkFail};
+use std::fs;
+use std::io::{Read, Write};
+
+/// The real files.
+#[derive(Drop)]
+pub struct HostFiles<R: std::rt::Files> {
+    rt: R,
+    faults: u64,
+    longs: u64,
+    long: u64,
+}
+
+impl<R: std::rt::Files> HostFiles<R> {
+    /// The files that the handle reaches, with nothing counted yet.
+    pub fn new(rt: R) -> HostFiles<R>
+        ensures faults { ⟦<HostFiles<R> as Files>⟧.faults result ≡ 0 }
+        ensures longs { ⟦<HostFiles<R> as Files>⟧.longs result ≡ 0 }
+        ensures long { ⟦<HostFiles<R> as Files>⟧.long result ≡ 0 }
+    {
+        HostFiles {
+            rt,
+            faults: 0,
+            longs: 0,
+            long: 0,
+        }
+    }
+}
+
+impl<R: std::rt::Files> Files for HostFiles<R> {
+    ghost use Rattle.std.specs.Prelude.{None};
+
+    ghost holds = { λ s name. None };
+
+    ghost faults = { λ s. s.faults };
+
+    ghost longs = { λ s. s.longs };
+
+    ghost long = { λ s. s.long };
+
+    ghost steady = { λ s. ⊥ };
+
+    fn read(&mut self, name: &str, max: u64, into: &mut Vec<u8>) -> Result<Got, FileFail> {
+        let ended = match fs::open(&self.rt, name) {
+            Ok(mut file) => read_up_to(&mut file, max, into),
+            Err(_) => Err(FileFail::Failed),
+        };
+        match ended {
+            Ok(Got::Whole) => {}
+            Ok(Got::Longer) => {
+                into.clear();
+                self.longs = self.longs.saturating_add(1);
+                self.long = max;
+            }
+            Err(FileFail::Failed) => {
+                into.clear();
+                self.faults = self.faults.saturating_add(1);
+            }
+            Err(FileFail::Memory) => into.clear(),
+        }
+        ended
+    }
+}
+
+// Reads to the end of the file, or one byte more than `max`.
+fn read_up_to<F: Read>(file: &mut F, max: u64, into: &mut Vec<u8>) -> Result<Got, FileFail>
+    requires { into.old.items ≡ [] }
+    ensures bound { result ≡ Ok got.Whole → length into.new.items ≤ max }
+    ensures past { result ≡ Ok got.Longer → max < length into.new.items }
+    ensures bytes { IsOk result → Consumes (F.remaining file.old) (F.remaining file.new) into.new.items }
+    ensures end { result ≡ Ok got.Whole → IsAtEnd (F.remaining file.new) }
+{
+    let mut buf = [0u8; 4096];
+    while into.len() as u64 <= max {
+        let missing = max - into.len() as u64;
+        let want = missing.saturating_add(1).min(4096) as usize;
+        let Ok(n) = file.read(&mut buf[..want]) else {
+            return Err(FileFail::Failed);
+        };
+        if n == 0 {
+            return Ok(Got::Whole);
+        }
+        if into.extend_from_slice(&buf[..n]).is_err() {
+            return Err(FileFail::Memory);
+        }
+    }
+    Ok(Got::Longer)
+}
+
+/// A real stream, as standard output.
+#[derive(Drop)]
+pub struct HostSink<W: Write + Drop> {
+    inner: W,
+    faults: u64,
+}
+
+impl<W: Write + Drop> HostSink<W> {
+    /// The sink over this stream, with nothing counted yet.
+    pub fn new(inner: W) -> HostSink<W>
+        ensures faults { ⟦<HostSink<W> as Sink>⟧.faults result ≡ 0 }
+    {
+        HostSink { inner, faults: 0 }
+    }
+}
+
+impl<W: Write + Drop> Sink for HostSink<W> {
+    ghost use Rattle.std.specs.Prelude.{None};
+
+    ghost written = { λ s. None };
+
+    ghost faults = { λ s. s.faults };
+
+    fn put(&mut self, bytes: &[u8]) -> Result<usize, SinkFail> {
+        if bytes.is_empty() {
+            return Ok(0);
+        }
+        match self.inner.write(bytes) {
+            Ok(n) if n > 0 => Ok(n),
+            _ => {
+                self.faults = self.faults.saturating_add(1);
+                Err(SinkFail::Failed)
+            }
+        }
+    }
+}
