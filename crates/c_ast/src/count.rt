@@ -1,0 +1,145 @@
+//! The number of syntax nodes.
+ghost use Rattle.std.specs.Prelude.{◌≡◌, ◌+◌, ◌-◌, ◌^◌, length, min, sum};
+ghost use Rattle.c_ast.specs.Nodes.{
+  expr_nodes,
+  exprs_nodes,
+  held_nodes,
+  opt_nodes,
+  params_nodes,
+  stmt_nodes,
+  stmts_nodes,
+  target_nodes,
+  tree_nodes,
+};
+
+use crate::tree::{Expr, ExprKind, Param, Stmt, StmtKind, Target, Tree};
+use el_base::Boxed;
+
+/// The number of nodes of a kernel, or 2^64 - 1 where there are more.
+///
+/// Each part is one node: the kernel, a parameter, a dimension, a block (the body is one), a declared
+/// name, any other statement, a target, an expression. What is absent counts nothing.
+pub fn nodes(tree: &Tree) -> u64
+    ensures { result ≡ min (tree_nodes tree.now) (2 ^ 64 - 1) }
+{
+    of_params(tree.params.as_slice())
+        .saturating_add(of_stmts(tree.body.as_slice()))
+        .saturating_add(2)
+}
+
+fn of_params(params: &[Param]) -> u64
+    ensures { result ≡ min (params_nodes params.now) (2 ^ 64 - 1) }
+{
+    let mut total: u64 = 0;
+    for param in params {
+        let dims = param.dims.as_slice().len() as u64;
+        total = total.saturating_add(dims).saturating_add(1);
+    }
+    total
+}
+
+#[cycle(stmt_nodes)]
+fn of_stmts(stmts: &[Stmt]) -> u64
+    ensures { result ≡ min (stmts_nodes stmts.now) (2 ^ 64 - 1) }
+{
+    let mut total: u64 = 0;
+    for stmt in stmts {
+        total = total.saturating_add(of_stmt(stmt));
+    }
+    total
+}
+
+#[cycle(stmt_nodes)]
+fn of_stmt(stmt: &Stmt) -> u64
+    ensures { result ≡ min (stmt_nodes stmt.now) (2 ^ 64 - 1) }
+{
+    match &stmt.kind {
+        StmtKind::Block(body) => node(&[of_stmts(body.as_slice())]),
+        StmtKind::Declare { init, .. } => node(&[of_option(init)]),
+        StmtKind::Assign { target, value, .. } => node(&[of_target(target), of_expr(value)]),
+        StmtKind::Step { target, .. } => node(&[of_target(target)]),
+        StmtKind::If { cond, then, other } => {
+            node(&[of_expr(cond), of_stmt(then.get()), of_held(other)])
+        }
+        StmtKind::While { cond, body } | StmtKind::DoWhile { body, cond } => {
+            node(&[of_expr(cond), of_stmt(body.get())])
+        }
+        StmtKind::For {
+            first,
+            cond,
+            step,
+            body,
+        } => node(&[
+            of_stmts(first.as_slice()),
+            of_option(cond),
+            of_held(step),
+            of_stmt(body.get()),
+        ]),
+        StmtKind::Return(value) => node(&[of_option(value)]),
+        StmtKind::Break | StmtKind::Continue | StmtKind::Empty => node(&[]),
+    }
+}
+
+#[cycle(stmt_nodes)]
+fn of_held(stmt: &Option<Boxed<Stmt>>) -> u64
+    ensures { result ≡ min (held_nodes stmt.now) (2 ^ 64 - 1) }
+{
+    match stmt {
+        None => 0,
+        Some(stmt) => of_stmt(stmt.get()),
+    }
+}
+
+fn of_target(target: &Target) -> u64
+    ensures { result ≡ min (target_nodes target.now) (2 ^ 64 - 1) }
+{
+    of_exprs(target.indices.as_slice()).saturating_add(1)
+}
+
+fn of_option(expr: &Option<Expr>) -> u64
+    ensures { result ≡ min (opt_nodes expr.now) (2 ^ 64 - 1) }
+{
+    match expr {
+        None => 0,
+        Some(expr) => of_expr(expr),
+    }
+}
+
+#[cycle(expr_nodes)]
+fn of_exprs(exprs: &[Expr]) -> u64
+    ensures { result ≡ min (exprs_nodes exprs.now) (2 ^ 64 - 1) }
+{
+    let mut total: u64 = 0;
+    for expr in exprs {
+        total = total.saturating_add(of_expr(expr));
+    }
+    total
+}
+
+#[cycle(expr_nodes)]
+fn of_expr(expr: &Expr) -> u64
+    ensures { result ≡ min (expr_nodes expr.now) (2 ^ 64 - 1) }
+{
+    match &expr.kind {
+        ExprKind::Number { .. } | ExprKind::Name(_) => node(&[]),
+        ExprKind::Element { indices, .. } => node(&[of_exprs(indices.as_slice())]),
+        ExprKind::Unary(_, arg) | ExprKind::Cast(_, arg) => node(&[of_expr(arg.get())]),
+        ExprKind::Binary(_, left, right) => node(&[of_expr(left.get()), of_expr(right.get())]),
+        ExprKind::Choose(cond, then, other) => node(&[
+            of_expr(cond.get()),
+            of_expr(then.get()),
+            of_expr(other.get()),
+        ]),
+    }
+}
+
+// A node and its parts, of these numbers of nodes.
+fn node(parts: &[u64]) -> u64
+    ensures { result ≡ min (1 + sum parts.now) (2 ^ 64 - 1) }
+{
+    let mut total: u64 = 1;
+    for part in parts {
+        total = total.saturating_add(*part);
+    }
+    total
+}

@@ -1,0 +1,163 @@
+//! The syntax tree of a kernel: as it is written, without its parentheses.
+use el_base::{Boxed, List, Name, Span, Ty};
+
+/// A kernel: one function definition.
+#[derive(Drop)]
+pub struct Tree {
+    pub name: Name,
+    pub at: Span,
+    /// The type of its result; `None` is `void`.
+    pub result: Option<Ty>,
+    pub params: List<Param>,
+    /// The statements of its block.
+    pub body: List<Stmt>,
+}
+
+/// A parameter of a kernel: an array where it has dimensions.
+#[derive(Drop)]
+pub struct Param {
+    pub name: Name,
+    pub at: Span,
+    pub ty: Ty,
+    pub dims: List<u64>,
+}
+
+/// A statement with its place.
+#[cycle(stmt)]
+#[derive(Drop)]
+pub struct Stmt {
+    pub kind: StmtKind,
+    pub at: Span,
+}
+
+/// The statements (ISO/IEC 9899:1999 6.8), and declarations, which stand among them.
+#[cycle(stmt)]
+#[derive(Drop)]
+pub enum StmtKind {
+    Block(List<Stmt>),
+    /// One declared name: a declaration of several is several of these.
+    Declare {
+        name: Name,
+        ty: Ty,
+        init: Option<Expr>,
+    },
+    /// `target = value`, or `target op= value` where there is an operator.
+    Assign {
+        target: Target,
+        op: Option<Binary>,
+        value: Expr,
+    },
+    /// `target++` where `up`, else `target--`, written before or after.
+    Step {
+        target: Target,
+        up: bool,
+    },
+    If {
+        cond: Expr,
+        then: Boxed<Stmt>,
+        other: Option<Boxed<Stmt>>,
+    },
+    While {
+        cond: Expr,
+        body: Boxed<Stmt>,
+    },
+    DoWhile {
+        body: Boxed<Stmt>,
+        cond: Expr,
+    },
+    /// `first` is empty, one assignment or step, or one declaration for each declared name.
+    For {
+        first: List<Stmt>,
+        cond: Option<Expr>,
+        step: Option<Boxed<Stmt>>,
+        body: Boxed<Stmt>,
+    },
+    Break,
+    Continue,
+    Return(Option<Expr>),
+    Empty,
+}
+
+/// What is assigned to: a variable, or an element where there are indices.
+#[derive(Drop)]
+pub struct Target {
+    pub name: Name,
+    pub at: Span,
+    pub indices: List<Expr>,
+}
+
+/// An expression with its place.
+#[cycle(expr)]
+#[derive(Drop)]
+pub struct Expr {
+    pub kind: ExprKind,
+    pub at: Span,
+}
+
+/// The expressions (ISO/IEC 9899:1999 6.5).
+#[cycle(expr)]
+#[derive(Drop)]
+pub enum ExprKind {
+    Number { value: u64, ty: Ty },
+    Name(Name),
+    Element { name: Name, indices: List<Expr> },
+    Unary(Unary, Boxed<Expr>),
+    Cast(Ty, Boxed<Expr>),
+    Binary(Binary, Boxed<Expr>, Boxed<Expr>),
+    /// The condition, the value where it is not 0, and the value where it is.
+    Choose(Boxed<Expr>, Boxed<Expr>, Boxed<Expr>),
+}
+
+/// The unary operators (ISO/IEC 9899:1999 6.5.3.3).
+#[derive(Clone, Copy, Debug, PartialEq, Eq)]
+pub enum Unary {
+    /// `+`
+    Plus,
+    /// `-`
+    Minus,
+    /// `~`
+    Flip,
+    /// `!`
+    Not,
+}
+
+/// The binary operators (ISO/IEC 9899:1999 6.5.5 to 6.5.14).
+#[derive(Clone, Copy, Debug, PartialEq, Eq)]
+pub enum Binary {
+    /// `*`
+    Mul,
+    /// `/`
+    Div,
+    /// `%`
+    Rem,
+    /// `+`
+    Add,
+    /// `-`
+    Sub,
+    /// `<<`
+    Shl,
+    /// `>>`
+    Shr,
+    /// `<`
+    Lt,
+    /// `>`
+    Gt,
+    /// `<=`
+    Le,
+    /// `>=`
+    Ge,
+    /// `==`
+    Eq,
+    /// `!=`
+    Ne,
+    /// `&`
+    And,
+    /// `^`
+    Xor,
+    /// `|`
+    Or,
+    /// `&&`
+    Both,
+    /// `||`
+    Either,
+}
