@@ -1,0 +1,128 @@
+ghost use Rattle.std.specs.Prelude.{◌≡◌, ◌++◌, ◌∷◌, [], OnOk, IfOk, map};
+ghost use Rattle.std.specs.List.{flat_map};
+ghost use Rattle.net_text.specs.Pieces.{line, control_parts};
+ghost use Rattle.net_text.specs.Texts.{NetText, scalar_parts, array_parts, result_parts, unit_parts, chan_parts, header_lines};
+
+use crate::pieces::{put_bytes, put_line, put_place, put_u32, put_word_line};
+use crate::units::put_unit;
+use el_base::put_u64;
+use net_types::{Array, Chan, Memory, Net, Scalar, Ty, Unit};
+use std::alloc::Global;
+
+/// The text of a net.
+///
+/// One net has one text. `Memory` where memory ran out.
+pub fn print(alloc: Global, net: &Net) -> Result<Vec<u8>, Memory>
+    ensures { IfOk result (λ text. NetText net.now text.items) }
+{
+    let mut text = Vec::new(alloc);
+    put_header(&mut text, net)?;
+    put_units(&mut text, net.units.as_slice())?;
+    put_chans(&mut text, net.chans.as_slice())?;
+    put_line(&mut text, b"end", &[])?;
+    Ok(text)
+}
+
+fn put_header(text: &mut Vec<u8>, net: &Net) -> Result<(), Memory>
+    ensures ok { OnOk result (text.new.items ≡ text.old.items ++ flat_map line (header_lines net.now)) }
+{
+    put_line(text, b"elastic", &[1])?;
+    put_word_line(text, b"kernel", net.name.as_slice())?;
+    put_scalars(text, net.scalars.as_slice())?;
+    put_arrays(text, net.arrays.as_slice())?;
+    put_result(text, net.result)
+}
+
+fn put_scalars(text: &mut Vec<u8>, scalars: &[Scalar]) -> Result<(), Memory>
+    ensures ok { OnOk result (text.new.items ≡ text.old.items ++ flat_map line (map scalar_parts scalars.now)) }
+{
+    for scalar in scalars {
+        put_scalar(text, scalar)?;
+    }
+    Ok(())
+}
+
+fn put_scalar(text: &mut Vec<u8>, scalar: &Scalar) -> Result<(), Memory>
+    ensures ok { OnOk result (text.new.items ≡ text.old.items ++ line (scalar_parts scalar.now)) }
+{
+    put_bytes(text, b"scalar ")?;
+    put_bytes(text, scalar.name.as_slice())?;
+    put_bytes(text, b" ")?;
+    put_bytes(text, scalar.ty.name().as_bytes())?;
+    put_bytes(text, b"\n")
+}
+
+fn put_arrays(text: &mut Vec<u8>, arrays: &[Array]) -> Result<(), Memory>
+    ensures ok { OnOk result (text.new.items ≡ text.old.items ++ flat_map line (map array_parts arrays.now)) }
+{
+    for array in arrays {
+        put_array(text, array)?;
+    }
+    Ok(())
+}
+
+fn put_array(text: &mut Vec<u8>, array: &Array) -> Result<(), Memory>
+    ensures ok { OnOk result (text.new.items ≡ text.old.items ++ line (array_parts array.now)) }
+{
+    put_bytes(text, b"array ")?;
+    put_bytes(text, array.name.as_slice())?;
+    put_bytes(text, b" ")?;
+    put_bytes(text, array.ty.name().as_bytes())?;
+    put_bytes(text, b" ")?;
+    put_u64(text, array.len)?;
+    put_bytes(text, b"\n")
+}
+
+fn put_result(text: &mut Vec<u8>, ty: Option<Ty>) -> Result<(), Memory>
+    ensures ok { OnOk result (text.new.items ≡ text.old.items ++ line (result_parts ty)) }
+{
+    match ty {
+        None => put_line(text, b"result none", &[]),
+        Some(ty) => put_word_line(text, b"result", ty.name().as_bytes()),
+    }
+}
+
+fn put_units(text: &mut Vec<u8>, units: &[Unit]) -> Result<(), Memory>
+    ensures ok { OnOk result (text.new.items ≡ text.old.items ++ flat_map line (map unit_parts units.now)) }
+{
+    for unit in units {
+        put_unit(text, unit)?;
+    }
+    Ok(())
+}
+
+fn put_chans(text: &mut Vec<u8>, chans: &[Chan]) -> Result<(), Memory>
+    ensures ok { OnOk result (text.new.items ≡ text.old.items ++ flat_map line (map chan_parts chans.now)) }
+{
+    for chan in chans {
+        put_chan(text, *chan)?;
+    }
+    Ok(())
+}
+
+fn put_chan(text: &mut Vec<u8>, chan: Chan) -> Result<(), Memory>
+    ensures ok { OnOk result (text.new.items ≡ text.old.items ++ line (chan_parts chan)) }
+{
+    put_bytes(text, b"chan ")?;
+    put_place(text, chan.from)?;
+    put_bytes(text, b" ")?;
+    put_place(text, chan.to)?;
+    put_bytes(text, b" ")?;
+    put_u32(text, chan.width)?;
+    put_bytes(text, b" ")?;
+    put_u32(text, chan.slots)?;
+    put_bytes(text, b" ")?;
+    put_u32(text, chan.delay)?;
+    put_control(text, chan.ctl)?;
+    Ok(())
+}
+
+fn put_control(text: &mut Vec<u8>, control: bool) -> Result<(), Memory>
+    ensures ok { OnOk result (text.new.items ≡ text.old.items ++ (flat_map (λ part. 32 ∷ part) (control_parts control) ++ 10 ∷ [])) }
+{
+    if control {
+        put_bytes(text, b" control\n")
+    } else {
+        put_bytes(text, b"\n")
+    }
+}

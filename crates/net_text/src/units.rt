@@ -1,0 +1,61 @@
+ghost use Rattle.std.specs.Prelude.{◌≡◌, ◌++◌, OnOk};
+ghost use Rattle.net_text.specs.Pieces.{line};
+ghost use Rattle.net_text.specs.Texts.{unit_parts};
+ghost use Rattle.net_types.specs.declared.net.Unit.TheVariants as unit;
+
+use crate::pieces::{put_bytes, put_groups, put_line, put_ports, put_u32, put_word_line};
+use net_types::{List, Memory, Port, Unit};
+
+/// Appends the line of a unit.
+pub(crate) fn put_unit(text: &mut Vec<u8>, unit: &Unit) -> Result<(), Memory>
+    ensures ok { OnOk result (text.new.items ≡ text.old.items ++ line (unit_parts unit.now)) }
+{
+    match unit {
+        Unit::Entry => put_line(text, b"unit entry", &[]),
+        Unit::Param(scalar) => put_line(text, b"unit param", &[u64::from(*scalar)]),
+        Unit::Const { width, value } => {
+            put_line(text, b"unit const", &[u64::from(*width), *value])
+        }
+        Unit::Op1(op) => put_word_line(text, b"unit op1", op.name().as_bytes()),
+        Unit::Op2(op) => put_word_line(text, b"unit op2", op.name().as_bytes()),
+        Unit::Select { width } => put_line(text, b"unit select", &[u64::from(*width)]),
+        Unit::Fork { width, outs } => {
+            put_line(text, b"unit fork", &[u64::from(*width), u64::from(*outs)])
+        }
+        Unit::Mux { width, ins } => {
+            put_line(text, b"unit mux", &[u64::from(*width), u64::from(*ins)])
+        }
+        Unit::Cmerge { ins } => put_line(text, b"unit cmerge", &[u64::from(*ins)]),
+        Unit::Branch { width } => put_line(text, b"unit branch", &[u64::from(*width)]),
+        Unit::Sink { width } => put_line(text, b"unit sink", &[u64::from(*width)]),
+        Unit::Read(array) => put_line(text, b"unit read", &[u64::from(*array)]),
+        Unit::Lsq {
+            array,
+            depth,
+            ports,
+            groups,
+        } => put_queue(text, *array, *depth, ports.as_slice(), groups.as_slice()),
+        Unit::Exit => put_line(text, b"unit exit", &[]),
+    }
+}
+
+fn put_queue(
+    text: &mut Vec<u8>,
+    array: u32,
+    depth: u32,
+    ports: &[Port],
+    groups: &[List<u32>],
+) -> Result<(), Memory>
+    ensures ok { OnOk result (text.new.items ≡ text.old.items ++ line (unit_parts (unit.Lsq array depth ports.now groups.now))) }
+{
+    put_bytes(text, b"unit lsq ")?;
+    put_u32(text, array)?;
+    put_bytes(text, b" ")?;
+    put_u32(text, depth)?;
+    put_bytes(text, b" ")?;
+    put_ports(text, ports)?;
+    put_bytes(text, b" ")?;
+    put_groups(text, groups)?;
+    put_bytes(text, b"\n")?;
+    Ok(())
+}
