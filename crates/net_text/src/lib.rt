@@ -3,6 +3,8 @@
 
 mod pieces;
 mod printer;
+#[cfg(test)]
+mod tests;
 mod units;
 
 pub use printer::print;
