@@ -1,0 +1,13 @@
+use Rattle.elastic_top.specs.Reading.{lexemes}
+use Rattle.elastic_top.proofs.Kernels.{few_names, fewer_left}
+use Rattle.elastic_top.proofs.straight.reader.parameters.Goals as goal
+
+pub returns-then-is-clause-few : goal.returns-then-is-clause-few
+returns-then-is-clause-few c =
+    few_names c.as_slice.result.now c.loop-names.names c.push.new.self (lexemes c.loop-names.text.rest.now) c.in_ok-name.name (lexemes c.parameter.new.text.rest.now)
+    c.in_ok-name.ensures c.as_slice.ensures c.in_ok-push.ensures.ok
+
+pub loop-names-smaller : goal.loop-names-smaller
+loop-names-smaller c =
+    fewer_left c.as_slice.result.now (lexemes c.loop-names.text.rest.now) c.in_ok-name.name c.in-Some.mark.now (lexemes c.parameter.new.text.rest.now) (lexemes c.next.new.self.rest.now)
+    c.in_ok-name.ensures c.in-Some.ensures.some

@@ -1,0 +1,125 @@
+//! The reader of straight kernels.
+ghost use Rattle.std.specs.Prelude.{◌≡◌, ℕ, ◌≤◌, List, [], Err, IfOk, length};
+ghost use Rattle.elastic_top.specs.Spelling.{Spells};
+ghost use Rattle.elastic_top.specs.Reading.{lexemes, after_word, name_first, parameter_of, parameters_of, head_of, body_of, kernel_of, Answers, Passes, Goes};
+ghost use Rattle.elastic_top.specs.declared.straight.kernel.Kernel.{Kernel};
+ghost use Rattle.elastic_top.specs.declared.straight.refusal.KernelRefusal.TheVariants as refusal;
+
+use crate::straight::kernel::{Kernel, Sum};
+use crate::straight::lexeme::{Lexemes, is};
+use crate::straight::operand::{name, place};
+use crate::straight::refusal::KernelRefusal;
+use crate::straight::sum::{MOST_NODES, sum};
+use el_base::{List, Name};
+use std::alloc::Global;
+
+/// The straight kernel that a text spells. `NotYet` says that it spells none.
+#[tactic(auto, using(crate::proofs::Kernels::read_spelled, crate::proofs::Kernels::spelled_read))]
+pub fn read_kernel(alloc: Global, bytes: &[u8]) -> Result<Kernel, KernelRefusal>
+    ensures ok { IfOk result (λ kernel. Spells bytes.now kernel) }
+    ensures not_yet { result ≡ Err refusal.NotYet → (kernel : Kernel) → Spells bytes.now kernel → ⊥ }
+{
+    kernel(alloc, bytes)
+}
+
+// The kernel of a text.
+#[tactic(auto, unfolding(crate::specs::Reading::kernel_of))]
+fn kernel(alloc: Global, bytes: &[u8]) -> Result<Kernel, KernelRefusal>
+    ensures { Answers result (kernel_of (lexemes bytes.now)) }
+{
+    let mut text = Lexemes::of(bytes);
+    let (name, params) = head(alloc, &mut text)?;
+    let sum = body(alloc, params.as_slice(), &mut text)?;
+    Ok(Kernel { name, params, sum })
+}
+
+// The name of the kernel and those of its parameters.
+#[tactic(auto, unfolding(crate::specs::Reading::head_of))]
+fn head(alloc: Global, text: &mut Lexemes) -> Result<(Name, List<Name>), KernelRefusal>
+    ensures read { Passes result (lexemes text.new.rest.now) (head_of (lexemes text.old.rest.now)) }
+    ensures few { IfOk result (λ h. length h.1 ≤ 1024) }
+{
+    word(text, b"int32_t")?;
+    let name = next_name(alloc, text)?;
+    word(text, b"(")?;
+    let params = parameters(alloc, text)?;
+    Ok((name, params))
+}
+
+// The block after the parameters: the sum that it returns.
+#[tactic(auto, unfolding(crate::specs::Reading::body_of))]
+fn body(alloc: Global, names: &[Name], text: &mut Lexemes) -> Result<Sum, KernelRefusal>
+    requires { length names.now ≤ 1024 }
+    ensures { Answers result (body_of names.now (lexemes text.old.rest.now)) }
+{
+    word(text, b"{")?;
+    word(text, b"return")?;
+    let sum = sum(alloc, names, text)?;
+    word(text, b"}")?;
+    match text.next() {
+        None => Ok(sum),
+        Some(_) => Err(KernelRefusal::NotYet),
+    }
+}
+
+// Goes past this word.
+#[tactic(auto, unfolding(crate::specs::Reading::after_word))]
+fn word(text: &mut Lexemes, word: &[u8]) -> Result<(), KernelRefusal>
+    ensures { Goes result (lexemes text.new.rest.now) (after_word word.now (lexemes text.old.rest.now)) }
+{
+    match text.next() {
+        Some(lexeme) if is(lexeme, word) => Ok(()),
+        _ => Err(KernelRefusal::NotYet),
+    }
+}
+
+// The name that comes next.
+#[tactic(auto, unfolding(crate::specs::Reading::name_first))]
+fn next_name(alloc: Global, text: &mut Lexemes) -> Result<Name, KernelRefusal>
+    ensures { Passes result (lexemes text.new.rest.now) (name_first (lexemes text.old.rest.now)) }
+{
+    match text.next() {
+        None => Err(KernelRefusal::NotYet),
+        Some(lexeme) => Ok(name(alloc, lexeme)?),
+    }
+}
+
+// The names of all parameters, up to the `)` after them.
+#[tactic(auto, using(crate::proofs::Kernels::parameters_one))]
+fn parameters(alloc: Global, text: &mut Lexemes) -> Result<List<Name>, KernelRefusal>
+    ensures read { Passes result (lexemes text.new.rest.now) (parameters_of [] (lexemes text.old.rest.now)) }
+    ensures few { IfOk result (λ names. length names ≤ 1024) }
+{
+    let mut names = List::new(alloc);
+    loop {
+        let name = parameter(alloc, names.as_slice(), text)?;
+        names.push(name)?;
+        let Some(mark) = text.next() else {
+            return Err(KernelRefusal::NotYet);
+        };
+        if is(mark, b")") {
+            return Ok(names);
+        }
+        if !is(mark, b",") {
+            return Err(KernelRefusal::NotYet);
+        }
+    }
+}
+
+// The name of one more parameter, after those with these names.
+#[tactic(auto, unfolding(crate::specs::Reading::parameter_of))]
+fn parameter(alloc: Global, names: &[Name], text: &mut Lexemes) -> Result<Name, KernelRefusal>
+    ensures { Passes result (lexemes text.new.rest.now) (parameter_of names.now (lexemes text.old.rest.now)) }
+{
+    word(text, b"int32_t")?;
+    let name = next_name(alloc, text)?;
+    if names.len() as u64 >= MOST_NODES - 3 || place(names, name.as_slice()).is_some() {
+        return Err(KernelRefusal::NotYet);
+    }
+    Ok(name)
+}
+
+/// A text spells at most one kernel.
+pub fn one_kernel_per_text()
+    ensures { (bytes : List ℕ) (a b : Kernel) → Spells bytes a → Spells bytes b → a ≡ b }
+{}
