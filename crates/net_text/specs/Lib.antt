@@ -1,2 +1,4 @@
+pub mod Fits
 pub mod Pieces
+pub mod Reads
 pub mod Texts

@@ -1,3 +1,6 @@
+use crate::lines::{
+    is_end, read_array, read_chan, read_kernel, read_result, read_scalar, read_unit, read_version,
+};
 use crate::print;
 use net_types::{Array, Chan, List, Name, Net, Op1, Op2, Place, Port, Scalar, Ty, Unit};
 use std::alloc::Global;
@@ -113,4 +116,44 @@ fn chans_kinds(alloc: Global) -> Result<List<Chan>, Fail> {
     chans.push(chan([u32::MAX, 0], [0, u32::MAX], [1, 2, 3], false))?;
     chans.push(chan([0, 1], [2, 3], [32, 5, 6], true))?;
     Ok(chans)
+}
+
+// Each reader's value, in the text of a net that has the lines which were read.
+#[test]
+fn lines_are_read(rt: HostRuntime) -> Result<(), Fail> {
+    let alloc = rt.alloc();
+    let mut net = Net {
+        name: read_kernel(alloc, b"kernel _x9")?.ok_or("no name")?,
+        scalars: List::new(alloc),
+        arrays: List::new(alloc),
+        result: read_result(b"result u16").ok_or("no result")?,
+        units: List::new(alloc),
+        chans: List::new(alloc),
+    };
+    net.scalars
+        .push(read_scalar(alloc, b"scalar a i16")?.ok_or("no scalar")?)?;
+    net.arrays.push(read_array(alloc, b"array b u64 18446744073709551615")?.ok_or("no array")?)?;
+    net.units.push(read_unit(alloc, b"unit lsq 1 2 sl 0,1;-")?.ok_or("no unit")?)?;
+    net.chans.push(read_chan(b"chan 4294967295.0 1.2 32 3 4 control").ok_or("no chan")?)?;
+    assert_eq!(rt;
+        print(alloc, &net)?.as_slice(),
+        b"elastic 1\nkernel _x9\nscalar a i16\narray b u64 18446744073709551615\nresult u16\nunit lsq 1 2 sl 0,1;-\nchan 4294967295.0 1.2 32 3 4 control\nend\n".as_slice()
+    );
+    assert_eq!(rt; read_version(b"elastic 7"), Some(7));
+    assert_eq!(rt; is_end(b"end"), true);
+    Ok(())
+}
+
+#[test]
+fn wrong_lines_are_not_read(rt: HostRuntime) -> Result<(), Fail> {
+    let alloc = rt.alloc();
+    assert_eq!(rt; read_version(b"elastic 01"), None);
+    assert!(rt; read_kernel(alloc, b"kernel 9x")?.is_none());
+    assert!(rt; read_scalar(alloc, b"scalar a i33")?.is_none());
+    assert!(rt; read_array(alloc, b"array b u64 18446744073709551616")?.is_none());
+    assert_eq!(rt; read_result(b"result -"), None);
+    assert!(rt; read_unit(alloc, b"unit lsq 1 2 none -")?.is_none());
+    assert_eq!(rt; read_chan(b"chan 0.0 1.2 32 3"), None);
+    assert_eq!(rt; is_end(b"end "), false);
+    Ok(())
 }

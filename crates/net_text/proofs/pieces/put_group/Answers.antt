@@ -1,6 +1,6 @@
 use Rattle.std.proofs.Common.{◌++◌, decimal, ap, sym, ◌∙◌}
 use Rattle.net_text.specs.Pieces.{group_text}
-use Rattle.net_text.proofs.Lines.{loop_written}
+use Rattle.net_text.proofs.PrintedLines.{loop_written}
 use Rattle.net_text.proofs.pieces.put_group.Goals as goal
 
 pub returns-after-loop-number : goal.returns-after-loop-number

@@ -1,6 +1,6 @@
 use Rattle.std.proofs.Common.{◌++◌, ap, sym, ◌∙◌}
 use Rattle.net_text.specs.Pieces.{group_text, groups_text}
-use Rattle.net_text.proofs.Lines.{loop_written}
+use Rattle.net_text.proofs.PrintedLines.{loop_written}
 use Rattle.net_text.proofs.pieces.put_groups.Goals as goal
 
 pub returns-after-loop-group : goal.returns-after-loop-group

@@ -1,7 +1,7 @@
 use Rattle.std.proofs.Common.{◌∷◌, [], ◌++◌, decimal, ap, ◌∙◌}
 use Rattle.std.specs.List.{flat_map}
 use Rattle.std.proofs.lemmas.List.{take_all}
-use Rattle.net_text.proofs.Lines.{line_written}
+use Rattle.net_text.proofs.PrintedLines.{line_written}
 use Rattle.net_text.proofs.pieces.put_line.Goals as goal
 
 pub returns : goal.returns

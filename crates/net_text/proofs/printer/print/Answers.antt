@@ -2,7 +2,7 @@ use Rattle.std.proofs.Common.{◌++◌, ap, map, ◌∙◌}
 use Rattle.std.specs.List.{flat_map}
 use Rattle.net_text.specs.Pieces.{line}
 use Rattle.net_text.specs.Texts.{header_lines, unit_parts, chan_parts}
-use Rattle.net_text.proofs.Lines.{text_written}
+use Rattle.net_text.proofs.PrintedLines.{text_written}
 use Rattle.net_text.proofs.printer.print.Goals as goal
 
 pub returns : goal.returns

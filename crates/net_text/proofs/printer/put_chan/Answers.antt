@@ -1,6 +1,6 @@
 use Rattle.std.proofs.Common.{decimal}
 use Rattle.net_text.specs.Pieces.{place_text, control_parts}
-use Rattle.net_text.proofs.Lines.{chan_written}
+use Rattle.net_text.proofs.PrintedLines.{chan_written}
 use Rattle.net_text.proofs.printer.put_chan.Goals as goal
 
 pub returns : goal.returns

@@ -1,6 +1,6 @@
 use Rattle.std.proofs.Common.{decimal}
 use Rattle.net_text.specs.Pieces.{ports_text, groups_text}
-use Rattle.net_text.proofs.Lines.{queue_written}
+use Rattle.net_text.proofs.PrintedLines.{queue_written}
 use Rattle.net_text.proofs.units.put_queue.Goals as goal
 
 pub returns : goal.returns
