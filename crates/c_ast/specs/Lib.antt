@@ -1,2 +1,4 @@
+pub mod Derives
 pub mod Nodes
 pub mod Texts
+pub mod Typing

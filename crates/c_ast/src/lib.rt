@@ -1,18 +1,24 @@
-//! What a kernel text is read into: tokens and the syntax tree.
+//! What a kernel text is read into: tokens, the syntax tree, the typed tree and its normal form.
 #![tactic(auto)]
 
 mod count;
 mod key;
 mod mark;
+mod normal;
 mod token;
 mod tree;
+mod typed;
 
 pub use count::nodes;
 pub use el_base::{Boxed, List, Name, Span, Ty};
 pub use key::Key;
 pub use mark::Mark;
+pub use normal::{Normal, NormalStmt, NormalStmtKind};
 pub use token::{Token, Word};
 pub use tree::{Binary, Expr, ExprKind, Param, Stmt, StmtKind, Target, Tree, Unary};
+pub use typed::{
+    ArrayOf, Object, Typed, TypedExpr, TypedExprKind, TypedStmt, TypedStmtKind, TypedTarget,
+};
 
 #[cfg(test)]
 mod tests;

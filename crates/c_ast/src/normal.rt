@@ -1,0 +1,71 @@
+//! The normal form of a kernel: each assignment has one plain value, and statements may stand before a condition.
+//! `&&`, `||` and `?:` stand in it only where no side reads an array. Variables made for their results and for indices are not declared.
+use crate::tree::Param;
+use crate::typed::{ArrayOf, TypedExpr, TypedTarget};
+use el_base::{Boxed, List, Name, Span, Ty};
+
+/// A kernel in normal form, with the fields of a typed tree.
+#[derive(Drop)]
+pub struct Normal {
+    pub name: Name,
+    pub at: Span,
+    /// The type of its result; `None` is `void`.
+    pub result: Option<Ty>,
+    pub params: List<Param>,
+    /// The types of its variables.
+    pub vars: List<Ty>,
+    pub arrays: List<ArrayOf>,
+    /// The statements of its block.
+    pub body: List<NormalStmt>,
+}
+
+/// A statement with its place.
+#[cycle(normal_stmt)]
+#[derive(Drop)]
+pub struct NormalStmt {
+    pub kind: NormalStmtKind,
+    pub at: Span,
+}
+
+/// The statements of a normal form. The statements `before` a condition run each time before it is evaluated.
+#[cycle(normal_stmt)]
+#[derive(Drop)]
+pub enum NormalStmtKind {
+    Block(List<NormalStmt>),
+    Declare {
+        var: u32,
+        init: Option<TypedExpr>,
+    },
+    Assign {
+        target: TypedTarget,
+        value: TypedExpr,
+    },
+    If {
+        before: List<NormalStmt>,
+        cond: TypedExpr,
+        then: Boxed<NormalStmt>,
+        other: Option<Boxed<NormalStmt>>,
+    },
+    While {
+        before: List<NormalStmt>,
+        cond: TypedExpr,
+        body: Boxed<NormalStmt>,
+    },
+    DoWhile {
+        body: Boxed<NormalStmt>,
+        before: List<NormalStmt>,
+        cond: TypedExpr,
+    },
+    /// Where there is no condition, nothing stands before it.
+    For {
+        first: List<NormalStmt>,
+        before: List<NormalStmt>,
+        cond: Option<TypedExpr>,
+        step: Option<Boxed<NormalStmt>>,
+        body: Boxed<NormalStmt>,
+    },
+    Break,
+    Continue,
+    Return(Option<TypedExpr>),
+    Empty,
+}

@@ -1,0 +1,9 @@
+pub mod Build
+pub mod Growth
+pub mod Loops
+pub mod MatrixProduct
+pub mod NormalGrowth
+pub mod OperatorPatterns
+pub mod Straight
+pub mod TreeEquations
+pub mod Undefined

@@ -1,0 +1,12 @@
+pub mod Bounds
+pub mod Casts
+pub mod Equations
+pub mod Expressions
+pub mod Lawful
+pub mod Normals
+pub mod Operators
+pub mod Patterns
+pub mod Runs
+pub mod Statements
+pub mod Stores
+pub mod Types
