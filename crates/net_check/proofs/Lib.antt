@@ -1,0 +1,11 @@
+pub mod Breaks
+pub mod MatchLemmas
+pub mod RowLemmas
+pub mod WidthLemmas
+pub mod SizeLemmas
+pub mod HeaderLemmas
+pub mod TallyLemmas
+pub mod NameSets
+pub mod FirstLemmas
+pub mod MarkLemmas
+pub mod ShapeLemmas

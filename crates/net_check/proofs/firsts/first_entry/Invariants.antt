@@ -1,0 +1,7 @@
+use Rattle.std.proofs.Common.{None}
+use Rattle.net_check.specs.Firsts.{IsFirst}
+use Rattle.net_check.specs.Headers.{is_entry}
+use Rattle.net_check.proofs.firsts.first_entry.Given as goal
+
+abbrev pub invariant-loop-u : goal.invariant-loop-u
+invariant-loop-u l = IsFirst is_entry l.units l.u None

@@ -1,0 +1,14 @@
+pub mod Lowest
+pub mod Headers
+pub mod Shapes
+pub mod Places
+pub mod Sizes
+pub mod Cycles
+pub mod Controls
+pub mod Ends
+pub mod Keeps
+pub mod Marks
+pub mod Firsts
+pub mod Roles
+pub mod Tallies
+pub mod Widths
