@@ -1,9 +1,9 @@
 -- The inputs that a text spells are those of the kernel's circuit.
-use Rattle.std.proofs.Common.{◌≡◌, ℕ, suc, ◌+◌, ◌<◌, ◌≤◌, ◌^◌, ℤ, List, [], ◌∷◌, ◌++◌, length, map, refl, sym, ◌∙◌, ap, arith, subst, Some}
+use Rattle.std.proofs.Common.{◌≡◌, ℕ, suc, ◌<◌, ◌^◌, ℤ, List, ◌∷◌, length, map, refl, sym, ◌∙◌, ap, subst, Some}
 use Rattle.std.specs.List.{All}
 use Rattle.std.proofs.lemmas.List.{length-map}
 use Rattle.std.proofs.lemmas.List.Elements.{All-map}
-use Rattle.el_base.specs.Numbers.{IsInRange, pattern, number}
+use Rattle.el_base.specs.Numbers.{pattern, number}
 use Rattle.el_base.specs.declared.ty.Ty.TheVariants.{I32}
 use Rattle.el_base.proofs.PatternLemmas.{number-pattern, pattern-lt}
 use Rattle.net_types.specs.declared.net.Net.{Net}

@@ -1,18 +1,17 @@
 -- What spells a kernel has few nodes, numbers of `int32_t` and parameters of its own.
-use Rattle.std.proofs.Common.{◌≡◌, ℕ, suc, ◌+◌, ◌<◌, ◌≤◌, List, [], ◌∷◌, ◌++◌, length, refl, sym, ◌∙◌, ap, arith, subst, true, Some}
+use Rattle.std.proofs.Common.{◌≡◌, ℕ, ◌<◌, ◌≤◌, List, length, refl, ◌∙◌, arith, true}
 use Rattle.std.proofs.lemmas.Bool.{lt-ltb}
 use Rattle.std.proofs.lemmas.Option.{slice_get_within}
-use Rattle.std.specs.Prelude.{IsTrue, slice_get, decimal, codes, nat_le, nat_lt}
 use Rattle.elastic_top.specs.declared.straight.kernel.Kernel.{Kernel}
 use Rattle.elastic_top.specs.declared.straight.kernel.Operator.{Operator}
 use Rattle.elastic_top.specs.declared.straight.kernel.Operator.TheVariants as operator
 use Rattle.elastic_top.specs.declared.straight.kernel.Sum.{Sum}
 use Rattle.elastic_top.specs.declared.straight.kernel.Sum.TheVariants as sum
 use Rattle.elastic_top.specs.Good.{is_fit_sum, IsFit}
-use Rattle.elastic_top.specs.Spelling.{Lexeme, Spells, DerivesPrimary, DerivesProduct, DerivesSum, name, number, group, factor, times, term, plus, minus, sum_nodes}
-use Rattle.elastic_top.proofs.Trees.{fold-number, fold-param, fold-op, sum_ind}
+use Rattle.elastic_top.specs.Spelling.{Lexeme, Spells, DerivesPrimary, DerivesProduct, DerivesSum, name, number, group, factor, times, term, plus, minus}
+use Rattle.elastic_top.proofs.Trees.{fold-number, fold-param, fold-op}
 use Rattle.elastic_top.specs.Good.{fits_step}
-use Rattle.std.proofs.Common.{Bool, false, ◌&&◌, cond, le-leb}
+use Rattle.std.proofs.Common.{Bool, ◌&&◌, le-leb}
 
 both : (a b : Bool) → a ≡ true → b ≡ true → (a && b) ≡ true
 both a b p q = rw (p, q) refl

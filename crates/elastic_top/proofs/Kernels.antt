@@ -310,8 +310,8 @@ parameter_back names ls x rest is =
     }))
 
 -- the names after one more parameter are few, and fewer lexemes are left
-pub few_names : (names before more ls : List Lexeme) (x : Lexeme) (rest : List Lexeme) → parameter_of names ls ≡ Some (x, rest) → names ≡ before → more ≡ before ++ x ∷ [] → length more ≤ 1024
-few_names names before more ls x rest is here same = rw (same, ← here) (omega (arith, (parameter_back names ls x rest is).room, length-append names (x ∷ [])))
+pub few_names : (names more ls : List Lexeme) (x : Lexeme) (rest : List Lexeme) → parameter_of names ls ≡ Some (x, rest) → more ≡ names ++ x ∷ [] → length more ≤ 1024
+few_names names more ls x rest is same = rw same (omega (arith, (parameter_back names ls x rest is).room, length-append names (x ∷ [])))
 
 pub fewer_left : (names ls : List Lexeme) (x mark : Lexeme) (mid rest : List Lexeme) → parameter_of names ls ≡ Some (x, mid) → mid ≡ mark ∷ rest → length rest < length ls
 fewer_left names ls x mark mid rest is more = let r : ParameterBack names ls x mid = parameter_back names ls x mid is in omega (arith, ap length r.whole, ap length more)

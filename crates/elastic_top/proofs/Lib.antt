@@ -15,6 +15,7 @@ pub mod Means
 pub mod Operands
 pub mod Passes
 pub mod RefusalLemmas
+pub mod ScopeLemmas
 pub mod Sizes
 pub mod Sound
 pub mod Steps

@@ -1,6 +1,5 @@
 -- The line that a fault of `go` tells, and its status.
-use Rattle.std.proofs.Common.{◌≡◌, ◌≢◌, ◌⊎◌, ◌<◌, ℕ, List, [], ◌∷◌, ◌++◌, Option, refl, sym, ap, ◌∙◌, subst, inl, inr, arith, rules, Contains, codes}
-use Rattle.el_io.specs.Outside.{Rose, IsCut}
+use Rattle.std.proofs.Common.{◌≡◌, ℕ, List, [], ◌∷◌, ◌++◌, Option, refl, subst, inl, inr, arith, Contains, codes}
 use Rattle.elastic_top.specs.declared.fault.Fault.{Fault}
 use Rattle.elastic_top.specs.declared.fault.Fault.TheVariants.{Usage, Read, Write, Kernel, Inputs, Memory, TooLong}
 use Rattle.elastic_top.specs.Faults.{fault_code, fault_line, IsTold}

@@ -1,10 +1,10 @@
 -- What is known of the files and of the text where a call of `go` ends.
-use Rattle.std.specs.Prelude.{◌≡◌, ◌⊎◌, ◌≤◌, ◌<◌, ◌++◌, ◌∷◌, [], ℕ, List, Option, Result, Ok, Err, codes}
-use Rattle.el_io.specs.Outside.{Told, IsWhole, MayPass, IsHeld, IsCut}
+use Rattle.std.specs.Prelude.{◌≡◌, ◌⊎◌, ◌++◌, ◌∷◌, [], ℕ, List, Option, Result, Ok, Err, codes}
+use Rattle.el_io.specs.Outside.{Told, IsWhole, MayPass, IsCut}
 use Rattle.std.specs.Io.KnownBytes.{append_known}
 use Rattle.elastic_top.specs.declared.fault.Fault.{Fault}
 use Rattle.elastic_top.specs.declared.fault.Fault.TheVariants.{Usage, Read, Write, Kernel, Inputs, Memory, TooLong}
-use Rattle.elastic_top.specs.Faults.{fault_code, fault_line, IsTold}
+use Rattle.elastic_top.specs.Faults.{fault_code, IsTold}
 use Rattle.elastic_top.specs.Answers.{IsAnswer, SpellsNothing, SpellsNoInputs}
 
 -- the status of a part: 0, or that of its fault

@@ -1,5 +1,5 @@
 -- A net that computes a straight kernel.
-use Rattle.std.specs.Prelude.{◌≡◌, ℕ, ◌+◌, ◌<◌, ◌≤◌, ◌^◌, nat_lt, nat_le, Bool, ◌&&◌, IsTrue, ℤ, Some, List, [], length, map}
+use Rattle.std.specs.Prelude.{◌≡◌, ℕ, ◌<◌, ◌≤◌, ◌^◌, nat_lt, nat_le, Bool, ◌&&◌, IsTrue, ℤ, Some, List, [], length, map}
 use Rattle.std.specs.List.{All}
 use Rattle.el_base.specs.declared.ty.Ty.TheVariants.{I32}
 use Rattle.el_base.specs.declared.ty.Scalar.{Scalar}

@@ -16,4 +16,5 @@ pub mod reader;
 #[cfg(test)]
 mod reader_tests;
 pub mod refusal;
+mod scope;
 mod sum;

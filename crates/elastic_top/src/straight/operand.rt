@@ -3,35 +3,28 @@ ghost use Rattle.std.specs.Prelude.{◌≡◌, ℕ, ◌<◌, ◌≤◌, ◌^◌,
 ghost use Rattle.std.specs.Str.Parse.{digits_value};
 ghost use Rattle.std.specs.List.{list_all};
 ghost use Rattle.std.specs.Char.{is_ascii_digit};
-ghost use Rattle.elastic_top.specs.Reading.{is_decimal, number_of, place_of, operand_of, is_name, is_reserved, name_of, Answers};
+ghost use Rattle.elastic_top.specs.Reading.{is_decimal, number_of, operand_of, is_name, is_reserved, name_of, Answers};
 
 use crate::straight::kernel::Sum;
 use crate::straight::refusal::KernelRefusal;
+use crate::straight::scope::Scope;
 use c_ast::Key;
 use el_base::Name;
 use std::alloc::Global;
 use std::str;
 
 /// The operand that a lexeme is: a number, or a parameter.
-pub fn operand(names: &[Name], lexeme: &[u8]) -> Option<Sum>
+pub fn operand(names: &Scope, lexeme: &[u8]) -> Option<Sum>
     requires { length names.now ≤ 1024 }
     ensures { result ≡ operand_of names.now lexeme.now }
 {
     match number(lexeme) {
         Some(number) => Some(Sum::Number(number)),
-        None => match place(names, lexeme) {
+        None => match names.place(lexeme) {
             Some(place) => Some(Sum::Param(place as u32)),
             None => None,
         },
     }
-}
-
-/// The place of a name among the names.
-#[tactic(auto, unfolding(crate::specs::Reading::place_of))]
-pub fn place(names: &[Name], lexeme: &[u8]) -> Option<usize>
-    ensures { result ≡ place_of names.now lexeme.now }
-{
-    names.iter().position(|name| name.as_slice() == lexeme)
 }
 
 // The number that a lexeme is.

@@ -1,16 +1,17 @@
 //! The reader of straight kernels.
-ghost use Rattle.std.specs.Prelude.{◌≡◌, ℕ, ◌≤◌, List, [], Err, IfOk, length};
+ghost use Rattle.std.specs.Prelude.{◌≡◌, ℕ, ◌≤◌, List, [], None, Err, IfOk, length};
 ghost use Rattle.elastic_top.specs.Spelling.{Spells};
-ghost use Rattle.elastic_top.specs.Reading.{lexemes, after_word, name_first, parameter_of, parameters_of, head_of, body_of, kernel_of, Answers, Passes, Goes};
+ghost use Rattle.elastic_top.specs.Reading.{lexemes, place_of, after_word, name_first, parameter_of, parameters_of, head_of, body_of, kernel_of, Answers, Passes, Goes};
 ghost use Rattle.elastic_top.specs.declared.straight.kernel.Kernel.{Kernel};
 ghost use Rattle.elastic_top.specs.declared.straight.refusal.KernelRefusal.TheVariants as refusal;
 
 use crate::straight::kernel::{Kernel, Sum};
 use crate::straight::lexeme::{Lexemes, is};
-use crate::straight::operand::{name, place};
+use crate::straight::operand::name;
 use crate::straight::refusal::KernelRefusal;
+use crate::straight::scope::Scope;
 use crate::straight::sum::{MOST_NODES, sum};
-use el_base::{List, Name};
+use el_base::Name;
 use std::alloc::Global;
 
 /// The straight kernel that a text spells. `NotYet` says that it spells none.
@@ -28,14 +29,15 @@ fn kernel(alloc: Global, bytes: &[u8]) -> Result<Kernel, KernelRefusal>
     ensures { Answers result (kernel_of (lexemes bytes.now)) }
 {
     let mut text = Lexemes::of(bytes);
-    let (name, params) = head(alloc, &mut text)?;
-    let sum = body(alloc, params.as_slice(), &mut text)?;
+    let (name, names) = head(alloc, &mut text)?;
+    let sum = body(alloc, &names, &mut text)?;
+    let params = names.into_list(alloc)?;
     Ok(Kernel { name, params, sum })
 }
 
 // The name of the kernel and those of its parameters.
 #[tactic(auto, unfolding(crate::specs::Reading::head_of))]
-fn head(alloc: Global, text: &mut Lexemes) -> Result<(Name, List<Name>), KernelRefusal>
+fn head(alloc: Global, text: &mut Lexemes) -> Result<(Name, Scope), KernelRefusal>
     ensures read { Passes result (lexemes text.new.rest.now) (head_of (lexemes text.old.rest.now)) }
     ensures few { IfOk result (λ h. length h.1 ≤ 1024) }
 {
@@ -48,7 +50,7 @@ fn head(alloc: Global, text: &mut Lexemes) -> Result<(Name, List<Name>), KernelR
 
 // The block after the parameters: the sum that it returns.
 #[tactic(auto, unfolding(crate::specs::Reading::body_of))]
-fn body(alloc: Global, names: &[Name], text: &mut Lexemes) -> Result<Sum, KernelRefusal>
+fn body(alloc: Global, names: &Scope, text: &mut Lexemes) -> Result<Sum, KernelRefusal>
     requires { length names.now ≤ 1024 }
     ensures { Answers result (body_of names.now (lexemes text.old.rest.now)) }
 {
@@ -86,14 +88,14 @@ fn next_name(alloc: Global, text: &mut Lexemes) -> Result<Name, KernelRefusal>
 
 // The names of all parameters, up to the `)` after them.
 #[tactic(auto, using(crate::proofs::Kernels::parameters_one))]
-fn parameters(alloc: Global, text: &mut Lexemes) -> Result<List<Name>, KernelRefusal>
+fn parameters(alloc: Global, text: &mut Lexemes) -> Result<Scope, KernelRefusal>
     ensures read { Passes result (lexemes text.new.rest.now) (parameters_of [] (lexemes text.old.rest.now)) }
     ensures few { IfOk result (λ names. length names ≤ 1024) }
 {
-    let mut names = List::new(alloc);
+    let mut names = Scope::new(alloc);
     loop {
-        let name = parameter(alloc, names.as_slice(), text)?;
-        names.push(name)?;
+        let name = parameter(alloc, &names, text)?;
+        names.declare(name)?;
         let Some(mark) = text.next() else {
             return Err(KernelRefusal::NotYet);
         };
@@ -108,12 +110,13 @@ fn parameters(alloc: Global, text: &mut Lexemes) -> Result<List<Name>, KernelRef
 
 // The name of one more parameter, after those with these names.
 #[tactic(auto, unfolding(crate::specs::Reading::parameter_of))]
-fn parameter(alloc: Global, names: &[Name], text: &mut Lexemes) -> Result<Name, KernelRefusal>
-    ensures { Passes result (lexemes text.new.rest.now) (parameter_of names.now (lexemes text.old.rest.now)) }
+fn parameter(alloc: Global, names: &Scope, text: &mut Lexemes) -> Result<Name, KernelRefusal>
+    ensures read { Passes result (lexemes text.new.rest.now) (parameter_of names.now (lexemes text.old.rest.now)) }
+    ensures new { IfOk result (λ name. place_of names.now name ≡ None) }
 {
     word(text, b"int32_t")?;
     let name = next_name(alloc, text)?;
-    if names.len() as u64 >= MOST_NODES - 3 || place(names, name.as_slice()).is_some() {
+    if names.len() as u64 >= MOST_NODES - 3 || names.place(name.as_slice()).is_some() {
         return Err(KernelRefusal::NotYet);
     }
     Ok(name)

@@ -7,7 +7,8 @@ use crate::straight::lexeme::{Lexemes, is, symbol};
 use crate::straight::operand::operand;
 use crate::straight::pending::{Group, Groups, Left, Reading, Symbol, Turn};
 use crate::straight::refusal::KernelRefusal;
-use el_base::{Boxed, Memory, Name};
+use crate::straight::scope::Scope;
+use el_base::{Boxed, Memory};
 use std::alloc::Global;
 
 /// The most nodes of a kernel.
@@ -83,7 +84,7 @@ fn closed(
 // The reading after a number or a name.
 fn valued(
     alloc: Global,
-    names: &[Name],
+    names: &Scope,
     lexeme: &[u8],
     outer: Groups,
     total: Option<Left>,
@@ -159,7 +160,7 @@ fn multiplied(
 #[tactic(auto, unfolding(crate::specs::Reading::step))]
 fn step(
     alloc: Global,
-    names: &[Name],
+    names: &Scope,
     lexeme: &[u8],
     reading: Reading,
 ) -> Result<Reading, KernelRefusal>
@@ -190,7 +191,7 @@ fn step(
 
 /// The sum from here to its `;`, over these parameters.
 #[tactic(auto, unfolding(crate::specs::Reading::sum_of))]
-pub fn sum(alloc: Global, names: &[Name], text: &mut Lexemes) -> Result<Sum, KernelRefusal>
+pub fn sum(alloc: Global, names: &Scope, text: &mut Lexemes) -> Result<Sum, KernelRefusal>
     requires { length names.now ≤ 1024 }
     ensures { Passes result (lexemes text.new.rest.now) (sum_of names.now (start names.now) (lexemes text.old.rest.now)) }
 {

@@ -1,5 +1,4 @@
-use Rattle.std.proofs.Common.{Contains}
-use Rattle.elastic_top.proofs.LineLemmas.{status_of_fault, statuses, tells_line}
+use Rattle.elastic_top.proofs.LineLemmas.{status_of_fault, tells_line}
 use Rattle.elastic_top.proofs.call.top.Goals as goal
 
 pub returns-in-Err-clause-codes : goal.returns-in-Err-clause-codes

@@ -1,4 +1,3 @@
-use Rattle.std.proofs.Common.{rules}
 use Rattle.elastic_top.proofs.Cuts.{cut_second, cut_third, on_err, on_any}
 use Rattle.elastic_top.proofs.fault.write_line.Goals as goal
 

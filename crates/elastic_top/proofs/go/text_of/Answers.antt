@@ -1,4 +1,4 @@
-use Rattle.std.proofs.Common.{rules, Err, ap}
+use Rattle.std.proofs.Common.{Err, ap}
 use Rattle.elastic_top.proofs.go.text_of.Goals as goal
 
 pub returns-in-Err-Kernel-clause-kernel : goal.returns-in-Err-Kernel-clause-kernel

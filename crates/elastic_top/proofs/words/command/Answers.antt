@@ -1,4 +1,4 @@
-use Rattle.std.proofs.Common.{rules, ◌≡◌}
+use Rattle.std.proofs.Common.{rules}
 use Rattle.elastic_top.proofs.Three.{three_texts}
 use Rattle.elastic_top.proofs.words.command.Goals as goal
 

@@ -1,4 +1,4 @@
-use Rattle.std.proofs.Common.{rules, ◌≡◌, Err, ap}
+use Rattle.std.proofs.Common.{rules, Err, ap}
 use Rattle.elastic_top.proofs.straight.answer.answer.Goals as goal
 use Rattle.elastic_top.proofs.AnswerLemmas.{right_value, small_value}
 use Rattle.elastic_top.proofs.Fitness.{fit_of_spelling}

@@ -1,4 +1,4 @@
-use Rattle.std.proofs.Common.{◌≡◌, ◌++◌, ◌+◌, ℤ, Err, Some, to_z, of_z, w64, rules, sym, ap, ◌∙◌, subst, length, refl}
+use Rattle.std.proofs.Common.{◌≡◌, ◌++◌, ◌+◌, Some, to_z, of_z, w64, rules, sym, ap, ◌∙◌, length, refl}
 use Rattle.std.proofs.lemmas.Int.{to_z-of_z}
 use mir.Val.{SFits}
 use Rattle.elastic_top.specs.Inputs.{Finds, input_line}

@@ -4,10 +4,10 @@ use Rattle.elastic_top.proofs.straight.reader.parameters.Goals as goal
 
 pub returns-then-is-clause-few : goal.returns-then-is-clause-few
 returns-then-is-clause-few c =
-    few_names c.as_slice.result.now c.loop-names.names c.push.new.self (lexemes c.loop-names.text.rest.now) c.in_ok-name.name (lexemes c.parameter.new.text.rest.now)
-    c.in_ok-name.ensures c.as_slice.ensures c.in_ok-push.ensures.ok
+    few_names c.loop-names.names c.declare.new.self (lexemes c.loop-names.text.rest.now) c.in_ok-name.name (lexemes c.parameter.new.text.rest.now)
+    c.in_ok-name.ensures.read c.in_ok-declare.ensures
 
 pub loop-names-smaller : goal.loop-names-smaller
 loop-names-smaller c =
-    fewer_left c.as_slice.result.now (lexemes c.loop-names.text.rest.now) c.in_ok-name.name c.in-Some.mark.now (lexemes c.parameter.new.text.rest.now) (lexemes c.next.new.self.rest.now)
-    c.in_ok-name.ensures c.in-Some.ensures.some
+    fewer_left c.loop-names.names (lexemes c.loop-names.text.rest.now) c.in_ok-name.name c.in-Some.mark.now (lexemes c.parameter.new.text.rest.now) (lexemes c.next.new.self.rest.now)
+    c.in_ok-name.ensures.read c.in-Some.ensures.some
