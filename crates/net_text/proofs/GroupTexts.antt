@@ -17,7 +17,7 @@ pub lacks-append : (c : ℕ) (xs ys : List ℕ) → lacks c xs ≡ true → lack
 lacks-append c [] ys l m = m
 lacks-append c (x ∷ xs) ys l m = lacks-cons c x (xs ++ ys) (lacks_head c x xs l) (lacks-append c xs ys (lacks_tail c x xs l) m)
 
-numbers_lack : (c : ℕ) → ((k : ℕ) → FitsU32 k → lacks c (decimal k) ≡ true) → 44 ≢ c → (n : ℕ) (ns : List ℕ) → GroupFits (n ∷ ns) → lacks c (join_with_byte 44 (map decimal (n ∷ ns))) ≡ true
+pub numbers_lack : (c : ℕ) → ((k : ℕ) → FitsU32 k → lacks c (decimal k) ≡ true) → 44 ≢ c → (n : ℕ) (ns : List ℕ) → GroupFits (n ∷ ns) → lacks c (join_with_byte 44 (map decimal (n ∷ ns))) ≡ true
 numbers_lack c digits comma n [] h = digits n (All_head FitsU32 n [] h)
 numbers_lack c digits comma n (m ∷ ms) h =
     lacks-append c (decimal n) (44 ∷ join_with_byte 44 (map decimal (m ∷ ms))) (digits n (All_head FitsU32 n (m ∷ ms) h))

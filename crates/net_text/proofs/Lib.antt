@@ -1,8 +1,14 @@
+pub mod CompleteLines
 pub mod Cuts
+pub mod Drafts
 pub mod GroupTexts
 pub mod LineTexts
 pub mod Lists
 pub mod Numbers
+pub mod OneNet
+pub mod Only
+pub mod Paths
 pub mod PrintedLines
 pub mod ReadLemmas
+pub mod Texts
 pub mod UnitKinds

@@ -71,7 +71,7 @@ len_cut a rest x y e c = cut_unique 32 (ty_name a.ty) (decimal a.len) x y (ty_la
 pub len_uncut : (a : Array) (rest : List ℕ) → ty_name a.ty ++ 32 ∷ decimal a.len ≡ rest → lacks 32 rest ≢ true
 len_uncut a rest e l = cut_present 32 (ty_name a.ty) (decimal a.len) (ap (lacks 32) e ∙ l)
 
-place_lacks : (p : Place) → PlaceFits p → lacks 32 (place_text p) ≡ true
+pub place_lacks : (p : Place) → PlaceFits p → lacks 32 (place_text p) ≡ true
 place_lacks p f =
     lacks-append 32 (decimal p.unit) (46 ∷ decimal p.place) (decimal_lacks 32 p.unit (lit< tt) (omega (arith, f.unit)))
     (lacks-cons 32 46 (decimal p.place) (λ e. omega arith) (decimal_lacks 32 p.place (lit< tt) (omega (arith, f.place))))

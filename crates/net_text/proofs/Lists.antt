@@ -58,7 +58,7 @@ fits_at view Fits f (x ∷ xs) [] i d h e l = absurd (omega arith)
 fits_at view Fits f (x ∷ xs) (r ∷ rs) zero d h e l = (x, (All_head Fits x xs h, ap (λ l. get_or l 0 (f x)) e))
 fits_at view Fits f (x ∷ xs) (r ∷ rs) (suc i) d h e l = fits_at view Fits f xs rs i d (All_tail Fits x xs h) (ap (drop 1) e) (omega arith)
 
-All_single : {X : Type 0} (P : X → Type 0) (x : X) → P x → All P (x ∷ [])
+pub All_single : {X : Type 0} (P : X → Type 0) (x : X) → P x → All P (x ∷ [])
 All_single P x p zero d l = p
 All_single P x p (suc k) d l = absurd (omega arith)
 

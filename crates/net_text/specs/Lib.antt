@@ -1,4 +1,6 @@
+pub mod Bodies
 pub mod Fits
 pub mod Pieces
 pub mod Reads
+pub mod Refusals
 pub mod Texts

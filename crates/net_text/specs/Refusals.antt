@@ -1,0 +1,79 @@
+-- What each answer of the reader says of the bytes.
+use Rattle.std.specs.Prelude.{◌≡◌, ◌≢◌, ◌⊎◌, ℕ, ◌+◌, ◌<◌, List, [], ◌∷◌, ◌++◌, length, Option, Some, None, Result, Ok, Err}
+use Rattle.std.specs.List.{All}
+use Rattle.net_types.specs.declared.net.Net.{Net}
+use Rattle.net_text.specs.declared.refusal.TextRefusal.{TextRefusal}
+use Rattle.net_text.specs.declared.refusal.TextRefusal.TheVariants as refusal
+use Rattle.net_text.specs.Fits.{FitsU32, NetFits}
+use Rattle.net_text.specs.Texts.{NetText}
+use Rattle.net_text.specs.Reads.{version_text}
+use Rattle.net_text.specs.Bodies.{Complete, text_of, texts}
+
+-- the number by which a refusal is printed
+abbrev pub refusal_number : TextRefusal → Option ℕ
+refusal_number (refusal.Line n) = Some 40
+refusal_number refusal.Ends = Some 41
+refusal_number refusal.Version = Some 42
+refusal_number refusal.Memory = None
+
+-- lines begin the text of some net
+pub record Begins (ls : List (List ℕ)) : Type 0 where
+  pub net : Net
+  pub fits : NetFits net
+  pub more : List (List ℕ)
+  pub whole : texts net ≡ ls ++ more
+
+-- lines are the whole text of some net
+pub record Spells (ls : List (List ℕ)) : Type 0 where
+  pub net : Net
+  pub fits : NetFits net
+  pub whole : texts net ≡ ls
+
+-- the first line is complete and names a version other than 1
+pub record IsOtherVersion (bytes : List ℕ) : Type 0 where
+  pub number : ℕ
+  pub fits : FitsU32 number
+  pub other : number ≢ 1
+  pub more : List ℕ
+  pub whole : bytes ≡ version_text number ++ 10 ∷ more
+
+-- the next line is complete; the lines before it begin some net's text, and with it they begin none
+pub record IsMisplaced (before : List (List ℕ)) (rest : List ℕ) : Type 0 where
+  pub text : List ℕ
+  pub more : List ℕ
+  pub whole : rest ≡ text ++ 10 ∷ more
+  pub one : Complete text
+  pub begins : Begins before
+  pub misplaced : Begins (before ++ text ∷ []) → ⊥
+
+-- the line of that number, from 1, is complete and may not stand after the lines before it, or a byte stands in it and
+-- the lines before it are a whole text
+pub record IsWrongLine (bytes : List ℕ) (number : ℕ) : Type 0 where
+  pub before : List (List ℕ)
+  pub complete : All Complete before
+  pub counted : number ≡ length before + 1
+  pub rest : List ℕ
+  pub whole : bytes ≡ text_of before ++ rest
+  pub wrong : IsMisplaced before rest ⊎ (Spells before × (0 < length rest))
+
+-- the complete lines begin some net's text, and are no whole one
+pub record IsCutShort (bytes : List ℕ) : Type 0 where
+  pub before : List (List ℕ)
+  pub complete : All Complete before
+  pub rest : List ℕ
+  pub whole : bytes ≡ text_of before ++ rest
+  pub incomplete : Complete rest
+  pub begins : Begins before
+  pub unended : Spells before → ⊥
+
+-- what an answer says of the bytes; want of memory says nothing
+abbrev pub Says : List ℕ → Result Net TextRefusal → Type 0
+Says bytes (Ok net) = NetFits net × NetText net bytes
+Says bytes (Err refusal.Version) = IsOtherVersion bytes
+Says bytes (Err (refusal.Line n)) = (IsOtherVersion bytes → ⊥) × IsWrongLine bytes n
+Says bytes (Err refusal.Ends) = IsCutShort bytes
+Says bytes (Err refusal.Memory) = Unit {0}
+
+-- no other answer but want of memory says what holds of the bytes
+abbrev pub IsOnly : List ℕ → Result Net TextRefusal → Type 0
+IsOnly bytes r = (other : Result Net TextRefusal) → other ≢ Err refusal.Memory → Says bytes other → (r ≡ other) ⊎ (r ≡ Err refusal.Memory)
