@@ -2,8 +2,9 @@
 # build: proves the program and all below it, and leaves it as crates/elastic/out/elastic.
 # test: the gate: every proof, wrong body, test and program.
 # bench: times the proved program on a kernel of 1,024 nodes.
+# fail-alloc: makes each allocation of a run fail in turn.
 
-.PHONY: demo build test bench
+.PHONY: demo build test bench fail-alloc
 
 demo:
 	@echo 'This build is not the proved one: it runs the program before its proofs.'
@@ -19,3 +20,6 @@ test:
 
 bench: build
 	@sh tools/bench.sh crates/elastic/out/elastic
+
+fail-alloc: build
+	@sh tools/fail_alloc.sh crates/elastic/out/elastic
