@@ -4,6 +4,7 @@ use crate::{
 };
 use el_base::Memory;
 use std::fs;
+use std::io::pipe;
 use std::test::Fail;
 
 #[test]
@@ -56,6 +57,18 @@ fn writes_real_streams(rt: HostRuntime) -> Result<(), Fail> {
         fs::read(&rt, "written")?.as_slice(),
         b"first,second".as_slice()
     );
+    Ok(())
+}
+
+// An output is closed at its other end, as a standard output whose reader has gone.
+#[test]
+fn refuses_closed_output(rt: HostRuntime) -> Result<(), Fail> {
+    let (reader, writer) = pipe(&rt)?;
+    let mut out = HostSink::new(writer);
+    assert_eq!(rt; write_all(&mut out, b"line\n"), Ok(()));
+    drop(reader);
+    assert_eq!(rt; write_all(&mut out, b"line\n"), Err(WriteFault));
+    assert_eq!(rt; write_all(&mut out, b""), Ok(()));
     Ok(())
 }
 
