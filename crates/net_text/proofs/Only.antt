@@ -14,7 +14,7 @@ use Rattle.net_text.specs.Fits.{NetFits}
 use Rattle.net_text.specs.Texts.{NetText}
 use Rattle.net_text.specs.Reads.{lacks, version_text}
 use Rattle.net_text.specs.Bodies.{Complete, text_of, texts, body_texts, may_stand}
-use Rattle.net_text.specs.Refusals.{Begins, Spells, IsOtherVersion, IsMisplaced, IsWrongLine, IsCutShort, Says, IsOnly}
+use Rattle.net_text.specs.Refusals.{Begins, Spells, IsOtherVersion, IsMisplaced, IsWrongLine, IsCutShort, Says, ReadsBack, IsOnly}
 use Rattle.net_text.proofs.Cuts.{cut_unique, cut_present}
 use Rattle.net_text.proofs.Lists.{All_head, All_tail}
 use Rattle.net_text.proofs.Paths.{Allowed, Path, path_at, body_path}
@@ -190,3 +190,11 @@ only_answer bytes (Err refusal.Memory) s (Ok other) m t = inr refl
 only_answer bytes (Err refusal.Version) s (Ok other) m t = absurd (net_version bytes other t.0 t.1 s)
 only_answer bytes (Err (refusal.Line n)) s (Ok other) m t = absurd (net_line bytes other n t.0 t.1 s.1)
 only_answer bytes (Err refusal.Ends) s (Ok other) m t = absurd (net_ends bytes other t.0 t.1 s)
+
+-- an answer that holds of a net's text is the net
+pub reads_back : (bytes : List ℕ) (net : Net) → NetFits net → NetText net bytes → ReadsBack bytes net
+reads_back bytes net f t (Ok other) s = inl (ap Ok (net_net bytes other net s.0 f s.1 t))
+reads_back bytes net f t (Err refusal.Memory) s = inr refl
+reads_back bytes net f t (Err refusal.Version) s = absurd (net_version bytes net f t s)
+reads_back bytes net f t (Err (refusal.Line n)) s = absurd (net_line bytes net n f t s.1)
+reads_back bytes net f t (Err refusal.Ends) s = absurd (net_ends bytes net f t s)

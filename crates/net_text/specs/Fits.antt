@@ -69,6 +69,12 @@ pub record ChanFits (c : Chan) : Type 0 where
   pub slots : FitsU32 c.slots
   pub delay : FitsU32 c.delay
 
+-- a net's header: the names and the sizes of its parameters
+pub record HeaderFits (net : Net) : Type 0 where
+  pub name : NameFits net.name
+  pub scalars : All ScalarFits net.scalars
+  pub arrays : All ArrayFits net.arrays
+
 -- a net that the types of its fields can hold
 pub record NetFits (net : Net) : Type 0 where
   pub name : NameFits net.name

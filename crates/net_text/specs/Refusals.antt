@@ -74,6 +74,10 @@ Says bytes (Err (refusal.Line n)) = (IsOtherVersion bytes → ⊥) × IsWrongLin
 Says bytes (Err refusal.Ends) = IsCutShort bytes
 Says bytes (Err refusal.Memory) = Unit {0}
 
+-- each answer that says what holds of the bytes is the net, or want of memory
+abbrev pub ReadsBack : List ℕ → Net → Type 0
+ReadsBack bytes net = (r : Result Net TextRefusal) → Says bytes r → (r ≡ Ok net) ⊎ (r ≡ Err refusal.Memory)
+
 -- no other answer but want of memory says what holds of the bytes
 abbrev pub IsOnly : List ℕ → Result Net TextRefusal → Type 0
 IsOnly bytes r = (other : Result Net TextRefusal) → other ≢ Err refusal.Memory → Says bytes other → (r ≡ other) ⊎ (r ≡ Err refusal.Memory)

@@ -1,4 +1,5 @@
 ghost use Rattle.std.specs.Prelude.{◌≡◌, [], ◌∷◌, ◌++◌, OnOk, map, decimal};
+ghost use Rattle.net_text.specs.Fits.{GroupFits, GroupsFit};
 ghost use Rattle.net_text.specs.Pieces.{line, place_text, port_letter, ports_text, group_text, groups_text};
 
 use el_base::put_u64;
@@ -84,6 +85,7 @@ fn letter(port: Port) -> u8
 /// Appends a group of ports.
 pub(crate) fn put_group(text: &mut Vec<u8>, group: &[u32]) -> Result<(), Memory>
     ensures ok { OnOk result (text.new.items ≡ text.old.items ++ group_text group.now) }
+    ensures fits { OnOk result (GroupFits group.now) }
 {
     match group.split_first() {
         None => put_bytes(text, b"-"),
@@ -101,6 +103,7 @@ pub(crate) fn put_group(text: &mut Vec<u8>, group: &[u32]) -> Result<(), Memory>
 /// Appends groups of ports.
 pub(crate) fn put_groups(text: &mut Vec<u8>, groups: &[List<u32>]) -> Result<(), Memory>
     ensures ok { OnOk result (text.new.items ≡ text.old.items ++ groups_text groups.now) }
+    ensures fits { OnOk result (GroupsFit groups.now) }
 {
     match groups.split_first() {
         None => put_bytes(text, b"none"),

@@ -1,6 +1,8 @@
 ghost use Rattle.std.specs.Prelude.{◌≡◌, ◌++◌, ◌∷◌, [], OnOk, IfOk, map};
-ghost use Rattle.std.specs.List.{flat_map};
+ghost use Rattle.std.specs.List.{All, flat_map};
 ghost use Rattle.net_text.specs.Pieces.{line, control_parts};
+ghost use Rattle.net_text.specs.Fits.{NetFits, HeaderFits, ScalarFits, ArrayFits, UnitFits, ChanFits};
+ghost use Rattle.net_text.specs.Refusals.{ReadsBack};
 ghost use Rattle.net_text.specs.Texts.{NetText, scalar_parts, array_parts, result_parts, unit_parts, chan_parts, header_lines};
 
 use crate::pieces::{put_bytes, put_line, put_place, put_u32, put_word_line};
@@ -11,9 +13,15 @@ use std::alloc::Global;
 
 /// The text of a net.
 ///
-/// One net has one text. `Memory` where memory ran out.
+/// One net has one text, and [`read`](crate::read) gives the net back from it.
+///
+/// # Errors
+///
+/// [`Memory`] where memory is wanting.
 pub fn print(alloc: Global, net: &Net) -> Result<Vec<u8>, Memory>
-    ensures { IfOk result (λ text. NetText net.now text.items) }
+    ensures text { IfOk result (λ text. NetText net.now text.items) }
+    ensures fits { IfOk result (λ text. NetFits net.now) }
+    ensures reads_back { IfOk result (λ text. ReadsBack text.items net.now) }
 {
     let mut text = Vec::new(alloc);
     put_header(&mut text, net)?;
@@ -25,6 +33,7 @@ pub fn print(alloc: Global, net: &Net) -> Result<Vec<u8>, Memory>
 
 fn put_header(text: &mut Vec<u8>, net: &Net) -> Result<(), Memory>
     ensures ok { OnOk result (text.new.items ≡ text.old.items ++ flat_map line (header_lines net.now)) }
+    ensures fits { OnOk result (HeaderFits net.now) }
 {
     put_line(text, b"elastic", &[1])?;
     put_word_line(text, b"kernel", net.name.as_slice())?;
@@ -35,6 +44,7 @@ fn put_header(text: &mut Vec<u8>, net: &Net) -> Result<(), Memory>
 
 fn put_scalars(text: &mut Vec<u8>, scalars: &[Scalar]) -> Result<(), Memory>
     ensures ok { OnOk result (text.new.items ≡ text.old.items ++ flat_map line (map scalar_parts scalars.now)) }
+    ensures fits { OnOk result (All ScalarFits scalars.now) }
 {
     for scalar in scalars {
         put_scalar(text, scalar)?;
@@ -44,6 +54,7 @@ fn put_scalars(text: &mut Vec<u8>, scalars: &[Scalar]) -> Result<(), Memory>
 
 fn put_scalar(text: &mut Vec<u8>, scalar: &Scalar) -> Result<(), Memory>
     ensures ok { OnOk result (text.new.items ≡ text.old.items ++ line (scalar_parts scalar.now)) }
+    ensures fits { OnOk result (ScalarFits scalar.now) }
 {
     put_bytes(text, b"scalar ")?;
     put_bytes(text, scalar.name.as_slice())?;
@@ -54,6 +65,7 @@ fn put_scalar(text: &mut Vec<u8>, scalar: &Scalar) -> Result<(), Memory>
 
 fn put_arrays(text: &mut Vec<u8>, arrays: &[Array]) -> Result<(), Memory>
     ensures ok { OnOk result (text.new.items ≡ text.old.items ++ flat_map line (map array_parts arrays.now)) }
+    ensures fits { OnOk result (All ArrayFits arrays.now) }
 {
     for array in arrays {
         put_array(text, array)?;
@@ -63,6 +75,7 @@ fn put_arrays(text: &mut Vec<u8>, arrays: &[Array]) -> Result<(), Memory>
 
 fn put_array(text: &mut Vec<u8>, array: &Array) -> Result<(), Memory>
     ensures ok { OnOk result (text.new.items ≡ text.old.items ++ line (array_parts array.now)) }
+    ensures fits { OnOk result (ArrayFits array.now) }
 {
     put_bytes(text, b"array ")?;
     put_bytes(text, array.name.as_slice())?;
@@ -84,6 +97,7 @@ fn put_result(text: &mut Vec<u8>, ty: Option<Ty>) -> Result<(), Memory>
 
 fn put_units(text: &mut Vec<u8>, units: &[Unit]) -> Result<(), Memory>
     ensures ok { OnOk result (text.new.items ≡ text.old.items ++ flat_map line (map unit_parts units.now)) }
+    ensures fits { OnOk result (All UnitFits units.now) }
 {
     for unit in units {
         put_unit(text, unit)?;
@@ -93,6 +107,7 @@ fn put_units(text: &mut Vec<u8>, units: &[Unit]) -> Result<(), Memory>
 
 fn put_chans(text: &mut Vec<u8>, chans: &[Chan]) -> Result<(), Memory>
     ensures ok { OnOk result (text.new.items ≡ text.old.items ++ flat_map line (map chan_parts chans.now)) }
+    ensures fits { OnOk result (All ChanFits chans.now) }
 {
     for chan in chans {
         put_chan(text, *chan)?;
@@ -102,6 +117,7 @@ fn put_chans(text: &mut Vec<u8>, chans: &[Chan]) -> Result<(), Memory>
 
 fn put_chan(text: &mut Vec<u8>, chan: Chan) -> Result<(), Memory>
     ensures ok { OnOk result (text.new.items ≡ text.old.items ++ line (chan_parts chan)) }
+    ensures fits { OnOk result (ChanFits chan) }
 {
     put_bytes(text, b"chan ")?;
     put_place(text, chan.from)?;

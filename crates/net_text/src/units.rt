@@ -1,4 +1,5 @@
 ghost use Rattle.std.specs.Prelude.{◌≡◌, ◌++◌, OnOk};
+ghost use Rattle.net_text.specs.Fits.{UnitFits, QueueFits};
 ghost use Rattle.net_text.specs.Pieces.{line};
 ghost use Rattle.net_text.specs.Texts.{unit_parts};
 ghost use Rattle.net_types.specs.declared.net.Unit.TheVariants as unit;
@@ -9,6 +10,7 @@ use net_types::{List, Memory, Port, Unit};
 /// Appends the line of a unit.
 pub(crate) fn put_unit(text: &mut Vec<u8>, unit: &Unit) -> Result<(), Memory>
     ensures ok { OnOk result (text.new.items ≡ text.old.items ++ line (unit_parts unit.now)) }
+    ensures fits { OnOk result (UnitFits unit.now) }
 {
     match unit {
         Unit::Entry => put_line(text, b"unit entry", &[]),
@@ -47,6 +49,7 @@ fn put_queue(
     groups: &[List<u32>],
 ) -> Result<(), Memory>
     ensures ok { OnOk result (text.new.items ≡ text.old.items ++ line (unit_parts (unit.Lsq array depth ports.now groups.now))) }
+    ensures fits { OnOk result (QueueFits array depth groups.now) }
 {
     put_bytes(text, b"unit lsq ")?;
     put_u32(text, array)?;

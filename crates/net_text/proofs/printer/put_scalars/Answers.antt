@@ -1,0 +1,11 @@
+use Rattle.std.proofs.Common.{arith, subst}
+use Rattle.std.proofs.lemmas.Grind.{common_steps}
+use Rattle.std.proofs.lemmas.List.Elements.{All-more}
+use Rattle.net_text.specs.Fits.{ScalarFits}
+use Rattle.net_text.proofs.printer.put_scalars.Goals as goal
+
+pub loop-scalar-preserved : goal.loop-scalar-preserved
+loop-scalar-preserved c = record {
+  written = grind (arith, common_steps);
+  fit = All-more ScalarFits c.args.scalars.now c.loop-scalar.scalar-index c.scalar-item.result c.loop-scalar-test.true c.loop-scalar.invariant.fit (subst ScalarFits c.scalar-item.is c.in_ok-put_scalar.ensures.fits);
+}
