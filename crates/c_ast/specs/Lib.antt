@@ -1,4 +1,10 @@
 pub mod Derives
+pub mod Nesting
 pub mod Nodes
+pub mod Numerals
+pub mod Pieces
+pub mod Prefixes
+pub mod Spells
 pub mod Texts
+pub mod Tokens
 pub mod Typing

@@ -101,18 +101,18 @@ names_after_row names end_of-Stmt = names
 names_after_row names (more_of-Stmt s at row) = names_after_row (names_after names s) row
 
 abbrev mutual
-  -- a statement of a kernel with a result, in a loop or not: 27 asks a loop around break and continue
+  -- a statement of a kernel with a result, in a loop or not: 27 asks a loop around break and continue; the parts of if, while, do and for are blocks of their own (6.8.4p3, 6.8.5p5)
   pub TypingStmt : StmtKind → Option Ty → Bool → Names → Type 0
   TypingStmt (stmt.Block' n row) r loop names = TypingStmts row r loop ([] ∷ names)
   TypingStmt (stmt.Declare x t e) r loop names = IsNew names x × TypingOption (with_name x names) e
   TypingStmt (stmt.Assign target op e) r loop names = TypingTarget names target × TypingExpr names e
   TypingStmt (stmt.Step target up) r loop names = TypingTarget names target
-  TypingStmt (stmt.If' e b (more_of-Stmt s at end_of-Stmt) o) r loop names = TypingExpr names e × TypingStmt s r loop names × TypingHeld o r loop names
-  TypingStmt (stmt.While' e b (more_of-Stmt s at end_of-Stmt)) r loop names = TypingExpr names e × TypingStmt s r true names
-  TypingStmt (stmt.DoWhile' b (more_of-Stmt s at end_of-Stmt) e) r loop names = TypingStmt s r true names × TypingExpr names e
+  TypingStmt (stmt.If' e b (more_of-Stmt s at end_of-Stmt) o) r loop names = TypingExpr names e × TypingStmt s r loop ([] ∷ names) × TypingHeld o r loop names
+  TypingStmt (stmt.While' e b (more_of-Stmt s at end_of-Stmt)) r loop names = TypingExpr names e × TypingStmt s r true ([] ∷ names)
+  TypingStmt (stmt.DoWhile' b (more_of-Stmt s at end_of-Stmt) e) r loop names = TypingStmt s r true ([] ∷ names) × TypingExpr names e
   TypingStmt (stmt.For' n row e o b (more_of-Stmt s at end_of-Stmt)) r loop names =
       TypingStmts row r false ([] ∷ names) × TypingOption (names_after_row ([] ∷ names) row) e
-      × TypingHeld o r false (names_after_row ([] ∷ names) row) × TypingStmt s r true (names_after_row ([] ∷ names) row)
+      × TypingHeld o r false (names_after_row ([] ∷ names) row) × TypingStmt s r true ([] ∷ names_after_row ([] ∷ names) row)
   TypingStmt stmt.Break r loop names = IsTrue loop
   TypingStmt stmt.Continue r loop names = IsTrue loop
   TypingStmt (stmt.Return e) r loop names = IsReturnable r e × TypingOption names e
@@ -120,7 +120,7 @@ abbrev mutual
 
   pub TypingHeld : Held-StmtKind-If-2 → Option Ty → Bool → Names → Type 0
   TypingHeld stmt.None' r loop names = Unit {0}
-  TypingHeld (stmt.Some' b (more_of-Stmt s at end_of-Stmt)) r loop names = TypingStmt s r loop names
+  TypingHeld (stmt.Some' b (more_of-Stmt s at end_of-Stmt)) r loop names = TypingStmt s r loop ([] ∷ names)
 
   pub TypingStmts : {n : Count} → Row_of-Stmt n → Option Ty → Bool → Names → Type 0
   TypingStmts end_of-Stmt r loop names = Unit {0}

@@ -56,6 +56,13 @@ array t ds = record { name = codes "a"; at = here; ty = t; dims = ds }
 abbrev pub array_of : Ty → List ℕ → ArrayOf
 array_of t ds = record { name = codes "a"; ty = t; dims = ds }
 
+-- arrays with names of their own
+abbrev pub array_named : List ℕ → Ty → List ℕ → Param
+array_named x t ds = record { name = x; at = here; ty = t; dims = ds }
+
+abbrev pub array_of_named : List ℕ → Ty → List ℕ → ArrayOf
+array_of_named x t ds = record { name = x; ty = t; dims = ds }
+
 -- a kernel, with its result, parameters, variables, arrays and block
 abbrev pub kernel : Option Ty → List Param → List Ty → List ArrayOf → List TypedStmt → Typed
 kernel r ps vs as_of body = record { name = codes "f"; at = here; result = r; params = ps; vars = vs; arrays = as_of; body = body }

@@ -24,7 +24,7 @@ use Rattle.c_meaning.specs.Bounds.{IsOver, with_more, KeepsEnd, StatementsKeepEn
 abbrev pub Grows : Run → Run → Type 0
 Grows a b = (s : Store) (n m : ℕ) → IsOver (a s n).how → b s (n + m) ≡ with_more m (a s n)
 
-add_suc : (n m : ℕ) → suc (n + m) ≡ suc n + m
+pub add_suc : (n m : ℕ) → suc (n + m) ≡ suc n + m
 add_suc n m = omega arith
 
 pub ends_grow : (h : How) → Grows (ends h) (ends h)
@@ -43,7 +43,7 @@ go_on_grows (by_return v) a b g s n m o = refl
 go_on_grows undefined a b g s n m o = refl
 go_on_grows out_of_turns a b g s n m o = refl
 
-go_on_over : (h : How) (a : Run) (s : Store) (n : ℕ) → IsOver (go_on h a s n).how → IsOver h
+pub go_on_over : (h : How) (a : Run) (s : Store) (n : ℕ) → IsOver (go_on h a s n).how → IsOver h
 go_on_over normally a s n o = tt
 go_on_over by_break a s n o = tt
 go_on_over by_continue a s n o = tt
@@ -65,7 +65,7 @@ after_grows (by_return v) a b g s n m o = refl
 after_grows undefined a b g s n m o = refl
 after_grows out_of_turns a b g s n m o = refl
 
-after_over : (h : How) (a : Run) (s : Store) (n : ℕ) → IsOver (after_body h a s n).how → IsOver h
+pub after_over : (h : How) (a : Run) (s : Store) (n : ℕ) → IsOver (after_body h a s n).how → IsOver h
 after_over normally a s n o = tt
 after_over by_break a s n o = tt
 after_over by_continue a s n o = tt

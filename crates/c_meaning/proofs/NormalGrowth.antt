@@ -13,7 +13,7 @@ use Rattle.c_meaning.specs.Bounds.{NormalStatementsKeepEnds, NormalsKeepEnds, No
 use Rattle.c_meaning.proofs.Growth.{Grows, AllGrow, HeldGrows, ends_grow, sequence_grows, branch_grows, loop_grows, looped_grows, both_grow, assigned_grows, declared_grows, returned_grows, turn_grows, entering_grows, nothing_grows, if_any_grows, block_grows, one_end}
 
 mutual
-  kind_grows : (k : Objects) (x : NormalStmtKind) → Grows (normal_kind_act k x).run (normal_kind_act k x).run
+  pub kind_grows : (k : Objects) (x : NormalStmtKind) → Grows (normal_kind_act k x).run (normal_kind_act k x).run
   kind_grows k (tree.Block' n row) = turn_grows (block (normal_row_acts k row)) (block_grows (normal_row_acts k row) (row_grows k row))
   kind_grows k (tree.Declare v init) = turn_grows (declared_run k v init) (declared_grows k v init)
   kind_grows k (tree.Assign target e) = turn_grows (assigned k target (meaning k.arrays e)) (assigned_grows k target (meaning k.arrays e))
@@ -47,11 +47,11 @@ mutual
   kind_grows k (tree.Return e) = turn_grows (returned k.arrays e) (returned_grows k.arrays e)
   kind_grows k tree.Empty = turn_grows nothing nothing_grows
 
-  held_grows : (k : Objects) (x : Held-NormalStmtKind-If-3) → HeldGrows (normal_act_if_any k x)
+  pub held_grows : (k : Objects) (x : Held-NormalStmtKind-If-3) → HeldGrows (normal_act_if_any k x)
   held_grows k None' = tt
   held_grows k (Some' b (more_of-NormalStmt s at end_of-NormalStmt)) = kind_grows k s
 
-  row_grows : (k : Objects) {n : Count} (row : Row_of-NormalStmt n) → AllGrow (map (λ a. a.run) (normal_row_acts k row))
+  pub row_grows : (k : Objects) {n : Count} (row : Row_of-NormalStmt n) → AllGrow (map (λ a. a.run) (normal_row_acts k row))
   row_grows k end_of-NormalStmt = tt
   row_grows k (more_of-NormalStmt s at row) = (kind_grows k s, row_grows k row)
 

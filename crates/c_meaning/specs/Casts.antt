@@ -110,6 +110,8 @@ mutual
     name : (c : Context) (x : List ℕ) (v : ℕ) (t : Ty) (s : Span) → declared_as c x ≡ Some (a_var v t) → CastsExpr c (expr_at (expr.Name x) s) (of_type (typed.Var v) t s)
     element : (c : Context) (x : List ℕ) (a : ℕ) (t : Ty) (ds : List ℕ) (es : List Expr) (fs : List TypedExpr) (s : Span)
         → declared_as c x ≡ Some (an_array a t ds) → CastsExprs c es fs → CastsExpr c (expr_at (expr.Element x es) s) (of_type (typed.Element a fs) t s)
+    -- an element of a variable has no index, and is the variable
+    whole : (c : Context) (x : List ℕ) (v : ℕ) (t : Ty) (s : Span) → declared_as c x ≡ Some (a_var v t) → CastsExpr c (expr_at (expr.Element x []) s) (of_type (typed.Var v) t s)
     -- the operand is promoted; ! gives I32
     unary : (c : Context) (op : Unary) (e : Expr) (f : TypedExpr) (s : Span) → CastsExpr c e f
         → CastsExpr c (expr_at (expr.Unary op e) s) (of_type (typed.Unary op (converted (promoted f.ty) f)) (unary_type op (promoted f.ty)) s)
@@ -150,7 +152,7 @@ assigned_type None t u = t
 assigned_type (Some op) t u = right_type op t u
 
 mutual
-  -- a statement in a kernel of a result, from one context to the next
+  -- a statement in a kernel of a result, from one context to the next; the parts of if, while, do and for are blocks of their own (6.8.4p3, 6.8.5p5)
   pub data CastsStmt : Option Ty → Context → Stmt → TypedStmt → Context → Type 0 where
     block : (r : Option Ty) (c d : Context) (ss : List Stmt) (ts : List TypedStmt) (s : Span) → CastsStmts r (opened c) ss ts d
         → CastsStmt r c (stmt_at (stmt.Block ss) s) (act_at (act.Block ts) s) (closed c d)
@@ -165,14 +167,14 @@ mutual
     step : (r : Option Ty) (c : Context) (target : Target) (to : TypedTarget) (t : Ty) (up : Bool) (s : Span) → CastsTarget c target to t
         → CastsStmt r c (stmt_at (stmt.Step target up) s) (act_at (act.Step to up) s) c
     choice : (r : Option Ty) (c d d2 : Context) (e : Expr) (f : TypedExpr) (a : Stmt) (b : TypedStmt) (o : Option Stmt) (p : Option TypedStmt) (s : Span)
-        → CastsExpr c e f → CastsStmt r c a b d → CastsHeld r d o p d2 → CastsStmt r c (stmt_at (stmt.If e a o) s) (act_at (act.If f b p) s) d2
+        → CastsExpr c e f → CastsStmt r (opened c) a b d → CastsHeld r (closed c d) o p d2 → CastsStmt r c (stmt_at (stmt.If e a o) s) (act_at (act.If f b p) s) d2
     while_loop : (r : Option Ty) (c d : Context) (e : Expr) (f : TypedExpr) (a : Stmt) (b : TypedStmt) (s : Span)
-        → CastsExpr c e f → CastsStmt r c a b d → CastsStmt r c (stmt_at (stmt.While e a) s) (act_at (act.While f b) s) d
+        → CastsExpr c e f → CastsStmt r (opened c) a b d → CastsStmt r c (stmt_at (stmt.While e a) s) (act_at (act.While f b) s) (closed c d)
     do_loop : (r : Option Ty) (c d : Context) (e : Expr) (f : TypedExpr) (a : Stmt) (b : TypedStmt) (s : Span)
-        → CastsStmt r c a b d → CastsExpr c e f → CastsStmt r c (stmt_at (stmt.DoWhile a e) s) (act_at (act.DoWhile b f) s) d
+        → CastsStmt r (opened c) a b d → CastsExpr c e f → CastsStmt r c (stmt_at (stmt.DoWhile a e) s) (act_at (act.DoWhile b f) s) (closed c d)
     -- a for has a scope of its own
     for_loop : (r : Option Ty) (c d d2 d3 : Context) (ss : List Stmt) (ts : List TypedStmt) (e : Option Expr) (f : Option TypedExpr) (o : Option Stmt) (p : Option TypedStmt) (a : Stmt) (b : TypedStmt) (s : Span)
-        → CastsStmts r (opened c) ss ts d → CastsOption d e f → CastsHeld r d o p d2 → CastsStmt r d2 a b d3
+        → CastsStmts r (opened c) ss ts d → CastsOption d e f → CastsHeld r d o p d2 → CastsStmt r (opened d2) a b d3
         → CastsStmt r c (stmt_at (stmt.For ss e o a) s) (act_at (act.For ts f p b) s) (closed c d3)
     leaving : (r : Option Ty) (c : Context) (s : Span) → CastsStmt r c (stmt_at stmt.Break s) (act_at act.Break s) c
     continuing : (r : Option Ty) (c : Context) (s : Span) → CastsStmt r c (stmt_at stmt.Continue s) (act_at act.Continue s) c
@@ -183,7 +185,7 @@ mutual
 
   pub data CastsHeld : Option Ty → Context → Option Stmt → Option TypedStmt → Context → Type 0 where
     no_statement : (r : Option Ty) (c : Context) → CastsHeld r c None None c
-    a_statement : (r : Option Ty) (c d : Context) (a : Stmt) (b : TypedStmt) → CastsStmt r c a b d → CastsHeld r c (Some a) (Some b) d
+    a_statement : (r : Option Ty) (c d : Context) (a : Stmt) (b : TypedStmt) → CastsStmt r (opened c) a b d → CastsHeld r c (Some a) (Some b) (closed c d)
 
   pub data CastsStmts : Option Ty → Context → List Stmt → List TypedStmt → Context → Type 0 where
     done : (r : Option Ty) (c : Context) → CastsStmts r c [] [] c

@@ -4,7 +4,6 @@ use mathlib.Core.Former.{Count}
 use Rattle.el_base.specs.declared.ty.Ty.{Ty}
 use Rattle.el_base.specs.Numbers.{IsInRange}
 use Rattle.c_ast.specs.declared.tree.Binary.{Binary as BinaryOp}
-use Rattle.c_ast.specs.declared.tree.Binary.TheVariants.{Both, Either, Lt, Gt, Le, Ge, Eq, Ne}
 use Rattle.c_ast.specs.declared.tree.Param.{Param}
 use Rattle.c_ast.specs.declared.typed.ArrayOf.{ArrayOf}
 use Rattle.c_ast.specs.declared.typed.Object.{Object}
@@ -80,21 +79,8 @@ IsObject k (object.Array a) indices t = IsElement k a indices t
 abbrev pub LawfulTarget : Objects → TypedTarget → Ty → Type 0
 LawfulTarget k target t = IsObject k target.to (length target.indices) t × All (LawfulExpr k) target.indices
 
--- operators that an assignment may have: those of two numbers that give a number of the operands' type
-abbrev pub IsAssigning : Option BinaryOp → Type 0
-IsAssigning None = Unit {0}
-IsAssigning (Some Both) = ⊥
-IsAssigning (Some Either) = ⊥
-IsAssigning (Some Lt) = ⊥
-IsAssigning (Some Gt) = ⊥
-IsAssigning (Some Le) = ⊥
-IsAssigning (Some Ge) = ⊥
-IsAssigning (Some Eq) = ⊥
-IsAssigning (Some Ne) = ⊥
-IsAssigning (Some op) = Unit {0}
-
 abbrev pub LawfulAssignment : Objects → TypedTarget → Option BinaryOp → TypedExpr → Type 0
-LawfulAssignment k target op e = (t : Ty) × LawfulTarget k target t × IsAssigning op × (e.ty ≡ assigned_type op t e.ty) × LawfulExpr k e
+LawfulAssignment k target op e = (t : Ty) × LawfulTarget k target t × (e.ty ≡ assigned_type op t e.ty) × LawfulExpr k e
 
 abbrev pub LawfulDeclaration : Objects → ℕ → Option TypedExpr → Type 0
 LawfulDeclaration k v None = (t : Ty) × IsVar k v t
@@ -156,11 +142,11 @@ abbrev mutual
   stmt_vars_of (act.Return e) = []
   stmt_vars_of act.Empty = []
 
-  stmt_vars_held : Held-TypedStmtKind-If-2 → List ℕ
+  pub stmt_vars_held : Held-TypedStmtKind-If-2 → List ℕ
   stmt_vars_held act.None' = []
   stmt_vars_held (act.Some' b (more_of-TypedStmt s at end_of-TypedStmt)) = stmt_vars_of s
 
-  stmt_vars_row : {n : Count} → Row_of-TypedStmt n → List ℕ
+  pub stmt_vars_row : {n : Count} → Row_of-TypedStmt n → List ℕ
   stmt_vars_row end_of-TypedStmt = []
   stmt_vars_row (more_of-TypedStmt s at row) = stmt_vars_of s ++ stmt_vars_row row
 
@@ -204,11 +190,11 @@ abbrev mutual
   normal_vars_of (step.Return e) = []
   normal_vars_of step.Empty = []
 
-  normal_vars_held : Held-NormalStmtKind-If-3 → List ℕ
+  pub normal_vars_held : Held-NormalStmtKind-If-3 → List ℕ
   normal_vars_held step.None' = []
   normal_vars_held (step.Some' b (more_of-NormalStmt s at end_of-NormalStmt)) = normal_vars_of s
 
-  normal_vars_row : {n : Count} → Row_of-NormalStmt n → List ℕ
+  pub normal_vars_row : {n : Count} → Row_of-NormalStmt n → List ℕ
   normal_vars_row end_of-NormalStmt = []
   normal_vars_row (more_of-NormalStmt s at row) = normal_vars_of s ++ normal_vars_row row
 

@@ -1,5 +1,7 @@
 pub mod Bounds
 pub mod Casts
+pub mod Constants
+pub mod Counts
 pub mod Equations
 pub mod Expressions
 pub mod Lawful

@@ -2,8 +2,11 @@
 ghost use Rattle.el_base.specs.declared.ty.Ty.{Ty};
 ghost use Rattle.c_ast.specs.declared.tree.Unary.TheVariants as unary;
 ghost use Rattle.c_ast.specs.declared.tree.Binary.TheVariants as binary;
-ghost use Rattle.std.specs.Prelude.{ℕ, List, map, Option, option_map, Bool};
+ghost use Rattle.std.specs.Prelude.{◌≡◌, ℕ, List, map, Option, option_map, Bool};
 ghost use Rattle.c_ast.specs.declared.tree.Unary.{Unary};
+ghost use Rattle.c_ast.specs.declared.tree.Tree.{Tree};
+ghost use Rattle.c_ast.specs.declared.typed.Typed.{Typed};
+ghost use Rattle.c_ast.specs.Typing.{Typing};
 ghost use Rattle.c_ast.specs.declared.tree.Binary.{Binary};
 ghost use Rattle.c_ast.specs.declared.typed.TypedExpr.{TypedExpr};
 ghost use Rattle.c_ast.specs.declared.typed.TypedExprKind.TheVariants as expr;
@@ -15,6 +18,10 @@ ghost use Rattle.c_ast.specs.declared.typed.TypedStmtKind.TheOpen as act_part;
 ghost use Rattle.c_ast.specs.declared.normal.NormalStmt.{NormalStmt};
 ghost use Rattle.c_ast.specs.declared.normal.NormalStmtKind.TheVariants as normal;
 ghost use Rattle.c_ast.specs.declared.normal.NormalStmtKind.TheOpen as normal_part;
+ghost use Rattle.c_meaning.specs.Constants.{NumbersFit};
+ghost use Rattle.c_meaning.specs.Casts.{Casts};
+ghost use Rattle.c_meaning.specs.Counts.{CostsAreOne};
+ghost use Rattle.c_meaning.specs.Lawful.{Lawful};
 ghost use Rattle.c_meaning.specs.Expressions.{meaning};
 ghost use Rattle.c_meaning.specs.Statements.{act};
 ghost use Rattle.c_meaning.specs.Normals.{normal_act};
@@ -29,6 +36,13 @@ use word_ops::laws::{
     divisions_are_exact, results_are_patterns, shifts_are_exact,
 };
 
+/// A syntax tree that keeps the rules of names, arrays, returns and loops has exactly one typed tree; where its numbers lie in the ranges of their types, that tree is lawful.
+pub fn trees_are_typed_in_one_way()
+    ensures at_least_one { (tree : Tree) → Typing tree → (k : Typed) × Casts tree k }
+    ensures at_most_one { (tree : Tree) (k l : Typed) → Casts tree k → Casts tree l → k ≡ l }
+    ensures lawful { (tree : Tree) (k : Typed) → Typing tree → NumbersFit tree → Casts tree k → Lawful k }
+{}
+
 /// A statement, kernel or normal form that is over within some turns ends in the same way within more.
 pub fn larger_bounds_keep_ends()
     ensures statements { StatementsKeepEnds }
@@ -41,6 +55,11 @@ pub fn larger_bounds_keep_ends()
 pub fn ends_are_one()
     ensures kernels { EndsIsOne }
     ensures normal_forms { NormalEndsIsOne }
+{}
+
+/// The run of a normal form that is over has one number of jumps and one price.
+pub fn costs_are_one()
+    ensures { CostsAreOne }
 {}
 
 /// Where a binary operator is defined on two numbers of a promoted type, its operation on patterns gives the pattern of the result (ISO/IEC 9899:1999 6.5.5, 6.5.6, 6.5.8 to 6.5.12).

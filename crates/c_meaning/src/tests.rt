@@ -2,8 +2,10 @@ use crate::laws;
 
 #[test]
 fn laws_can_be_called() {
+    laws::trees_are_typed_in_one_way();
     laws::larger_bounds_keep_ends();
     laws::ends_are_one();
+    laws::costs_are_one();
     laws::expressions_mean_their_parts();
     laws::statements_run_their_parts();
     laws::normal_statements_run_their_parts();
