@@ -1,14 +1,16 @@
 -- What spells a kernel has few nodes, numbers of `int32_t` and parameters of its own.
-use Rattle.std.proofs.Common.{◌≡◌, ℕ, ◌<◌, ◌≤◌, List, length, refl, ◌∙◌, arith, true}
+use Rattle.std.proofs.Common.{◌≡◌, ◌≢◌, ℕ, ◌<◌, ◌≤◌, List, [], ◌∷◌, length, Some, refl, ap, ◌∙◌, arith, true}
+use Rattle.std.specs.List.{AllPairs}
+use Rattle.std.proofs.lemmas.List.Quantifiers.{all_pairs_push}
 use Rattle.std.proofs.lemmas.Bool.{lt-ltb}
-use Rattle.std.proofs.lemmas.Option.{slice_get_within}
+use Rattle.std.proofs.lemmas.Option.{slice_get_within, slice_get-get_or}
 use Rattle.elastic_top.specs.declared.straight.kernel.Kernel.{Kernel}
 use Rattle.elastic_top.specs.declared.straight.kernel.Operator.{Operator}
 use Rattle.elastic_top.specs.declared.straight.kernel.Operator.TheVariants as operator
 use Rattle.elastic_top.specs.declared.straight.kernel.Sum.{Sum}
 use Rattle.elastic_top.specs.declared.straight.kernel.Sum.TheVariants as sum
 use Rattle.elastic_top.specs.Good.{is_fit_sum, IsFit}
-use Rattle.elastic_top.specs.Spelling.{Lexeme, Spells, DerivesPrimary, DerivesProduct, DerivesSum, name, number, group, factor, times, term, plus, minus}
+use Rattle.elastic_top.specs.Spelling.{Lexeme, Parameters, first, next, Spells, DerivesPrimary, DerivesProduct, DerivesSum, name, number, group, factor, times, term, plus, minus}
 use Rattle.elastic_top.proofs.Trees.{fold-number, fold-param, fold-op}
 use Rattle.elastic_top.specs.Good.{fits_step}
 use Rattle.std.proofs.Common.{Bool, ◌&&◌, le-leb}
@@ -40,11 +42,21 @@ mutual
   sum_fits names d ts e (plus p q) = fit_op (length names) operator.Add _ _ (sum_fits _ _ _ _ p) (product_fits _ _ _ _ q)
   sum_fits names d ts e (minus p q) = fit_op (length names) operator.Sub _ _ (sum_fits _ _ _ _ p) (product_fits _ _ _ _ q)
 
+one_distinct : (x : List ℕ) → AllPairs (λ x y. x ≢ y) (x ∷ [])
+one_distinct x i j d h l = absurd (omega arith)
+
+-- no two parameters have one name
+names_distinct : (ts names : List Lexeme) → Parameters ts names → AllPairs (λ x y. x ≢ y) names
+names_distinct _ _ (first x is) = one_distinct x
+names_distinct _ _ (next {ts} {names} x before is new) = all_pairs_push (λ x y. x ≢ y) names x (names_distinct ts names before)
+    (λ k d l same. new k (slice_get-get_or names k d l ∙ ap Some same))
+
 pub fit_of_spelling : (bytes : List ℕ) (kernel : Kernel) → Spells bytes kernel → IsFit kernel
 fit_of_spelling bytes kernel s =
     let small = s.derives.small in
     record {
       params = omega arith;
+      distinct = names_distinct _ _ s.derives.declared;
       nodes = omega arith;
       sum = sum_fits _ _ _ _ s.derives.summed;
     }

@@ -15,6 +15,11 @@ use Rattle.net_types.specs.declared.firing.Inputs.{Inputs}
 use Rattle.net_types.specs.Nets.{into, is_at, at, nowhere, kind_of, chan_at}
 use Rattle.net_types.specs.Tables.{ins, outs, scalar_width}
 use Rattle.net_types.specs.Rules.{KeepsC1, KeepsC2, IsOfWidth, HasWidth, times_in}
+use Rattle.net_check.specs.Keeps.{Keeps}
+use Rattle.net_check.specs.Sizes.{KeepsC3}
+use Rattle.net_check.specs.Controls.{KeepsC5}
+use Rattle.net_check.specs.Ends.{KeepsC6}
+use Rattle.net_check.specs.Headers.{KeepsC8}
 use Rattle.elastic_top.specs.declared.straight.draft.Draft.{Draft}
 use Rattle.elastic_top.specs.declared.straight.kernel.Kernel.{Kernel}
 use Rattle.elastic_top.specs.declared.straight.kernel.Sum.{Sum}
@@ -25,6 +30,10 @@ use Rattle.elastic_top.specs.Pass.{exit_of, put_of, value_at, Gives, IsPass, IsS
 use Rattle.elastic_top.proofs.Sound.{Sound, Lands, Waits, Offers, cases_push}
 use Rattle.elastic_top.proofs.Adds.{channel_sound}
 use Rattle.elastic_top.proofs.Steps.{Begins-refl, unit_grows, sinks_grow, exit_grows, Offers-along, drawn_drew, Drew}
+use Rattle.elastic_top.proofs.DrawnUnits.{IsDrawn, inner_units, circuit_units, circuit_kinds, circuit_chans, one_entry, one_exit, one_param, no_queue}
+use Rattle.elastic_top.proofs.Marks.{Marked, along as marks_along, drawn_marked, entry_marked, param_unit_marked, sink_marked, exit_marked}
+use Rattle.elastic_top.proofs.Steered.{keeps_c5}
+use Rattle.elastic_top.proofs.RulesKept.{keeps_c3, keeps_c4, keeps_c6, keeps_c7, keeps_c8, header_kept}
 use Rattle.elastic_top.proofs.Balance.{started_sources, circuit_even}
 use Rattle.elastic_top.proofs.Means.{Follows, along, Carries, drawn_means, wired_new, put_new}
 use Rattle.elastic_top.proofs.Passes.{values_small, passed_upto, pass_of}
@@ -128,6 +137,24 @@ module _ (N : Net) (count : ℕ) (sum : Sum) (valued : N.result ≡ Some I32) (w
   unfolding circuit_of
   circuit_whole = exit_whole N count valued wide (drawn sum (started count)).at (with_sinks count (drawn sum (started count)).draft) sunk offered_at
 
+  started_marked : (i : ℕ) → i ≤ count → Marked (started i)
+  started_marked zero h = entry_marked N
+  started_marked (suc i) h = param_unit_marked N i (started i) (started_sound N count valued wide i (omega arith)) (started_marked i (omega arith))
+
+  sinks_marked : (i : ℕ) (d : Draft) → i ≤ length d.sources → Sound N 0 d → Marked d → Marked (with_sinks i d)
+  sinks_marked zero d h s m = m
+  sinks_marked (suc i) d h s m =
+      let t = sinks_sound N count valued wide i d (omega arith) s in
+      let l = t.1 in sink_marked N i (with_sinks i d) (omega arith) t.0 (sinks_marked i d (omega arith) s m)
+
+  pub circuit_marked : Marked (circuit_of count sum)
+  unfolding circuit_of
+  circuit_marked =
+      let e = drawn sum (started count) in
+      let m = drawn_marked N sum (started count) start_fit start_sound (started_marked count (omega arith)) in
+      exit_marked N e.at (with_sinks count e.draft) sunk offered_at (marks_along N 0 e.draft (with_sinks count e.draft) (sinks_grow count e.draft) drew.sound e.at drew.offers false m.offered)
+      (sinks_marked count e.draft (let a = drew.count in omega (arith, started_sources count)) drew.sound m.marked)
+
   -- in any pass the exit takes the pattern of the sum's value
   pub circuit_value : (scalars vals : List ℕ) (pass : vals ≡ map (λ (c : Chan). put_of N scalars vals c.from.unit) N.chans) → length scalars ≡ count → All (λ p. p < 2 ^ 32) scalars
       → Follows N scalars vals pass (circuit_of count sum) → (r : ℤ) → value_of sum (map (number I32) scalars) ≡ Some r → value_at N vals (exit_of (circuit_of count sum).units) 1 ≡ residue 32 r
@@ -156,6 +183,50 @@ module _ (kernel : Kernel) (fit : IsFit kernel) where
     into_each = λ u p. ap (λ z. times_in z u p) net_whole.places;
     out_of_each = λ u p. circuit_even (net_of kernel) (λ q. cond (is_at q u p) 1 0) (length kernel.params) kernel.sum fit.sum;
   }
+
+  -- ---- the rules
+
+  net_kinds : All (IsDrawn (length kernel.params)) (net_of kernel).units
+  unfolding net_of
+  net_kinds = circuit_kinds (length kernel.params) kernel.sum
+
+  net_forward : All IsForward (net_of kernel).chans
+  net_forward = all_forward (net_of kernel) net_whole
+
+  few_chans : length (net_of kernel).chans ≤ 67108864
+  unfolding net_of
+  few_chans = let a = circuit_chans (length kernel.params) kernel.sum in let b = fit.params in let c = fit.nodes in omega arith
+
+  net_sizes : KeepsC3 (net_of kernel)
+  net_sizes = keeps_c3 (net_of kernel) net_forward few_chans
+
+  net_steered : KeepsC5 (net_of kernel)
+  unfolding net_of
+  net_steered =
+      let m = circuit_marked (net_of kernel) (length kernel.params) kernel.sum refl (scalars_wide kernel.params) fit.sum in
+      keeps_c5 (net_of kernel) (length kernel.params) refl net_kinds net_places m.ins m.outs
+
+  net_ends : KeepsC6 (net_of kernel)
+  unfolding net_of
+  net_ends = keeps_c6 (net_of kernel) (length kernel.params) net_kinds (inner_units (length kernel.params) kernel.sum) (circuit_units (length kernel.params) kernel.sum)
+
+  net_head : KeepsC8 (net_of kernel)
+  unfolding net_of
+  net_head =
+      keeps_c8 (net_of kernel) (length kernel.params) net_kinds (header_kept (net_of kernel) kernel.params refl refl fit.distinct) (length-map kernel.params scalar_of)
+      (one_entry (length kernel.params) kernel.sum) (one_exit (length kernel.params) kernel.sum) (one_param (length kernel.params) kernel.sum) (λ a. no_queue a (length kernel.params) kernel.sum)
+
+  net_rules : (rule : ℕ) → Keeps (net_of kernel) rule
+  net_rules zero = tt
+  net_rules (suc zero) = net_places
+  net_rules (suc (suc zero)) = keeps_c2 (net_of kernel) net_whole
+  net_rules (suc (suc (suc zero))) = net_sizes
+  net_rules (suc (suc (suc (suc zero)))) = keeps_c4 (net_of kernel) (length kernel.params) net_kinds net_forward
+  net_rules (suc (suc (suc (suc (suc zero))))) = net_steered
+  net_rules (suc (suc (suc (suc (suc (suc zero)))))) = net_ends
+  net_rules (suc (suc (suc (suc (suc (suc (suc zero))))))) = keeps_c7 (net_of kernel) (length kernel.params) net_kinds
+  net_rules (suc (suc (suc (suc (suc (suc (suc (suc zero)))))))) = net_head
+  net_rules (suc (suc (suc (suc (suc (suc (suc (suc (suc n))))))))) = tt
 
   -- in any pass for inputs that fit, the value at the exit
   net_value : (inputs : Inputs) → AreInputsOf (net_of kernel) inputs → (r : ℤ) → value_of kernel.sum (map (number I32) inputs.scalars) ≡ Some r
@@ -189,13 +260,12 @@ module _ (kernel : Kernel) (fit : IsFit kernel) where
   net_header : IsGood (net_of kernel) kernel
   unfolding net_of
   net_header = record {
-    places = net_places;
-    widths = keeps_c2 (net_of kernel) net_whole;
+    rules = net_rules;
     name = refl;
     scalars = refl;
     arrays = refl;
     result = refl;
-    forward = all_forward (net_of kernel) net_whole;
+    forward = net_forward;
     single = net_single;
     gives = net_gives;
     gives_only = λ inputs fits r h v g. sym g.gives ∙ net_value inputs fits r h g.vals g.pass;

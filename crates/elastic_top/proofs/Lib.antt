@@ -3,6 +3,7 @@ pub mod AnswerLemmas
 pub mod Balance
 pub mod Circuits
 pub mod Cuts
+pub mod DrawnUnits
 pub mod Examples
 pub mod Fitness
 pub mod Goodness
@@ -11,13 +12,16 @@ pub mod Into
 pub mod Kernels
 pub mod LexemeLemmas
 pub mod LineLemmas
+pub mod Marks
 pub mod Means
 pub mod Operands
 pub mod Passes
 pub mod RefusalLemmas
+pub mod RulesKept
 pub mod ScopeLemmas
 pub mod Sizes
 pub mod Sound
+pub mod Steered
 pub mod Steps
 pub mod SumBack
 pub mod SumForward

@@ -92,14 +92,17 @@ module _ (N : Net) where
   pub one_sound : (k : Kind) (x : Place) (m : Bool) (d : Draft) → Takes N 1 k → Known k → Sound N 0 d → Offers N d.units x → Sound N 0 (with_one k x m d)
   one_sound k x m d t known s o = unit_inner_sound N 1 (with_channel x 0 m d) k (channel_sound N 0 d x m s o) t known
 
+  pub split_sound : (d : Draft) → Sound N 0 d → Sound N 0 (control_split d)
+  split_sound d s =
+      let a = one_sound (unit.Fork 32 2) d.control true d (Takes-fork N) Known-fork s s.control in
+      record { places = a.places; sits = a.sits; alone = a.alone; fed = a.fed; wired = a.wired; waits = a.waits; kinds = a.kinds; sources = a.sources; control = Offers-new d.units (unit.Fork 32 2) 0 (fork_out N 0 (omega arith)) }
+
   pub number_sound : (n : ℕ) (d : Draft) → n ≤ 2147483647 → Sound N 0 d → Sound N 0 (number_drawn n d).draft × Offers N (number_drawn n d).draft.units (number_drawn n d).at
   unfolding number_drawn
-  number_sound n d h s =
-      let a = one_sound (unit.Fork 32 2) d.control true d (Takes-fork N) Known-fork s s.control in
-      let b : Sound N 0 (control_split d) = record { places = a.places; sits = a.sits; alone = a.alone; fed = a.fed; wired = a.wired; waits = a.waits; kinds = a.kinds; sources = a.sources; control = Offers-new d.units (unit.Fork 32 2) 0 (fork_out N 0 (omega arith)) } in (
-        one_sound (unit.Const 32 n) (next d 1) false (control_split d) (Takes-const N n) (Known-const n h) b (Offers-new d.units (unit.Fork 32 2) 1 (fork_out N 1 (omega arith))),
-        Offers-new (control_split d).units (unit.Const 32 n) 0 (inl (refl, refl)),
-      )
+  number_sound n d h s = (
+    one_sound (unit.Const 32 n) (next d 1) false (control_split d) (Takes-const N n) (Known-const n h) (split_sound d s) (Offers-new d.units (unit.Fork 32 2) 1 (fork_out N 1 (omega arith))),
+    Offers-new (control_split d).units (unit.Const 32 n) 0 (inl (refl, refl)),
+  )
 
   pub param_sound : (i : ℕ) (d : Draft) → i < length d.sources → Sound N 0 d → Sound N 0 (param_drawn i d).draft × Offers N (param_drawn i d).draft.units (param_drawn i d).at
   unfolding param_drawn

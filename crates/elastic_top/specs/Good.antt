@@ -1,13 +1,13 @@
 -- A net that computes a straight kernel.
-use Rattle.std.specs.Prelude.{◌≡◌, ℕ, ◌<◌, ◌≤◌, ◌^◌, nat_lt, nat_le, Bool, ◌&&◌, IsTrue, ℤ, Some, List, [], length, map}
-use Rattle.std.specs.List.{All}
+use Rattle.std.specs.Prelude.{◌≡◌, ◌≢◌, ℕ, ◌<◌, ◌≤◌, ◌^◌, nat_lt, nat_le, Bool, ◌&&◌, IsTrue, ℤ, Some, List, [], length, map}
+use Rattle.std.specs.List.{All, AllPairs}
 use Rattle.el_base.specs.declared.ty.Ty.TheVariants.{I32}
 use Rattle.el_base.specs.declared.ty.Scalar.{Scalar}
 use Rattle.el_base.specs.Numbers.{pattern, number}
 use Rattle.net_types.specs.declared.net.Chan.{Chan}
 use Rattle.net_types.specs.declared.net.Net.{Net}
 use Rattle.net_types.specs.declared.firing.Inputs.{Inputs}
-use Rattle.net_types.specs.Rules.{KeepsC1, KeepsC2}
+use Rattle.net_check.specs.Keeps.{Keeps}
 use Rattle.elastic_top.specs.declared.straight.kernel.Kernel.{Kernel}
 use Rattle.elastic_top.specs.declared.straight.kernel.Sum.{Sum, fold-Sum}
 use Rattle.elastic_top.specs.declared.straight.kernel.Sum.TheOpen.{Sum-F, Number, Param, Op}
@@ -24,9 +24,10 @@ fits_step count (Op o a b) = a && b
 abbrev pub is_fit_sum : ℕ → Sum → Bool
 is_fit_sum count sum = fold-Sum Bool (fits_step count) sum
 
--- a kernel of at most 1024 nodes, with numbers of int32_t and parameters of its own
+-- a kernel of at most 1024 nodes, with distinct parameters, numbers of int32_t and parameters of its own
 pub record IsFit (kernel : Kernel) : Type 0 where
   pub params : length kernel.params ≤ 1024
+  pub distinct : AllPairs (λ x y. x ≢ y) kernel.params
   pub nodes : sum_nodes kernel.sum ≤ 1024
   pub sum : IsTrue (is_fit_sum (length kernel.params) kernel.sum)
 
@@ -46,11 +47,10 @@ pub record IsForward (c : Chan) : Type 0 where
 abbrev pub scalar_of : List ℕ → Scalar
 scalar_of name = record { name = name; ty = I32 }
 
--- the net keeps C1 and C2, has the kernel's header and can be run in one pass,
+-- the net keeps all eight rules of nets, has the kernel's header and can be run in one pass,
 -- and wherever the kernel has a value on the inputs' numbers, the pass gives its pattern and no other; elsewhere it gives some pattern of 32 bits
 pub record IsGood (net : Net) (kernel : Kernel) : Type 0 where
-  pub places : KeepsC1 net
-  pub widths : KeepsC2 net
+  pub rules : (rule : ℕ) → Keeps net rule
   pub name : net.name ≡ kernel.name
   pub scalars : net.scalars ≡ map scalar_of kernel.params
   pub arrays : net.arrays ≡ []

@@ -2,6 +2,8 @@
 
 use crate::top;
 use el_io::{MemFiles, MemSink, Open};
+use net_check::check_net;
+use net_text::read;
 use std::alloc::Global;
 use std::test::Fail;
 use std::thread::Threads;
@@ -153,6 +155,30 @@ fn prints_results(rt: HostRuntime) -> Result<(), Fail> {
             "{}",
             outcome.out
         );
+    }
+    Ok(())
+}
+
+// Whether a text is that of a net that keeps all rules.
+fn is_checked(alloc: Global, text: &[u8]) -> Result<bool, Fail> {
+    if text.len() > 1_000_000 {
+        return Err("a long text".into());
+    }
+    let net = read(alloc, text)?;
+    Ok(check_net(alloc, net).is_ok())
+}
+
+#[test]
+fn prints_checked_nets(rt: HostRuntime) -> Result<(), Fail> {
+    for (kernel, inputs, result) in RESULTS {
+        let outcome = go(&rt, rt.alloc(), kernel, inputs)?;
+        let end = format!(in rt.alloc(); "%%\nreturn = {result}\n")?;
+        let net = outcome
+            .out
+            .as_str()
+            .strip_suffix(end.as_str())
+            .ok_or("no result")?;
+        assert!(rt; is_checked(rt.alloc(), net.as_bytes())?, "{kernel}");
     }
     Ok(())
 }

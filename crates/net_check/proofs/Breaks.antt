@@ -31,7 +31,7 @@ breaks_widths net (at.Chan d) c k = c.1.here.lacks (k.chans d nowhere c.1.here.w
 breaks_widths net at.Net c k = c
 
 -- two units pass where one passes before a second that does
-two : (q : Kind → Bool) (units : List Kind) (u : ℕ) → u < length units → q (get_or units u (Sink 0)) ≡ true → 0 < count_by q (take u units) → 2 ≤ count_by q units
+pub two : (q : Kind → Bool) (units : List Kind) (u : ℕ) → u < length units → q (get_or units u (Sink 0)) ≡ true → 0 < count_by q (take u units) → 2 ≤ count_by q units
 two q units u l t p =
     let a = count_more q units u l in
     let b : one_if (q (get_or units u (Sink 0))) ≡ 1 = ap one_if t in

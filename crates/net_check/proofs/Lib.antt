@@ -1,3 +1,6 @@
+pub mod CycleLemmas
+pub mod EndLemmas
+pub mod PeelLemmas
 pub mod Breaks
 pub mod MatchLemmas
 pub mod RowLemmas
@@ -9,3 +12,10 @@ pub mod NameSets
 pub mod FirstLemmas
 pub mod MarkLemmas
 pub mod ShapeLemmas
+pub mod Tables
+pub mod SteerLemmas
+pub mod PlaceCounts
+pub mod JoinLemmas
+pub mod CheckLemmas
+pub mod RefusalLemmas
+pub mod WiredLemmas

@@ -12,3 +12,11 @@ pub mod Firsts
 pub mod Roles
 pub mod Tallies
 pub mod Widths
+pub mod Peels
+pub mod Wires
+pub mod Steers
+pub mod Walks
+pub mod Joins
+pub mod Refusals
+pub mod Checks
+pub mod Tabled

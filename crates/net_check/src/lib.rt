@@ -1,22 +1,33 @@
-//! The rules that a net keeps, and what a broken rule names.
+//! The rules that a net keeps, what a broken rule names, and checked nets.
 //!
-//! All eight rules are defined in `specs/`, each with its culprit. Four of them are decided so far: C8 by
-//! `check_header`, C7 by `check_shapes`, C2 by `check_widths` and C3 by `check_sizes`.
+//! All eight rules are defined in `specs/`, each with its culprit. `check_net` tries them in the order C8, C7, C1,
+//! C2, C3, C4, C5, C6, and makes a `Checked` of a net that keeps them all.
 #![tactic(auto)]
 
+mod checked;
+mod controls;
+mod cycles;
+mod ends;
 mod firsts;
+#[cfg(test)]
+mod given_tests;
 mod headers;
 mod marks;
 mod matches;
+mod places;
 mod refusal;
+#[cfg(test)]
+mod rule_tests;
 mod shapes;
 mod sizes;
 #[cfg(test)]
 mod tests;
 mod widths;
+mod wires;
 
+pub use checked::{Checked, check_net};
 pub use headers::check_header;
 pub use matches::check_widths;
-pub use refusal::At;
+pub use refusal::{At, NetRefusal};
 pub use shapes::check_shapes;
 pub use sizes::check_sizes;

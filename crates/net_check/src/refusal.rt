@@ -10,6 +10,25 @@ pub enum At {
     Net,
 }
 
+/// Why a net is refused.
+#[derive(Clone, Copy, Debug, PartialEq, Eq)]
+pub enum NetRefusal {
+    /// The first broken rule, by its number from 30 for C1 to 37 for C8, and what it names.
+    Rule { rule: u32, at: At },
+    /// Memory ran out.
+    Memory,
+}
+
+impl From<Memory> for NetRefusal {
+    ghost use Rattle.net_check.specs.declared.refusal.NetRefusal.TheVariants as refusal;
+
+    ghost from_gives = { λ _ e. e ≡ refusal.Memory };
+
+    fn from(_: Memory) -> NetRefusal {
+        NetRefusal::Memory
+    }
+}
+
 /// The unit of this number.
 ///
 /// # Errors
@@ -30,4 +49,15 @@ pub(crate) fn chan_at(chan: usize) -> Result<At, Memory>
     ensures { IfOk result (λ at. at ≡ At.Chan chan) }
 {
     Ok(At::Chan(u32::try_from(chan).map_err(|_| Memory)?))
+}
+
+/// The number of a unit or a channel, from its index.
+///
+/// # Errors
+///
+/// [`Memory`] past 2^32.
+pub(crate) fn number(index: usize) -> Result<u32, Memory>
+    ensures { IfOk result (λ n. n ≡ index) }
+{
+    u32::try_from(index).map_err(|_| Memory)
 }

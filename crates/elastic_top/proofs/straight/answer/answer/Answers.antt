@@ -27,7 +27,7 @@ returns-clause-ok c = record {
   gives = c.in_ok-value.ensures;
   right = right_value _ _ _ _ _ c.in_ok-net.ensures (rw c.as_slice.ensures at c.in_ok-inputs.ensures.ok) c.in_ok-value.ensures;
   netlist = c.in_ok-text.text.items;
-  printed = c.in_ok-text.ensures;
+  printed = c.in_ok-text.ensures.text;
   whole = search rules;
 }
 

@@ -1,0 +1,7 @@
+use Rattle.std.proofs.Common.{ℕ, ◌<◌}
+use Rattle.net_types.specs.Nets.{chan_at}
+use Rattle.net_check.specs.Places.{HasEnds}
+use Rattle.net_check.proofs.places.first_stray.Given as goal
+
+abbrev pub invariant-loop-c : goal.invariant-loop-c
+invariant-loop-c l = (d : ℕ) → d < l.c → HasEnds l.net (chan_at l.net d)

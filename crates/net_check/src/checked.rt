@@ -1,0 +1,170 @@
+ghost use Rattle.std.specs.Prelude.{◌≡◌, None, IfOk, IfErr, OnOk, MatchOption};
+ghost use Rattle.net_types.specs.Nets.{into, out_of};
+ghost use Rattle.net_types.specs.Rules.{KeepsC1};
+ghost use Rattle.net_check.specs.Checks.{KeepsBase, IsChecked};
+ghost use Rattle.net_check.specs.Refusals.{RefusalHolds};
+ghost use Rattle.net_check.specs.Steers.{IsTableOf};
+ghost use Rattle.net_check.specs.declared.wires.Side.TheVariants.{In, Out};
+
+use crate::controls::check_controls;
+use crate::cycles::check_cycles;
+use crate::ends::check_ends;
+use crate::headers::check_header;
+use crate::matches::check_widths;
+use crate::places::check_places;
+use crate::refusal::{At, NetRefusal};
+use crate::shapes::check_shapes;
+use crate::sizes::check_sizes;
+use crate::wires::{Side, Wires};
+use net_types::{Memory, Net};
+use std::alloc::Global;
+use std::marker::Model;
+
+/// A net that keeps the eight rules, with tables of the channels at places. Contracts see the net.
+#[derive(Drop)]
+pub struct Checked {
+    net: Net,
+    into: Wires,
+    out_of: Wires,
+}
+
+impl Model for Checked {
+    ghost use Rattle.net_types.specs.declared.net.Net.{Net};
+
+    ghost Value = { Net };
+
+    ghost use Rattle.net_check.specs.Tabled.{IsTabled};
+
+    ghost view = { λ c. c.net };
+
+    ghost invariant = { λ c. IsTabled c };
+}
+
+impl Checked {
+    /// The net.
+    pub fn net(&self) -> &Net
+        ensures net { result.now ≡ self.now }
+        ensures checked { IsChecked self.now }
+    {
+        &self.net
+    }
+
+    /// A checked net that is equal, with tables of its own.
+    ///
+    /// # Errors
+    ///
+    /// [`Memory`] where memory is wanting.
+    pub fn copy(&self, alloc: Global) -> Result<Checked, Memory>
+        ensures { IfOk result (λ copy. copy ≡ self.now) }
+    {
+        let net = self.net.copy(alloc)?;
+        let into = table(alloc, &net, Side::In)?;
+        let out_of = table(alloc, &net, Side::Out)?;
+        Ok(Checked { net, into, out_of })
+    }
+
+    /// The number of the channel into an input place, or of all channels where there is none. It costs one step.
+    pub fn into_place(&self, unit: u32, place: u64) -> u32
+        ensures { result ≡ into unit place self.now.chans }
+    {
+        self.into.at(unit, place)
+    }
+
+    /// The number of the channel out of an output place, or of all channels where there is none. It costs one step.
+    pub fn out_of_place(&self, unit: u32, place: u64) -> u32
+        ensures { result ≡ out_of unit place self.now.chans }
+    {
+        self.out_of.at(unit, place)
+    }
+}
+
+/// A checked net of a net that keeps the eight rules; else the first rule that it breaks, in the order C8, C7, C1, C2,
+/// C3, C4, C5, C6, with its culprit, and the net is dropped.
+///
+/// C8 costs time in proportion to the units and the header, C7 to the units and the lists of queues, C1 to the units
+/// and the channels times a logarithm, and each other rule to the units and the channels. C2, C3 and C5 take no
+/// memory. No rule takes memory in proportion to a number that stands in a unit before C7 and C1 have bounded it.
+///
+/// # Errors
+///
+/// [`NetRefusal::Rule`] exactly where a rule is broken, and [`NetRefusal::Memory`] where memory is wanting, or where
+/// the units or the channels are 2^32 and more.
+pub fn check_net(alloc: Global, net: Net) -> Result<Checked, NetRefusal>
+    ensures value { IfOk result (λ checked. checked ≡ net) }
+    ensures checked { OnOk result (IsChecked net) }
+    ensures refused { IfErr result (λ e. RefusalHolds net e) }
+{
+    check_base(alloc, &net)?;
+    let into = table(alloc, &net, Side::In)?;
+    let out_of = table(alloc, &net, Side::Out)?;
+    check_rest(alloc, &net, &into, &out_of)?;
+    Ok(Checked { net, into, out_of })
+}
+
+/// The rules that ask for no table.
+///
+/// # Errors
+///
+/// The first of them that is broken, and want of memory.
+fn check_base(alloc: Global, net: &Net) -> Result<(), NetRefusal>
+    ensures kept { OnOk result (KeepsBase net.now) }
+    ensures refused { IfErr result (λ e. RefusalHolds net.now e) }
+{
+    let header = check_header(alloc, net)?;
+    refuse(37, header)?;
+    let shapes = check_shapes(alloc, net)?;
+    refuse(36, shapes)?;
+    let places = check_places(alloc, net)?;
+    refuse(30, places)?;
+    let widths = check_widths(net)?;
+    refuse(31, widths)?;
+    let sizes = check_sizes(net)?;
+    refuse(32, sizes)
+}
+
+/// The other rules, where those are kept.
+///
+/// # Errors
+///
+/// The first of them that is broken, and want of memory.
+fn check_rest(alloc: Global, net: &Net, into: &Wires, out_of: &Wires) -> Result<(), NetRefusal>
+    requires base { KeepsBase net.now }
+    requires ins { IsTableOf In net.now into.now }
+    requires outs { IsTableOf Out net.now out_of.now }
+    ensures kept { OnOk result (IsChecked net.now) }
+    ensures refused { IfErr result (λ e. RefusalHolds net.now e) }
+{
+    let cycles = check_cycles(alloc, net)?;
+    refuse(33, cycles)?;
+    let controls = check_controls(net, into, out_of)?;
+    refuse(34, controls)?;
+    let ends = check_ends(alloc, net, into, out_of)?;
+    refuse(35, ends)
+}
+
+/// Goes on where nothing was found, else refuses by the rule of this number.
+///
+/// # Errors
+///
+/// The rule, where something was found.
+fn refuse(rule: u32, found: Option<At>) -> Result<(), NetRefusal>
+    ensures kept { OnOk result (found ≡ None) }
+    ensures broken { IfErr result (λ e. MatchOption found ⊥ (λ at. e ≡ NetRefusal.Rule rule at)) }
+{
+    match found {
+        None => Ok(()),
+        Some(at) => Err(NetRefusal::Rule { rule, at }),
+    }
+}
+
+/// The table of one side.
+///
+/// # Errors
+///
+/// [`Memory`] where memory is wanting, and past 2^32 channels.
+fn table(alloc: Global, net: &Net, side: Side) -> Result<Wires, Memory>
+    requires { KeepsC1 net.now }
+    ensures { IfOk result (λ wires. IsTableOf side net.now wires) }
+{
+    Wires::new(alloc, net.units.as_slice(), net.chans.as_slice(), side)?.ok_or(Memory)
+}
