@@ -1,0 +1,43 @@
+use Rattle.std.proofs.Common.{◌+◌, ◌-◌, ◌*◌, length}
+use Rattle.c_ast.specs.Derives.{DerivesExpr, DerivesIndices}
+use Rattle.c_parse.specs.Reads.{Reads}
+use Rattle.c_parse.proofs.cursor.Cursor.+expr.Given as goal
+
+abbrev pub decreases-expr : goal.decreases-expr
+decreases-expr l = 16 * l.depth + 15
+
+abbrev pub decreases-binary : goal.decreases-binary
+decreases-binary l = 16 * l.depth + (15 - l.level)
+
+abbrev pub decreases-unary : goal.decreases-unary
+decreases-unary l = 16 * l.depth + 3
+
+abbrev pub decreases-named : goal.decreases-named
+decreases-named l = 16 * l.depth + 2
+
+abbrev pub decreases-signed : goal.decreases-signed
+decreases-signed l = 16 * l.depth
+
+abbrev pub decreases-cast : goal.decreases-cast
+decreases-cast l = 16 * l.depth
+
+abbrev pub decreases-group : goal.decreases-group
+decreases-group l = 16 * l.depth
+
+abbrev pub decreases-index : goal.decreases-index
+decreases-index l = 16 * l.depth
+
+abbrev pub decreases-indices : goal.decreases-indices
+decreases-indices l = 16 * l.depth + 1
+
+abbrev pub invariant-binary-operators : goal.invariant-binary-operators
+invariant-binary-operators l = Reads (λ ts. DerivesExpr l.level ts l.left) l.fn.self.rest.now l.self.rest.now
+
+abbrev pub decreases-binary-operators : goal.decreases-binary-operators
+decreases-binary-operators l = length l.self.rest.now
+
+abbrev pub invariant-indices-brackets : goal.invariant-indices-brackets
+invariant-indices-brackets l = Reads (λ ts. DerivesIndices ts l.indices) l.fn.self.rest.now l.self.rest.now
+
+abbrev pub decreases-indices-brackets : goal.decreases-indices-brackets
+decreases-indices-brackets l = length l.self.rest.now

@@ -1,0 +1,10 @@
+use Rattle.std.proofs.Common.{length}
+use Rattle.c_ast.specs.Derives.{DerivesDims}
+use Rattle.c_parse.specs.Reads.{Reads}
+use Rattle.c_parse.proofs.cursor.Cursor.dims.Given as goal
+
+abbrev pub invariant-dims : goal.invariant-dims
+invariant-dims l = Reads (λ ts. DerivesDims ts l.dims) l.fn.self.rest.now l.self.rest.now
+
+abbrev pub decreases-dims : goal.decreases-dims
+decreases-dims l = length l.self.rest.now

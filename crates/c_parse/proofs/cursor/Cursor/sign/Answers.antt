@@ -1,0 +1,6 @@
+use Rattle.std.proofs.Common.{rules, refl, sym, ap, ◌∙◌, arith}
+use Rattle.c_parse.proofs.Rules.{signs}
+use Rattle.c_parse.proofs.cursor.Cursor.sign.Goals as goal
+
+pub returns-in-Some : goal.returns-in-Some
+returns-in-Some c = signs _ _ _ _ _ c.in_ok-token.ensures c.in-Mark.is (search rules)

@@ -1,0 +1,212 @@
+//! Expressions.
+ghost use Rattle.std.specs.Prelude.{◌≡◌, ◌≤◌, IfOk, List};
+ghost use Rattle.c_ast.specs.declared.tree.ExprKind.TheVariants as expr;
+ghost use Rattle.c_ast.specs.Derives.{DerivesExpr, DerivesIndices};
+ghost use Rattle.c_parse.specs.Reads.{Reads, InParens, InBrackets};
+
+use crate::cursor::{Cursor, deeper, place};
+use crate::refusal::Stop;
+use crate::types::plain_type;
+use c_ast::{Binary, Boxed, Expr, ExprKind, List, Mark, Word};
+use el_base::Memory;
+use std::alloc::Global;
+
+// The tightest level of binary operators.
+const TIGHTEST: u32 = 10;
+
+impl<'a> Cursor<'a> {
+    /// An expression, in which so many constructs may nest.
+    #[cycle(expr)]
+    pub fn expr(&mut self, depth: u32) -> Result<Expr, Stop>
+        ensures { IfOk result (λ e. Reads (λ ts. DerivesExpr 0 ts e) self.old.rest.now self.new.rest.now) }
+    {
+        let from = self.rest;
+        let cond = self.binary(1, depth)?;
+        if !self.is_at(Mark::Question) {
+            return Ok(cond);
+        }
+        let at = self.mark(Mark::Question)?;
+        let depth = deeper(depth, at)?;
+        let yes = self.expr(depth)?;
+        self.mark(Mark::Colon)?;
+        let no = self.expr(depth)?;
+        let kind = choose(self.alloc, cond, yes, no)?;
+        Ok(Expr {
+            kind,
+            at: place(from, self.rest),
+        })
+    }
+
+    // An expression of one level of binary operators, from left to right; past the tightest a unary expression.
+    #[cycle(expr)]
+    fn binary(&mut self, level: u32, depth: u32) -> Result<Expr, Stop>
+        requires { level ≤ 11 }
+        ensures { IfOk result (λ e. Reads (λ ts. DerivesExpr level ts e) self.old.rest.now self.new.rest.now) }
+    {
+        if level > TIGHTEST {
+            return self.unary(depth);
+        }
+        let from = self.rest;
+        let mut left = self.binary(level + 1, depth)?;
+        'operators: while let Some(op) = self.operator(level) {
+            let right = self.binary(level + 1, depth)?;
+            left = Expr {
+                kind: join(self.alloc, op, left, right)?,
+                at: place(from, self.rest),
+            };
+        }
+        Ok(left)
+    }
+
+    // A unary expression.
+    #[cycle(expr)]
+    fn unary(&mut self, depth: u32) -> Result<Expr, Stop>
+        ensures { IfOk result (λ e. Reads (λ ts. DerivesExpr 11 ts e) self.old.rest.now self.new.rest.now) }
+    {
+        match self.next_word() {
+            Some(Word::Name(_)) => self.named(depth),
+            Some(Word::Number { .. }) => self.constant(),
+            Some(Word::Mark(Mark::Open)) => {
+                if self.is_at_cast() {
+                    self.cast(depth)
+                } else {
+                    self.group(depth)
+                }
+            }
+            _ => self.signed(depth),
+        }
+    }
+
+    // A number.
+    fn constant(&mut self) -> Result<Expr, Stop>
+        ensures { IfOk result (λ e. Reads (λ ts. DerivesExpr 11 ts e) self.old.rest.now self.new.rest.now) }
+    {
+        let token = self.next()?;
+        match token.word {
+            Word::Number { value, ty } => Ok(Expr {
+                kind: ExprKind::Number { value, ty },
+                at: token.span,
+            }),
+            _ => Err(Stop::Unexpected { span: token.span }),
+        }
+    }
+
+    // A name, with indices or without.
+    #[cycle(expr)]
+    fn named(&mut self, depth: u32) -> Result<Expr, Stop>
+        ensures { IfOk result (λ e. Reads (λ ts. DerivesExpr 11 ts e) self.old.rest.now self.new.rest.now) }
+    {
+        let from = self.rest;
+        let (name, _) = self.name()?;
+        let indices = self.indices(depth)?;
+        let at = place(from, self.rest);
+        if indices.is_empty() {
+            return Ok(Expr {
+                kind: ExprKind::Name(name),
+                at,
+            });
+        }
+        Ok(Expr {
+            kind: ExprKind::Element { name, indices },
+            at,
+        })
+    }
+
+    // A unary operator and its operand.
+    #[cycle(expr)]
+    fn signed(&mut self, depth: u32) -> Result<Expr, Stop>
+        ensures { IfOk result (λ e. Reads (λ ts. DerivesExpr 11 ts e) self.old.rest.now self.new.rest.now) }
+    {
+        let from = self.rest;
+        let (op, sign) = self.sign()?;
+        let depth = deeper(depth, sign)?;
+        let arg = self.unary(depth)?;
+        Ok(Expr {
+            kind: ExprKind::Unary(op, Boxed::new(self.alloc, arg)?),
+            at: place(from, self.rest),
+        })
+    }
+
+    // A cast and its operand.
+    #[cycle(expr)]
+    fn cast(&mut self, depth: u32) -> Result<Expr, Stop>
+        ensures { IfOk result (λ e. Reads (λ ts. DerivesExpr 11 ts e) self.old.rest.now self.new.rest.now) }
+    {
+        let from = self.rest;
+        let open = self.mark(Mark::Open)?;
+        let depth = deeper(depth, open)?;
+        let ty = self.ty()?;
+        self.mark(Mark::Close)?;
+        let arg = self.unary(depth)?;
+        Ok(Expr {
+            kind: ExprKind::Cast(ty, Boxed::new(self.alloc, arg)?),
+            at: place(from, self.rest),
+        })
+    }
+
+    /// An expression in parentheses.
+    #[cycle(expr)]
+    pub fn group(&mut self, depth: u32) -> Result<Expr, Stop>
+        ensures { IfOk result (λ e. Reads (λ ts. InParens ts e) self.old.rest.now self.new.rest.now) }
+    {
+        let open = self.mark(Mark::Open)?;
+        let depth = deeper(depth, open)?;
+        let inner = self.expr(depth)?;
+        self.mark(Mark::Close)?;
+        Ok(inner)
+    }
+
+    // An index in brackets.
+    #[cycle(expr)]
+    fn index(&mut self, depth: u32) -> Result<Expr, Stop>
+        ensures { IfOk result (λ e. Reads (λ ts. InBrackets ts e) self.old.rest.now self.new.rest.now) }
+    {
+        let open = self.mark(Mark::OpenBracket)?;
+        let depth = deeper(depth, open)?;
+        let inner = self.expr(depth)?;
+        self.mark(Mark::CloseBracket)?;
+        Ok(inner)
+    }
+
+    /// All indices in brackets that come next.
+    #[cycle(expr)]
+    pub fn indices(&mut self, depth: u32) -> Result<List<Expr>, Stop>
+        ensures { IfOk result (λ es. Reads (λ ts. DerivesIndices ts es) self.old.rest.now self.new.rest.now) }
+    {
+        let mut indices = List::new(self.alloc);
+        'brackets: while self.is_at(Mark::OpenBracket) {
+            let index = self.index(depth)?;
+            indices.push(index)?;
+        }
+        Ok(indices)
+    }
+}
+
+// Whether a cast begins here, where a parenthesis does.
+impl<'a> Cursor<'a> {
+    fn is_at_cast(&self) -> bool {
+        match self.rest.get(1) {
+            None => false,
+            Some(token) => match token.word {
+                Word::Key(key) => plain_type(key).is_some(),
+                _ => false,
+            },
+        }
+    }
+}
+
+fn join(alloc: Global, op: Binary, left: Expr, right: Expr) -> Result<ExprKind, Memory>
+    ensures { IfOk result (λ kind. kind ≡ expr.Binary op left right) }
+{
+    Ok(ExprKind::Binary(op, Boxed::new(alloc, left)?, Boxed::new(alloc, right)?))
+}
+
+fn choose(alloc: Global, cond: Expr, yes: Expr, no: Expr) -> Result<ExprKind, Memory>
+    ensures { IfOk result (λ kind. kind ≡ expr.Choose cond yes no) }
+{
+    Ok(ExprKind::Choose(
+        Boxed::new(alloc, cond)?,
+        Boxed::new(alloc, yes)?,
+        Boxed::new(alloc, no)?,
+    ))
+}
