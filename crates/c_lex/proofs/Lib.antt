@@ -1,0 +1,7 @@
+pub mod Determined
+pub mod Going
+pub mod Marks
+pub mod Numerals
+pub mod Places
+pub mod Searches
+pub mod SpellsExample

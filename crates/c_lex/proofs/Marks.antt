@@ -1,0 +1,89 @@
+-- Punctuators and comments.
+use Rattle.std.proofs.Common.{◌≡◌, ℕ, suc, ◌+◌, ◌<◌, ◌≤◌, Bool, true, false, cond, ◌==◌, ◌&&◌, List, [], ◌∷◌, length, take, Some, None, refl, sym, ap, ◌∙◌, arith, length-take, lit<}
+use Rattle.std.specs.Cmp.Lexicographic.{pointwise}
+use Rattle.el_base.specs.declared.span.Span.{Span}
+use Rattle.c_ast.specs.Numerals.{begins}
+use Rattle.c_ast.specs.Texts.{mark_text}
+use Rattle.c_ast.specs.Tokens.{bad_byte, open_comment, whole, broken, span_at, is_open, splice_in, splice_fault, comment_end}
+use Rattle.c_ast.specs.declared.mark.Mark.{Mark}
+use Rattle.c_ast.specs.declared.mark.Mark.TheVariants as mark
+
+pub mark_some : (m : Mark) → 0 < length (mark_text m)
+mark_some mark.ShlAssign = lit< tt
+mark_some mark.ShrAssign = lit< tt
+mark_some mark.Increment = lit< tt
+mark_some mark.Decrement = lit< tt
+mark_some mark.AddAssign = lit< tt
+mark_some mark.SubAssign = lit< tt
+mark_some mark.MulAssign = lit< tt
+mark_some mark.DivAssign = lit< tt
+mark_some mark.RemAssign = lit< tt
+mark_some mark.AndAssign = lit< tt
+mark_some mark.OrAssign = lit< tt
+mark_some mark.XorAssign = lit< tt
+mark_some mark.Shl = lit< tt
+mark_some mark.Shr = lit< tt
+mark_some mark.LessEqual = lit< tt
+mark_some mark.GreaterEqual = lit< tt
+mark_some mark.EqualEqual = lit< tt
+mark_some mark.NotEqual = lit< tt
+mark_some mark.AndAnd = lit< tt
+mark_some mark.OrOr = lit< tt
+mark_some mark.Plus = lit< tt
+mark_some mark.Minus = lit< tt
+mark_some mark.Star = lit< tt
+mark_some mark.Slash = lit< tt
+mark_some mark.Percent = lit< tt
+mark_some mark.Ampersand = lit< tt
+mark_some mark.Bar = lit< tt
+mark_some mark.Caret = lit< tt
+mark_some mark.Tilde = lit< tt
+mark_some mark.Bang = lit< tt
+mark_some mark.Less = lit< tt
+mark_some mark.Greater = lit< tt
+mark_some mark.Assign = lit< tt
+mark_some mark.Question = lit< tt
+mark_some mark.Colon = lit< tt
+mark_some mark.Semicolon = lit< tt
+mark_some mark.Comma = lit< tt
+mark_some mark.Open = lit< tt
+mark_some mark.Close = lit< tt
+mark_some mark.OpenBracket = lit< tt
+mark_some mark.CloseBracket = lit< tt
+mark_some mark.OpenBrace = lit< tt
+mark_some mark.CloseBrace = lit< tt
+
+pointwise_len : (xs ys : List ℕ) → pointwise ◌==◌ xs ys ≡ true → length xs ≡ length ys
+pointwise_len [] [] e = refl
+pointwise_len [] (y ∷ ys) e = absurd (cc)
+pointwise_len (x ∷ xs) [] e = absurd (cc)
+pointwise_len (x ∷ xs) (y ∷ ys) e = by (x == y) (pointwise_len xs ys) e
+  where
+    by : (t : Bool) → (pointwise ◌==◌ xs ys ≡ true → length xs ≡ length ys) → (t && pointwise ◌==◌ xs ys) ≡ true → length (x ∷ xs) ≡ length (y ∷ ys)
+    by true more h = ap suc (more h)
+    by false more h = absurd (cc)
+
+-- what stands at the front of a text is no longer than the text
+pub begins_le : (front text : List ℕ) → begins front text ≡ true → length front ≤ length text
+begins_le front text e = let same = pointwise_len front (take (length front) text) e in omega (arith, same, length-take (length front) text)
+
+-- the broken rule of a comment, from what is found in it
+pub fault_open : (bytes text rest : List ℕ) (k n : ℕ) (s : Span) → rest ≡ text → true ≡ is_open rest → s ≡ span_at bytes k 2 → broken open_comment s ≡ comment_end bytes k text n
+unfolding comment_end
+fault_open bytes text rest k n s same is there =
+    ap (broken open_comment) there
+    ∙ sym (ap (λ t. cond t (broken open_comment (span_at bytes k 2)) (splice_fault bytes k (splice_in text n))) (ap is_open (sym same) ∙ sym is))
+
+not_open : (bytes text rest : List ℕ) (k n : ℕ) → rest ≡ text → false ≡ is_open rest → splice_fault bytes k (splice_in rest n) ≡ comment_end bytes k text n
+unfolding comment_end
+not_open bytes text rest k n same is =
+    ap (λ t. splice_fault bytes k (splice_in t n)) same
+    ∙ sym (ap (λ t. cond t (broken open_comment (span_at bytes k 2)) (splice_fault bytes k (splice_in text n))) (ap is_open (sym same) ∙ sym is))
+
+pub fault_splice : (bytes text rest : List ℕ) (k n m j : ℕ) (s : Span) → rest ≡ text → false ≡ is_open rest → Some m ≡ splice_in rest n → j ≡ k + m → s ≡ span_at bytes j 1
+    → broken bad_byte s ≡ comment_end bytes k text n
+fault_splice bytes text rest k n m j s same is found on there =
+    ap (broken bad_byte) (there ∙ ap (λ i. span_at bytes i 1) on) ∙ ap (splice_fault bytes k) found ∙ not_open bytes text rest k n same is
+
+pub fault_none : (bytes text rest : List ℕ) (k n : ℕ) → rest ≡ text → false ≡ is_open rest → None ≡ splice_in rest n → whole ≡ comment_end bytes k text n
+fault_none bytes text rest k n same is found = ap (splice_fault bytes k) found ∙ not_open bytes text rest k n same is

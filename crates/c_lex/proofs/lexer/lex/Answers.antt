@@ -1,0 +1,5 @@
+use Rattle.c_lex.proofs.Determined.{only}
+use Rattle.c_lex.proofs.lexer.lex.Goals as goal
+
+pub returns-clause-only : goal.returns-clause-only
+returns-clause-only c = only _ _ c.lex_text.ensures

@@ -1,0 +1,14 @@
+use Rattle.std.proofs.Common.{◌-◌, length}
+use Rattle.c_lex.specs.Cursors.{IsAt}
+use Rattle.c_lex.specs.Turns.{defines_of}
+use Rattle.c_lex.proofs.Going.{LexedSoFar}
+use Rattle.c_lex.proofs.lexer.read.Given as goal
+
+abbrev pub invariant-pieces : goal.invariant-pieces
+invariant-pieces l = record {
+  at : IsAt l.bytes l.cursor;
+  lexed : LexedSoFar l.bytes l.text l.cursor.offset l.first (defines_of l.defines) l.tokens;
+}
+
+abbrev pub decreases-pieces : goal.decreases-pieces
+decreases-pieces l = length l.text - l.cursor.offset

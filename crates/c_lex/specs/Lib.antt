@@ -1,0 +1,3 @@
+pub mod Cursors
+pub mod Refusals
+pub mod Turns

@@ -1,0 +1,112 @@
+//! The tokens of a kernel text.
+ghost use Rattle.std.specs.Prelude.{◌≡◌, ◌≤◌, length, [], true, List, ℕ, IfOk};
+ghost use Rattle.c_ast.specs.Tokens.{Reads, Lexed, End, first_end};
+ghost use Rattle.c_ast.specs.declared.token.Token.{Token};
+ghost use Rattle.c_lex.specs.Refusals.{Says, IsOnly, end_of};
+
+use crate::comment::without_comments;
+use crate::cursor::Cursor;
+use crate::define::Defines;
+use crate::refusal::{Broken, LexRefusal};
+use crate::turn::{Turn, turn_at};
+use c_ast::Token;
+use el_base::{List, Memory};
+use std::alloc::Global;
+
+/// The tokens of a kernel text. Linear in the text but for looking up names.
+///
+/// # Errors
+///
+/// The rule that is broken at the first place from the left, with its span. `Memory` where memory ran out.
+pub fn lex(alloc: Global, bytes: &[u8]) -> Result<List<Token>, LexRefusal>
+    requires { length bytes.now ≤ 65536 }
+    ensures says { Says bytes.now result }
+    ensures only { IsOnly bytes.now result }
+{
+    lex_text(alloc, bytes)
+}
+
+/// A text gives one list of tokens and ends in one way, whole or at one broken rule.
+pub fn texts_have_one_reading()
+    ensures { (bytes : List ℕ) (ts us : List Token) (e f : End) → Reads bytes ts e → Reads bytes us f → (ts ≡ us) × (e ≡ f) }
+{}
+
+// Tokens up to the end of a text, or to a broken rule.
+#[derive(Drop)]
+struct Reading {
+    tokens: List<Token>,
+    broken: Option<Broken>,
+}
+
+// The tokens of a text, or the first broken rule of its comments and its tokens.
+fn lex_text(alloc: Global, bytes: &[u8]) -> Result<List<Token>, LexRefusal>
+    requires { length bytes.now ≤ 65536 }
+    ensures { Says bytes.now result }
+{
+    let plain = without_comments(alloc, bytes)?;
+    let reading = read(alloc, bytes, plain.text.as_slice())?;
+    match first_broken(plain.broken, reading.broken) {
+        Some(broken) => Err(LexRefusal::of(broken)),
+        None => Ok(reading.tokens),
+    }
+}
+
+// Of two broken rules the one that stands first.
+fn first_broken(one: Option<Broken>, other: Option<Broken>) -> Option<Broken>
+    ensures { end_of result ≡ first_end (end_of one) (end_of other) }
+{
+    match (one, other) {
+        (Some(one), Some(other)) => {
+            if one.at.start < other.at.start {
+                Some(one)
+            } else {
+                Some(other)
+            }
+        }
+        (Some(one), None) => Some(one),
+        (None, other) => other,
+    }
+}
+
+// The tokens of a text whose comments are blanks.
+fn read(alloc: Global, bytes: &[u8], text: &[u8]) -> Result<Reading, Memory>
+    requires short { length bytes.now ≤ 65536 }
+    requires same { length text.now ≡ length bytes.now }
+    ensures { IfOk result (λ r. Lexed bytes.now 0 true [] text.now r.tokens (end_of r.broken)) }
+{
+    let mut tokens = List::new(alloc);
+    let mut defines = Defines::new(alloc);
+    let mut cursor = Cursor::first();
+    let mut first = true;
+    'pieces: while (cursor.offset as usize) < text.len() {
+        let rest = &text[cursor.offset as usize..];
+        let turn = turn_at(alloc, bytes, rest, cursor, first, &defines)?;
+        match turn {
+            Turn::Skips { len, first: next } => {
+                first = next;
+                cursor = cursor.on(bytes, len);
+            }
+            Turn::Gives { len, word } => {
+                let span = cursor.span(len);
+                tokens.push(Token { word, span })?;
+                first = false;
+                cursor = cursor.on(bytes, len);
+            }
+            Turn::Defines { len, name, number } => {
+                defines.add(name, number)?;
+                first = false;
+                cursor = cursor.on(bytes, len);
+            }
+            Turn::Breaks(broken) => {
+                return Ok(Reading {
+                    tokens,
+                    broken: Some(broken),
+                });
+            }
+        }
+    }
+    Ok(Reading {
+        tokens,
+        broken: None,
+    })
+}

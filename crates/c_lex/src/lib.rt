@@ -1,0 +1,20 @@
+//! The tokens of a kernel text, and why a text has none.
+#![tactic(auto)]
+
+mod comment;
+mod cursor;
+mod define;
+mod directive;
+mod lexer;
+mod numeral;
+mod piece;
+mod refusal;
+mod turn;
+
+pub use lexer::{lex, texts_have_one_reading};
+pub use refusal::LexRefusal;
+
+#[cfg(test)]
+mod given_tests;
+#[cfg(test)]
+mod tests;
