@@ -1,0 +1,13 @@
+pub mod Arms
+pub mod CastLemmas
+pub mod CastParams
+pub mod CastStatements
+pub mod First
+pub mod FirstFaults
+pub mod Kept
+pub mod Layers
+pub mod Lookups
+pub mod ParamSteps
+pub mod Refusals
+pub mod Renamed
+pub mod Worked

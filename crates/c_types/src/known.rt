@@ -1,0 +1,96 @@
+//! The declarations in force: what each name stands for, and the types of all variables so far.
+ghost use Rattle.std.specs.Prelude.{◌≡◌, ◌∷◌, [], ◌++◌, ◌<◌, length, true, IfOk, OnOk};
+ghost use Rattle.c_types.specs.Scopes.{is_new_in, with_entry, without_innermost};
+ghost use Rattle.c_types.specs.declared.known.Binding.TheVariants as binding;
+
+use crate::scopes::Scopes;
+use c_ast::{List, Name, Ty};
+use el_base::Memory;
+use std::alloc::Global;
+
+/// What a name stands for: a variable or an array, by its number, with its type or that of its elements.
+#[derive(Clone, Copy, Debug, PartialEq, Eq)]
+pub(crate) enum Binding {
+    Var { var: u32, ty: Ty },
+    Array { array: u32, ty: Ty },
+}
+
+/// The declarations in force at a place, and the types of all variables that are declared before it.
+#[derive(Drop)]
+pub(crate) struct Known {
+    pub scopes: Scopes<Binding>,
+    pub types: List<Ty>,
+}
+
+impl Known {
+    /// One scope without names.
+    pub fn new(alloc: Global) -> Known
+        ensures scopes { result.scopes ≡ [] ∷ [] }
+        ensures types { result.types ≡ [] }
+    {
+        Known {
+            scopes: Scopes::new(alloc),
+            types: List::new(alloc),
+        }
+    }
+
+    /// Begins a scope inside.
+    pub fn enter(&mut self) -> Result<(), Memory>
+        ensures scopes { OnOk result (self.new.scopes ≡ [] ∷ self.old.scopes) }
+        ensures types { OnOk result (self.new.types ≡ self.old.types) }
+        ensures some { 0 < length self.old.scopes }
+    {
+        self.scopes.enter()
+    }
+
+    /// Ends the innermost scope.
+    pub fn leave(&mut self)
+        ensures scopes { self.new.scopes ≡ without_innermost self.old.scopes }
+        ensures types { self.new.types ≡ self.old.types }
+    {
+        self.scopes.leave();
+    }
+
+    /// Declares a variable, and gives its number. A name that its scope has already is no case of a tree that
+    /// keeps the rules; it is answered as [`Memory`].
+    pub fn declare_var(&mut self, name: &Name, ty: Ty) -> Result<u32, Memory>
+        ensures number { IfOk result (λ v. v ≡ length self.old.types) }
+        ensures new { OnOk result (is_new_in self.old.scopes name.now ≡ true) }
+        ensures scopes { OnOk result (self.new.scopes ≡ with_entry name.now (binding.Var (length self.old.types) ty) self.old.scopes) }
+        ensures types { OnOk result (self.new.types ≡ self.old.types ++ ty ∷ []) }
+    {
+        let var = number(self.types.len())?;
+        declare_new(&mut self.scopes, name, Binding::Var { var, ty })?;
+        self.types.push(ty)?;
+        Ok(var)
+    }
+
+    /// Declares an array of a number, as a variable is declared.
+    pub fn declare_array(&mut self, name: &Name, array: u32, ty: Ty) -> Result<(), Memory>
+        ensures new { OnOk result (is_new_in self.old.scopes name.now ≡ true) }
+        ensures scopes { OnOk result (self.new.scopes ≡ with_entry name.now (binding.Array array ty) self.old.scopes) }
+        ensures types { OnOk result (self.new.types ≡ self.old.types) }
+    {
+        declare_new(&mut self.scopes, name, Binding::Array { array, ty })
+    }
+}
+
+// Declares a name that its scope does not have yet.
+fn declare_new(scopes: &mut Scopes<Binding>, name: &Name, item: Binding) -> Result<(), Memory>
+    ensures new { OnOk result (is_new_in scopes.old name.now ≡ true) }
+    ensures scopes { OnOk result (scopes.new ≡ with_entry name.now item scopes.old) }
+{
+    if scopes.declare(name, item)? {
+        Ok(())
+    } else {
+        Err(Memory)
+    }
+}
+
+/// The number of what comes after so many; [`Memory`] past 2^32.
+pub(crate) fn number(count: usize) -> Result<u32, Memory>
+    ensures { IfOk result (λ n. n ≡ count) }
+{
+    let number = u32::try_from(count).map_err(|_| Memory)?;
+    Ok(number)
+}

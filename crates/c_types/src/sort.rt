@@ -1,0 +1,8 @@
+//! What a name stands for.
+
+/// A scalar, or an array with so many dimensions.
+#[derive(Clone, Copy, Debug, PartialEq, Eq)]
+pub(crate) enum Sort {
+    Scalar,
+    Array(usize),
+}
