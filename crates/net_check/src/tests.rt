@@ -7,8 +7,11 @@ use net_types::{Array, Chan, List, Memory, Name, Net, Op2, Place, Port, Scalar, 
 use std::alloc::Global;
 use std::test::Fail;
 
+/// What is broken: the number of a rule, and what it names.
+type Broken = Option<(u32, At)>;
+
 /// The first broken rule of those that are decided here, in the order in which rules are tried, and what it names.
-fn broken(alloc: Global, net: &Net) -> Result<Option<(u32, At)>, Memory> {
+fn broken(alloc: Global, net: &Net) -> Result<Broken, Memory> {
     if let Some(at) = check_header(alloc, net)? {
         return Ok(Some((8, at)));
     }
@@ -197,7 +200,8 @@ fn queue_net(
     })
 }
 
-const UNIT_FAULTS: [(usize, Plain, Option<(u32, At)>); 23] = [
+/// A unit of the sum, what stands in its place, and what is then broken.
+const UNIT_FAULTS: [(usize, Plain, Broken); 23] = [
     (7, Plain::Exit, None),
     (2, Plain::Param(2), Some((8, At::Unit(2)))),
     (2, Plain::Param(0), Some((8, At::Unit(2)))),
@@ -227,16 +231,24 @@ const UNIT_FAULTS: [(usize, Plain, Option<(u32, At)>); 23] = [
     (6, Plain::Select(33), Some((2, At::Unit(6)))),
 ];
 
+/// The first row whose net is broken otherwise.
+fn first_other_unit(alloc: Global, rows: &[(usize, Plain, Broken)]) -> Result<Option<usize>, Fail> {
+    for (row, (at, plain, want)) in rows.iter().enumerate() {
+        if broken_with(alloc, *at, *plain)? != *want {
+            return Ok(Some(row));
+        }
+    }
+    Ok(None)
+}
+
 #[test]
 fn units_at_fault(rt: HostRuntime) -> Result<(), Fail> {
-    for (at, plain, want) in UNIT_FAULTS {
-        assert_eq!(rt; broken_with(rt.alloc(), at, plain)?, want, "unit {at}");
-    }
+    assert_eq!(rt; first_other_unit(rt.alloc(), &UNIT_FAULTS)?, None);
     Ok(())
 }
 
 /// What is broken in the sum with this unit in place of one of its own.
-fn broken_with(alloc: Global, at: usize, plain: Plain) -> Result<Option<(u32, At)>, Fail> {
+fn broken_with(alloc: Global, at: usize, plain: Plain) -> Result<Broken, Fail> {
     let mut net = sum_net(alloc)?;
     if at < net.units.as_slice().len() {
         net.units.set(at, unit(plain));
@@ -244,67 +256,129 @@ fn broken_with(alloc: Global, at: usize, plain: Plain) -> Result<Option<(u32, At
     Ok(broken(alloc, &net)?)
 }
 
-#[test]
-fn channels_at_fault(rt: HostRuntime) -> Result<(), Fail> {
-    let alloc = rt.alloc();
-    let plain = chan((0, 0), (3, 0), 32, true);
-    let cases = [
-        (plain, None),
-        (Chan { slots: 0, ..plain }, Some((3, At::Chan(0)))),
-        (
-            Chan {
-                slots: 1024,
-                ..plain
-            },
-            None,
-        ),
-        (
-            Chan {
-                slots: 1025,
-                ..plain
-            },
-            Some((3, At::Chan(0))),
-        ),
-        (
-            Chan {
-                delay: 1000,
-                ..plain
-            },
-            None,
-        ),
-        (
-            Chan {
-                delay: 1001,
-                ..plain
-            },
-            Some((3, At::Chan(0))),
-        ),
-        (
-            Chan {
-                width: 64,
-                slots: 0,
-                ..plain
-            },
-            Some((2, At::Chan(0))),
-        ),
-        (chan((0, 1), (3, 0), 32, true), Some((2, At::Chan(0)))),
-        (chan((0, 0), (9, 0), 32, true), Some((2, At::Chan(0)))),
-    ];
-    for (first, want) in cases {
+/// The first channel of the sum.
+const FIRST: Chan = Chan {
+    from: Place { unit: 0, place: 0 },
+    to: Place { unit: 3, place: 0 },
+    width: 32,
+    slots: 1,
+    delay: 0,
+    ctl: true,
+};
+
+/// A channel in place of the first one of the sum, and what is then broken.
+const CHANNEL_FAULTS: [(Chan, Broken); 9] = [
+    (FIRST, None),
+    (Chan { slots: 0, ..FIRST }, Some((3, At::Chan(0)))),
+    (
+        Chan {
+            slots: 1024,
+            ..FIRST
+        },
+        None,
+    ),
+    (
+        Chan {
+            slots: 1025,
+            ..FIRST
+        },
+        Some((3, At::Chan(0))),
+    ),
+    (
+        Chan {
+            delay: 1000,
+            ..FIRST
+        },
+        None,
+    ),
+    (
+        Chan {
+            delay: 1001,
+            ..FIRST
+        },
+        Some((3, At::Chan(0))),
+    ),
+    (
+        Chan {
+            width: 64,
+            slots: 0,
+            ..FIRST
+        },
+        Some((2, At::Chan(0))),
+    ),
+    (
+        Chan {
+            from: Place { unit: 0, place: 1 },
+            ..FIRST
+        },
+        Some((2, At::Chan(0))),
+    ),
+    (
+        Chan {
+            to: Place { unit: 9, place: 0 },
+            ..FIRST
+        },
+        Some((2, At::Chan(0))),
+    ),
+];
+
+/// The first row whose net is broken otherwise.
+fn first_other_channel(alloc: Global, rows: &[(Chan, Broken)]) -> Result<Option<usize>, Fail> {
+    for (row, (first, want)) in rows.iter().enumerate() {
         let mut net = sum_net(alloc)?;
-        assert!(rt; 0 < net.chans.as_slice().len());
-        net.chans.set(0, first);
-        assert_eq!(rt; broken(alloc, &net)?, want);
+        if net.chans.as_slice().is_empty() {
+            return Ok(Some(row));
+        }
+        net.chans.set(0, *first);
+        if broken(alloc, &net)? != *want {
+            return Ok(Some(row));
+        }
     }
+    Ok(None)
+}
+
+/// The sum, with more slots than a net may have.
+fn crowded_net(alloc: Global) -> Result<Net, Fail> {
     let mut net = sum_net(alloc)?;
     for _ in 0..65536 {
         net.chans.push(Chan {
             slots: 1024,
-            ..plain
+            ..FIRST
         })?;
     }
-    assert_eq!(rt; broken(alloc, &net)?, Some((3, At::Net)));
+    Ok(net)
+}
+
+#[test]
+fn channels_at_fault(rt: HostRuntime) -> Result<(), Fail> {
+    let alloc = rt.alloc();
+    assert_eq!(rt; first_other_channel(alloc, &CHANNEL_FAULTS)?, None);
+    assert_eq!(rt; broken(alloc, &crowded_net(alloc)?)?, Some((3, At::Net)));
     Ok(())
+}
+
+/// A length of the array of a queue, and what is then broken.
+const LENGTHS: [(u64, Broken); 5] = [
+    (8, None),
+    (1048576, None),
+    (0, Some((8, At::Net))),
+    (1048577, Some((8, At::Net))),
+    (18446744073709551615, Some((8, At::Net))),
+];
+
+/// A queue's net with an array of this length.
+fn net_of_length(alloc: Global, len: u64) -> Result<Net, Fail> {
+    queue_net(alloc, len, 2, &[Port::Store, Port::Load], &[&[0, 1]])
+}
+
+/// The first row whose net is broken otherwise.
+fn first_other_length(alloc: Global, rows: &[(u64, Broken)]) -> Result<Option<usize>, Fail> {
+    for (row, (len, want)) in rows.iter().enumerate() {
+        if broken(alloc, &net_of_length(alloc, *len)?)? != *want {
+            return Ok(Some(row));
+        }
+    }
+    Ok(None)
 }
 
 #[test]
@@ -313,17 +387,14 @@ fn headers_at_fault(rt: HostRuntime) -> Result<(), Fail> {
     let mut net = sum_net(alloc)?;
     net.scalars = scalars(alloc, &[b"a", b"a"])?;
     assert_eq!(rt; broken(alloc, &net)?, Some((8, At::Net)));
-    for (len, want) in [
-        (8, None),
-        (1048576, None),
-        (0, Some((8, At::Net))),
-        (1048577, Some((8, At::Net))),
-        (18446744073709551615, Some((8, At::Net))),
-    ] {
-        let net = queue_net(alloc, len, 2, &[Port::Store, Port::Load], &[&[0, 1]])?;
-        assert_eq!(rt; broken(alloc, &net)?, want, "{len}");
-    }
-    let mut net = queue_net(alloc, 8, 2, &[Port::Store, Port::Load], &[&[0, 1]])?;
+    assert_eq!(rt; first_other_length(alloc, &LENGTHS)?, None);
+    Ok(())
+}
+
+#[test]
+fn arrays_have_one_user(rt: HostRuntime) -> Result<(), Fail> {
+    let alloc = rt.alloc();
+    let mut net = net_of_length(alloc, 8)?;
     net.units.push(Unit::Read(0))?;
     assert_eq!(rt; broken(alloc, &net)?, Some((8, At::Unit(6))));
     net.units
@@ -334,26 +405,39 @@ fn headers_at_fault(rt: HostRuntime) -> Result<(), Fail> {
     Ok(())
 }
 
+/// The depth, the ports and the groups of a queue, and what is then broken.
+type Queue = (u32, &'static [Port], &'static [&'static [u32]], Broken);
+
+const BOTH: &[Port] = &[Port::Store, Port::Load];
+
+const QUEUE_FAULT: Broken = Some((7, At::Unit(4)));
+
+const QUEUES: [Queue; 10] = [
+    (2, BOTH, &[&[0, 1]], None),
+    (1024, BOTH, &[&[1, 0]], None),
+    (1, BOTH, &[&[0, 1]], QUEUE_FAULT),
+    (1025, BOTH, &[&[0, 1]], QUEUE_FAULT),
+    (2, BOTH, &[&[0, 0]], QUEUE_FAULT),
+    (2, BOTH, &[&[0]], QUEUE_FAULT),
+    (2, BOTH, &[&[0], &[1], &[]], QUEUE_FAULT),
+    (2, BOTH, &[&[0], &[2]], QUEUE_FAULT),
+    (2, BOTH, &[], QUEUE_FAULT),
+    (2, &[], &[&[]], QUEUE_FAULT),
+];
+
+/// The first row whose net is broken otherwise.
+fn first_other_queue(alloc: Global, rows: &[Queue]) -> Result<Option<usize>, Fail> {
+    for (row, (depth, ports, groups, want)) in rows.iter().enumerate() {
+        let net = queue_net(alloc, 8, *depth, ports, groups)?;
+        if broken(alloc, &net)? != *want {
+            return Ok(Some(row));
+        }
+    }
+    Ok(None)
+}
+
 #[test]
 fn queues_at_fault(rt: HostRuntime) -> Result<(), Fail> {
-    let alloc = rt.alloc();
-    let both = [Port::Store, Port::Load];
-    let fault = Some((7, At::Unit(4)));
-    let cases: [(u32, &[Port], &[&[u32]], Option<(u32, At)>); 10] = [
-        (2, &both, &[&[0, 1]], None),
-        (1024, &both, &[&[1, 0]], None),
-        (1, &both, &[&[0, 1]], fault),
-        (1025, &both, &[&[0, 1]], fault),
-        (2, &both, &[&[0, 0]], fault),
-        (2, &both, &[&[0]], fault),
-        (2, &both, &[&[0], &[1], &[]], fault),
-        (2, &both, &[&[0], &[2]], fault),
-        (2, &both, &[], fault),
-        (2, &[], &[&[]], fault),
-    ];
-    for (depth, ports, groups, want) in cases {
-        let net = queue_net(alloc, 8, depth, ports, groups)?;
-        assert_eq!(rt; broken(alloc, &net)?, want, "{depth}");
-    }
+    assert_eq!(rt; first_other_queue(rt.alloc(), &QUEUES)?, None);
     Ok(())
 }
