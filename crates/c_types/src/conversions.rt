@@ -96,21 +96,7 @@ fn left_type(op: Binary, left: Ty, right: Ty) -> Ty
 {
     match op {
         Binary::Both | Binary::Either => left,
-        Binary::Shl | Binary::Shr => promoted(left),
-        Binary::Mul
-        | Binary::Div
-        | Binary::Rem
-        | Binary::Add
-        | Binary::Sub
-        | Binary::Lt
-        | Binary::Gt
-        | Binary::Le
-        | Binary::Ge
-        | Binary::Eq
-        | Binary::Ne
-        | Binary::And
-        | Binary::Xor
-        | Binary::Or => usual(left, right),
+        _ => joint_type(op, left, right),
     }
 }
 

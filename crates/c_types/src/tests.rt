@@ -8,7 +8,8 @@ use std::alloc::Global;
 use std::test::Fail;
 
 // Builds a tree from its parts in postfix order: a word for each part, `KIND:ARGUMENTS@PLACE`.
-// A place is `START-END`, or `START-END-LINE-COLUMN` where it is not in the first line.
+// A place is `START-END`, or `START-END-LINE-COLUMN` where it is not in the first line. It may be left out of a part
+// at whose place no rule is broken.
 #[derive(Drop)]
 struct Builder {
     alloc: Global,
@@ -59,19 +60,35 @@ impl Builder {
     }
 
     fn add(&mut self, word: &str) -> Result<(), Fail> {
-        let (head, place) = word.split_once('@').ok_or("a place is missing")?;
+        let (head, place) = word.split_once('@').unwrap_or((word, "0-0"));
         let at = span(place)?;
         let mut fields = head.split(':');
         let kind = fields.next().ok_or("a kind is missing")?;
         let first = fields.next().unwrap_or("");
         let count = number(fields.next().unwrap_or("0"))?;
         let last = number(fields.next().unwrap_or("0"))?;
+        if kind == "+" {
+            return self.add_often(first, count, last, at);
+        }
         if let Some(kind) = self.expr_kind(kind, first, count)? {
             self.exprs.push(Expr { kind, at })?;
             return Ok(());
         }
         let kind = self.stmt_kind(kind, first, count, last, at)?;
         self.stmts.push(Stmt { kind, at })?;
+        Ok(())
+    }
+
+    // Adds a name so often to the last expression, each so many bytes after the one before.
+    fn add_often(&mut self, name: &str, count: u32, step: u32, first: Span) -> Result<(), Fail> {
+        let mut at = first;
+        for _ in 0..count {
+            let kind = ExprKind::Name(self.name(name)?);
+            let right = Boxed::new(self.alloc, Expr { kind, at })?;
+            let kind = ExprKind::Binary(Binary::Add, self.boxed_expr()?, right);
+            self.exprs.push(Expr { kind, at: first })?;
+            at = moved(at, step);
+        }
         Ok(())
     }
 
@@ -267,6 +284,16 @@ fn span(text: &str) -> Result<Span, Fail> {
     })
 }
 
+// A place so many bytes later in the same line.
+fn moved(at: Span, step: u32) -> Span {
+    Span {
+        start: at.start.saturating_add(step),
+        end: at.end.saturating_add(step),
+        line: at.line,
+        column: at.column.saturating_add(step),
+    }
+}
+
 // The number of a refusal and its place, or three times 0 for a tree that keeps the rules.
 fn told(answer: Result<(), TypeRefusal>) -> Result<(u32, u32, u32), Fail> {
     let refusal = match answer {
@@ -292,7 +319,7 @@ fn answer(
 }
 
 // The first row whose kernel gets another answer.
-fn first_other(
+pub(crate) fn first_other(
     alloc: Global,
     rows: &[(bool, &'static str, &'static str, u32, u32, u32)],
 ) -> Result<Option<usize>, Fail> {
