@@ -1,5 +1,5 @@
 -- The rules of parameters and kernels, over what was read.
-use Rattle.std.proofs.Common.{◌≡◌, ℕ, List, [], ◌∷◌, ◌++◌, Option, Some, None, Result, Ok, Err, IfOk, IfErr, refl, sym, ◌∙◌, ap, subst, append_assoc}
+use Rattle.std.proofs.Common.{◌≡◌, ℕ, List, [], ◌∷◌, ◌++◌, Option, Some, None, refl, sym, ◌∙◌, ap, subst, append_assoc}
 use Rattle.std.proofs.lemmas.List.{append-nil}
 use Rattle.el_base.specs.declared.span.Span.{Span}
 use Rattle.el_base.specs.declared.ty.Ty.{Ty}
@@ -9,13 +9,8 @@ use Rattle.c_ast.specs.declared.mark.Mark.TheVariants as mark
 use Rattle.c_ast.specs.declared.tree.Param.{Param}
 use Rattle.c_ast.specs.declared.tree.Stmt.{Stmt}
 use Rattle.c_ast.specs.declared.tree.Tree.{Tree}
-use Rattle.c_ast.specs.Derives.{marked, keyed, named, numbered, between, kernel_tokens, DerivesType, DerivesItems, DerivesDims, DerivesParam, DerivesParamList, DerivesParams, DerivesResult, Derives}
-use Rattle.c_parse.specs.declared.refusal.ParseRefusal.{ParseRefusal}
-use Rattle.c_parse.specs.declared.refusal.ParseRefusal.TheVariants as refusal
-use Rattle.c_parse.specs.declared.refusal.Stop.{Stop}
-use Rattle.c_parse.specs.declared.refusal.Stop.TheVariants as stop
+use Rattle.c_ast.specs.Derives.{marked, keyed, named, numbered, between, DerivesType, DerivesDims, DerivesParam, DerivesParamList, DerivesParams, DerivesResult, Derives}
 use Rattle.c_parse.specs.Reads.{Reads, Numbered, InBraces, DerivesDim}
-use Rattle.c_parse.specs.Refusals.{refusal_of, IsLarge, IsTooLarge}
 use Rattle.c_parse.proofs.Rules.{heads, joins, enclose}
 
 -- ---- parameters
@@ -109,33 +104,3 @@ reads_kernel x s a z r ps ss before m1 m2 m3 m4 m5 after r1 p1 p2 r2 p3 r3 =
 -- the whole list was read
 pub read_all : (tree : Tree) (tokens after : List Token) → Reads (λ ts. Derives ts tree) tokens after → after ≡ [] → Derives tokens tree
 read_all tree tokens after r none = subst (λ ts. Derives ts tree) (sym (r.split ∙ ap (λ us. r.used ++ us) none ∙ append-nil r.used)) r.derived
-
--- ---- refusals
-
-pub stops_at_end : (end at : Span) (s : Stop) → refusal_of end s ≡ refusal.EndOfText at → at ≡ end
-stops_at_end end at (stop.Unexpected p) h = absurd (cc)
-stops_at_end end at stop.EndOfText h = cc
-stops_at_end end at (stop.TooDeep p) h = absurd (cc)
-stops_at_end end at stop.Memory h = absurd (cc)
-
-pub stops_not_large : (end at : Span) (n : ℕ) (s : Stop) → refusal_of end s ≡ refusal.TooLarge at n → ⊥
-stops_not_large end at n (stop.Unexpected p) h = cc
-stops_not_large end at n stop.EndOfText h = cc
-stops_not_large end at n (stop.TooDeep p) h = cc
-stops_not_large end at n stop.Memory h = cc
-
-pub large_not_end : (tree : Tree) (at : Span) (r : Result Tree ParseRefusal) → IfErr r (λ e. IsLarge tree e) → r ≡ Err (refusal.EndOfText at) → ⊥
-large_not_end tree at r h e = subst (λ x. IfErr x (λ y. IsLarge tree y)) e h
-
-pub too_large_of : (tokens : List Token) (tree : Tree) (at : Span) (n : ℕ) (r : Result Tree ParseRefusal) → Derives tokens tree → IfErr r (λ e. IsLarge tree e) → r ≡ Err (refusal.TooLarge at n) → IsTooLarge tokens at n
-too_large_of tokens tree at n r d h e = record { tree = tree; derived = d; large = subst (λ x. IfErr x (λ y. IsLarge tree y)) e h }
-
-pub end_of_refused : (end at : Span) (s : Stop) (r : ParseRefusal) (q : Result Tree ParseRefusal) → r ≡ refusal_of end s → q ≡ Err r → q ≡ Err (refusal.EndOfText at) → at ≡ end
-end_of_refused end at s r q is was e = let h : refusal_of end s ≡ refusal.EndOfText at = cc in stops_at_end end at s h
-
-pub refused_not_large : (end at : Span) (n : ℕ) (s : Stop) (r : ParseRefusal) (q : Result Tree ParseRefusal) → r ≡ refusal_of end s → q ≡ Err r → q ≡ Err (refusal.TooLarge at n) → ⊥
-refused_not_large end at n s r q is was e = let h : refusal_of end s ≡ refusal.TooLarge at n = cc in stops_not_large end at n s h
-
-pub derived_as : (tokens : List Token) (tree : Tree) (r : Result Tree ParseRefusal) → Derives tokens tree → IfOk r (λ t. t ≡ tree) → IfOk r (λ t. Derives tokens t)
-derived_as tokens tree (Ok t) d h = subst (λ x. Derives tokens x) (sym h) d
-derived_as tokens tree (Err e) d h = h

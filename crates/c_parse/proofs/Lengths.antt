@@ -1,6 +1,5 @@
 -- Declarations and statements have tokens.
-use Rattle.std.proofs.Common.{◌≡◌, ℕ, suc, ◌+◌, ◌<◌, List, [], ◌∷◌, ◌++◌, Bool, length, arith, length-append, ap, ◌∙◌}
-use Rattle.el_base.specs.declared.span.Span.{Span}
+use Rattle.std.proofs.Common.{◌≡◌, ◌+◌, ◌<◌, List, [], ◌∷◌, ◌++◌, Bool, length, arith, length-append, ap, ◌∙◌}
 use Rattle.c_ast.specs.declared.token.Token.{Token}
 use Rattle.c_ast.specs.declared.mark.Mark.TheVariants as mark
 use Rattle.c_ast.specs.declared.tree.Stmt.{Stmt}

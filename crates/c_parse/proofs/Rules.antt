@@ -1,5 +1,5 @@
 -- Each rule of the grammar, over what was read.
-use Rattle.std.proofs.Common.{◌≡◌, ℕ, suc, ◌+◌, ◌<◌, ◌≤◌, List, [], ◌∷◌, ◌++◌, length, ◌==◌, Bool, true, false, Option, Some, None, Result, Ok, Err, IfOk, rules, add-one, arith, refl, sym, ◌∙◌, ap, subst, append_assoc}
+use Rattle.std.proofs.Common.{◌≡◌, ℕ, suc, ◌+◌, ◌<◌, List, [], ◌∷◌, ◌++◌, length, ◌==◌, Bool, true, false, Option, Some, None, Result, Ok, Err, IfOk, IfSome, IfNone, rules, arith, refl, sym, ◌∙◌, ap, subst, append_assoc}
 use Rattle.std.proofs.lemmas.List.{append-nil}
 use Rattle.std.proofs.lemmas.Option.{same_Some}
 use Rattle.el_base.specs.declared.span.Span.{Span}
@@ -19,9 +19,9 @@ use Rattle.c_ast.specs.declared.tree.Binary.TheVariants as binary
 use Rattle.c_ast.specs.declared.tree.Expr.{Expr}
 use Rattle.c_ast.specs.declared.tree.ExprKind.{ExprKind}
 use Rattle.c_ast.specs.declared.tree.ExprKind.TheVariants as expr
-use Rattle.c_ast.specs.Derives.{marked, keyed, named, numbered, place_of, expr_of, between, IsBinary, IsUnary, IsAssigning, IsStep, DerivesType, DerivesExpr, DerivesIndices}
-use Rattle.c_parse.specs.Tables.{operator_of, sign_of, assigning_of, step_of, plain_type}
-use Rattle.c_parse.specs.Reads.{Reads, Operates, Signs, Assigns, Steps, Numbered, MaySkip, InParens, InBrackets}
+use Rattle.c_ast.specs.Derives.{marked, keyed, named, place_of, expr_of, between, IsBinary, IsUnary, IsAssigning, IsStep, DerivesType, DerivesExpr, DerivesIndices}
+use Rattle.c_parse.specs.Tables.{operator_of, sign_of, assigning_of, step_of, plain_type, takes_int}
+use Rattle.c_parse.specs.Reads.{Reads, Operates, Signs, Assigns, Steps, NamesType, MaySkip, InParens, InBrackets, key_at}
 
 -- ---- lists
 
@@ -127,16 +127,18 @@ steps t m up before after p is e = record { mark = m; place = t.span; split = ma
 
 -- ---- types
 
-pub reads_plain : (t : Token) (k : Key) (ty : Ty) (before after : List Token) → before ≡ t ∷ after → t.word ≡ word.Key k → plain_type k ≡ Some ty → Reads (λ ts. DerivesType ts ty) before after
-reads_plain t k ty before after p is e = record { used = t ∷ []; split = p; derived = subst (λ u. DerivesType (u ∷ []) ty) (sym (token_of t (word.Key k) is)) (plain_derives k ty t.span e) }
+pub reads_type_word : (k : Key) (ty : Ty) (before after : List Token) → NamesType k ty before after → Reads (λ ts. DerivesType ts ty) before after
+reads_type_word k ty before after w = record { used = keyed k w.place ∷ []; split = w.split; derived = plain_derives k ty w.place w.type }
 
-pub reads_signed_type : (s : Span) (before mid after : List Token) → before ≡ keyed key.Signed s ∷ mid → MaySkip mid after → Reads (λ ts. DerivesType ts I32) before after
-reads_signed_type s before mid after p (MaySkip.none q) = record { used = keyed key.Signed s ∷ []; split = p ∙ ap (λ v. keyed key.Signed s ∷ v) q; derived = DerivesType.plain_signed s }
-reads_signed_type s before mid after p (MaySkip.int z q) = record { used = keyed key.Signed s ∷ keyed key.Int z ∷ []; split = p ∙ ap (λ v. keyed key.Signed s ∷ v) q; derived = DerivesType.signed_int s z }
+-- an int behind a word that it may follow
+int_derives : (k : Key) (t : Ty) (s z : Span) → plain_type k ≡ Some t → takes_int k ≡ true → DerivesType (keyed k s ∷ keyed key.Int z ∷ []) t
+int_derives key.Signed t s z e may = let h : I32 ≡ t = cc in subst (λ u. DerivesType (keyed key.Signed s ∷ keyed key.Int z ∷ []) u) h (DerivesType.signed_int s z)
+int_derives key.Unsigned t s z e may = let h : U32 ≡ t = cc in subst (λ u. DerivesType (keyed key.Unsigned s ∷ keyed key.Int z ∷ []) u) h (DerivesType.unsigned_int s z)
+int_derives k t s z e may = absurd (cc)
 
-pub reads_unsigned_type : (s : Span) (before mid after : List Token) → before ≡ keyed key.Unsigned s ∷ mid → MaySkip mid after → Reads (λ ts. DerivesType ts U32) before after
-reads_unsigned_type s before mid after p (MaySkip.none q) = record { used = keyed key.Unsigned s ∷ []; split = p ∙ ap (λ v. keyed key.Unsigned s ∷ v) q; derived = DerivesType.plain_unsigned s }
-reads_unsigned_type s before mid after p (MaySkip.int z q) = record { used = keyed key.Unsigned s ∷ keyed key.Int z ∷ []; split = p ∙ ap (λ v. keyed key.Unsigned s ∷ v) q; derived = DerivesType.unsigned_int s z }
+pub reads_with_int : (k : Key) (ty : Ty) (before mid after : List Token) → NamesType k ty before mid → takes_int k ≡ true → MaySkip mid after → Reads (λ ts. DerivesType ts ty) before after
+reads_with_int k ty before mid after w may (MaySkip.none q other) = record { used = keyed k w.place ∷ []; split = w.split ∙ ap (λ v. keyed k w.place ∷ v) q; derived = plain_derives k ty w.place w.type }
+reads_with_int k ty before mid after w may (MaySkip.int z q) = record { used = keyed k w.place ∷ keyed key.Int z ∷ []; split = w.split ∙ ap (λ v. keyed k w.place ∷ v) q; derived = int_derives k ty w.place z w.type may }
 
 -- ---- expressions
 
@@ -294,8 +296,12 @@ no_items (x ∷ xs) h = absurd (search (rules, h))
 pub some_items : {A : Type 0} (xs : List A) → (length xs == 0) ≡ false → xs ≡ [] → ⊥
 some_items xs h none = let e : (0 == 0) ≡ false = subst (λ ys. (length ys == 0) ≡ false) none h in absurd (search (rules, e))
 
-pub skips_int : (t : Token) (k : Key) (before after : List Token) → before ≡ t ∷ after → t.word ≡ word.Key k → k ≡ key.Int → MaySkip before after
-skips_int t k before after p is same = MaySkip.int t.span (p ∙ ap (λ u. u ∷ after) (token_of t (word.Key k) is ∙ ap (λ x. spelled (word.Key x) t) same))
+pub skips_int : (r : Option Span) (before after : List Token) → IfSome r (λ s. before ≡ keyed key.Int s ∷ after) → IfNone r (after ≡ before) → IfNone r (key_at before ≡ Some key.Int → ⊥) → MaySkip before after
+skips_int (Some s) before after some none other = MaySkip.int s some
+skips_int None before after some none other = MaySkip.none (sym none) other
 
 pub reads_same : (D : List Token → Type 0) (before mid after : List Token) → Reads D before mid → after ≡ mid → Reads D before after
 reads_same D before mid after r same = subst (λ us. Reads D before us) (sym same) r
+
+pub reads_from : (D : List Token → Type 0) (before mid after : List Token) → Reads D mid after → before ≡ mid → Reads D before after
+reads_from D before mid after r same = subst (λ us. Reads D us after) (sym same) r

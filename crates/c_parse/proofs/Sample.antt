@@ -1,5 +1,5 @@
--- The worked example of the nesting holds, by computation.
-use Rattle.std.proofs.Common.{ℕ, List, [], ◌∷◌, Bool, false, None, lit<, refl}
+-- The worked examples hold: the verdicts on their tokens are computed.
+use Rattle.std.proofs.Common.{List, [], ◌∷◌, false, None, lit<, refl}
 use Rattle.std.specs.Prelude.{codes}
 use Rattle.el_base.specs.declared.span.Span.{Span}
 use Rattle.el_base.specs.declared.ty.Ty.TheVariants.{I32}
@@ -12,9 +12,10 @@ use Rattle.c_ast.specs.declared.tree.Expr.{Expr}
 use Rattle.c_ast.specs.declared.tree.ExprKind.TheVariants as expr
 use Rattle.c_ast.specs.declared.tree.Stmt.{Stmt}
 use Rattle.c_ast.specs.declared.tree.StmtKind.TheVariants as stmt
-use Rattle.c_ast.specs.declared.tree.Tree.{Tree}
 use Rattle.c_ast.specs.Derives.{marked, keyed, named, numbered, place_of, between, expr_of, stmt_of, IsUnary, IsAssigning, DerivesExpr, DerivesIndices, DerivesTarget, DerivesSimple, DerivesStmt, DerivesItems, DerivesParams, DerivesResult, Derives}
-use Rattle.c_parse.specs.Sample.{value_tokens, stmt_tokens, SampleNests}
+use Rattle.c_parse.specs.Traces.{Verdict}
+use Rattle.c_parse.proofs.Exactness.{judged_means}
+use Rattle.c_parse.specs.Sample.{value_tokens, stmt_tokens, SampleNests, cut_tokens, unexpected_tokens, SampleRefuses}
 
 abbrev one : Span → Expr
 one s = expr_of (expr.Number 1 I32) (numbered 1 I32 s ∷ [])
@@ -51,4 +52,8 @@ sample_nests s = record {
   tree = record { name = codes "f"; at = s; result = None; params = []; body = assignment s ∷ [] };
   derived = Derives.kernel (keyed key.Void s ∷ []) (keyed key.Void s ∷ []) (stmt_tokens s) (codes "f") s s s s s None [] (assignment s ∷ []) (DerivesResult.void s) (DerivesParams.none_by_void s) (items s);
   nests = refl;
+  traced = refl;
 }
+
+pub sample_refuses : (s z : Span) → SampleRefuses s z
+sample_refuses s z = record { cut = judged_means (cut_tokens s) Verdict.cut refl; unexpected = judged_means (unexpected_tokens s z) (Verdict.unexpected z) refl }

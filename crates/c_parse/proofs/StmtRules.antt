@@ -12,7 +12,7 @@ use Rattle.c_ast.specs.declared.tree.Expr.{Expr}
 use Rattle.c_ast.specs.declared.tree.Stmt.{Stmt}
 use Rattle.c_ast.specs.declared.tree.StmtKind.{StmtKind}
 use Rattle.c_ast.specs.declared.tree.StmtKind.TheVariants as stmt
-use Rattle.c_ast.specs.Derives.{marked, keyed, named, place_of, stmt_of, between, if_tokens, if_else_tokens, while_tokens, do_tokens, for_tokens, DerivesType, DerivesExpr, DerivesIndices, DerivesTarget, DerivesSimple, DerivesOption, DerivesStep, DerivesDeclared, DerivesDeclarators, DerivesDeclaration, DerivesFirst, DerivesStmt, DerivesItems}
+use Rattle.c_ast.specs.Derives.{marked, keyed, named, place_of, stmt_of, between, DerivesType, DerivesExpr, DerivesIndices, DerivesTarget, DerivesSimple, DerivesOption, DerivesStep, DerivesDeclared, DerivesDeclarators, DerivesDeclaration, DerivesFirst, DerivesStmt, DerivesItems}
 use Rattle.c_parse.specs.Reads.{Reads, Adds, Assigns, Steps, InParens, InBraces, Declaring, DerivesHead, ReadsStmt, is_else}
 use Rattle.c_parse.proofs.Rules.{heads, joins, enclose, Placed}
 
@@ -169,7 +169,7 @@ reads_braces s z ss before m1 m2 after p r q = record {
 
 -- ---- statements
 
-closed_end : (ts : List Token) → false ≡ true → is_else ts ≡ false
+pub closed_end : (ts : List Token) → false ≡ true → is_else ts ≡ false
 closed_end ts h = absurd (cc)
 
 -- a statement that does not end in an if without else

@@ -1,4 +1,10 @@
+pub mod Parts
 pub mod Reads
 pub mod Refusals
 pub mod Sample
+pub mod Stops
+pub mod Symbols
 pub mod Tables
+pub mod Traces
+pub mod Values
+pub mod Verdicts

@@ -13,6 +13,7 @@ use Rattle.c_ast.specs.declared.tree.Unary.{Unary}
 use Rattle.c_ast.specs.declared.tree.Binary.{Binary}
 use Rattle.c_ast.specs.declared.tree.Expr.{Expr}
 use Rattle.c_ast.specs.declared.tree.Stmt.{Stmt}
+use Rattle.c_parse.specs.Tables.{plain_type}
 use Rattle.c_ast.specs.Derives.{marked, keyed, numbered, between, IsBinary, IsUnary, IsAssigning, IsStep, DerivesType, DerivesDeclarators, DerivesExpr, DerivesStmt, DerivesFirst, DerivesOption, DerivesStep, DerivesItems}
 
 -- the tokens from the one place to the other have D
@@ -60,10 +61,16 @@ pub record Numbered (n : ℕ) (before after : List Token) : Type 0 where
   pub place : Span
   pub split : before ≡ numbered n ty place ∷ after
 
--- one token, the word int, or none
+-- one token, the word int, or none where that word does not come next
 pub data MaySkip (before after : List Token) : Type 0 where
-  none : before ≡ after → MaySkip before after
+  none : before ≡ after → (key_at before ≡ Some key.Int → ⊥) → MaySkip before after
   int : (s : Span) → before ≡ keyed key.Int s ∷ after → MaySkip before after
+
+-- one token, a reserved word that names that type by itself
+pub record NamesType (k : Key) (t : Ty) (before after : List Token) : Type 0 where
+  pub place : Span
+  pub split : before ≡ keyed k place ∷ after
+  pub type : plain_type k ≡ Some t
 
 -- ---- operators
 

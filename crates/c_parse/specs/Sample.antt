@@ -1,4 +1,4 @@
--- A worked example of the nesting: the kernel `void f(void) { x = -(1); }`, whose tokens all have one place here.
+-- Worked examples. First of the nesting and of a predictive parser's trace: the kernel `void f(void) { x = -(1); }`, whose tokens all have one place here.
 use Rattle.std.specs.Prelude.{◌≡◌, ℕ, List, [], ◌∷◌, codes}
 use Rattle.el_base.specs.declared.span.Span.{Span}
 use Rattle.el_base.specs.declared.ty.Ty.TheVariants.{I32}
@@ -8,6 +8,10 @@ use Rattle.c_ast.specs.declared.key.Key.TheVariants as key
 use Rattle.c_ast.specs.declared.mark.Mark.TheVariants as mark
 use Rattle.c_ast.specs.Derives.{marked, keyed, named, numbered, Derives}
 use Rattle.c_ast.specs.Nesting.{nesting}
+use Rattle.c_ast.specs.Prefixes.{IsUnexpected, IsCut}
+use Rattle.c_parse.specs.Symbols.{kernel_symbols}
+use Rattle.c_parse.specs.Values.{Value}
+use Rattle.c_parse.specs.Traces.{Trace, trace, laid}
 
 abbrev pub value_tokens : Span → List Token
 value_tokens s = marked mark.Minus s ∷ marked mark.Open s ∷ numbered 1 I32 s ∷ marked mark.Close s ∷ []
@@ -27,3 +31,17 @@ pub record SampleNests (s : Span) : Type 0 where
   pub tree : Tree
   pub derived : Derives (sample_tokens s) tree
   pub nests : nesting derived ≡ sample_nesting
+  pub traced : trace kernel_symbols [] (sample_tokens s) ≡ laid sample_nesting (sample_tokens s) (Trace.complete (Value.of_tree (sample_tokens s) tree ∷ []))
+
+-- ---- refusals: `void f(void) {`, and `int f(int a) { return a + ; }`, whose semicolon has a place of its own
+
+abbrev pub cut_tokens : Span → List Token
+cut_tokens s = keyed key.Void s ∷ named (codes "f") s ∷ marked mark.Open s ∷ keyed key.Void s ∷ marked mark.Close s ∷ marked mark.OpenBrace s ∷ []
+
+abbrev pub unexpected_tokens : Span → Span → List Token
+unexpected_tokens s z = keyed key.Int s ∷ named (codes "f") s ∷ marked mark.Open s ∷ keyed key.Int s ∷ named (codes "a") s ∷ marked mark.Close s ∷ marked mark.OpenBrace s
+    ∷ keyed key.Return s ∷ named (codes "a") s ∷ marked mark.Plus s ∷ marked mark.Semicolon z ∷ marked mark.CloseBrace s ∷ []
+
+pub record SampleRefuses (s z : Span) : Type 0 where
+  pub cut : IsCut (cut_tokens s)
+  pub unexpected : IsUnexpected (unexpected_tokens s z) z

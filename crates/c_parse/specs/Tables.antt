@@ -75,3 +75,9 @@ plain_type key.Int = Some I32
 plain_type key.Signed = Some I32
 plain_type key.Unsigned = Some U32
 plain_type k = None
+
+-- an int may follow the word of a type
+abbrev pub takes_int : Key → Bool
+takes_int key.Signed = true
+takes_int key.Unsigned = true
+takes_int k = false

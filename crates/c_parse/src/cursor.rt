@@ -1,8 +1,13 @@
 //! A place in a list of tokens.
-ghost use Rattle.std.specs.Prelude.{◌≡◌, ◌∷◌, ◌++◌, ◌+◌, List, IfOk, IfSome, IfNone};
+ghost use Rattle.std.specs.Prelude.{◌≡◌, ◌∷◌, ◌++◌, ◌+◌, List, [], false, Some, None, IfOk, IfErr, IfSome, IfNone, IsTrue, ◌↔◌};
 ghost use Rattle.c_ast.specs.declared.token.Token.{Token};
+ghost use Rattle.c_ast.specs.declared.token.Word.TheVariants as word;
+ghost use Rattle.c_ast.specs.declared.tree.Binary.{Binary};
 ghost use Rattle.c_ast.specs.Derives.{marked, keyed, named, numbered, place_of};
 ghost use Rattle.c_parse.specs.Reads.{is_else, mark_at, key_at, Operates, Signs, Assigns, Steps, Numbered};
+ghost use Rattle.c_parse.specs.Tables.{operator_of, sign_of, assigning_of, step_of};
+ghost use Rattle.c_parse.specs.Stops.{Refuses, is_name, is_number, meaning, meaning_at, is_name_at, is_number_at, stop_at};
+ghost use Rattle.c_parse.specs.declared.refusal.Stop.TheVariants as stop;
 
 use crate::operators::{assigning_of, operator_of, sign_of, step_of};
 use crate::refusal::Stop;
@@ -39,7 +44,9 @@ pub fn place(from: &[Token], rest: &[Token]) -> Span
 
 /// The depth that is left in a construct that begins at a place.
 pub fn deeper(depth: u32, at: Span) -> Result<u32, Stop>
-    ensures { IfOk result (λ d. d + 1 ≡ depth) }
+    ensures one_less { IfOk result (λ d. d + 1 ≡ depth) }
+    ensures none_left { IfErr result (λ _. depth ≡ 0) }
+    ensures place { IfErr result (λ e. e ≡ stop.TooDeep at) }
 {
     if depth == 0 {
         return Err(Stop::TooDeep { span: at });
@@ -49,7 +56,9 @@ pub fn deeper(depth: u32, at: Span) -> Result<u32, Stop>
 
 impl<'a> Cursor<'a> {
     /// The refusal at the next token.
-    pub fn refusal(&self) -> Stop {
+    pub fn refusal(&self) -> Stop
+        ensures { result ≡ stop_at self.now.rest.now }
+    {
         match self.rest.first() {
             None => Stop::EndOfText,
             Some(token) => Stop::Unexpected { span: token.span },
@@ -58,7 +67,9 @@ impl<'a> Cursor<'a> {
 
     /// Goes past one token.
     pub fn next(&mut self) -> Result<&'a Token, Stop>
-        ensures { IfOk result (λ t. self.old.rest.now ≡ t.now ∷ self.new.rest.now) }
+        ensures read { IfOk result (λ t. self.old.rest.now ≡ t.now ∷ self.new.rest.now) }
+        ensures none_left { IfErr result (λ _. self.old.rest.now ≡ []) }
+        ensures ended { IfErr result (λ e. e ≡ stop.EndOfText) }
     {
         match self.rest.split_first() {
             None => Err(Stop::EndOfText),
@@ -69,11 +80,23 @@ impl<'a> Cursor<'a> {
         }
     }
 
-    /// The word that comes next, if one does.
-    pub fn next_word(&self) -> Option<&'a Word> {
+    /// Whether a name comes next.
+    pub fn is_at_name(&self) -> bool
+        ensures { result ≡ is_name_at self.now.rest.now }
+    {
         match self.rest.first() {
-            None => None,
-            Some(token) => Some(&token.word),
+            None => false,
+            Some(token) => matches!(token.word, Word::Name(_)),
+        }
+    }
+
+    /// Whether a number comes next.
+    pub fn is_at_number(&self) -> bool
+        ensures { result ≡ is_number_at self.now.rest.now }
+    {
+        match self.rest.first() {
+            None => false,
+            Some(token) => matches!(token.word, Word::Number { .. }),
         }
     }
 
@@ -104,7 +127,9 @@ impl<'a> Cursor<'a> {
     }
 
     /// Whether this mark comes next.
-    pub fn is_at(&self, mark: Mark) -> bool {
+    pub fn is_at(&self, mark: Mark) -> bool
+        ensures { IsTrue result ↔ (mark_at self.now.rest.now ≡ Some mark) }
+    {
         self.next_mark() == Some(mark)
     }
 
@@ -115,9 +140,44 @@ impl<'a> Cursor<'a> {
         matches!(self.next_key(), Some(Key::Else))
     }
 
+    /// Goes past this mark, if it comes next.
+    pub fn take(&mut self, mark: Mark) -> Option<Span>
+        ensures some { IfSome result (λ s. self.old.rest.now ≡ marked mark s ∷ self.new.rest.now) }
+        ensures none { IfNone result (self.new.rest.now ≡ self.old.rest.now) }
+        ensures other { IfNone result (mark_at self.old.rest.now ≡ Some mark → ⊥) }
+    {
+        let (token, rest) = self.rest.split_first()?;
+        let Word::Mark(m) = token.word else {
+            return None;
+        };
+        if m != mark {
+            return None;
+        }
+        self.rest = rest;
+        Some(token.span)
+    }
+
+    /// Goes past this reserved word, if it comes next.
+    pub fn take_key(&mut self, key: Key) -> Option<Span>
+        ensures some { IfSome result (λ s. self.old.rest.now ≡ keyed key s ∷ self.new.rest.now) }
+        ensures none { IfNone result (self.new.rest.now ≡ self.old.rest.now) }
+        ensures other { IfNone result (key_at self.old.rest.now ≡ Some key → ⊥) }
+    {
+        let (token, rest) = self.rest.split_first()?;
+        let Word::Key(k) = token.word else {
+            return None;
+        };
+        if k != key {
+            return None;
+        }
+        self.rest = rest;
+        Some(token.span)
+    }
+
     /// Goes past this mark.
     pub fn mark(&mut self, mark: Mark) -> Result<Span, Stop>
-        ensures { IfOk result (λ s. self.old.rest.now ≡ marked mark s ∷ self.new.rest.now) }
+        ensures read { IfOk result (λ s. self.old.rest.now ≡ marked mark s ∷ self.new.rest.now) }
+        ensures refused { IfErr result (λ e. Refuses (λ w. w ≡ word.Mark mark → ⊥) self.old.rest.now e) }
     {
         let token = self.next()?;
         match token.word {
@@ -128,7 +188,8 @@ impl<'a> Cursor<'a> {
 
     /// Goes past this reserved word.
     pub fn key(&mut self, key: Key) -> Result<Span, Stop>
-        ensures { IfOk result (λ s. self.old.rest.now ≡ keyed key s ∷ self.new.rest.now) }
+        ensures read { IfOk result (λ s. self.old.rest.now ≡ keyed key s ∷ self.new.rest.now) }
+        ensures refused { IfErr result (λ e. Refuses (λ w. w ≡ word.Key key → ⊥) self.old.rest.now e) }
     {
         let token = self.next()?;
         match token.word {
@@ -139,7 +200,8 @@ impl<'a> Cursor<'a> {
 
     /// Goes past a name; also its place.
     pub fn name(&mut self) -> Result<(Name, Span), Stop>
-        ensures { IfOk result (λ n. self.old.rest.now ≡ named n.0 n.1 ∷ self.new.rest.now) }
+        ensures read { IfOk result (λ n. self.old.rest.now ≡ named n.0 n.1 ∷ self.new.rest.now) }
+        ensures refused { IfErr result (λ e. Refuses (λ w. is_name w ≡ false) self.old.rest.now e) }
     {
         let token = self.next()?;
         match &token.word {
@@ -150,7 +212,8 @@ impl<'a> Cursor<'a> {
 
     /// Goes past a number; its value.
     pub fn number(&mut self) -> Result<u64, Stop>
-        ensures { IfOk result (λ n. Numbered n self.old.rest.now self.new.rest.now) }
+        ensures read { IfOk result (λ n. Numbered n self.old.rest.now self.new.rest.now) }
+        ensures refused { IfErr result (λ e. Refuses (λ w. is_number w ≡ false) self.old.rest.now e) }
     {
         let token = self.next()?;
         match token.word {
@@ -163,6 +226,7 @@ impl<'a> Cursor<'a> {
     pub fn operator(&mut self, level: u32) -> Option<Binary>
         ensures some { IfSome result (λ op. Operates op level self.old.rest.now self.new.rest.now) }
         ensures none { IfNone result (self.new.rest.now ≡ self.old.rest.now) }
+        ensures other { IfNone result ((op : Binary) → meaning_at operator_of self.old.rest.now ≡ Some (op, level) → ⊥) }
     {
         let (token, rest) = self.rest.split_first()?;
         let Word::Mark(mark) = token.word else {
@@ -178,7 +242,8 @@ impl<'a> Cursor<'a> {
 
     /// Goes past a unary operator; also its place.
     pub fn sign(&mut self) -> Result<(Unary, Span), Stop>
-        ensures { IfOk result (λ s. Signs s.0 s.1 self.old.rest.now self.new.rest.now) }
+        ensures read { IfOk result (λ s. Signs s.0 s.1 self.old.rest.now self.new.rest.now) }
+        ensures refused { IfErr result (λ e. Refuses (λ w. meaning sign_of w ≡ None) self.old.rest.now e) }
     {
         let token = self.next()?;
         let Word::Mark(mark) = token.word else {
@@ -194,6 +259,7 @@ impl<'a> Cursor<'a> {
     pub fn assigning(&mut self) -> Option<Option<Binary>>
         ensures some { IfSome result (λ op. Assigns op self.old.rest.now self.new.rest.now) }
         ensures none { IfNone result (self.new.rest.now ≡ self.old.rest.now) }
+        ensures other { IfNone result (meaning_at assigning_of self.old.rest.now ≡ None) }
     {
         let (token, rest) = self.rest.split_first()?;
         let Word::Mark(mark) = token.word else {
@@ -206,7 +272,8 @@ impl<'a> Cursor<'a> {
 
     /// Goes past the mark of a step; whether it goes up.
     pub fn step(&mut self) -> Result<bool, Stop>
-        ensures { IfOk result (λ up. Steps up self.old.rest.now self.new.rest.now) }
+        ensures read { IfOk result (λ up. Steps up self.old.rest.now self.new.rest.now) }
+        ensures refused { IfErr result (λ e. Refuses (λ w. meaning step_of w ≡ None) self.old.rest.now e) }
     {
         let token = self.next()?;
         let Word::Mark(mark) = token.word else {

@@ -1,8 +1,12 @@
 //! Expressions.
-ghost use Rattle.std.specs.Prelude.{◌≡◌, ◌≤◌, IfOk, List};
+ghost use Rattle.std.specs.Prelude.{◌≡◌, ◌≤◌, ◌+◌, ℕ, suc, List, [], ◌∷◌, false, Some, IfOk};
 ghost use Rattle.c_ast.specs.declared.tree.ExprKind.TheVariants as expr;
 ghost use Rattle.c_ast.specs.Derives.{DerivesExpr, DerivesIndices};
-ghost use Rattle.c_parse.specs.Reads.{Reads, InParens, InBrackets};
+ghost use Rattle.c_ast.specs.declared.mark.Mark.TheVariants as mark;
+ghost use Rattle.c_parse.specs.Reads.{Reads, InParens, InBrackets, mark_at};
+ghost use Rattle.c_parse.specs.Stops.{is_type_behind, is_operand_at};
+ghost use Rattle.c_parse.specs.Symbols.{Symbol, Fixed, in_group};
+ghost use Rattle.c_parse.specs.Verdicts.{Judges};
 
 use crate::cursor::{Cursor, deeper, place};
 use crate::refusal::Stop;
@@ -18,14 +22,14 @@ impl<'a> Cursor<'a> {
     /// An expression, in which so many constructs may nest.
     #[cycle(expr)]
     pub fn expr(&mut self, depth: u32) -> Result<Expr, Stop>
-        ensures { IfOk result (λ e. Reads (λ ts. DerivesExpr 0 ts e) self.old.rest.now self.new.rest.now) }
+        ensures derived { IfOk result (λ e. Reads (λ ts. DerivesExpr 0 ts e) self.old.rest.now self.new.rest.now) }
+        ensures judged { (n : ℕ) → n + depth ≡ 64 → Judges (Symbol.expression n 0 ∷ []) [] self.old.rest.now self.new.rest.now result }
     {
         let from = self.rest;
         let cond = self.binary(1, depth)?;
-        if !self.is_at(Mark::Question) {
+        let Some(at) = self.take(Mark::Question) else {
             return Ok(cond);
-        }
-        let at = self.mark(Mark::Question)?;
+        };
         let depth = deeper(depth, at)?;
         let yes = self.expr(depth)?;
         self.mark(Mark::Colon)?;
@@ -41,7 +45,8 @@ impl<'a> Cursor<'a> {
     #[cycle(expr)]
     fn binary(&mut self, level: u32, depth: u32) -> Result<Expr, Stop>
         requires { level ≤ 11 }
-        ensures { IfOk result (λ e. Reads (λ ts. DerivesExpr level ts e) self.old.rest.now self.new.rest.now) }
+        ensures derived { IfOk result (λ e. Reads (λ ts. DerivesExpr level ts e) self.old.rest.now self.new.rest.now) }
+        ensures judged { (n : ℕ) → n + depth ≡ 64 → 1 ≤ level → Judges (Symbol.expression n level ∷ []) [] self.old.rest.now self.new.rest.now result }
     {
         if level > TIGHTEST {
             return self.unary(depth);
@@ -61,25 +66,28 @@ impl<'a> Cursor<'a> {
     // A unary expression.
     #[cycle(expr)]
     fn unary(&mut self, depth: u32) -> Result<Expr, Stop>
-        ensures { IfOk result (λ e. Reads (λ ts. DerivesExpr 11 ts e) self.old.rest.now self.new.rest.now) }
+        ensures derived { IfOk result (λ e. Reads (λ ts. DerivesExpr 11 ts e) self.old.rest.now self.new.rest.now) }
+        ensures judged { (n : ℕ) → n + depth ≡ 64 → Judges (Symbol.expression n 11 ∷ []) [] self.old.rest.now self.new.rest.now result }
     {
-        match self.next_word() {
-            Some(Word::Name(_)) => self.named(depth),
-            Some(Word::Number { .. }) => self.constant(),
-            Some(Word::Mark(Mark::Open)) => {
-                if self.is_at_cast() {
-                    self.cast(depth)
-                } else {
-                    self.group(depth)
-                }
-            }
-            _ => self.signed(depth),
+        if self.is_at_name() {
+            return self.named(depth);
         }
+        if self.is_at_number() {
+            return self.constant();
+        }
+        if !self.is_at(Mark::Open) {
+            return self.signed(depth);
+        }
+        if self.is_at_cast() {
+            return self.cast(depth);
+        }
+        self.group(depth)
     }
 
     // A number.
     fn constant(&mut self) -> Result<Expr, Stop>
-        ensures { IfOk result (λ e. Reads (λ ts. DerivesExpr 11 ts e) self.old.rest.now self.new.rest.now) }
+        ensures derived { IfOk result (λ e. Reads (λ ts. DerivesExpr 11 ts e) self.old.rest.now self.new.rest.now) }
+        ensures judged { (n : ℕ) → n ≤ 64 → Judges (Symbol.a_number n ∷ []) [] self.old.rest.now self.new.rest.now result }
     {
         let token = self.next()?;
         match token.word {
@@ -94,7 +102,8 @@ impl<'a> Cursor<'a> {
     // A name, with indices or without.
     #[cycle(expr)]
     fn named(&mut self, depth: u32) -> Result<Expr, Stop>
-        ensures { IfOk result (λ e. Reads (λ ts. DerivesExpr 11 ts e) self.old.rest.now self.new.rest.now) }
+        ensures derived { IfOk result (λ e. Reads (λ ts. DerivesExpr 11 ts e) self.old.rest.now self.new.rest.now) }
+        ensures judged { (n : ℕ) → n + depth ≡ 64 → Judges (Symbol.a_name n ∷ Symbol.indices n ∷ []) [] self.old.rest.now self.new.rest.now result }
     {
         let from = self.rest;
         let (name, _) = self.name()?;
@@ -115,7 +124,8 @@ impl<'a> Cursor<'a> {
     // A unary operator and its operand.
     #[cycle(expr)]
     fn signed(&mut self, depth: u32) -> Result<Expr, Stop>
-        ensures { IfOk result (λ e. Reads (λ ts. DerivesExpr 11 ts e) self.old.rest.now self.new.rest.now) }
+        ensures derived { IfOk result (λ e. Reads (λ ts. DerivesExpr 11 ts e) self.old.rest.now self.new.rest.now) }
+        ensures judged { (n : ℕ) → n + depth ≡ 64 → is_operand_at self.old.rest.now ≡ false → Judges (Symbol.expression n 11 ∷ []) [] self.old.rest.now self.new.rest.now result }
     {
         let from = self.rest;
         let (op, sign) = self.sign()?;
@@ -130,7 +140,8 @@ impl<'a> Cursor<'a> {
     // A cast and its operand.
     #[cycle(expr)]
     fn cast(&mut self, depth: u32) -> Result<Expr, Stop>
-        ensures { IfOk result (λ e. Reads (λ ts. DerivesExpr 11 ts e) self.old.rest.now self.new.rest.now) }
+        ensures derived { IfOk result (λ e. Reads (λ ts. DerivesExpr 11 ts e) self.old.rest.now self.new.rest.now) }
+        ensures judged { (n : ℕ) → n + depth ≡ 64 → Judges (Symbol.fixed (suc n) Fixed.opening ∷ Symbol.a_type (suc n) ∷ Symbol.fixed (suc n) Fixed.closing ∷ Symbol.expression (suc n) 11 ∷ []) [] self.old.rest.now self.new.rest.now result }
     {
         let from = self.rest;
         let open = self.mark(Mark::Open)?;
@@ -147,7 +158,8 @@ impl<'a> Cursor<'a> {
     /// An expression in parentheses.
     #[cycle(expr)]
     pub fn group(&mut self, depth: u32) -> Result<Expr, Stop>
-        ensures { IfOk result (λ e. Reads (λ ts. InParens ts e) self.old.rest.now self.new.rest.now) }
+        ensures derived { IfOk result (λ e. Reads (λ ts. InParens ts e) self.old.rest.now self.new.rest.now) }
+        ensures judged { (n : ℕ) → n + depth ≡ 64 → Judges (in_group (suc n) []) [] self.old.rest.now self.new.rest.now result }
     {
         let open = self.mark(Mark::Open)?;
         let depth = deeper(depth, open)?;
@@ -159,7 +171,8 @@ impl<'a> Cursor<'a> {
     // An index in brackets.
     #[cycle(expr)]
     fn index(&mut self, depth: u32) -> Result<Expr, Stop>
-        ensures { IfOk result (λ e. Reads (λ ts. InBrackets ts e) self.old.rest.now self.new.rest.now) }
+        ensures derived { IfOk result (λ e. Reads (λ ts. InBrackets ts e) self.old.rest.now self.new.rest.now) }
+        ensures judged { (n : ℕ) → n + depth ≡ 64 → mark_at self.old.rest.now ≡ Some mark.OpenBracket → Judges (Symbol.indices n ∷ []) (Symbol.indices n ∷ []) self.old.rest.now self.new.rest.now result }
     {
         let open = self.mark(Mark::OpenBracket)?;
         let depth = deeper(depth, open)?;
@@ -171,7 +184,8 @@ impl<'a> Cursor<'a> {
     /// All indices in brackets that come next.
     #[cycle(expr)]
     pub fn indices(&mut self, depth: u32) -> Result<List<Expr>, Stop>
-        ensures { IfOk result (λ es. Reads (λ ts. DerivesIndices ts es) self.old.rest.now self.new.rest.now) }
+        ensures derived { IfOk result (λ es. Reads (λ ts. DerivesIndices ts es) self.old.rest.now self.new.rest.now) }
+        ensures judged { (n : ℕ) → n + depth ≡ 64 → Judges (Symbol.indices n ∷ []) [] self.old.rest.now self.new.rest.now result }
     {
         let mut indices = List::new(self.alloc);
         'brackets: while self.is_at(Mark::OpenBracket) {
@@ -184,7 +198,9 @@ impl<'a> Cursor<'a> {
 
 // Whether a cast begins here, where a parenthesis does.
 impl<'a> Cursor<'a> {
-    fn is_at_cast(&self) -> bool {
+    fn is_at_cast(&self) -> bool
+        ensures { result ≡ is_type_behind self.now.rest.now }
+    {
         match self.rest.get(1) {
             None => false,
             Some(token) => match token.word {

@@ -1,11 +1,14 @@
 //! Kernels.
-ghost use Rattle.std.specs.Prelude.{◌≡◌, ◌≤◌, ℕ, IfOk, IfErr, Err};
-ghost use Rattle.el_base.specs.declared.span.Span.{Span};
+ghost use Rattle.std.specs.Prelude.{◌≡◌, ◌≤◌, ℕ, List, [], ◌∷◌, IfOk, IfErr};
+ghost use Rattle.c_ast.specs.declared.token.Token.{Token};
+ghost use Rattle.c_ast.specs.declared.tree.Tree.{Tree};
 ghost use Rattle.c_ast.specs.Derives.{DerivesResult, Derives};
 ghost use Rattle.c_ast.specs.Nodes.{tree_nodes};
 ghost use Rattle.c_parse.specs.Reads.{Reads};
-ghost use Rattle.c_parse.specs.Refusals.{refusal_of, IsLarge, IsTooLarge};
-ghost use Rattle.c_parse.specs.declared.refusal.ParseRefusal.TheVariants as refusal;
+ghost use Rattle.c_parse.specs.Symbols.{Symbol, kernel_symbols};
+ghost use Rattle.c_parse.specs.Traces.{Verdict, judge};
+ghost use Rattle.c_parse.specs.Verdicts.{Tells, Judges};
+ghost use Rattle.c_parse.specs.Refusals.{refusal_of, IsLarge, Says, IsOnly};
 
 use crate::cursor::Cursor;
 use crate::refusal::{ParseRefusal, Stop};
@@ -18,18 +21,19 @@ const MOST_NESTED: u32 = 64;
 /// The most syntax nodes of a kernel.
 const MOST_NODES: u64 = 1024;
 
-/// The syntax tree of a kernel text, whose tokens these are; `end` is the place after the text's last byte.
+/// The syntax tree of a kernel text (ISO/IEC 9899:1999 6.5, 6.7, 6.8, 6.9.1) whose tokens these are; `end` is the
+/// place after the text's last byte.
 ///
-/// Linear in the number of tokens.
+/// At none of its tokens more than 64 constructs nest, and it has at most 1,024 nodes. Linear in the number of tokens.
 ///
 /// # Errors
 ///
-/// [`ParseRefusal`] where the tokens are no kernel text within the limits, or memory is wanting.
+/// `Unexpected` at the first token with which no kernel text goes on; `EndOfText` where the tokens begin a kernel text
+/// and are none; `TooDeep` at the first token that belongs to more than 64 constructs; `TooLarge` where the tokens are
+/// a kernel text with more than 1,024 nodes. `Memory` where memory ran out.
 pub fn parse(alloc: Global, tokens: &[Token], end: Span) -> Result<Tree, ParseRefusal>
-    ensures derived { IfOk result (λ tree. Derives tokens.now tree) }
-    ensures small { IfOk result (λ tree. tree_nodes tree ≤ 1024) }
-    ensures end_of_text { (at : Span) → result ≡ Err (refusal.EndOfText at) → at ≡ end }
-    ensures too_large { (at : Span) (n : ℕ) → result ≡ Err (refusal.TooLarge at n) → IsTooLarge tokens.now at n }
+    ensures says { Says tokens.now end result }
+    ensures only { IsOnly tokens.now end result }
 {
     let mut cursor = Cursor {
         alloc,
@@ -40,6 +44,11 @@ pub fn parse(alloc: Global, tokens: &[Token], end: Span) -> Result<Tree, ParseRe
         Err(stop) => Err(refused(stop, end)),
     }
 }
+
+/// A list of tokens has one tree at most, whatever its size.
+pub fn tokens_have_one_tree()
+    ensures { (tokens : List Token) (a b : Tree) → Derives tokens a → Derives tokens b → a ≡ b }
+{}
 
 // A tree that is not too large.
 fn limited(tree: Tree) -> Result<Tree, ParseRefusal>
@@ -72,7 +81,9 @@ fn refused(stop: Stop, end: Span) -> ParseRefusal
 impl<'a> Cursor<'a> {
     // A kernel, after which nothing comes.
     fn whole(&mut self) -> Result<Tree, Stop>
-        ensures { IfOk result (λ tree. Derives self.old.rest.now tree) }
+        ensures derived { IfOk result (λ tree. Derives self.old.rest.now tree) }
+        ensures whole { IfOk result (λ _. judge kernel_symbols self.old.rest.now ≡ Verdict.whole) }
+        ensures told { IfErr result (λ e. Tells e (judge kernel_symbols self.old.rest.now)) }
     {
         let tree = self.kernel()?;
         if !self.rest.is_empty() {
@@ -83,7 +94,8 @@ impl<'a> Cursor<'a> {
 
     // A kernel.
     fn kernel(&mut self) -> Result<Tree, Stop>
-        ensures { IfOk result (λ tree. Reads (λ ts. Derives ts tree) self.old.rest.now self.new.rest.now) }
+        ensures derived { IfOk result (λ tree. Reads (λ ts. Derives ts tree) self.old.rest.now self.new.rest.now) }
+        ensures judged { Judges kernel_symbols [] self.old.rest.now self.new.rest.now result }
     {
         let result = self.result()?;
         let (name, at) = self.name()?;
@@ -102,10 +114,10 @@ impl<'a> Cursor<'a> {
 
     // The type of the result, or `void`.
     fn result(&mut self) -> Result<Option<Ty>, Stop>
-        ensures { IfOk result (λ r. Reads (λ ts. DerivesResult ts r) self.old.rest.now self.new.rest.now) }
+        ensures derived { IfOk result (λ r. Reads (λ ts. DerivesResult ts r) self.old.rest.now self.new.rest.now) }
+        ensures judged { (n : ℕ) → n ≤ 64 → Judges (Symbol.result n ∷ []) [] self.old.rest.now self.new.rest.now result }
     {
-        if matches!(self.next_key(), Some(Key::Void)) {
-            self.key(Key::Void)?;
+        if let Some(_) = self.take_key(Key::Void) {
             return Ok(None);
         }
         let ty = self.ty()?;

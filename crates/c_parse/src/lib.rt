@@ -21,5 +21,5 @@ mod test_vectors;
 mod tests;
 mod types;
 
-pub use kernel::parse;
+pub use kernel::{parse, tokens_have_one_tree};
 pub use refusal::ParseRefusal;

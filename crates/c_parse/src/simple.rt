@@ -1,8 +1,13 @@
 //! Assignments, steps and declarations.
-ghost use Rattle.std.specs.Prelude.{◌≡◌, IfOk, List};
+ghost use Rattle.std.specs.Prelude.{◌≡◌, ◌+◌, ℕ, List, [], ◌∷◌, None, IfOk};
 ghost use Rattle.c_ast.specs.declared.token.Token.{Token};
 ghost use Rattle.c_ast.specs.Derives.{DerivesTarget, DerivesSimple, DerivesDeclared, DerivesDeclaration};
 ghost use Rattle.c_parse.specs.Reads.{Reads, Adds};
+ghost use Rattle.c_parse.specs.Tables.{step_of};
+ghost use Rattle.c_parse.specs.Stops.{meaning_at};
+ghost use Rattle.c_parse.specs.Symbols.{Symbol, declarators};
+ghost use Rattle.c_parse.specs.Parts.{target_symbols};
+ghost use Rattle.c_parse.specs.Verdicts.{Judges};
 
 use crate::cursor::{Cursor, place};
 use crate::refusal::Stop;
@@ -11,7 +16,8 @@ use c_ast::{List, Mark, Stmt, StmtKind, Target, Ty};
 impl<'a> Cursor<'a> {
     // What is assigned to.
     fn target(&mut self, depth: u32) -> Result<Target, Stop>
-        ensures { IfOk result (λ t. Reads (λ ts. DerivesTarget ts t) self.old.rest.now self.new.rest.now) }
+        ensures derived { IfOk result (λ t. Reads (λ ts. DerivesTarget ts t) self.old.rest.now self.new.rest.now) }
+        ensures judged { (n : ℕ) → n + depth ≡ 64 → Judges (target_symbols n) [] self.old.rest.now self.new.rest.now result }
     {
         let from = self.rest;
         let (name, _) = self.name()?;
@@ -25,18 +31,22 @@ impl<'a> Cursor<'a> {
 
     /// An assignment or a step.
     pub fn simple(&mut self, depth: u32) -> Result<Stmt, Stop>
-        ensures { IfOk result (λ s. Reads (λ ts. DerivesSimple ts s) self.old.rest.now self.new.rest.now) }
+        ensures derived { IfOk result (λ s. Reads (λ ts. DerivesSimple ts s) self.old.rest.now self.new.rest.now) }
+        ensures judged { (n : ℕ) → n + depth ≡ 64 → Judges (Symbol.simple n ∷ []) [] self.old.rest.now self.new.rest.now result }
     {
-        match self.next_mark() {
-            Some(Mark::Increment) => self.step_before(depth),
-            Some(Mark::Decrement) => self.step_before(depth),
-            _ => self.after_target(depth),
+        if self.is_at(Mark::Increment) {
+            return self.step_before(depth);
         }
+        if self.is_at(Mark::Decrement) {
+            return self.step_before(depth);
+        }
+        self.after_target(depth)
     }
 
     // A step whose mark comes first.
     fn step_before(&mut self, depth: u32) -> Result<Stmt, Stop>
-        ensures { IfOk result (λ s. Reads (λ ts. DerivesSimple ts s) self.old.rest.now self.new.rest.now) }
+        ensures derived { IfOk result (λ s. Reads (λ ts. DerivesSimple ts s) self.old.rest.now self.new.rest.now) }
+        ensures judged { (n : ℕ) → n + depth ≡ 64 → (meaning_at step_of self.old.rest.now ≡ None → ⊥) → Judges (Symbol.simple n ∷ []) [] self.old.rest.now self.new.rest.now result }
     {
         let from = self.rest;
         let up = self.step()?;
@@ -49,7 +59,8 @@ impl<'a> Cursor<'a> {
 
     // An assignment, or a step whose mark comes last.
     fn after_target(&mut self, depth: u32) -> Result<Stmt, Stop>
-        ensures { IfOk result (λ s. Reads (λ ts. DerivesSimple ts s) self.old.rest.now self.new.rest.now) }
+        ensures derived { IfOk result (λ s. Reads (λ ts. DerivesSimple ts s) self.old.rest.now self.new.rest.now) }
+        ensures judged { (n : ℕ) → n + depth ≡ 64 → meaning_at step_of self.old.rest.now ≡ None → Judges (Symbol.simple n ∷ []) [] self.old.rest.now self.new.rest.now result }
     {
         let from = self.rest;
         let target = self.target(depth)?;
@@ -69,7 +80,8 @@ impl<'a> Cursor<'a> {
 
     // One declared name.
     fn declared(&mut self, ty: Ty, depth: u32) -> Result<Stmt, Stop>
-        ensures { IfOk result (λ s. Reads (λ ts. DerivesDeclared ty ts s) self.old.rest.now self.new.rest.now) }
+        ensures derived { IfOk result (λ s. Reads (λ ts. DerivesDeclared ty ts s) self.old.rest.now self.new.rest.now) }
+        ensures judged { (n : ℕ) → n + depth ≡ 64 → Judges (Symbol.declared n ∷ []) [] self.old.rest.now self.new.rest.now result }
     {
         let (name, at) = self.name()?;
         if !self.is_at(Mark::Assign) {
@@ -96,7 +108,8 @@ impl<'a> Cursor<'a> {
 
     /// A declaration; each declared name is added to the statements.
     pub fn declaration(&mut self, depth: u32, into: &mut List<Stmt>) -> Result<(), Stop>
-        ensures { IfOk result (λ _. Adds (λ ts ss. DerivesDeclaration ts ss) self.old.rest.now self.new.rest.now into.old into.new) }
+        ensures derived { IfOk result (λ _. Adds (λ ts ss. DerivesDeclaration ts ss) self.old.rest.now self.new.rest.now into.old into.new) }
+        ensures judged { (n : ℕ) → n + depth ≡ 64 → Judges (Symbol.a_type n ∷ declarators n) [] self.old.rest.now self.new.rest.now result }
     {
         let ty = self.ty()?;
         let first = self.declared(ty, depth)?;

@@ -1,8 +1,13 @@
 //! Statements.
-ghost use Rattle.std.specs.Prelude.{◌≡◌, ◌<◌, IfOk, List, Some, length};
+ghost use Rattle.std.specs.Prelude.{◌≡◌, ◌<◌, ◌≤◌, ◌+◌, ℕ, suc, List, [], ◌∷◌, length, Some, None, IfOk};
+ghost use Rattle.c_ast.specs.declared.key.Key.TheVariants as key;
+ghost use Rattle.c_ast.specs.declared.mark.Mark.TheVariants as mark;
 ghost use Rattle.c_ast.specs.declared.token.Token.{Token};
 ghost use Rattle.c_ast.specs.Derives.{DerivesExpr, DerivesFirst, DerivesOption, DerivesStep, DerivesItems};
-ghost use Rattle.c_parse.specs.Reads.{Reads, Adds, ReadsStmt, InParens, InBraces, DerivesHead};
+ghost use Rattle.c_parse.specs.Reads.{Reads, Adds, ReadsStmt, InParens, InBraces, DerivesHead, mark_at, key_at};
+ghost use Rattle.c_parse.specs.Symbols.{Symbol, Fixed};
+ghost use Rattle.c_parse.specs.Parts.{braced_symbols, head_symbols};
+ghost use Rattle.c_parse.specs.Verdicts.{Judges};
 
 use crate::cursor::{Cursor, deeper, place};
 use crate::refusal::Stop;
@@ -20,37 +25,53 @@ impl<'a> Cursor<'a> {
     // A statement.
     #[cycle(stmt)]
     fn stmt(&mut self, depth: u32) -> Result<Stmt, Stop>
-        ensures { IfOk result (λ s. ReadsStmt s self.old.rest.now self.new.rest.now) }
+        ensures derived { IfOk result (λ s. ReadsStmt s self.old.rest.now self.new.rest.now) }
+        ensures judged { (n : ℕ) → n + depth ≡ 64 → Judges (Symbol.statement n ∷ []) [] self.old.rest.now self.new.rest.now result }
     {
-        match self.next_mark() {
-            Some(Mark::OpenBrace) => self.block(depth),
-            Some(Mark::Semicolon) => self.empty(),
-            _ => self.worded(depth),
+        if self.is_at(Mark::OpenBrace) {
+            return self.block(depth);
         }
+        if self.is_at(Mark::Semicolon) {
+            return self.empty();
+        }
+        self.worded(depth)
     }
 
     // A statement that begins with a word or a step.
     #[cycle(stmt)]
     fn worded(&mut self, depth: u32) -> Result<Stmt, Stop>
-        ensures { IfOk result (λ s. ReadsStmt s self.old.rest.now self.new.rest.now) }
+        ensures derived { IfOk result (λ s. ReadsStmt s self.old.rest.now self.new.rest.now) }
+        ensures judged { (n : ℕ) → n + depth ≡ 64 → (mark_at self.old.rest.now ≡ Some mark.OpenBrace → ⊥) → (mark_at self.old.rest.now ≡ Some mark.Semicolon → ⊥) → Judges (Symbol.statement n ∷ []) [] self.old.rest.now self.new.rest.now result }
     {
         match self.next_key() {
             None => self.simple_stmt(depth),
-            Some(Key::If) => self.if_stmt(depth),
-            Some(Key::While) => self.while_stmt(depth),
-            Some(Key::Do) => self.do_stmt(depth),
-            Some(Key::For) => self.for_stmt(depth),
-            Some(Key::Break) => self.break_stmt(),
-            Some(Key::Continue) => self.continue_stmt(),
-            Some(Key::Return) => self.return_stmt(depth),
-            Some(_) => Err(self.refusal()),
+            Some(key) => self.keyed(key, depth),
+        }
+    }
+
+    // A statement that begins with this reserved word.
+    #[cycle(stmt)]
+    fn keyed(&mut self, key: Key, depth: u32) -> Result<Stmt, Stop>
+        ensures derived { IfOk result (λ s. ReadsStmt s self.old.rest.now self.new.rest.now) }
+        ensures judged { (n : ℕ) → n + depth ≡ 64 → key_at self.old.rest.now ≡ Some key → Judges (Symbol.statement n ∷ []) [] self.old.rest.now self.new.rest.now result }
+    {
+        match key {
+            Key::If => self.if_stmt(depth),
+            Key::While => self.while_stmt(depth),
+            Key::Do => self.do_stmt(depth),
+            Key::For => self.for_stmt(depth),
+            Key::Break => self.break_stmt(),
+            Key::Continue => self.continue_stmt(),
+            Key::Return => self.return_stmt(depth),
+            _ => Err(self.refusal()),
         }
     }
 
     // A block.
     #[cycle(stmt)]
     fn block(&mut self, depth: u32) -> Result<Stmt, Stop>
-        ensures { IfOk result (λ s. ReadsStmt s self.old.rest.now self.new.rest.now) }
+        ensures derived { IfOk result (λ s. ReadsStmt s self.old.rest.now self.new.rest.now) }
+        ensures judged { (n : ℕ) → n + depth ≡ 64 → mark_at self.old.rest.now ≡ Some mark.OpenBrace → Judges (Symbol.statement n ∷ []) [] self.old.rest.now self.new.rest.now result }
     {
         let from = self.rest;
         let body = self.braced(depth)?;
@@ -63,7 +84,8 @@ impl<'a> Cursor<'a> {
     /// Declarations and statements in braces.
     #[cycle(stmt)]
     pub fn braced(&mut self, depth: u32) -> Result<List<Stmt>, Stop>
-        ensures { IfOk result (λ ss. Reads (λ ts. InBraces ts ss) self.old.rest.now self.new.rest.now) }
+        ensures derived { IfOk result (λ ss. Reads (λ ts. InBraces ts ss) self.old.rest.now self.new.rest.now) }
+        ensures judged { (n : ℕ) → n + depth ≡ 64 → Judges (braced_symbols (suc n)) [] self.old.rest.now self.new.rest.now result }
     {
         let open = self.mark(Mark::OpenBrace)?;
         let depth = deeper(depth, open)?;
@@ -80,6 +102,7 @@ impl<'a> Cursor<'a> {
     fn item(&mut self, depth: u32, body: &mut List<Stmt>) -> Result<(), Stop>
         ensures added { IfOk result (λ _. Adds (λ ts ss. DerivesItems ts ss) self.old.rest.now self.new.rest.now body.old body.new) }
         ensures shorter { IfOk result (λ _. length self.new.rest.now < length self.old.rest.now) }
+        ensures judged { (n : ℕ) → n + depth ≡ 64 → (mark_at self.old.rest.now ≡ Some mark.CloseBrace → ⊥) → Judges (Symbol.body n ∷ []) (Symbol.body n ∷ []) self.old.rest.now self.new.rest.now result }
     {
         if self.is_at_type() {
             return self.declaration(depth, body);
@@ -91,7 +114,8 @@ impl<'a> Cursor<'a> {
 
     // The empty statement.
     fn empty(&mut self) -> Result<Stmt, Stop>
-        ensures { IfOk result (λ s. ReadsStmt s self.old.rest.now self.new.rest.now) }
+        ensures derived { IfOk result (λ s. ReadsStmt s self.old.rest.now self.new.rest.now) }
+        ensures judged { (n : ℕ) → n ≤ 64 → mark_at self.old.rest.now ≡ Some mark.Semicolon → Judges (Symbol.statement n ∷ []) [] self.old.rest.now self.new.rest.now result }
     {
         let at = self.mark(Mark::Semicolon)?;
         Ok(Stmt {
@@ -102,7 +126,8 @@ impl<'a> Cursor<'a> {
 
     // An assignment or a step, with its semicolon.
     fn simple_stmt(&mut self, depth: u32) -> Result<Stmt, Stop>
-        ensures { IfOk result (λ s. ReadsStmt s self.old.rest.now self.new.rest.now) }
+        ensures derived { IfOk result (λ s. ReadsStmt s self.old.rest.now self.new.rest.now) }
+        ensures judged { (n : ℕ) → n + depth ≡ 64 → key_at self.old.rest.now ≡ None → (mark_at self.old.rest.now ≡ Some mark.OpenBrace → ⊥) → (mark_at self.old.rest.now ≡ Some mark.Semicolon → ⊥) → Judges (Symbol.statement n ∷ []) [] self.old.rest.now self.new.rest.now result }
     {
         let stmt = self.simple(depth)?;
         self.mark(Mark::Semicolon)?;
@@ -111,7 +136,8 @@ impl<'a> Cursor<'a> {
 
     #[cycle(stmt)]
     fn if_stmt(&mut self, depth: u32) -> Result<Stmt, Stop>
-        ensures { IfOk result (λ s. ReadsStmt s self.old.rest.now self.new.rest.now) }
+        ensures derived { IfOk result (λ s. ReadsStmt s self.old.rest.now self.new.rest.now) }
+        ensures judged { (n : ℕ) → n + depth ≡ 64 → key_at self.old.rest.now ≡ Some key.If → Judges (Symbol.statement n ∷ []) [] self.old.rest.now self.new.rest.now result }
     {
         let from = self.rest;
         let word = self.key(Key::If)?;
@@ -144,7 +170,8 @@ impl<'a> Cursor<'a> {
 
     #[cycle(stmt)]
     fn while_stmt(&mut self, depth: u32) -> Result<Stmt, Stop>
-        ensures { IfOk result (λ s. ReadsStmt s self.old.rest.now self.new.rest.now) }
+        ensures derived { IfOk result (λ s. ReadsStmt s self.old.rest.now self.new.rest.now) }
+        ensures judged { (n : ℕ) → n + depth ≡ 64 → key_at self.old.rest.now ≡ Some key.While → Judges (Symbol.statement n ∷ []) [] self.old.rest.now self.new.rest.now result }
     {
         let from = self.rest;
         let word = self.key(Key::While)?;
@@ -160,7 +187,8 @@ impl<'a> Cursor<'a> {
 
     #[cycle(stmt)]
     fn do_stmt(&mut self, depth: u32) -> Result<Stmt, Stop>
-        ensures { IfOk result (λ s. ReadsStmt s self.old.rest.now self.new.rest.now) }
+        ensures derived { IfOk result (λ s. ReadsStmt s self.old.rest.now self.new.rest.now) }
+        ensures judged { (n : ℕ) → n + depth ≡ 64 → key_at self.old.rest.now ≡ Some key.Do → Judges (Symbol.statement n ∷ []) [] self.old.rest.now self.new.rest.now result }
     {
         let from = self.rest;
         let word = self.key(Key::Do)?;
@@ -179,7 +207,8 @@ impl<'a> Cursor<'a> {
 
     #[cycle(stmt)]
     fn for_stmt(&mut self, depth: u32) -> Result<Stmt, Stop>
-        ensures { IfOk result (λ s. ReadsStmt s self.old.rest.now self.new.rest.now) }
+        ensures derived { IfOk result (λ s. ReadsStmt s self.old.rest.now self.new.rest.now) }
+        ensures judged { (n : ℕ) → n + depth ≡ 64 → key_at self.old.rest.now ≡ Some key.For → Judges (Symbol.statement n ∷ []) [] self.old.rest.now self.new.rest.now result }
     {
         let from = self.rest;
         let word = self.key(Key::For)?;
@@ -200,7 +229,8 @@ impl<'a> Cursor<'a> {
 
     // What stands between the parentheses of a `for`, with them.
     fn head(&mut self, depth: u32) -> Result<Head, Stop>
-        ensures { IfOk result (λ h. Reads (λ ts. DerivesHead ts h.first h.cond h.step) self.old.rest.now self.new.rest.now) }
+        ensures derived { IfOk result (λ h. Reads (λ ts. DerivesHead ts h.first h.cond h.step) self.old.rest.now self.new.rest.now) }
+        ensures judged { (n : ℕ) → n + depth ≡ 64 → Judges (head_symbols (suc n)) [] self.old.rest.now self.new.rest.now result }
     {
         let open = self.mark(Mark::Open)?;
         let depth = deeper(depth, open)?;
@@ -214,7 +244,8 @@ impl<'a> Cursor<'a> {
 
     // The first part of a `for`, with its semicolon.
     fn first(&mut self, depth: u32) -> Result<List<Stmt>, Stop>
-        ensures { IfOk result (λ ss. Reads (λ ts. DerivesFirst ts ss) self.old.rest.now self.new.rest.now) }
+        ensures derived { IfOk result (λ ss. Reads (λ ts. DerivesFirst ts ss) self.old.rest.now self.new.rest.now) }
+        ensures judged { (n : ℕ) → n + depth ≡ 64 → Judges (Symbol.first n ∷ []) [] self.old.rest.now self.new.rest.now result }
     {
         let mut stmts = List::new(self.alloc);
         if self.is_at_type() {
@@ -233,7 +264,8 @@ impl<'a> Cursor<'a> {
 
     // An expression before a semicolon, if there is one.
     fn optional(&mut self, depth: u32) -> Result<Option<Expr>, Stop>
-        ensures { IfOk result (λ e. Reads (λ ts. DerivesOption ts e) self.old.rest.now self.new.rest.now) }
+        ensures derived { IfOk result (λ e. Reads (λ ts. DerivesOption ts e) self.old.rest.now self.new.rest.now) }
+        ensures judged { (n : ℕ) → n + depth ≡ 64 → Judges (Symbol.condition n ∷ []) (Symbol.fixed n Fixed.semicolon ∷ []) self.old.rest.now self.new.rest.now result }
     {
         if self.is_at(Mark::Semicolon) {
             return Ok(None);
@@ -244,7 +276,8 @@ impl<'a> Cursor<'a> {
 
     // The last part of a `for`, if there is one.
     fn last_part(&mut self, depth: u32) -> Result<Option<Boxed<Stmt>>, Stop>
-        ensures { IfOk result (λ s. Reads (λ ts. DerivesStep ts s) self.old.rest.now self.new.rest.now) }
+        ensures derived { IfOk result (λ s. Reads (λ ts. DerivesStep ts s) self.old.rest.now self.new.rest.now) }
+        ensures judged { (n : ℕ) → n + depth ≡ 64 → Judges (Symbol.last n ∷ []) (Symbol.fixed n Fixed.closing ∷ []) self.old.rest.now self.new.rest.now result }
     {
         if self.is_at(Mark::Close) {
             return Ok(None);
@@ -254,7 +287,8 @@ impl<'a> Cursor<'a> {
     }
 
     fn break_stmt(&mut self) -> Result<Stmt, Stop>
-        ensures { IfOk result (λ s. ReadsStmt s self.old.rest.now self.new.rest.now) }
+        ensures derived { IfOk result (λ s. ReadsStmt s self.old.rest.now self.new.rest.now) }
+        ensures judged { (n : ℕ) → n ≤ 64 → key_at self.old.rest.now ≡ Some key.Break → Judges (Symbol.statement n ∷ []) [] self.old.rest.now self.new.rest.now result }
     {
         let at = self.key(Key::Break)?;
         self.mark(Mark::Semicolon)?;
@@ -265,7 +299,8 @@ impl<'a> Cursor<'a> {
     }
 
     fn continue_stmt(&mut self) -> Result<Stmt, Stop>
-        ensures { IfOk result (λ s. ReadsStmt s self.old.rest.now self.new.rest.now) }
+        ensures derived { IfOk result (λ s. ReadsStmt s self.old.rest.now self.new.rest.now) }
+        ensures judged { (n : ℕ) → n ≤ 64 → key_at self.old.rest.now ≡ Some key.Continue → Judges (Symbol.statement n ∷ []) [] self.old.rest.now self.new.rest.now result }
     {
         let at = self.key(Key::Continue)?;
         self.mark(Mark::Semicolon)?;
@@ -276,7 +311,8 @@ impl<'a> Cursor<'a> {
     }
 
     fn return_stmt(&mut self, depth: u32) -> Result<Stmt, Stop>
-        ensures { IfOk result (λ s. ReadsStmt s self.old.rest.now self.new.rest.now) }
+        ensures derived { IfOk result (λ s. ReadsStmt s self.old.rest.now self.new.rest.now) }
+        ensures judged { (n : ℕ) → n + depth ≡ 64 → key_at self.old.rest.now ≡ Some key.Return → Judges (Symbol.statement n ∷ []) [] self.old.rest.now self.new.rest.now result }
     {
         let from = self.rest;
         self.key(Key::Return)?;

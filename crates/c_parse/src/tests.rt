@@ -1,5 +1,5 @@
 ghost use Rattle.el_base.specs.declared.span.Span.{Span};
-ghost use Rattle.c_parse.specs.Sample.{SampleNests};
+ghost use Rattle.c_parse.specs.Sample.{SampleNests, SampleRefuses};
 
 use crate::test_rows::{KERNELS, NESTED, OPERATORS, READ, REFUSED, UNDECLARED};
 use crate::test_text::{answer, parsed, tokens, tree};
@@ -8,54 +8,61 @@ use c_ast::{Binary, Expr, ExprKind, Span, Stmt, StmtKind, Tree, nodes};
 use std::alloc::Global;
 use std::test::Fail;
 
-// The worked example of the nesting.
-fn nests_as_worked_out()
-    ensures { (s : Span) → SampleNests s }
+// The worked examples of the nesting and of refusals.
+fn tells_as_worked_out()
+    ensures nests { (s : Span) → SampleNests s }
+    ensures refuses { (s z : Span) → SampleRefuses s z }
 {}
 
-#[test]
-fn answers_for_kernels(rt: HostRuntime) -> Result<(), Fail> {
-    nests_as_worked_out();
-    for (text, want) in KERNELS {
-        let got = answer(rt.alloc(), text.as_bytes())?;
-        assert_eq!(rt; got.as_str(), want, "{text}");
-    }
-    for (text, want) in VECTORS {
-        let got = answer(rt.alloc(), text.as_bytes())?;
-        assert!(rt; got.starts_with(want), "{text} gives {got}");
-    }
-    Ok(())
-}
-
-// The first of these statements that gives something else, and what it gives.
-fn wrong(alloc: Global, rows: &[(&str, &str)]) -> Result<Option<String>, Fail> {
-    for (statement, want) in rows {
-        let text = format!(in alloc; "void f(void) {{ {statement} }}")?;
+// The first row whose text, with this before and behind it, gives something else, and what it gives.
+fn wrong(
+    alloc: Global,
+    before: &str,
+    rows: &[(&str, &str)],
+    behind: &str,
+) -> Result<Option<String>, Fail> {
+    for (part, want) in rows {
+        let text = format!(in alloc; "{before}{part}{behind}")?;
         let got = answer(alloc, text.as_bytes())?;
         if got.as_str() != *want {
-            return Ok(Some(format!(in alloc; "{statement} gives {got}")?));
+            return Ok(Some(format!(in alloc; "{text} gives {got}")?));
         }
     }
     Ok(None)
 }
 
 #[test]
+fn answers_for_kernels(rt: HostRuntime) -> Result<(), Fail> {
+    tells_as_worked_out();
+    let wrong = wrong(rt.alloc(), "", &KERNELS, "")?;
+    assert!(rt; wrong.is_none(), "{wrong:?}");
+    Ok(())
+}
+
+#[test]
+fn answers_for_given_kernels(rt: HostRuntime) -> Result<(), Fail> {
+    let wrong = wrong(rt.alloc(), "", &VECTORS, "")?;
+    assert!(rt; wrong.is_none(), "{wrong:?}");
+    Ok(())
+}
+
+#[test]
 fn reads_statements(rt: HostRuntime) -> Result<(), Fail> {
-    let wrong = wrong(rt.alloc(), &READ)?;
+    let wrong = wrong(rt.alloc(), "void f(void) { ", &READ, " }")?;
     assert!(rt; wrong.is_none(), "{wrong:?}");
     Ok(())
 }
 
 #[test]
 fn refuses_statements(rt: HostRuntime) -> Result<(), Fail> {
-    let wrong = wrong(rt.alloc(), &REFUSED)?;
+    let wrong = wrong(rt.alloc(), "void f(void) { ", &REFUSED, " }")?;
     assert!(rt; wrong.is_none(), "{wrong:?}");
     Ok(())
 }
 
 #[test]
 fn refuses_declarations(rt: HostRuntime) -> Result<(), Fail> {
-    let wrong = wrong(rt.alloc(), &UNDECLARED)?;
+    let wrong = wrong(rt.alloc(), "void f(void) { ", &UNDECLARED, " }")?;
     assert!(rt; wrong.is_none(), "{wrong:?}");
     Ok(())
 }

@@ -1,8 +1,11 @@
 //! Types.
-ghost use Rattle.std.specs.Prelude.{◌≡◌, IfOk};
+ghost use Rattle.std.specs.Prelude.{◌≡◌, ◌≤◌, ℕ, List, [], ◌∷◌, false, IfOk, IfErr};
 ghost use Rattle.c_ast.specs.Derives.{DerivesType};
-ghost use Rattle.c_parse.specs.Reads.{Reads, MaySkip};
-ghost use Rattle.c_parse.specs.Tables.{plain_type};
+ghost use Rattle.c_parse.specs.Reads.{Reads, MaySkip, NamesType};
+ghost use Rattle.c_parse.specs.Stops.{Refuses, is_type_at};
+ghost use Rattle.c_parse.specs.Symbols.{Symbol, is_type_word};
+ghost use Rattle.c_parse.specs.Tables.{plain_type, takes_int};
+ghost use Rattle.c_parse.specs.Verdicts.{Judges};
 
 use crate::cursor::Cursor;
 use crate::refusal::Stop;
@@ -28,9 +31,18 @@ pub fn plain_type(key: Key) -> Option<Ty>
     }
 }
 
+// Whether an `int` may follow the first word of a type.
+fn takes_int(key: Key) -> bool
+    ensures { result ≡ takes_int key }
+{
+    matches!(key, Key::Signed | Key::Unsigned)
+}
+
 impl<'a> Cursor<'a> {
     /// Whether a type comes next.
-    pub fn is_at_type(&self) -> bool {
+    pub fn is_at_type(&self) -> bool
+        ensures { result ≡ is_type_at self.now.rest.now }
+    {
         match self.next_key() {
             None => false,
             Some(key) => plain_type(key).is_some(),
@@ -39,33 +51,28 @@ impl<'a> Cursor<'a> {
 
     /// A type.
     pub fn ty(&mut self) -> Result<Ty, Stop>
-        ensures { IfOk result (λ t. Reads (λ ts. DerivesType ts t) self.old.rest.now self.new.rest.now) }
+        ensures derived { IfOk result (λ t. Reads (λ ts. DerivesType ts t) self.old.rest.now self.new.rest.now) }
+        ensures judged { (n : ℕ) → n ≤ 64 → Judges (Symbol.a_type n ∷ []) [] self.old.rest.now self.new.rest.now result }
     {
-        match self.next_key() {
-            Some(Key::Signed) => {
-                self.key(Key::Signed)?;
-                self.skip_int();
-                Ok(Ty::I32)
-            }
-            Some(Key::Unsigned) => {
-                self.key(Key::Unsigned)?;
-                self.skip_int();
-                Ok(Ty::U32)
-            }
-            _ => self.one_word_type(),
+        let (key, ty) = self.type_word()?;
+        if !takes_int(key) {
+            return Ok(ty);
         }
+        self.skip_int();
+        Ok(ty)
     }
 
-    // A type of one word.
-    fn one_word_type(&mut self) -> Result<Ty, Stop>
-        ensures { IfOk result (λ t. Reads (λ ts. DerivesType ts t) self.old.rest.now self.new.rest.now) }
+    // Goes past the first word of a type; also the type that it names by itself.
+    fn type_word(&mut self) -> Result<(Key, Ty), Stop>
+        ensures read { IfOk result (λ w. NamesType w.0 w.1 self.old.rest.now self.new.rest.now) }
+        ensures refused { IfErr result (λ e. Refuses (λ w. is_type_word w ≡ false) self.old.rest.now e) }
     {
         let token = self.next()?;
         let Word::Key(key) = token.word else {
             return Err(Stop::Unexpected { span: token.span });
         };
         match plain_type(key) {
-            Some(ty) => Ok(ty),
+            Some(ty) => Ok((key, ty)),
             None => Err(Stop::Unexpected { span: token.span }),
         }
     }
@@ -74,10 +81,6 @@ impl<'a> Cursor<'a> {
     fn skip_int(&mut self)
         ensures { MaySkip self.old.rest.now self.new.rest.now }
     {
-        if let Some((token, rest)) = self.rest.split_first() {
-            if let Word::Key(Key::Int) = token.word {
-                self.rest = rest;
-            }
-        }
+        self.take_key(Key::Int);
     }
 }

@@ -1,4 +1,3 @@
-use Rattle.std.proofs.Common.{rules, refl, sym, ap, ◌∙◌, arith}
 use Rattle.c_parse.proofs.Places.{place_between}
 use Rattle.c_parse.proofs.cursor.place.Goals as goal
 

@@ -1,19 +1,11 @@
-use Rattle.std.proofs.Common.{rules, refl, sym, ap, subst, ◌∙◌, arith}
-use Rattle.c_parse.proofs.KernelRules.{derived_as, large_not_end, too_large_of, end_of_refused, refused_not_large}
+use Rattle.c_parse.proofs.Determined.{only}
+use Rattle.c_parse.proofs.Answering.{refused_says, limited_says}
 use Rattle.c_parse.proofs.kernel.parse.Goals as goal
 
 pub returns-in-Ok : goal.returns-in-Ok
-returns-in-Ok c = record {
-  derived = derived_as _ _ _ c.in-Ok.ensures c.limited.ensures.same;
-  small = c.limited.ensures.small;
-  end_of_text = (λ at e. absurd (large_not_end _ at _ c.limited.ensures.large e));
-  too_large = (λ at n e. too_large_of _ _ at n _ c.in-Ok.ensures c.limited.ensures.large e);
-}
+returns-in-Ok c =
+    let said = limited_says _ _ _ _ c.in-Ok.ensures.derived c.in-Ok.ensures.whole c.limited.ensures.same c.limited.ensures.small c.limited.ensures.large in
+    record { says = said; only = only _ _ _ said }
 
 pub returns-in-Err : goal.returns-in-Err
-returns-in-Err c = record {
-  derived = search rules;
-  small = search rules;
-  end_of_text = (λ at e. end_of_refused _ at _ _ _ c.refused.ensures refl e);
-  too_large = (λ at n e. absurd (refused_not_large _ at n _ _ _ c.refused.ensures refl e));
-}
+returns-in-Err c = let said = refused_says _ _ _ _ c.refused.ensures c.in-Err.ensures.told in record { says = said; only = only _ _ _ said }

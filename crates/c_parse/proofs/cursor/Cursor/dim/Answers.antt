@@ -1,6 +1,10 @@
-use Rattle.std.proofs.Common.{rules, refl, sym, ap, ◌∙◌, arith}
+use Rattle.std.proofs.Common.{arith}
 use Rattle.c_parse.proofs.KernelRules.{reads_dim}
+use Rattle.c_parse.proofs.JudgedParts.{dim_closed}
 use Rattle.c_parse.proofs.cursor.Cursor.dim.Goals as goal
 
 pub returns : goal.returns
-returns c = reads_dim _ _ _ _ _ _ _ c.in_ok-mark.ensures c.in_ok-value.ensures c.in_ok-mark-2.ensures
+returns c = record {
+  derived = reads_dim _ _ _ _ _ _ _ c.in_ok-mark.ensures.read c.in_ok-value.ensures.read c.in_ok-mark-2.ensures.read;
+  judged = λ n small next. (dim_closed n _ _ _ _ _ _ _ (omega arith) c.in_ok-mark.ensures.read c.in_ok-value.ensures.read c.in_ok-mark-2.ensures.read).holds;
+}

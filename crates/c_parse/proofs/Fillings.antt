@@ -1,0 +1,245 @@
+-- Whatever symbols are expected, there are tokens that complete them.
+use Rattle.std.proofs.Common.{◌≡◌, ℕ, zero, suc, ◌-◌, List, [], ◌∷◌, ◌++◌, Bool, true, false, if◌then◌else◌, refl, ◌∙◌, ap}
+use Rattle.el_base.specs.declared.span.Span.{Span}
+use Rattle.el_base.specs.declared.ty.Ty.{Ty}
+use Rattle.el_base.specs.declared.ty.Ty.TheVariants.{I32}
+use Rattle.c_ast.specs.declared.token.Token.{Token}
+use Rattle.c_ast.specs.declared.token.Word.{Word}
+use Rattle.c_ast.specs.declared.token.Word.TheVariants as word
+use Rattle.c_ast.specs.declared.key.Key.TheVariants as key
+use Rattle.c_ast.specs.declared.mark.Mark.TheVariants as mark
+use Rattle.c_parse.specs.Symbols.{Symbol, Reduction, Fixed, Move, move, spelled, looser, tails, may_be_absent, maybe_int_move, operators_move, indices_move, value_move, more_declared_move, other_move, more_params_move, dims_move}
+use Rattle.c_parse.specs.Values.{Value, reduced}
+use Rattle.c_parse.specs.Traces.{Trace, settled, trace}
+use Rattle.c_parse.proofs.Tracing.{trace_passes}
+use Rattle.c_parse.proofs.Runs.{Runs, runs_join, runs_from, runs_to, runs_take}
+
+-- ---- tokens at which whatever may be absent is passed over
+
+pub data IsCalm : Word → Type 0 where
+  name : (x : List ℕ) → IsCalm (word.Name x)
+  number : (v : ℕ) (t : Ty) → IsCalm (word.Number v t)
+  int_8 : IsCalm (word.Key key.Int8)
+  void : IsCalm (word.Key key.Void)
+  increment : IsCalm (word.Mark mark.Increment)
+  closing_brace : IsCalm (word.Mark mark.CloseBrace)
+  fixed : (f : Fixed) → IsCalm (spelled f)
+
+calm_int : (n : ℕ) (w : Word) → IsCalm w → maybe_int_move n w ≡ Move.pass
+calm_int n w (IsCalm.fixed Fixed.opening) = refl
+calm_int n w (IsCalm.fixed f) = refl
+calm_int n w c = refl
+
+calm_operators : (n l : ℕ) (w : Word) → IsCalm w → operators_move n l w ≡ Move.pass
+calm_operators n zero w (IsCalm.fixed Fixed.opening) = refl
+calm_operators n zero w (IsCalm.fixed f) = refl
+calm_operators n zero w c = refl
+calm_operators n (suc l) w (IsCalm.fixed Fixed.opening) = refl
+calm_operators n (suc l) w (IsCalm.fixed f) = refl
+calm_operators n (suc l) w c = refl
+
+calm_indices : (n : ℕ) (w : Word) → IsCalm w → indices_move n w ≡ Move.pass
+calm_indices n w (IsCalm.fixed Fixed.opening) = refl
+calm_indices n w (IsCalm.fixed f) = refl
+calm_indices n w c = refl
+
+calm_value : (n : ℕ) (w : Word) → IsCalm w → value_move n w ≡ Move.pass
+calm_value n w (IsCalm.fixed Fixed.opening) = refl
+calm_value n w (IsCalm.fixed f) = refl
+calm_value n w c = refl
+
+calm_more_declared : (n : ℕ) (w : Word) → IsCalm w → more_declared_move n w ≡ Move.pass
+calm_more_declared n w (IsCalm.fixed Fixed.opening) = refl
+calm_more_declared n w (IsCalm.fixed f) = refl
+calm_more_declared n w c = refl
+
+calm_other : (n : ℕ) (w : Word) → IsCalm w → other_move n w ≡ Move.pass
+calm_other n w (IsCalm.fixed Fixed.opening) = refl
+calm_other n w (IsCalm.fixed f) = refl
+calm_other n w c = refl
+
+calm_more_params : (n : ℕ) (w : Word) → IsCalm w → more_params_move n w ≡ Move.pass
+calm_more_params n w (IsCalm.fixed Fixed.opening) = refl
+calm_more_params n w (IsCalm.fixed f) = refl
+calm_more_params n w c = refl
+
+calm_dims : (n : ℕ) (w : Word) → IsCalm w → dims_move n w ≡ Move.pass
+calm_dims n w (IsCalm.fixed Fixed.opening) = refl
+calm_dims n w (IsCalm.fixed f) = refl
+calm_dims n w c = refl
+
+calm_passes : (s : Symbol) (w : Word) → IsCalm w → may_be_absent s ≡ true → move s w ≡ Move.pass
+calm_passes (Symbol.maybe_int n) w c h = calm_int n w c
+calm_passes (Symbol.operators n l) w c h = calm_operators n l w c
+calm_passes (Symbol.indices n) w c h = calm_indices n w c
+calm_passes (Symbol.value n) w c h = calm_value n w c
+calm_passes (Symbol.more_declared n) w c h = calm_more_declared n w c
+calm_passes (Symbol.other n) w c h = calm_other n w c
+calm_passes (Symbol.more_params n) w c h = calm_more_params n w c
+calm_passes (Symbol.dims n) w c h = calm_dims n w c
+calm_passes (Symbol.reduce r) w c h = refl
+calm_passes s w c h = absurd (cc)
+
+-- tokens before which whatever may be absent is passed over
+abbrev Calm : List Token → Type 0
+Calm ts = (s : Symbol) (symbols : List Symbol) (vs : List Value) → may_be_absent s ≡ true → trace (s ∷ symbols) vs ts ≡ trace symbols (settled s vs) ts
+
+calm_end : Calm []
+calm_end s symbols vs h = ap (λ b. if b then trace symbols (settled s vs) [] else Trace.cut) h
+
+calm_before : (t : Token) (ts : List Token) → IsCalm t.word → Calm (t ∷ ts)
+calm_before t ts c s symbols vs h = trace_passes s symbols vs t ts (calm_passes s t.word c h)
+
+-- ---- symbols all of which may be absent
+
+data AllMayBeAbsent : List Symbol → Type 0 where
+  no_more : AllMayBeAbsent []
+  one_more : (s : Symbol) (symbols : List Symbol) → may_be_absent s ≡ true → AllMayBeAbsent symbols → AllMayBeAbsent (s ∷ symbols)
+
+abbrev settled_all : List Symbol → List Value → List Value
+settled_all [] vs = vs
+settled_all (s ∷ symbols) vs = settled_all symbols (settled s vs)
+
+calm_omits : (new symbols : List Symbol) (vs : List Value) (ts : List Token) → AllMayBeAbsent new → Calm ts → trace (new ++ symbols) vs ts ≡ trace symbols (settled_all new vs) ts
+calm_omits new symbols vs ts AllMayBeAbsent.no_more calm = refl
+calm_omits new symbols vs ts (AllMayBeAbsent.one_more s more h rest) calm = calm s (more ++ symbols) vs h ∙ calm_omits more symbols (settled s vs) ts rest calm
+
+one_behind : (symbols : List Symbol) (s : Symbol) → AllMayBeAbsent symbols → may_be_absent s ≡ true → AllMayBeAbsent (symbols ++ s ∷ [])
+one_behind symbols s AllMayBeAbsent.no_more h = AllMayBeAbsent.one_more s [] h AllMayBeAbsent.no_more
+one_behind symbols s (AllMayBeAbsent.one_more u more k rest) h = AllMayBeAbsent.one_more u (more ++ s ∷ []) k (one_behind more s rest h)
+
+looser_absent : (n k : ℕ) → AllMayBeAbsent (looser n k)
+looser_absent n zero = AllMayBeAbsent.no_more
+looser_absent n (suc k) = one_behind (looser n k) (Symbol.operators n (10 - k)) (looser_absent n k) refl
+
+-- ---- tokens for one symbol
+
+record Filler (s : Symbol) (vs : List Value) : Type 0 where
+  tokens : List Token
+  nestings : List ℕ
+  values : List Value
+  runs : (symbols : List Symbol) (rest : List Token) → Calm rest → Runs nestings tokens (trace (s ∷ symbols) vs (tokens ++ rest)) (trace symbols values rest)
+  calm : (rest : List Token) → Calm (tokens ++ rest)
+
+abbrev somewhere : Span
+somewhere = record { start = 0; end = 0; line = 0; column = 0 }
+
+abbrev token : Word → Token
+token w = record { word = w; span = somewhere }
+
+-- one token, behind which all may be absent
+by_one : (s : Symbol) (w : Word) (n : ℕ) (new : List Symbol) (vs : List Value) → IsCalm w → move s w ≡ Move.take n new → AllMayBeAbsent new → Filler s vs
+by_one s w n new vs c h absent = record {
+  tokens = token w ∷ [];
+  nestings = n ∷ [];
+  values = settled_all new (Value.of_token (token w) ∷ vs);
+  runs = λ symbols rest calm.
+      let last : Trace = trace symbols (settled_all new (Value.of_token (token w) ∷ vs)) rest in
+      runs_to (n ∷ []) (token w ∷ []) (trace (s ∷ symbols) vs (token w ∷ rest)) (trace (new ++ symbols) (Value.of_token (token w) ∷ vs) rest) last
+      (runs_take s n new symbols vs (token w) rest h) (calm_omits new symbols (Value.of_token (token w) ∷ vs) rest absent calm);
+  calm = λ rest. calm_before (token w) rest c;
+}
+
+reducing : (r : Reduction) → AllMayBeAbsent (Symbol.reduce r ∷ [])
+reducing r = AllMayBeAbsent.one_more (Symbol.reduce r) [] refl AllMayBeAbsent.no_more
+
+abbrev some_name : Word
+some_name = word.Name []
+
+abbrev some_number : Word
+some_number = word.Number 0 I32
+
+-- two tokens, behind which all may be absent
+by_two : (s : Symbol) (w z : Word) (n m : ℕ) (new : List Symbol) (vs us : List Value) → IsCalm w → AllMayBeAbsent new
+    → ((symbols : List Symbol) (rest : List Token) → trace (s ∷ symbols) vs (token w ∷ token z ∷ rest) ≡ Trace.taken n somewhere (Trace.taken m somewhere (trace (new ++ symbols) us rest)))
+    → Filler s vs
+by_two s w z n m new vs us c absent h = record {
+  tokens = token w ∷ token z ∷ [];
+  nestings = n ∷ m ∷ [];
+  values = settled_all new us;
+  runs = λ symbols rest calm.
+      let last : Trace = trace symbols (settled_all new us) rest in
+      runs_from (n ∷ m ∷ []) (token w ∷ token z ∷ []) (trace (s ∷ symbols) vs (token w ∷ token z ∷ rest)) (Trace.taken n somewhere (Trace.taken m somewhere last)) last
+      (h symbols rest ∙ ap (λ a. Trace.taken n somewhere (Trace.taken m somewhere a)) (calm_omits new symbols us rest absent calm))
+      (Runs.onward n (token w) (m ∷ []) (token z ∷ []) (Trace.taken m somewhere last) last (Runs.onward m (token z) [] [] last last (Runs.done last)));
+  calm = λ rest. calm_before (token w) (token z ∷ rest) c;
+}
+
+takes_spelled : (n : ℕ) (f : Fixed) → move (Symbol.fixed n f) (spelled f) ≡ Move.take n []
+takes_spelled n Fixed.opening = refl
+takes_spelled n f = refl
+
+filler : (s : Symbol) (vs : List Value) → may_be_absent s ≡ false → Filler s vs
+filler (Symbol.fixed n f) vs h = by_one (Symbol.fixed n f) (spelled f) n [] vs (IsCalm.fixed f) (takes_spelled n f) AllMayBeAbsent.no_more
+filler (Symbol.a_name n) vs h = by_one (Symbol.a_name n) some_name n [] vs (IsCalm.name []) refl AllMayBeAbsent.no_more
+filler (Symbol.a_number n) vs h = by_one (Symbol.a_number n) some_number n [] vs (IsCalm.number 0 I32) refl AllMayBeAbsent.no_more
+filler (Symbol.a_type n) vs h = by_one (Symbol.a_type n) (word.Key key.Int8) n (Symbol.reduce Reduction.plain ∷ []) vs IsCalm.int_8 refl (reducing Reduction.plain)
+filler (Symbol.expression n l) vs h = by_one (Symbol.expression n l) some_number n (Symbol.reduce Reduction.constant ∷ tails n l) vs (IsCalm.number 0 I32) refl
+    (AllMayBeAbsent.one_more (Symbol.reduce Reduction.constant) (tails n l) refl (looser_absent n (11 - l)))
+filler (Symbol.inside n) vs h = by_two (Symbol.inside n) some_number (word.Mark mark.Close) n n (Symbol.reduce Reduction.group ∷ []) vs
+    (Value.of_token (token (word.Mark mark.Close)) ∷ reduced Reduction.constant (Value.of_token (token some_number) ∷ vs)) (IsCalm.number 0 I32) (reducing Reduction.group) (λ symbols rest. refl)
+filler (Symbol.simple n) vs h = by_two (Symbol.simple n) some_name (word.Mark mark.Increment) n n (Symbol.reduce Reduction.step_after ∷ []) vs
+    (Value.of_token (token (word.Mark mark.Increment)) ∷ reduced Reduction.target (reduced Reduction.no_indices (Value.of_token (token some_name) ∷ vs))) (IsCalm.name []) (reducing Reduction.step_after) (λ symbols rest. refl)
+filler (Symbol.assigning n) vs h = by_one (Symbol.assigning n) (word.Mark mark.Increment) n (Symbol.reduce Reduction.step_after ∷ []) vs IsCalm.increment refl (reducing Reduction.step_after)
+filler (Symbol.declared n) vs h = by_one (Symbol.declared n) some_name n (Symbol.reduce Reduction.no_value ∷ Symbol.value n ∷ []) vs (IsCalm.name []) refl
+    (AllMayBeAbsent.one_more (Symbol.reduce Reduction.no_value) (Symbol.value n ∷ []) refl (AllMayBeAbsent.one_more (Symbol.value n) [] refl AllMayBeAbsent.no_more))
+filler (Symbol.first n) vs h = by_one (Symbol.first n) (word.Mark mark.Semicolon) n (Symbol.reduce Reduction.no_first ∷ []) vs (IsCalm.fixed Fixed.semicolon) refl (reducing Reduction.no_first)
+filler (Symbol.condition n) vs h = by_one (Symbol.condition n) (word.Mark mark.Semicolon) n (Symbol.reduce Reduction.no_condition ∷ []) vs (IsCalm.fixed Fixed.semicolon) refl (reducing Reduction.no_condition)
+filler (Symbol.last n) vs h = by_one (Symbol.last n) (word.Mark mark.Close) n (Symbol.reduce Reduction.no_step ∷ []) vs (IsCalm.fixed Fixed.closing) refl (reducing Reduction.no_step)
+filler (Symbol.statement n) vs h = by_one (Symbol.statement n) (word.Mark mark.Semicolon) n (Symbol.reduce Reduction.empty ∷ []) vs (IsCalm.fixed Fixed.semicolon) refl (reducing Reduction.empty)
+filler (Symbol.body n) vs h = by_one (Symbol.body n) (word.Mark mark.CloseBrace) n [] vs IsCalm.closing_brace refl AllMayBeAbsent.no_more
+filler (Symbol.result n) vs h = by_one (Symbol.result n) (word.Key key.Void) n (Symbol.reduce Reduction.void_result ∷ []) vs IsCalm.void refl (reducing Reduction.void_result)
+filler (Symbol.params n) vs h = by_one (Symbol.params n) (word.Mark mark.Close) n (Symbol.reduce Reduction.no_params ∷ []) vs (IsCalm.fixed Fixed.closing) refl (reducing Reduction.no_params)
+filler (Symbol.a_param n) vs h = by_two (Symbol.a_param n) (word.Key key.Int8) some_name n n (Symbol.reduce Reduction.no_dims ∷ Symbol.dims n ∷ Symbol.reduce Reduction.param ∷ []) vs
+    (Value.of_token (token some_name) ∷ reduced Reduction.plain (Value.of_token (token (word.Key key.Int8)) ∷ vs)) IsCalm.int_8
+    (AllMayBeAbsent.one_more (Symbol.reduce Reduction.no_dims) (Symbol.dims n ∷ Symbol.reduce Reduction.param ∷ []) refl
+    (AllMayBeAbsent.one_more (Symbol.dims n) (Symbol.reduce Reduction.param ∷ []) refl (reducing Reduction.param)))
+    (λ symbols rest. refl)
+filler s vs h = absurd (cc)
+
+-- ---- all symbols
+
+-- tokens that complete these symbols
+pub record Filled (symbols : List Symbol) (vs : List Value) : Type 0 where
+  pub rest : List Token
+  pub ns : List ℕ
+  pub ws : List Value
+  pub runs : Runs ns rest (trace symbols vs rest) (Trace.complete ws)
+
+record CalmlyFilled (symbols : List Symbol) (vs : List Value) : Type 0 where
+  filled : Filled symbols vs
+  calm : Calm filled.rest
+
+filled_absent : (s : Symbol) (symbols : List Symbol) (vs : List Value) → may_be_absent s ≡ true → CalmlyFilled symbols (settled s vs) → CalmlyFilled (s ∷ symbols) vs
+filled_absent s symbols vs h f = record {
+  filled = record {
+    rest = f.filled.rest;
+    ns = f.filled.ns;
+    ws = f.filled.ws;
+    runs = runs_from f.filled.ns f.filled.rest (trace (s ∷ symbols) vs f.filled.rest) (trace symbols (settled s vs) f.filled.rest) (Trace.complete f.filled.ws) (f.calm s symbols vs h) f.filled.runs;
+  };
+  calm = f.calm;
+}
+
+filled_needed : (s : Symbol) (symbols : List Symbol) (vs : List Value) (one : Filler s vs) → CalmlyFilled symbols one.values → CalmlyFilled (s ∷ symbols) vs
+filled_needed s symbols vs one f = record {
+  filled = record {
+    rest = one.tokens ++ f.filled.rest;
+    ns = one.nestings ++ f.filled.ns;
+    ws = f.filled.ws;
+    runs = runs_join one.nestings f.filled.ns one.tokens f.filled.rest (trace (s ∷ symbols) vs (one.tokens ++ f.filled.rest)) (trace symbols one.values f.filled.rest) (Trace.complete f.filled.ws)
+        (one.runs symbols f.filled.rest f.calm) f.filled.runs;
+  };
+  calm = one.calm f.filled.rest;
+}
+
+by_kind : (s : Symbol) (symbols : List Symbol) (vs : List Value) → ((us : List Value) → CalmlyFilled symbols us) → (b : Bool) → may_be_absent s ≡ b → CalmlyFilled (s ∷ symbols) vs
+by_kind s symbols vs behind true h = filled_absent s symbols vs h (behind (settled s vs))
+by_kind s symbols vs behind false h = let one : Filler s vs = filler s vs h in filled_needed s symbols vs one (behind one.values)
+
+calmly_fill : (symbols : List Symbol) (vs : List Value) → CalmlyFilled symbols vs
+calmly_fill [] vs = record { filled = record { rest = []; ns = []; ws = vs; runs = Runs.done (Trace.complete vs) }; calm = calm_end }
+calmly_fill (s ∷ symbols) vs = by_kind s symbols vs (λ us. calmly_fill symbols us) (may_be_absent s) refl
+
+pub fill : (symbols : List Symbol) (vs : List Value) → Filled symbols vs
+fill symbols vs = (calmly_fill symbols vs).filled

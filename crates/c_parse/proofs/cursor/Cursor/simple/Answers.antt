@@ -1,0 +1,24 @@
+use Rattle.std.proofs.Common.{true, false, refl}
+use Rattle.c_ast.specs.declared.mark.Mark.TheVariants as mark
+use Rattle.c_parse.proofs.Exits.{untrue}
+use Rattle.c_parse.proofs.Openings.{no_step_next}
+use Rattle.c_parse.proofs.JudgedSimple.{step_comes}
+use Rattle.c_parse.proofs.cursor.Cursor.simple.Goals as goal
+
+pub returns-then-is_at : goal.returns-then-is_at
+returns-then-is_at c = record {
+  derived = c.step_before.ensures.derived;
+  judged = λ n deep. c.step_before.ensures.judged n deep (step_comes mark.Increment true _ refl (c.if-is_at.ensures.0 refl));
+}
+
+pub returns-then-is_at-2 : goal.returns-then-is_at-2
+returns-then-is_at-2 c = record {
+  derived = c.step_before-then-is_at-2.ensures.derived;
+  judged = λ n deep. c.step_before-then-is_at-2.ensures.judged n deep (step_comes mark.Decrement false _ refl (c.if-is_at-2.ensures.0 refl));
+}
+
+pub returns : goal.returns
+returns c = record {
+  derived = c.after_target.ensures.derived;
+  judged = λ n deep. c.after_target.ensures.judged n deep (no_step_next _ (untrue c.if-is_at.ensures.1) (untrue c.if-is_at-2.ensures.1));
+}
