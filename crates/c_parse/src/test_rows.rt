@@ -2,7 +2,7 @@
 use c_ast::Binary;
 
 // Kernel texts and what they give.
-pub const KERNELS: [(&str, &str); 30] = [
+pub const KERNELS: [(&str, &str); 37] = [
     ("void f(void) { }", "ok N=2"),
     ("void f() { }", "ok N=2"),
     ("int f(int a) { }", "ok N=3"),
@@ -39,6 +39,13 @@ pub const KERNELS: [(&str, &str); 30] = [
     ),
     ("void f(void) {", "1:15: 11 EndOfText"),
     ("void f(void) { goto x; }", "1:16: 10 Unexpected"),
+    ("int f(a) int a; { }", "1:7: 10 Unexpected"),
+    ("void f(int a[*]) { }", "1:14: 10 Unexpected"),
+    ("void f(int g(void)) { }", "1:13: 10 Unexpected"),
+    ("void f(int a[const 1]) { }", "1:14: 10 Unexpected"),
+    ("int *f(void) { }", "1:5: 10 Unexpected"),
+    ("long f(void) { }", "1:1: 10 Unexpected"),
+    ("inline void f(void) { }", "1:1: 10 Unexpected"),
 ];
 
 // What stands in the block of `void f(void) { .. }`, from column 16 on, and what the text gives: what is read.
@@ -95,7 +102,7 @@ pub const READ: [(&str, &str); 46] = [
 ];
 
 // The same: statements and expressions that are refused.
-pub const REFUSED: [(&str, &str); 52] = [
+pub const REFUSED: [(&str, &str); 59] = [
     ("goto x;", "1:16: 10 Unexpected"),
     ("x: ;", "1:17: 10 Unexpected"),
     ("switch (x) { }", "1:16: 10 Unexpected"),
@@ -148,10 +155,17 @@ pub const REFUSED: [(&str, &str); 52] = [
     ("++(x);", "1:18: 10 Unexpected"),
     ("x = y = 1;", "1:22: 10 Unexpected"),
     ("x++, y++;", "1:19: 10 Unexpected"),
+    ("return a->b;", "1:25: 10 Unexpected"),
+    ("return (int) { 1 };", "1:29: 10 Unexpected"),
+    ("return sizeof (int);", "1:23: 10 Unexpected"),
+    ("return (void) x;", "1:24: 10 Unexpected"),
+    ("return (int *) x;", "1:28: 10 Unexpected"),
+    ("if (x) int a;", "1:23: 10 Unexpected"),
+    ("while (x) int a;", "1:26: 10 Unexpected"),
 ];
 
 // The same: declarations and ends that are refused.
-pub const UNDECLARED: [(&str, &str); 36] = [
+pub const UNDECLARED: [(&str, &str); 42] = [
     ("int;", "1:19: 10 Unexpected"),
     ("int a[2];", "1:21: 10 Unexpected"),
     ("int a b;", "1:22: 10 Unexpected"),
@@ -188,6 +202,12 @@ pub const UNDECLARED: [(&str, &str); 36] = [
     ("return return;", "1:23: 10 Unexpected"),
     ("} ;", "1:18: 10 Unexpected"),
     ("{ ;", "1:21: 11 EndOfText"),
+    ("restrict int a;", "1:16: 10 Unexpected"),
+    ("_Complex a;", "1:16: 10 Unexpected"),
+    ("_Imaginary a;", "1:16: 10 Unexpected"),
+    ("int g(void);", "1:21: 10 Unexpected"),
+    ("int (a);", "1:20: 10 Unexpected"),
+    ("int a = { 1 };", "1:24: 10 Unexpected"),
 ];
 
 // What stands before and after so many copies of a construct, how often it nests, and the answer to one more.
