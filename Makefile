@@ -1,15 +1,29 @@
 # demo: the main job in about a minute on a fresh machine, without the proofs.
-# build: proves the program and all below it, and leaves it as crates/elastic/out/elastic.
+# go: your own kernel and inputs, without the proofs: make go KERNEL=my.c INPUTS=my.txt
+# build: proves the program and all below it, and leaves it as crates/elastic/out/elastic. From nothing this takes
+#   most of the gate's time (docs/PROVED.md); what an earlier run proved on this machine is not proved again.
 # test: the gate: every proof, wrong body, test and program.
-# bench: times the proved program on a kernel of 1,024 nodes.
+# bench: times the proved programs: `go` on a kernel of 1,024 nodes, and reading texts of 65,536 bytes.
+#   With BEFORE=PROGRAM another bench_front is timed beside this one.
+# stack: reads long and deep kernel texts with a stack of 1 MiB.
 # fail-alloc: makes each allocation of a run fail in turn.
 
-.PHONY: demo build test bench fail-alloc
+.PHONY: demo go build test bench stack fail-alloc
+
+KERNEL = examples/sum/kernel.c
+INPUTS = examples/sum/inputs.txt
+BEFORE =
+
+UNPROVED = 'This build is not the proved one: it runs the program before its proofs.'
 
 demo:
-	@echo 'This build is not the proved one: it runs the program before its proofs.'
+	@echo $(UNPROVED)
 	@echo 'elastic go examples/sum/kernel.c examples/sum/inputs.txt prints:'
 	@cd crates/elastic && rt try --data k=../../examples/sum/kernel.c --data i=../../examples/sum/inputs.txt -- go k i
+
+go:
+	@echo $(UNPROVED)
+	@cd crates/elastic && rt try --data $(notdir $(KERNEL))=$(abspath $(KERNEL)) --data $(notdir $(INPUTS))=$(abspath $(INPUTS)) -- go $(notdir $(KERNEL)) $(notdir $(INPUTS))
 
 build:
 	cd crates/elastic && rt run -- go ../../examples/sum/kernel.c ../../examples/sum/inputs.txt
@@ -20,6 +34,12 @@ test:
 
 bench: build
 	@sh tools/bench.sh crates/elastic/out/elastic
+	@cd crates/bench_front && rt run -- ../../examples/sum/kernel.c 1
+	@sh tools/bench_front.sh crates/bench_front/out/bench_front $(BEFORE)
+
+stack:
+	@cd crates/given_rows && rt run -- data/repeats.tsv > /dev/null
+	@sh tools/stack.sh crates/given_rows/out/given_rows
 
 fail-alloc: build
 	@sh tools/fail_alloc.sh crates/elastic/out/elastic

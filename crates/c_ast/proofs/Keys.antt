@@ -1,15 +1,18 @@
 -- The reserved words as a list, and each one's place in it.
-use Rattle.std.proofs.Common.{◌≡◌, ◌↔◌, ℕ, ◌<◌, ◌==◌, List, [], ◌∷◌, ◌++◌, get_or, map, find, All, Option, Some, None, unwrap_or, IfSome, IsSome, IsNone, refl, sym, ◌∙◌, ap, subst, arith}
-use Rattle.std.proofs.lemmas.Bool.{false≢true}
-use Rattle.std.specs.Cmp.Lexicographic.{pointwise}
+use Rattle.std.proofs.Common.{⊎_elim, ◌≡◌, ◌↔◌, ℕ, ◌<◌, ◌==◌, Bool, true, false, cond, not, ◌||◌, length, List, [], ◌∷◌, ◌++◌, get_or, map, find, All, Option, Some, None, unwrap_or, IfSome, IsSome, IsNone, refl, sym, ◌∙◌, ap, subst, arith}
+use Rattle.std.proofs.lemmas.Bool.{false≢true, cases_Bool, eq-eqb}
+use Rattle.std.proofs.lemmas.List.Folds.{list_any_none}
+use Rattle.std.proofs.lemmas.List.Sums.{AllPass-from_list_all}
+use Rattle.std.proofs.lemmas.Slice.Eq.{bytes_eq-Decides}
+use Rattle.std.specs.List.{list_any}
+use Rattle.std.specs.Prelude.{bytes_eq}
+use Rattle.c_ast.specs.Lengths.{has_each}
 use Rattle.std.proofs.lemmas.List.{get_or-map}
-use Rattle.std.proofs.lemmas.List.Elements.{All-get_or}
+use Rattle.std.proofs.lemmas.List.Elements.{All-get_or, All-head, All-tail}
+use Rattle.c_ast.specs.Pieces.{keys, key_of}
 use Rattle.c_ast.specs.Texts.{c99_keywords, fixed_width_names, IsReserved, key_text}
 use Rattle.c_ast.specs.declared.key.Key.{Key}
 use Rattle.c_ast.specs.declared.key.Key.TheVariants as key
-
-abbrev pub keys : List Key
-keys = key.Auto ∷ key.Break ∷ key.Case ∷ key.Char ∷ key.Const ∷ key.Continue ∷ key.Default ∷ key.Do ∷ key.Double ∷ key.Else ∷ key.Enum ∷ key.Extern ∷ key.Float ∷ key.For ∷ key.Goto ∷ key.If ∷ key.Inline ∷ key.Int ∷ key.Long ∷ key.Register ∷ key.Restrict ∷ key.Return ∷ key.Short ∷ key.Signed ∷ key.Sizeof ∷ key.Static ∷ key.Struct ∷ key.Switch ∷ key.Typedef ∷ key.Union ∷ key.Unsigned ∷ key.Void ∷ key.Volatile ∷ key.While ∷ key.Bool ∷ key.Complex ∷ key.Imaginary ∷ key.Int8 ∷ key.Int16 ∷ key.Int32 ∷ key.Int64 ∷ key.Uint8 ∷ key.Uint16 ∷ key.Uint32 ∷ key.Uint64 ∷ []
 
 place : Key → ℕ
 place key.Auto = 0
@@ -158,6 +161,20 @@ stands key.Uint64 d = refl
 pub every : (P : Key → Type 0) → All P keys → (k : Key) → P k
 every P all k = subst P (stands k k) (All-get_or P keys (place k) k (place_within k) all)
 
+-- of words that have each of a length, where none is spelled so, no word at all is
+not_alike : (j k : Key) (w : List ℕ) → (key_text j ≡ w → ⊥) → key_text k ≡ w → bytes_eq (key_text j) (key_text k) ≡ false
+not_alike j k w none is = ⊎_elim (λ yes. absurd (none ((bytes_eq-Decides (key_text j) (key_text k)).0 yes ∙ is))) (λ no. no) (cases_Bool (bytes_eq (key_text j) (key_text k)))
+
+pub none_of_length : (w : List ℕ) (ks : List Key) → has_each (length w) ks ≡ true → All (λ j. key_text j ≡ w → ⊥) ks → (k : Key) → key_text k ≡ w → ⊥
+none_of_length w ks has none k is =
+    let each : (list_any (λ j. bytes_eq (key_text j) (key_text k)) ks || not (length (key_text k) == length w)) ≡ true
+    = every (λ k. (list_any (λ j. bytes_eq (key_text j) (key_text k)) ks || not (length (key_text k) == length w)) ≡ true)
+    (λ i d below. AllPass-from_list_all (λ k. list_any (λ j. bytes_eq (key_text j) (key_text k)) ks || not (length (key_text k) == length w)) keys has i d below) k in
+    let lacks : list_any (λ j. bytes_eq (key_text j) (key_text k)) ks ≡ false
+    = list_any_none (λ j. bytes_eq (key_text j) (key_text k)) ks (λ i d below. not_alike (get_or ks i d) k w (none i d below) is) in
+    let same : (length (key_text k) == length w) ≡ true = ap (λ x. length x == length w) is ∙ eq-eqb (length w) (length w) refl in
+    false≢true (sym (ap (λ b. b || not (length (key_text k) == length w)) lacks ∙ ap not same) ∙ each)
+
 -- the list spells the reserved words
 texts : map key_text keys ≡ c99_keywords ++ fixed_width_names
 texts = refl
@@ -173,12 +190,8 @@ no_key_none_reserved : (w : List ℕ) → ((k : Key) → key_text k ≡ w → �
 unfolding IsReserved
 no_key_none_reserved w none r = none (get_or keys r.0 key.Auto) (sym (text_at r.0 key.Auto w r.1) ∙ r.2)
 
--- which word some bytes spell, by search
-search_for : List ℕ → Option Key
-search_for w = find (λ k. pointwise ◌==◌ (key_text k) w) keys
-
-finds : (k : Key) → search_for (key_text k) ≡ Some k
-unfolding search_for
+finds : (k : Key) → key_of (key_text k) ≡ Some k
+unfolding key_of
 finds key.Auto = refl
 finds key.Break = refl
 finds key.Case = refl
@@ -227,7 +240,23 @@ finds key.Uint64 = refl
 
 -- no two words are spelled alike
 pub one_key : (j k : Key) (w : List ℕ) → key_text j ≡ w → key_text k ≡ w → j ≡ k
-one_key j k w a b = ap (λ o. unwrap_or o j) (sym (finds j) ∙ ap search_for (a ∙ sym b) ∙ finds k)
+one_key j k w a b = ap (λ o. unwrap_or o j) (sym (finds j) ∙ ap key_of (a ∙ sym b) ∙ finds k)
+
+not_found : (p : Key → Bool) (ks : List Key) → All (λ k. p k ≡ false) ks → find p ks ≡ None
+not_found p [] none = refl
+not_found p (k ∷ ks) none = ap (λ b. cond b (Some k) (find p ks)) (All-head (λ k. p k ≡ false) k ks none) ∙ not_found p ks (All-tail (λ k. p k ≡ false) k ks none)
+
+not_spelled : (w : List ℕ) → ((k : Key) → key_text k ≡ w → ⊥) → (k : Key) → bytes_eq (key_text k) w ≡ false
+not_spelled w none k = ⊎_elim (λ yes. absurd (none k ((bytes_eq-Decides (key_text k) w).0 yes))) (λ no. no) (cases_Bool (bytes_eq (key_text k) w))
+
+no_key : (w : List ℕ) → ((k : Key) → key_text k ≡ w → ⊥) → key_of w ≡ None
+unfolding key_of
+no_key w none = not_found (λ k. bytes_eq (key_text k) w) keys (λ i d below. not_spelled w none (get_or keys i d))
+
+-- the word that is found is that of the definition
+pub key_of_is : (r : Option Key) (w : List ℕ) → IfSome r (λ k. key_text k ≡ w) → (IsNone r → (k : Key) → key_text k ≡ w → ⊥) → r ≡ key_of w
+key_of_is (Some k) w is none = sym (finds k) ∙ ap key_of is
+key_of_is None w is none = sym (no_key w (none refl))
 
 -- the word that is found is the only one of its spelling
 pub exact_by : (r : Option Key) (w : List ℕ) → IfSome r (λ k. key_text k ≡ w) → (IsNone r → (k : Key) → key_text k ≡ w → ⊥)

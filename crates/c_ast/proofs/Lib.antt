@@ -1,2 +1,5 @@
+pub mod CastNodes
 pub mod Keys
+pub mod NodeEquations
 pub mod TokensExample
+pub mod TypedNodeEquations

@@ -1,9 +1,14 @@
+pub mod Casts
+pub mod Constants
 pub mod Derives
+pub mod Lengths
 pub mod Nesting
+pub mod NodeLaws
 pub mod Nodes
 pub mod Numerals
 pub mod Pieces
 pub mod Prefixes
+pub mod ResultTypes
 pub mod Spells
 pub mod Texts
 pub mod Tokens

@@ -1,14 +1,11 @@
 -- The tokens that begin a kernel text, and the places at which a list of tokens is refused.
 use Rattle.std.specs.Prelude.{◌≡◌, ℕ, ◌<◌, ◌≤◌, List, [], ◌∷◌, ◌++◌, length}
+use Rattle.el_base.specs.Limits.{max_nesting}
 use Rattle.el_base.specs.declared.span.Span.{Span}
 use Rattle.c_ast.specs.declared.token.Token.{Token}
 use Rattle.c_ast.specs.declared.tree.Tree.{Tree}
 use Rattle.c_ast.specs.Derives.{Derives}
 use Rattle.c_ast.specs.Nesting.{nesting}
-
--- the most constructs that a token may belong to
-abbrev pub most_nested : ℕ
-most_nested = 64
 
 -- some kernel text begins with these tokens
 pub record Begins (ts : List Token) : Type 0 where
@@ -27,7 +24,7 @@ pub record Nested (ts : List Token) (ns : List ℕ) (t : Token) (n : ℕ) : Type
 
 -- at none of these tokens, which begin a kernel text, the nesting passes the most
 abbrev pub IsShallow : List Token → Type 0
-IsShallow ts = (us vs : List Token) (t : Token) (ns : List ℕ) (n : ℕ) → ts ≡ us ++ t ∷ vs → Nested us ns t n → n ≤ most_nested
+IsShallow ts = (us vs : List Token) (t : Token) (ns : List ℕ) (n : ℕ) → ts ≡ us ++ t ∷ vs → Nested us ns t n → n ≤ max_nesting
 
 -- ---- the refusals of tokens, each with the place of a token
 
@@ -59,4 +56,4 @@ pub record IsDeep (tokens : List Token) (at : Span) : Type 0 where
   pub levels : List ℕ
   pub level : ℕ
   pub nested : Nested before levels token level
-  pub passes : most_nested < level
+  pub passes : max_nesting < level

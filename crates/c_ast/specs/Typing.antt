@@ -3,6 +3,7 @@ use Rattle.std.specs.Prelude.{◌≡◌, ℕ, ◌+◌, ◌*◌, ◌<◌, ◌≤�
 use Rattle.std.specs.Cmp.Lexicographic.{pointwise}
 use Rattle.std.specs.Map.{lookup}
 use mathlib.Core.Former.{Count}
+use Rattle.el_base.specs.Limits.{max_dimensions, max_elements}
 use Rattle.el_base.specs.declared.ty.Ty.{Ty}
 use Rattle.c_ast.specs.declared.tree.Tree.{Tree}
 use Rattle.c_ast.specs.declared.tree.Param.{Param}
@@ -149,9 +150,9 @@ elements_of (d ∷ ds) = product_of (d ∷ ds)
 -- a parameter after others, of which the arrays have so many elements
 pub record IsParameter (scope : List (List ℕ × Sort)) (before : ℕ) (p : Param) : Type 0 where
   pub rule_21_new : sort_in scope p.name ≡ None
-  pub rule_24_dimensions : length p.dims ≤ 3
+  pub rule_24_dimensions : length p.dims ≤ max_dimensions
   pub rule_25_no_zero : All (λ d. 0 < d) p.dims
-  pub rule_25_elements : before + elements_of p.dims ≤ 1048576
+  pub rule_25_elements : before + elements_of p.dims ≤ max_elements
 
 abbrev pub TypingParams : List Param → List (List ℕ × Sort) → ℕ → Type 0
 TypingParams [] scope before = Unit {0}

@@ -116,8 +116,22 @@ fn of_exprs(exprs: &[Expr]) -> u64
     total
 }
 
+// A loop down the left sides: `a + b + ..` is as deep as it is long.
 #[cycle(expr_nodes)]
 fn of_expr(expr: &Expr) -> u64
+    ensures { result ≡ min (expr_nodes expr.now) (2 ^ 64 - 1) }
+{
+    let mut total: u64 = 0;
+    let mut first = expr;
+    'left: while let ExprKind::Binary(_, left, right) = &first.kind {
+        total = total.saturating_add(node(&[of_expr(right.get())]));
+        first = left.get();
+    }
+    total.saturating_add(of_operand(first))
+}
+
+#[cycle(expr_nodes)]
+fn of_operand(expr: &Expr) -> u64
     ensures { result ≡ min (expr_nodes expr.now) (2 ^ 64 - 1) }
 {
     match &expr.kind {

@@ -1,5 +1,7 @@
 //! The reserved words.
-ghost use Rattle.std.specs.Prelude.{◌≡◌, ◌↔◌, All, Option, Some, IfSome, IsNone, IsSome};
+ghost use Rattle.std.specs.Prelude.{◌≡◌, ◌↔◌, All, true, Option, Some, IfSome, IsNone, IsSome};
+ghost use Rattle.c_ast.specs.Lengths.{has_each};
+ghost use Rattle.c_ast.specs.Pieces.{key_of};
 ghost use Rattle.c_ast.specs.Texts.{key_text, IsReserved};
 ghost use Rattle.c_ast.specs.declared.key.Key.{Key};
 
@@ -159,12 +161,76 @@ impl Key {
 
     /// The reserved word that is spelled by these bytes; `None` where they spell none.
     pub fn of_text(bytes: &[u8]) -> Option<Key>
+        ensures found { result ≡ key_of bytes.now }
         ensures spelled { IfSome result (λ k. key_text k ≡ bytes.now) }
         ensures exact { (k : Key) → key_text k ≡ bytes.now → result ≡ Some k }
         ensures none { IsNone result → (k : Key) → key_text k ≡ bytes.now → ⊥ }
         ensures reserved { IsSome result ↔ IsReserved bytes.now }
     {
-        spelled_by(bytes, &KEYS)
+        spelled_by(bytes, of_length(bytes.len()))
+    }
+}
+
+// The words of a length; of a length above that of every word, all.
+fn of_length(length: usize) -> &'static [Key]
+    ensures { has_each length result.now ≡ true }
+{
+    match length {
+        0 | 1 | 9 => &[],
+        2 => &[Key::Do, Key::If],
+        3 => &[Key::For, Key::Int],
+        4 => &[
+            Key::Auto,
+            Key::Case,
+            Key::Char,
+            Key::Else,
+            Key::Enum,
+            Key::Goto,
+            Key::Long,
+            Key::Void,
+        ],
+        5 => &[
+            Key::Break,
+            Key::Const,
+            Key::Float,
+            Key::Short,
+            Key::Union,
+            Key::While,
+            Key::Bool,
+        ],
+        6 => &[
+            Key::Double,
+            Key::Extern,
+            Key::Inline,
+            Key::Return,
+            Key::Signed,
+            Key::Sizeof,
+            Key::Static,
+            Key::Struct,
+            Key::Switch,
+            Key::Int8,
+        ],
+        7 => &[
+            Key::Default,
+            Key::Typedef,
+            Key::Int16,
+            Key::Int32,
+            Key::Int64,
+            Key::Uint8,
+        ],
+        8 => &[
+            Key::Continue,
+            Key::Register,
+            Key::Restrict,
+            Key::Unsigned,
+            Key::Volatile,
+            Key::Complex,
+            Key::Uint16,
+            Key::Uint32,
+            Key::Uint64,
+        ],
+        10 => &[Key::Imaginary],
+        _ => &KEYS,
     }
 }
 

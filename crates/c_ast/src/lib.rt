@@ -1,8 +1,10 @@
 //! What a kernel text is read into: tokens, the syntax tree, the typed tree and its normal form.
 #![tactic(auto)]
 
+mod copies;
 mod count;
 mod key;
+mod laws;
 mod mark;
 mod normal;
 mod token;
@@ -12,6 +14,11 @@ mod typed;
 pub use count::nodes;
 pub use el_base::{Boxed, List, Name, Span, Ty};
 pub use key::Key;
+pub use laws::{
+    expressions_count_their_parts, statements_count_their_parts,
+    typed_expressions_count_their_parts, typed_statements_count_their_parts,
+    typed_trees_have_as_many_nodes,
+};
 pub use mark::Mark;
 pub use normal::{Normal, NormalStmt, NormalStmtKind};
 pub use token::{Token, Word};

@@ -88,10 +88,43 @@ pub struct Target {
 
 /// An expression with its place.
 #[cycle(expr)]
-#[derive(Drop)]
 pub struct Expr {
     pub kind: ExprKind,
     pub at: Span,
+}
+
+// A loop down the left sides: `a + b + ..` is as deep as it is long.
+impl Drop for Expr {
+    fn drop(mut self) {
+        loop {
+            let Expr { kind, at: _ } = self;
+            match kind {
+                ExprKind::Binary(_op, left, right) => {
+                    let _right = right.into_inner();
+                    self = left.into_inner();
+                }
+                ExprKind::Number {
+                    value: _value,
+                    ty: _ty,
+                } => return,
+                ExprKind::Name(_name) => return,
+                ExprKind::Element {
+                    name: _name,
+                    indices,
+                } => {
+                    indices.let_go();
+                    return;
+                }
+                ExprKind::Unary(_op, arg) => self = arg.into_inner(),
+                ExprKind::Cast(_ty, arg) => self = arg.into_inner(),
+                ExprKind::Choose(cond, yes, no) => {
+                    let _cond = cond.into_inner();
+                    let _yes = yes.into_inner();
+                    self = no.into_inner();
+                }
+            }
+        }
+    }
 }
 
 /// The expressions (ISO/IEC 9899:1999 6.5).

@@ -1,4 +1,5 @@
 pub mod Determined
+pub mod Fitting
 pub mod Going
 pub mod Marks
 pub mod Numerals

@@ -1,6 +1,8 @@
 -- Punctuators and comments.
-use Rattle.std.proofs.Common.{◌≡◌, ℕ, suc, ◌+◌, ◌<◌, ◌≤◌, Bool, true, false, cond, ◌==◌, ◌&&◌, List, [], ◌∷◌, length, take, Some, None, refl, sym, ap, ◌∙◌, arith, length-take, lit<}
+use Rattle.std.proofs.Common.{◌≡◌, ℕ, suc, ◌+◌, ◌<◌, ◌≤◌, Bool, true, false, cond, ◌==◌, ◌&&◌, List, [], ◌∷◌, length, take, Option, Some, None, refl, sym, subst, ap, ◌∙◌, arith, length-take, lit<}
 use Rattle.std.specs.Cmp.Lexicographic.{pointwise}
+use Rattle.std.specs.List.{find}
+use Rattle.c_ast.specs.Pieces.{mark_of}
 use Rattle.el_base.specs.declared.span.Span.{Span}
 use Rattle.c_ast.specs.Numerals.{begins}
 use Rattle.c_ast.specs.Texts.{mark_text}
@@ -87,3 +89,8 @@ fault_splice bytes text rest k n m j s same is found on there =
 
 pub fault_none : (bytes text rest : List ℕ) (k n : ℕ) → rest ≡ text → false ≡ is_open rest → None ≡ splice_in rest n → whole ≡ comment_end bytes k text n
 fault_none bytes text rest k n same is found = ap (splice_fault bytes k) found ∙ not_open bytes text rest k n same is
+
+-- what the marks of a text's first byte give, all give
+pub chosen : (text rest : List ℕ) (b : ℕ) (all : List Mark) (r : Option Mark) → text ≡ b ∷ rest → r ≡ find (λ m. begins (mark_text m) text) all
+    → ((ts : List ℕ) → find (λ m. begins (mark_text m) (b ∷ ts)) all ≡ mark_of (b ∷ ts)) → r ≡ mark_of text
+chosen text rest b all r is found same = found ∙ subst (λ ts. find (λ m. begins (mark_text m) ts) all ≡ mark_of ts) (sym is) (same rest)

@@ -1,16 +1,11 @@
 -- What searches through lists and texts find.
-use Rattle.std.proofs.Common.{◌≡◌, ℕ, zero, suc, ◌+◌, ◌-◌, ◌<◌, ◌≤◌, Bool, true, false, cond, List, [], ◌∷◌, length, take, drop, get_or, map, Option, Some, None, IfSome, IsNone, option_map, refl, sym, ap, ◌∙◌, arith}
+use Rattle.std.proofs.Common.{◌≡◌, ℕ, zero, suc, ◌+◌, ◌-◌, ◌<◌, ◌≤◌, Bool, true, false, cond, List, [], ◌∷◌, length, take, drop, get_or, map, Option, Some, None, option_map, refl, ap, ◌∙◌, arith}
 use Rattle.std.proofs.Common.{⊎_elim, take_all, length-drop}
 use Rattle.std.proofs.lemmas.List.{get_or_default}
-use Rattle.std.proofs.lemmas.Bool.{cases_Bool, cases_lt}
-use Rattle.std.proofs.lemmas.Slice.Eq.{bytes_eq-Decides}
+use Rattle.std.proofs.lemmas.Bool.{cases_lt}
 use Rattle.std.specs.List.{find}
-use Rattle.std.specs.Prelude.{bytes_eq}
 use Rattle.std.specs.Map.{lookup}
-use Rattle.c_ast.specs.Pieces.{first_place, key_of, keys}
-use Rattle.c_ast.specs.Texts.{key_text}
-use Rattle.c_ast.specs.declared.key.Key.{Key}
-use Rattle.c_ast.specs.declared.key.Key.TheVariants as key
+use Rattle.c_ast.specs.Pieces.{first_place}
 
 -- the first place that passes
 pub first_place_is : (test : List ℕ → Bool) (bs : List ℕ) (i : ℕ) → i < length bs → test (drop i bs) ≡ true → ((k : ℕ) → k < i → test (drop k bs) ≡ false) → first_place test bs ≡ Some i
@@ -63,68 +58,6 @@ no_place_more test bs i before here k below =
 
 pub rest_is : (bs : List ℕ) (i : ℕ) → take (length bs - i) (drop i bs) ≡ drop i bs
 rest_is bs i = take_all (length bs - i) (drop i bs) (omega (arith, length-drop i bs))
-
--- ---- reserved words
-
-finds : (k : Key) → key_of (key_text k) ≡ Some k
-unfolding key_of
-finds key.Auto = refl
-finds key.Break = refl
-finds key.Case = refl
-finds key.Char = refl
-finds key.Const = refl
-finds key.Continue = refl
-finds key.Default = refl
-finds key.Do = refl
-finds key.Double = refl
-finds key.Else = refl
-finds key.Enum = refl
-finds key.Extern = refl
-finds key.Float = refl
-finds key.For = refl
-finds key.Goto = refl
-finds key.If = refl
-finds key.Inline = refl
-finds key.Int = refl
-finds key.Long = refl
-finds key.Register = refl
-finds key.Restrict = refl
-finds key.Return = refl
-finds key.Short = refl
-finds key.Signed = refl
-finds key.Sizeof = refl
-finds key.Static = refl
-finds key.Struct = refl
-finds key.Switch = refl
-finds key.Typedef = refl
-finds key.Union = refl
-finds key.Unsigned = refl
-finds key.Void = refl
-finds key.Volatile = refl
-finds key.While = refl
-finds key.Bool = refl
-finds key.Complex = refl
-finds key.Imaginary = refl
-finds key.Int8 = refl
-finds key.Int16 = refl
-finds key.Int32 = refl
-finds key.Int64 = refl
-finds key.Uint8 = refl
-finds key.Uint16 = refl
-finds key.Uint32 = refl
-finds key.Uint64 = refl
-
-not_spelled : (w : List ℕ) → ((k : Key) → key_text k ≡ w → ⊥) → (k : Key) → bytes_eq (key_text k) w ≡ false
-not_spelled w none k = ⊎_elim (λ yes. absurd (none k ((bytes_eq-Decides (key_text k) w).0 yes))) (λ no. no) (cases_Bool (bytes_eq (key_text k) w))
-
-no_key : (w : List ℕ) → ((k : Key) → key_text k ≡ w → ⊥) → key_of w ≡ None
-unfolding key_of
-no_key w none = find_none (λ k. bytes_eq (key_text k) w) keys (λ k e below. not_spelled w none (get_or keys k e))
-
--- the word that is found
-pub key_of_is : (r : Option Key) (w : List ℕ) → IfSome r (λ k. key_text k ≡ w) → (IsNone r → (k : Key) → key_text k ≡ w → ⊥) → r ≡ key_of w
-key_of_is (Some k) w is none = sym (finds k) ∙ ap key_of is
-key_of_is None w is none = sym (no_key w (none refl))
 
 -- ---- look-ups
 

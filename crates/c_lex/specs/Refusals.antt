@@ -1,7 +1,7 @@
 -- What each answer of the lexer says of the bytes.
-use Rattle.std.specs.Prelude.{◌≡◌, ◌≢◌, ◌⊎◌, ℕ, List, Option, Some, None, Result, Ok, Err}
+use Rattle.std.specs.Prelude.{◌≡◌, ◌≢◌, ◌⊎◌, ℕ, List, ◌∷◌, ◌++◌, drop, codes, decimal, Option, Some, None, Result, Ok, Err}
 use Rattle.el_base.specs.declared.span.Span.{Span}
-use Rattle.c_ast.specs.Tokens.{Fault, bad_byte, open_comment, bad_number, wide_number, bad_directive, redefined, End, whole, broken, Tokens, Refused}
+use Rattle.c_ast.specs.Tokens.{Fault, bad_byte, open_comment, bad_number, wide_number, bad_directive, redefined, End, whole, broken, comment_end, Reads, Tokens, Refused}
 use Rattle.c_ast.specs.declared.token.Token.{Token}
 use Rattle.c_lex.specs.declared.refusal.Broken.{Broken}
 use Rattle.c_lex.specs.declared.refusal.Rule.{Rule}
@@ -18,6 +18,34 @@ refusal_number (refusal.WideNumber s) = Some 4
 refusal_number (refusal.Directive s) = Some 5
 refusal_number (refusal.Redefined s) = Some 6
 refusal_number refusal.Memory = None
+
+-- and the word
+abbrev pub refusal_word : LexRefusal → List ℕ
+refusal_word (refusal.BadByte s) = codes "BadByte"
+refusal_word (refusal.OpenComment s) = codes "OpenComment"
+refusal_word (refusal.BadNumber s) = codes "BadNumber"
+refusal_word (refusal.WideNumber s) = codes "WideNumber"
+refusal_word (refusal.Directive s) = codes "Directive"
+refusal_word (refusal.Redefined s) = codes "Redefined"
+refusal_word refusal.Memory = codes "Memory"
+
+-- its place
+abbrev pub refusal_span : LexRefusal → Option Span
+refusal_span (refusal.BadByte s) = Some s
+refusal_span (refusal.OpenComment s) = Some s
+refusal_span (refusal.BadNumber s) = Some s
+refusal_span (refusal.WideNumber s) = Some s
+refusal_span (refusal.Directive s) = Some s
+refusal_span (refusal.Redefined s) = Some s
+refusal_span refusal.Memory = None
+
+-- what is printed of it: the number, a space (32) and the word
+abbrev pub printed : Option ℕ → List ℕ → List ℕ
+printed None word = codes "want of memory"
+printed (Some number) word = decimal number ++ 32 ∷ word
+
+abbrev pub refusal_text : LexRefusal → List ℕ
+refusal_text r = printed (refusal_number r) (refusal_word r)
 
 -- the refusal of a broken rule at its place
 abbrev pub refusal_of : Fault → Span → LexRefusal
@@ -62,6 +90,14 @@ end_by b = broken (fault_of b.rule) b.at
 abbrev pub end_of : Option Broken → End
 end_of None = whole
 end_of (Some b) = end_by b
+
+-- how the comment of n bytes at byte k ends
+abbrev pub end_at : List ℕ → ℕ → ℕ → End
+end_at bytes k n = comment_end bytes k (drop k bytes) n
+
+-- a text gives one list of tokens and ends in one way
+abbrev pub IsReadInOneWay : List ℕ → Type 0
+IsReadInOneWay bytes = (ts us : List Token) (e f : End) → Reads bytes ts e → Reads bytes us f → (ts ≡ us) × (e ≡ f)
 
 -- the answer on a text that gives these tokens and ends so
 abbrev pub answer_of : List Token → End → Result (List Token) LexRefusal

@@ -36,6 +36,10 @@ turn_of bytes k ds (turn.Gives len word) = spec_of.gives bytes k ds word len
 turn_of bytes k ds (turn.Defines len name number) = spec_of.goes len false (ds ++ (name, numeral_of number) ∷ []) []
 turn_of bytes k ds (turn.Breaks b) = spec_of.stops (end_by b)
 
+-- a piece gives what a word means, wherever it stands
+abbrev pub IsWordTurn : spec_of.Defined → List ℕ → Turn → Type 0
+IsWordTurn ds word t = (bytes : List ℕ) (k : ℕ) → turn_of bytes k ds t ≡ spec_of.gives bytes k ds (spec_of.meaning_of ds word) (length word)
+
 -- a piece goes on by one byte or more, and not past the text; a name that it defines is new
 abbrev pub TurnFits : ℕ → spec_of.Defined → Turn → Type 0
 TurnFits all ds (turn.Skips len first) = (0 < len) × (len ≤ all)

@@ -1,11 +1,12 @@
 //! Comments of a text, which become blanks.
-ghost use Rattle.std.specs.Prelude.{true, codes, ◌≡◌, ◌≤◌, ◌<◌, ◌+◌, ◌++◌, ◌^◌, length, drop, replicate, IfOk, OnOk, IfSome, Some};
+ghost use Rattle.std.specs.Prelude.{true, codes, ◌≡◌, ◌≤◌, ◌<◌, ◌+◌, ◌++◌, ◌^◌, length, replicate, IfOk, OnOk, IfSome, Some};
 ghost use Rattle.std.specs.List.{prefix_len};
+ghost use Rattle.el_base.specs.Limits.{max_kernel_bytes};
 ghost use Rattle.c_ast.specs.Numerals.{begins};
 ghost use Rattle.c_ast.specs.Pieces.{first_place, closes, splices, close_of, block_len, comment_len, is_not_line_feed};
-ghost use Rattle.c_ast.specs.Tokens.{Blanked, comment_end, end_or, is_open, splice_in};
+ghost use Rattle.c_ast.specs.Tokens.{Blanked, end_or, is_open, splice_in};
 ghost use Rattle.c_lex.specs.Cursors.{IsAt};
-ghost use Rattle.c_lex.specs.Refusals.{end_of};
+ghost use Rattle.c_lex.specs.Refusals.{end_of, end_at};
 
 use crate::cursor::Cursor;
 use crate::refusal::{Broken, Rule};
@@ -138,8 +139,8 @@ fn comment_fault(bytes: &[u8], cursor: Cursor, len: usize) -> Option<Broken>
     requires at { IsAt bytes.now cursor }
     requires within { cursor.offset + len ≤ length bytes.now }
     requires two { 2 ≤ len }
-    requires short { length bytes.now ≤ 65536 }
-    ensures { end_of result ≡ comment_end bytes.now cursor.offset (drop cursor.offset bytes.now) len }
+    requires short { length bytes.now ≤ max_kernel_bytes }
+    ensures { end_of result ≡ end_at bytes.now cursor.offset len }
 {
     let text = &bytes[cursor.offset as usize..];
     if is_open(text) {
@@ -172,8 +173,8 @@ fn or_comment_fault(
     requires at { IsAt bytes.now cursor }
     requires within { cursor.offset + len ≤ length bytes.now }
     requires two { 2 ≤ len }
-    requires short { length bytes.now ≤ 65536 }
-    ensures { end_of result ≡ end_or (end_of broken) (comment_end bytes.now cursor.offset (drop cursor.offset bytes.now) len) }
+    requires short { length bytes.now ≤ max_kernel_bytes }
+    ensures { end_of result ≡ end_or (end_of broken) (end_at bytes.now cursor.offset len) }
 {
     match broken {
         Some(broken) => Some(broken),
@@ -196,7 +197,7 @@ fn push_blanks(text: &mut List<u8>, len: usize) -> Result<(), Memory>
 ///
 /// [`Memory`] where memory is wanting.
 pub fn without_comments(alloc: Global, bytes: &[u8]) -> Result<Uncommented, Memory>
-    requires { length bytes.now ≤ 65536 }
+    requires { length bytes.now ≤ max_kernel_bytes }
     ensures blanked { IfOk result (λ b. Blanked bytes.now 0 bytes.now b.text (end_of b.broken)) }
     ensures same { IfOk result (λ b. length b.text ≡ length bytes.now) }
 {

@@ -1,5 +1,6 @@
 //! Places in a text.
 ghost use Rattle.std.specs.Prelude.{◌≡◌, ◌≤◌, ◌<◌, ◌+◌, ◌^◌, List, ℕ, length};
+ghost use Rattle.el_base.specs.Limits.{max_kernel_bytes};
 ghost use Rattle.c_ast.specs.Tokens.{span_at};
 ghost use Rattle.c_lex.specs.Cursors.{IsAt, cursor_after};
 
@@ -31,7 +32,7 @@ impl Cursor {
     pub fn on(self, bytes: &[u8], len: usize) -> Cursor
         requires at { IsAt bytes.now self }
         requires within { self.offset + len ≤ length bytes.now }
-        requires short { length bytes.now ≤ 65536 }
+        requires short { length bytes.now ≤ max_kernel_bytes }
         ensures at { IsAt bytes.now result }
         ensures offset { result.offset ≡ self.offset + len }
     {
@@ -45,9 +46,9 @@ impl Cursor {
 
     // The place after a byte that stands here.
     fn after(self, byte: u8) -> Cursor
-        requires offset { self.offset < 65536 }
-        requires line { self.line < 65538 }
-        requires column { self.column < 65538 }
+        requires offset { self.offset < max_kernel_bytes }
+        requires line { self.line ≤ max_kernel_bytes + 1 }
+        requires column { self.column ≤ max_kernel_bytes + 1 }
         ensures { result ≡ cursor_after byte self }
     {
         if byte == b'\n' {

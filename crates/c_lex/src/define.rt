@@ -36,7 +36,8 @@ impl Defines {
 
     /// The number that a name stands for.
     pub fn number_for(&self, name: &Name) -> Option<&Numeral>
-        ensures { option_map numeral_of (option_copied result) ≡ number_for (defines_of self.now) name.now }
+        ensures { option_map numeral_of (option_copied result)
+            ≡ number_for (defines_of self.now) name.now }
     {
         self.numbers.get(name)
     }
@@ -48,7 +49,8 @@ impl Defines {
     /// [`Memory`] where memory is wanting.
     pub fn add(&mut self, name: Name, number: Numeral) -> Result<(), Memory>
         requires { number_for (defines_of self.old) name ≡ None }
-        ensures { OnOk result (defines_of self.new ≡ defines_of self.old ++ (name, numeral_of number) ∷ []) }
+        ensures { OnOk result
+            (defines_of self.new ≡ defines_of self.old ++ (name, numeral_of number) ∷ []) }
     {
         self.numbers.insert(name, number)?;
         Ok(())

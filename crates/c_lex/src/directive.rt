@@ -7,8 +7,8 @@ ghost use Rattle.c_lex.specs.Turns.{shown, DirectiveFits};
 
 use crate::comment::begins;
 use crate::numeral::{is_numeral, number_of};
-use crate::piece::{after_blanks, is_letter, key_of, number_token, word_of};
-use el_base::Ty;
+use crate::piece::{after_blanks, key_of, number_token, word_of};
+use el_base::{Ty, is_letter};
 
 /// An accepted directive, with its length up to the line's end.
 #[derive(Clone, Copy, Drop)]

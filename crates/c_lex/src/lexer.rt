@@ -1,34 +1,45 @@
 //! The tokens of a kernel text.
 ghost use Rattle.std.specs.Prelude.{◌≡◌, ◌≤◌, length, [], true, List, ℕ, IfOk};
-ghost use Rattle.c_ast.specs.Tokens.{Reads, Lexed, End, first_end};
-ghost use Rattle.c_ast.specs.declared.token.Token.{Token};
-ghost use Rattle.c_lex.specs.Refusals.{Says, IsOnly, end_of};
+ghost use Rattle.std.specs.List.{All};
+ghost use Rattle.c_ast.specs.Constants.{NumberFits};
+ghost use Rattle.el_base.specs.Limits.{max_kernel_bytes};
+ghost use Rattle.c_ast.specs.Tokens.{Lexed, first_end, span_at};
+ghost use Rattle.c_lex.specs.Refusals.{Says, IsOnly, IsReadInOneWay, end_of};
 
 use crate::comment::without_comments;
 use crate::cursor::Cursor;
 use crate::define::Defines;
 use crate::refusal::{Broken, LexRefusal};
 use crate::turn::{Turn, turn_at};
-use c_ast::Token;
+use c_ast::{Span, Token};
 use el_base::{List, Memory};
 use std::alloc::Global;
 
-/// The tokens of a kernel text. Linear in the text but for looking up names.
+/// The tokens of a kernel text; the value of a number lies in its type. Linear in the text but for looking up names.
 ///
 /// # Errors
 ///
 /// The rule that is broken at the first place from the left, with its span. `Memory` where memory ran out.
 pub fn lex(alloc: Global, bytes: &[u8]) -> Result<List<Token>, LexRefusal>
-    requires { length bytes.now ≤ 65536 }
+    requires { length bytes.now ≤ max_kernel_bytes }
     ensures says { Says bytes.now result }
     ensures only { IsOnly bytes.now result }
+    ensures fits { IfOk result (All NumberFits) }
 {
     lex_text(alloc, bytes)
 }
 
+/// The place after the last byte of a kernel text: an empty span.
+pub fn end_of(bytes: &[u8]) -> Span
+    requires { length bytes.now ≤ max_kernel_bytes }
+    ensures { result ≡ span_at bytes.now (length bytes.now) 0 }
+{
+    Cursor::first().on(bytes, bytes.len()).span(0)
+}
+
 /// A text gives one list of tokens and ends in one way, whole or at one broken rule.
 pub fn texts_have_one_reading()
-    ensures { (bytes : List ℕ) (ts us : List Token) (e f : End) → Reads bytes ts e → Reads bytes us f → (ts ≡ us) × (e ≡ f) }
+    ensures { (bytes : List ℕ) → IsReadInOneWay bytes }
 {}
 
 // Tokens up to the end of a text, or to a broken rule.
@@ -40,7 +51,7 @@ struct Reading {
 
 // The tokens of a text, or the first broken rule of its comments and its tokens.
 fn lex_text(alloc: Global, bytes: &[u8]) -> Result<List<Token>, LexRefusal>
-    requires { length bytes.now ≤ 65536 }
+    requires { length bytes.now ≤ max_kernel_bytes }
     ensures { Says bytes.now result }
 {
     let plain = without_comments(alloc, bytes)?;
@@ -70,7 +81,7 @@ fn first_broken(one: Option<Broken>, other: Option<Broken>) -> Option<Broken>
 
 // The tokens of a text whose comments are blanks.
 fn read(alloc: Global, bytes: &[u8], text: &[u8]) -> Result<Reading, Memory>
-    requires short { length bytes.now ≤ 65536 }
+    requires short { length bytes.now ≤ max_kernel_bytes }
     requires same { length text.now ≡ length bytes.now }
     ensures { IfOk result (λ r. Lexed bytes.now 0 true [] text.now r.tokens (end_of r.broken)) }
 {

@@ -11,10 +11,8 @@ mod piece;
 mod refusal;
 mod turn;
 
-pub use lexer::{lex, texts_have_one_reading};
+pub use lexer::{end_of, lex, texts_have_one_reading};
 pub use refusal::LexRefusal;
 
-#[cfg(test)]
-mod given_tests;
 #[cfg(test)]
 mod tests;

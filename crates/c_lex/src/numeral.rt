@@ -165,7 +165,8 @@ fn value_of(digits: &[u8], base: u32) -> Option<u64>
     requires low { 2 ≤ base }
     requires high { base ≤ 36 }
     requires digits { All (λ b. is_digit b base ≡ true) digits.now }
-    ensures { result ≡ (if nat_lt (digits_value base digits.now) (2 ^ 64) then Some (digits_value base digits.now) else None) }
+    ensures { let value = digits_value base digits.now in
+        result ≡ (if nat_lt value (2 ^ 64) then Some value else None) }
 {
     let mut value: u64 = 0;
     for byte in digits {

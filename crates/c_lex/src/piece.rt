@@ -1,13 +1,14 @@
 //! The words, numbers and punctuators with which a text begins.
-ghost use Rattle.std.specs.Prelude.{◌≡◌, ◌≤◌, ◌<◌, length, IfSome};
+ghost use Rattle.std.specs.Prelude.{◌≡◌, ◌≤◌, ◌<◌, ℕ, List, ◌∷◌, length, IfSome};
 ghost use Rattle.std.specs.List.{prefix_len, find};
 ghost use Rattle.c_ast.specs.Numerals.{begins};
 ghost use Rattle.c_ast.specs.Texts.{mark_text};
-ghost use Rattle.el_base.specs.Words.{is_word, is_letter};
+ghost use Rattle.el_base.specs.Words.{is_word};
 ghost use Rattle.c_ast.specs.Pieces.{is_white, is_blank, is_number_byte, word_of, number_token, after_blanks, key_of, mark_of, marks};
 
 use crate::comment::begins;
 use c_ast::{Key, Mark};
+use el_base::is_word;
 
 /// The punctuators, the longest first.
 const MARKS: [Mark; 43] = [
@@ -67,19 +68,6 @@ fn is_blank(byte: u8) -> bool
     ensures { result ≡ is_blank byte }
 {
     byte == b' ' || byte == b'\t'
-}
-
-/// Whether a byte is a letter or an underscore.
-pub fn is_letter(byte: u8) -> bool
-    ensures { result ≡ is_letter byte }
-{
-    byte.is_ascii_alphabetic() || byte == b'_'
-}
-
-fn is_word(byte: u8) -> bool
-    ensures { result ≡ is_word byte }
-{
-    byte.is_ascii_alphanumeric() || byte == b'_'
 }
 
 fn is_number_byte(byte: u8) -> bool
@@ -157,7 +145,49 @@ pub fn mark_of(text: &[u8]) -> Option<Mark>
     ensures mark { result ≡ mark_of text.now }
     ensures within { IfSome result (λ m. length (mark_text m) ≤ length text.now) }
 {
-    first_mark(text, &MARKS)
+    match text.split_first() {
+        None => None,
+        Some((byte, _)) => first_mark(text, marks_from(*byte)),
+    }
+}
+
+// The punctuators that a byte begins, the longest first; of a byte that begins none, all.
+#[tactic(auto, unfolding(c_ast::specs::Pieces::mark_of))]
+fn marks_from(byte: u8) -> &'static [Mark]
+    ensures { (rest : List ℕ)
+        → find (λ m. begins (mark_text m) (byte ∷ rest)) result.now ≡ mark_of (byte ∷ rest) }
+{
+    match byte {
+        b'+' => &[Mark::Increment, Mark::AddAssign, Mark::Plus],
+        b'-' => &[Mark::Decrement, Mark::SubAssign, Mark::Minus],
+        b'*' => &[Mark::MulAssign, Mark::Star],
+        b'/' => &[Mark::DivAssign, Mark::Slash],
+        b'%' => &[Mark::RemAssign, Mark::Percent],
+        b'&' => &[Mark::AndAssign, Mark::AndAnd, Mark::Ampersand],
+        b'|' => &[Mark::OrAssign, Mark::OrOr, Mark::Bar],
+        b'^' => &[Mark::XorAssign, Mark::Caret],
+        b'<' => &[Mark::ShlAssign, Mark::Shl, Mark::LessEqual, Mark::Less],
+        b'>' => &[
+            Mark::ShrAssign,
+            Mark::Shr,
+            Mark::GreaterEqual,
+            Mark::Greater,
+        ],
+        b'=' => &[Mark::EqualEqual, Mark::Assign],
+        b'!' => &[Mark::NotEqual, Mark::Bang],
+        b'~' => &[Mark::Tilde],
+        b'?' => &[Mark::Question],
+        b':' => &[Mark::Colon],
+        b';' => &[Mark::Semicolon],
+        b',' => &[Mark::Comma],
+        b'(' => &[Mark::Open],
+        b')' => &[Mark::Close],
+        b'[' => &[Mark::OpenBracket],
+        b']' => &[Mark::CloseBracket],
+        b'{' => &[Mark::OpenBrace],
+        b'}' => &[Mark::CloseBrace],
+        _ => &MARKS,
+    }
 }
 
 // The first of these punctuators with which a text begins.

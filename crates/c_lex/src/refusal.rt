@@ -1,9 +1,10 @@
 //! Why a text has no tokens.
 ghost use Rattle.std.specs.Prelude.{◌≡◌};
-ghost use Rattle.c_lex.specs.Refusals.{refusal_number, refusal_by};
+ghost use Rattle.c_lex.specs.Refusals.{refusal_number, refusal_word, refusal_span, refusal_by};
 
 use el_base::{Memory, Span};
-use thiserror::Error;
+use std::error::Error;
+use std::fmt;
 
 /// A rule that a text can break.
 #[derive(Clone, Copy, Debug, PartialEq, Eq)]
@@ -24,28 +25,21 @@ pub struct Broken {
 }
 
 /// Why a text has no tokens, with the first place from the left at which a rule is broken.
-#[derive(Clone, Copy, Debug, PartialEq, Eq, Error)]
+#[derive(Clone, Copy, Debug, PartialEq, Eq)]
 pub enum LexRefusal {
     /// A byte that may stand outside comments at no token; also a backslash directly before a line's end in a comment.
-    #[error("a byte that belongs to no token")]
     BadByte(Span),
     /// `/*` that no `*/` follows.
-    #[error("a comment without an end")]
     OpenComment(Span),
     /// A number that is no integer constant.
-    #[error("no integer constant")]
     BadNumber(Span),
     /// An integer constant that none of its types holds.
-    #[error("a constant that no type holds")]
     WideNumber(Span),
     /// A `#` that begins no accepted directive.
-    #[error("no accepted directive")]
     Directive(Span),
     /// A name that is defined again with another spelling of its number.
-    #[error("a name that is defined in another way")]
     Redefined(Span),
     /// Memory ran out.
-    #[error("out of memory")]
     Memory,
 }
 
@@ -78,7 +72,55 @@ impl LexRefusal {
             LexRefusal::Memory => None,
         }
     }
+
+    /// The word by which the refusal is printed.
+    pub fn word(&self) -> &'static str
+        ensures { result.now ≡ refusal_word self.now }
+    {
+        match self {
+            LexRefusal::BadByte(_) => "BadByte",
+            LexRefusal::OpenComment(_) => "OpenComment",
+            LexRefusal::BadNumber(_) => "BadNumber",
+            LexRefusal::WideNumber(_) => "WideNumber",
+            LexRefusal::Directive(_) => "Directive",
+            LexRefusal::Redefined(_) => "Redefined",
+            LexRefusal::Memory => "Memory",
+        }
+    }
+
+    /// The place at which the rule is broken; none for want of memory.
+    pub fn span(&self) -> Option<Span>
+        ensures { result ≡ refusal_span self.now }
+    {
+        match self {
+            LexRefusal::BadByte(span)
+            | LexRefusal::OpenComment(span)
+            | LexRefusal::BadNumber(span)
+            | LexRefusal::WideNumber(span)
+            | LexRefusal::Directive(span)
+            | LexRefusal::Redefined(span) => Some(*span),
+            LexRefusal::Memory => None,
+        }
+    }
 }
+
+/// The number and the word, as `1 BadByte`.
+impl fmt::Display for LexRefusal {
+    ghost use Rattle.std.specs.Prelude.{Some};
+    ghost use Rattle.c_lex.specs.Refusals.{refusal_text};
+
+    ghost output = { λ refusal. Some (refusal_text refusal) };
+
+    fn fmt<W: fmt::Write>(&self, f: &mut fmt::Formatter<W>) -> fmt::Result {
+        let word = self.word();
+        match self.number() {
+            Some(number) => write!(f, "{number} {word}"),
+            None => f.write_str("want of memory"),
+        }
+    }
+}
+
+impl Error for LexRefusal {}
 
 impl From<Memory> for LexRefusal {
     ghost use Rattle.c_lex.specs.declared.refusal.LexRefusal.TheVariants as refusal;

@@ -1,20 +1,21 @@
 //! What the piece does with which a text begins.
 ghost use Rattle.std.specs.Prelude.{◌≡◌, ◌≤◌, ◌<◌, ◌+◌, ◌-◌, ◌^◌, length, true, bytes_eq, List, ℕ, Some, IfOk};
+ghost use Rattle.el_base.specs.Limits.{max_kernel_bytes};
 ghost use Rattle.c_ast.specs.Pieces.{begins_with_letter, begins_with_digit, number_token, mark_of, directive_of};
-ghost use Rattle.c_ast.specs.Tokens.{turn, gives, meaning_of, number_turn, mark_turn, directive_turn, directive_by, Defined, fails, span_at};
+ghost use Rattle.c_ast.specs.Tokens.{turn, number_turn, mark_turn, directive_turn, directive_by, Defined, fails, span_at};
 ghost use Rattle.c_ast.specs.Pieces.{word_of, after_blanks};
 ghost use Rattle.c_lex.specs.Cursors.{IsAt};
 ghost use Rattle.c_lex.specs.Refusals.{fault_of};
-ghost use Rattle.c_lex.specs.Turns.{turn_of, defines_of, shown, DirectiveFits, TurnFits};
+ghost use Rattle.c_lex.specs.Turns.{turn_of, defines_of, shown, DirectiveFits, IsWordTurn, TurnFits};
 
 use crate::cursor::Cursor;
 use crate::define::{Defines, Numeral};
 use crate::directive::{Directive, directive_of};
 use crate::numeral::{is_numeral, number_of};
-use crate::piece::{is_letter, is_white, mark_len, mark_of, number_token, word_of};
+use crate::piece::{is_white, mark_len, mark_of, number_token, word_of};
 use crate::refusal::{Broken, Rule};
 use c_ast::Word;
-use el_base::{Memory, Name};
+use el_base::{Memory, Name, is_letter};
 use std::alloc::Global;
 
 /// What a piece does. Each but the last goes on by so many bytes.
@@ -42,7 +43,8 @@ pub enum Turn {
 
 fn breaks(rule: Rule, cursor: Cursor, len: usize) -> Turn
     requires { cursor.offset + len < 2 ^ 32 }
-    ensures turn { (bytes : List ℕ) (k : ℕ) (ds : Defined) → IsAt bytes cursor → turn_of bytes k ds result ≡ fails (fault_of rule) (span_at bytes cursor.offset len) }
+    ensures turn { (bytes : List ℕ) (k : ℕ) (ds : Defined) → IsAt bytes cursor
+        → turn_of bytes k ds result ≡ fails (fault_of rule) (span_at bytes cursor.offset len) }
     ensures fits { (all : ℕ) (ds : Defined) → TurnFits all ds result }
 {
     Turn::Breaks(Broken {
@@ -55,8 +57,10 @@ fn breaks(rule: Rule, cursor: Cursor, len: usize) -> Turn
 #[tactic(auto, unfolding(c_ast::specs::Tokens::number_turn))]
 fn number_turn(text: &[u8], cursor: Cursor) -> Turn
     requires digit { begins_with_digit text.now ≡ true }
-    requires short { cursor.offset + length text.now ≤ 65536 }
-    ensures turn { (bytes : List ℕ) (ds : Defined) → IsAt bytes cursor → turn_of bytes cursor.offset ds result ≡ number_turn bytes cursor.offset ds (number_token text.now) }
+    requires short { cursor.offset + length text.now ≤ max_kernel_bytes }
+    ensures turn { (bytes : List ℕ) (ds : Defined) → IsAt bytes cursor
+        → turn_of bytes cursor.offset ds result
+        ≡ number_turn bytes cursor.offset ds (number_token text.now) }
     ensures fits { (ds : Defined) → TurnFits (length text.now) ds result }
 {
     let token = number_token(text);
@@ -75,8 +79,10 @@ fn number_turn(text: &[u8], cursor: Cursor) -> Turn
 // The punctuator with which a text begins.
 fn mark_turn(text: &[u8], cursor: Cursor) -> Turn
     requires some { 0 < length text.now }
-    requires short { cursor.offset + length text.now ≤ 65536 }
-    ensures turn { (bytes : List ℕ) (ds : Defined) → IsAt bytes cursor → turn_of bytes cursor.offset ds result ≡ mark_turn bytes cursor.offset ds (mark_of text.now) }
+    requires short { cursor.offset + length text.now ≤ max_kernel_bytes }
+    ensures turn { (bytes : List ℕ) (ds : Defined) → IsAt bytes cursor
+        → turn_of bytes cursor.offset ds result
+        ≡ mark_turn bytes cursor.offset ds (mark_of text.now) }
     ensures fits { (ds : Defined) → TurnFits (length text.now) ds result }
 {
     match mark_of(text) {
@@ -91,7 +97,7 @@ fn mark_turn(text: &[u8], cursor: Cursor) -> Turn
 // The word with which a text begins.
 fn word_turn(alloc: Global, text: &[u8], defines: &Defines) -> Result<Turn, Memory>
     requires letter { begins_with_letter text.now ≡ true }
-    ensures turn { IfOk result (λ t. (bytes : List ℕ) (k : ℕ) → turn_of bytes k (defines_of defines.now) t ≡ gives bytes k (defines_of defines.now) (meaning_of (defines_of defines.now) (word_of text.now)) (length (word_of text.now))) }
+    ensures turn { IfOk result (IsWordTurn (defines_of defines.now) (word_of text.now)) }
     ensures fits { IfOk result (TurnFits (length text.now) (defines_of defines.now)) }
 {
     let word = word_of(text);
@@ -116,10 +122,13 @@ fn accepted_turn(
     defines: &Defines,
 ) -> Result<Turn, Memory>
     requires at { IsAt bytes.now cursor }
-    requires short { length bytes.now ≤ 65536 }
+    requires short { length bytes.now ≤ max_kernel_bytes }
     requires fits { DirectiveFits (length bytes.now - cursor.offset) directive }
-    ensures turn { IfOk result (λ t. turn_of bytes.now cursor.offset (defines_of defines.now) t ≡ directive_by bytes.now cursor.offset (defines_of defines.now) (shown (Some directive.entry))) }
-    ensures fits { IfOk result (TurnFits (length bytes.now - cursor.offset) (defines_of defines.now)) }
+    ensures turn { let ds = defines_of defines.now in
+        IfOk result (λ t. turn_of bytes.now cursor.offset ds t
+        ≡ directive_by bytes.now cursor.offset ds (shown (Some directive.entry))) }
+    ensures fits { IfOk result
+        (TurnFits (length bytes.now - cursor.offset) (defines_of defines.now)) }
 {
     match directive {
         Directive::Include { len } => Ok(Turn::Skips { len, first: false }),
@@ -173,8 +182,10 @@ fn directive_turn(
     requires at { IsAt bytes.now cursor }
     requires some { 0 < length text.now }
     requires rest { cursor.offset + length text.now ≡ length bytes.now }
-    requires short { length bytes.now ≤ 65536 }
-    ensures turn { IfOk result (λ t. turn_of bytes.now cursor.offset (defines_of defines.now) t ≡ directive_turn bytes.now cursor.offset first (defines_of defines.now) text.now) }
+    requires short { length bytes.now ≤ max_kernel_bytes }
+    ensures turn { let ds = defines_of defines.now in
+        IfOk result (λ t. turn_of bytes.now cursor.offset ds t
+        ≡ directive_turn bytes.now cursor.offset first ds text.now) }
     ensures fits { IfOk result (TurnFits (length text.now) (defines_of defines.now)) }
 {
     if !first {
@@ -203,8 +214,10 @@ pub fn turn_at(
     requires at { IsAt bytes.now cursor }
     requires some { 0 < length text.now }
     requires rest { cursor.offset + length text.now ≡ length bytes.now }
-    requires short { length bytes.now ≤ 65536 }
-    ensures turn { IfOk result (λ t. turn_of bytes.now cursor.offset (defines_of defines.now) t ≡ turn bytes.now cursor.offset first (defines_of defines.now) text.now) }
+    requires short { length bytes.now ≤ max_kernel_bytes }
+    ensures turn { let ds = defines_of defines.now in
+        IfOk result (λ t. turn_of bytes.now cursor.offset ds t
+        ≡ turn bytes.now cursor.offset first ds text.now) }
     ensures fits { IfOk result (TurnFits (length text.now) (defines_of defines.now)) }
 {
     let byte = text[0];

@@ -12,7 +12,7 @@ use Rattle.c_ast.specs.declared.tree.StmtKind.{StmtKind, Row_of-Stmt, end_of-Stm
 use Rattle.c_ast.specs.declared.tree.StmtKind as raw_stmt
 use Rattle.c_ast.specs.Typing.{Sort, Names, a_scalar, sort_of, with_name, IsUsable, names_after, names_after_row, sort_of_dims, scope_of}
 use Rattle.c_ast.specs.Typing as typing
-use Rattle.c_meaning.specs.Casts.{Declared, a_var, an_array, Scope, Context, declared_as, into_innermost, with_var, opened, closed, Parameters, with_param, with_params, first_context}
+use Rattle.c_ast.specs.Casts.{Declared, a_var, an_array, Scope, Context, declared_as, into_innermost, with_var, opened, closed, Parameters, with_param, with_params, first_context}
 use Rattle.c_meaning.proofs.Elaboration.{cast_stmt, cast_held, cast_stmts}
 
 abbrev pub sort_as : Declared → Sort

@@ -27,11 +27,9 @@ use Rattle.c_ast.specs.declared.typed.TypedExprKind.TheVariants as typed
 use Rattle.c_ast.specs.declared.typed.TypedStmt.{TypedStmt}
 use Rattle.c_ast.specs.declared.typed.TypedStmtKind.TheVariants as act
 use Rattle.c_ast.specs.declared.typed.Typed.{Typed}
-use Rattle.c_meaning.specs.Types.{promoted, usual}
-use Rattle.c_meaning.specs.Operators.{joint_type}
-use Rattle.c_meaning.specs.Patterns.{result_type, unary_type}
-use Rattle.c_meaning.specs.Casts.{Declared, a_var, an_array, Context, declared_as, with_var, opened, closed, of_type, converted, left_type, right_type, CastsExpr, CastsExprs, CastsTarget, CastsOption, CastsStmt, CastsHeld, CastsStmts, act_at, assigned_type, parameters, first_context, Casts}
-use Rattle.c_meaning.specs.Casts as casts
+use Rattle.c_ast.specs.ResultTypes.{promoted, usual, joint_type, result_type, unary_type}
+use Rattle.c_ast.specs.Casts.{Declared, a_var, an_array, Context, declared_as, with_var, opened, closed, of_type, converted, left_type, right_type, CastsExpr, CastsExprs, CastsTarget, CastsOption, CastsStmt, CastsHeld, CastsStmts, act_at, assigned_type, parameters, first_context, Casts}
+use Rattle.c_ast.specs.Casts as casts
 
 -- ---- expressions
 

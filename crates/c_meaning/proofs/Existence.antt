@@ -20,8 +20,8 @@ use Rattle.c_ast.specs.declared.tree.Tree.{Tree}
 use Rattle.c_ast.specs.declared.typed.TypedExpr.{TypedExpr}
 use Rattle.c_ast.specs.declared.typed.TypedStmtKind.TheVariants as act
 use Rattle.c_ast.specs.Typing.{Names, IsReturnable, TypingKind, TypingRow, TypingExpr, TypingOption, TypingTarget, TypingStmt, TypingHeld, TypingStmts, TypingList, names_after, row_length, Typing}
-use Rattle.c_meaning.specs.Casts.{Declared, a_var, an_array, Context, declared_as, with_var, opened, closed, CastsExpr, CastsExprs, CastsTarget, CastsOption, expr_at, CastsStmt, CastsHeld, CastsStmts, stmt_at, act_at, first_context, Casts}
-use Rattle.c_meaning.specs.Casts as casts
+use Rattle.c_ast.specs.Casts.{Declared, a_var, an_array, Context, declared_as, with_var, opened, closed, CastsExpr, CastsExprs, CastsTarget, CastsOption, expr_at, CastsStmt, CastsHeld, CastsStmts, stmt_at, act_at, first_context, Casts}
+use Rattle.c_ast.specs.Casts as casts
 use Rattle.c_meaning.proofs.Elaboration.{name_as, element_as, cast_kind, cast_row, cast_expr, cast_exprs, cast_option, target_as, cast_target, value_as, return_as, cast_stmt, cast_held, cast_stmts, cast_body, cast_tree}
 use Rattle.c_meaning.proofs.Contexts.{sorts_in, sorts_of, UsedAs, usable, with_name_is, held_scopes, names_after_is, names_after_row_is, first_names}
 use Rattle.c_meaning.proofs.TreeShapes.{exprs_of, stmts_of, element_is, block_is, held_of, if_is, for_is, items_are}

@@ -1,5 +1,6 @@
 -- What an expression of a tree that keeps the rules on names is cast to is lawful.
 use Rattle.std.proofs.Common.{◌≡◌, ℕ, zero, suc, List, [], ◌∷◌, ◌++◌, length, Option, Some, None, refl, sym, ◌∙◌, ap, subst, cond, arith, append_assoc, append-nil}
+use Rattle.std.proofs.lemmas.Bool.{false≢true}
 use Rattle.std.specs.Prelude.{Bool, true, false, ◌==◌, flat_map, slice_get, All, if◌then◌else◌}
 use Rattle.std.specs.Cmp.Lexicographic.{pointwise}
 use Rattle.std.specs.Map.{lookup}
@@ -18,13 +19,11 @@ use Rattle.c_ast.specs.declared.typed.TypedExpr.{TypedExpr}
 use Rattle.c_ast.specs.declared.typed.TypedExprKind.TheVariants as typed
 use Rattle.c_ast.specs.declared.typed.TypedExprKind.TheBlock.{shape-the_row-TypedExpr-0, hidden-the_row-TypedExpr-0, shape-the_row-TypedExpr-1, hidden-the_row-TypedExpr-1}
 use Rattle.c_ast.specs.Typing.{TypingKind, TypingRow, TypingExpr, TypingOption, TypingTarget, row_length as tree_row_length}
-use Rattle.c_meaning.specs.Types.{promoted, usual}
-use Rattle.c_meaning.specs.Operators.{joint_type}
-use Rattle.c_meaning.specs.Patterns.{result_type, unary_type}
+use Rattle.c_ast.specs.ResultTypes.{promoted, usual, joint_type, result_type, unary_type}
 use Rattle.c_meaning.specs.Stores.{Objects}
-use Rattle.c_meaning.specs.Constants.{NumbersFitKind, NumbersFitRow, NumbersFitExpr, NumbersFitOption, NumbersFitTarget}
-use Rattle.c_meaning.specs.Casts.{Declared, a_var, an_array, Scope, Context, declared_as, into_innermost, same_type, of_type, converted, left_type, right_type}
-use Rattle.c_meaning.specs.Lawful.{IsElement, IsVar, AreOperands, AreSides, row_length, LawfulRow, LawfulExpr, LawfulOption, LawfulTarget}
+use Rattle.c_ast.specs.Constants.{NumbersFitKind, NumbersFitRow, NumbersFitExpr, NumbersFitOption, NumbersFitTarget}
+use Rattle.c_ast.specs.Casts.{Declared, a_var, an_array, Scope, Context, declared_as, into_innermost, same_type, of_type, converted, left_type, right_type}
+use Rattle.c_meaning.specs.Lawful.{is_implied, IsElement, IsVar, AreOperands, AreSides, row_length, LawfulRow, LawfulExpr, LawfulOption, LawfulTarget}
 use Rattle.c_meaning.proofs.Elaboration.{name_as, element_as, unary_as, binary_as, choose_as, cast_kind, cast_row, cast_expr, cast_exprs, cast_option, target_as, cast_target}
 use Rattle.c_meaning.proofs.Contexts.{sorts_of, UsedAs, usable}
 use Rattle.c_meaning.proofs.Existence.{all_head, all_tail, not_below_zero}
@@ -94,7 +93,7 @@ unfolding shape-the_row-TypedExpr-0 hidden-the_row-TypedExpr-0 shape-the_row-Typ
 row_lawful k [] h = tt
 row_lawful k (f ∷ fs) h = (h.0, row_lawful k fs h.1)
 
-row_length_is : (fs : List TypedExpr) → row_length (hidden-the_row-TypedExpr-0 fs) ≡ length fs
+pub row_length_is : (fs : List TypedExpr) → row_length (hidden-the_row-TypedExpr-0 fs) ≡ length fs
 unfolding shape-the_row-TypedExpr-0 hidden-the_row-TypedExpr-0 shape-the_row-TypedExpr-1 hidden-the_row-TypedExpr-1 hidden
 row_length_is [] = refl
 row_length_is (f ∷ fs) = let r : row_length (hidden-the_row-TypedExpr-0 fs) ≡ length fs = row_length_is fs in omega arith
@@ -111,51 +110,56 @@ cast_exprs_length c (e ∷ es) = let r : length es ≡ length (cast_exprs c es) 
 pub is_element : (k : Objects) (a : ℕ) (t : Ty) (ds : List ℕ) (n : ℕ) → n ≡ length ds → Means k (Some (an_array a t ds)) → IsElement k a n t
 is_element k a t ds n e m = (m.0, m.1, m.2, ap length m.3 ∙ sym e)
 
-name_lawful : (k : Objects) (s : Span) (o : Option Declared) → UsedAs 0 o → Means k o → LawfulExpr k (name_as o s)
+-- it is lawful, and no cast that is marked as implied
+pub record Unconverted (k : Objects) (e : TypedExpr) : Type 0 where
+  pub lawful : LawfulExpr k e
+  pub written : is_implied e.kind ≡ false
+
+name_lawful : (k : Objects) (s : Span) (o : Option Declared) → UsedAs 0 o → Means k o → Unconverted k (name_as o s)
 unfolding shape-the_row-TypedExpr-0 hidden-the_row-TypedExpr-0 shape-the_row-TypedExpr-1 hidden-the_row-TypedExpr-1 hidden
 name_lawful k s None u m = absurd u
-name_lawful k s (Some (a_var v t)) u m = m
+name_lawful k s (Some (a_var v t)) u m = record { lawful = m; written = refl }
 name_lawful k s (Some (an_array a t ds)) u m = absurd (not_below_zero u.0)
 
-element_lawful : (k : Objects) (s : Span) (fs : List TypedExpr) (o : Option Declared) → UsedAs (length fs) o → Means k o → LawfulExprs k fs → LawfulExpr k (element_as o fs s)
+element_lawful : (k : Objects) (s : Span) (fs : List TypedExpr) (o : Option Declared) → UsedAs (length fs) o → Means k o → LawfulExprs k fs → Unconverted k (element_as o fs s)
 unfolding shape-the_row-TypedExpr-0 hidden-the_row-TypedExpr-0 shape-the_row-TypedExpr-1 hidden-the_row-TypedExpr-1 hidden
 element_lawful k s fs None u m h = absurd u
-element_lawful k s fs (Some (a_var v t)) u m h = m
+element_lawful k s fs (Some (a_var v t)) u m h = record { lawful = m; written = refl }
 element_lawful k s fs (Some (an_array a t ds)) u m h =
-    (is_element k a t ds (row_length (hidden-the_row-TypedExpr-0 fs)) (row_length_is fs ∙ u.1) m, row_lawful k fs h)
+    record { lawful = (is_element k a t ds (row_length (hidden-the_row-TypedExpr-0 fs)) (row_length_is fs ∙ u.1) m, row_lawful k fs h); written = refl }
 
-lawful_if : (k : Objects) (t : Ty) (e : TypedExpr) (b : Bool) → LawfulExpr k e → LawfulExpr k (if b then e else of_type (typed.Cast true e) t e.at)
+lawful_if : (k : Objects) (t : Ty) (e : TypedExpr) (b : Bool) → Unconverted k e → LawfulExpr k (if b then e else of_type (typed.Cast true e) t e.at)
 unfolding shape-the_row-TypedExpr-0 hidden-the_row-TypedExpr-0 shape-the_row-TypedExpr-1 hidden-the_row-TypedExpr-1 hidden
-lawful_if k t e true h = h
-lawful_if k t e false h = h
+lawful_if k t e true h = h.lawful
+lawful_if k t e false h = ((λ i. h.written), h.lawful)
 
-pub converted_lawful : (k : Objects) (t : Ty) (e : TypedExpr) → LawfulExpr k e → LawfulExpr k (converted t e)
+pub converted_lawful : (k : Objects) (t : Ty) (e : TypedExpr) → Unconverted k e → LawfulExpr k (converted t e)
 converted_lawful k t e h = lawful_if k t e (same_type t e.ty) h
 
 -- the parts of an operator, which have the types that it asks
-two_lawful : (k : Objects) (o : Binary) (f h : TypedExpr) (t : Ty) (s : Span) → AreOperands o f.ty h.ty t → LawfulExpr k f → LawfulExpr k h → LawfulExpr k (of_type (typed.Binary o f h) t s)
+two_lawful : (k : Objects) (o : Binary) (f h : TypedExpr) (t : Ty) (s : Span) → AreOperands o f.ty h.ty t → LawfulExpr k f → LawfulExpr k h → Unconverted k (of_type (typed.Binary o f h) t s)
 unfolding shape-the_row-TypedExpr-0 hidden-the_row-TypedExpr-0 shape-the_row-TypedExpr-1 hidden-the_row-TypedExpr-1 hidden
-two_lawful k o f h t s a p q = (a, p, q)
+two_lawful k o f h t s a p q = record { lawful = (a, p, q); written = refl }
 
-one_lawful : (k : Objects) (o : Unary) (f : TypedExpr) (t : Ty) (s : Span) → f.ty ≡ promoted f.ty → t ≡ unary_type o f.ty → LawfulExpr k f → LawfulExpr k (of_type (typed.Unary o f) t s)
+one_lawful : (k : Objects) (o : Unary) (f : TypedExpr) (t : Ty) (s : Span) → f.ty ≡ promoted f.ty → t ≡ unary_type o f.ty → LawfulExpr k f → Unconverted k (of_type (typed.Unary o f) t s)
 unfolding shape-the_row-TypedExpr-0 hidden-the_row-TypedExpr-0 shape-the_row-TypedExpr-1 hidden-the_row-TypedExpr-1 hidden
-one_lawful k o f t s a b p = (a, b, p)
+one_lawful k o f t s a b p = record { lawful = (a, b, p); written = refl }
 
-three_lawful : (k : Objects) (f h j : TypedExpr) (t : Ty) (s : Span) → AreSides h.ty j.ty t → LawfulExpr k f → LawfulExpr k h → LawfulExpr k j → LawfulExpr k (of_type (typed.Choose f h j) t s)
+three_lawful : (k : Objects) (f h j : TypedExpr) (t : Ty) (s : Span) → AreSides h.ty j.ty t → LawfulExpr k f → LawfulExpr k h → LawfulExpr k j → Unconverted k (of_type (typed.Choose f h j) t s)
 unfolding shape-the_row-TypedExpr-0 hidden-the_row-TypedExpr-0 shape-the_row-TypedExpr-1 hidden-the_row-TypedExpr-1 hidden
-three_lawful k f h j t s a p q r = (a, p, q, r)
+three_lawful k f h j t s a p q r = record { lawful = (a, p, q, r); written = refl }
 
-cast_lawful : (k : Objects) (f : TypedExpr) (t : Ty) (s : Span) → LawfulExpr k f → LawfulExpr k (of_type (typed.Cast false f) t s)
+cast_lawful : (k : Objects) (f : TypedExpr) (t : Ty) (s : Span) → LawfulExpr k f → Unconverted k (of_type (typed.Cast false f) t s)
 unfolding shape-the_row-TypedExpr-0 hidden-the_row-TypedExpr-0 shape-the_row-TypedExpr-1 hidden-the_row-TypedExpr-1 hidden
-cast_lawful k f t s p = p
+cast_lawful k f t s p = record { lawful = ((λ i. absurd (false≢true i)), p); written = refl }
 
-unary_lawful : (k : Objects) (o : Unary) (f : TypedExpr) (s : Span) → LawfulExpr k f → LawfulExpr k (unary_as o f s)
+unary_lawful : (k : Objects) (o : Unary) (f : TypedExpr) (s : Span) → Unconverted k f → Unconverted k (unary_as o f s)
 unary_lawful k o f s h =
     let g = converted (promoted f.ty) f in
     let p : g.ty ≡ promoted f.ty = converted_type (promoted f.ty) f in
     one_lawful k o g (unary_type o (promoted f.ty)) s (p ∙ sym (promoted_twice f.ty) ∙ ap promoted (sym p)) (ap (unary_type o) (sym p)) (converted_lawful k (promoted f.ty) f h)
 
-binary_lawful : (k : Objects) (o : Binary) (f h : TypedExpr) (s : Span) → LawfulExpr k f → LawfulExpr k h → LawfulExpr k (binary_as o f h s)
+binary_lawful : (k : Objects) (o : Binary) (f h : TypedExpr) (s : Span) → Unconverted k f → Unconverted k h → Unconverted k (binary_as o f h s)
 binary_lawful k o f h s p q =
     let a = left_type o f.ty h.ty in
     let b = right_type o f.ty h.ty in
@@ -166,7 +170,7 @@ binary_lawful k o f h s p q =
     (subst (λ u. AreOperands o u (converted b h).ty t) x (subst (λ u. AreOperands o a u t) y (operands_are o f.ty h.ty)))
     (converted_lawful k a f p) (converted_lawful k b h q)
 
-choose_lawful : (k : Objects) (f h j : TypedExpr) (s : Span) → LawfulExpr k f → LawfulExpr k h → LawfulExpr k j → LawfulExpr k (choose_as f h j s)
+choose_lawful : (k : Objects) (f h j : TypedExpr) (s : Span) → Unconverted k f → Unconverted k h → Unconverted k j → Unconverted k (choose_as f h j s)
 choose_lawful k f h j s p q r =
     let t = usual h.ty j.ty in
     let x : t ≡ (converted t h).ty = sym (converted_type t h) in
@@ -174,21 +178,21 @@ choose_lawful k f h j s p q r =
     let u : t ≡ usual t t = sym (usual_self h.ty j.ty) in
     three_lawful k f (converted t h) (converted t j) t s
     (subst (λ a. AreSides a (converted t j).ty t) x (subst (λ b. AreSides t b t) y (u, u, u)))
-    p (converted_lawful k t h q) (converted_lawful k t j r)
+    p.lawful (converted_lawful k t h q) (converted_lawful k t j r)
 
-number_lawful : (k : Objects) (n : ℕ) (t : Ty) (s : Span) → NumbersFitKind (raw.Number n t) → LawfulExpr k (of_type (typed.Number n) t s)
+number_lawful : (k : Objects) (n : ℕ) (t : Ty) (s : Span) → NumbersFitKind (raw.Number n t) → Unconverted k (of_type (typed.Number n) t s)
 unfolding shape-the_row-TypedExpr-0 hidden-the_row-TypedExpr-0 shape-the_row-TypedExpr-1 hidden-the_row-TypedExpr-1 hidden
-number_lawful k n t s h = h
+number_lawful k n t s h = record { lawful = h; written = refl }
 
 mutual
-  pub kind_lawful : (k : Objects) (c : Context) → Valid k c.scopes → (e : ExprKind) (s : Span) → TypingKind (sorts_of c) e → NumbersFitKind e → LawfulExpr k (cast_kind c e s)
+  pub kind_lawful : (k : Objects) (c : Context) → Valid k c.scopes → (e : ExprKind) (s : Span) → TypingKind (sorts_of c) e → NumbersFitKind e → Unconverted k (cast_kind c e s)
   kind_lawful k c v (raw.Number n t) s h f = number_lawful k n t s f
   kind_lawful k c v (raw.Name x) s h f = name_lawful k s (declared_as c x) (usable c x 0 h) (v.means x)
   kind_lawful k c v (raw.Element' x n row) s h f =
       element_lawful k s (cast_row c row) (declared_as c x) (subst (λ m. UsedAs m (declared_as c x)) (cast_row_length c row) (usable c x (tree_row_length row) h.0)) (v.means x)
       (exprs_lawful k c v row h.1 f)
   kind_lawful k c v (raw.Unary' op b (more_of-Expr e at end_of-Expr)) s h f = unary_lawful k op (cast_kind c e at) s (kind_lawful k c v e at h f)
-  kind_lawful k c v (raw.Cast' t b (more_of-Expr e at end_of-Expr)) s h f = cast_lawful k (cast_kind c e at) t s (kind_lawful k c v e at h f)
+  kind_lawful k c v (raw.Cast' t b (more_of-Expr e at end_of-Expr)) s h f = cast_lawful k (cast_kind c e at) t s (kind_lawful k c v e at h f).lawful
   kind_lawful k c v (raw.Binary' op b (more_of-Expr e at end_of-Expr) b2 (more_of-Expr e2 at2 end_of-Expr)) s h f =
       binary_lawful k op (cast_kind c e at) (cast_kind c e2 at2) s (kind_lawful k c v e at h.0 f.0) (kind_lawful k c v e2 at2 h.1 f.1)
   kind_lawful k c v (raw.Choose' b (more_of-Expr e at end_of-Expr) b2 (more_of-Expr e2 at2 end_of-Expr) b3 (more_of-Expr e3 at3 end_of-Expr)) s h f =
@@ -196,12 +200,15 @@ mutual
 
   exprs_lawful : (k : Objects) (c : Context) → Valid k c.scopes → {n : Count} (row : Row_of-Expr n) → TypingRow (sorts_of c) row → NumbersFitRow row → LawfulExprs k (cast_row c row)
   exprs_lawful k c v end_of-Expr h f = tt
-  exprs_lawful k c v (more_of-Expr e at row) h f = (kind_lawful k c v e at h.0 f.0, exprs_lawful k c v row h.1 f.1)
+  exprs_lawful k c v (more_of-Expr e at row) h f = ((kind_lawful k c v e at h.0 f.0).lawful, exprs_lawful k c v row h.1 f.1)
+
+pub expr_unconverted : (k : Objects) (c : Context) → Valid k c.scopes → (e : Expr) → TypingExpr (sorts_of c) e → NumbersFitExpr e → Unconverted k (cast_expr c e)
+expr_unconverted k c v e h f = kind_lawful k c v e.kind e.at h f
 
 pub expr_lawful : (k : Objects) (c : Context) → Valid k c.scopes → (e : Expr) → TypingExpr (sorts_of c) e → NumbersFitExpr e → LawfulExpr k (cast_expr c e)
-expr_lawful k c v e h f = kind_lawful k c v e.kind e.at h f
+expr_lawful k c v e h f = (expr_unconverted k c v e h f).lawful
 
-pub option_lawful : (k : Objects) (c : Context) → Valid k c.scopes → (e : Option Expr) → TypingOption (sorts_of c) e → NumbersFitOption e → LawfulOption k (cast_option c e)
+pub option_lawful : (k : Objects) (c : Context) → Valid k c.scopes → (e : Option Expr) → TypingOption (sorts_of c) e → NumbersFitOption e → LawfulOption (LawfulExpr k) (cast_option c e)
 option_lawful k c v None h f = tt
 option_lawful k c v (Some e) h f = expr_lawful k c v e h f
 
@@ -217,12 +224,12 @@ all_lawful k [] h i d l = absurd (omega arith)
 all_lawful k (f ∷ fs) h zero d l = h.0
 all_lawful k (f ∷ fs) h (suc i) d l = all_lawful k fs h.1 i d (omega arith)
 
-target_as_lawful : (k : Objects) (s : Span) (fs : List TypedExpr) (o : Option Declared) → UsedAs (length fs) o → Means k o → LawfulExprs k fs → LawfulTarget k (target_as o fs s).to (target_as o fs s).ty
+target_as_lawful : (k : Objects) (s : Span) (fs : List TypedExpr) (o : Option Declared) → UsedAs (length fs) o → Means k o → LawfulExprs k fs → LawfulTarget k (LawfulExpr k) (target_as o fs s).to (target_as o fs s).ty
 target_as_lawful k s fs None u m h = absurd u
 target_as_lawful k s fs (Some (a_var v t)) u m h = ((m, refl), all_lawful k [] tt)
 target_as_lawful k s fs (Some (an_array a t ds)) u m h = (is_element k a t ds (length fs) u.1 m, all_lawful k fs h)
 
-pub target_lawful : (k : Objects) (c : Context) → Valid k c.scopes → (t : Target) → TypingTarget (sorts_of c) t → NumbersFitTarget t → LawfulTarget k (cast_target c t).to (cast_target c t).ty
+pub target_lawful : (k : Objects) (c : Context) → Valid k c.scopes → (t : Target) → TypingTarget (sorts_of c) t → NumbersFitTarget t → LawfulTarget k (LawfulExpr k) (cast_target c t).to (cast_target c t).ty
 target_lawful k c v t h f =
     target_as_lawful k t.at (cast_exprs c t.indices) (declared_as c t.name) (subst (λ m. UsedAs m (declared_as c t.name)) (cast_exprs_length c t.indices) (usable c t.name (length t.indices) h.0)) (v.means t.name)
     (list_lawful k c v t.indices h.1 f)

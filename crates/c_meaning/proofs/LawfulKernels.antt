@@ -16,11 +16,12 @@ use Rattle.c_ast.specs.declared.typed.ArrayOf.{ArrayOf}
 use Rattle.c_ast.specs.declared.typed.TypedStmt.{TypedStmt}
 use Rattle.c_ast.specs.declared.typed.TypedStmtKind.TheBlock.{shape-the_row-TypedStmt-0, hidden-the_row-TypedStmt-0, shape-the_row-TypedStmt-1, hidden-the_row-TypedStmt-1}
 use Rattle.c_ast.specs.Typing.{Sort, sort_in, sort_of_dims, product_of, elements_of, TypingParams, Typing}
+use Rattle.c_meaning.specs.declared.profile.Profile.{Profile}
 use Rattle.c_meaning.specs.Stores.{Objects, elements, scalar_type, scalar_types}
 use Rattle.c_meaning.specs.Statements.{objects}
-use Rattle.c_meaning.specs.Constants.{NumbersFitStmt, NumbersFitStmts, NumbersFit}
-use Rattle.c_meaning.specs.Casts.{a_var, an_array, Parameters, with_param, with_params, parameters, first_context}
-use Rattle.c_meaning.specs.Lawful.{LawfulStmt, LawfulStmts, stmt_vars_of, stmt_vars_row, AreDistinct, AreDimensions, most_elements, all_vars, Lawful}
+use Rattle.c_ast.specs.Constants.{NumbersFitStmt, NumbersFitStmts, NumbersFit}
+use Rattle.c_ast.specs.Casts.{a_var, an_array, Parameters, with_param, with_params, parameters, first_context}
+use Rattle.c_meaning.specs.Lawful.{LawfulHeader, LawfulStmt, LawfulStmts, stmt_vars_of, stmt_vars_row, AreDistinct, AreDimensions, most_elements, all_vars, Lawful}
 use Rattle.c_meaning.proofs.Elaboration.{cast_body, cast_tree}
 use Rattle.c_meaning.proofs.Existence.{all_head, all_tail, body_typing}
 use Rattle.c_meaning.proofs.LawfulExpressions.{Extends, extends_refl, extends_more, extends_trans, get_extends, get_last, Valid, into_valid}
@@ -137,7 +138,7 @@ unfolding shape-the_row-TypedStmt-0 hidden-the_row-TypedStmt-0 shape-the_row-Typ
 all_lawful k r [] h = All-nil (λ (s : TypedStmt). LawfulStmt k r false s.kind)
 all_lawful k r (t ∷ ts) h = All-cons (λ (s : TypedStmt). LawfulStmt k r false s.kind) t ts h.0 (all_lawful k r ts h.1)
 
-row_vars : (ts : List TypedStmt) → stmt_vars_row (hidden-the_row-TypedStmt-0 ts) ≡ all_vars ts
+pub row_vars : (ts : List TypedStmt) → stmt_vars_row (hidden-the_row-TypedStmt-0 ts) ≡ all_vars ts
 unfolding shape-the_row-TypedStmt-0 hidden-the_row-TypedStmt-0 shape-the_row-TypedStmt-1 hidden-the_row-TypedStmt-1 hidden
 row_vars [] = refl
 row_vars (t ∷ ts) = ap (λ u. stmt_vars_of t.kind ++ u) (row_vars ts)
@@ -149,27 +150,38 @@ either_used v n used h =
 
 -- ---- kernels
 
-pub tree_lawful : (tree : Tree) → Typing tree → NumbersFit tree → Lawful (cast_tree tree)
-tree_lawful tree h f =
-    let k : Objects = objects (cast_tree tree) in
-    let c = first_context tree.params in
-    let row = hidden-the_row-Stmt-0 tree.body in
-    let grown : Extends (parameters tree.params).types k.vars = stmts_grow tree.result row c in
-    let valid : Valid k ((parameters tree.params).scope ∷ []) =
-    params_valid k tree.params (record { scope = []; types = []; arrays = [] }) grown (extends_refl k.arrays) (none_valid k) in
+-- the types of the parameters come first in the list of variables
+grown : (tree : Tree) → Extends (parameters tree.params).types (cast_tree tree).vars
+grown tree = stmts_grow tree.result (hidden-the_row-Stmt-0 tree.body) (first_context tree.params)
+
+header_lawful : (tree : Tree) → Typing tree → (p : Profile) → LawfulHeader (cast_tree tree).params (objects p (cast_tree tree))
+header_lawful tree h p =
+    let vars = (cast_tree tree).vars in
+    let more = grown tree in
     record {
-      header = record {
-        distinct = distinct tree.params [] 0 h.params_keep;
-        dimensions = dimensions tree.params [] 0 h.params_keep;
-        few_elements = few tree.params (record { scope = []; types = []; arrays = [] }) [] h.params_keep (omega arith);
-        first_vars =
-            subst (λ ts. take (length ts) k.vars ≡ ts) (first_types tree.params)
-            (subst (λ vs. take (length (parameters tree.params).types) vs ≡ (parameters tree.params).types) (sym grown.is) (take-append_seam (parameters tree.params).types grown.rest));
-        arrays_are = refl;
-      };
-      used = λ v l. either_used v (length (scalar_types tree.params)) (all_vars (cast_body tree).value)
-          (λ m. subst (λ u. Contains u v) (row_vars (cast_body tree).value)
-          (stmts_cover tree.result row c v (subst (λ ts. length ts ≤ v) (sym (first_types tree.params)) m) l));
-      statements = all_lawful k tree.result (cast_body tree).value
-          (stmts_lawful k tree.result false row c (body_typing tree h) (list_fits tree.body f) valid (extends_refl k.vars));
+      distinct = distinct tree.params [] 0 h.params_keep;
+      dimensions = dimensions tree.params [] 0 h.params_keep;
+      few_elements = few tree.params (record { scope = []; types = []; arrays = [] }) [] h.params_keep (omega arith);
+      first_vars =
+          subst (λ ts. take (length ts) vars ≡ ts) (first_types tree.params)
+          (subst (λ vs. take (length (parameters tree.params).types) vs ≡ (parameters tree.params).types) (sym more.is) (take-append_seam (parameters tree.params).types more.rest));
+      arrays_are = refl;
     }
+
+statements_lawful : (tree : Tree) → Typing tree → NumbersFit tree → (p : Profile) → All (λ (s : TypedStmt). LawfulStmt (objects p (cast_tree tree)) tree.result false s.kind) (cast_tree tree).body
+statements_lawful tree h f p =
+    let k : Objects = objects p (cast_tree tree) in
+    let row = hidden-the_row-Stmt-0 tree.body in
+    let valid : Valid k ((parameters tree.params).scope ∷ []) =
+    params_valid k tree.params (record { scope = []; types = []; arrays = [] }) (grown tree) (extends_refl k.arrays) (none_valid k) in
+    all_lawful k tree.result (cast_body tree).value
+    (stmts_lawful k tree.result false row (first_context tree.params) (body_typing tree h) (list_fits tree.body f) valid (extends_refl k.vars))
+
+pub tree_lawful : (tree : Tree) → Typing tree → NumbersFit tree → Lawful (cast_tree tree)
+tree_lawful tree h f = record {
+  header = header_lawful tree h;
+  used = λ v l. either_used v (length (scalar_types tree.params)) (all_vars (cast_body tree).value)
+      (λ m. subst (λ u. Contains u v) (row_vars (cast_body tree).value)
+      (stmts_cover tree.result (hidden-the_row-Stmt-0 tree.body) (first_context tree.params) v (subst (λ ts. length ts ≤ v) (sym (first_types tree.params)) m) l));
+  statements = statements_lawful tree h f;
+}

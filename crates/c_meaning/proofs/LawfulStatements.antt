@@ -15,13 +15,13 @@ use Rattle.c_ast.specs.declared.tree.StmtKind as raw
 use Rattle.c_ast.specs.declared.typed.TypedStmtKind.TheBlock.{shape-the_row-TypedStmt-0, hidden-the_row-TypedStmt-0, shape-the_row-TypedStmt-1, hidden-the_row-TypedStmt-1, back-TypedStmtKind-If-2}
 use Rattle.c_ast.specs.Typing.{IsReturnable, TypingExpr, TypingOption, TypingTarget, TypingStmt, TypingHeld, TypingStmts}
 use Rattle.c_meaning.specs.Stores.{Objects}
-use Rattle.c_meaning.specs.Constants.{NumbersFitExpr, NumbersFitOption, NumbersFitTarget, NumbersFitStmt, NumbersFitHeld, NumbersFitStmts}
-use Rattle.c_meaning.specs.Casts.{a_var, Context, with_var, opened, closed, converted, assigned_type}
-use Rattle.c_meaning.specs.Lawful.{IsVar, LawfulAssignment, LawfulDeclaration, LawfulReturn, LawfulStmt, LawfulStmtHeld, LawfulStmts, stmt_vars_of, stmt_vars_held, stmt_vars_row}
+use Rattle.c_ast.specs.Constants.{NumbersFitExpr, NumbersFitOption, NumbersFitTarget, NumbersFitStmt, NumbersFitHeld, NumbersFitStmts}
+use Rattle.c_ast.specs.Casts.{a_var, Context, with_var, opened, closed, converted, assigned_type}
+use Rattle.c_meaning.specs.Lawful.{IsVar, LawfulExpr, LawfulAssignment, LawfulDeclaration, LawfulReturn, LawfulStmt, LawfulStmtHeld, LawfulStmts, stmt_vars_of, stmt_vars_held, stmt_vars_row}
 use Rattle.c_meaning.proofs.Elaboration.{cast_expr, cast_target, value_as, return_as, cast_stmt, cast_held, cast_stmts}
 use Rattle.c_meaning.proofs.Contexts.{sorts_in, sorts_of, with_name_is, held_scopes, names_after_is, names_after_row_is}
 use Rattle.c_meaning.proofs.TypeLemmas.{converted_type, assigned_twice}
-use Rattle.c_meaning.proofs.LawfulExpressions.{Extends, extends_refl, extends_more, extends_trans, get_extends, get_last, Valid, opened_valid, into_valid, converted_lawful, expr_lawful, option_lawful, target_lawful}
+use Rattle.c_meaning.proofs.LawfulExpressions.{Extends, extends_refl, extends_more, extends_trans, get_extends, get_last, Valid, opened_valid, into_valid, converted_lawful, expr_unconverted, expr_lawful, option_lawful, target_lawful}
 
 -- ---- the list of variables grows
 
@@ -83,24 +83,24 @@ row_valid k r (more_of-Stmt a at row) c g v =
 
 -- ---- statements
 
-value_lawful : (k : Objects) (t : Ty) (v : ℕ) (c : Context) → Valid k c.scopes → (e : Option Expr) → IsVar k v t → TypingOption (sorts_of c) e → NumbersFitOption e → LawfulDeclaration k v (value_as t c e)
+value_lawful : (k : Objects) (t : Ty) (v : ℕ) (c : Context) → Valid k c.scopes → (e : Option Expr) → IsVar k v t → TypingOption (sorts_of c) e → NumbersFitOption e → LawfulDeclaration k (LawfulExpr k) v (value_as t c e)
 value_lawful k t v c w None i h f = (t, i)
 value_lawful k t v c w (Some e) i h f =
-    (subst (λ u. IsVar k v u) (sym (converted_type t (cast_expr c e))) i, converted_lawful k t (cast_expr c e) (expr_lawful k c w e h f))
+    (subst (λ u. IsVar k v u) (sym (converted_type t (cast_expr c e))) i, converted_lawful k t (cast_expr c e) (expr_unconverted k c w e h f))
 
 assignment_lawful : (k : Objects) (c : Context) → Valid k c.scopes → (x : Target) (o : Option Binary) (e : Expr) → TypingTarget (sorts_of c) x → TypingExpr (sorts_of c) e → NumbersFitTarget x → NumbersFitExpr e
-    → LawfulAssignment k (cast_target c x).to o (converted (assigned_type o (cast_target c x).ty (cast_expr c e).ty) (cast_expr c e))
+    → LawfulAssignment k (LawfulExpr k) (cast_target c x).to o (converted (assigned_type o (cast_target c x).ty (cast_expr c e).ty) (cast_expr c e))
 assignment_lawful k c v x o e h i f g =
     let t = (cast_target c x).ty in
     let u = assigned_type o t (cast_expr c e).ty in
     let p : (converted u (cast_expr c e)).ty ≡ u = converted_type u (cast_expr c e) in
-    (t, target_lawful k c v x h f, p ∙ assigned_twice o t (cast_expr c e).ty ∙ ap (assigned_type o t) (sym p), converted_lawful k u (cast_expr c e) (expr_lawful k c v e i g))
+    (t, target_lawful k c v x h f, p ∙ assigned_twice o t (cast_expr c e).ty ∙ ap (assigned_type o t) (sym p), converted_lawful k u (cast_expr c e) (expr_unconverted k c v e i g))
 
-return_lawful : (k : Objects) (r : Option Ty) (c : Context) → Valid k c.scopes → (e : Option Expr) → IsReturnable r e → TypingOption (sorts_of c) e → NumbersFitOption e → LawfulReturn k r (return_as r c e)
+return_lawful : (k : Objects) (r : Option Ty) (c : Context) → Valid k c.scopes → (e : Option Expr) → IsReturnable r e → TypingOption (sorts_of c) e → NumbersFitOption e → LawfulReturn (LawfulExpr k) r (return_as r c e)
 return_lawful k None c v None i h f = tt
 return_lawful k (Some t) c v None i h f = absurd i
 return_lawful k None c v (Some e) i h f = absurd i
-return_lawful k (Some t) c v (Some e) i h f = (converted_type t (cast_expr c e), converted_lawful k t (cast_expr c e) (expr_lawful k c v e h f))
+return_lawful k (Some t) c v (Some e) i h f = (converted_type t (cast_expr c e), converted_lawful k t (cast_expr c e) (expr_unconverted k c v e h f))
 
 mutual
   unfolding shape-the_row-TypedStmt-0 hidden-the_row-TypedStmt-0 shape-the_row-TypedStmt-1 hidden-the_row-TypedStmt-1 hidden

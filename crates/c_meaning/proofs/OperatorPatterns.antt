@@ -16,7 +16,10 @@ use Rattle.word_ops.specs.Laws.{Gives1, GivesIn1, Gives2, Divides, JoinsBits, Sh
 use Rattle.word_ops.specs.Operations.{op1_result, op2_result}
 use Rattle.c_ast.specs.declared.tree.Unary.TheVariants as unary
 use Rattle.c_ast.specs.declared.tree.Binary.TheVariants as op
-use Rattle.c_meaning.specs.Types.{range, conv, exact, fit, promoted}
+use Rattle.c_ast.specs.ResultTypes.{promoted}
+use Rattle.c_meaning.specs.declared.profile.Profile.{Profile}
+use Rattle.c_meaning.specs.declared.profile.Profile.TheVariants.{Plain, Wrap}
+use Rattle.c_meaning.specs.Types.{range, conv, exact, signed_fit, fit}
 use Rattle.c_meaning.specs.Operators.{is_zero, truth, quotient, remainder, amount, left_shift, right_shift, joined}
 use Rattle.c_meaning.specs.Patterns.{KeepsPatterns, ShiftKeepsPatterns, KeepsPattern, ConvertsPattern}
 
@@ -41,9 +44,13 @@ exact_cases : (P : Option ℤ → Type 0) → P None → (t : Ty) (v : ℤ) → 
 exact_cases P none t v some true = some
 exact_cases P none t v some false = none
 
-fit_cases : (t : Ty) (v z : ℤ) → pattern t (conv t v) ≡ pattern t v → (b : Bool) → (if b then exact t v else Some (conv t v)) ≡ Some z → pattern t z ≡ pattern t v
-fit_cases t v z back true e = exact_cases (λ o. o ≡ Some z → pattern t z ≡ pattern t v) (none_is z) t v (λ f. ap (pattern t) (sym (some_is v z f))) (range t v) e
-fit_cases t v z back false e = ap (pattern t) (sym (some_is (conv t v) z e)) ∙ back
+signed_cases : (p : Profile) (t : Ty) (v z : ℤ) → pattern t (conv t v) ≡ pattern t v → signed_fit p t v ≡ Some z → pattern t z ≡ pattern t v
+signed_cases Plain t v z back e = exact_cases (λ o. o ≡ Some z → pattern t z ≡ pattern t v) (none_is z) t v (λ f. ap (pattern t) (sym (some_is v z f))) (range t v) e
+signed_cases Wrap t v z back e = ap (pattern t) (sym (some_is (conv t v) z e)) ∙ back
+
+fit_cases : (p : Profile) (t : Ty) (v z : ℤ) → pattern t (conv t v) ≡ pattern t v → (b : Bool) → (if b then signed_fit p t v else Some (conv t v)) ≡ Some z → pattern t z ≡ pattern t v
+fit_cases p t v z back true e = signed_cases p t v z back e
+fit_cases p t v z back false e = ap (pattern t) (sym (some_is (conv t v) z e)) ∙ back
 
 -- a quotient is undefined for divisor 0, or out of range
 zero_divisor : (P : Option ℤ → Type 0) → P None → (t : Ty) (x y : ℤ) → (¬ (y ≡ pos 0) → P (Some (int_div x y))) → (b : Bool) → (b ≡ false → ¬ (y ≡ pos 0)) → P (if b then None else exact t (int_div x y))
@@ -56,7 +63,7 @@ not_zero y e is = false≢true (sym e ∙ ap is_zero is)
 quotient_cases : (P : Option ℤ → Type 0) → P None → (t : Ty) (x y : ℤ) → (¬ (y ≡ pos 0) → P (Some (int_div x y))) → P (quotient t x y)
 quotient_cases P none t x y some = zero_divisor P none t x y some (is_zero y) (not_zero y)
 
-remainder_is : (x y : ℤ) → x -ℤ int_div x y *ℤ y ≡ int_rem x y
+pub remainder_is : (x y : ℤ) → x -ℤ int_div x y *ℤ y ≡ int_rem x y
 remainder_is x y = let q = quot-rem x y in omega (arith, ints)
 
 amount_below : (P : Option ℕ → Type 0) → P None → (k w : ℕ) → (k < w → P (Some k)) → (b : Bool) → (b ≡ true → k < w) → P (if b then Some k else None)
@@ -73,8 +80,8 @@ module _ (round : RoundTrip) (width : HasWidth) where
   conv_back : (t : Ty) (v : ℤ) → pattern t (conv t v) ≡ pattern t v
   conv_back t v = round t (pattern t v) (width t v)
 
-  fit_law : (t : Ty) (p : ℕ) (v z : ℤ) → p ≡ pattern t v → fit t v ≡ Some z → p ≡ pattern t z
-  fit_law t p v z is e = is ∙ sym (fit_cases t v z (conv_back t v) (ty_signed t) e)
+  fit_law : (f : Profile) (t : Ty) (p : ℕ) (v z : ℤ) → p ≡ pattern t v → fit f t v ≡ Some z → p ≡ pattern t z
+  fit_law f t p v z is e = is ∙ sym (fit_cases f t v z (conv_back t v) (ty_signed t) e)
 
   joined_law : (t : Ty) (f : ℕ → ℕ → ℕ) (p : ℕ) (x y z : ℤ) → p < 2 ^ ty_width t → p ≡ f (pattern t x) (pattern t y) → joined t f x y ≡ Some z → p ≡ pattern t z
   joined_law t f p x y z below is e =
@@ -92,9 +99,13 @@ remainder_law t p x y z is e =
 shift_law : (t : Ty) (g : ℕ → Option ℤ) (p : ℕ) (y z : ℤ) → ((k : ℕ) → y ≡ pos k → k < ty_width t → g k ≡ Some z → p ≡ pattern t z) → option_and_then g (amount t y) ≡ Some z → p ≡ pattern t z
 shift_law t g p y z is e = amount_cases (λ o. option_and_then g o ≡ Some z → p ≡ pattern t z) (none_is z) t y (λ k at below f. is k at below f) e
 
-left_cases : (t : Ty) (x z : ℤ) (k : ℕ) (P : Type 0) → (fit t (x *ℤ pos (2 ^ k)) ≡ Some z → P) → (b : Bool) → (if b then None else fit t (x *ℤ pos (2 ^ k))) ≡ Some z → P
-left_cases t x z k P f true e = none_is z e
-left_cases t x z k P f false e = f e
+plain_cases : (t : Ty) (x z : ℤ) (k : ℕ) (P : Type 0) → (fit Plain t (x *ℤ pos (2 ^ k)) ≡ Some z → P) → (b : Bool) → (if b then None else fit Plain t (x *ℤ pos (2 ^ k))) ≡ Some z → P
+plain_cases t x z k P f true e = none_is z e
+plain_cases t x z k P f false e = f e
+
+left_cases : (p : Profile) (t : Ty) (x z : ℤ) (k : ℕ) (P : Type 0) → (fit p t (x *ℤ pos (2 ^ k)) ≡ Some z → P) → left_shift p t x k ≡ Some z → P
+left_cases Plain t x z k P f e = plain_cases t x z k P f (ty_signed t && is_negative x) e
+left_cases Wrap t x z k P f e = f e
 
 truth_law : (v : ℕ) (b : Bool) (R : Type 0) (z : ℤ) → IsTruthOf v R → (b ≡ true → R) → (b ≡ false → ¬ R) → Some (truth b) ≡ Some z → v ≡ pattern I32 z
 truth_law v true R z told if_so if_not e = told.0 (if_so refl) ∙ ap (pattern I32) (some_is (pos 1) z e)
@@ -110,7 +121,7 @@ less_yes x y e = omega (arith, ints)
 less_no : (x y : ℤ) → int_lt x y ≡ false → ¬ (x <ℤ y)
 less_no x y e h = omega (arith, ints)
 
-most_yes : (x y : ℤ) → int_le x y ≡ true → x ≤ℤ y
+pub most_yes : (x y : ℤ) → int_le x y ≡ true → x ≤ℤ y
 most_yes x y e = omega (arith, ints)
 
 most_no : (x y : ℤ) → int_le x y ≡ false → ¬ (x ≤ℤ y)
@@ -126,7 +137,7 @@ zero_yes : (x : ℤ) → is_zero x ≡ true → x ≡ pos 0
 zero_yes (pos n) e = ap pos ((Decides-eqb n 0).0 e)
 zero_yes (negsuc n) e = absurd (false≢true e)
 
-by_promoted : (P : Ty → Type 0) → P I32 → P U32 → P I64 → P U64 → (t : Ty) → P (promoted t)
+pub by_promoted : (P : Ty → Type 0) → P I32 → P U32 → P I64 → P U64 → (t : Ty) → P (promoted t)
 by_promoted P a b c d I8 = a
 by_promoted P a b c d U8 = a
 by_promoted P a b c d I16 = a
@@ -140,64 +151,64 @@ by_promoted P a b c d U64 = d
 
 module _ (round : RoundTrip) (width : HasWidth) where
   pub products_keep : Gives2 op2.Mul32 (λ x y. x *ℤ y) → Gives2 op2.Mul64 (λ x y. x *ℤ y) → (t : Ty) → KeepsPatterns op.Mul (promoted t)
-  products_keep g h = by_promoted (KeepsPatterns op.Mul) (λ x y z r q e. fit_law round width I32 (op2_result op2.Mul32 (pattern I32 x) (pattern I32 y)) (x *ℤ y) z (g x y) e) (λ x y z r q e. fit_law round width U32 (op2_result op2.Mul32 (pattern U32 x) (pattern U32 y)) (x *ℤ y) z (g x y) e) (λ x y z r q e. fit_law round width I64 (op2_result op2.Mul64 (pattern I64 x) (pattern I64 y)) (x *ℤ y) z (h x y) e) (λ x y z r q e. fit_law round width U64 (op2_result op2.Mul64 (pattern U64 x) (pattern U64 y)) (x *ℤ y) z (h x y) e)
+  products_keep g h = by_promoted (KeepsPatterns op.Mul) (λ f x y z r q e. fit_law round width f I32 (op2_result op2.Mul32 (pattern I32 x) (pattern I32 y)) (x *ℤ y) z (g x y) e) (λ f x y z r q e. fit_law round width f U32 (op2_result op2.Mul32 (pattern U32 x) (pattern U32 y)) (x *ℤ y) z (g x y) e) (λ f x y z r q e. fit_law round width f I64 (op2_result op2.Mul64 (pattern I64 x) (pattern I64 y)) (x *ℤ y) z (h x y) e) (λ f x y z r q e. fit_law round width f U64 (op2_result op2.Mul64 (pattern U64 x) (pattern U64 y)) (x *ℤ y) z (h x y) e)
 
   pub sums_keep : Gives2 op2.Add32 (λ x y. x +ℤ y) → Gives2 op2.Add64 (λ x y. x +ℤ y) → (t : Ty) → KeepsPatterns op.Add (promoted t)
-  sums_keep g h = by_promoted (KeepsPatterns op.Add) (λ x y z r q e. fit_law round width I32 (op2_result op2.Add32 (pattern I32 x) (pattern I32 y)) (x +ℤ y) z (g x y) e) (λ x y z r q e. fit_law round width U32 (op2_result op2.Add32 (pattern U32 x) (pattern U32 y)) (x +ℤ y) z (g x y) e) (λ x y z r q e. fit_law round width I64 (op2_result op2.Add64 (pattern I64 x) (pattern I64 y)) (x +ℤ y) z (h x y) e) (λ x y z r q e. fit_law round width U64 (op2_result op2.Add64 (pattern U64 x) (pattern U64 y)) (x +ℤ y) z (h x y) e)
+  sums_keep g h = by_promoted (KeepsPatterns op.Add) (λ f x y z r q e. fit_law round width f I32 (op2_result op2.Add32 (pattern I32 x) (pattern I32 y)) (x +ℤ y) z (g x y) e) (λ f x y z r q e. fit_law round width f U32 (op2_result op2.Add32 (pattern U32 x) (pattern U32 y)) (x +ℤ y) z (g x y) e) (λ f x y z r q e. fit_law round width f I64 (op2_result op2.Add64 (pattern I64 x) (pattern I64 y)) (x +ℤ y) z (h x y) e) (λ f x y z r q e. fit_law round width f U64 (op2_result op2.Add64 (pattern U64 x) (pattern U64 y)) (x +ℤ y) z (h x y) e)
 
   pub differences_keep : Gives2 op2.Sub32 (λ x y. x -ℤ y) → Gives2 op2.Sub64 (λ x y. x -ℤ y) → (t : Ty) → KeepsPatterns op.Sub (promoted t)
-  differences_keep g h = by_promoted (KeepsPatterns op.Sub) (λ x y z r q e. fit_law round width I32 (op2_result op2.Sub32 (pattern I32 x) (pattern I32 y)) (x -ℤ y) z (g x y) e) (λ x y z r q e. fit_law round width U32 (op2_result op2.Sub32 (pattern U32 x) (pattern U32 y)) (x -ℤ y) z (g x y) e) (λ x y z r q e. fit_law round width I64 (op2_result op2.Sub64 (pattern I64 x) (pattern I64 y)) (x -ℤ y) z (h x y) e) (λ x y z r q e. fit_law round width U64 (op2_result op2.Sub64 (pattern U64 x) (pattern U64 y)) (x -ℤ y) z (h x y) e)
+  differences_keep g h = by_promoted (KeepsPatterns op.Sub) (λ f x y z r q e. fit_law round width f I32 (op2_result op2.Sub32 (pattern I32 x) (pattern I32 y)) (x -ℤ y) z (g x y) e) (λ f x y z r q e. fit_law round width f U32 (op2_result op2.Sub32 (pattern U32 x) (pattern U32 y)) (x -ℤ y) z (g x y) e) (λ f x y z r q e. fit_law round width f I64 (op2_result op2.Sub64 (pattern I64 x) (pattern I64 y)) (x -ℤ y) z (h x y) e) (λ f x y z r q e. fit_law round width f U64 (op2_result op2.Sub64 (pattern U64 x) (pattern U64 y)) (x -ℤ y) z (h x y) e)
 
   pub conjunctions_keep : BelowWidth2 → JoinsBits op2.And32 bit_and → JoinsBits op2.And64 bit_and → (t : Ty) → KeepsPatterns op.And (promoted t)
-  conjunctions_keep below g h = by_promoted (KeepsPatterns op.And) (λ x y z r q e. joined_law round width I32 bit_and (op2_result op2.And32 (pattern I32 x) (pattern I32 y)) x y z (below op2.And32 (pattern I32 x) (pattern I32 y)) (g x y) e) (λ x y z r q e. joined_law round width U32 bit_and (op2_result op2.And32 (pattern U32 x) (pattern U32 y)) x y z (below op2.And32 (pattern U32 x) (pattern U32 y)) (g x y) e) (λ x y z r q e. joined_law round width I64 bit_and (op2_result op2.And64 (pattern I64 x) (pattern I64 y)) x y z (below op2.And64 (pattern I64 x) (pattern I64 y)) (h x y) e) (λ x y z r q e. joined_law round width U64 bit_and (op2_result op2.And64 (pattern U64 x) (pattern U64 y)) x y z (below op2.And64 (pattern U64 x) (pattern U64 y)) (h x y) e)
+  conjunctions_keep below g h = by_promoted (KeepsPatterns op.And) (λ f x y z r q e. joined_law round width I32 bit_and (op2_result op2.And32 (pattern I32 x) (pattern I32 y)) x y z (below op2.And32 (pattern I32 x) (pattern I32 y)) (g x y) e) (λ f x y z r q e. joined_law round width U32 bit_and (op2_result op2.And32 (pattern U32 x) (pattern U32 y)) x y z (below op2.And32 (pattern U32 x) (pattern U32 y)) (g x y) e) (λ f x y z r q e. joined_law round width I64 bit_and (op2_result op2.And64 (pattern I64 x) (pattern I64 y)) x y z (below op2.And64 (pattern I64 x) (pattern I64 y)) (h x y) e) (λ f x y z r q e. joined_law round width U64 bit_and (op2_result op2.And64 (pattern U64 x) (pattern U64 y)) x y z (below op2.And64 (pattern U64 x) (pattern U64 y)) (h x y) e)
 
   pub disjunctions_keep : BelowWidth2 → JoinsBits op2.Or32 bit_or → JoinsBits op2.Or64 bit_or → (t : Ty) → KeepsPatterns op.Or (promoted t)
-  disjunctions_keep below g h = by_promoted (KeepsPatterns op.Or) (λ x y z r q e. joined_law round width I32 bit_or (op2_result op2.Or32 (pattern I32 x) (pattern I32 y)) x y z (below op2.Or32 (pattern I32 x) (pattern I32 y)) (g x y) e) (λ x y z r q e. joined_law round width U32 bit_or (op2_result op2.Or32 (pattern U32 x) (pattern U32 y)) x y z (below op2.Or32 (pattern U32 x) (pattern U32 y)) (g x y) e) (λ x y z r q e. joined_law round width I64 bit_or (op2_result op2.Or64 (pattern I64 x) (pattern I64 y)) x y z (below op2.Or64 (pattern I64 x) (pattern I64 y)) (h x y) e) (λ x y z r q e. joined_law round width U64 bit_or (op2_result op2.Or64 (pattern U64 x) (pattern U64 y)) x y z (below op2.Or64 (pattern U64 x) (pattern U64 y)) (h x y) e)
+  disjunctions_keep below g h = by_promoted (KeepsPatterns op.Or) (λ f x y z r q e. joined_law round width I32 bit_or (op2_result op2.Or32 (pattern I32 x) (pattern I32 y)) x y z (below op2.Or32 (pattern I32 x) (pattern I32 y)) (g x y) e) (λ f x y z r q e. joined_law round width U32 bit_or (op2_result op2.Or32 (pattern U32 x) (pattern U32 y)) x y z (below op2.Or32 (pattern U32 x) (pattern U32 y)) (g x y) e) (λ f x y z r q e. joined_law round width I64 bit_or (op2_result op2.Or64 (pattern I64 x) (pattern I64 y)) x y z (below op2.Or64 (pattern I64 x) (pattern I64 y)) (h x y) e) (λ f x y z r q e. joined_law round width U64 bit_or (op2_result op2.Or64 (pattern U64 x) (pattern U64 y)) x y z (below op2.Or64 (pattern U64 x) (pattern U64 y)) (h x y) e)
 
   pub exclusions_keep : BelowWidth2 → JoinsBits op2.Xor32 bit_xor → JoinsBits op2.Xor64 bit_xor → (t : Ty) → KeepsPatterns op.Xor (promoted t)
-  exclusions_keep below g h = by_promoted (KeepsPatterns op.Xor) (λ x y z r q e. joined_law round width I32 bit_xor (op2_result op2.Xor32 (pattern I32 x) (pattern I32 y)) x y z (below op2.Xor32 (pattern I32 x) (pattern I32 y)) (g x y) e) (λ x y z r q e. joined_law round width U32 bit_xor (op2_result op2.Xor32 (pattern U32 x) (pattern U32 y)) x y z (below op2.Xor32 (pattern U32 x) (pattern U32 y)) (g x y) e) (λ x y z r q e. joined_law round width I64 bit_xor (op2_result op2.Xor64 (pattern I64 x) (pattern I64 y)) x y z (below op2.Xor64 (pattern I64 x) (pattern I64 y)) (h x y) e) (λ x y z r q e. joined_law round width U64 bit_xor (op2_result op2.Xor64 (pattern U64 x) (pattern U64 y)) x y z (below op2.Xor64 (pattern U64 x) (pattern U64 y)) (h x y) e)
+  exclusions_keep below g h = by_promoted (KeepsPatterns op.Xor) (λ f x y z r q e. joined_law round width I32 bit_xor (op2_result op2.Xor32 (pattern I32 x) (pattern I32 y)) x y z (below op2.Xor32 (pattern I32 x) (pattern I32 y)) (g x y) e) (λ f x y z r q e. joined_law round width U32 bit_xor (op2_result op2.Xor32 (pattern U32 x) (pattern U32 y)) x y z (below op2.Xor32 (pattern U32 x) (pattern U32 y)) (g x y) e) (λ f x y z r q e. joined_law round width I64 bit_xor (op2_result op2.Xor64 (pattern I64 x) (pattern I64 y)) x y z (below op2.Xor64 (pattern I64 x) (pattern I64 y)) (h x y) e) (λ f x y z r q e. joined_law round width U64 bit_xor (op2_result op2.Xor64 (pattern U64 x) (pattern U64 y)) x y z (below op2.Xor64 (pattern U64 x) (pattern U64 y)) (h x y) e)
 
   pub left_shifts_keep : Shifts op2.Shl32 (λ x k. x *ℤ pos (2 ^ k)) → Shifts op2.Shl64 (λ x k. x *ℤ pos (2 ^ k)) → (t : Ty) → ShiftKeepsPatterns op.Shl (promoted t)
-  left_shifts_keep g h = by_promoted (ShiftKeepsPatterns op.Shl) (λ x y z r e. shift_law I32 (left_shift I32 x) (op2_result op2.Shl32 (pattern I32 x) (pattern I32 y)) y z (λ k at below f. left_cases I32 x z k (op2_result op2.Shl32 (pattern I32 x) (pattern I32 y) ≡ pattern I32 z) (λ i. fit_law round width I32 (op2_result op2.Shl32 (pattern I32 x) (pattern I32 y)) (x *ℤ pos (2 ^ k)) z (ap (λ n. op2_result op2.Shl32 (pattern I32 x) (pattern I32 n)) at ∙ g x k below) i) (ty_signed I32 && is_negative x) f) e) (λ x y z r e. shift_law U32 (left_shift U32 x) (op2_result op2.Shl32 (pattern U32 x) (pattern U32 y)) y z (λ k at below f. left_cases U32 x z k (op2_result op2.Shl32 (pattern U32 x) (pattern U32 y) ≡ pattern U32 z) (λ i. fit_law round width U32 (op2_result op2.Shl32 (pattern U32 x) (pattern U32 y)) (x *ℤ pos (2 ^ k)) z (ap (λ n. op2_result op2.Shl32 (pattern U32 x) (pattern U32 n)) at ∙ g x k below) i) (ty_signed U32 && is_negative x) f) e) (λ x y z r e. shift_law I64 (left_shift I64 x) (op2_result op2.Shl64 (pattern I64 x) (pattern I64 y)) y z (λ k at below f. left_cases I64 x z k (op2_result op2.Shl64 (pattern I64 x) (pattern I64 y) ≡ pattern I64 z) (λ i. fit_law round width I64 (op2_result op2.Shl64 (pattern I64 x) (pattern I64 y)) (x *ℤ pos (2 ^ k)) z (ap (λ n. op2_result op2.Shl64 (pattern I64 x) (pattern I64 n)) at ∙ h x k below) i) (ty_signed I64 && is_negative x) f) e) (λ x y z r e. shift_law U64 (left_shift U64 x) (op2_result op2.Shl64 (pattern U64 x) (pattern U64 y)) y z (λ k at below f. left_cases U64 x z k (op2_result op2.Shl64 (pattern U64 x) (pattern U64 y) ≡ pattern U64 z) (λ i. fit_law round width U64 (op2_result op2.Shl64 (pattern U64 x) (pattern U64 y)) (x *ℤ pos (2 ^ k)) z (ap (λ n. op2_result op2.Shl64 (pattern U64 x) (pattern U64 n)) at ∙ h x k below) i) (ty_signed U64 && is_negative x) f) e)
+  left_shifts_keep g h = by_promoted (ShiftKeepsPatterns op.Shl) (λ m x y z r e. shift_law I32 (left_shift m I32 x) (op2_result op2.Shl32 (pattern I32 x) (pattern I32 y)) y z (λ k at below f. left_cases m I32 x z k (op2_result op2.Shl32 (pattern I32 x) (pattern I32 y) ≡ pattern I32 z) (λ i. fit_law round width m I32 (op2_result op2.Shl32 (pattern I32 x) (pattern I32 y)) (x *ℤ pos (2 ^ k)) z (ap (λ n. op2_result op2.Shl32 (pattern I32 x) (pattern I32 n)) at ∙ g x k below) i) f) e) (λ m x y z r e. shift_law U32 (left_shift m U32 x) (op2_result op2.Shl32 (pattern U32 x) (pattern U32 y)) y z (λ k at below f. left_cases m U32 x z k (op2_result op2.Shl32 (pattern U32 x) (pattern U32 y) ≡ pattern U32 z) (λ i. fit_law round width m U32 (op2_result op2.Shl32 (pattern U32 x) (pattern U32 y)) (x *ℤ pos (2 ^ k)) z (ap (λ n. op2_result op2.Shl32 (pattern U32 x) (pattern U32 n)) at ∙ g x k below) i) f) e) (λ m x y z r e. shift_law I64 (left_shift m I64 x) (op2_result op2.Shl64 (pattern I64 x) (pattern I64 y)) y z (λ k at below f. left_cases m I64 x z k (op2_result op2.Shl64 (pattern I64 x) (pattern I64 y) ≡ pattern I64 z) (λ i. fit_law round width m I64 (op2_result op2.Shl64 (pattern I64 x) (pattern I64 y)) (x *ℤ pos (2 ^ k)) z (ap (λ n. op2_result op2.Shl64 (pattern I64 x) (pattern I64 n)) at ∙ h x k below) i) f) e) (λ m x y z r e. shift_law U64 (left_shift m U64 x) (op2_result op2.Shl64 (pattern U64 x) (pattern U64 y)) y z (λ k at below f. left_cases m U64 x z k (op2_result op2.Shl64 (pattern U64 x) (pattern U64 y) ≡ pattern U64 z) (λ i. fit_law round width m U64 (op2_result op2.Shl64 (pattern U64 x) (pattern U64 y)) (x *ℤ pos (2 ^ k)) z (ap (λ n. op2_result op2.Shl64 (pattern U64 x) (pattern U64 n)) at ∙ h x k below) i) f) e)
 
   pub negatives_keep : Gives1 op1.Neg32 neg_ℤ → Gives1 op1.Neg64 neg_ℤ → (t : Ty) → KeepsPattern unary.Minus (promoted t)
-  negatives_keep g h = by_promoted (KeepsPattern unary.Minus) (λ x z r e. fit_law round width I32 (op1_result op1.Neg32 (pattern I32 x)) (neg_ℤ x) z (g x) e) (λ x z r e. fit_law round width U32 (op1_result op1.Neg32 (pattern U32 x)) (neg_ℤ x) z (g x) e) (λ x z r e. fit_law round width I64 (op1_result op1.Neg64 (pattern I64 x)) (neg_ℤ x) z (h x) e) (λ x z r e. fit_law round width U64 (op1_result op1.Neg64 (pattern U64 x)) (neg_ℤ x) z (h x) e)
+  negatives_keep g h = by_promoted (KeepsPattern unary.Minus) (λ f x z r e. fit_law round width f I32 (op1_result op1.Neg32 (pattern I32 x)) (neg_ℤ x) z (g x) e) (λ f x z r e. fit_law round width f U32 (op1_result op1.Neg32 (pattern U32 x)) (neg_ℤ x) z (g x) e) (λ f x z r e. fit_law round width f I64 (op1_result op1.Neg64 (pattern I64 x)) (neg_ℤ x) z (h x) e) (λ f x z r e. fit_law round width f U64 (op1_result op1.Neg64 (pattern U64 x)) (neg_ℤ x) z (h x) e)
 
   pub flips_keep : Gives1 op1.Not32 (λ x. negsuc 0 -ℤ x) → Gives1 op1.Not64 (λ x. negsuc 0 -ℤ x) → (t : Ty) → KeepsPattern unary.Flip (promoted t)
-  flips_keep g h = by_promoted (KeepsPattern unary.Flip) (λ x z r e. g x ∙ sym (conv_back round width I32 (negsuc 0 -ℤ x)) ∙ ap (pattern I32) (some_is (conv I32 (negsuc 0 -ℤ x)) z e)) (λ x z r e. g x ∙ sym (conv_back round width U32 (negsuc 0 -ℤ x)) ∙ ap (pattern U32) (some_is (conv U32 (negsuc 0 -ℤ x)) z e)) (λ x z r e. h x ∙ sym (conv_back round width I64 (negsuc 0 -ℤ x)) ∙ ap (pattern I64) (some_is (conv I64 (negsuc 0 -ℤ x)) z e)) (λ x z r e. h x ∙ sym (conv_back round width U64 (negsuc 0 -ℤ x)) ∙ ap (pattern U64) (some_is (conv U64 (negsuc 0 -ℤ x)) z e))
+  flips_keep g h = by_promoted (KeepsPattern unary.Flip) (λ f x z r e. g x ∙ sym (conv_back round width I32 (negsuc 0 -ℤ x)) ∙ ap (pattern I32) (some_is (conv I32 (negsuc 0 -ℤ x)) z e)) (λ f x z r e. g x ∙ sym (conv_back round width U32 (negsuc 0 -ℤ x)) ∙ ap (pattern U32) (some_is (conv U32 (negsuc 0 -ℤ x)) z e)) (λ f x z r e. h x ∙ sym (conv_back round width I64 (negsuc 0 -ℤ x)) ∙ ap (pattern I64) (some_is (conv I64 (negsuc 0 -ℤ x)) z e)) (λ f x z r e. h x ∙ sym (conv_back round width U64 (negsuc 0 -ℤ x)) ∙ ap (pattern U64) (some_is (conv U64 (negsuc 0 -ℤ x)) z e))
 
 pub quotients_keep : Divides true op2.Divs32 int_div → Divides false op2.Divu32 int_div → Divides true op2.Divs64 int_div → Divides false op2.Divu64 int_div → (t : Ty) → KeepsPatterns op.Div (promoted t)
-quotients_keep a b c d = by_promoted (KeepsPatterns op.Div) (λ x y z r q e. quotient_law I32 (op2_result op2.Divs32 (pattern I32 x) (pattern I32 y)) x y z (a x y r q) e) (λ x y z r q e. quotient_law U32 (op2_result op2.Divu32 (pattern U32 x) (pattern U32 y)) x y z (b x y r q) e) (λ x y z r q e. quotient_law I64 (op2_result op2.Divs64 (pattern I64 x) (pattern I64 y)) x y z (c x y r q) e) (λ x y z r q e. quotient_law U64 (op2_result op2.Divu64 (pattern U64 x) (pattern U64 y)) x y z (d x y r q) e)
+quotients_keep a b c d = by_promoted (KeepsPatterns op.Div) (λ f x y z r q e. quotient_law I32 (op2_result op2.Divs32 (pattern I32 x) (pattern I32 y)) x y z (a x y r q) e) (λ f x y z r q e. quotient_law U32 (op2_result op2.Divu32 (pattern U32 x) (pattern U32 y)) x y z (b x y r q) e) (λ f x y z r q e. quotient_law I64 (op2_result op2.Divs64 (pattern I64 x) (pattern I64 y)) x y z (c x y r q) e) (λ f x y z r q e. quotient_law U64 (op2_result op2.Divu64 (pattern U64 x) (pattern U64 y)) x y z (d x y r q) e)
 
 pub remainders_keep : Divides true op2.Rems32 int_rem → Divides false op2.Remu32 int_rem → Divides true op2.Rems64 int_rem → Divides false op2.Remu64 int_rem → (t : Ty) → KeepsPatterns op.Rem (promoted t)
-remainders_keep a b c d = by_promoted (KeepsPatterns op.Rem) (λ x y z r q e. remainder_law I32 (op2_result op2.Rems32 (pattern I32 x) (pattern I32 y)) x y z (a x y r q) e) (λ x y z r q e. remainder_law U32 (op2_result op2.Remu32 (pattern U32 x) (pattern U32 y)) x y z (b x y r q) e) (λ x y z r q e. remainder_law I64 (op2_result op2.Rems64 (pattern I64 x) (pattern I64 y)) x y z (c x y r q) e) (λ x y z r q e. remainder_law U64 (op2_result op2.Remu64 (pattern U64 x) (pattern U64 y)) x y z (d x y r q) e)
+remainders_keep a b c d = by_promoted (KeepsPatterns op.Rem) (λ f x y z r q e. remainder_law I32 (op2_result op2.Rems32 (pattern I32 x) (pattern I32 y)) x y z (a x y r q) e) (λ f x y z r q e. remainder_law U32 (op2_result op2.Remu32 (pattern U32 x) (pattern U32 y)) x y z (b x y r q) e) (λ f x y z r q e. remainder_law I64 (op2_result op2.Rems64 (pattern I64 x) (pattern I64 y)) x y z (c x y r q) e) (λ f x y z r q e. remainder_law U64 (op2_result op2.Remu64 (pattern U64 x) (pattern U64 y)) x y z (d x y r q) e)
 
 pub right_shifts_keep : ShiftsIn true op2.Shrs32 int_shr → ShiftsIn false op2.Shru32 int_shr → ShiftsIn true op2.Shrs64 int_shr → ShiftsIn false op2.Shru64 int_shr → (t : Ty) → ShiftKeepsPatterns op.Shr (promoted t)
-right_shifts_keep a b c d = by_promoted (ShiftKeepsPatterns op.Shr) (λ x y z r e. shift_law I32 (right_shift x) (op2_result op2.Shrs32 (pattern I32 x) (pattern I32 y)) y z (λ k at below f. ap (λ n. op2_result op2.Shrs32 (pattern I32 x) (pattern I32 n)) at ∙ a x k r below ∙ ap (pattern I32) (some_is (int_shr x k) z f)) e) (λ x y z r e. shift_law U32 (right_shift x) (op2_result op2.Shru32 (pattern U32 x) (pattern U32 y)) y z (λ k at below f. ap (λ n. op2_result op2.Shru32 (pattern U32 x) (pattern U32 n)) at ∙ b x k r below ∙ ap (pattern U32) (some_is (int_shr x k) z f)) e) (λ x y z r e. shift_law I64 (right_shift x) (op2_result op2.Shrs64 (pattern I64 x) (pattern I64 y)) y z (λ k at below f. ap (λ n. op2_result op2.Shrs64 (pattern I64 x) (pattern I64 n)) at ∙ c x k r below ∙ ap (pattern I64) (some_is (int_shr x k) z f)) e) (λ x y z r e. shift_law U64 (right_shift x) (op2_result op2.Shru64 (pattern U64 x) (pattern U64 y)) y z (λ k at below f. ap (λ n. op2_result op2.Shru64 (pattern U64 x) (pattern U64 n)) at ∙ d x k r below ∙ ap (pattern U64) (some_is (int_shr x k) z f)) e)
+right_shifts_keep a b c d = by_promoted (ShiftKeepsPatterns op.Shr) (λ m x y z r e. shift_law I32 (right_shift x) (op2_result op2.Shrs32 (pattern I32 x) (pattern I32 y)) y z (λ k at below f. ap (λ n. op2_result op2.Shrs32 (pattern I32 x) (pattern I32 n)) at ∙ a x k r below ∙ ap (pattern I32) (some_is (int_shr x k) z f)) e) (λ m x y z r e. shift_law U32 (right_shift x) (op2_result op2.Shru32 (pattern U32 x) (pattern U32 y)) y z (λ k at below f. ap (λ n. op2_result op2.Shru32 (pattern U32 x) (pattern U32 n)) at ∙ b x k r below ∙ ap (pattern U32) (some_is (int_shr x k) z f)) e) (λ m x y z r e. shift_law I64 (right_shift x) (op2_result op2.Shrs64 (pattern I64 x) (pattern I64 y)) y z (λ k at below f. ap (λ n. op2_result op2.Shrs64 (pattern I64 x) (pattern I64 n)) at ∙ c x k r below ∙ ap (pattern I64) (some_is (int_shr x k) z f)) e) (λ m x y z r e. shift_law U64 (right_shift x) (op2_result op2.Shru64 (pattern U64 x) (pattern U64 y)) y z (λ k at below f. ap (λ n. op2_result op2.Shru64 (pattern U64 x) (pattern U64 n)) at ∙ d x k r below ∙ ap (pattern U64) (some_is (int_shr x k) z f)) e)
 
 pub less_keeps : Tells2 true op2.Lts32 (λ x y. x <ℤ y) → Tells2 false op2.Ltu32 (λ x y. x <ℤ y) → Tells2 true op2.Lts64 (λ x y. x <ℤ y) → Tells2 false op2.Ltu64 (λ x y. x <ℤ y) → (t : Ty) → KeepsPatterns op.Lt (promoted t)
-less_keeps a b c d = by_promoted (KeepsPatterns op.Lt) (λ x y z r q e. truth_law (op2_result op2.Lts32 (pattern I32 x) (pattern I32 y)) (int_lt x y) (x <ℤ y) z (a x y r q) (less_yes x y) (less_no x y) e) (λ x y z r q e. truth_law (op2_result op2.Ltu32 (pattern U32 x) (pattern U32 y)) (int_lt x y) (x <ℤ y) z (b x y r q) (less_yes x y) (less_no x y) e) (λ x y z r q e. truth_law (op2_result op2.Lts64 (pattern I64 x) (pattern I64 y)) (int_lt x y) (x <ℤ y) z (c x y r q) (less_yes x y) (less_no x y) e) (λ x y z r q e. truth_law (op2_result op2.Ltu64 (pattern U64 x) (pattern U64 y)) (int_lt x y) (x <ℤ y) z (d x y r q) (less_yes x y) (less_no x y) e)
+less_keeps a b c d = by_promoted (KeepsPatterns op.Lt) (λ f x y z r q e. truth_law (op2_result op2.Lts32 (pattern I32 x) (pattern I32 y)) (int_lt x y) (x <ℤ y) z (a x y r q) (less_yes x y) (less_no x y) e) (λ f x y z r q e. truth_law (op2_result op2.Ltu32 (pattern U32 x) (pattern U32 y)) (int_lt x y) (x <ℤ y) z (b x y r q) (less_yes x y) (less_no x y) e) (λ f x y z r q e. truth_law (op2_result op2.Lts64 (pattern I64 x) (pattern I64 y)) (int_lt x y) (x <ℤ y) z (c x y r q) (less_yes x y) (less_no x y) e) (λ f x y z r q e. truth_law (op2_result op2.Ltu64 (pattern U64 x) (pattern U64 y)) (int_lt x y) (x <ℤ y) z (d x y r q) (less_yes x y) (less_no x y) e)
 
 pub greater_keeps : Tells2 true op2.Lts32 (λ x y. x <ℤ y) → Tells2 false op2.Ltu32 (λ x y. x <ℤ y) → Tells2 true op2.Lts64 (λ x y. x <ℤ y) → Tells2 false op2.Ltu64 (λ x y. x <ℤ y) → (t : Ty) → KeepsPatterns op.Gt (promoted t)
-greater_keeps a b c d = by_promoted (KeepsPatterns op.Gt) (λ x y z r q e. truth_law (op2_result op2.Lts32 (pattern I32 y) (pattern I32 x)) (int_lt y x) (y <ℤ x) z (a y x q r) (less_yes y x) (less_no y x) e) (λ x y z r q e. truth_law (op2_result op2.Ltu32 (pattern U32 y) (pattern U32 x)) (int_lt y x) (y <ℤ x) z (b y x q r) (less_yes y x) (less_no y x) e) (λ x y z r q e. truth_law (op2_result op2.Lts64 (pattern I64 y) (pattern I64 x)) (int_lt y x) (y <ℤ x) z (c y x q r) (less_yes y x) (less_no y x) e) (λ x y z r q e. truth_law (op2_result op2.Ltu64 (pattern U64 y) (pattern U64 x)) (int_lt y x) (y <ℤ x) z (d y x q r) (less_yes y x) (less_no y x) e)
+greater_keeps a b c d = by_promoted (KeepsPatterns op.Gt) (λ f x y z r q e. truth_law (op2_result op2.Lts32 (pattern I32 y) (pattern I32 x)) (int_lt y x) (y <ℤ x) z (a y x q r) (less_yes y x) (less_no y x) e) (λ f x y z r q e. truth_law (op2_result op2.Ltu32 (pattern U32 y) (pattern U32 x)) (int_lt y x) (y <ℤ x) z (b y x q r) (less_yes y x) (less_no y x) e) (λ f x y z r q e. truth_law (op2_result op2.Lts64 (pattern I64 y) (pattern I64 x)) (int_lt y x) (y <ℤ x) z (c y x q r) (less_yes y x) (less_no y x) e) (λ f x y z r q e. truth_law (op2_result op2.Ltu64 (pattern U64 y) (pattern U64 x)) (int_lt y x) (y <ℤ x) z (d y x q r) (less_yes y x) (less_no y x) e)
 
 pub at_most_keeps : Tells2 true op2.Les32 (λ x y. x ≤ℤ y) → Tells2 false op2.Leu32 (λ x y. x ≤ℤ y) → Tells2 true op2.Les64 (λ x y. x ≤ℤ y) → Tells2 false op2.Leu64 (λ x y. x ≤ℤ y) → (t : Ty) → KeepsPatterns op.Le (promoted t)
-at_most_keeps a b c d = by_promoted (KeepsPatterns op.Le) (λ x y z r q e. truth_law (op2_result op2.Les32 (pattern I32 x) (pattern I32 y)) (int_le x y) (x ≤ℤ y) z (a x y r q) (most_yes x y) (most_no x y) e) (λ x y z r q e. truth_law (op2_result op2.Leu32 (pattern U32 x) (pattern U32 y)) (int_le x y) (x ≤ℤ y) z (b x y r q) (most_yes x y) (most_no x y) e) (λ x y z r q e. truth_law (op2_result op2.Les64 (pattern I64 x) (pattern I64 y)) (int_le x y) (x ≤ℤ y) z (c x y r q) (most_yes x y) (most_no x y) e) (λ x y z r q e. truth_law (op2_result op2.Leu64 (pattern U64 x) (pattern U64 y)) (int_le x y) (x ≤ℤ y) z (d x y r q) (most_yes x y) (most_no x y) e)
+at_most_keeps a b c d = by_promoted (KeepsPatterns op.Le) (λ f x y z r q e. truth_law (op2_result op2.Les32 (pattern I32 x) (pattern I32 y)) (int_le x y) (x ≤ℤ y) z (a x y r q) (most_yes x y) (most_no x y) e) (λ f x y z r q e. truth_law (op2_result op2.Leu32 (pattern U32 x) (pattern U32 y)) (int_le x y) (x ≤ℤ y) z (b x y r q) (most_yes x y) (most_no x y) e) (λ f x y z r q e. truth_law (op2_result op2.Les64 (pattern I64 x) (pattern I64 y)) (int_le x y) (x ≤ℤ y) z (c x y r q) (most_yes x y) (most_no x y) e) (λ f x y z r q e. truth_law (op2_result op2.Leu64 (pattern U64 x) (pattern U64 y)) (int_le x y) (x ≤ℤ y) z (d x y r q) (most_yes x y) (most_no x y) e)
 
 pub at_least_keeps : Tells2 true op2.Les32 (λ x y. x ≤ℤ y) → Tells2 false op2.Leu32 (λ x y. x ≤ℤ y) → Tells2 true op2.Les64 (λ x y. x ≤ℤ y) → Tells2 false op2.Leu64 (λ x y. x ≤ℤ y) → (t : Ty) → KeepsPatterns op.Ge (promoted t)
-at_least_keeps a b c d = by_promoted (KeepsPatterns op.Ge) (λ x y z r q e. truth_law (op2_result op2.Les32 (pattern I32 y) (pattern I32 x)) (int_le y x) (y ≤ℤ x) z (a y x q r) (most_yes y x) (most_no y x) e) (λ x y z r q e. truth_law (op2_result op2.Leu32 (pattern U32 y) (pattern U32 x)) (int_le y x) (y ≤ℤ x) z (b y x q r) (most_yes y x) (most_no y x) e) (λ x y z r q e. truth_law (op2_result op2.Les64 (pattern I64 y) (pattern I64 x)) (int_le y x) (y ≤ℤ x) z (c y x q r) (most_yes y x) (most_no y x) e) (λ x y z r q e. truth_law (op2_result op2.Leu64 (pattern U64 y) (pattern U64 x)) (int_le y x) (y ≤ℤ x) z (d y x q r) (most_yes y x) (most_no y x) e)
+at_least_keeps a b c d = by_promoted (KeepsPatterns op.Ge) (λ f x y z r q e. truth_law (op2_result op2.Les32 (pattern I32 y) (pattern I32 x)) (int_le y x) (y ≤ℤ x) z (a y x q r) (most_yes y x) (most_no y x) e) (λ f x y z r q e. truth_law (op2_result op2.Leu32 (pattern U32 y) (pattern U32 x)) (int_le y x) (y ≤ℤ x) z (b y x q r) (most_yes y x) (most_no y x) e) (λ f x y z r q e. truth_law (op2_result op2.Les64 (pattern I64 y) (pattern I64 x)) (int_le y x) (y ≤ℤ x) z (c y x q r) (most_yes y x) (most_no y x) e) (λ f x y z r q e. truth_law (op2_result op2.Leu64 (pattern U64 y) (pattern U64 x)) (int_le y x) (y ≤ℤ x) z (d y x q r) (most_yes y x) (most_no y x) e)
 
 pub equal_keeps : ((s : Bool) → Tells2 s op2.Eq32 (λ x y. x ≡ y)) → ((s : Bool) → Tells2 s op2.Eq64 (λ x y. x ≡ y)) → (t : Ty) → KeepsPatterns op.Eq (promoted t)
-equal_keeps g h = by_promoted (KeepsPatterns op.Eq) (λ x y z r q e. truth_law (op2_result op2.Eq32 (pattern I32 x) (pattern I32 y)) (int_eq x y) (x ≡ y) z (g true x y r q) (equal_yes x y) (equal_no x y) e) (λ x y z r q e. truth_law (op2_result op2.Eq32 (pattern U32 x) (pattern U32 y)) (int_eq x y) (x ≡ y) z (g false x y r q) (equal_yes x y) (equal_no x y) e) (λ x y z r q e. truth_law (op2_result op2.Eq64 (pattern I64 x) (pattern I64 y)) (int_eq x y) (x ≡ y) z (h true x y r q) (equal_yes x y) (equal_no x y) e) (λ x y z r q e. truth_law (op2_result op2.Eq64 (pattern U64 x) (pattern U64 y)) (int_eq x y) (x ≡ y) z (h false x y r q) (equal_yes x y) (equal_no x y) e)
+equal_keeps g h = by_promoted (KeepsPatterns op.Eq) (λ f x y z r q e. truth_law (op2_result op2.Eq32 (pattern I32 x) (pattern I32 y)) (int_eq x y) (x ≡ y) z (g true x y r q) (equal_yes x y) (equal_no x y) e) (λ f x y z r q e. truth_law (op2_result op2.Eq32 (pattern U32 x) (pattern U32 y)) (int_eq x y) (x ≡ y) z (g false x y r q) (equal_yes x y) (equal_no x y) e) (λ f x y z r q e. truth_law (op2_result op2.Eq64 (pattern I64 x) (pattern I64 y)) (int_eq x y) (x ≡ y) z (h true x y r q) (equal_yes x y) (equal_no x y) e) (λ f x y z r q e. truth_law (op2_result op2.Eq64 (pattern U64 x) (pattern U64 y)) (int_eq x y) (x ≡ y) z (h false x y r q) (equal_yes x y) (equal_no x y) e)
 
 pub unequal_keeps : ((s : Bool) → Tells2 s op2.Ne32 (λ x y. x ≢ y)) → ((s : Bool) → Tells2 s op2.Ne64 (λ x y. x ≢ y)) → (t : Ty) → KeepsPatterns op.Ne (promoted t)
-unequal_keeps g h = by_promoted (KeepsPatterns op.Ne) (λ x y z r q e. unequal_law (op2_result op2.Ne32 (pattern I32 x) (pattern I32 y)) (int_eq x y) (x ≡ y) z (g true x y r q) (equal_yes x y) (equal_no x y) e) (λ x y z r q e. unequal_law (op2_result op2.Ne32 (pattern U32 x) (pattern U32 y)) (int_eq x y) (x ≡ y) z (g false x y r q) (equal_yes x y) (equal_no x y) e) (λ x y z r q e. unequal_law (op2_result op2.Ne64 (pattern I64 x) (pattern I64 y)) (int_eq x y) (x ≡ y) z (h true x y r q) (equal_yes x y) (equal_no x y) e) (λ x y z r q e. unequal_law (op2_result op2.Ne64 (pattern U64 x) (pattern U64 y)) (int_eq x y) (x ≡ y) z (h false x y r q) (equal_yes x y) (equal_no x y) e)
+unequal_keeps g h = by_promoted (KeepsPatterns op.Ne) (λ f x y z r q e. unequal_law (op2_result op2.Ne32 (pattern I32 x) (pattern I32 y)) (int_eq x y) (x ≡ y) z (g true x y r q) (equal_yes x y) (equal_no x y) e) (λ f x y z r q e. unequal_law (op2_result op2.Ne32 (pattern U32 x) (pattern U32 y)) (int_eq x y) (x ≡ y) z (g false x y r q) (equal_yes x y) (equal_no x y) e) (λ f x y z r q e. unequal_law (op2_result op2.Ne64 (pattern I64 x) (pattern I64 y)) (int_eq x y) (x ≡ y) z (h true x y r q) (equal_yes x y) (equal_no x y) e) (λ f x y z r q e. unequal_law (op2_result op2.Ne64 (pattern U64 x) (pattern U64 y)) (int_eq x y) (x ≡ y) z (h false x y r q) (equal_yes x y) (equal_no x y) e)
 
 pub nots_keep : Tells1 op1.Zero32 (λ x. x ≡ pos 0) → Tells1 op1.Zero64 (λ x. x ≡ pos 0) → (t : Ty) → KeepsPattern unary.Not (promoted t)
-nots_keep g h = by_promoted (KeepsPattern unary.Not) (λ x z r e. truth_law (op1_result op1.Zero32 (pattern I32 x)) (is_zero x) (x ≡ pos 0) z (g true x r) (zero_yes x) (not_zero x) e) (λ x z r e. truth_law (op1_result op1.Zero32 (pattern U32 x)) (is_zero x) (x ≡ pos 0) z (g false x r) (zero_yes x) (not_zero x) e) (λ x z r e. truth_law (op1_result op1.Zero64 (pattern I64 x)) (is_zero x) (x ≡ pos 0) z (h true x r) (zero_yes x) (not_zero x) e) (λ x z r e. truth_law (op1_result op1.Zero64 (pattern U64 x)) (is_zero x) (x ≡ pos 0) z (h false x r) (zero_yes x) (not_zero x) e)
+nots_keep g h = by_promoted (KeepsPattern unary.Not) (λ f x z r e. truth_law (op1_result op1.Zero32 (pattern I32 x)) (is_zero x) (x ≡ pos 0) z (g true x r) (zero_yes x) (not_zero x) e) (λ f x z r e. truth_law (op1_result op1.Zero32 (pattern U32 x)) (is_zero x) (x ≡ pos 0) z (g false x r) (zero_yes x) (not_zero x) e) (λ f x z r e. truth_law (op1_result op1.Zero64 (pattern I64 x)) (is_zero x) (x ≡ pos 0) z (h true x r) (zero_yes x) (not_zero x) e) (λ f x z r e. truth_law (op1_result op1.Zero64 (pattern U64 x)) (is_zero x) (x ≡ pos 0) z (h false x r) (zero_yes x) (not_zero x) e)
 
 pub pluses_keep : (t : Ty) → KeepsPattern unary.Plus (promoted t)
-pluses_keep = by_promoted (KeepsPattern unary.Plus) (λ x z r e. ap (pattern I32) (some_is x z e)) (λ x z r e. ap (pattern U32) (some_is x z e)) (λ x z r e. ap (pattern I64) (some_is x z e)) (λ x z r e. ap (pattern U64) (some_is x z e))
+pluses_keep = by_promoted (KeepsPattern unary.Plus) (λ f x z r e. ap (pattern I32) (some_is x z e)) (λ f x z r e. ap (pattern U32) (some_is x z e)) (λ f x z r e. ap (pattern I64) (some_is x z e)) (λ f x z r e. ap (pattern U64) (some_is x z e))
 
 -- ---- conversions
 

@@ -8,6 +8,7 @@ use Rattle.c_ast.specs.declared.typed.TypedExprKind.TheBlock.{shape-the_row-Type
 use Rattle.c_ast.specs.declared.typed.TypedStmtKind.TheBlock.{shape-the_row-TypedStmt-0, hidden-the_row-TypedStmt-0, shape-the_row-TypedStmt-1, hidden-the_row-TypedStmt-1}
 use Rattle.c_ast.specs.declared.typed.TypedStmtKind.TheVariants as stmt
 use Rattle.c_ast.specs.declared.typed.Typed.{Typed}
+use Rattle.c_meaning.specs.declared.profile.Profile.TheVariants.{Plain}
 use Rattle.c_meaning.specs.Statements.{Ends}
 use Rattle.c_meaning.proofs.Build.{number_of, var_of, two_of, cast_to, stmt_of, to_var, scalar, kernel, inputs}
 
@@ -16,7 +17,7 @@ abbrev sum_and_product : Typed
 sum_and_product = kernel (Some I32) (scalar I32 ∷ scalar I32 ∷ []) (I32 ∷ I32 ∷ []) []
     (stmt_of (stmt.Return (Some (two_of op.Add I32 (var_of I32 0) (two_of op.Mul I32 (var_of I32 1) (number_of I32 3))))) ∷ [])
 
-sum_and_product_ends : Ends sum_and_product (inputs (pos 2 ∷ pos 5 ∷ []) ([])) ([]) (Some (pos 17)) 2
+sum_and_product_ends : Ends sum_and_product Plain (inputs (pos 2 ∷ pos 5 ∷ []) ([])) ([]) (Some (pos 17)) 2
 unfolding shape-the_row-TypedExpr-0 hidden-the_row-TypedExpr-0 shape-the_row-TypedExpr-1 hidden-the_row-TypedExpr-1 shape-the_row-TypedStmt-0 hidden-the_row-TypedStmt-0 shape-the_row-TypedStmt-1 hidden-the_row-TypedStmt-1 hidden
 sum_and_product_ends = record { bound = 2; all_turns = refl; arrays = refl; result = refl }
 
@@ -25,7 +26,7 @@ abbrev counter : Typed
 counter = kernel (Some U8) (scalar U8 ∷ []) (U8 ∷ []) []
     (stmt_of (stmt.Step (to_var 0) true) ∷ stmt_of (stmt.Return (Some (var_of U8 0))) ∷ [])
 
-counter_ends : Ends counter (inputs (pos 255 ∷ []) ([])) ([]) (Some (pos 0)) 3
+counter_ends : Ends counter Plain (inputs (pos 255 ∷ []) ([])) ([]) (Some (pos 0)) 3
 unfolding shape-the_row-TypedExpr-0 hidden-the_row-TypedExpr-0 shape-the_row-TypedExpr-1 hidden-the_row-TypedExpr-1 shape-the_row-TypedStmt-0 hidden-the_row-TypedStmt-0 shape-the_row-TypedStmt-1 hidden-the_row-TypedStmt-1 hidden
 counter_ends = record { bound = 3; all_turns = refl; arrays = refl; result = refl }
 
@@ -36,7 +37,7 @@ comparisons = kernel (Some I32) (scalar I32 ∷ scalar U32 ∷ []) (I32 ∷ U32 
     (two_of op.Mul I32 (two_of op.Lt I32 (cast_to U32 true (var_of I32 0)) (var_of U32 1)) (number_of I32 10))
     (two_of op.Lt I32 (cast_to I64 false (var_of I32 0)) (cast_to I64 true (var_of U32 1)))))) ∷ [])
 
-comparisons_end : Ends comparisons (inputs (negsuc 0 ∷ pos 1 ∷ []) ([])) ([]) (Some (pos 1)) 2
+comparisons_end : Ends comparisons Plain (inputs (negsuc 0 ∷ pos 1 ∷ []) ([])) ([]) (Some (pos 1)) 2
 unfolding shape-the_row-TypedExpr-0 hidden-the_row-TypedExpr-0 shape-the_row-TypedExpr-1 hidden-the_row-TypedExpr-1 shape-the_row-TypedStmt-0 hidden-the_row-TypedStmt-0 shape-the_row-TypedStmt-1 hidden-the_row-TypedStmt-1 hidden
 comparisons_end = record { bound = 2; all_turns = refl; arrays = refl; result = refl }
 
@@ -47,7 +48,7 @@ division = kernel (Some I32) (scalar I32 ∷ scalar I32 ∷ []) (I32 ∷ I32 ∷
     (two_of op.Mul I32 (two_of op.Div I32 (var_of I32 0) (var_of I32 1)) (number_of I32 100))
     (two_of op.Rem I32 (var_of I32 0) (var_of I32 1))))) ∷ [])
 
-division_ends : Ends division (inputs (negsuc 6 ∷ pos 2 ∷ []) ([])) ([]) (Some (negsuc 300)) 2
+division_ends : Ends division Plain (inputs (negsuc 6 ∷ pos 2 ∷ []) ([])) ([]) (Some (negsuc 300)) 2
 unfolding shape-the_row-TypedExpr-0 hidden-the_row-TypedExpr-0 shape-the_row-TypedExpr-1 hidden-the_row-TypedExpr-1 shape-the_row-TypedStmt-0 hidden-the_row-TypedStmt-0 shape-the_row-TypedStmt-1 hidden-the_row-TypedStmt-1 hidden
 division_ends = record { bound = 2; all_turns = refl; arrays = refl; result = refl }
 
@@ -55,6 +56,6 @@ division_ends = record { bound = 2; all_turns = refl; arrays = refl; result = re
 abbrev empty : Typed
 empty = kernel None [] [] [] []
 
-empty_ends : Ends empty (inputs ([]) ([])) ([]) (None) 1
+empty_ends : Ends empty Plain (inputs ([]) ([])) ([]) (None) 1
 unfolding shape-the_row-TypedExpr-0 hidden-the_row-TypedExpr-0 shape-the_row-TypedExpr-1 hidden-the_row-TypedExpr-1 shape-the_row-TypedStmt-0 hidden-the_row-TypedStmt-0 shape-the_row-TypedStmt-1 hidden-the_row-TypedStmt-1 hidden
 empty_ends = record { bound = 1; all_turns = refl; arrays = refl; result = refl }

@@ -8,10 +8,8 @@ use Rattle.c_ast.specs.declared.tree.Binary.{Binary}
 use Rattle.c_ast.specs.declared.tree.Binary.TheVariants as op
 use Rattle.c_ast.specs.declared.typed.TypedExpr.{TypedExpr}
 use Rattle.c_ast.specs.declared.typed.TypedExprKind.TheVariants as typed
-use Rattle.c_meaning.specs.Types.{promoted, usual}
-use Rattle.c_meaning.specs.Operators.{joint_type}
-use Rattle.c_meaning.specs.Patterns.{result_type}
-use Rattle.c_meaning.specs.Casts.{same_type, of_type, converted, left_type, right_type, assigned_type}
+use Rattle.c_ast.specs.Casts.{same_type, of_type, converted, left_type, right_type, assigned_type}
+use Rattle.c_ast.specs.ResultTypes.{promoted, usual, joint_type, result_type}
 use Rattle.c_meaning.specs.Lawful.{AreOperands}
 
 pub promoted_twice : (t : Ty) → promoted (promoted t) ≡ promoted t
@@ -19,11 +17,11 @@ promoted_twice I8 = refl
 promoted_twice t = refl
 
 -- a type with itself
-usual_same : (t : Ty) → usual t t ≡ promoted t
+pub usual_same : (t : Ty) → usual t t ≡ promoted t
 usual_same I8 = refl
 usual_same t = refl
 
-promoted_usual : (a b : Ty) → promoted (usual a b) ≡ usual a b
+pub promoted_usual : (a b : Ty) → promoted (usual a b) ≡ usual a b
 promoted_usual I8 I8 = refl
 promoted_usual U8 I8 = refl
 promoted_usual I16 I8 = refl

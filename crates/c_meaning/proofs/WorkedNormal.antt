@@ -1,7 +1,7 @@
 -- A worked normal form, with statements before the condition of its loop: its end, its jumps and its price.
 use Rattle.std.proofs.Common.{◌≡◌, ℕ, zero, suc, ◌<◌, List, [], ◌∷◌, get_or, Some, None, refl, ap, arith, inl, inr, rules}
 use Rattle.std.proofs.lemmas.List.Elements.{All-nil, All-cons}
-use Rattle.std.specs.Prelude.{false, pos, codes, All, Contains, ◌⊎◌}
+use Rattle.std.specs.Prelude.{true, false, pos, codes, All, Contains, ◌⊎◌}
 use denote.Hole.Carrier.{hidden}
 use Rattle.el_base.specs.declared.ty.Ty.TheVariants.{I32}
 use Rattle.c_ast.specs.declared.tree.Binary.TheVariants as op
@@ -14,7 +14,10 @@ use Rattle.c_ast.specs.declared.normal.NormalStmtKind.TheVariants as normal
 use Rattle.c_ast.specs.declared.normal.NormalStmtKind.TheBlock.{shape-the_row-NormalStmt-0, hidden-the_row-NormalStmt-0, shape-the_row-NormalStmt-1, hidden-the_row-NormalStmt-1}
 use Rattle.el_base.specs.Numbers.{IsInRange}
 use Rattle.c_ast.specs.declared.tree.Param.{Param}
-use Rattle.c_meaning.specs.Lawful.{AreDimensions, all_normal_vars, LawfulExpr, LawfulNormalStmt, LawfulNormal}
+use Rattle.c_meaning.specs.Lawful.{AreDimensions, all_normal_vars, LawfulNormalExpr, LawfulNormalStmt, LawfulNormal}
+use Rattle.c_meaning.specs.Quiet.{Quiet}
+use Rattle.c_meaning.specs.declared.profile.Profile.{Profile}
+use Rattle.c_meaning.specs.declared.profile.Profile.TheVariants.{Plain}
 use Rattle.c_meaning.specs.Normals.{normal_objects, NormalEnds}
 use Rattle.c_meaning.specs.Counts.{NormalCosts}
 use Rattle.c_meaning.proofs.Build.{here, number_of, var_of, element_of, two_of, to_var, array, array_of, scalar, inputs}
@@ -51,13 +54,13 @@ positive = record {
 }
 
 -- 1 for the block, the declaration, the loop and the return each; a round takes 6, and the last one 4
-positive_ends : NormalEnds positive (inputs (pos 8 ∷ []) ((pos 1 ∷ pos 1 ∷ pos 1 ∷ pos 1 ∷ pos 1 ∷ pos 1 ∷ pos 1 ∷ pos 1 ∷ []) ∷ [])) ((pos 1 ∷ pos 1 ∷ pos 1 ∷ pos 1 ∷ pos 1 ∷ pos 1 ∷ pos 1 ∷ pos 1 ∷ []) ∷ []) (Some (pos 8)) 56
+positive_ends : NormalEnds positive Plain (inputs (pos 8 ∷ []) ((pos 1 ∷ pos 1 ∷ pos 1 ∷ pos 1 ∷ pos 1 ∷ pos 1 ∷ pos 1 ∷ pos 1 ∷ []) ∷ [])) ((pos 1 ∷ pos 1 ∷ pos 1 ∷ pos 1 ∷ pos 1 ∷ pos 1 ∷ pos 1 ∷ pos 1 ∷ []) ∷ []) (Some (pos 8)) 56
 unfolding shape-the_row-TypedExpr-0 hidden-the_row-TypedExpr-0 shape-the_row-TypedExpr-1 hidden-the_row-TypedExpr-1 shape-the_row-NormalStmt-0 hidden-the_row-NormalStmt-0 shape-the_row-NormalStmt-1 hidden-the_row-NormalStmt-1 hidden
 positive_ends = record { bound = 56; all_turns = refl; arrays = refl; result = refl }
 
 -- jumps: 2 for each of 9 conditions of the if and 9 of the loop, and 1 for the return.
 -- Price: 1 for the first value; in each round 5 for the first assignment, 3 for either condition; in 8 rounds 10 for the assignment with the element, and 5 for the body; 1 for the result.
-positive_costs : NormalCosts positive (inputs (pos 8 ∷ []) ((pos 1 ∷ pos 1 ∷ pos 1 ∷ pos 1 ∷ pos 1 ∷ pos 1 ∷ pos 1 ∷ pos 1 ∷ []) ∷ [])) 37 221
+positive_costs : NormalCosts positive Plain (inputs (pos 8 ∷ []) ((pos 1 ∷ pos 1 ∷ pos 1 ∷ pos 1 ∷ pos 1 ∷ pos 1 ∷ pos 1 ∷ pos 1 ∷ []) ∷ [])) 37 221
 unfolding shape-the_row-TypedExpr-0 hidden-the_row-TypedExpr-0 shape-the_row-TypedExpr-1 hidden-the_row-TypedExpr-1 shape-the_row-NormalStmt-0 hidden-the_row-NormalStmt-0 shape-the_row-NormalStmt-1 hidden-the_row-NormalStmt-1 hidden
 positive_costs = record { bound = 56; over = tt; all_jumps = refl; whole_price = refl }
 
@@ -83,32 +86,45 @@ positive_used (suc zero) l = inr (0, omega arith, refl)
 positive_used (suc (suc zero)) l = inr (1, omega arith, refl)
 positive_used (suc (suc (suc i))) l = absurd (omega arith)
 
-abbrev IsLawful : NormalStmt → Type 0
-IsLawful s = LawfulNormalStmt (normal_objects positive) (Some I32) false s.kind
+module _ (p : Profile) where
+  abbrev IsLawful : NormalStmt → Type 0
+  IsLawful s = LawfulNormalStmt (normal_objects p positive) (Some I32) false s.kind
 
-no_indices : All (LawfulExpr (normal_objects positive)) []
-no_indices = All-nil (LawfulExpr (normal_objects positive))
+  no_indices : All (LawfulNormalExpr (normal_objects p positive)) []
+  no_indices = All-nil (LawfulNormalExpr (normal_objects p positive))
+
+  statements_lawful : All IsLawful positive.body
+  unfolding shape-the_row-TypedExpr-0 hidden-the_row-TypedExpr-0 shape-the_row-TypedExpr-1 hidden-the_row-TypedExpr-1 shape-the_row-NormalStmt-0 hidden-the_row-NormalStmt-0 shape-the_row-NormalStmt-1 hidden-the_row-NormalStmt-1 hidden
+  statements_lawful = All-cons IsLawful clear (count_up ∷ give ∷ []) (refl, (zero_fits, tt))
+      (All-cons IsLawful count_up (give ∷ []) (
+        (
+          (I32, ((refl, refl), no_indices), refl, (((refl, refl, refl), refl, refl), (tt, tt, tt))),
+          ((tt, (refl, tt), (I32, ((refl, refl), no_indices), refl, (((refl, refl, refl), ((array_of I32 (8 ∷ []), refl, refl, refl), (refl, tt)), zero_fits), (tt, (tt, tt), tt))), tt), tt),
+        ),
+        (refl, tt),
+        (I32, ((refl, refl), no_indices), refl, (((refl, refl, refl), refl, one_fits), (tt, tt, tt))),
+      )
+      (All-cons IsLawful give [] (refl, (refl, tt)) (All-nil IsLawful)))
+
+abbrev MayReturn : NormalStmt → Type 0
+MayReturn s = Quiet true s.kind
+
+positive_quiet : All MayReturn positive.body
+unfolding shape-the_row-NormalStmt-0 hidden-the_row-NormalStmt-0 shape-the_row-NormalStmt-1 hidden-the_row-NormalStmt-1 hidden
+positive_quiet = All-cons MayReturn clear (count_up ∷ give ∷ []) tt
+    (All-cons MayReturn count_up (give ∷ []) ((tt, ((tt, tt, tt), tt)), tt) (All-cons MayReturn give [] refl (All-nil MayReturn)))
 
 positive_lawful : LawfulNormal positive
-unfolding shape-the_row-TypedExpr-0 hidden-the_row-TypedExpr-0 shape-the_row-TypedExpr-1 hidden-the_row-TypedExpr-1 shape-the_row-NormalStmt-0 hidden-the_row-NormalStmt-0 shape-the_row-NormalStmt-1 hidden-the_row-NormalStmt-1 hidden
 positive_lawful = record {
-  header = record {
+  header = λ p. record {
     distinct = ((λ m. other_name m.0 m.1 m.2), ((λ m. absurd (omega (arith, m.1))), tt));
-    dimensions = All-cons (λ (p : Param). AreDimensions p.dims) (scalar I32) (array I32 (8 ∷ []) ∷ []) (omega arith, All-nil (λ d. 0 < d))
-        (All-cons (λ (p : Param). AreDimensions p.dims) (array I32 (8 ∷ [])) [] (omega arith, All-cons (λ d. 0 < d) 8 [] (omega arith) (All-nil (λ d. 0 < d))) (All-nil (λ (p : Param). AreDimensions p.dims)));
+    dimensions = All-cons (λ (q : Param). AreDimensions q.dims) (scalar I32) (array I32 (8 ∷ []) ∷ []) (omega arith, All-nil (λ d. 0 < d))
+        (All-cons (λ (q : Param). AreDimensions q.dims) (array I32 (8 ∷ [])) [] (omega arith, All-cons (λ d. 0 < d) 8 [] (omega arith) (All-nil (λ d. 0 < d))) (All-nil (λ (q : Param). AreDimensions q.dims)));
     few_elements = omega arith;
     first_vars = refl;
     arrays_are = refl;
   };
   used = positive_used;
-  statements = All-cons IsLawful clear (count_up ∷ give ∷ []) (refl, zero_fits)
-      (All-cons IsLawful count_up (give ∷ []) (
-        (
-          (I32, ((refl, refl), no_indices), refl, ((refl, refl, refl), refl, refl)),
-          ((tt, refl, (I32, ((refl, refl), no_indices), refl, ((refl, refl, refl), ((array_of I32 (8 ∷ []), refl, refl, refl), (refl, tt)), zero_fits)), tt), tt),
-        ),
-        refl,
-        (I32, ((refl, refl), no_indices), refl, ((refl, refl, refl), refl, one_fits)),
-      )
-      (All-cons IsLawful give [] (refl, refl) (All-nil IsLawful)));
+  statements = statements_lawful;
+  quiet = positive_quiet;
 }

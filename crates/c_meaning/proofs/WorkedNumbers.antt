@@ -6,9 +6,11 @@ use Rattle.el_base.specs.Numbers.{pattern, number}
 use Rattle.c_ast.specs.declared.tree.Unary.TheVariants.{Flip, Minus, Not}
 use Rattle.c_ast.specs.declared.tree.Binary.TheVariants as op
 use Rattle.word_ops.specs.Operations.{op1_result, op1_on, op2_result, op2_on}
-use Rattle.c_meaning.specs.Types.{range, conv, exact, fit, promoted, usual}
-use Rattle.c_meaning.specs.Operators.{unary_value, binary_value, joint_type}
-use Rattle.c_meaning.specs.Patterns.{on_patterns, on_pattern, conversion_op, converted_by, result_type}
+use Rattle.c_ast.specs.ResultTypes.{promoted, usual, joint_type, result_type}
+use Rattle.c_meaning.specs.Types.{range, conv, exact, fit}
+use Rattle.c_meaning.specs.declared.profile.Profile.TheVariants.{Plain}
+use Rattle.c_meaning.specs.Operators.{unary_value, binary_value}
+use Rattle.c_meaning.specs.Patterns.{on_patterns, on_pattern, conversion_op, converted_by}
 use Rattle.c_meaning.specs.Stores.{place_from}
 
 in_range : range I8 (pos 127) ≡ true
@@ -28,10 +30,10 @@ minus_one_again = refl
 converted : conv I8 (pos 200) ≡ negsuc 55
 converted = refl
 
-wraps_unsigned : fit U8 (pos 256) ≡ Some (pos 0)
+wraps_unsigned : fit Plain U8 (pos 256) ≡ Some (pos 0)
 wraps_unsigned = refl
 
-overflows_signed : fit I32 (pos 2147483648) ≡ None
+overflows_signed : fit Plain I32 (pos 2147483648) ≡ None
 overflows_signed = refl
 
 exact_unsigned : exact U8 (pos 256) ≡ None
@@ -50,19 +52,19 @@ shift_type : joint_type op.Shl I8 U64 ≡ I32
 shift_type = refl
 
 -- -7 >> 1 is -4, -7 / 2 is -3 and -7 % 2 is -1
-shifted : binary_value op.Shr I32 (negsuc 6) (pos 1) ≡ Some (negsuc 3)
+shifted : binary_value Plain op.Shr I32 (negsuc 6) (pos 1) ≡ Some (negsuc 3)
 shifted = refl
 
-divided : binary_value op.Div I32 (negsuc 6) (pos 2) ≡ Some (negsuc 2)
+divided : binary_value Plain op.Div I32 (negsuc 6) (pos 2) ≡ Some (negsuc 2)
 divided = refl
 
-remaining : binary_value op.Rem I32 (negsuc 6) (pos 2) ≡ Some (negsuc 0)
+remaining : binary_value Plain op.Rem I32 (negsuc 6) (pos 2) ≡ Some (negsuc 0)
 remaining = refl
 
-flipped : unary_value Flip U32 (pos 0) ≡ Some (pos 4294967295)
+flipped : unary_value Plain Flip U32 (pos 0) ≡ Some (pos 4294967295)
 flipped = refl
 
-negated : unary_value Not I64 (pos 5) ≡ Some (pos 0)
+negated : unary_value Plain Not I64 (pos 5) ≡ Some (pos 0)
 negated = refl
 
 -- [1][2] of dimensions 2 and 3 is the last place, and [1][3] is none

@@ -28,8 +28,8 @@ use Rattle.c_ast.specs.declared.typed.Typed.{Typed}
 use Rattle.c_ast.specs.Derives.{marked, keyed, named, numbered, DerivesExpr, Derives}
 use Rattle.c_ast.specs.Derives as derives
 use Rattle.c_ast.specs.Typing.{Names, a_scalar, IsUsable, Typing}
-use Rattle.c_meaning.specs.Casts.{Casts, of_type}
-use Rattle.c_meaning.specs.Constants.{NumbersFit, NumbersFitStmt}
+use Rattle.c_ast.specs.Casts.{Casts, of_type}
+use Rattle.c_ast.specs.Constants.{NumbersFit, NumbersFitStmt}
 use Rattle.c_meaning.specs.Lawful.{AreDimensions, LawfulStmt, Lawful}
 use Rattle.c_meaning.specs.Statements.{objects}
 use Rattle.c_meaning.proofs.Elaboration.{cast_tree}
@@ -187,14 +187,15 @@ tree_has_typed_tree = subst (Casts tree) cast_of_tree (tree_casts tree tree_typi
 typed_tree_lawful : Lawful typed_tree
 unfolding shape-the_row-TypedExpr-0 hidden-the_row-TypedExpr-0 shape-the_row-TypedExpr-1 hidden-the_row-TypedExpr-1 hidden
 typed_tree_lawful = record {
-  header = record {
+  header = λ p. record {
     distinct = ((λ m. absurd (omega (arith, m.1))), tt);
-    dimensions = All-cons (λ (p : Param). AreDimensions p.dims) param [] (omega arith, All-nil (λ d. 0 < d)) (All-nil (λ (p : Param). AreDimensions p.dims));
+    dimensions = All-cons (λ (q : Param). AreDimensions q.dims) param [] (omega arith, All-nil (λ d. 0 < d)) (All-nil (λ (q : Param). AreDimensions q.dims));
     few_elements = omega arith;
     first_vars = refl;
     arrays_are = refl;
   };
   used = λ v l. inl l;
-  statements = All-cons (λ (s : TypedStmt). LawfulStmt (objects typed_tree) (Some I64) false s.kind) typed_returns []
-      (refl, ((refl, refl, refl), refl, record { above = search rules; below = search rules })) (All-nil (λ (s : TypedStmt). LawfulStmt (objects typed_tree) (Some I64) false s.kind));
+  statements = λ p. All-cons (λ (s : TypedStmt). LawfulStmt (objects p typed_tree) (Some I64) false s.kind) typed_returns []
+      (refl, ((λ i. refl), ((refl, refl, refl), ((λ i. refl), refl), record { above = search rules; below = search rules })))
+      (All-nil (λ (s : TypedStmt). LawfulStmt (objects p typed_tree) (Some I64) false s.kind));
 }

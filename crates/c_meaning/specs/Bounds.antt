@@ -4,6 +4,7 @@ use Rattle.c_ast.specs.declared.typed.Typed.{Typed}
 use Rattle.c_ast.specs.declared.typed.TypedStmt.{TypedStmt}
 use Rattle.c_ast.specs.declared.normal.Normal.{Normal}
 use Rattle.c_ast.specs.declared.normal.NormalStmt.{NormalStmt}
+use Rattle.c_meaning.specs.declared.profile.Profile.{Profile}
 use Rattle.c_meaning.specs.Normals.{normal_does, normal_run, NormalEnds}
 use Rattle.c_meaning.specs.Stores.{Store, Objects, Inputs}
 use Rattle.c_meaning.specs.Runs.{How, normally, by_break, by_continue, by_return, undefined, out_of_turns, Ended}
@@ -15,7 +16,7 @@ IsOver normally = Unit {0}
 IsOver by_break = Unit {0}
 IsOver by_continue = Unit {0}
 IsOver (by_return v) = Unit {0}
-IsOver undefined = Unit {0}
+IsOver (undefined at) = Unit {0}
 IsOver out_of_turns = ⊥
 
 -- the same end, with m turns more left
@@ -31,21 +32,21 @@ abbrev pub StatementsKeepEnds : Type 0
 StatementsKeepEnds = (k : Objects) (x : TypedStmt) (s : Store) → KeepsEnd (does k x s)
 
 abbrev pub KernelsKeepEnds : Type 0
-KernelsKeepEnds = (k : Typed) (i : Inputs) → KeepsEnd (kernel_run k i)
+KernelsKeepEnds = (k : Typed) (p : Profile) (i : Inputs) → KeepsEnd (kernel_run k p i)
 
 -- the same of normal forms
 abbrev pub NormalStatementsKeepEnds : Type 0
 NormalStatementsKeepEnds = (k : Objects) (x : NormalStmt) (s : Store) → KeepsEnd (normal_does k x s)
 
 abbrev pub NormalsKeepEnds : Type 0
-NormalsKeepEnds = (k : Normal) (i : Inputs) → KeepsEnd (normal_run k i)
+NormalsKeepEnds = (k : Normal) (p : Profile) (i : Inputs) → KeepsEnd (normal_run k p i)
 
 -- what ends, ends with one list of arrays, one result and one number of turns
 abbrev pub IsOne : (List (List ℤ) → Option ℤ → ℕ → Type 0) → Type 0
 IsOne E = (out p : List (List ℤ)) (r q : Option ℤ) (t u : ℕ) → E out r t → E p q u → (out ≡ p) × (r ≡ q) × (t ≡ u)
 
 abbrev pub EndsIsOne : Type 0
-EndsIsOne = (k : Typed) (i : Inputs) → IsOne (Ends k i)
+EndsIsOne = (k : Typed) (p : Profile) (i : Inputs) → IsOne (Ends k p i)
 
 abbrev pub NormalEndsIsOne : Type 0
-NormalEndsIsOne = (k : Normal) (i : Inputs) → IsOne (NormalEnds k i)
+NormalEndsIsOne = (k : Normal) (p : Profile) (i : Inputs) → IsOne (NormalEnds k p i)

@@ -2,7 +2,7 @@
 use Rattle.std.specs.Prelude.{◌≡◌, ℕ, zero, suc, ◌+◌, List, [], ◌∷◌, map, flat_map, ℤ, Bool, true, false, Option, Some, None}
 use mathlib.Core.Former.{Count}
 use Rattle.c_ast.specs.declared.tree.Binary.{Binary}
-use Rattle.c_ast.specs.declared.tree.Binary.TheVariants.{Shl, Shr, Both, Either}
+use Rattle.c_ast.specs.declared.tree.Binary.TheVariants.{Mul, Div, Rem, Add, Sub, Shl, Shr, Lt, Gt, Le, Ge, Eq, Ne, And, Xor, Or, Both, Either}
 use Rattle.c_ast.specs.declared.typed.TypedTarget.{TypedTarget}
 use Rattle.c_ast.specs.declared.typed.TypedExpr.{TypedExpr}
 use Rattle.c_ast.specs.declared.typed.TypedExprKind.{TypedExprKind, Row_of-TypedExpr, end_of-TypedExpr, more_of-TypedExpr}
@@ -12,23 +12,37 @@ use Rattle.c_ast.specs.declared.normal.NormalStmt.{NormalStmt}
 use Rattle.c_ast.specs.declared.normal.NormalStmtKind.{NormalStmtKind, Row_of-NormalStmt, end_of-NormalStmt, more_of-NormalStmt, Held-NormalStmtKind-If-3}
 use Rattle.c_ast.specs.declared.normal.NormalStmtKind as act
 use Rattle.c_ast.specs.declared.normal.NormalStmtKind.TheOpen.{NormalStmtKind-F, Block, Declare, Assign, If, While, DoWhile, For, Break, Continue, Return, Empty}
+use Rattle.c_meaning.specs.declared.profile.Profile.{Profile}
 use Rattle.c_meaning.specs.Operators.{is_zero}
 use Rattle.c_meaning.specs.Stores.{Store, Objects, Inputs, opening, unset_vars}
 use Rattle.c_meaning.specs.Expressions.{Val, undefined_value, value, Meaning, meaning}
 use Rattle.c_meaning.specs.Runs.{How, normally, by_break, by_continue, by_return, undefined, out_of_turns, Run}
-use Rattle.c_meaning.specs.Statements.{Act, in_order, nothing, condition}
-use Rattle.c_meaning.specs.Normals.{normal_kind_act, normal_act, normal_objects, normal_run}
+use Rattle.c_meaning.specs.Statements.{Act, in_order, nothing, part, condition, meant_if_any}
+use Rattle.c_meaning.specs.Normals.{normal_kind_act, normal_act, normal_does, normal_objects, normal_run}
 use Rattle.c_meaning.specs.Bounds.{IsOver}
 
 -- ---- the price of expressions
 
 -- what an operator costs besides its node: 1 for a shift, and 2 for each side of && and ||
 abbrev pub operator_price : Binary → ℕ
+operator_price Mul = 0
+operator_price Div = 0
+operator_price Rem = 0
+operator_price Add = 0
+operator_price Sub = 0
 operator_price Shl = 1
 operator_price Shr = 1
+operator_price Lt = 0
+operator_price Gt = 0
+operator_price Le = 0
+operator_price Ge = 0
+operator_price Eq = 0
+operator_price Ne = 0
+operator_price And = 0
+operator_price Xor = 0
+operator_price Or = 0
 operator_price Both = 4
 operator_price Either = 4
-operator_price op = 0
 
 abbrev mutual
   -- 1 for each node, casts that are implied among them, and 2 more for the first part of ?:
@@ -105,7 +119,7 @@ where_normal normally c s n = c s n
 where_normal by_break c s n = tally 0 0
 where_normal by_continue c s n = tally 0 0
 where_normal (by_return v) c s n = tally 0 0
-where_normal undefined c s n = tally 0 0
+where_normal (undefined at) c s n = tally 0 0
 where_normal out_of_turns c s n = tally 0 0
 
 abbrev pub counts_both : Run → Counting → Counting → Counting
@@ -121,7 +135,7 @@ acts_of parts = map (λ a. a.act) parts
 
 -- what follows the value of an expression
 abbrev pub with_counts : Val → (ℤ → Counting) → Counting
-with_counts undefined_value next s n = tally 0 0
+with_counts (undefined_value at) next s n = tally 0 0
 with_counts (value x t) next s n = counting_after t (next x) s n
 
 abbrev pub counts_of : Bool → Counting → Counting → Counting
@@ -140,20 +154,28 @@ where_looped normally c s n = c s n
 where_looped by_continue c s n = c s n
 where_looped by_break c s n = tally 0 0
 where_looped (by_return v) c s n = tally 0 0
-where_looped undefined c s n = tally 0 0
+where_looped (undefined at) c s n = tally 0 0
 where_looped out_of_turns c s n = tally 0 0
 
+-- a block, or the scope of a for, unsets the variables declared directly in it
+abbrev pub counts_entering : List Counted → Counting → Counting
+counts_entering parts c s n = c (unset_vars (flat_map (λ a. a.declares) (acts_of parts)) s) n
+
+-- a part of if, the body of a loop or the step of a for is a block
+abbrev pub counts_part : Counted → Counting
+counts_part a = counts_entering (a ∷ []) a.counts
+
 abbrev pub counts_looped : Counted → Counting → Counting
-counts_looped body c s n = let e = run_of body s n in both_tallies (body.counts s n) (where_looped e.how c e.store e.left)
+counts_looped body c s n = let e = part body.act s n in both_tallies (counts_part body s n) (where_looped e.how c e.store e.left)
 
 -- a step that is started is a jump
 abbrev pub step_run : Option Counted → Run
 step_run None = nothing
-step_run (Some a) = run_of a
+step_run (Some a) = part a.act
 
 abbrev pub step_counts : Option Counted → Counting
 step_counts None = only (tally 0 0)
-step_counts (Some a) = counting (tally 1 0) a.counts
+step_counts (Some a) = counting (tally 1 0) (counts_part a)
 
 abbrev pub counts_rounds : ℕ → List Counted → ℕ → Meaning → Counted → Option Counted → Counting
 counts_rounds zero before p cond body step s n = tally 0 0
@@ -163,13 +185,9 @@ counts_rounds (suc r) before p cond body step s n =
 abbrev pub counts_loop : List Counted → ℕ → Meaning → Counted → Option Counted → Counting
 counts_loop before p cond body step s n = counts_rounds (suc n) before p cond body step s n
 
--- a block, or the scope of a for, unsets the variables declared directly in it
-abbrev pub counts_entering : List Counted → Counting → Counting
-counts_entering parts c s n = c (unset_vars (flat_map (λ a. a.declares) (acts_of parts)) s) n
-
 abbrev pub counts_if_any : Option Counted → Counting
 counts_if_any None = only (tally 0 0)
-counts_if_any (Some a) = a.counts
+counts_if_any (Some a) = counts_part a
 
 -- ---- statements: each takes a turn first
 
@@ -177,12 +195,12 @@ abbrev pub counts_step : Objects → NormalStmtKind-F Counted Counted → Counti
 counts_step k (Block body) = counting_after 1 (counts_entering body (counts_in_order body))
 counts_step k (Declare v init) = counting_after 1 (only (tally 0 (option_price init)))
 counts_step k (Assign target e) = counting_after 1 (only (tally 0 (assignment_price target e)))
-counts_step k (If before cond yes_part no_part) = counting_after 1 (counts_branch before (expr_price cond) (meaning k.arrays cond) yes_part.counts (counts_if_any no_part))
-counts_step k (While before cond body) = counting_after 1 (counts_loop before (expr_price cond) (meaning k.arrays cond) body None)
+counts_step k (If before cond yes_part no_part) = counting_after 1 (counts_branch before (expr_price cond) (meaning k cond) (counts_part yes_part) (counts_if_any no_part))
+counts_step k (While before cond body) = counting_after 1 (counts_loop before (expr_price cond) (meaning k cond) body None)
 counts_step k (DoWhile body before cond) =
-    counting_after 1 (counting (tally 1 0) (counts_looped body (counts_loop before (expr_price cond) (meaning k.arrays cond) body None)))
+    counting_after 1 (counting (tally 1 0) (counts_looped body (counts_loop before (expr_price cond) (meaning k cond) body None)))
 counts_step k (For first before cond step body) =
-    counting_after 1 (counts_entering first (counts_both (in_order (acts_of first)) (counts_in_order first) (counts_loop before (option_price cond) (condition k.arrays cond) body step)))
+    counting_after 1 (counts_entering first (counts_both (in_order (acts_of first)) (counts_in_order first) (counts_loop before (option_price cond) (condition (meant_if_any k cond)) body step)))
 counts_step k Break = counting_after 1 (only (tally 1 0))
 counts_step k Continue = counting_after 1 (only (tally 1 0))
 counts_step k (Return e) = counting_after 1 (only (tally 1 (option_price e)))
@@ -220,18 +238,22 @@ abbrev pub counted : Objects → NormalStmt → Counted
 counted k s = record { act = normal_act k s; counts = kind_counts k s.kind }
 
 -- what the block of a normal form counts from its opening store, within n turns
-abbrev pub normal_tally : Normal → Inputs → ℕ → Tally
-normal_tally k i n =
-    let parts = map (counted (normal_objects k)) k.body in
-    counting_after 1 (counts_entering parts (counts_in_order parts)) (opening (normal_objects k) i) n
+abbrev pub normal_tally : Normal → Profile → Inputs → ℕ → Tally
+normal_tally k p i n =
+    let parts = map (counted (normal_objects p k)) k.body in
+    counting_after 1 (counts_entering parts (counts_in_order parts)) (opening (normal_objects p k) i) n
 
 -- a run that is over has so many jumps and this price
-pub record NormalCosts (k : Normal) (i : Inputs) (jumps price : ℕ) : Type 0 where
+pub record NormalCosts (k : Normal) (p : Profile) (i : Inputs) (jumps price : ℕ) : Type 0 where
   pub bound : ℕ
-  pub over : IsOver (normal_run k i bound).how
-  pub all_jumps : (normal_tally k i bound).jumps ≡ jumps
-  pub whole_price : (normal_tally k i bound).price ≡ price
+  pub over : IsOver (normal_run k p i bound).how
+  pub all_jumps : (normal_tally k p i bound).jumps ≡ jumps
+  pub whole_price : (normal_tally k p i bound).price ≡ price
 
 -- the jumps and the price of a run that is over are one pair of numbers, whatever the bound
 abbrev pub CostsAreOne : Type 0
-CostsAreOne = (k : Normal) (i : Inputs) (j l p q : ℕ) → NormalCosts k i j p → NormalCosts k i l q → (j ≡ l) × (p ≡ q)
+CostsAreOne = (k : Normal) (p : Profile) (i : Inputs) (j l c d : ℕ) → NormalCosts k p i j c → NormalCosts k p i l d → (j ≡ l) × (c ≡ d)
+
+-- a statement that is over within some turns counts the same jumps and the same price within more
+abbrev pub StatementsKeepCosts : Type 0
+StatementsKeepCosts = (k : Objects) (x : NormalStmt) (s : Store) (n m : ℕ) → IsOver (normal_does k x s n).how → (counted k x).counts s (n + m) ≡ (counted k x).counts s n

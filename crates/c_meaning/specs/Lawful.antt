@@ -4,6 +4,7 @@ use mathlib.Core.Former.{Count}
 use Rattle.el_base.specs.declared.ty.Ty.{Ty}
 use Rattle.el_base.specs.Numbers.{IsInRange}
 use Rattle.c_ast.specs.declared.tree.Binary.{Binary as BinaryOp}
+use Rattle.c_ast.specs.declared.tree.Binary.TheVariants.{Mul, Div, Rem, Add, Sub, Shl, Shr, Lt, Gt, Le, Ge, Eq, Ne, And, Xor, Or, Both, Either}
 use Rattle.c_ast.specs.declared.tree.Param.{Param}
 use Rattle.c_ast.specs.declared.typed.ArrayOf.{ArrayOf}
 use Rattle.c_ast.specs.declared.typed.Object.{Object}
@@ -20,13 +21,13 @@ use Rattle.c_ast.specs.declared.normal.Normal.{Normal}
 use Rattle.c_ast.specs.declared.normal.NormalStmt.{NormalStmt}
 use Rattle.c_ast.specs.declared.normal.NormalStmtKind.{NormalStmtKind, Row_of-NormalStmt, end_of-NormalStmt, more_of-NormalStmt, Held-NormalStmtKind-If-3}
 use Rattle.c_ast.specs.declared.normal.NormalStmtKind as step
-use Rattle.c_meaning.specs.Types.{promoted, usual}
-use Rattle.c_meaning.specs.Operators.{joint_type}
-use Rattle.c_meaning.specs.Patterns.{result_type, unary_type}
+use Rattle.c_ast.specs.ResultTypes.{promoted, usual, joint_type, result_type, unary_type}
+use Rattle.c_meaning.specs.declared.profile.Profile.{Profile}
+use Rattle.c_meaning.specs.Quiet.{Quiet}
 use Rattle.c_meaning.specs.Stores.{Objects, elements, scalar_types}
 use Rattle.c_meaning.specs.Statements.{objects}
 use Rattle.c_meaning.specs.Normals.{normal_objects}
-use Rattle.c_meaning.specs.Casts.{parameters, left_type, right_type, assigned_type}
+use Rattle.c_ast.specs.Casts.{parameters, left_type, right_type, assigned_type}
 
 -- ---- expressions
 
@@ -49,14 +50,24 @@ abbrev pub row_length : {n : Count} → Row_of-TypedExpr n → ℕ
 row_length end_of-TypedExpr = 0
 row_length (more_of-TypedExpr e u at row) = 1 + row_length row
 
+-- a cast that is marked as implied
+abbrev pub is_implied : TypedExprKind → Bool
+is_implied (tree.Number n) = false
+is_implied (tree.Var v) = false
+is_implied (tree.Element' a n row) = false
+is_implied (tree.Unary' op b row) = false
+is_implied (tree.Cast' implied b row) = implied
+is_implied (tree.Binary' op b row b2 row2) = false
+is_implied (tree.Choose' b row b2 row2 b3 row3) = false
+
 abbrev mutual
-  -- an expression of a kind, of a type
+  -- an expression of a kind, of a type; the argument of an implied cast is no implied cast
   pub LawfulKind : Objects → TypedExprKind → Ty → Type 0
   LawfulKind k (tree.Number n) t = IsInRange t (pos n)
   LawfulKind k (tree.Var v) t = IsVar k v t
   LawfulKind k (tree.Element' a n row) t = IsElement k a (row_length row) t × LawfulRow k row
   LawfulKind k (tree.Unary' op b (more_of-TypedExpr e u at end_of-TypedExpr)) t = (u ≡ promoted u) × (t ≡ unary_type op u) × LawfulKind k e u
-  LawfulKind k (tree.Cast' implied b (more_of-TypedExpr e u at end_of-TypedExpr)) t = LawfulKind k e u
+  LawfulKind k (tree.Cast' implied b (more_of-TypedExpr e u at end_of-TypedExpr)) t = (implied ≡ true → is_implied e ≡ false) × LawfulKind k e u
   LawfulKind k (tree.Binary' op b (more_of-TypedExpr e u at end_of-TypedExpr) b2 (more_of-TypedExpr e2 u2 at2 end_of-TypedExpr)) t =
       AreOperands op u u2 t × LawfulKind k e u × LawfulKind k e2 u2
   LawfulKind k (tree.Choose' b (more_of-TypedExpr e u at end_of-TypedExpr) b2 (more_of-TypedExpr e2 u2 at2 end_of-TypedExpr) b3 (more_of-TypedExpr e3 u3 at3 end_of-TypedExpr)) t =
@@ -76,26 +87,30 @@ abbrev pub IsObject : Objects → Object → ℕ → Ty → Type 0
 IsObject k (object.Var v) indices t = IsVar k v t × (indices ≡ 0)
 IsObject k (object.Array a) indices t = IsElement k a indices t
 
-abbrev pub LawfulTarget : Objects → TypedTarget → Ty → Type 0
-LawfulTarget k target t = IsObject k target.to (length target.indices) t × All (LawfulExpr k) target.indices
+-- The parts of a statement. Each expression of it keeps E: it is lawful, and in a normal form it also reads arrays only where it is allowed.
+abbrev pub LawfulTarget : Objects → (TypedExpr → Type 0) → TypedTarget → Ty → Type 0
+LawfulTarget k E target t = IsObject k target.to (length target.indices) t × All E target.indices
 
-abbrev pub LawfulAssignment : Objects → TypedTarget → Option BinaryOp → TypedExpr → Type 0
-LawfulAssignment k target op e = (t : Ty) × LawfulTarget k target t × (e.ty ≡ assigned_type op t e.ty) × LawfulExpr k e
+abbrev pub LawfulAssignment : Objects → (TypedExpr → Type 0) → TypedTarget → Option BinaryOp → TypedExpr → Type 0
+LawfulAssignment k E target op e = (t : Ty) × LawfulTarget k E target t × (e.ty ≡ assigned_type op t e.ty) × E e
 
-abbrev pub LawfulDeclaration : Objects → ℕ → Option TypedExpr → Type 0
-LawfulDeclaration k v None = (t : Ty) × IsVar k v t
-LawfulDeclaration k v (Some e) = IsVar k v e.ty × LawfulExpr k e
+abbrev pub LawfulStep : Objects → (TypedExpr → Type 0) → TypedTarget → Type 0
+LawfulStep k E target = (t : Ty) × LawfulTarget k E target t
 
-abbrev pub LawfulOption : Objects → Option TypedExpr → Type 0
-LawfulOption k None = Unit {0}
-LawfulOption k (Some e) = LawfulExpr k e
+abbrev pub LawfulDeclaration : Objects → (TypedExpr → Type 0) → ℕ → Option TypedExpr → Type 0
+LawfulDeclaration k E v None = (t : Ty) × IsVar k v t
+LawfulDeclaration k E v (Some e) = IsVar k v e.ty × E e
+
+abbrev pub LawfulOption : (TypedExpr → Type 0) → Option TypedExpr → Type 0
+LawfulOption E None = Unit {0}
+LawfulOption E (Some e) = E e
 
 -- a value is returned exactly where there is a result, in its type
-abbrev pub LawfulReturn : Objects → Option Ty → Option TypedExpr → Type 0
-LawfulReturn k None None = Unit {0}
-LawfulReturn k (Some t) (Some e) = (e.ty ≡ t) × LawfulExpr k e
-LawfulReturn k None (Some e) = ⊥
-LawfulReturn k (Some t) None = ⊥
+abbrev pub LawfulReturn : (TypedExpr → Type 0) → Option Ty → Option TypedExpr → Type 0
+LawfulReturn E None None = Unit {0}
+LawfulReturn E (Some t) (Some e) = (e.ty ≡ t) × E e
+LawfulReturn E None (Some e) = ⊥
+LawfulReturn E (Some t) None = ⊥
 
 -- the variable that is assigned to, if it is one
 abbrev pub object_vars : Object → List ℕ
@@ -106,16 +121,16 @@ abbrev mutual
   -- a statement of a kernel with a result: in a loop or not
   pub LawfulStmt : Objects → Option Ty → Bool → TypedStmtKind → Type 0
   LawfulStmt k r loop (act.Block' n row) = LawfulStmts k r loop row
-  LawfulStmt k r loop (act.Declare v init) = LawfulDeclaration k v init
-  LawfulStmt k r loop (act.Assign target op e) = LawfulAssignment k target op e
-  LawfulStmt k r loop (act.Step target up) = (t : Ty) × LawfulTarget k target t
+  LawfulStmt k r loop (act.Declare v init) = LawfulDeclaration k (LawfulExpr k) v init
+  LawfulStmt k r loop (act.Assign target op e) = LawfulAssignment k (LawfulExpr k) target op e
+  LawfulStmt k r loop (act.Step target up) = LawfulStep k (LawfulExpr k) target
   LawfulStmt k r loop (act.If' cond b (more_of-TypedStmt s at end_of-TypedStmt) o) = LawfulExpr k cond × LawfulStmt k r loop s × LawfulStmtHeld k r loop o
   LawfulStmt k r loop (act.While' cond b (more_of-TypedStmt s at end_of-TypedStmt)) = LawfulExpr k cond × LawfulStmt k r true s
   LawfulStmt k r loop (act.DoWhile' b (more_of-TypedStmt s at end_of-TypedStmt) cond) = LawfulStmt k r true s × LawfulExpr k cond
-  LawfulStmt k r loop (act.For' n first cond o b (more_of-TypedStmt s at end_of-TypedStmt)) = LawfulStmts k r false first × LawfulOption k cond × LawfulStmtHeld k r false o × LawfulStmt k r true s
+  LawfulStmt k r loop (act.For' n first cond o b (more_of-TypedStmt s at end_of-TypedStmt)) = LawfulStmts k r false first × LawfulOption (LawfulExpr k) cond × LawfulStmtHeld k r false o × LawfulStmt k r true s
   LawfulStmt k r loop act.Break = IsTrue loop
   LawfulStmt k r loop act.Continue = IsTrue loop
-  LawfulStmt k r loop (act.Return e) = LawfulReturn k r e
+  LawfulStmt k r loop (act.Return e) = LawfulReturn (LawfulExpr k) r e
   LawfulStmt k r loop act.Empty = Unit {0}
 
   pub LawfulStmtHeld : Objects → Option Ty → Bool → Held-TypedStmtKind-If-2 → Type 0
@@ -153,18 +168,84 @@ abbrev mutual
 -- ---- normal forms: what stands before the condition of a loop has no loop around it
 
 abbrev mutual
+  -- it reads no array
+  pub ReadsNone : TypedExprKind → Type 0
+  ReadsNone (tree.Number n) = Unit {0}
+  ReadsNone (tree.Var v) = Unit {0}
+  ReadsNone (tree.Element' a n row) = ⊥
+  ReadsNone (tree.Unary' op b (more_of-TypedExpr e u at end_of-TypedExpr)) = ReadsNone e
+  ReadsNone (tree.Cast' implied b (more_of-TypedExpr e u at end_of-TypedExpr)) = ReadsNone e
+  ReadsNone (tree.Binary' op b (more_of-TypedExpr e u at end_of-TypedExpr) b2 (more_of-TypedExpr e2 u2 at2 end_of-TypedExpr)) = ReadsNone e × ReadsNone e2
+  ReadsNone (tree.Choose' b (more_of-TypedExpr e u at end_of-TypedExpr) b2 (more_of-TypedExpr e2 u2 at2 end_of-TypedExpr) b3 (more_of-TypedExpr e3 u3 at3 end_of-TypedExpr)) =
+      ReadsNone e × ReadsNone e2 × ReadsNone e3
+
+abbrev pub both_or_either : BinaryOp → Bool
+both_or_either Mul = false
+both_or_either Div = false
+both_or_either Rem = false
+both_or_either Add = false
+both_or_either Sub = false
+both_or_either Shl = false
+both_or_either Shr = false
+both_or_either Lt = false
+both_or_either Gt = false
+both_or_either Le = false
+both_or_either Ge = false
+both_or_either Eq = false
+both_or_either Ne = false
+both_or_either And = false
+both_or_either Xor = false
+both_or_either Or = false
+both_or_either Both = true
+both_or_either Either = true
+
+-- a side of && or || reads no array
+abbrev pub SidesReadNone : Bool → TypedExprKind → TypedExprKind → Type 0
+SidesReadNone true e e2 = ReadsNone e × ReadsNone e2
+SidesReadNone false e e2 = Unit {0}
+
+abbrev mutual
+  -- no side of its && and || and ?: reads an array; the first part of ?: is no side
+  pub ReadsOutside : TypedExprKind → Type 0
+  ReadsOutside (tree.Number n) = Unit {0}
+  ReadsOutside (tree.Var v) = Unit {0}
+  ReadsOutside (tree.Element' a n row) = RowReadsOutside row
+  ReadsOutside (tree.Unary' op b (more_of-TypedExpr e u at end_of-TypedExpr)) = ReadsOutside e
+  ReadsOutside (tree.Cast' implied b (more_of-TypedExpr e u at end_of-TypedExpr)) = ReadsOutside e
+  ReadsOutside (tree.Binary' op b (more_of-TypedExpr e u at end_of-TypedExpr) b2 (more_of-TypedExpr e2 u2 at2 end_of-TypedExpr)) =
+      SidesReadNone (both_or_either op) e e2 × ReadsOutside e × ReadsOutside e2
+  ReadsOutside (tree.Choose' b (more_of-TypedExpr e u at end_of-TypedExpr) b2 (more_of-TypedExpr e2 u2 at2 end_of-TypedExpr) b3 (more_of-TypedExpr e3 u3 at3 end_of-TypedExpr)) =
+      ReadsOutside e × ReadsNone e2 × ReadsNone e3
+
+  pub RowReadsOutside : {n : Count} → Row_of-TypedExpr n → Type 0
+  RowReadsOutside end_of-TypedExpr = Unit {0}
+  RowReadsOutside (more_of-TypedExpr e u at row) = ReadsOutside e × RowReadsOutside row
+
+abbrev pub LawfulNormalExpr : Objects → TypedExpr → Type 0
+LawfulNormalExpr k e = LawfulExpr k e × ReadsOutside e.kind
+
+-- nothing stands before a condition that is absent
+abbrev pub IsEmptyRow : {n : Count} → Row_of-NormalStmt n → Type 0
+IsEmptyRow end_of-NormalStmt = Unit {0}
+IsEmptyRow (more_of-NormalStmt s at row) = ⊥
+
+abbrev pub NothingBefore : Option TypedExpr → {n : Count} → Row_of-NormalStmt n → Type 0
+NothingBefore None row = IsEmptyRow row
+NothingBefore (Some cond) row = Unit {0}
+
+abbrev mutual
   -- a statement of a kernel with a result: in a loop or not
   pub LawfulNormalStmt : Objects → Option Ty → Bool → NormalStmtKind → Type 0
   LawfulNormalStmt k r loop (step.Block' n row) = LawfulNormalStmts k r loop row
-  LawfulNormalStmt k r loop (step.Declare v init) = LawfulDeclaration k v init
-  LawfulNormalStmt k r loop (step.Assign target e) = LawfulAssignment k target None e
-  LawfulNormalStmt k r loop (step.If' n before cond b (more_of-NormalStmt s at end_of-NormalStmt) o) = LawfulNormalStmts k r loop before × LawfulExpr k cond × LawfulNormalStmt k r loop s × LawfulNormalStmtHeld k r loop o
-  LawfulNormalStmt k r loop (step.While' n before cond b (more_of-NormalStmt s at end_of-NormalStmt)) = LawfulNormalStmts k r false before × LawfulExpr k cond × LawfulNormalStmt k r true s
-  LawfulNormalStmt k r loop (step.DoWhile' b (more_of-NormalStmt s at end_of-NormalStmt) n before cond) = LawfulNormalStmt k r true s × LawfulNormalStmts k r false before × LawfulExpr k cond
-  LawfulNormalStmt k r loop (step.For' n first m before cond o b (more_of-NormalStmt s at end_of-NormalStmt)) = LawfulNormalStmts k r false first × LawfulNormalStmts k r false before × LawfulOption k cond × LawfulNormalStmtHeld k r false o × LawfulNormalStmt k r true s
+  LawfulNormalStmt k r loop (step.Declare v init) = LawfulDeclaration k (LawfulNormalExpr k) v init
+  LawfulNormalStmt k r loop (step.Assign target e) = LawfulAssignment k (LawfulNormalExpr k) target None e
+  LawfulNormalStmt k r loop (step.If' n before cond b (more_of-NormalStmt s at end_of-NormalStmt) o) = LawfulNormalStmts k r loop before × LawfulNormalExpr k cond × LawfulNormalStmt k r loop s × LawfulNormalStmtHeld k r loop o
+  LawfulNormalStmt k r loop (step.While' n before cond b (more_of-NormalStmt s at end_of-NormalStmt)) = LawfulNormalStmts k r false before × LawfulNormalExpr k cond × LawfulNormalStmt k r true s
+  LawfulNormalStmt k r loop (step.DoWhile' b (more_of-NormalStmt s at end_of-NormalStmt) n before cond) = LawfulNormalStmt k r true s × LawfulNormalStmts k r false before × LawfulNormalExpr k cond
+  LawfulNormalStmt k r loop (step.For' n first m before cond o b (more_of-NormalStmt s at end_of-NormalStmt)) = LawfulNormalStmts k r false first × LawfulNormalStmts k r false before × LawfulOption (LawfulNormalExpr k) cond × NothingBefore cond before × LawfulNormalStmtHeld k r false o × LawfulNormalStmt k r true s
   LawfulNormalStmt k r loop step.Break = IsTrue loop
   LawfulNormalStmt k r loop step.Continue = IsTrue loop
-  LawfulNormalStmt k r loop (step.Return e) = LawfulReturn k r e
+  LawfulNormalStmt k r loop (step.Return e) = LawfulReturn (LawfulNormalExpr k) r e
   LawfulNormalStmt k r loop step.Empty = Unit {0}
 
   pub LawfulNormalStmtHeld : Objects → Option Ty → Bool → Held-NormalStmtKind-If-3 → Type 0
@@ -233,14 +314,15 @@ abbrev pub all_normal_vars : List NormalStmt → List ℕ
 all_normal_vars [] = []
 all_normal_vars (s ∷ ss) = normal_vars_of s.kind ++ all_normal_vars ss
 
--- a typed tree is lawful
+-- a typed tree is lawful: whatever the profile, of which nothing here depends
 pub record Lawful (k : Typed) : Type 0 where
-  pub header : LawfulHeader k.params (objects k)
+  pub header : (p : Profile) → LawfulHeader k.params (objects p k)
   pub used : AreUsed k.params k.vars (all_vars k.body)
-  pub statements : All (λ s. LawfulStmt (objects k) k.result false s.kind) k.body
+  pub statements : (p : Profile) → All (λ s. LawfulStmt (objects p k) k.result false s.kind) k.body
 
--- a normal form is lawful
+-- a normal form is lawful; nothing returns in what stands before the condition of a loop
 pub record LawfulNormal (k : Normal) : Type 0 where
-  pub header : LawfulHeader k.params (normal_objects k)
+  pub header : (p : Profile) → LawfulHeader k.params (normal_objects p k)
   pub used : AreUsed k.params k.vars (all_normal_vars k.body)
-  pub statements : All (λ s. LawfulNormalStmt (normal_objects k) k.result false s.kind) k.body
+  pub statements : (p : Profile) → All (λ s. LawfulNormalStmt (normal_objects p k) k.result false s.kind) k.body
+  pub quiet : All (λ s. Quiet true s.kind) k.body

@@ -9,7 +9,9 @@ use Rattle.c_ast.specs.declared.tree.Unary.{Unary}
 use Rattle.c_ast.specs.declared.tree.Unary.TheVariants.{Plus, Minus, Flip, Not}
 use Rattle.c_ast.specs.declared.tree.Binary.{Binary}
 use Rattle.c_ast.specs.declared.tree.Binary.TheVariants.{Mul, Div, Rem, Add, Sub, Shl, Shr, Lt, Gt, Le, Ge, Eq, Ne, And, Xor, Or, Both, Either}
-use Rattle.c_meaning.specs.Types.{conv, exact, fit, promoted, usual}
+use Rattle.c_meaning.specs.declared.profile.Profile.{Profile}
+use Rattle.c_meaning.specs.declared.profile.Profile.TheVariants.{Plain, Wrap}
+use Rattle.c_meaning.specs.Types.{conv, exact, fit}
 
 abbrev pub is_zero : ℤ → Bool
 is_zero (pos n) = n == 0
@@ -33,9 +35,10 @@ abbrev pub amount : Ty → ℤ → Option ℕ
 amount t (pos k) = if nat_lt k (ty_width t) then Some k else None
 amount t (negsuc k) = None
 
--- a signed << of a negative number is undefined, and so is one with a product out of range
-abbrev pub left_shift : Ty → ℤ → ℕ → Option ℤ
-left_shift t x k = if (ty_signed t && is_negative x) then None else fit t (x *ℤ pos (2 ^ k))
+-- the product by the power of two; under Plain a signed << of a negative number is undefined, and so is one with a product out of range
+abbrev pub left_shift : Profile → Ty → ℤ → ℕ → Option ℤ
+left_shift Plain t x k = if (ty_signed t && is_negative x) then None else fit Plain t (x *ℤ pos (2 ^ k))
+left_shift Wrap t x k = fit Wrap t (x *ℤ pos (2 ^ k))
 
 -- a signed >> is arithmetic: the quotient by the power of two, rounded down
 abbrev pub right_shift : ℤ → ℕ → Option ℤ
@@ -46,35 +49,29 @@ abbrev pub joined : Ty → (ℕ → ℕ → ℕ) → ℤ → ℤ → Option ℤ
 joined t f x y = Some (number t (f (pattern t x) (pattern t y)))
 
 -- An operator on one operand: t is the type of the result. A flipped pattern is that of -1 - x.
-abbrev pub unary_value : Unary → Ty → ℤ → Option ℤ
-unary_value Plus t x = Some x
-unary_value Minus t x = fit t (neg_ℤ x)
-unary_value Flip t x = Some (conv t (negsuc 0 -ℤ x))
-unary_value Not t x = Some (truth (is_zero x))
+abbrev pub unary_value : Profile → Unary → Ty → ℤ → Option ℤ
+unary_value p Plus t x = Some x
+unary_value p Minus t x = fit p t (neg_ℤ x)
+unary_value p Flip t x = Some (conv t (negsuc 0 -ℤ x))
+unary_value p Not t x = Some (truth (is_zero x))
 
 -- An operator on two operands: t is the type of the result. && and || do not evaluate both, so they give nothing here.
-abbrev pub binary_value : Binary → Ty → ℤ → ℤ → Option ℤ
-binary_value Mul t x y = fit t (x *ℤ y)
-binary_value Div t x y = quotient t x y
-binary_value Rem t x y = remainder t x y
-binary_value Add t x y = fit t (x +ℤ y)
-binary_value Sub t x y = fit t (x -ℤ y)
-binary_value Shl t x y = option_and_then (left_shift t x) (amount t y)
-binary_value Shr t x y = option_and_then (right_shift x) (amount t y)
-binary_value Lt t x y = Some (truth (int_lt x y))
-binary_value Gt t x y = Some (truth (int_lt y x))
-binary_value Le t x y = Some (truth (int_le x y))
-binary_value Ge t x y = Some (truth (int_le y x))
-binary_value Eq t x y = Some (truth (int_eq x y))
-binary_value Ne t x y = Some (truth (not (int_eq x y)))
-binary_value And t x y = joined t bit_and x y
-binary_value Xor t x y = joined t bit_xor x y
-binary_value Or t x y = joined t bit_or x y
-binary_value Both t x y = None
-binary_value Either t x y = None
-
--- The type in which an operator joins operands of two types: the promoted left one for a shift, else the usual one.
-abbrev pub joint_type : Binary → Ty → Ty → Ty
-joint_type Shl a b = promoted a
-joint_type Shr a b = promoted a
-joint_type op a b = usual a b
+abbrev pub binary_value : Profile → Binary → Ty → ℤ → ℤ → Option ℤ
+binary_value p Mul t x y = fit p t (x *ℤ y)
+binary_value p Div t x y = quotient t x y
+binary_value p Rem t x y = remainder t x y
+binary_value p Add t x y = fit p t (x +ℤ y)
+binary_value p Sub t x y = fit p t (x -ℤ y)
+binary_value p Shl t x y = option_and_then (left_shift p t x) (amount t y)
+binary_value p Shr t x y = option_and_then (right_shift x) (amount t y)
+binary_value p Lt t x y = Some (truth (int_lt x y))
+binary_value p Gt t x y = Some (truth (int_lt y x))
+binary_value p Le t x y = Some (truth (int_le x y))
+binary_value p Ge t x y = Some (truth (int_le y x))
+binary_value p Eq t x y = Some (truth (int_eq x y))
+binary_value p Ne t x y = Some (truth (not (int_eq x y)))
+binary_value p And t x y = joined t bit_and x y
+binary_value p Xor t x y = joined t bit_xor x y
+binary_value p Or t x y = joined t bit_or x y
+binary_value p Both t x y = None
+binary_value p Either t x y = None

@@ -11,6 +11,8 @@ use Rattle.c_ast.specs.declared.tree.Unary.TheVariants.{Plus, Minus, Flip, Not}
 use Rattle.c_ast.specs.declared.tree.Binary.{Binary}
 use Rattle.c_ast.specs.declared.tree.Binary.TheVariants.{Mul, Div, Rem, Add, Sub, Shl, Shr, Lt, Gt, Le, Ge, Eq, Ne, And, Xor, Or, Both, Either}
 use Rattle.word_ops.specs.Operations.{op1_result, op2_result}
+use Rattle.c_ast.specs.ResultTypes.{result_type, unary_type}
+use Rattle.c_meaning.specs.declared.profile.Profile.{Profile}
 use Rattle.c_meaning.specs.Types.{conv}
 use Rattle.c_meaning.specs.Operators.{unary_value, binary_value}
 
@@ -47,22 +49,6 @@ on_pattern Plus t a = a
 on_pattern Minus t a = op1_result (by_type t Neg32 Neg32 Neg64 Neg64) a
 on_pattern Flip t a = op1_result (by_type t Not32 Not32 Not64 Not64) a
 on_pattern Not t a = op1_result (by_type t Zero32 Zero32 Zero64 Zero64) a
-
--- the type of a result: that of the operands, or I32 for what is 1 or 0
-abbrev pub result_type : Binary → Ty → Ty
-result_type Lt t = I32
-result_type Gt t = I32
-result_type Le t = I32
-result_type Ge t = I32
-result_type Eq t = I32
-result_type Ne t = I32
-result_type Both t = I32
-result_type Either t = I32
-result_type op t = t
-
-abbrev pub unary_type : Unary → Ty → Ty
-unary_type Not t = I32
-unary_type op t = t
 
 -- the operation that converts from one type to another; None where both have one width, and the pattern stays
 abbrev pub conversion_op : Ty → Ty → Option Op1
@@ -137,16 +123,16 @@ converted_by (Some op) a = op1_result op a
 
 -- ---- what holds
 
--- where an operator is defined on two numbers of a type, its operation gives the pattern of the result for their patterns
+-- under either profile, where an operator is defined on two numbers of a type, its operation gives the pattern of the result for their patterns
 abbrev pub KeepsPatterns : Binary → Ty → Type 0
-KeepsPatterns op t = (x y z : ℤ) → IsInRange t x → IsInRange t y → binary_value op t x y ≡ Some z → on_patterns op t (pattern t x) (pattern t y) ≡ pattern (result_type op t) z
+KeepsPatterns op t = (p : Profile) (x y z : ℤ) → IsInRange t x → IsInRange t y → binary_value p op t x y ≡ Some z → on_patterns op t (pattern t x) (pattern t y) ≡ pattern (result_type op t) z
 
 -- the same of a shift, for every amount for which it is defined: the amount need not be a number of that type
 abbrev pub ShiftKeepsPatterns : Binary → Ty → Type 0
-ShiftKeepsPatterns op t = (x y z : ℤ) → IsInRange t x → binary_value op t x y ≡ Some z → on_patterns op t (pattern t x) (pattern t y) ≡ pattern t z
+ShiftKeepsPatterns op t = (p : Profile) (x y z : ℤ) → IsInRange t x → binary_value p op t x y ≡ Some z → on_patterns op t (pattern t x) (pattern t y) ≡ pattern t z
 
 abbrev pub KeepsPattern : Unary → Ty → Type 0
-KeepsPattern op t = (x z : ℤ) → IsInRange t x → unary_value op t x ≡ Some z → on_pattern op t (pattern t x) ≡ pattern (unary_type op t) z
+KeepsPattern op t = (p : Profile) (x z : ℤ) → IsInRange t x → unary_value p op t x ≡ Some z → on_pattern op t (pattern t x) ≡ pattern (unary_type op t) z
 
 abbrev pub ConvertsPattern : Ty → Ty → Type 0
 ConvertsPattern s t = (x : ℤ) → IsInRange s x → converted_by (conversion_op s t) (pattern s x) ≡ pattern t (conv t x)

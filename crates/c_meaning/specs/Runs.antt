@@ -1,6 +1,7 @@
 -- How statements run one after another, with the turns that are left (ISO/IEC 9899:1999 6.8).
 -- A run has a bound on its turns. Where a statement or a condition begins a turn is taken; what an expression used is taken after it.
 use Rattle.std.specs.Prelude.{ℕ, zero, suc, List, [], ◌∷◌, ℤ, Bool, true, false, Option}
+use Rattle.el_base.specs.declared.span.Span.{Span}
 use Rattle.c_meaning.specs.Operators.{is_zero}
 use Rattle.c_meaning.specs.Stores.{Store}
 use Rattle.c_meaning.specs.Expressions.{Val, undefined_value, value, Meaning}
@@ -11,7 +12,8 @@ pub data How : Type 0 where
   by_break : How
   by_continue : How
   by_return : Option ℤ → How
-  undefined : How
+  -- the place of the first operation that is undefined
+  undefined : Span → How
   out_of_turns : How
 
 -- how it ended, the store then, and how many turns were left
@@ -43,7 +45,7 @@ go_on normally next s n = next s n
 go_on by_break next s n = ends by_break s n
 go_on by_continue next s n = ends by_continue s n
 go_on (by_return v) next s n = ends (by_return v) s n
-go_on undefined next s n = ends undefined s n
+go_on (undefined at) next s n = ends (undefined at) s n
 go_on out_of_turns next s n = ends out_of_turns s n
 
 abbrev pub both_runs : Run → Run → Run
@@ -56,7 +58,7 @@ sequence (r ∷ rs) s n = both_runs r (sequence rs) s n
 
 -- the value of an expression is used by what runs next, after the turns of the expression; where it is undefined that is the end
 abbrev pub with_val : Val → (ℤ → Run) → Run
-with_val undefined_value next s n = ends undefined s n
+with_val (undefined_value at) next s n = ends (undefined at) s n
 with_val (value x t) next s n = taking t (next x) s n
 
 abbrev pub with_value : Meaning → (ℤ → Run) → Run
@@ -76,7 +78,7 @@ after_body normally next s n = next s n
 after_body by_continue next s n = next s n
 after_body by_break next s n = ends normally s n
 after_body (by_return v) next s n = ends (by_return v) s n
-after_body undefined next s n = ends undefined s n
+after_body (undefined at) next s n = ends (undefined at) s n
 after_body out_of_turns next s n = ends out_of_turns s n
 
 abbrev pub looped : Run → Run → Run

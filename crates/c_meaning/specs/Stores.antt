@@ -4,14 +4,16 @@ use Rattle.el_base.specs.declared.ty.Ty.{Ty}
 use Rattle.el_base.specs.Numbers.{IsInRange}
 use Rattle.c_ast.specs.declared.tree.Param.{Param}
 use Rattle.c_ast.specs.declared.typed.ArrayOf.{ArrayOf}
+use Rattle.c_meaning.specs.declared.profile.Profile.{Profile}
 
 -- A store: of each variable a number, or None where it is unset; of each array its elements in row-major order.
 pub record Store : Type 0 where
   pub vars : List (Option ℤ)
   pub arrays : List (List ℤ)
 
--- What a kernel's numbers stand for: the type of each variable; name, type and dimensions of each array.
+-- What a kernel is read by: the profile; the type of each variable; name, type and dimensions of each array.
 pub record Objects : Type 0 where
+  pub profile : Profile
   pub vars : List Ty
   pub arrays : List ArrayOf
 
@@ -52,6 +54,23 @@ scalar_types (p ∷ ps) = scalar_type p.dims p.ty ++ scalar_types ps
 pub record AreFitting (params : List Param) (arrays : List ArrayOf) (i : Inputs) : Type 0 where
   pub each_scalar : AreInRanges (scalar_types params) i.scalars
   pub each_array : AreArraysOf arrays i.arrays
+
+-- a variable that is set has a number in the range of its type
+abbrev pub IsSetIn : Ty → Option ℤ → Type 0
+IsSetIn t None = Unit {0}
+IsSetIn t (Some z) = IsInRange t z
+
+-- one for one
+abbrev pub AreSetIn : List Ty → List (Option ℤ) → Type 0
+AreSetIn [] [] = Unit {0}
+AreSetIn (t ∷ ts) (x ∷ xs) = IsSetIn t x × AreSetIn ts xs
+AreSetIn [] (x ∷ xs) = ⊥
+AreSetIn (t ∷ ts) [] = ⊥
+
+-- a store fits a kernel: it has its variables and its arrays, and each number lies in the range of its type
+pub record IsFitting (k : Objects) (s : Store) : Type 0 where
+  pub vars : AreSetIn k.vars s.vars
+  pub arrays : AreArraysOf k.arrays s.arrays
 
 -- All parameters are set, and all other variables are unset.
 abbrev pub opening : Objects → Inputs → Store

@@ -1,9 +1,10 @@
--- Ranges and conversions of types, and the types of results (ISO/IEC 9899:1999 6.3.1.1, 6.3.1.3, 6.3.1.8).
+-- Ranges and conversions of types, and the range rules of results (ISO/IEC 9899:1999 6.2.5, 6.3.1.3, 6.5).
 use Rattle.std.specs.Prelude.{Bool, ◌&&◌, ℤ, int_le, if◌then◌else◌, Option, Some, None}
 use Rattle.el_base.specs.declared.ty.Ty.{Ty}
-use Rattle.el_base.specs.declared.ty.Ty.TheVariants.{I8, U8, I16, U16, I32, U32, I64, U64}
 use Rattle.el_base.specs.Numbers.{pattern, number, least_in, greatest_in}
 use Rattle.el_base.specs.Widths.{ty_width, ty_signed}
+use Rattle.c_meaning.specs.declared.profile.Profile.{Profile}
+use Rattle.c_meaning.specs.declared.profile.Profile.TheVariants.{Plain, Wrap}
 
 -- the least and the greatest number of a type
 abbrev pub least : Ty → ℤ
@@ -24,31 +25,11 @@ conv t z = number t (pattern t z)
 abbrev pub exact : Ty → ℤ → Option ℤ
 exact t z = if range t z then Some z else None
 
--- The range rule of + - * << and unary -: an unsigned result is reduced modulo 2 ^ width, and a signed result out of range is undefined (6.2.5p9, 6.5p5).
-abbrev pub fit : Ty → ℤ → Option ℤ
-fit t z = if ty_signed t then exact t z else Some (conv t z)
+-- a signed result: out of range it is undefined (6.5p5), or under Wrap the number in range that is congruent to it
+abbrev pub signed_fit : Profile → Ty → ℤ → Option ℤ
+signed_fit Plain t z = exact t z
+signed_fit Wrap t z = Some (conv t z)
 
--- integer promotion: types of 8 and 16 bits become I32 (6.3.1.1p2)
-abbrev pub promoted : Ty → Ty
-promoted I8 = I32
-promoted U8 = I32
-promoted I16 = I32
-promoted U16 = I32
-promoted I32 = I32
-promoted U32 = U32
-promoted I64 = I64
-promoted U64 = U64
-
--- the usual arithmetic conversions of two promoted types; a type that is not promoted does not come here (6.3.1.8)
-abbrev pub common : Ty → Ty → Ty
-common U64 b = U64
-common I64 U64 = U64
-common I64 b = I64
-common U32 U64 = U64
-common U32 I64 = I64
-common U32 b = U32
-common a b = b
-
--- the type in which two operands are joined
-abbrev pub usual : Ty → Ty → Ty
-usual a b = common (promoted a) (promoted b)
+-- The range rule of + - * << and unary -: an unsigned result is reduced modulo 2 ^ width (6.2.5p9).
+abbrev pub fit : Profile → Ty → ℤ → Option ℤ
+fit p t z = if ty_signed t then signed_fit p t z else Some (conv t z)

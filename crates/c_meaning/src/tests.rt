@@ -1,4 +1,4 @@
-use crate::laws;
+use crate::{laws, part_laws, profile_laws, range_laws, read_laws, size_laws, worked_laws};
 
 #[test]
 fn laws_can_be_called() {
@@ -6,6 +6,7 @@ fn laws_can_be_called() {
     laws::larger_bounds_keep_ends();
     laws::ends_are_one();
     laws::costs_are_one();
+    laws::larger_bounds_keep_costs();
     laws::expressions_mean_their_parts();
     laws::statements_run_their_parts();
     laws::normal_statements_run_their_parts();
@@ -13,4 +14,26 @@ fn laws_can_be_called() {
     laws::shifts_keep_patterns();
     laws::unary_operators_keep_patterns();
     laws::conversions_keep_patterns();
+    part_laws::lawful_expressions_have_lawful_parts();
+    part_laws::lawful_statements_have_lawful_parts();
+    part_laws::lawful_normal_statements_have_lawful_parts();
+    part_laws::reads_are_those_of_parts();
+    part_laws::reads_stand_outside_of_sides();
+    part_laws::returns_are_those_of_parts();
+    part_laws::variables_are_those_of_parts();
+    part_laws::normal_variables_are_those_of_parts();
+    part_laws::prices_are_those_of_parts();
+    part_laws::counts_are_those_of_parts();
+    part_laws::sizes_are_those_of_parts();
+    part_laws::readings_are_those_of_parts();
+    profile_laws::wrapping_keeps_ends();
+    profile_laws::wrapped_results_are_congruent();
+    profile_laws::first_is_where_it_ends_undefined();
+    range_laws::numbers_stay_in_range();
+    read_laws::expressions_read_their_variables();
+    size_laws::variables_are_few();
+    worked_laws::operations_are_ordered();
+    worked_laws::results_are_converted();
+    worked_laws::counts_are_worked();
+    worked_laws::unlawful_trees_are_refused();
 }

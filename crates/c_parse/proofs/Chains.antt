@@ -1,6 +1,7 @@
 -- How verdicts are carried along the parts of a rule.
 use Rattle.std.proofs.Common.{◌≡◌, ℕ, suc, ◌+◌, ◌≤◌, List, [], ◌∷◌, ◌++◌, Bool, true, false, Some, Result, Ok, Err, IsErrAnd, nat_lt, if◌then◌else◌, arith, refl, sym, ◌∙◌, ap, subst, append_assoc}
 use Rattle.std.proofs.lemmas.Option.{same_Some}
+use Rattle.el_base.specs.Limits.{max_nesting}
 use Rattle.el_base.specs.declared.span.Span.{Span}
 use Rattle.c_ast.specs.declared.token.Token.{Token}
 use Rattle.c_ast.specs.declared.token.Word.{Word}
@@ -65,7 +66,7 @@ fails_from {p} {a} {b} {e} same f = subst (λ x. Fails p x e) (sym same) f
 -- ---- the first symbol
 
 -- it takes the first token
-pub same_takes : {s : Symbol} {n : ℕ} {new more : List Symbol} {t : Token} {before after : List Token} → before ≡ t ∷ after → move s t.word ≡ Move.take n new → n ≤ 64
+pub same_takes : {s : Symbol} {n : ℕ} {new more : List Symbol} {t : Token} {before after : List Token} → before ≡ t ∷ after → move s t.word ≡ Move.take n new → n ≤ max_nesting
     → Same (s ∷ more) (new ++ more) before after
 same_takes {s} {n} {new} {more} {t} {before} {after} split h small =
     same_from split (record { holds = λ symbols. judge_takes s n new (more ++ symbols) t after h small ∙ ap (λ st. judge st after) (sym (append_assoc new more symbols)) })
@@ -91,15 +92,15 @@ same_alike {s} {r} {n} {new} {old} {more} {others} {t} {before} {after} split h 
           let right = ap verdict (trace_takes r n old (others ++ symbols) [] t after k) in
           let same = ap (λ st. judge st after) (sym (append_assoc new more symbols)) ∙ f.holds symbols ∙ ap (λ st. judge st after) (append_assoc old others symbols) in
           let later = verdict_of_any after (new ++ (more ++ symbols)) (Value.of_token t ∷ []) [] ∙ same ∙ verdict_of_any after (old ++ (others ++ symbols)) [] (Value.of_token t ∷ []) in
-          left ∙ ap (λ v. if nat_lt 64 n then Verdict.deep t.span else v) later ∙ sym right;
+          left ∙ ap (λ v. if nat_lt max_nesting n then Verdict.deep t.span else v) later ∙ sym right;
     } in
     subst (λ ts. Same (s ∷ more) (r ∷ others) ts ts) (sym split) both
 
 -- it takes the first token, which is too deep
-pub deep_fails : {s : Symbol} {n : ℕ} {new more : List Symbol} {t : Token} {before after : List Token} {e : Stop} → before ≡ t ∷ after → move s t.word ≡ Move.take (suc n) new → n ≡ 64 → e ≡ stop.TooDeep t.span
+pub deep_fails : {s : Symbol} {n : ℕ} {new more : List Symbol} {t : Token} {before after : List Token} {e : Stop} → before ≡ t ∷ after → move s t.word ≡ Move.take (suc n) new → n ≡ max_nesting → e ≡ stop.TooDeep t.span
     → Fails (s ∷ more) before e
 deep_fails {s} {n} {new} {more} {t} {before} {after} {e} split h full told =
-    let deep : move s t.word ≡ Move.take 65 new = h ∙ ap (λ k. Move.take (suc k) new) full in
+    let deep : move s t.word ≡ Move.take (suc max_nesting) new = h ∙ ap (λ k. Move.take (suc k) new) full in
     fails_from split (record { holds = λ symbols. subst (λ x. Tells x (judge (s ∷ (more ++ symbols)) (t ∷ after))) (sym told) (judge_deep s new (more ++ symbols) t after deep) })
 
 -- it is stuck at words that do not fit
@@ -143,19 +144,19 @@ fixed_stuck n f v w is other = by (takes f v) refl
     by false h = ap (fixed_move n) h
 
 -- a fixed word is read, or refused, or read where it is too deep
-pub same_fixed : {n : ℕ} {f : Fixed} {w : Word} {more : List Symbol} {s : Span} {before after : List Token} → spelled f ≡ w → n ≤ 64 → before ≡ record { word = w; span = s } ∷ after
+pub same_fixed : {n : ℕ} {f : Fixed} {w : Word} {more : List Symbol} {s : Span} {before after : List Token} → spelled f ≡ w → n ≤ max_nesting → before ≡ record { word = w; span = s } ∷ after
     → Same (Symbol.fixed n f ∷ more) more before after
 same_fixed {n} {f} {w} is small split = same_takes split (fixed_takes n f w is) small
 
 pub fixed_fails : {n : ℕ} {f : Fixed} {w : Word} {more : List Symbol} {before : List Token} {e : Stop} → spelled f ≡ w → Refuses (λ v. v ≡ w → ⊥) before e → Fails (Symbol.fixed n f ∷ more) before e
 fixed_fails {n} {f} {w} is r = refused_fails refl (λ v other. fixed_stuck n f v w is other) r
 
-pub fixed_deep : {n : ℕ} {f : Fixed} {w : Word} {more : List Symbol} {s : Span} {before after : List Token} {e : Stop} → spelled f ≡ w → before ≡ record { word = w; span = s } ∷ after → n ≡ 64 → e ≡ stop.TooDeep s
+pub fixed_deep : {n : ℕ} {f : Fixed} {w : Word} {more : List Symbol} {s : Span} {before after : List Token} {e : Stop} → spelled f ≡ w → before ≡ record { word = w; span = s } ∷ after → n ≡ max_nesting → e ≡ stop.TooDeep s
     → Fails (Symbol.fixed (suc n) f ∷ more) before e
 fixed_deep {n} {f} {w} is split full told = deep_fails split (fixed_takes (suc n) f w is) full told
 
 -- a name is read or refused
-pub same_name : {n : ℕ} {x : List ℕ} {more : List Symbol} {s : Span} {before after : List Token} → n ≤ 64 → before ≡ named x s ∷ after → Same (Symbol.a_name n ∷ more) more before after
+pub same_name : {n : ℕ} {x : List ℕ} {more : List Symbol} {s : Span} {before after : List Token} → n ≤ max_nesting → before ≡ named x s ∷ after → Same (Symbol.a_name n ∷ more) more before after
 same_name small split = same_takes split refl small
 
 pub name_stuck : (n : ℕ) (more : List Symbol) (w : Word) → is_name w ≡ false → name_move n more w ≡ Move.stuck
@@ -166,7 +167,7 @@ pub name_fails : {n : ℕ} {more : List Symbol} {before : List Token} {e : Stop}
 name_fails {n} r = refused_fails refl (name_stuck n []) r
 
 -- a number is read or refused
-pub same_number : {n v : ℕ} {more : List Symbol} {before after : List Token} → n ≤ 64 → Numbered v before after → Same (Symbol.a_number n ∷ more) more before after
+pub same_number : {n v : ℕ} {more : List Symbol} {before after : List Token} → n ≤ max_nesting → Numbered v before after → Same (Symbol.a_number n ∷ more) more before after
 same_number small r = same_takes r.split refl small
 
 number_stuck : (n : ℕ) (w : Word) → is_number w ≡ false → number_move n w ≡ Move.stuck
@@ -231,14 +232,14 @@ judges_reduced p d a b (Err e) h = λ symbols. subst (λ st. Tells e (judge st a
 
 -- ---- the depth that is left
 
-pub within : (n depth : ℕ) → n + depth ≡ 64 → n ≤ 64
+pub within : (n depth : ℕ) → n + depth ≡ max_nesting → n ≤ max_nesting
 within n depth all = omega arith
 
-pub full : (n depth : ℕ) → n + depth ≡ 64 → depth ≡ 0 → n ≡ 64
+pub full : (n depth : ℕ) → n + depth ≡ max_nesting → depth ≡ 0 → n ≡ max_nesting
 full n depth all none = omega arith
 
-pub inner : (n depth less : ℕ) → n + depth ≡ 64 → less + 1 ≡ depth → suc n + less ≡ 64
+pub inner : (n depth less : ℕ) → n + depth ≡ max_nesting → less + 1 ≡ depth → suc n + less ≡ max_nesting
 inner n depth less all one = omega arith
 
-pub room : (n depth less : ℕ) → n + depth ≡ 64 → less + 1 ≡ depth → suc n ≤ 64
+pub room : (n depth less : ℕ) → n + depth ≡ max_nesting → less + 1 ≡ depth → suc n ≤ max_nesting
 room n depth less all one = omega arith

@@ -3,6 +3,7 @@ use Rattle.std.proofs.Common.{◌≡◌, ◌≢◌, ◌⊎◌, inl, inr, ℕ, su
 use Rattle.std.proofs.lemmas.Bool.{lt-ltb, le-ltb}
 use Rattle.std.proofs.lemmas.List.{append-nil}
 use Rattle.std.proofs.Math.Seq.{drop-append_seam}
+use Rattle.el_base.specs.Limits.{max_nesting, max_nodes}
 use Rattle.el_base.specs.declared.span.Span.{Span}
 use Rattle.c_ast.specs.declared.token.Token.{Token}
 use Rattle.c_ast.specs.declared.tree.Tree.{Tree}
@@ -37,11 +38,11 @@ one_tree ts a b d q =
 verdict_behind : (ns : List ℕ) (ts : List Token) (a b : Trace) → Runs ns ts a b → AllShallow ns → verdict a ≡ verdict b
 verdict_behind ns ts a b (Runs.done x) all = refl
 verdict_behind ns ts a b (Runs.onward n t ks us x y r) all =
-    ap (λ c. if c then Verdict.deep t.span else verdict x) (le-ltb 64 n all.0) ∙ verdict_behind ks us x y r all.1
+    ap (λ c. if c then Verdict.deep t.span else verdict x) (le-ltb max_nesting n all.0) ∙ verdict_behind ks us x y r all.1
 
 -- the nestings at shallow tokens are shallow, one after the other
 abbrev ShallowAt : List Token → List ℕ → Type 0
-ShallowAt us ns = (xs vs : List Token) (t : Token) (ms ks : List ℕ) (m : ℕ) → us ≡ xs ++ t ∷ vs → ns ≡ ms ++ m ∷ ks → length ms ≡ length xs → m ≤ 64
+ShallowAt us ns = (xs vs : List Token) (t : Token) (ms ks : List ℕ) (m : ℕ) → us ≡ xs ++ t ∷ vs → ns ≡ ms ++ m ∷ ks → length ms ≡ length xs → m ≤ max_nesting
 
 all_shallow : (us : List Token) (ns : List ℕ) → length ns ≡ length us → ShallowAt us ns → AllShallow ns
 all_shallow us [] same f = tt
@@ -139,13 +140,13 @@ says_cut tokens c =
     ap (λ ts. judge kernel_symbols ts) (sym (append-nil tokens)) ∙ p.passes [] ∙ cut_at tokens p c.none (ends_either p.left p.values)
 
 -- a token of a nesting that passes the most
-deep_at : (left : List Symbol) (values : List Value) (t : Token) (ws rest : List Token) (n : ℕ) (a : Trace) → 64 < n → trace left values (t ∷ rest) ≡ Trace.taken n t.span a → Entered left values t
+deep_at : (left : List Symbol) (values : List Value) (t : Token) (ws rest : List Token) (n : ℕ) (a : Trace) → max_nesting < n → trace left values (t ∷ rest) ≡ Trace.taken n t.span a → Entered left values t
     → verdict (trace left values (t ∷ ws)) ≡ Verdict.deep t.span
 deep_at left values t ws rest n a much h (Entered.sticks g) = let e : Trace.unexpected t.span ≡ Trace.taken n t.span a = sym (g rest) ∙ h in absurd (cc)
 deep_at left values t ws rest n a much h (Entered.enters m new vs g) =
     let e : Trace.taken m t.span (trace new vs rest) ≡ Trace.taken n t.span a = sym (g rest) ∙ h in
     let same : m ≡ n = taken_nesting m n t.span (trace new vs rest) a e in
-    ap verdict (g ws) ∙ ap (λ b. if b then Verdict.deep t.span else verdict (trace new vs ws)) (lt-ltb 64 m (subst (λ k. 64 < k) (sym same) much))
+    ap verdict (g ws) ∙ ap (λ b. if b then Verdict.deep t.span else verdict (trace new vs ws)) (lt-ltb max_nesting m (subst (λ k. max_nesting < k) (sym same) much))
 
 record Next (n : ℕ) (t : Token) (a : Trace) : Type 0 where
   rest : Trace
@@ -202,7 +203,7 @@ says_verdict tokens end (Err (refusal.TooLarge p n)) some s = says_whole tokens 
 says_verdict tokens end (Err refusal.Memory) some s = absurd (some refl)
 
 not_both : (tokens : List Token) (tree : Tree) (p : Span) (n : ℕ) → IsKernel tokens tree → IsTooLarge tokens p n → ⊥
-not_both tokens tree p n k l = let same : tree ≡ l.tree = one_tree tokens tree l.tree k.derived l.derived in let small : tree_nodes l.tree ≤ 1024 = subst (λ t. tree_nodes t ≤ 1024) same k.small in let many : 1024 < tree_nodes l.tree = l.large.many in omega arith
+not_both tokens tree p n k l = let same : tree ≡ l.tree = one_tree tokens tree l.tree k.derived l.derived in let small : tree_nodes l.tree ≤ max_nodes = subst (λ t. tree_nodes t ≤ max_nodes) same k.small in let many : max_nodes < tree_nodes l.tree = l.large.many in omega arith
 
 same_large : (tokens : List Token) (p q : Span) (n m : ℕ) → IsTooLarge tokens p n → IsTooLarge tokens q m → refusal.TooLarge p n ≡ refusal.TooLarge q m
 same_large tokens p q n m a b =

@@ -2,6 +2,7 @@
 use Rattle.std.proofs.Common.{◌≡◌, ℕ, ◌+◌, ◌<◌, List, [], ◌∷◌, ◌++◌, length, take, arith, refl, sym, ◌∙◌, ap, subst, append_assoc, length-append}
 use Rattle.std.proofs.lemmas.List.{append-nil}
 use Rattle.std.proofs.Math.Seq.{take-append_seam}
+use Rattle.el_base.specs.Limits.{max_nesting}
 use Rattle.el_base.specs.declared.span.Span.{Span}
 use Rattle.c_ast.specs.declared.token.Token.{Token}
 use Rattle.c_ast.specs.declared.tree.Tree.{Tree}
@@ -164,7 +165,7 @@ nested_of us ws t ns n rest r =
       each = runs_length ns us (over (us ++ t ∷ ws)) (Trace.taken n t.span rest) r;
     }
 
-deep_of : (tokens us ws : List Token) (t : Token) (ns : List ℕ) (n : ℕ) (rest : Trace) → tokens ≡ us ++ t ∷ ws → Runs ns us (over tokens) (Trace.taken n t.span rest) → AllShallow ns → 64 < n → IsDeep tokens t.span
+deep_of : (tokens us ws : List Token) (t : Token) (ns : List ℕ) (n : ℕ) (rest : Trace) → tokens ≡ us ++ t ∷ ws → Runs ns us (over tokens) (Trace.taken n t.span rest) → AllShallow ns → max_nesting < n → IsDeep tokens t.span
 deep_of tokens us ws t ns n rest h r all much =
     let q : Runs ns us (over (us ++ t ∷ ws)) (Trace.taken n t.span rest) = subst (λ ys. Runs ns us (over ys) (Trace.taken n t.span rest)) h r in
     record {

@@ -1,6 +1,7 @@
 -- How the verdict goes on where a type or an expression is expected.
 use Rattle.std.proofs.Common.{◌≡◌, ℕ, zero, suc, ◌+◌, ◌≤◌, List, [], ◌∷◌, ◌++◌, Bool, true, false, if◌then◌else◌, Option, Some, None, is_some, arith, refl, sym, ◌∙◌, ap, subst}
 use Rattle.std.proofs.lemmas.Bool.{ne_eqb}
+use Rattle.el_base.specs.Limits.{max_nesting}
 use Rattle.el_base.specs.declared.span.Span.{Span}
 use Rattle.el_base.specs.declared.ty.Ty.{Ty}
 use Rattle.c_ast.specs.declared.token.Token.{Token}
@@ -59,14 +60,14 @@ int_passes : (n : ℕ) (w : Word) → (key_of w ≡ Some key.Int → ⊥) → ma
 int_passes n (word.Key key.Int) other = absurd (other refl)
 int_passes n w other = refl
 
-same_maybe_int : (n : ℕ) (more : List Symbol) (before after : List Token) → n ≤ 64 → MaySkip before after → Same (Symbol.maybe_int n ∷ more) more before after
+same_maybe_int : (n : ℕ) (more : List Symbol) (before after : List Token) → n ≤ max_nesting → MaySkip before after → Same (Symbol.maybe_int n ∷ more) more before after
 same_maybe_int n more before after small (MaySkip.none same other) = subst (λ us. Same (Symbol.maybe_int n ∷ more) more before us) same (passes_unless_key key.Int refl (int_passes n) other)
 same_maybe_int n more before after small (MaySkip.int s split) = same_then (same_takes split refl small) same_reduces
 
-pub same_type : {n : ℕ} {k : Key} {t : Ty} {more : List Symbol} {before after : List Token} → n ≤ 64 → NamesType k t before after → takes_int k ≡ false → Same (Symbol.a_type n ∷ more) more before after
+pub same_type : {n : ℕ} {k : Key} {t : Ty} {more : List Symbol} {before after : List Token} → n ≤ max_nesting → NamesType k t before after → takes_int k ≡ false → Same (Symbol.a_type n ∷ more) more before after
 same_type {n} {k} {t} small w alone = same_then (same_takes w.split (plain_taken n k t w.type alone) small) same_reduces
 
-pub same_int_type : {n : ℕ} {k : Key} {t : Ty} {more : List Symbol} {before mid after : List Token} → n ≤ 64 → NamesType k t before mid → takes_int k ≡ true → MaySkip mid after → Same (Symbol.a_type n ∷ more) more before after
+pub same_int_type : {n : ℕ} {k : Key} {t : Ty} {more : List Symbol} {before mid after : List Token} → n ≤ max_nesting → NamesType k t before mid → takes_int k ≡ true → MaySkip mid after → Same (Symbol.a_type n ∷ more) more before after
 same_int_type {n} {k} {t} {more} {before} {mid} {after} small w may skip = same_then (same_takes w.split (int_taken n k may) small) (same_then same_reduces (same_maybe_int n more mid after small skip))
 
 pub type_fails : {n : ℕ} {more : List Symbol} {before : List Token} {e : Stop} → Refuses (λ w. is_type_word w ≡ false) before e → Fails (Symbol.a_type n ∷ more) before e
@@ -80,7 +81,7 @@ same_unrolled {n} {l} {more} {ts} h =
     let next : suc l ≡ l + 1 = omega arith in
     subst (λ k. Same (Symbol.expression n l ∷ more) (Symbol.expression n k ∷ Symbol.operators n l ∷ more) ts ts) next (record { holds = λ symbols. ap verdict (trace_unrolls n l (more ++ symbols) [] ts h) })
 
-pub same_operator : {op : Binary} {n l : ℕ} {more : List Symbol} {before after : List Token} → n ≤ 64 → Operates op l before after
+pub same_operator : {op : Binary} {n l : ℕ} {more : List Symbol} {before after : List Token} → n ≤ max_nesting → Operates op l before after
     → Same (Symbol.operators n l ∷ more) (Symbol.expression n (l + 1) ∷ Symbol.reduce Reduction.joined ∷ Symbol.operators n l ∷ more) before after
 same_operator {op} {n} {l} {more} {before} {after} small o =
     let next : suc l ≡ l + 1 = omega arith in
@@ -107,7 +108,7 @@ choice_passes n w other = refl
 pub same_no_choice : {n : ℕ} {more : List Symbol} {ts : List Token} → (mark_at ts ≡ Some mark.Question → ⊥) → Same (Symbol.operators n 0 ∷ more) more ts ts
 same_no_choice {n} other = passes_unless_mark mark.Question refl (choice_passes n) other
 
-pub same_choice : {n : ℕ} {more : List Symbol} {s : Span} {before after : List Token} → suc n ≤ 64 → before ≡ marked mark.Question s ∷ after
+pub same_choice : {n : ℕ} {more : List Symbol} {s : Span} {before after : List Token} → suc n ≤ max_nesting → before ≡ marked mark.Question s ∷ after
     → Same (Symbol.operators n 0 ∷ more) (Symbol.expression (suc n) 0 ∷ Symbol.fixed (suc n) Fixed.colon ∷ Symbol.expression (suc n) 0 ∷ Symbol.reduce Reduction.chosen ∷ more) before after
 same_choice small split = same_takes split refl small
 
@@ -119,11 +120,11 @@ sign_taken n m op IsUnary.minus = refl
 sign_taken n m op IsUnary.flip = refl
 sign_taken n m op IsUnary.negate = refl
 
-pub same_signed : {op : Unary} {n : ℕ} {more : List Symbol} {s : Span} {before after : List Token} → suc n ≤ 64 → Signs op s before after
+pub same_signed : {op : Unary} {n : ℕ} {more : List Symbol} {s : Span} {before after : List Token} → suc n ≤ max_nesting → Signs op s before after
     → Same (Symbol.expression n 11 ∷ more) (Symbol.expression (suc n) 11 ∷ Symbol.reduce Reduction.signed ∷ more) before after
 same_signed {op} {n} small o = same_takes o.split (sign_taken n o.mark op o.operator) small
 
-pub signed_deep : {op : Unary} {n : ℕ} {more : List Symbol} {s : Span} {before after : List Token} {e : Stop} → Signs op s before after → n ≡ 64 → e ≡ stop.TooDeep s → Fails (Symbol.expression n 11 ∷ more) before e
+pub signed_deep : {op : Unary} {n : ℕ} {more : List Symbol} {s : Span} {before after : List Token} {e : Stop} → Signs op s before after → n ≡ max_nesting → e ≡ stop.TooDeep s → Fails (Symbol.expression n 11 ∷ more) before e
 signed_deep {op} {n} o full told = deep_fails o.split (sign_taken n o.mark op o.operator) full told
 
 -- a word that is no sign and by which no operand begins
@@ -222,6 +223,6 @@ indices_pass n w other = refl
 pub same_no_index : {n : ℕ} {more : List Symbol} {ts : List Token} → (mark_at ts ≡ Some mark.OpenBracket → ⊥) → Same (Symbol.indices n ∷ more) more ts ts
 same_no_index {n} other = passes_unless_mark mark.OpenBracket refl (indices_pass n) other
 
-pub same_index : {n : ℕ} {more : List Symbol} {s : Span} {before after : List Token} → suc n ≤ 64 → before ≡ marked mark.OpenBracket s ∷ after
+pub same_index : {n : ℕ} {more : List Symbol} {s : Span} {before after : List Token} → suc n ≤ max_nesting → before ≡ marked mark.OpenBracket s ∷ after
     → Same (Symbol.indices n ∷ more) (Symbol.expression (suc n) 0 ∷ Symbol.fixed (suc n) Fixed.closing_bracket ∷ Symbol.reduce Reduction.index ∷ Symbol.indices n ∷ more) before after
 same_index small split = same_takes split refl small

@@ -1,5 +1,6 @@
 -- The verdict over dimensions, parameters, results and kernels, by what was read of them.
 use Rattle.std.proofs.Common.{◌≡◌, ℕ, suc, ◌≤◌, List, [], ◌∷◌, ◌++◌, Some, Result, Ok, Err, refl, sym, ◌∙◌, ap, arith}
+use Rattle.el_base.specs.Limits.{max_nesting}
 use Rattle.el_base.specs.declared.span.Span.{Span}
 use Rattle.c_ast.specs.declared.token.Token.{Token}
 use Rattle.c_ast.specs.declared.key.Key.TheVariants as key
@@ -17,11 +18,11 @@ use Rattle.c_parse.proofs.Openings.{dims_end, more_params_end, param_opened, par
 
 -- ---- dimensions
 
-pub dim_opened : (n : ℕ) (s : Span) (before m1 : List Token) → suc n ≤ 64 → before ≡ marked mark.OpenBracket s ∷ m1
+pub dim_opened : (n : ℕ) (s : Span) (before m1 : List Token) → suc n ≤ max_nesting → before ≡ marked mark.OpenBracket s ∷ m1
     → Same (Symbol.dims n ∷ []) (Symbol.a_number (suc n) ∷ Symbol.fixed (suc n) Fixed.closing_bracket ∷ Symbol.reduce Reduction.dim ∷ Symbol.dims n ∷ []) before m1
 dim_opened n s before m1 small p = same_takes p refl small
 
-pub dim_closed : (n v : ℕ) (s z : Span) (before m1 m2 after : List Token) → suc n ≤ 64 → before ≡ marked mark.OpenBracket s ∷ m1 → Numbered v m1 m2 → m2 ≡ marked mark.CloseBracket z ∷ after
+pub dim_closed : (n v : ℕ) (s z : Span) (before m1 m2 after : List Token) → suc n ≤ max_nesting → before ≡ marked mark.OpenBracket s ∷ m1 → Numbered v m1 m2 → m2 ≡ marked mark.CloseBracket z ∷ after
     → Same (Symbol.dims n ∷ []) (Symbol.dims n ∷ []) before after
 dim_closed n v s z before m1 m2 after small p number q =
     same_then (dim_opened n s before m1 small p) (same_then (same_number small number) (same_then (same_fixed refl small q) same_reduces))
@@ -46,26 +47,26 @@ pub param_typed : (n : ℕ) (before m1 : List Token) → Read (Symbol.a_type n �
     → Same (Symbol.a_param n ∷ []) (Symbol.a_name n ∷ Symbol.reduce Reduction.no_dims ∷ Symbol.dims n ∷ Symbol.reduce Reduction.param ∷ []) before m1
 param_typed n before m1 type = same_then (param_opened n before) (same_part (Symbol.a_type n ∷ []) type)
 
-pub param_named : (n : ℕ) (x : List ℕ) (s : Span) (before m1 m2 : List Token) → n ≤ 64 → Read (Symbol.a_type n ∷ []) before m1 → m1 ≡ named x s ∷ m2
+pub param_named : (n : ℕ) (x : List ℕ) (s : Span) (before m1 m2 : List Token) → n ≤ max_nesting → Read (Symbol.a_type n ∷ []) before m1 → m1 ≡ named x s ∷ m2
     → Same (Symbol.a_param n ∷ []) (Symbol.dims n ∷ Symbol.reduce Reduction.param ∷ []) before m2
 param_named n x s before m1 m2 small type p = same_then (param_typed n before m1 type) (same_then (same_name small p) same_reduces)
 
-pub param_read : (n : ℕ) (x : List ℕ) (s : Span) (before m1 m2 after : List Token) → n ≤ 64 → Read (Symbol.a_type n ∷ []) before m1 → m1 ≡ named x s ∷ m2 → Read (Symbol.dims n ∷ []) m2 after
+pub param_read : (n : ℕ) (x : List ℕ) (s : Span) (before m1 m2 after : List Token) → n ≤ max_nesting → Read (Symbol.a_type n ∷ []) before m1 → m1 ≡ named x s ∷ m2 → Read (Symbol.dims n ∷ []) m2 after
     → Same (Symbol.a_param n ∷ []) [] before after
 param_read n x s before m1 m2 after small type p dims = same_then (param_named n x s before m1 m2 small type p) (same_then (same_part (Symbol.dims n ∷ []) dims) same_reduces)
 
 pub first_param_read : (n : ℕ) (before after : List Token) → Read (Symbol.a_param n ∷ []) before after → Same (param_list_symbols n) (Symbol.more_params n ∷ []) before after
 first_param_read n before after param = same_then (same_part (Symbol.a_param n ∷ []) param) same_reduces
 
-pub more_params_opened : (n : ℕ) (s : Span) (before m m1 : List Token) → n ≤ 64 → Same (param_list_symbols n) (Symbol.more_params n ∷ []) before m → m ≡ marked mark.Comma s ∷ m1
+pub more_params_opened : (n : ℕ) (s : Span) (before m m1 : List Token) → n ≤ max_nesting → Same (param_list_symbols n) (Symbol.more_params n ∷ []) before m → m ≡ marked mark.Comma s ∷ m1
     → Same (param_list_symbols n) (Symbol.a_param n ∷ Symbol.reduce Reduction.next_param ∷ Symbol.more_params n ∷ []) before m1
 more_params_opened n s before m m1 small g p = same_then g (same_takes p refl small)
 
-pub more_params_read : (n : ℕ) (s : Span) (before m m1 after : List Token) → n ≤ 64 → Same (param_list_symbols n) (Symbol.more_params n ∷ []) before m → m ≡ marked mark.Comma s ∷ m1 → Read (Symbol.a_param n ∷ []) m1 after
+pub more_params_read : (n : ℕ) (s : Span) (before m m1 after : List Token) → n ≤ max_nesting → Same (param_list_symbols n) (Symbol.more_params n ∷ []) before m → m ≡ marked mark.Comma s ∷ m1 → Read (Symbol.a_param n ∷ []) m1 after
     → Same (param_list_symbols n) (Symbol.more_params n ∷ []) before after
 more_params_read n s before m m1 after small g p param = same_then (more_params_opened n s before m m1 small g p) (same_then (same_part (Symbol.a_param n ∷ []) param) same_reduces)
 
-pub more_params_stop : (n : ℕ) (s : Span) (before m m1 : List Token) (e : Stop) → n ≤ 64 → Same (param_list_symbols n) (Symbol.more_params n ∷ []) before m → m ≡ marked mark.Comma s ∷ m1 → Stopped (Symbol.a_param n ∷ []) m1 e
+pub more_params_stop : (n : ℕ) (s : Span) (before m m1 : List Token) (e : Stop) → n ≤ max_nesting → Same (param_list_symbols n) (Symbol.more_params n ∷ []) before m → m ≡ marked mark.Comma s ∷ m1 → Stopped (Symbol.a_param n ∷ []) m1 e
     → Fails (param_list_symbols n) before e
 more_params_stop n s before m m1 e small g p stops =
     fails_then (more_params_opened n s before m m1 small g p) (part_fails (Symbol.a_param n ∷ []) (Symbol.reduce Reduction.next_param ∷ Symbol.more_params n ∷ []) stops)
@@ -79,7 +80,7 @@ param_list_stops n before e stops = part_fails (Symbol.a_param n ∷ []) (Symbol
 pub params_none : (n : ℕ) (m : List Token) → mark_at m ≡ Some mark.Close → Same (Symbol.params n ∷ []) (Symbol.fixed n Fixed.closing ∷ []) m m
 params_none n m h = alike_at (Symbol.params n) (Symbol.fixed n Fixed.closing) mark.Close n Reduction.no_params m h refl refl
 
-pub params_void : (n : ℕ) (s : Span) (before after : List Token) → n ≤ 64 → before ≡ keyed key.Void s ∷ after → Same (Symbol.params n ∷ []) (Symbol.fixed n Fixed.closing ∷ []) before after
+pub params_void : (n : ℕ) (s : Span) (before after : List Token) → n ≤ max_nesting → before ≡ keyed key.Void s ∷ after → Same (Symbol.params n ∷ []) (Symbol.fixed n Fixed.closing ∷ []) before after
 params_void n s before after small p = same_then (same_takes p refl small) same_reduces
 
 pub params_judged : {A : Type 0} (n : ℕ) (before m after : List Token) (result : Result A Stop) → (mark_at before ≡ Some mark.Close → ⊥) → (key_at before ≡ Some key.Void → ⊥) → m ≡ before → Judges (param_list_symbols n) [] m after result
@@ -89,7 +90,7 @@ params_judged n before m after (Err e) a b same list = (fails_then (params_opene
 
 -- ---- kernels
 
-pub result_void : (n : ℕ) (s : Span) (before after : List Token) → n ≤ 64 → before ≡ keyed key.Void s ∷ after → Same (Symbol.result n ∷ []) [] before after
+pub result_void : (n : ℕ) (s : Span) (before after : List Token) → n ≤ max_nesting → before ≡ keyed key.Void s ∷ after → Same (Symbol.result n ∷ []) [] before after
 result_void n s before after small p = same_then (same_takes p refl small) same_reduces
 
 pub result_read : (n : ℕ) (before m after : List Token) → (key_at before ≡ Some key.Void → ⊥) → m ≡ before → Read (Symbol.a_type n ∷ []) m after → Same (Symbol.result n ∷ []) [] before after

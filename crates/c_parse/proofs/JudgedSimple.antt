@@ -1,5 +1,6 @@
 -- The verdict over assignments, steps and declarations, by what was read of them.
 use Rattle.std.proofs.Common.{◌≡◌, ℕ, ◌≤◌, List, [], ◌∷◌, Bool, false, Option, Some, None, refl, sym, ◌∙◌, ap, subst}
+use Rattle.el_base.specs.Limits.{max_nesting}
 use Rattle.el_base.specs.declared.span.Span.{Span}
 use Rattle.c_ast.specs.declared.token.Token.{Token}
 use Rattle.c_ast.specs.declared.token.Word.{Word}
@@ -23,13 +24,13 @@ use Rattle.c_parse.proofs.Openings.{target_opened, value_end, more_declared_end}
 pub target_refused : (n : ℕ) (before : List Token) (e : Stop) → Refuses (λ w. is_name w ≡ false) before e → Fails (target_symbols n) before e
 target_refused n before e r = name_fails r
 
-pub target_named : (n : ℕ) (x : List ℕ) (s : Span) (before m1 : List Token) → n ≤ 64 → before ≡ named x s ∷ m1 → Same (target_symbols n) (Symbol.indices n ∷ Symbol.reduce Reduction.target ∷ []) before m1
+pub target_named : (n : ℕ) (x : List ℕ) (s : Span) (before m1 : List Token) → n ≤ max_nesting → before ≡ named x s ∷ m1 → Same (target_symbols n) (Symbol.indices n ∷ Symbol.reduce Reduction.target ∷ []) before m1
 target_named n x s before m1 small p = same_then (same_name small p) same_reduces
 
-pub target_stops : (n : ℕ) (x : List ℕ) (s : Span) (before m1 : List Token) (e : Stop) → n ≤ 64 → before ≡ named x s ∷ m1 → Stopped (Symbol.indices n ∷ []) m1 e → Fails (target_symbols n) before e
+pub target_stops : (n : ℕ) (x : List ℕ) (s : Span) (before m1 : List Token) (e : Stop) → n ≤ max_nesting → before ≡ named x s ∷ m1 → Stopped (Symbol.indices n ∷ []) m1 e → Fails (target_symbols n) before e
 target_stops n x s before m1 e small p stops = fails_then (target_named n x s before m1 small p) (part_fails (Symbol.indices n ∷ []) (Symbol.reduce Reduction.target ∷ []) stops)
 
-pub target_read : (n : ℕ) (x : List ℕ) (s : Span) (before m1 after : List Token) → n ≤ 64 → before ≡ named x s ∷ m1 → Read (Symbol.indices n ∷ []) m1 after → Same (target_symbols n) [] before after
+pub target_read : (n : ℕ) (x : List ℕ) (s : Span) (before m1 after : List Token) → n ≤ max_nesting → before ≡ named x s ∷ m1 → Read (Symbol.indices n ∷ []) m1 after → Same (target_symbols n) [] before after
 target_read n x s before m1 after small p indices = same_then (target_named n x s before m1 small p) (same_then (same_part (Symbol.indices n ∷ []) indices) same_reduces)
 
 -- ---- steps whose mark comes first
@@ -44,14 +45,14 @@ first_step : (n : ℕ) (m : Mark) (up : Bool) → IsStep m up → move (Symbol.s
 first_step n m up IsStep.up = refl
 first_step n m up IsStep.down = refl
 
-pub step_opened : (n : ℕ) (up : Bool) (before m1 : List Token) → n ≤ 64 → Steps up before m1
+pub step_opened : (n : ℕ) (up : Bool) (before m1 : List Token) → n ≤ max_nesting → Steps up before m1
     → Same (Symbol.simple n ∷ []) (Symbol.a_name n ∷ Symbol.reduce Reduction.no_indices ∷ Symbol.indices n ∷ Symbol.reduce Reduction.target ∷ Symbol.reduce Reduction.step_before ∷ []) before m1
 step_opened n up before m1 small r = same_takes r.split (first_step n r.mark up r.operator) small
 
-pub step_stops : (n : ℕ) (up : Bool) (before m1 : List Token) (e : Stop) → n ≤ 64 → Steps up before m1 → Stopped (target_symbols n) m1 e → Fails (Symbol.simple n ∷ []) before e
+pub step_stops : (n : ℕ) (up : Bool) (before m1 : List Token) (e : Stop) → n ≤ max_nesting → Steps up before m1 → Stopped (target_symbols n) m1 e → Fails (Symbol.simple n ∷ []) before e
 step_stops n up before m1 e small r stops = fails_then (step_opened n up before m1 small r) (part_fails (target_symbols n) (Symbol.reduce Reduction.step_before ∷ []) stops)
 
-pub step_read : (n : ℕ) (up : Bool) (before m1 after : List Token) → n ≤ 64 → Steps up before m1 → Read (target_symbols n) m1 after → Same (Symbol.simple n ∷ []) [] before after
+pub step_read : (n : ℕ) (up : Bool) (before m1 after : List Token) → n ≤ max_nesting → Steps up before m1 → Read (target_symbols n) m1 after → Same (Symbol.simple n ∷ []) [] before after
 step_read n up before m1 after small r target = same_then (step_opened n up before m1 small r) (same_then (same_part (target_symbols n) target) same_reduces)
 
 -- a mark of a step comes next
@@ -80,16 +81,16 @@ assignment n m op IsAssigning.bits_and = refl
 assignment n m op IsAssigning.bits_xor = refl
 assignment n m op IsAssigning.bits_or = refl
 
-pub assign_opened : (n : ℕ) (op : Option Binary) (before m1 m2 : List Token) → n ≤ 64 → meaning_at step_of before ≡ None → Read (target_symbols n) before m1 → Assigns op m1 m2
+pub assign_opened : (n : ℕ) (op : Option Binary) (before m1 m2 : List Token) → n ≤ max_nesting → meaning_at step_of before ≡ None → Read (target_symbols n) before m1 → Assigns op m1 m2
     → Same (Symbol.simple n ∷ []) (Symbol.expression n 0 ∷ Symbol.reduce Reduction.assigned ∷ []) before m2
 assign_opened n op before m1 m2 small none target r = same_then (simple_targeted n before m1 none target) (same_takes r.split (assignment n r.mark op r.operator) small)
 
-pub assign_stops : (n : ℕ) (op : Option Binary) (before m1 m2 : List Token) (e : Stop) → n ≤ 64 → meaning_at step_of before ≡ None → Read (target_symbols n) before m1 → Assigns op m1 m2 → Stopped (Symbol.expression n 0 ∷ []) m2 e
+pub assign_stops : (n : ℕ) (op : Option Binary) (before m1 m2 : List Token) (e : Stop) → n ≤ max_nesting → meaning_at step_of before ≡ None → Read (target_symbols n) before m1 → Assigns op m1 m2 → Stopped (Symbol.expression n 0 ∷ []) m2 e
     → Fails (Symbol.simple n ∷ []) before e
 assign_stops n op before m1 m2 e small none target r stops =
     fails_then (assign_opened n op before m1 m2 small none target r) (part_fails (Symbol.expression n 0 ∷ []) (Symbol.reduce Reduction.assigned ∷ []) stops)
 
-pub assign_read : (n : ℕ) (op : Option Binary) (before m1 m2 after : List Token) → n ≤ 64 → meaning_at step_of before ≡ None → Read (target_symbols n) before m1 → Assigns op m1 m2 → Read (Symbol.expression n 0 ∷ []) m2 after
+pub assign_read : (n : ℕ) (op : Option Binary) (before m1 m2 after : List Token) → n ≤ max_nesting → meaning_at step_of before ≡ None → Read (target_symbols n) before m1 → Assigns op m1 m2 → Read (Symbol.expression n 0 ∷ []) m2 after
     → Same (Symbol.simple n ∷ []) [] before after
 assign_read n op before m1 m2 after small none target r value =
     same_then (assign_opened n op before m1 m2 small none target r) (same_then (same_part (Symbol.expression n 0 ∷ []) value) same_reduces)
@@ -98,7 +99,7 @@ last_step : (n : ℕ) (m : Mark) (up : Bool) → IsStep m up → move (Symbol.as
 last_step n m up IsStep.up = refl
 last_step n m up IsStep.down = refl
 
-pub step_after_read : (n : ℕ) (up : Bool) (before m1 m2 after : List Token) → n ≤ 64 → meaning_at step_of before ≡ None → Read (target_symbols n) before m1 → m2 ≡ m1 → Steps up m2 after → Same (Symbol.simple n ∷ []) [] before after
+pub step_after_read : (n : ℕ) (up : Bool) (before m1 m2 after : List Token) → n ≤ max_nesting → meaning_at step_of before ≡ None → Read (target_symbols n) before m1 → m2 ≡ m1 → Steps up m2 after → Same (Symbol.simple n ∷ []) [] before after
 step_after_read n up before m1 m2 after small none target same r =
     same_then (simple_targeted n before m1 none target) (same_from (sym same) (same_then (same_takes r.split (last_step n r.mark up r.operator) small) same_reduces))
 
@@ -122,19 +123,19 @@ simple_refused n before m1 m2 e none target same other r =
 pub declared_refused : (n : ℕ) (before : List Token) (e : Stop) → Refuses (λ w. is_name w ≡ false) before e → Fails (Symbol.declared n ∷ []) before e
 declared_refused n before e r = refused_fails refl (name_stuck n (Symbol.reduce Reduction.no_value ∷ Symbol.value n ∷ [])) r
 
-pub declared_named : (n : ℕ) (x : List ℕ) (s : Span) (before m1 : List Token) → n ≤ 64 → before ≡ named x s ∷ m1 → Same (Symbol.declared n ∷ []) (Symbol.value n ∷ []) before m1
+pub declared_named : (n : ℕ) (x : List ℕ) (s : Span) (before m1 : List Token) → n ≤ max_nesting → before ≡ named x s ∷ m1 → Same (Symbol.declared n ∷ []) (Symbol.value n ∷ []) before m1
 declared_named n x s before m1 small p = same_then (same_takes p refl small) same_reduces
 
-pub declared_alone : (n : ℕ) (x : List ℕ) (s : Span) (before after : List Token) → n ≤ 64 → before ≡ named x s ∷ after → (mark_at after ≡ Some mark.Assign → ⊥) → Same (Symbol.declared n ∷ []) [] before after
+pub declared_alone : (n : ℕ) (x : List ℕ) (s : Span) (before after : List Token) → n ≤ max_nesting → before ≡ named x s ∷ after → (mark_at after ≡ Some mark.Assign → ⊥) → Same (Symbol.declared n ∷ []) [] before after
 declared_alone n x s before after small p other = same_then (declared_named n x s before after small p) (value_end n after other)
 
-pub declared_valued : (n : ℕ) (x : List ℕ) (s a : Span) (before m1 m2 : List Token) → n ≤ 64 → before ≡ named x s ∷ m1 → m1 ≡ marked mark.Assign a ∷ m2 → Same (Symbol.declared n ∷ []) (Symbol.expression n 0 ∷ Symbol.reduce Reduction.value ∷ []) before m2
+pub declared_valued : (n : ℕ) (x : List ℕ) (s a : Span) (before m1 m2 : List Token) → n ≤ max_nesting → before ≡ named x s ∷ m1 → m1 ≡ marked mark.Assign a ∷ m2 → Same (Symbol.declared n ∷ []) (Symbol.expression n 0 ∷ Symbol.reduce Reduction.value ∷ []) before m2
 declared_valued n x s a before m1 m2 small p q = same_then (declared_named n x s before m1 small p) (same_takes q refl small)
 
-pub declared_stops : (n : ℕ) (x : List ℕ) (s a : Span) (before m1 m2 : List Token) (e : Stop) → n ≤ 64 → before ≡ named x s ∷ m1 → m1 ≡ marked mark.Assign a ∷ m2 → Stopped (Symbol.expression n 0 ∷ []) m2 e → Fails (Symbol.declared n ∷ []) before e
+pub declared_stops : (n : ℕ) (x : List ℕ) (s a : Span) (before m1 m2 : List Token) (e : Stop) → n ≤ max_nesting → before ≡ named x s ∷ m1 → m1 ≡ marked mark.Assign a ∷ m2 → Stopped (Symbol.expression n 0 ∷ []) m2 e → Fails (Symbol.declared n ∷ []) before e
 declared_stops n x s a before m1 m2 e small p q stops = fails_then (declared_valued n x s a before m1 m2 small p q) (part_fails (Symbol.expression n 0 ∷ []) (Symbol.reduce Reduction.value ∷ []) stops)
 
-pub declared_read : (n : ℕ) (x : List ℕ) (s a : Span) (before m1 m2 after : List Token) → n ≤ 64 → before ≡ named x s ∷ m1 → m1 ≡ marked mark.Assign a ∷ m2 → Read (Symbol.expression n 0 ∷ []) m2 after → Same (Symbol.declared n ∷ []) [] before after
+pub declared_read : (n : ℕ) (x : List ℕ) (s a : Span) (before m1 m2 after : List Token) → n ≤ max_nesting → before ≡ named x s ∷ m1 → m1 ≡ marked mark.Assign a ∷ m2 → Read (Symbol.expression n 0 ∷ []) m2 after → Same (Symbol.declared n ∷ []) [] before after
 declared_read n x s a before m1 m2 after small p q value = same_then (declared_valued n x s a before m1 m2 small p q) (same_then (same_part (Symbol.expression n 0 ∷ []) value) same_reduces)
 
 -- what is expected behind a declared name
@@ -152,16 +153,16 @@ pub first_declared_read : (n : ℕ) (before m1 after : List Token) → Read (Sym
 first_declared_read n before m1 after type one =
     same_then (same_part (Symbol.a_type n ∷ []) {more = declarators n} type) (same_then (same_part (Symbol.declared n ∷ []) one) same_reduces)
 
-pub more_declared_opened : (n : ℕ) (s : Span) (before m m1 : List Token) → n ≤ 64 → Same (Symbol.a_type n ∷ declarators n) (more_symbols n) before m → m ≡ marked mark.Comma s ∷ m1
+pub more_declared_opened : (n : ℕ) (s : Span) (before m m1 : List Token) → n ≤ max_nesting → Same (Symbol.a_type n ∷ declarators n) (more_symbols n) before m → m ≡ marked mark.Comma s ∷ m1
     → Same (Symbol.a_type n ∷ declarators n) (Symbol.declared n ∷ Symbol.reduce Reduction.next_declared ∷ more_symbols n) before m1
 more_declared_opened n s before m m1 small g p = same_then g (same_takes p refl small)
 
-pub more_declared_stop : (n : ℕ) (s : Span) (before m m1 : List Token) (e : Stop) → n ≤ 64 → Same (Symbol.a_type n ∷ declarators n) (more_symbols n) before m → m ≡ marked mark.Comma s ∷ m1 → Stopped (Symbol.declared n ∷ []) m1 e
+pub more_declared_stop : (n : ℕ) (s : Span) (before m m1 : List Token) (e : Stop) → n ≤ max_nesting → Same (Symbol.a_type n ∷ declarators n) (more_symbols n) before m → m ≡ marked mark.Comma s ∷ m1 → Stopped (Symbol.declared n ∷ []) m1 e
     → Fails (Symbol.a_type n ∷ declarators n) before e
 more_declared_stop n s before m m1 e small g p stops =
     fails_then (more_declared_opened n s before m m1 small g p) (part_fails (Symbol.declared n ∷ []) (Symbol.reduce Reduction.next_declared ∷ more_symbols n) stops)
 
-pub more_declared_read : (n : ℕ) (s : Span) (before m m1 after : List Token) → n ≤ 64 → Same (Symbol.a_type n ∷ declarators n) (more_symbols n) before m → m ≡ marked mark.Comma s ∷ m1 → Read (Symbol.declared n ∷ []) m1 after
+pub more_declared_read : (n : ℕ) (s : Span) (before m m1 after : List Token) → n ≤ max_nesting → Same (Symbol.a_type n ∷ declarators n) (more_symbols n) before m → m ≡ marked mark.Comma s ∷ m1 → Read (Symbol.declared n ∷ []) m1 after
     → Same (Symbol.a_type n ∷ declarators n) (more_symbols n) before after
 more_declared_read n s before m m1 after small g p one =
     same_then (more_declared_opened n s before m m1 small g p) (same_then (same_part (Symbol.declared n ∷ []) one) same_reduces)
@@ -170,6 +171,6 @@ pub declaration_refused : (n : ℕ) (before m : List Token) (e : Stop) → Same 
     → Fails (Symbol.a_type n ∷ declarators n) before e
 declaration_refused n before m e g other r = fails_then (same_then g (more_declared_end n m other)) (fixed_fails refl r)
 
-pub declaration_read : (n : ℕ) (z : Span) (before m after : List Token) → n ≤ 64 → Same (Symbol.a_type n ∷ declarators n) (more_symbols n) before m → (mark_at m ≡ Some mark.Comma → ⊥) → m ≡ marked mark.Semicolon z ∷ after
+pub declaration_read : (n : ℕ) (z : Span) (before m after : List Token) → n ≤ max_nesting → Same (Symbol.a_type n ∷ declarators n) (more_symbols n) before m → (mark_at m ≡ Some mark.Comma → ⊥) → m ≡ marked mark.Semicolon z ∷ after
     → Same (Symbol.a_type n ∷ declarators n) [] before after
 declaration_read n z before m after small g other p = same_then g (same_then (more_declared_end n m other) (same_then (same_fixed refl small p) same_reduces))

@@ -1,6 +1,7 @@
 -- How the verdict on tokens follows from what the first symbol does.
-use Rattle.std.proofs.Common.{◌≡◌, ℕ, ◌≤◌, List, [], ◌∷◌, ◌++◌, Bool, true, false, nat_lt, if◌then◌else◌, refl, ◌∙◌, ap}
+use Rattle.std.proofs.Common.{◌≡◌, ℕ, suc, ◌≤◌, List, [], ◌∷◌, ◌++◌, Bool, true, false, nat_lt, if◌then◌else◌, refl, ◌∙◌, ap}
 use Rattle.std.proofs.lemmas.Bool.{le-ltb}
+use Rattle.el_base.specs.Limits.{max_nesting}
 use Rattle.c_ast.specs.declared.token.Token.{Token}
 use Rattle.c_parse.specs.Symbols.{Symbol, Reduction, Move, move, followed, may_be_absent}
 use Rattle.c_parse.specs.Values.{Value, reduced}
@@ -25,7 +26,7 @@ moved_of_any : (m : Move) (passed other : Trace) (symbols : List Symbol) (vs us 
     → verdict (moved m passed (λ more ws. trace more ws ts) symbols vs t) ≡ verdict (moved m other (λ more ws. trace more ws ts) symbols us t)
 moved_of_any Move.pass passed other symbols vs us t ts same h = h
 moved_of_any (Move.take n new) passed other symbols vs us t ts same h =
-    ap (λ v. if nat_lt 64 n then Verdict.deep t.span else v) (same (new ++ symbols) (Value.of_token t ∷ vs) (Value.of_token t ∷ us))
+    ap (λ v. if nat_lt max_nesting n then Verdict.deep t.span else v) (same (new ++ symbols) (Value.of_token t ∷ vs) (Value.of_token t ∷ us))
 moved_of_any Move.stuck passed other symbols vs us t ts same h = refl
 
 entering_of_any : (symbols : List Symbol) (vs us : List Value) (t : Token) (ts : List Token) → SameBehind ts
@@ -41,15 +42,15 @@ verdict_of_any (t ∷ ts) = λ symbols vs us. entering_of_any symbols vs us t ts
 -- ---- the first symbol
 
 -- it takes the token, which is not too deep
-pub judge_takes : (s : Symbol) (n : ℕ) (new symbols : List Symbol) (t : Token) (ts : List Token) → move s t.word ≡ Move.take n new → n ≤ 64 → judge (s ∷ symbols) (t ∷ ts) ≡ judge (new ++ symbols) ts
+pub judge_takes : (s : Symbol) (n : ℕ) (new symbols : List Symbol) (t : Token) (ts : List Token) → move s t.word ≡ Move.take n new → n ≤ max_nesting → judge (s ∷ symbols) (t ∷ ts) ≡ judge (new ++ symbols) ts
 judge_takes s n new symbols t ts h small =
     ap verdict (trace_takes s n new symbols [] t ts h)
-    ∙ ap (λ b. if b then Verdict.deep t.span else verdict (trace (new ++ symbols) (Value.of_token t ∷ []) ts)) (le-ltb 64 n small)
+    ∙ ap (λ b. if b then Verdict.deep t.span else verdict (trace (new ++ symbols) (Value.of_token t ∷ []) ts)) (le-ltb max_nesting n small)
     ∙ verdict_of_any ts (new ++ symbols) (Value.of_token t ∷ []) []
 
 -- it takes the token, which is too deep
-pub judge_deep : (s : Symbol) (new symbols : List Symbol) (t : Token) (ts : List Token) → move s t.word ≡ Move.take 65 new → judge (s ∷ symbols) (t ∷ ts) ≡ Verdict.deep t.span
-judge_deep s new symbols t ts h = ap verdict (trace_takes s 65 new symbols [] t ts h)
+pub judge_deep : (s : Symbol) (new symbols : List Symbol) (t : Token) (ts : List Token) → move s t.word ≡ Move.take (suc max_nesting) new → judge (s ∷ symbols) (t ∷ ts) ≡ Verdict.deep t.span
+judge_deep s new symbols t ts h = ap verdict (trace_takes s (suc max_nesting) new symbols [] t ts h)
 
 pub judge_sticks : (s : Symbol) (symbols : List Symbol) (t : Token) (ts : List Token) → move s t.word ≡ Move.stuck → judge (s ∷ symbols) (t ∷ ts) ≡ Verdict.unexpected t.span
 judge_sticks s symbols t ts h = ap verdict (trace_sticks s symbols [] t ts h)

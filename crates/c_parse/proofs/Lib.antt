@@ -1,5 +1,6 @@
 pub mod Answering
 pub mod Chains
+pub mod Climbing
 pub mod Closing
 pub mod Denotations
 pub mod DenotedExprs
@@ -9,6 +10,7 @@ pub mod Determined
 pub mod Exactness
 pub mod Exits
 pub mod Fillings
+pub mod Fitting
 pub mod JudgedExprs
 pub mod JudgedParts
 pub mod JudgedSimple

@@ -1,6 +1,7 @@
 -- How the trace over tokens ends, by the verdict on them.
 use Rattle.std.proofs.Common.{◌≡◌, ℕ, ◌≤◌, ◌<◌, List, [], ◌∷◌, ◌++◌, Bool, true, false, nat_lt, if◌then◌else◌, refl, sym, ◌∙◌, ap, subst}
 use Rattle.std.proofs.lemmas.Bool.{ltb-true, ltb-false}
+use Rattle.el_base.specs.Limits.{max_nesting}
 use Rattle.el_base.specs.declared.span.Span.{Span}
 use Rattle.c_ast.specs.declared.token.Token.{Token}
 use Rattle.c_parse.specs.Symbols.{Symbol, Move, move, may_be_absent}
@@ -106,19 +107,19 @@ runs_part ns (t ∷ ts) us a b (Runs.onward n s ks xs x y r) = onward_parted n t
 
 abbrev pub AllShallow : List ℕ → Type 0
 AllShallow [] = Unit {0}
-AllShallow (n ∷ ns) = (n ≤ 64) × AllShallow ns
+AllShallow (n ∷ ns) = (n ≤ max_nesting) × AllShallow ns
 
-pub shallow_in : (ns front back : List ℕ) (n : ℕ) → ns ≡ front ++ n ∷ back → AllShallow ns → n ≤ 64
+pub shallow_in : (ns front back : List ℕ) (n : ℕ) → ns ≡ front ++ n ∷ back → AllShallow ns → n ≤ max_nesting
 shallow_in [] [] back n h all = absurd (cc)
 shallow_in [] (k ∷ front) back n h all = absurd (cc)
-shallow_in (m ∷ ns) [] back n h all = let e : m ≡ n = cc in subst (λ k. k ≤ 64) e all.0
+shallow_in (m ∷ ns) [] back n h all = let e : m ≡ n = cc in subst (λ k. k ≤ max_nesting) e all.0
 shallow_in (m ∷ ns) (k ∷ front) back n h all = let e : ns ≡ front ++ n ∷ back = cc in shallow_in ns front back n e all.1
 
 pub data Outcome (ts : List Token) (a : Trace) : Verdict → Type 0 where
   whole : (ns : List ℕ) (vs : List Value) → Runs ns ts a (Trace.complete vs) → AllShallow ns → Outcome ts a Verdict.whole
   cut : (ns : List ℕ) → Runs ns ts a Trace.cut → AllShallow ns → Outcome ts a Verdict.cut
   unexpected : (us ws : List Token) (t : Token) (ns : List ℕ) → ts ≡ us ++ t ∷ ws → Runs ns us a (Trace.unexpected t.span) → AllShallow ns → Outcome ts a (Verdict.unexpected t.span)
-  deep : (us ws : List Token) (t : Token) (ns : List ℕ) (n : ℕ) (rest : Trace) → ts ≡ us ++ t ∷ ws → Runs ns us a (Trace.taken n t.span rest) → AllShallow ns → 64 < n → Outcome ts a (Verdict.deep t.span)
+  deep : (us ws : List Token) (t : Token) (ns : List ℕ) (n : ℕ) (rest : Trace) → ts ≡ us ++ t ∷ ws → Runs ns us a (Trace.taken n t.span rest) → AllShallow ns → max_nesting < n → Outcome ts a (Verdict.deep t.span)
 
 outcome_at_end : (symbols : List Symbol) (vs : List Value) → Outcome [] (ending symbols vs) (verdict (ending symbols vs))
 outcome_at_end [] vs = Outcome.whole [] vs (Runs.done (Trace.complete vs)) tt
@@ -129,7 +130,7 @@ outcome_at_end (s ∷ symbols) vs = either (may_be_absent s) (outcome_at_end sym
     either true h = h
     either false h = Outcome.cut [] (Runs.done Trace.cut) tt
 
-outcome_onward : (n : ℕ) (t : Token) (ts : List Token) (a : Trace) (v : Verdict) → n ≤ 64 → Outcome ts a v → Outcome (t ∷ ts) (Trace.taken n t.span a) v
+outcome_onward : (n : ℕ) (t : Token) (ts : List Token) (a : Trace) (v : Verdict) → n ≤ max_nesting → Outcome ts a v → Outcome (t ∷ ts) (Trace.taken n t.span a) v
 outcome_onward n t ts a v small (Outcome.whole ns vs r all) = Outcome.whole (n ∷ ns) vs (Runs.onward n t ns ts a (Trace.complete vs) r) (small, all)
 outcome_onward n t ts a v small (Outcome.cut ns r all) = Outcome.cut (n ∷ ns) (Runs.onward n t ns ts a Trace.cut r) (small, all)
 outcome_onward n t ts a v small (Outcome.unexpected us ws s ns h r all) =
@@ -137,16 +138,16 @@ outcome_onward n t ts a v small (Outcome.unexpected us ws s ns h r all) =
 outcome_onward n t ts a v small (Outcome.deep us ws s ns m rest h r all much) =
     Outcome.deep (t ∷ us) ws s (n ∷ ns) m rest (ap (λ xs. t ∷ xs) h) (Runs.onward n t ns us a (Trace.taken m s.span rest) r) (small, all) much
 
-outcome_taken : (n : ℕ) (t : Token) (ts : List Token) (a : Trace) (b : Bool) → nat_lt 64 n ≡ b → Outcome ts a (verdict a) → Outcome (t ∷ ts) (Trace.taken n t.span a) (if b then Verdict.deep t.span else verdict a)
-outcome_taken n t ts a true h o = Outcome.deep [] ts t [] n a refl (Runs.done (Trace.taken n t.span a)) tt (ltb-true 64 n h)
-outcome_taken n t ts a false h o = outcome_onward n t ts a (verdict a) (ltb-false 64 n h) o
+outcome_taken : (n : ℕ) (t : Token) (ts : List Token) (a : Trace) (b : Bool) → nat_lt max_nesting n ≡ b → Outcome ts a (verdict a) → Outcome (t ∷ ts) (Trace.taken n t.span a) (if b then Verdict.deep t.span else verdict a)
+outcome_taken n t ts a true h o = Outcome.deep [] ts t [] n a refl (Runs.done (Trace.taken n t.span a)) tt (ltb-true max_nesting n h)
+outcome_taken n t ts a false h o = outcome_onward n t ts a (verdict a) (ltb-false max_nesting n h) o
 
 outcome_entered : (t : Token) (ts : List Token) (symbols : List Symbol) (vs : List Value) → Entered symbols vs t
     → ((new : List Symbol) (us : List Value) → Outcome ts (trace new us ts) (verdict (trace new us ts))) → Outcome (t ∷ ts) (trace symbols vs (t ∷ ts)) (verdict (trace symbols vs (t ∷ ts)))
 outcome_entered t ts symbols vs (Entered.sticks f) later =
     subst (λ a. Outcome (t ∷ ts) a (verdict a)) (sym (f ts)) (Outcome.unexpected [] ts t [] refl (Runs.done (Trace.unexpected t.span)) tt)
 outcome_entered t ts symbols vs (Entered.enters n new us f) later =
-    subst (λ a. Outcome (t ∷ ts) a (verdict a)) (sym (f ts)) (outcome_taken n t ts (trace new us ts) (nat_lt 64 n) refl (later new us))
+    subst (λ a. Outcome (t ∷ ts) a (verdict a)) (sym (f ts)) (outcome_taken n t ts (trace new us ts) (nat_lt max_nesting n) refl (later new us))
 
 pub outcome : (ts : List Token) (symbols : List Symbol) (vs : List Value) → Outcome ts (trace symbols vs ts) (verdict (trace symbols vs ts))
 outcome [] symbols vs = outcome_at_end symbols vs

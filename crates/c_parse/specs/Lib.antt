@@ -1,4 +1,5 @@
 pub mod Parts
+pub mod Printed
 pub mod Reads
 pub mod Refusals
 pub mod Sample

@@ -1,5 +1,6 @@
 -- What the refusals of tokens mean.
 use Rattle.std.specs.Prelude.{◌≡◌, ◌≢◌, ◌⊎◌, ℕ, ◌<◌, ◌≤◌, ◌-◌, ◌^◌, min, List, Result, Ok, Err}
+use Rattle.el_base.specs.Limits.{max_nodes}
 use Rattle.el_base.specs.declared.span.Span.{Span}
 use Rattle.c_ast.specs.declared.token.Token.{Token}
 use Rattle.c_ast.specs.declared.tree.Tree.{Tree}
@@ -22,7 +23,7 @@ refusal_of end stop.Memory = refusal.Memory
 pub record IsLargeAt (tree : Tree) (at : Span) (n : ℕ) : Type 0 where
   pub place : at ≡ tree.at
   pub count : n ≡ min (tree_nodes tree) (2 ^ 64 - 1)
-  pub many : 1024 < tree_nodes tree
+  pub many : max_nodes < tree_nodes tree
 
 abbrev pub IsLarge : Tree → ParseRefusal → Type 0
 IsLarge tree (refusal.TooLarge at n) = IsLargeAt tree at n
@@ -32,7 +33,7 @@ IsLarge tree e = ⊥
 pub record IsKernel (tokens : List Token) (tree : Tree) : Type 0 where
   pub derived : Derives tokens tree
   pub shallow : IsShallow tokens
-  pub small : tree_nodes tree ≤ 1024
+  pub small : tree_nodes tree ≤ max_nodes
 
 -- the tokens are a kernel text, at none of them the nesting passes the most, and its tree has too many syntax nodes
 pub record IsTooLarge (tokens : List Token) (at : Span) (n : ℕ) : Type 0 where

@@ -1,13 +1,15 @@
 -- Why reading one token stops.
-use Rattle.std.specs.Prelude.{◌≡◌, List, [], ◌∷◌, Bool, true, false, Option, None}
+use Rattle.std.specs.Prelude.{◌≡◌, ℕ, ◌<◌, List, [], ◌∷◌, Bool, true, false, Option, Some, None}
 use Rattle.c_ast.specs.declared.token.Token.{Token}
 use Rattle.c_ast.specs.declared.token.Word.{Word}
 use Rattle.c_ast.specs.declared.token.Word.TheVariants as word
 use Rattle.c_ast.specs.declared.mark.Mark.{Mark}
 use Rattle.c_ast.specs.declared.mark.Mark.TheVariants as mark
+use Rattle.c_ast.specs.declared.tree.Binary.{Binary}
 use Rattle.c_parse.specs.declared.refusal.Stop.{Stop}
 use Rattle.c_parse.specs.declared.refusal.Stop.TheVariants as stop
 use Rattle.c_parse.specs.Symbols.{is_type_word}
+use Rattle.c_parse.specs.Tables.{operator_of}
 
 abbrev pub is_name : Word → Bool
 is_name (word.Name x) = true
@@ -57,6 +59,10 @@ meaning table w = None
 abbrev pub meaning_at : {A : Type 0} → (Mark → Option A) → List Token → Option A
 meaning_at table [] = None
 meaning_at table (t ∷ ts) = meaning table t.word
+
+-- a binary operator that comes next is of a looser level than this; or none comes next
+abbrev pub IsLooserAt : ℕ → List Token → Type 0
+IsLooserAt level ts = (op : Binary) (l : ℕ) → meaning_at operator_of ts ≡ Some (op, l) → l < level
 
 -- ---- stops
 

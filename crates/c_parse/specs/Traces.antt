@@ -1,5 +1,6 @@
 -- How a predictive parser goes over tokens: the nesting at each token, and how it ends.
 use Rattle.std.specs.Prelude.{ℕ, nat_lt, if◌then◌else◌, List, [], ◌∷◌, ◌++◌}
+use Rattle.el_base.specs.Limits.{max_nesting}
 use Rattle.el_base.specs.declared.span.Span.{Span}
 use Rattle.c_ast.specs.declared.token.Token.{Token}
 use Rattle.c_parse.specs.Symbols.{Symbol, Move, move, may_be_absent}
@@ -40,7 +41,7 @@ abbrev pub trace : List Symbol → List Value → List Token → Trace
 trace symbols vs [] = ending symbols vs
 trace symbols vs (t ∷ ts) = entering (λ more us. trace more us ts) symbols vs t
 
--- ---- verdicts, where no token may belong to more than 64 constructs
+-- ---- verdicts, where no token may belong to more constructs than the most
 
 pub data Verdict : Type 0 where
   whole cut : Verdict
@@ -50,7 +51,7 @@ abbrev pub verdict : Trace → Verdict
 verdict (Trace.complete vs) = Verdict.whole
 verdict Trace.cut = Verdict.cut
 verdict (Trace.unexpected s) = Verdict.unexpected s
-verdict (Trace.taken n s rest) = if nat_lt 64 n then Verdict.deep s else verdict rest
+verdict (Trace.taken n s rest) = if nat_lt max_nesting n then Verdict.deep s else verdict rest
 
 -- the verdict on tokens where these symbols are expected
 abbrev pub judge : List Symbol → List Token → Verdict

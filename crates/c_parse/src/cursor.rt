@@ -1,12 +1,11 @@
 //! A place in a list of tokens.
-ghost use Rattle.std.specs.Prelude.{◌≡◌, ◌∷◌, ◌++◌, ◌+◌, List, [], false, Some, None, IfOk, IfErr, IfSome, IfNone, IsTrue, ◌↔◌};
+ghost use Rattle.std.specs.Prelude.{◌≡◌, ◌≤◌, ◌∷◌, ◌++◌, ◌+◌, List, [], false, Some, None, IfOk, IfErr, IfSome, IfNone, IsTrue, ◌↔◌};
 ghost use Rattle.c_ast.specs.declared.token.Token.{Token};
 ghost use Rattle.c_ast.specs.declared.token.Word.TheVariants as word;
-ghost use Rattle.c_ast.specs.declared.tree.Binary.{Binary};
 ghost use Rattle.c_ast.specs.Derives.{marked, keyed, named, numbered, place_of};
 ghost use Rattle.c_parse.specs.Reads.{is_else, mark_at, key_at, Operates, Signs, Assigns, Steps, Numbered};
-ghost use Rattle.c_parse.specs.Tables.{operator_of, sign_of, assigning_of, step_of};
-ghost use Rattle.c_parse.specs.Stops.{Refuses, is_name, is_number, meaning, meaning_at, is_name_at, is_number_at, stop_at};
+ghost use Rattle.c_parse.specs.Tables.{sign_of, assigning_of, step_of};
+ghost use Rattle.c_parse.specs.Stops.{IsLooserAt, Refuses, is_name, is_number, meaning, meaning_at, is_name_at, is_number_at, stop_at};
 ghost use Rattle.c_parse.specs.declared.refusal.Stop.TheVariants as stop;
 
 use crate::operators::{assigning_of, operator_of, sign_of, step_of};
@@ -177,7 +176,8 @@ impl<'a> Cursor<'a> {
     /// Goes past this mark.
     pub fn mark(&mut self, mark: Mark) -> Result<Span, Stop>
         ensures read { IfOk result (λ s. self.old.rest.now ≡ marked mark s ∷ self.new.rest.now) }
-        ensures refused { IfErr result (λ e. Refuses (λ w. w ≡ word.Mark mark → ⊥) self.old.rest.now e) }
+        ensures refused { IfErr result (λ e. Refuses (λ w. w ≡ word.Mark mark
+            → ⊥) self.old.rest.now e) }
     {
         let token = self.next()?;
         match token.word {
@@ -189,7 +189,8 @@ impl<'a> Cursor<'a> {
     /// Goes past this reserved word.
     pub fn key(&mut self, key: Key) -> Result<Span, Stop>
         ensures read { IfOk result (λ s. self.old.rest.now ≡ keyed key s ∷ self.new.rest.now) }
-        ensures refused { IfErr result (λ e. Refuses (λ w. w ≡ word.Key key → ⊥) self.old.rest.now e) }
+        ensures refused { IfErr result (λ e. Refuses (λ w. w ≡ word.Key key
+            → ⊥) self.old.rest.now e) }
     {
         let token = self.next()?;
         match token.word {
@@ -213,7 +214,8 @@ impl<'a> Cursor<'a> {
     /// Goes past a number; its value.
     pub fn number(&mut self) -> Result<u64, Stop>
         ensures read { IfOk result (λ n. Numbered n self.old.rest.now self.new.rest.now) }
-        ensures refused { IfErr result (λ e. Refuses (λ w. is_number w ≡ false) self.old.rest.now e) }
+        ensures refused { IfErr result (λ e. Refuses (λ w. is_number w ≡ false)
+            self.old.rest.now e) }
     {
         let token = self.next()?;
         match token.word {
@@ -222,28 +224,31 @@ impl<'a> Cursor<'a> {
         }
     }
 
-    /// Goes past a binary operator of a level, if one comes next.
-    pub fn operator(&mut self, level: u32) -> Option<Binary>
-        ensures some { IfSome result (λ op. Operates op level self.old.rest.now self.new.rest.now) }
+    /// Goes past a binary operator of a level or a tighter one, if one comes next; also its level.
+    pub fn operator(&mut self, level: u32) -> Option<(Binary, u32)>
+        ensures some { IfSome result (λ o. Operates o.0 o.1 self.old.rest.now self.new.rest.now) }
+        ensures tight { IfSome result (λ o. level ≤ o.1) }
+        ensures known { IfSome result (λ o. o.1 ≤ 10) }
         ensures none { IfNone result (self.new.rest.now ≡ self.old.rest.now) }
-        ensures other { IfNone result ((op : Binary) → meaning_at operator_of self.old.rest.now ≡ Some (op, level) → ⊥) }
+        ensures other { IfNone result (IsLooserAt level self.old.rest.now) }
     {
         let (token, rest) = self.rest.split_first()?;
         let Word::Mark(mark) = token.word else {
             return None;
         };
         let (op, tier) = operator_of(mark)?;
-        if tier != level {
+        if tier < level {
             return None;
         }
         self.rest = rest;
-        Some(op)
+        Some((op, tier))
     }
 
     /// Goes past a unary operator; also its place.
     pub fn sign(&mut self) -> Result<(Unary, Span), Stop>
         ensures read { IfOk result (λ s. Signs s.0 s.1 self.old.rest.now self.new.rest.now) }
-        ensures refused { IfErr result (λ e. Refuses (λ w. meaning sign_of w ≡ None) self.old.rest.now e) }
+        ensures refused { IfErr result (λ e. Refuses (λ w. meaning sign_of w ≡ None)
+            self.old.rest.now e) }
     {
         let token = self.next()?;
         let Word::Mark(mark) = token.word else {
@@ -273,7 +278,8 @@ impl<'a> Cursor<'a> {
     /// Goes past the mark of a step; whether it goes up.
     pub fn step(&mut self) -> Result<bool, Stop>
         ensures read { IfOk result (λ up. Steps up self.old.rest.now self.new.rest.now) }
-        ensures refused { IfErr result (λ e. Refuses (λ w. meaning step_of w ≡ None) self.old.rest.now e) }
+        ensures refused { IfErr result (λ e. Refuses (λ w. meaning step_of w ≡ None)
+            self.old.rest.now e) }
     {
         let token = self.next()?;
         let Word::Mark(mark) = token.word else {

@@ -1,10 +1,11 @@
 //! Expressions.
 ghost use Rattle.std.specs.Prelude.{◌≡◌, ◌≤◌, ◌+◌, ℕ, suc, List, [], ◌∷◌, false, Some, IfOk};
+ghost use Rattle.el_base.specs.Limits.{max_nesting};
 ghost use Rattle.c_ast.specs.declared.tree.ExprKind.TheVariants as expr;
 ghost use Rattle.c_ast.specs.Derives.{DerivesExpr, DerivesIndices};
 ghost use Rattle.c_ast.specs.declared.mark.Mark.TheVariants as mark;
 ghost use Rattle.c_parse.specs.Reads.{Reads, InParens, InBrackets, mark_at};
-ghost use Rattle.c_parse.specs.Stops.{is_type_behind, is_operand_at};
+ghost use Rattle.c_parse.specs.Stops.{IsLooserAt, is_type_behind, is_operand_at};
 ghost use Rattle.c_parse.specs.Symbols.{Symbol, Fixed, in_group};
 ghost use Rattle.c_parse.specs.Verdicts.{Judges};
 
@@ -15,15 +16,14 @@ use c_ast::{Binary, Boxed, Expr, ExprKind, List, Mark, Word};
 use el_base::Memory;
 use std::alloc::Global;
 
-// The tightest level of binary operators.
-const TIGHTEST: u32 = 10;
-
 impl<'a> Cursor<'a> {
     /// An expression, in which so many constructs may nest.
     #[cycle(expr)]
     pub fn expr(&mut self, depth: u32) -> Result<Expr, Stop>
-        ensures derived { IfOk result (λ e. Reads (λ ts. DerivesExpr 0 ts e) self.old.rest.now self.new.rest.now) }
-        ensures judged { (n : ℕ) → n + depth ≡ 64 → Judges (Symbol.expression n 0 ∷ []) [] self.old.rest.now self.new.rest.now result }
+        ensures derived { IfOk result (λ e. Reads (λ ts. DerivesExpr 0 ts e)
+            self.old.rest.now self.new.rest.now) }
+        ensures judged { (n : ℕ) → n + depth ≡ max_nesting
+            → Judges (Symbol.expression n 0 ∷ []) [] self.old.rest.now self.new.rest.now result }
     {
         let from = self.rest;
         let cond = self.binary(1, depth)?;
@@ -41,20 +41,22 @@ impl<'a> Cursor<'a> {
         })
     }
 
-    // An expression of one level of binary operators, from left to right; past the tightest a unary expression.
+    // An expression of a level: operands, and the operators of this level and of tighter ones between them.
     #[cycle(expr)]
     fn binary(&mut self, level: u32, depth: u32) -> Result<Expr, Stop>
-        requires { level ≤ 11 }
-        ensures derived { IfOk result (λ e. Reads (λ ts. DerivesExpr level ts e) self.old.rest.now self.new.rest.now) }
-        ensures judged { (n : ℕ) → n + depth ≡ 64 → 1 ≤ level → Judges (Symbol.expression n level ∷ []) [] self.old.rest.now self.new.rest.now result }
+        requires some { 1 ≤ level }
+        requires known { level ≤ 11 }
+        ensures derived { IfOk result (λ e. Reads (λ ts. DerivesExpr level ts e)
+            self.old.rest.now self.new.rest.now) }
+        ensures judged { (n : ℕ) → n + depth ≡ max_nesting
+            → Judges (Symbol.expression n level ∷ []) []
+            self.old.rest.now self.new.rest.now result }
+        ensures behind { IfOk result (λ _. IsLooserAt level self.new.rest.now) }
     {
-        if level > TIGHTEST {
-            return self.unary(depth);
-        }
         let from = self.rest;
-        let mut left = self.binary(level + 1, depth)?;
-        'operators: while let Some(op) = self.operator(level) {
-            let right = self.binary(level + 1, depth)?;
+        let mut left = self.unary(depth)?;
+        'operators: while let Some((op, tier)) = self.operator(level) {
+            let right = self.binary(tier + 1, depth)?;
             left = Expr {
                 kind: join(self.alloc, op, left, right)?,
                 at: place(from, self.rest),
@@ -66,8 +68,10 @@ impl<'a> Cursor<'a> {
     // A unary expression.
     #[cycle(expr)]
     fn unary(&mut self, depth: u32) -> Result<Expr, Stop>
-        ensures derived { IfOk result (λ e. Reads (λ ts. DerivesExpr 11 ts e) self.old.rest.now self.new.rest.now) }
-        ensures judged { (n : ℕ) → n + depth ≡ 64 → Judges (Symbol.expression n 11 ∷ []) [] self.old.rest.now self.new.rest.now result }
+        ensures derived { IfOk result (λ e. Reads (λ ts. DerivesExpr 11 ts e)
+            self.old.rest.now self.new.rest.now) }
+        ensures judged { (n : ℕ) → n + depth ≡ max_nesting
+            → Judges (Symbol.expression n 11 ∷ []) [] self.old.rest.now self.new.rest.now result }
     {
         if self.is_at_name() {
             return self.named(depth);
@@ -86,8 +90,10 @@ impl<'a> Cursor<'a> {
 
     // A number.
     fn constant(&mut self) -> Result<Expr, Stop>
-        ensures derived { IfOk result (λ e. Reads (λ ts. DerivesExpr 11 ts e) self.old.rest.now self.new.rest.now) }
-        ensures judged { (n : ℕ) → n ≤ 64 → Judges (Symbol.a_number n ∷ []) [] self.old.rest.now self.new.rest.now result }
+        ensures derived { IfOk result (λ e. Reads (λ ts. DerivesExpr 11 ts e)
+            self.old.rest.now self.new.rest.now) }
+        ensures judged { (n : ℕ) → n ≤ max_nesting
+            → Judges (Symbol.a_number n ∷ []) [] self.old.rest.now self.new.rest.now result }
     {
         let token = self.next()?;
         match token.word {
@@ -102,8 +108,11 @@ impl<'a> Cursor<'a> {
     // A name, with indices or without.
     #[cycle(expr)]
     fn named(&mut self, depth: u32) -> Result<Expr, Stop>
-        ensures derived { IfOk result (λ e. Reads (λ ts. DerivesExpr 11 ts e) self.old.rest.now self.new.rest.now) }
-        ensures judged { (n : ℕ) → n + depth ≡ 64 → Judges (Symbol.a_name n ∷ Symbol.indices n ∷ []) [] self.old.rest.now self.new.rest.now result }
+        ensures derived { IfOk result (λ e. Reads (λ ts. DerivesExpr 11 ts e)
+            self.old.rest.now self.new.rest.now) }
+        ensures judged { (n : ℕ) → n + depth ≡ max_nesting
+            → Judges (Symbol.a_name n ∷ Symbol.indices n ∷ []) []
+            self.old.rest.now self.new.rest.now result }
     {
         let from = self.rest;
         let (name, _) = self.name()?;
@@ -124,8 +133,10 @@ impl<'a> Cursor<'a> {
     // A unary operator and its operand.
     #[cycle(expr)]
     fn signed(&mut self, depth: u32) -> Result<Expr, Stop>
-        ensures derived { IfOk result (λ e. Reads (λ ts. DerivesExpr 11 ts e) self.old.rest.now self.new.rest.now) }
-        ensures judged { (n : ℕ) → n + depth ≡ 64 → is_operand_at self.old.rest.now ≡ false → Judges (Symbol.expression n 11 ∷ []) [] self.old.rest.now self.new.rest.now result }
+        ensures derived { IfOk result (λ e. Reads (λ ts. DerivesExpr 11 ts e)
+            self.old.rest.now self.new.rest.now) }
+        ensures judged { (n : ℕ) → n + depth ≡ max_nesting → is_operand_at self.old.rest.now ≡ false
+            → Judges (Symbol.expression n 11 ∷ []) [] self.old.rest.now self.new.rest.now result }
     {
         let from = self.rest;
         let (op, sign) = self.sign()?;
@@ -140,8 +151,12 @@ impl<'a> Cursor<'a> {
     // A cast and its operand.
     #[cycle(expr)]
     fn cast(&mut self, depth: u32) -> Result<Expr, Stop>
-        ensures derived { IfOk result (λ e. Reads (λ ts. DerivesExpr 11 ts e) self.old.rest.now self.new.rest.now) }
-        ensures judged { (n : ℕ) → n + depth ≡ 64 → Judges (Symbol.fixed (suc n) Fixed.opening ∷ Symbol.a_type (suc n) ∷ Symbol.fixed (suc n) Fixed.closing ∷ Symbol.expression (suc n) 11 ∷ []) [] self.old.rest.now self.new.rest.now result }
+        ensures derived { IfOk result (λ e. Reads (λ ts. DerivesExpr 11 ts e)
+            self.old.rest.now self.new.rest.now) }
+        ensures judged { (n : ℕ) → n + depth ≡ max_nesting
+            → Judges (Symbol.fixed (suc n) Fixed.opening ∷ Symbol.a_type (suc n)
+            ∷ Symbol.fixed (suc n) Fixed.closing ∷ Symbol.expression (suc n) 11 ∷ []) []
+            self.old.rest.now self.new.rest.now result }
     {
         let from = self.rest;
         let open = self.mark(Mark::Open)?;
@@ -158,8 +173,10 @@ impl<'a> Cursor<'a> {
     /// An expression in parentheses.
     #[cycle(expr)]
     pub fn group(&mut self, depth: u32) -> Result<Expr, Stop>
-        ensures derived { IfOk result (λ e. Reads (λ ts. InParens ts e) self.old.rest.now self.new.rest.now) }
-        ensures judged { (n : ℕ) → n + depth ≡ 64 → Judges (in_group (suc n) []) [] self.old.rest.now self.new.rest.now result }
+        ensures derived { IfOk result (λ e. Reads (λ ts. InParens ts e)
+            self.old.rest.now self.new.rest.now) }
+        ensures judged { (n : ℕ) → n + depth ≡ max_nesting
+            → Judges (in_group (suc n) []) [] self.old.rest.now self.new.rest.now result }
     {
         let open = self.mark(Mark::Open)?;
         let depth = deeper(depth, open)?;
@@ -171,8 +188,12 @@ impl<'a> Cursor<'a> {
     // An index in brackets.
     #[cycle(expr)]
     fn index(&mut self, depth: u32) -> Result<Expr, Stop>
-        ensures derived { IfOk result (λ e. Reads (λ ts. InBrackets ts e) self.old.rest.now self.new.rest.now) }
-        ensures judged { (n : ℕ) → n + depth ≡ 64 → mark_at self.old.rest.now ≡ Some mark.OpenBracket → Judges (Symbol.indices n ∷ []) (Symbol.indices n ∷ []) self.old.rest.now self.new.rest.now result }
+        ensures derived { IfOk result (λ e. Reads (λ ts. InBrackets ts e)
+            self.old.rest.now self.new.rest.now) }
+        ensures judged { (n : ℕ) → n + depth ≡ max_nesting
+            → mark_at self.old.rest.now ≡ Some mark.OpenBracket
+            → Judges (Symbol.indices n ∷ []) (Symbol.indices n ∷ [])
+            self.old.rest.now self.new.rest.now result }
     {
         let open = self.mark(Mark::OpenBracket)?;
         let depth = deeper(depth, open)?;
@@ -184,8 +205,10 @@ impl<'a> Cursor<'a> {
     /// All indices in brackets that come next.
     #[cycle(expr)]
     pub fn indices(&mut self, depth: u32) -> Result<List<Expr>, Stop>
-        ensures derived { IfOk result (λ es. Reads (λ ts. DerivesIndices ts es) self.old.rest.now self.new.rest.now) }
-        ensures judged { (n : ℕ) → n + depth ≡ 64 → Judges (Symbol.indices n ∷ []) [] self.old.rest.now self.new.rest.now result }
+        ensures derived { IfOk result (λ es. Reads (λ ts. DerivesIndices ts es)
+            self.old.rest.now self.new.rest.now) }
+        ensures judged { (n : ℕ) → n + depth ≡ max_nesting
+            → Judges (Symbol.indices n ∷ []) [] self.old.rest.now self.new.rest.now result }
     {
         let mut indices = List::new(self.alloc);
         'brackets: while self.is_at(Mark::OpenBracket) {

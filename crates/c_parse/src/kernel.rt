@@ -1,7 +1,9 @@
 //! Kernels.
-ghost use Rattle.std.specs.Prelude.{◌≡◌, ◌≤◌, ℕ, List, [], ◌∷◌, IfOk, IfErr};
+ghost use Rattle.std.specs.Prelude.{◌≡◌, ◌≤◌, ℕ, List, [], ◌∷◌, All, IfOk, IfErr};
+ghost use Rattle.el_base.specs.Limits.{max_nesting, max_nodes};
 ghost use Rattle.c_ast.specs.declared.token.Token.{Token};
 ghost use Rattle.c_ast.specs.declared.tree.Tree.{Tree};
+ghost use Rattle.c_ast.specs.Constants.{NumberFits, NumbersFit};
 ghost use Rattle.c_ast.specs.Derives.{DerivesResult, Derives};
 ghost use Rattle.c_ast.specs.Nodes.{tree_nodes};
 ghost use Rattle.c_parse.specs.Reads.{Reads};
@@ -13,27 +15,24 @@ ghost use Rattle.c_parse.specs.Refusals.{refusal_of, IsLarge, Says, IsOnly};
 use crate::cursor::Cursor;
 use crate::refusal::{ParseRefusal, Stop};
 use c_ast::{Key, Mark, Span, Token, Tree, Ty, nodes};
+use el_base::{MAX_NESTING, MAX_NODES};
 use std::alloc::Global;
-
-/// The most constructs that a token may belong to.
-const MOST_NESTED: u32 = 64;
-
-/// The most syntax nodes of a kernel.
-const MOST_NODES: u64 = 1024;
 
 /// The syntax tree of a kernel text (ISO/IEC 9899:1999 6.5, 6.7, 6.8, 6.9.1) whose tokens these are; `end` is the
 /// place after the text's last byte.
 ///
-/// At none of its tokens more than 64 constructs nest, and it has at most 1,024 nodes. Linear in the number of tokens.
+/// At none of its tokens more than [`MAX_NESTING`] constructs nest, and it has at most [`MAX_NODES`] nodes. Where the
+/// numbers of the tokens lie in the ranges of their types, so do those of the tree. Linear in the number of tokens.
 ///
 /// # Errors
 ///
 /// `Unexpected` at the first token with which no kernel text goes on; `EndOfText` where the tokens begin a kernel text
-/// and are none; `TooDeep` at the first token that belongs to more than 64 constructs; `TooLarge` where the tokens are
-/// a kernel text with more than 1,024 nodes. `Memory` where memory ran out.
+/// and are none; `TooDeep` at the first token that belongs to more constructs; `TooLarge` where the tokens are a
+/// kernel text with more nodes. `Memory` where memory ran out.
 pub fn parse(alloc: Global, tokens: &[Token], end: Span) -> Result<Tree, ParseRefusal>
     ensures says { Says tokens.now end result }
     ensures only { IsOnly tokens.now end result }
+    ensures fits { All NumberFits tokens.now → IfOk result NumbersFit }
 {
     let mut cursor = Cursor {
         alloc,
@@ -50,14 +49,20 @@ pub fn tokens_have_one_tree()
     ensures { (tokens : List Token) (a b : Tree) → Derives tokens a → Derives tokens b → a ≡ b }
 {}
 
+/// The tree of tokens whose numbers lie in the ranges of their types has numbers in the ranges of their types.
+pub fn trees_have_the_numbers_of_their_tokens()
+    ensures { (tokens : List Token) (tree : Tree) → Derives tokens tree → All NumberFits tokens
+        → NumbersFit tree }
+{}
+
 // A tree that is not too large.
 fn limited(tree: Tree) -> Result<Tree, ParseRefusal>
     ensures same { IfOk result (λ t. t ≡ tree) }
-    ensures small { IfOk result (λ t. tree_nodes t ≤ 1024) }
+    ensures small { IfOk result (λ t. tree_nodes t ≤ max_nodes) }
     ensures large { IfErr result (λ e. IsLarge tree e) }
 {
     let count = nodes(&tree);
-    if count > MOST_NODES {
+    if count > MAX_NODES {
         return Err(ParseRefusal::TooLarge {
             span: tree.at,
             nodes: count,
@@ -94,7 +99,8 @@ impl<'a> Cursor<'a> {
 
     // A kernel.
     fn kernel(&mut self) -> Result<Tree, Stop>
-        ensures derived { IfOk result (λ tree. Reads (λ ts. Derives ts tree) self.old.rest.now self.new.rest.now) }
+        ensures derived { IfOk result (λ tree. Reads (λ ts. Derives ts tree)
+            self.old.rest.now self.new.rest.now) }
         ensures judged { Judges kernel_symbols [] self.old.rest.now self.new.rest.now result }
     {
         let result = self.result()?;
@@ -102,7 +108,7 @@ impl<'a> Cursor<'a> {
         self.mark(Mark::Open)?;
         let params = self.params()?;
         self.mark(Mark::Close)?;
-        let body = self.braced(MOST_NESTED)?;
+        let body = self.braced(MAX_NESTING)?;
         Ok(Tree {
             name,
             at,
@@ -114,8 +120,10 @@ impl<'a> Cursor<'a> {
 
     // The type of the result, or `void`.
     fn result(&mut self) -> Result<Option<Ty>, Stop>
-        ensures derived { IfOk result (λ r. Reads (λ ts. DerivesResult ts r) self.old.rest.now self.new.rest.now) }
-        ensures judged { (n : ℕ) → n ≤ 64 → Judges (Symbol.result n ∷ []) [] self.old.rest.now self.new.rest.now result }
+        ensures derived { IfOk result (λ r. Reads (λ ts. DerivesResult ts r)
+            self.old.rest.now self.new.rest.now) }
+        ensures judged { (n : ℕ) → n ≤ max_nesting
+            → Judges (Symbol.result n ∷ []) [] self.old.rest.now self.new.rest.now result }
     {
         if let Some(_) = self.take_key(Key::Void) {
             return Ok(None);

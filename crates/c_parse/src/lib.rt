@@ -12,14 +12,8 @@ mod refusal;
 mod simple;
 mod stmt;
 #[cfg(test)]
-mod test_rows;
-#[cfg(test)]
-mod test_text;
-#[cfg(test)]
-mod test_vectors;
-#[cfg(test)]
 mod tests;
 mod types;
 
-pub use kernel::{parse, tokens_have_one_tree};
+pub use kernel::{parse, tokens_have_one_tree, trees_have_the_numbers_of_their_tokens};
 pub use refusal::ParseRefusal;

@@ -9,20 +9,63 @@ use thiserror::Error;
 #[derive(Debug, Drop, Error)]
 pub enum ParseRefusal {
     /// A token that no kernel text has there.
-    #[error("10 Unexpected at {}:{}", span.line, span.column)]
+    #[error("10 Unexpected")]
     Unexpected { span: Span },
     /// The tokens end too early; the place is the one after them.
-    #[error("11 EndOfText at {}:{}", span.line, span.column)]
+    #[error("11 EndOfText")]
     EndOfText { span: Span },
     /// A construct nests too deep; the place is its first token.
-    #[error("12 TooDeep at {}:{}", span.line, span.column)]
+    #[error("12 TooDeep")]
     TooDeep { span: Span },
     /// The kernel has too many syntax nodes; the place is its name.
-    #[error("13 TooLarge at {}:{} nodes {nodes}", span.line, span.column)]
+    #[error("13 TooLarge")]
     TooLarge { span: Span, nodes: u64 },
     /// Memory ran out.
-    #[error("out of memory")]
+    #[error("want of memory")]
     Memory,
+}
+
+impl ParseRefusal {
+    ghost use Rattle.c_parse.specs.Printed.{refusal_number, refusal_word, refusal_span};
+
+    /// The number by which it is printed, 10 to 13; none for want of memory.
+    pub fn number(&self) -> Option<u32>
+        ensures { result ≡ refusal_number self.now }
+    {
+        match self {
+            ParseRefusal::Unexpected { .. } => Some(10),
+            ParseRefusal::EndOfText { .. } => Some(11),
+            ParseRefusal::TooDeep { .. } => Some(12),
+            ParseRefusal::TooLarge { .. } => Some(13),
+            ParseRefusal::Memory => None,
+        }
+    }
+
+    /// The word by which it is printed.
+    pub fn word(&self) -> &'static str
+        ensures { result.now ≡ refusal_word self.now }
+    {
+        match self {
+            ParseRefusal::Unexpected { .. } => "Unexpected",
+            ParseRefusal::EndOfText { .. } => "EndOfText",
+            ParseRefusal::TooDeep { .. } => "TooDeep",
+            ParseRefusal::TooLarge { .. } => "TooLarge",
+            ParseRefusal::Memory => "Memory",
+        }
+    }
+
+    /// Its place in the text; none for want of memory.
+    pub fn span(&self) -> Option<Span>
+        ensures { result ≡ refusal_span self.now }
+    {
+        match self {
+            ParseRefusal::Unexpected { span } => Some(*span),
+            ParseRefusal::EndOfText { span } => Some(*span),
+            ParseRefusal::TooDeep { span } => Some(*span),
+            ParseRefusal::TooLarge { span, .. } => Some(*span),
+            ParseRefusal::Memory => None,
+        }
+    }
 }
 
 impl From<Memory> for ParseRefusal {

@@ -1,5 +1,6 @@
 //! Assignments, steps and declarations.
 ghost use Rattle.std.specs.Prelude.{◌≡◌, ◌+◌, ℕ, List, [], ◌∷◌, None, IfOk};
+ghost use Rattle.el_base.specs.Limits.{max_nesting};
 ghost use Rattle.c_ast.specs.declared.token.Token.{Token};
 ghost use Rattle.c_ast.specs.Derives.{DerivesTarget, DerivesSimple, DerivesDeclared, DerivesDeclaration};
 ghost use Rattle.c_parse.specs.Reads.{Reads, Adds};
@@ -16,8 +17,10 @@ use c_ast::{List, Mark, Stmt, StmtKind, Target, Ty};
 impl<'a> Cursor<'a> {
     // What is assigned to.
     fn target(&mut self, depth: u32) -> Result<Target, Stop>
-        ensures derived { IfOk result (λ t. Reads (λ ts. DerivesTarget ts t) self.old.rest.now self.new.rest.now) }
-        ensures judged { (n : ℕ) → n + depth ≡ 64 → Judges (target_symbols n) [] self.old.rest.now self.new.rest.now result }
+        ensures derived { IfOk result (λ t. Reads (λ ts. DerivesTarget ts t)
+            self.old.rest.now self.new.rest.now) }
+        ensures judged { (n : ℕ) → n + depth ≡ max_nesting
+            → Judges (target_symbols n) [] self.old.rest.now self.new.rest.now result }
     {
         let from = self.rest;
         let (name, _) = self.name()?;
@@ -31,8 +34,10 @@ impl<'a> Cursor<'a> {
 
     /// An assignment or a step.
     pub fn simple(&mut self, depth: u32) -> Result<Stmt, Stop>
-        ensures derived { IfOk result (λ s. Reads (λ ts. DerivesSimple ts s) self.old.rest.now self.new.rest.now) }
-        ensures judged { (n : ℕ) → n + depth ≡ 64 → Judges (Symbol.simple n ∷ []) [] self.old.rest.now self.new.rest.now result }
+        ensures derived { IfOk result (λ s. Reads (λ ts. DerivesSimple ts s)
+            self.old.rest.now self.new.rest.now) }
+        ensures judged { (n : ℕ) → n + depth ≡ max_nesting
+            → Judges (Symbol.simple n ∷ []) [] self.old.rest.now self.new.rest.now result }
     {
         if self.is_at(Mark::Increment) {
             return self.step_before(depth);
@@ -45,8 +50,11 @@ impl<'a> Cursor<'a> {
 
     // A step whose mark comes first.
     fn step_before(&mut self, depth: u32) -> Result<Stmt, Stop>
-        ensures derived { IfOk result (λ s. Reads (λ ts. DerivesSimple ts s) self.old.rest.now self.new.rest.now) }
-        ensures judged { (n : ℕ) → n + depth ≡ 64 → (meaning_at step_of self.old.rest.now ≡ None → ⊥) → Judges (Symbol.simple n ∷ []) [] self.old.rest.now self.new.rest.now result }
+        ensures derived { IfOk result (λ s. Reads (λ ts. DerivesSimple ts s)
+            self.old.rest.now self.new.rest.now) }
+        ensures judged { (n : ℕ) → n + depth ≡ max_nesting
+            → (meaning_at step_of self.old.rest.now ≡ None → ⊥)
+            → Judges (Symbol.simple n ∷ []) [] self.old.rest.now self.new.rest.now result }
     {
         let from = self.rest;
         let up = self.step()?;
@@ -59,8 +67,11 @@ impl<'a> Cursor<'a> {
 
     // An assignment, or a step whose mark comes last.
     fn after_target(&mut self, depth: u32) -> Result<Stmt, Stop>
-        ensures derived { IfOk result (λ s. Reads (λ ts. DerivesSimple ts s) self.old.rest.now self.new.rest.now) }
-        ensures judged { (n : ℕ) → n + depth ≡ 64 → meaning_at step_of self.old.rest.now ≡ None → Judges (Symbol.simple n ∷ []) [] self.old.rest.now self.new.rest.now result }
+        ensures derived { IfOk result (λ s. Reads (λ ts. DerivesSimple ts s)
+            self.old.rest.now self.new.rest.now) }
+        ensures judged { (n : ℕ) → n + depth ≡ max_nesting
+            → meaning_at step_of self.old.rest.now ≡ None
+            → Judges (Symbol.simple n ∷ []) [] self.old.rest.now self.new.rest.now result }
     {
         let from = self.rest;
         let target = self.target(depth)?;
@@ -80,8 +91,10 @@ impl<'a> Cursor<'a> {
 
     // One declared name.
     fn declared(&mut self, ty: Ty, depth: u32) -> Result<Stmt, Stop>
-        ensures derived { IfOk result (λ s. Reads (λ ts. DerivesDeclared ty ts s) self.old.rest.now self.new.rest.now) }
-        ensures judged { (n : ℕ) → n + depth ≡ 64 → Judges (Symbol.declared n ∷ []) [] self.old.rest.now self.new.rest.now result }
+        ensures derived { IfOk result (λ s. Reads (λ ts. DerivesDeclared ty ts s)
+            self.old.rest.now self.new.rest.now) }
+        ensures judged { (n : ℕ) → n + depth ≡ max_nesting
+            → Judges (Symbol.declared n ∷ []) [] self.old.rest.now self.new.rest.now result }
     {
         let (name, at) = self.name()?;
         if !self.is_at(Mark::Assign) {
@@ -108,8 +121,11 @@ impl<'a> Cursor<'a> {
 
     /// A declaration; each declared name is added to the statements.
     pub fn declaration(&mut self, depth: u32, into: &mut List<Stmt>) -> Result<(), Stop>
-        ensures derived { IfOk result (λ _. Adds (λ ts ss. DerivesDeclaration ts ss) self.old.rest.now self.new.rest.now into.old into.new) }
-        ensures judged { (n : ℕ) → n + depth ≡ 64 → Judges (Symbol.a_type n ∷ declarators n) [] self.old.rest.now self.new.rest.now result }
+        ensures derived { IfOk result (λ _. Adds (λ ts ss. DerivesDeclaration ts ss)
+            self.old.rest.now self.new.rest.now into.old into.new) }
+        ensures judged { (n : ℕ) → n + depth ≡ max_nesting
+            → Judges (Symbol.a_type n ∷ declarators n) []
+            self.old.rest.now self.new.rest.now result }
     {
         let ty = self.ty()?;
         let first = self.declared(ty, depth)?;

@@ -1,5 +1,6 @@
 //! Statements.
 ghost use Rattle.std.specs.Prelude.{◌≡◌, ◌<◌, ◌≤◌, ◌+◌, ℕ, suc, List, [], ◌∷◌, length, Some, None, IfOk};
+ghost use Rattle.el_base.specs.Limits.{max_nesting};
 ghost use Rattle.c_ast.specs.declared.key.Key.TheVariants as key;
 ghost use Rattle.c_ast.specs.declared.mark.Mark.TheVariants as mark;
 ghost use Rattle.c_ast.specs.declared.token.Token.{Token};
@@ -26,7 +27,8 @@ impl<'a> Cursor<'a> {
     #[cycle(stmt)]
     fn stmt(&mut self, depth: u32) -> Result<Stmt, Stop>
         ensures derived { IfOk result (λ s. ReadsStmt s self.old.rest.now self.new.rest.now) }
-        ensures judged { (n : ℕ) → n + depth ≡ 64 → Judges (Symbol.statement n ∷ []) [] self.old.rest.now self.new.rest.now result }
+        ensures judged { (n : ℕ) → n + depth ≡ max_nesting
+            → Judges (Symbol.statement n ∷ []) [] self.old.rest.now self.new.rest.now result }
     {
         if self.is_at(Mark::OpenBrace) {
             return self.block(depth);
@@ -41,7 +43,10 @@ impl<'a> Cursor<'a> {
     #[cycle(stmt)]
     fn worded(&mut self, depth: u32) -> Result<Stmt, Stop>
         ensures derived { IfOk result (λ s. ReadsStmt s self.old.rest.now self.new.rest.now) }
-        ensures judged { (n : ℕ) → n + depth ≡ 64 → (mark_at self.old.rest.now ≡ Some mark.OpenBrace → ⊥) → (mark_at self.old.rest.now ≡ Some mark.Semicolon → ⊥) → Judges (Symbol.statement n ∷ []) [] self.old.rest.now self.new.rest.now result }
+        ensures judged { (n : ℕ) → n + depth ≡ max_nesting
+            → (mark_at self.old.rest.now ≡ Some mark.OpenBrace → ⊥)
+            → (mark_at self.old.rest.now ≡ Some mark.Semicolon → ⊥)
+            → Judges (Symbol.statement n ∷ []) [] self.old.rest.now self.new.rest.now result }
     {
         match self.next_key() {
             None => self.simple_stmt(depth),
@@ -53,7 +58,8 @@ impl<'a> Cursor<'a> {
     #[cycle(stmt)]
     fn keyed(&mut self, key: Key, depth: u32) -> Result<Stmt, Stop>
         ensures derived { IfOk result (λ s. ReadsStmt s self.old.rest.now self.new.rest.now) }
-        ensures judged { (n : ℕ) → n + depth ≡ 64 → key_at self.old.rest.now ≡ Some key → Judges (Symbol.statement n ∷ []) [] self.old.rest.now self.new.rest.now result }
+        ensures judged { (n : ℕ) → n + depth ≡ max_nesting → key_at self.old.rest.now ≡ Some key
+            → Judges (Symbol.statement n ∷ []) [] self.old.rest.now self.new.rest.now result }
     {
         match key {
             Key::If => self.if_stmt(depth),
@@ -71,7 +77,9 @@ impl<'a> Cursor<'a> {
     #[cycle(stmt)]
     fn block(&mut self, depth: u32) -> Result<Stmt, Stop>
         ensures derived { IfOk result (λ s. ReadsStmt s self.old.rest.now self.new.rest.now) }
-        ensures judged { (n : ℕ) → n + depth ≡ 64 → mark_at self.old.rest.now ≡ Some mark.OpenBrace → Judges (Symbol.statement n ∷ []) [] self.old.rest.now self.new.rest.now result }
+        ensures judged { (n : ℕ) → n + depth ≡ max_nesting
+            → mark_at self.old.rest.now ≡ Some mark.OpenBrace
+            → Judges (Symbol.statement n ∷ []) [] self.old.rest.now self.new.rest.now result }
     {
         let from = self.rest;
         let body = self.braced(depth)?;
@@ -84,8 +92,10 @@ impl<'a> Cursor<'a> {
     /// Declarations and statements in braces.
     #[cycle(stmt)]
     pub fn braced(&mut self, depth: u32) -> Result<List<Stmt>, Stop>
-        ensures derived { IfOk result (λ ss. Reads (λ ts. InBraces ts ss) self.old.rest.now self.new.rest.now) }
-        ensures judged { (n : ℕ) → n + depth ≡ 64 → Judges (braced_symbols (suc n)) [] self.old.rest.now self.new.rest.now result }
+        ensures derived { IfOk result (λ ss. Reads (λ ts. InBraces ts ss)
+            self.old.rest.now self.new.rest.now) }
+        ensures judged { (n : ℕ) → n + depth ≡ max_nesting
+            → Judges (braced_symbols (suc n)) [] self.old.rest.now self.new.rest.now result }
     {
         let open = self.mark(Mark::OpenBrace)?;
         let depth = deeper(depth, open)?;
@@ -100,9 +110,13 @@ impl<'a> Cursor<'a> {
     // A declaration or a statement, which is added to the others.
     #[cycle(stmt)]
     fn item(&mut self, depth: u32, body: &mut List<Stmt>) -> Result<(), Stop>
-        ensures added { IfOk result (λ _. Adds (λ ts ss. DerivesItems ts ss) self.old.rest.now self.new.rest.now body.old body.new) }
+        ensures added { IfOk result (λ _. Adds (λ ts ss. DerivesItems ts ss)
+            self.old.rest.now self.new.rest.now body.old body.new) }
         ensures shorter { IfOk result (λ _. length self.new.rest.now < length self.old.rest.now) }
-        ensures judged { (n : ℕ) → n + depth ≡ 64 → (mark_at self.old.rest.now ≡ Some mark.CloseBrace → ⊥) → Judges (Symbol.body n ∷ []) (Symbol.body n ∷ []) self.old.rest.now self.new.rest.now result }
+        ensures judged { (n : ℕ) → n + depth ≡ max_nesting
+            → (mark_at self.old.rest.now ≡ Some mark.CloseBrace → ⊥)
+            → Judges (Symbol.body n ∷ []) (Symbol.body n ∷ [])
+            self.old.rest.now self.new.rest.now result }
     {
         if self.is_at_type() {
             return self.declaration(depth, body);
@@ -115,7 +129,8 @@ impl<'a> Cursor<'a> {
     // The empty statement.
     fn empty(&mut self) -> Result<Stmt, Stop>
         ensures derived { IfOk result (λ s. ReadsStmt s self.old.rest.now self.new.rest.now) }
-        ensures judged { (n : ℕ) → n ≤ 64 → mark_at self.old.rest.now ≡ Some mark.Semicolon → Judges (Symbol.statement n ∷ []) [] self.old.rest.now self.new.rest.now result }
+        ensures judged { (n : ℕ) → n ≤ max_nesting → mark_at self.old.rest.now ≡ Some mark.Semicolon
+            → Judges (Symbol.statement n ∷ []) [] self.old.rest.now self.new.rest.now result }
     {
         let at = self.mark(Mark::Semicolon)?;
         Ok(Stmt {
@@ -127,7 +142,10 @@ impl<'a> Cursor<'a> {
     // An assignment or a step, with its semicolon.
     fn simple_stmt(&mut self, depth: u32) -> Result<Stmt, Stop>
         ensures derived { IfOk result (λ s. ReadsStmt s self.old.rest.now self.new.rest.now) }
-        ensures judged { (n : ℕ) → n + depth ≡ 64 → key_at self.old.rest.now ≡ None → (mark_at self.old.rest.now ≡ Some mark.OpenBrace → ⊥) → (mark_at self.old.rest.now ≡ Some mark.Semicolon → ⊥) → Judges (Symbol.statement n ∷ []) [] self.old.rest.now self.new.rest.now result }
+        ensures judged { (n : ℕ) → n + depth ≡ max_nesting → key_at self.old.rest.now ≡ None
+            → (mark_at self.old.rest.now ≡ Some mark.OpenBrace → ⊥)
+            → (mark_at self.old.rest.now ≡ Some mark.Semicolon → ⊥)
+            → Judges (Symbol.statement n ∷ []) [] self.old.rest.now self.new.rest.now result }
     {
         let stmt = self.simple(depth)?;
         self.mark(Mark::Semicolon)?;
@@ -137,7 +155,8 @@ impl<'a> Cursor<'a> {
     #[cycle(stmt)]
     fn if_stmt(&mut self, depth: u32) -> Result<Stmt, Stop>
         ensures derived { IfOk result (λ s. ReadsStmt s self.old.rest.now self.new.rest.now) }
-        ensures judged { (n : ℕ) → n + depth ≡ 64 → key_at self.old.rest.now ≡ Some key.If → Judges (Symbol.statement n ∷ []) [] self.old.rest.now self.new.rest.now result }
+        ensures judged { (n : ℕ) → n + depth ≡ max_nesting → key_at self.old.rest.now ≡ Some key.If
+            → Judges (Symbol.statement n ∷ []) [] self.old.rest.now self.new.rest.now result }
     {
         let from = self.rest;
         let word = self.key(Key::If)?;
@@ -171,7 +190,9 @@ impl<'a> Cursor<'a> {
     #[cycle(stmt)]
     fn while_stmt(&mut self, depth: u32) -> Result<Stmt, Stop>
         ensures derived { IfOk result (λ s. ReadsStmt s self.old.rest.now self.new.rest.now) }
-        ensures judged { (n : ℕ) → n + depth ≡ 64 → key_at self.old.rest.now ≡ Some key.While → Judges (Symbol.statement n ∷ []) [] self.old.rest.now self.new.rest.now result }
+        ensures judged { (n : ℕ) → n + depth ≡ max_nesting
+            → key_at self.old.rest.now ≡ Some key.While
+            → Judges (Symbol.statement n ∷ []) [] self.old.rest.now self.new.rest.now result }
     {
         let from = self.rest;
         let word = self.key(Key::While)?;
@@ -188,7 +209,8 @@ impl<'a> Cursor<'a> {
     #[cycle(stmt)]
     fn do_stmt(&mut self, depth: u32) -> Result<Stmt, Stop>
         ensures derived { IfOk result (λ s. ReadsStmt s self.old.rest.now self.new.rest.now) }
-        ensures judged { (n : ℕ) → n + depth ≡ 64 → key_at self.old.rest.now ≡ Some key.Do → Judges (Symbol.statement n ∷ []) [] self.old.rest.now self.new.rest.now result }
+        ensures judged { (n : ℕ) → n + depth ≡ max_nesting → key_at self.old.rest.now ≡ Some key.Do
+            → Judges (Symbol.statement n ∷ []) [] self.old.rest.now self.new.rest.now result }
     {
         let from = self.rest;
         let word = self.key(Key::Do)?;
@@ -208,7 +230,8 @@ impl<'a> Cursor<'a> {
     #[cycle(stmt)]
     fn for_stmt(&mut self, depth: u32) -> Result<Stmt, Stop>
         ensures derived { IfOk result (λ s. ReadsStmt s self.old.rest.now self.new.rest.now) }
-        ensures judged { (n : ℕ) → n + depth ≡ 64 → key_at self.old.rest.now ≡ Some key.For → Judges (Symbol.statement n ∷ []) [] self.old.rest.now self.new.rest.now result }
+        ensures judged { (n : ℕ) → n + depth ≡ max_nesting → key_at self.old.rest.now ≡ Some key.For
+            → Judges (Symbol.statement n ∷ []) [] self.old.rest.now self.new.rest.now result }
     {
         let from = self.rest;
         let word = self.key(Key::For)?;
@@ -229,8 +252,10 @@ impl<'a> Cursor<'a> {
 
     // What stands between the parentheses of a `for`, with them.
     fn head(&mut self, depth: u32) -> Result<Head, Stop>
-        ensures derived { IfOk result (λ h. Reads (λ ts. DerivesHead ts h.first h.cond h.step) self.old.rest.now self.new.rest.now) }
-        ensures judged { (n : ℕ) → n + depth ≡ 64 → Judges (head_symbols (suc n)) [] self.old.rest.now self.new.rest.now result }
+        ensures derived { IfOk result (λ h. Reads (λ ts. DerivesHead ts h.first h.cond h.step)
+            self.old.rest.now self.new.rest.now) }
+        ensures judged { (n : ℕ) → n + depth ≡ max_nesting
+            → Judges (head_symbols (suc n)) [] self.old.rest.now self.new.rest.now result }
     {
         let open = self.mark(Mark::Open)?;
         let depth = deeper(depth, open)?;
@@ -244,8 +269,10 @@ impl<'a> Cursor<'a> {
 
     // The first part of a `for`, with its semicolon.
     fn first(&mut self, depth: u32) -> Result<List<Stmt>, Stop>
-        ensures derived { IfOk result (λ ss. Reads (λ ts. DerivesFirst ts ss) self.old.rest.now self.new.rest.now) }
-        ensures judged { (n : ℕ) → n + depth ≡ 64 → Judges (Symbol.first n ∷ []) [] self.old.rest.now self.new.rest.now result }
+        ensures derived { IfOk result (λ ss. Reads (λ ts. DerivesFirst ts ss)
+            self.old.rest.now self.new.rest.now) }
+        ensures judged { (n : ℕ) → n + depth ≡ max_nesting
+            → Judges (Symbol.first n ∷ []) [] self.old.rest.now self.new.rest.now result }
     {
         let mut stmts = List::new(self.alloc);
         if self.is_at_type() {
@@ -264,8 +291,11 @@ impl<'a> Cursor<'a> {
 
     // An expression before a semicolon, if there is one.
     fn optional(&mut self, depth: u32) -> Result<Option<Expr>, Stop>
-        ensures derived { IfOk result (λ e. Reads (λ ts. DerivesOption ts e) self.old.rest.now self.new.rest.now) }
-        ensures judged { (n : ℕ) → n + depth ≡ 64 → Judges (Symbol.condition n ∷ []) (Symbol.fixed n Fixed.semicolon ∷ []) self.old.rest.now self.new.rest.now result }
+        ensures derived { IfOk result (λ e. Reads (λ ts. DerivesOption ts e)
+            self.old.rest.now self.new.rest.now) }
+        ensures judged { (n : ℕ) → n + depth ≡ max_nesting
+            → Judges (Symbol.condition n ∷ []) (Symbol.fixed n Fixed.semicolon ∷ [])
+            self.old.rest.now self.new.rest.now result }
     {
         if self.is_at(Mark::Semicolon) {
             return Ok(None);
@@ -276,8 +306,11 @@ impl<'a> Cursor<'a> {
 
     // The last part of a `for`, if there is one.
     fn last_part(&mut self, depth: u32) -> Result<Option<Boxed<Stmt>>, Stop>
-        ensures derived { IfOk result (λ s. Reads (λ ts. DerivesStep ts s) self.old.rest.now self.new.rest.now) }
-        ensures judged { (n : ℕ) → n + depth ≡ 64 → Judges (Symbol.last n ∷ []) (Symbol.fixed n Fixed.closing ∷ []) self.old.rest.now self.new.rest.now result }
+        ensures derived { IfOk result (λ s. Reads (λ ts. DerivesStep ts s)
+            self.old.rest.now self.new.rest.now) }
+        ensures judged { (n : ℕ) → n + depth ≡ max_nesting
+            → Judges (Symbol.last n ∷ []) (Symbol.fixed n Fixed.closing ∷ [])
+            self.old.rest.now self.new.rest.now result }
     {
         if self.is_at(Mark::Close) {
             return Ok(None);
@@ -288,7 +321,8 @@ impl<'a> Cursor<'a> {
 
     fn break_stmt(&mut self) -> Result<Stmt, Stop>
         ensures derived { IfOk result (λ s. ReadsStmt s self.old.rest.now self.new.rest.now) }
-        ensures judged { (n : ℕ) → n ≤ 64 → key_at self.old.rest.now ≡ Some key.Break → Judges (Symbol.statement n ∷ []) [] self.old.rest.now self.new.rest.now result }
+        ensures judged { (n : ℕ) → n ≤ max_nesting → key_at self.old.rest.now ≡ Some key.Break
+            → Judges (Symbol.statement n ∷ []) [] self.old.rest.now self.new.rest.now result }
     {
         let at = self.key(Key::Break)?;
         self.mark(Mark::Semicolon)?;
@@ -300,7 +334,8 @@ impl<'a> Cursor<'a> {
 
     fn continue_stmt(&mut self) -> Result<Stmt, Stop>
         ensures derived { IfOk result (λ s. ReadsStmt s self.old.rest.now self.new.rest.now) }
-        ensures judged { (n : ℕ) → n ≤ 64 → key_at self.old.rest.now ≡ Some key.Continue → Judges (Symbol.statement n ∷ []) [] self.old.rest.now self.new.rest.now result }
+        ensures judged { (n : ℕ) → n ≤ max_nesting → key_at self.old.rest.now ≡ Some key.Continue
+            → Judges (Symbol.statement n ∷ []) [] self.old.rest.now self.new.rest.now result }
     {
         let at = self.key(Key::Continue)?;
         self.mark(Mark::Semicolon)?;
@@ -312,7 +347,9 @@ impl<'a> Cursor<'a> {
 
     fn return_stmt(&mut self, depth: u32) -> Result<Stmt, Stop>
         ensures derived { IfOk result (λ s. ReadsStmt s self.old.rest.now self.new.rest.now) }
-        ensures judged { (n : ℕ) → n + depth ≡ 64 → key_at self.old.rest.now ≡ Some key.Return → Judges (Symbol.statement n ∷ []) [] self.old.rest.now self.new.rest.now result }
+        ensures judged { (n : ℕ) → n + depth ≡ max_nesting
+            → key_at self.old.rest.now ≡ Some key.Return
+            → Judges (Symbol.statement n ∷ []) [] self.old.rest.now self.new.rest.now result }
     {
         let from = self.rest;
         self.key(Key::Return)?;

@@ -1,5 +1,6 @@
 //! Types.
 ghost use Rattle.std.specs.Prelude.{◌≡◌, ◌≤◌, ℕ, List, [], ◌∷◌, false, IfOk, IfErr};
+ghost use Rattle.el_base.specs.Limits.{max_nesting};
 ghost use Rattle.c_ast.specs.Derives.{DerivesType};
 ghost use Rattle.c_parse.specs.Reads.{Reads, MaySkip, NamesType};
 ghost use Rattle.c_parse.specs.Stops.{Refuses, is_type_at};
@@ -51,8 +52,10 @@ impl<'a> Cursor<'a> {
 
     /// A type.
     pub fn ty(&mut self) -> Result<Ty, Stop>
-        ensures derived { IfOk result (λ t. Reads (λ ts. DerivesType ts t) self.old.rest.now self.new.rest.now) }
-        ensures judged { (n : ℕ) → n ≤ 64 → Judges (Symbol.a_type n ∷ []) [] self.old.rest.now self.new.rest.now result }
+        ensures derived { IfOk result (λ t. Reads (λ ts. DerivesType ts t)
+            self.old.rest.now self.new.rest.now) }
+        ensures judged { (n : ℕ) → n ≤ max_nesting
+            → Judges (Symbol.a_type n ∷ []) [] self.old.rest.now self.new.rest.now result }
     {
         let (key, ty) = self.type_word()?;
         if !takes_int(key) {
@@ -65,7 +68,8 @@ impl<'a> Cursor<'a> {
     // Goes past the first word of a type; also the type that it names by itself.
     fn type_word(&mut self) -> Result<(Key, Ty), Stop>
         ensures read { IfOk result (λ w. NamesType w.0 w.1 self.old.rest.now self.new.rest.now) }
-        ensures refused { IfErr result (λ e. Refuses (λ w. is_type_word w ≡ false) self.old.rest.now e) }
+        ensures refused { IfErr result (λ e. Refuses (λ w. is_type_word w ≡ false)
+            self.old.rest.now e) }
     {
         let token = self.next()?;
         let Word::Key(key) = token.word else {

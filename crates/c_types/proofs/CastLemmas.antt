@@ -1,8 +1,6 @@
 -- What a walk gives for a node, from what it gives for the parts.
-use Rattle.std.proofs.Common.{◌≡◌, ℕ, ◌<◌, true, false, List, [], ◌∷◌, ◌++◌, length, Option, Some, None, refl, sym, ap, subst, ◌∙◌, if◌then◌else◌, arith}
-use Rattle.std.proofs.lemmas.Bool.{false≢true}
-use Rattle.std.proofs.lemmas.Bool.Decides.{nat_tests}
-use Rattle.std.specs.Prelude.{◌==◌, option_map}
+use Rattle.std.proofs.Common.{◌≡◌, ℕ, suc, ◌<◌, true, false, List, [], ◌∷◌, ◌++◌, length, Option, Some, None, refl, sym, ap, subst, ◌∙◌, if◌then◌else◌, arith}
+use Rattle.std.specs.Prelude.{option_map}
 use Rattle.el_base.specs.declared.span.Span.{Span}
 use Rattle.el_base.specs.declared.ty.Ty.{Ty}
 use Rattle.c_ast.specs.declared.tree.Unary.{Unary}
@@ -12,20 +10,19 @@ use Rattle.c_ast.specs.declared.tree.Expr.{Expr}
 use Rattle.c_ast.specs.declared.tree.ExprKind.{ExprKind}
 use Rattle.c_ast.specs.declared.tree.ExprKind.TheVariants as expr
 use Rattle.c_ast.specs.declared.tree.Stmt.{Stmt}
+use Rattle.c_ast.specs.declared.typed.Object.{Object}
 use Rattle.c_ast.specs.declared.typed.Object.TheVariants as object
 use Rattle.c_ast.specs.declared.typed.TypedExpr.{TypedExpr}
 use Rattle.c_ast.specs.declared.typed.TypedExprKind.TheVariants as typed
 use Rattle.c_ast.specs.declared.typed.TypedStmt.{TypedStmt}
-use Rattle.c_meaning.specs.Types.{promoted, usual}
-use Rattle.c_meaning.specs.Operators.{joint_type}
-use Rattle.c_meaning.specs.Patterns.{result_type, unary_type}
-use Rattle.c_meaning.specs.Casts.{Scope, Context, declared_as, into_innermost, with_var, opened, closed, of_type, converted, left_type, right_type, expr_at, stmt_at, act_at, assigned_type, CastsExpr, CastsExprs, CastsTarget, CastsOption, CastsStmt, CastsHeld, CastsStmts}
-use Rattle.c_meaning.specs.Casts as rule
+use Rattle.c_ast.specs.ResultTypes.{promoted, usual, joint_type, result_type, unary_type}
+use Rattle.c_ast.specs.Casts.{Scope, Context, declared_as, into_innermost, with_var, opened, closed, of_type, converted, left_type, right_type, expr_at, stmt_at, act_at, assigned_type, CastsExpr, CastsExprs, CastsTarget, CastsOption, CastsStmt, CastsHeld, CastsStmts}
+use Rattle.c_ast.specs.Casts as rule
 use Rattle.c_types.specs.declared.known.Binding.{Binding}
 use Rattle.c_types.specs.declared.known.Binding.TheVariants as binding
 use Rattle.c_types.specs.declared.known.Known.{Known}
 use Rattle.c_types.specs.Scopes.{declared_in, is_new_in, with_entry, without_innermost, scopes_by}
-use Rattle.c_types.specs.Contexts.{Bindings, declared_by, context_in, context_of, IsCastExpr, AreCastExprs, IsCastOption, IsCastTarget, IsCastValue, a_value}
+use Rattle.c_types.specs.Contexts.{Bindings, declared_by, context_in, context_of, IsObject, a_variable, an_element, IsCastExpr, IsCastElement, AreCastExprs, IsCastOption, IsCastTarget, IsCastValue, a_value}
 use Rattle.c_types.proofs.Renamed.{found-scopes_by}
 
 -- ---- contexts
@@ -112,40 +109,59 @@ pub number_arm : (scopes : Bindings) (e : Expr) (n : ℕ) (t : Ty) (f : TypedExp
 number_arm scopes e n t f is same =
     expr_is scopes e (expr.Number n t) f (of_type (typed.Number n) t e.at) is same (record { casts = λ dims types. rule.number (context_in dims scopes types) n t e.at })
 
-pub name_node : (scopes : Bindings) (x : List ℕ) (v : ℕ) (t : Ty) (s : Span) → declared_in scopes x ≡ Some (binding.Var v t) → IsCastExpr scopes (expr_at (expr.Name x) s) (of_type (typed.Var v) t s)
-name_node scopes x v t s h = record { casts = λ dims types. rule.name (context_in dims scopes types) x v t s (found dims types scopes x (binding.Var v t) h) }
-
-pub element_node : (scopes : Bindings) (x : List ℕ) (a : ℕ) (t : Ty) (es : List Expr) (fs : List TypedExpr) (s : Span) → declared_in scopes x ≡ Some (binding.Array a t) → AreCastExprs scopes es fs
-    → IsCastExpr scopes (expr_at (expr.Element x es) s) (of_type (typed.Element a fs) t s)
-element_node scopes x a t es fs s h hs =
-    record { casts = λ dims types. rule.element (context_in dims scopes types) x a t (dims a) es fs s (found dims types scopes x (binding.Array a t) h) (hs.casts dims types) }
-
-none_typed : {c : Context} {es : List Expr} {fs : List TypedExpr} → CastsExprs c es fs → fs ≡ [] → es ≡ []
-none_typed (rule.no_more c) h = refl
-none_typed (rule.one_more c e f es fs p q) h = absurd (cc)
-
-not_empty : {A : Type 0} (x : A) (xs : List A) → (length (x ∷ xs) == 0) ≡ false
-not_empty x xs = grind (arith, nat_tests)
-
-some_typed : {c : Context} {es : List Expr} {fs : List TypedExpr} → CastsExprs c es fs → (length fs == 0) ≡ false → (length es == 0) ≡ false
-some_typed (rule.no_more c) h = h
-some_typed (rule.one_more c e f es fs p q) h = not_empty e es
-
-pub empty_is : {A : Type 0} (xs : List A) → (length xs == 0) ≡ true → xs ≡ []
-empty_is [] h = refl
-empty_is (x ∷ xs) h = absurd (false≢true (sym (not_empty x xs) ∙ h))
+pub same_length : {c : Context} {es : List Expr} {fs : List TypedExpr} → CastsExprs c es fs → length fs ≡ length es
+same_length (rule.no_more c) = refl
+same_length (rule.one_more c e f es fs p q) = ap suc (same_length q)
 
 no_dims : ℕ → List ℕ
 no_dims n = []
 
-none_of : (scopes : Bindings) (es : List Expr) (fs : List TypedExpr) → AreCastExprs scopes es fs → (length fs == 0) ≡ true → es ≡ []
-none_of scopes es fs hs h = none_typed (hs.casts no_dims []) (empty_is fs h)
+pub long_as : (scopes : Bindings) (es : List Expr) (fs : List TypedExpr) → AreCastExprs scopes es fs → length fs ≡ length es
+long_as scopes es fs hs = same_length (hs.casts no_dims [])
 
-pub whole_node : (scopes : Bindings) (x : List ℕ) (v : ℕ) (t : Ty) (es : List Expr) (fs : List TypedExpr) (s : Span) → declared_in scopes x ≡ Some (binding.Var v t) → AreCastExprs scopes es fs
-    → (length fs == 0) ≡ true → IsCastExpr scopes (expr_at (expr.Element x es) s) (of_type (typed.Var v) t s)
-whole_node scopes x v t es fs s h hs none =
-    subst (λ es. IsCastExpr scopes (expr_at (expr.Element x es) s) (of_type (typed.Var v) t s)) (sym (none_of scopes es fs hs none))
+no_items : {A : Type 0} (xs : List A) → length xs ≡ 0 → xs ≡ []
+no_items [] h = refl
+no_items (x ∷ xs) h = absurd (omega (arith, h))
+
+variable_of : {scopes : Bindings} {x : List ℕ} {n : ℕ} {o : Object} {t : Ty} (v : ℕ) → IsObject scopes x n o t → o ≡ object.Var v → declared_in scopes x ≡ Some (binding.Var v t)
+variable_of v (a_variable n w t none is) same = cc
+variable_of v (an_element n a t some is) same = absurd (cc)
+
+array_of : {scopes : Bindings} {x : List ℕ} {n : ℕ} {o : Object} {t : Ty} (a : ℕ) → IsObject scopes x n o t → o ≡ object.Array a → declared_in scopes x ≡ Some (binding.Array a t)
+array_of a (a_variable n v t none is) same = absurd (cc)
+array_of a (an_element n b t some is) same = cc
+
+no_index : {scopes : Bindings} {x : List ℕ} {n : ℕ} {o : Object} {t : Ty} (v : ℕ) → IsObject scopes x n o t → o ≡ object.Var v → n ≡ 0
+no_index v (a_variable n w t none is) same = none
+no_index v (an_element n a t some is) same = absurd (cc)
+
+pub name_made : (scopes : Bindings) (x : List ℕ) (v n : ℕ) (t : Ty) (s : Span) (o : Object) (f : TypedExpr) → IsObject scopes x n o t → o ≡ object.Var v → f ≡ of_type (typed.Var v) t s
+    → IsCastExpr scopes (expr_at (expr.Name x) s) f
+name_made scopes x v n t s o f h is made =
+    subst (IsCastExpr scopes (expr_at (expr.Name x) s)) (sym made)
+    (record { casts = λ dims types. rule.name (context_in dims scopes types) x v t s (found dims types scopes x (binding.Var v t) (variable_of v h is)) })
+
+whole_node : (scopes : Bindings) (x : List ℕ) (v : ℕ) (t : Ty) (es : List Expr) (s : Span) → declared_in scopes x ≡ Some (binding.Var v t) → es ≡ []
+    → IsCastExpr scopes (expr_at (expr.Element x es) s) (of_type (typed.Var v) t s)
+whole_node scopes x v t es s h none =
+    subst (λ es. IsCastExpr scopes (expr_at (expr.Element x es) s) (of_type (typed.Var v) t s)) (sym none)
     (record { casts = λ dims types. rule.whole (context_in dims scopes types) x v t s (found dims types scopes x (binding.Var v t) h) })
+
+pub whole_made : (scopes : Bindings) (x : List ℕ) (v n : ℕ) (t : Ty) (fs : List TypedExpr) (s : Span) (o : Object) (f : TypedExpr) → IsObject scopes x n o t → n ≡ length fs → o ≡ object.Var v
+    → f ≡ of_type (typed.Var v) t s → IsCastElement scopes x fs s f
+whole_made scopes x v n t fs s o f h long is made =
+    subst (IsCastElement scopes x fs s) (sym made)
+    (record { casts = λ es hs. whole_node scopes x v t es s (variable_of v h is) (no_items es (sym (long_as scopes es fs hs) ∙ sym long ∙ no_index v h is)) })
+
+pub element_made : (scopes : Bindings) (x : List ℕ) (a n : ℕ) (t : Ty) (fs : List TypedExpr) (s : Span) (o : Object) (f : TypedExpr) → IsObject scopes x n o t → o ≡ object.Array a
+    → f ≡ of_type (typed.Element a fs) t s → IsCastElement scopes x fs s f
+element_made scopes x a n t fs s o f h is made =
+    subst (IsCastElement scopes x fs s) (sym made)
+    (record {
+      casts = λ es hs. record {
+        casts = λ dims types. rule.element (context_in dims scopes types) x a t (dims a) es fs s (found dims types scopes x (binding.Array a t) (array_of a h is)) (hs.casts dims types);
+      };
+    })
 
 -- the part of a node, as its reference gives it
 part : (scopes : Bindings) (a b : Expr) (f : TypedExpr) → b ≡ a → IsCastExpr scopes b f → IsCastExpr scopes a f
@@ -201,26 +217,31 @@ value_arm t scopes e f g h made = subst (λ g. IsCastValue (Some t) scopes (Some
 
 -- ---- targets
 
-pub var_target : (scopes : Bindings) (x : Target) (v : ℕ) (t : Ty) (us : List Expr) (fs : List TypedExpr) → us ≡ x.indices → declared_in scopes x.name ≡ Some (binding.Var v t) → AreCastExprs scopes us fs
-    → (length fs == 0) ≡ true → IsCastTarget scopes x (record { to = object.Var v; at = x.at; indices = fs }) t
-var_target scopes x v t us fs same h hs none =
-    subst (λ es. IsCastTarget scopes (record { name = x.name; at = x.at; indices = es }) (record { to = object.Var v; at = x.at; indices = fs }) t) (sym (sym same ∙ none_of scopes us fs hs none))
-    (subst (λ fs. IsCastTarget scopes (record { name = x.name; at = x.at; indices = [] }) (record { to = object.Var v; at = x.at; indices = fs }) t) (sym (empty_is fs none))
-    (record { casts = λ dims types. rule.to_var (context_in dims scopes types) x.name v t x.at (found dims types scopes x.name (binding.Var v t) h) }))
+element_target : (c : Context) (x : List ℕ) (a : ℕ) (t : Ty) (ds : List ℕ) (es : List Expr) (fs : List TypedExpr) (s : Span) → declared_as c x ≡ Some (rule.an_array a t ds) → CastsExprs c es fs
+    → 0 < length es → CastsTarget c (record { name = x; at = s; indices = es }) (record { to = object.Array a; at = s; indices = fs }) t
+element_target c x a t ds [] fs s h hs some = absurd (omega (arith, some))
+element_target c x a t ds (e ∷ es) fs s h hs some = rule.to_element c x a t ds e es fs s h hs
 
-element_target_in : (c : Context) (x : List ℕ) (a : ℕ) (t : Ty) (ds : List ℕ) (es : List Expr) (fs : List TypedExpr) (s : Span) → declared_as c x ≡ Some (rule.an_array a t ds) → CastsExprs c es fs
-    → (length es == 0) ≡ false → CastsTarget c (record { name = x; at = s; indices = es }) (record { to = object.Array a; at = s; indices = fs }) t
-element_target_in c x a t ds [] fs s h hs some = absurd (false≢true (sym some))
-element_target_in c x a t ds (e ∷ es) fs s h hs some = rule.to_element c x a t ds e es fs s h hs
+var_target : (c : Context) (x : List ℕ) (v : ℕ) (t : Ty) (es : List Expr) (fs : List TypedExpr) (s : Span) → declared_as c x ≡ Some (rule.a_var v t) → CastsExprs c es fs
+    → length es ≡ 0 → CastsTarget c (record { name = x; at = s; indices = es }) (record { to = object.Var v; at = s; indices = fs }) t
+var_target c x v t [] [] s h hs none = rule.to_var c x v t s h
+var_target c x v t [] (f ∷ fs) s h hs none = absurd (omega (arith, same_length hs))
+var_target c x v t (e ∷ es) fs s h hs none = absurd (omega (arith, none))
 
-pub element_target : (scopes : Bindings) (x : Target) (a : ℕ) (t : Ty) (us : List Expr) (fs : List TypedExpr) → us ≡ x.indices → declared_in scopes x.name ≡ Some (binding.Array a t) → AreCastExprs scopes us fs
-    → (length fs == 0) ≡ false → IsCastTarget scopes x (record { to = object.Array a; at = x.at; indices = fs }) t
-element_target scopes x a t us fs same h hs some =
-    let gs : AreCastExprs scopes x.indices fs = subst (λ us. AreCastExprs scopes us fs) same hs in
+target_in : {scopes : Bindings} {x : List ℕ} {n : ℕ} {o : Object} {t : Ty} (es : List Expr) (fs : List TypedExpr) (s : Span) → IsObject scopes x n o t → n ≡ length es → AreCastExprs scopes es fs
+    → IsCastTarget scopes (record { name = x; at = s; indices = es }) (record { to = o; at = s; indices = fs }) t
+target_in {scopes} {x} es fs s (a_variable n v t none is) long hs =
     record {
-      casts = λ dims types. element_target_in (context_in dims scopes types) x.name a t (dims a) x.indices fs x.at (found dims types scopes x.name (binding.Array a t) h) (gs.casts dims types)
-          (some_typed (gs.casts dims types) some);
+      casts = λ dims types. var_target (context_in dims scopes types) x v t es fs s (found dims types scopes x (binding.Var v t) is) (hs.casts dims types) (sym long ∙ none);
     }
+target_in {scopes} {x} es fs s (an_element n a t some is) long hs =
+    record {
+      casts = λ dims types. element_target (context_in dims scopes types) x a t (dims a) es fs s (found dims types scopes x (binding.Array a t) is) (hs.casts dims types) (subst (λ n. 0 < n) long some);
+    }
+
+pub target_made : (scopes : Bindings) (x : Target) (n : ℕ) (o : Object) (t : Ty) (us : List Expr) (fs : List TypedExpr) → IsObject scopes x.name n o t → n ≡ length x.indices → us ≡ x.indices
+    → AreCastExprs scopes us fs → IsCastTarget scopes x (record { to = o; at = x.at; indices = fs }) t
+target_made scopes x n o t us fs h long same hs = target_in x.indices fs x.at h long (subst (λ us. AreCastExprs scopes us fs) same hs)
 
 -- ---- what a reference gives
 

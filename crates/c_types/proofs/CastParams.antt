@@ -8,11 +8,11 @@ use Rattle.c_ast.specs.declared.tree.Tree.{Tree}
 use Rattle.c_ast.specs.declared.typed.ArrayOf.{ArrayOf}
 use Rattle.c_ast.specs.declared.typed.TypedStmt.{TypedStmt}
 use Rattle.c_ast.specs.declared.typed.Typed.{Typed}
-use Rattle.c_meaning.specs.Casts.{into_innermost, a_var, an_array, Parameters, with_param, with_params, parameters, first_context, CastsStmts, Casts}
+use Rattle.c_ast.specs.Casts.{into_innermost, a_var, an_array, Parameters, with_param, with_params, parameters, first_context, CastsStmts, Casts}
 use Rattle.c_types.specs.declared.known.Binding.TheVariants as binding
 use Rattle.c_types.specs.declared.known.Known.{Known}
 use Rattle.c_types.specs.Scopes.{is_new_in, with_entry, scopes_by}
-use Rattle.c_types.specs.Contexts.{declared_by, context_of, AreCastStmts, Tells, AreParameters, IsOneMore}
+use Rattle.c_types.specs.Contexts.{array_as, declared_by, context_of, AreCastStmts, Tells, AreParameters, IsOneMore}
 use Rattle.c_types.proofs.CastLemmas.{context_with, entered}
 
 with_params-append : (ps : List Param) (p : Param) (q : Parameters) → with_params (ps ++ p ∷ []) q ≡ with_param p p.dims (with_params ps q)
@@ -43,10 +43,6 @@ var_param k l xs p none new scopes types =
           });
     }
 
--- the array of a parameter
-abbrev array_as : Param → ArrayOf
-array_as p = record { name = p.name; ty = p.ty; dims = p.dims }
-
 abbrev with_array : Param → Parameters → Parameters
 with_array p q = record { scope = (p.name, an_array (length q.arrays) p.ty p.dims) ∷ q.scope; types = q.types; arrays = q.arrays ++ array_as p ∷ [] }
 
@@ -74,7 +70,7 @@ array_param_in k l xs ys p n q number new scopes types more h =
     }
 
 pub array_param : (k l : Known) (xs ys : List ArrayOf) (p : Param) (n : ℕ) → (length p.dims == 0) ≡ false → n ≡ length xs → is_new_in k.scopes p.name ≡ true
-    → l.scopes ≡ with_entry p.name (binding.Array n p.ty) k.scopes → l.types ≡ k.types → ys ≡ xs ++ record { name = p.name; ty = p.ty; dims = p.dims } ∷ [] → IsOneMore k xs p l ys
+    → l.scopes ≡ with_entry p.name (binding.Array n p.ty) k.scopes → l.types ≡ k.types → ys ≡ xs ++ array_as p ∷ [] → IsOneMore k xs p l ys
 array_param k l xs ys p n some number new scopes types more =
     record {
       parameters = λ q h. subst (λ q. AreParameters l ys q) (sym (with_array_is p p.dims q some)) (array_param_in k l xs ys p n q number new scopes types more h);
@@ -83,7 +79,7 @@ array_param k l xs ys p n some number new scopes types more =
 -- ---- kernels
 
 -- the dimensions of the array of a number
-abbrev dims_in : List ArrayOf → ℕ → List ℕ
+abbrev pub dims_in : List ArrayOf → ℕ → List ℕ
 dims_in [] n = []
 dims_in (x ∷ xs) zero = x.dims
 dims_in (x ∷ xs) (suc n) = dims_in xs n
@@ -92,7 +88,7 @@ told_in : (before : List ArrayOf) (x : ArrayOf) (after : List ArrayOf) → dims_
 told_in [] x after = refl
 told_in (y ∷ before) x after = told_in before x after
 
-dims_tell : (xs : List ArrayOf) → Tells (dims_in xs) xs
+pub dims_tell : (xs : List ArrayOf) → Tells (dims_in xs) xs
 dims_tell xs = record { told = λ before x after is. ap (λ v. dims_in v (length before)) is ∙ told_in before x after }
 
 first_is : (k : Known) (xs : List ArrayOf) (ps : List Param) → AreParameters k xs (parameters ps) → context_of (dims_in xs) k ≡ first_context ps

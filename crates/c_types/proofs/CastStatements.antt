@@ -12,8 +12,8 @@ use Rattle.c_ast.specs.declared.typed.TypedTarget.{TypedTarget}
 use Rattle.c_ast.specs.declared.typed.TypedExpr.{TypedExpr}
 use Rattle.c_ast.specs.declared.typed.TypedStmt.{TypedStmt}
 use Rattle.c_ast.specs.declared.typed.TypedStmtKind.TheVariants as act
-use Rattle.c_meaning.specs.Casts.{Context, with_var, opened, closed, converted, stmt_at, act_at, assigned_type, CastsStmt, CastsHeld, CastsStmts}
-use Rattle.c_meaning.specs.Casts as rule
+use Rattle.c_ast.specs.Casts.{Context, with_var, opened, closed, converted, stmt_at, act_at, assigned_type, CastsStmt, CastsHeld, CastsStmts}
+use Rattle.c_ast.specs.Casts as rule
 use Rattle.c_types.specs.declared.known.Binding.TheVariants as binding
 use Rattle.c_types.specs.declared.known.Known.{Known}
 use Rattle.c_types.specs.Scopes.{is_new_in, with_entry, without_innermost, scopes_by}

@@ -6,7 +6,8 @@ use Rattle.std.proofs.lemmas.Bool.Decides.{nat_tests}
 use Rattle.c_types.specs.declared.fault.Rule.{Rule}
 use Rattle.c_types.specs.declared.fault.Rule.TheVariants as rule
 use Rattle.c_types.specs.declared.fault.Fault.{Fault}
-use Rattle.c_types.specs.Places.{rule_number, is_before, earlier, first_of}
+use Rattle.c_types.specs.Places.{is_before, earlier, first_of}
+use Rattle.c_types.specs.Refusals.{rule_number}
 
 -- one number for a fault's place in the order
 pub key : Fault → ℕ

@@ -8,6 +8,7 @@ use Rattle.std.specs.Map.{lookup}
 use mathlib.Core.Former.{Count}
 use Rattle.el_base.specs.declared.span.Span.{Span}
 use Rattle.el_base.specs.declared.ty.Ty.{Ty}
+use Rattle.el_base.specs.Limits.{max_dimensions, max_elements}
 use Rattle.c_ast.specs.declared.tree.Tree.{Tree}
 use Rattle.c_ast.specs.declared.tree.Param.{Param}
 use Rattle.c_ast.specs.declared.tree.Target.{Target}
@@ -410,26 +411,26 @@ not_below a b h = grind (arith, nat_tests)
 param_kept : (s : List (List ℕ × Sort)) (n : ℕ) (p : Param) → param_faults p (is_new_in (s ∷ []) p.name) (n + elements_of p.dims) ≡ [] → IsParameter (scope_for s) n p
 param_kept s n p h =
     let total : ℕ = n + elements_of p.dims in
-    let fits : Bool = not (list_any (λ d. nat_eq d 0) p.dims || nat_lt 1048576 total) in
+    let fits : Bool = not (list_any (λ d. nat_eq d 0) p.dims || nat_lt max_elements total) in
     let new : List Fault = unless (is_new_in (s ∷ []) p.name) rule.Redeclared p.at in
-    let few : List Fault = unless (not (nat_lt 3 (length p.dims))) rule.Dimensions p.at in
+    let few : List Fault = unless (not (nat_lt max_dimensions (length p.dims))) rule.Dimensions p.at in
     let rest : few ++ unless fits rule.Length p.at ≡ [] = second_empty new (few ++ unless fits rule.Length p.at) h in
-    let small : list_any (λ d. nat_eq d 0) p.dims || nat_lt 1048576 total ≡ false = not_true (list_any (λ d. nat_eq d 0) p.dims || nat_lt 1048576 total) (holds_unless fits rule.Length p.at (second_empty few (unless fits rule.Length p.at) rest)) in
+    let small : list_any (λ d. nat_eq d 0) p.dims || nat_lt max_elements total ≡ false = not_true (list_any (λ d. nat_eq d 0) p.dims || nat_lt max_elements total) (holds_unless fits rule.Length p.at (second_empty few (unless fits rule.Length p.at) rest)) in
     record {
       rule_21_new = is_new (s ∷ []) p.name (holds_unless (is_new_in (s ∷ []) p.name) rule.Redeclared p.at (first_empty new (few ++ unless fits rule.Length p.at) h));
-      rule_24_dimensions = at_most 3 (length p.dims) (not_true (nat_lt 3 (length p.dims)) (holds_unless (not (nat_lt 3 (length p.dims))) rule.Dimensions p.at (first_empty few (unless fits rule.Length p.at) rest)));
-      rule_25_no_zero = no_zero p.dims (or_first (list_any (λ d. nat_eq d 0) p.dims) (nat_lt 1048576 total) small);
-      rule_25_elements = at_most 1048576 total (or_second (list_any (λ d. nat_eq d 0) p.dims) (nat_lt 1048576 total) small);
+      rule_24_dimensions = at_most max_dimensions (length p.dims) (not_true (nat_lt max_dimensions (length p.dims)) (holds_unless (not (nat_lt max_dimensions (length p.dims))) rule.Dimensions p.at (first_empty few (unless fits rule.Length p.at) rest)));
+      rule_25_no_zero = no_zero p.dims (or_first (list_any (λ d. nat_eq d 0) p.dims) (nat_lt max_elements total) small);
+      rule_25_elements = at_most max_elements total (or_second (list_any (λ d. nat_eq d 0) p.dims) (nat_lt max_elements total) small);
     }
 
 param_clean : (s : List (List ℕ × Sort)) (n : ℕ) (p : Param) → IsParameter (scope_for s) n p → param_faults p (is_new_in (s ∷ []) p.name) (n + elements_of p.dims) ≡ []
 param_clean s n p k =
     let total : ℕ = n + elements_of p.dims in
-    let fits : Bool = not (list_any (λ d. nat_eq d 0) p.dims || nat_lt 1048576 total) in
-    let few : List Fault = unless (not (nat_lt 3 (length p.dims))) rule.Dimensions p.at in
-    let small : fits ≡ true = ap not (both_false (list_any (λ d. nat_eq d 0) p.dims) (nat_lt 1048576 total) (zero_free p.dims k.rule_25_no_zero) (not_below 1048576 total k.rule_25_elements)) in
+    let fits : Bool = not (list_any (λ d. nat_eq d 0) p.dims || nat_lt max_elements total) in
+    let few : List Fault = unless (not (nat_lt max_dimensions (length p.dims))) rule.Dimensions p.at in
+    let small : fits ≡ true = ap not (both_false (list_any (λ d. nat_eq d 0) p.dims) (nat_lt max_elements total) (zero_free p.dims k.rule_25_no_zero) (not_below max_elements total k.rule_25_elements)) in
     both_empty (unless (is_new_in (s ∷ []) p.name) rule.Redeclared p.at) (few ++ unless fits rule.Length p.at) (unless_holds (is_new_in (s ∷ []) p.name) rule.Redeclared p.at (new_is (s ∷ []) p.name k.rule_21_new))
-    (both_empty few (unless fits rule.Length p.at) (unless_holds (not (nat_lt 3 (length p.dims))) rule.Dimensions p.at (ap not (not_below 3 (length p.dims) k.rule_24_dimensions))) (unless_holds fits rule.Length p.at small))
+    (both_empty few (unless fits rule.Length p.at) (unless_holds (not (nat_lt max_dimensions (length p.dims))) rule.Dimensions p.at (ap not (not_below max_dimensions (length p.dims) k.rule_24_dimensions))) (unless_holds fits rule.Length p.at small))
 
 -- the faults of the parameters after one
 abbrev later : List Param → List (List ℕ × Sort) → ℕ → Param → List Fault

@@ -4,6 +4,7 @@ use Rattle.std.specs.List.{list_any}
 use mathlib.Core.Former.{Count}
 use Rattle.el_base.specs.declared.span.Span.{Span}
 use Rattle.el_base.specs.declared.ty.Ty.{Ty}
+use Rattle.el_base.specs.Limits.{max_dimensions, max_elements}
 use Rattle.c_ast.specs.declared.tree.Tree.{Tree}
 use Rattle.c_ast.specs.declared.tree.Param.{Param}
 use Rattle.c_ast.specs.declared.tree.Target.{Target}
@@ -147,8 +148,8 @@ sort_of_dims (d ∷ ds) = sort.Array (length (d ∷ ds))
 -- a parameter that is new or not, where the arrays up to it have so many elements
 abbrev pub param_faults : Param → Bool → ℕ → List Fault
 param_faults p new elements =
-    unless new rule.Redeclared p.at ++ (unless (not (nat_lt 3 (length p.dims))) rule.Dimensions p.at
-    ++ unless (not (list_any (λ d. nat_eq d 0) p.dims || nat_lt 1048576 elements)) rule.Length p.at)
+    unless new rule.Redeclared p.at ++ (unless (not (nat_lt max_dimensions (length p.dims))) rule.Dimensions p.at
+    ++ unless (not (list_any (λ d. nat_eq d 0) p.dims || nat_lt max_elements elements)) rule.Length p.at)
 
 -- parameters after others, which declare names and whose arrays have so many elements
 abbrev pub params_faults : List Param → Sorts → ℕ → List Fault

@@ -1,12 +1,25 @@
-//! The typed tree of a tree that keeps the rules: its names numbered, its types written, and each implied
-//! conversion a cast. What the rules exclude is answered as [`Memory`].
-ghost use Rattle.std.specs.Prelude.{◌≡◌, [], ◌∷◌, IfOk, OnOk, List};
-ghost use Rattle.c_ast.specs.declared.tree.Expr.{Expr};
+//! The typed tree of a tree that keeps the rules: its names numbered, its types written, and each
+//! implied conversion a cast. The rules are the premise of each call, so that no name is missing
+//! and none is of another sort.
+ghost use Rattle.std.specs.Prelude.{◌≡◌, [], ◌∷◌, length, true, IfOk, OnOk, IfSome, IsSome, All};
+ghost use Rattle.el_base.specs.Limits.{IsNumbered};
 ghost use Rattle.c_ast.specs.declared.tree.ExprKind.TheVariants as expr;
-ghost use Rattle.c_ast.specs.Typing.{Typing};
-ghost use Rattle.c_meaning.specs.Casts.{Casts, expr_at, parameters};
+ghost use Rattle.c_ast.specs.Nodes.{tree_nodes};
+ghost use Rattle.c_ast.specs.Typing.{Typing, TypingParams};
+ghost use Rattle.c_ast.specs.Casts.{Casts, expr_at, parameters};
+ghost use Rattle.c_types.specs.Scopes.{is_new_in};
+ghost use Rattle.c_types.specs.TypingParts.{
+  TypingUseIn,
+  TypingExprIn,
+  TypingTargetIn,
+  TypingStmtIn,
+  TypingListIn,
+};
 ghost use Rattle.c_types.specs.Contexts.{
+  array_as,
+  IsObject,
   IsCastExpr,
+  IsCastElement,
   AreCastExprs,
   IsCastOption,
   IsCastTarget,
@@ -19,8 +32,8 @@ ghost use Rattle.c_types.specs.Contexts.{
   IsOneMore,
 };
 
-use crate::conversions::{assigned, binary, cast, choose, converted, unary};
-use crate::known::{Binding, Known, number};
+use crate::conversions::{assigned, binary, cast, choose, converted, typed_node, unary};
+use crate::known::{Binding, Known};
 use crate::scopes::Scopes;
 use c_ast::{
     ArrayOf, Boxed, Expr, ExprKind, List, Name, Object, Param, Span, Stmt, StmtKind, Target, Tree,
@@ -35,7 +48,8 @@ use std::alloc::Global;
 ///
 /// [`Memory`] where memory is wanting.
 pub(crate) fn casts(alloc: Global, tree: &Tree) -> Result<Typed, Memory>
-    requires { Typing tree.now }
+    requires typing { Typing tree.now }
+    requires numbered { IsNumbered (tree_nodes tree.now) }
     ensures { IfOk result (λ k. Casts tree.now k) }
 {
     let mut known = Known::new(alloc);
@@ -60,12 +74,7 @@ fn copy_params(alloc: Global, params: &[Param]) -> Result<List<Param>, Memory>
 {
     let mut copies = List::new(alloc);
     for param in params {
-        copies.push(Param {
-            name: param.name.copy()?,
-            at: param.at,
-            ty: param.ty,
-            dims: param.dims.copy()?,
-        })?;
+        copies.push(param.copy()?)?;
     }
     Ok(copies)
 }
@@ -78,6 +87,8 @@ fn declare_params(
 ) -> Result<List<ArrayOf>, Memory>
     requires scopes { known.old.scopes ≡ [] ∷ [] }
     requires types { known.old.types ≡ [] }
+    requires typing { TypingParams params.now [] 0 }
+    requires numbered { IsNumbered (length params.now) }
     ensures { IfOk result (λ arrays. AreParameters known.new arrays (parameters params.now)) }
 {
     let mut arrays = List::new(alloc);
@@ -88,13 +99,16 @@ fn declare_params(
 }
 
 fn declare_param(known: &mut Known, arrays: &mut List<ArrayOf>, param: &Param) -> Result<(), Memory>
+    requires new { is_new_in known.old.scopes param.now.name ≡ true }
+    requires vars { IsNumbered (length known.old.types) }
+    requires arrays { IsNumbered (length arrays.old) }
     ensures { OnOk result (IsOneMore known.old arrays.old param.now known.new arrays.new) }
 {
     if param.dims.is_empty() {
         known.declare_var(&param.name, param.ty)?;
         return Ok(());
     }
-    let array = number(arrays.len())?;
+    let array = arrays.len() as u32;
     let item = array_of(param)?;
     known.declare_array(&param.name, array, param.ty)?;
     arrays.push(item)?;
@@ -103,7 +117,7 @@ fn declare_param(known: &mut Known, arrays: &mut List<ArrayOf>, param: &Param) -
 
 // The array of a parameter.
 fn array_of(param: &Param) -> Result<ArrayOf, Memory>
-    ensures { IfOk result (λ x. x ≡ record { name = param.now.name; ty = param.now.ty; dims = param.now.dims }) }
+    ensures { IfOk result (λ x. x ≡ array_as param.now) }
 {
     Ok(ArrayOf {
         name: param.name.copy()?,
@@ -121,6 +135,7 @@ fn cast_stmts(
     returned: Option<Ty>,
     stmts: &[Stmt],
 ) -> Result<List<TypedStmt>, Memory>
+    requires { TypingListIn returned known.old.scopes (length known.old.types) stmts.now }
     ensures { IfOk result (λ ts. AreCastStmts returned known.old stmts.now ts known.new) }
 {
     let mut items = List::new(alloc);
@@ -137,6 +152,7 @@ fn cast_stmt(
     returned: Option<Ty>,
     stmt: &Stmt,
 ) -> Result<TypedStmt, Memory>
+    requires { TypingStmtIn returned known.old.scopes (length known.old.types) stmt.now }
     ensures { IfOk result (λ t. IsCastStmt returned known.old stmt.now t known.new) }
 {
     let at = stmt.at;
@@ -155,7 +171,7 @@ fn cast_stmt(
         StmtKind::Assign { target, op, value } => {
             let (target, ty) = cast_target(alloc, &known.scopes, target)?;
             let value = cast_expr(alloc, &known.scopes, value)?;
-            let value = assigned(alloc, *op, ty, value)?;
+            let value = assigned(alloc, *op, ty, value)?.into_inner();
             let op = *op;
             Ok(act(TypedStmtKind::Assign { target, op, value }, at))
         }
@@ -165,18 +181,18 @@ fn cast_stmt(
             Ok(act(TypedStmtKind::Step { target, up }, at))
         }
         StmtKind::If { cond, then, other } => {
-            let cond = cast_expr(alloc, &known.scopes, cond)?;
+            let cond = cast_expr(alloc, &known.scopes, cond)?.into_inner();
             let then = cast_inside(alloc, known, returned, then)?;
             let other = cast_held(alloc, known, returned, other)?;
             Ok(act(TypedStmtKind::If { cond, then, other }, at))
         }
         StmtKind::While { cond, body } => {
-            let cond = cast_expr(alloc, &known.scopes, cond)?;
+            let cond = cast_expr(alloc, &known.scopes, cond)?.into_inner();
             let body = cast_inside(alloc, known, returned, body)?;
             Ok(act(TypedStmtKind::While { cond, body }, at))
         }
         StmtKind::DoWhile { body, cond } => {
-            let cond = cast_expr(alloc, &known.scopes, cond)?;
+            let cond = cast_expr(alloc, &known.scopes, cond)?.into_inner();
             let body = cast_inside(alloc, known, returned, body)?;
             Ok(act(TypedStmtKind::DoWhile { body, cond }, at))
         }
@@ -226,6 +242,8 @@ fn cast_held(
     returned: Option<Ty>,
     stmt: &Option<Boxed<Stmt>>,
 ) -> Result<Option<Boxed<TypedStmt>>, Memory>
+    requires { IfSome stmt.now
+        (TypingStmtIn returned ([] ∷ known.old.scopes) (length known.old.types)) }
     ensures { IfOk result (λ t. IsCastHeld returned known.old stmt.now t known.new) }
 {
     match stmt {
@@ -248,6 +266,7 @@ fn cast_inside(
     returned: Option<Ty>,
     stmt: &Boxed<Stmt>,
 ) -> Result<Boxed<TypedStmt>, Memory>
+    requires { TypingStmtIn returned ([] ∷ known.old.scopes) (length known.old.types) stmt.now }
     ensures { IfOk result (λ t. IsCastInside returned known.old stmt.now t known.new) }
 {
     known.enter()?;
@@ -259,51 +278,52 @@ fn cast_inside(
 
 // ---- expressions
 
-// What is assigned to, with the type of its object; a tree that keeps the rules gives no error but for memory.
+// The variable or array that a name stands for where it has so many indices, with the type of it
+// or of its elements.
+fn object(scopes: &Scopes<Binding>, name: &Name, indices: usize) -> (Object, Ty)
+    requires { TypingUseIn scopes.now name.now indices }
+    ensures { IsObject scopes.now name.now indices result.0 result.1 }
+{
+    match scopes.find(name) {
+        Some(Binding::Var { var, ty }) => (Object::Var(var), ty),
+        Some(Binding::Array { array, ty }) => (Object::Array(array), ty),
+        None => unreachable!(),
+    }
+}
+
+// What is assigned to, with the type of its object.
 fn cast_target(
     alloc: Global,
     scopes: &Scopes<Binding>,
     target: &Target,
 ) -> Result<(TypedTarget, Ty), Memory>
+    requires { TypingTargetIn scopes.now target.now }
     ensures { IfOk result (λ t. IsCastTarget scopes.now target.now t.0 t.1) }
 {
     let at = target.at;
+    let (to, ty) = object(scopes, &target.name, target.indices.len());
     let indices = cast_exprs(alloc, scopes, target.indices.as_slice())?;
-    match scopes.find(&target.name) {
-        Some(Binding::Var { var, ty }) => {
-            if indices.is_empty() {
-                let to = Object::Var(var);
-                return Ok((TypedTarget { to, at, indices }, ty));
-            }
-            Err(Memory)
-        }
-        Some(Binding::Array { array, ty }) => {
-            if indices.is_empty() {
-                return Err(Memory);
-            }
-            let to = Object::Array(array);
-            Ok((TypedTarget { to, at, indices }, ty))
-        }
-        None => Err(Memory),
-    }
+    Ok((TypedTarget { to, at, indices }, ty))
 }
 
-// A value that may be absent, converted to a type; where there is none, the rules allow no value.
+// A value that may be absent, converted to a type; there is none where there is no type.
 fn cast_value(
     alloc: Global,
     scopes: &Scopes<Binding>,
     to: Option<Ty>,
     value: &Option<Expr>,
 ) -> Result<Option<TypedExpr>, Memory>
+    requires typing { IfSome value.now (TypingExprIn scopes.now) }
+    requires typed { IfSome value.now (λ e. IsSome to) }
     ensures { IfOk result (λ f. IsCastValue to scopes.now value.now f) }
 {
     match (value, to) {
         (None, _) => Ok(None),
         (Some(value), Some(ty)) => {
             let value = cast_expr(alloc, scopes, value)?;
-            Ok(Some(converted(alloc, ty, value)?))
+            Ok(Some(converted(alloc, ty, value)?.into_inner()))
         }
-        (Some(_), None) => Err(Memory),
+        (Some(_), None) => unreachable!(),
     }
 }
 
@@ -312,11 +332,12 @@ fn cast_option(
     scopes: &Scopes<Binding>,
     expr: &Option<Expr>,
 ) -> Result<Option<TypedExpr>, Memory>
+    requires { IfSome expr.now (TypingExprIn scopes.now) }
     ensures { IfOk result (λ f. IsCastOption scopes.now expr.now f) }
 {
     match expr {
         None => Ok(None),
-        Some(expr) => Ok(Some(cast_expr(alloc, scopes, expr)?)),
+        Some(expr) => Ok(Some(cast_expr(alloc, scopes, expr)?.into_inner())),
     }
 }
 
@@ -326,30 +347,34 @@ fn cast_exprs(
     scopes: &Scopes<Binding>,
     exprs: &[Expr],
 ) -> Result<List<TypedExpr>, Memory>
+    requires { All (TypingExprIn scopes.now) exprs.now }
     ensures { IfOk result (λ fs. AreCastExprs scopes.now exprs.now fs) }
 {
     let mut items = List::new(alloc);
     for expr in exprs {
-        items.push(cast_expr(alloc, scopes, expr)?)?;
+        items.push(cast_expr(alloc, scopes, expr)?.into_inner())?;
     }
     Ok(items)
 }
 
 #[cycle(cast_expr)]
-fn cast_expr(alloc: Global, scopes: &Scopes<Binding>, expr: &Expr) -> Result<TypedExpr, Memory>
+fn cast_expr(
+    alloc: Global,
+    scopes: &Scopes<Binding>,
+    expr: &Expr,
+) -> Result<Boxed<TypedExpr>, Memory>
+    requires { TypingExprIn scopes.now expr.now }
     ensures { IfOk result (λ f. IsCastExpr scopes.now expr.now f) }
 {
     let at = expr.at;
     match &expr.kind {
-        ExprKind::Number { value, ty } => Ok(TypedExpr {
-            kind: TypedExprKind::Number(*value),
-            ty: *ty,
-            at,
-        }),
-        ExprKind::Name(name) => cast_name(scopes, name, at),
+        ExprKind::Number { value, ty } => {
+            typed_node(alloc, TypedExprKind::Number(*value), *ty, at)
+        }
+        ExprKind::Name(name) => cast_name(alloc, scopes, name, at),
         ExprKind::Element { name, indices } => {
             let indices = cast_exprs(alloc, scopes, indices.as_slice())?;
-            cast_element(scopes, name, indices, at)
+            cast_element(alloc, scopes, name, indices, at)
         }
         ExprKind::Unary(op, arg) => {
             let arg = cast_expr(alloc, scopes, arg.get())?;
@@ -373,40 +398,40 @@ fn cast_expr(alloc: Global, scopes: &Scopes<Binding>, expr: &Expr) -> Result<Typ
     }
 }
 
-// The name of a variable; in a tree that keeps the rules no other name stands alone.
-fn cast_name(scopes: &Scopes<Binding>, name: &Name, at: Span) -> Result<TypedExpr, Memory>
-    ensures { IfOk result (λ f. IsCastExpr scopes.now (expr_at (expr.Name name.now) at) f) }
+// The name of a variable.
+#[inline(never)]
+fn cast_name(
+    alloc: Global,
+    scopes: &Scopes<Binding>,
+    name: &Name,
+    at: Span,
+) -> Result<Boxed<TypedExpr>, Memory>
+    requires { TypingUseIn scopes.now name.now 0 }
+    ensures { IfOk result (IsCastExpr scopes.now (expr_at (expr.Name name.now) at)) }
 {
-    match scopes.find(name) {
-        Some(Binding::Var { var, ty }) => {
-            let kind = TypedExprKind::Var(var);
-            Ok(TypedExpr { kind, ty, at })
-        }
-        _ => Err(Memory),
+    match object(scopes, name, 0) {
+        (Object::Var(var), ty) => typed_node(alloc, TypedExprKind::Var(var), ty, at),
+        (Object::Array(_), _) => unreachable!(),
     }
 }
 
-// An element of an array by its typed indices, or a variable without any; a tree that keeps the rules has no other.
+// An element of an array by its typed indices, or a variable without any.
+#[inline(never)]
 fn cast_element(
+    alloc: Global,
     scopes: &Scopes<Binding>,
     name: &Name,
     indices: List<TypedExpr>,
     at: Span,
-) -> Result<TypedExpr, Memory>
-    ensures { IfOk result (λ f. (es : List Expr) → AreCastExprs scopes.now es indices → IsCastExpr scopes.now (expr_at (expr.Element name.now es) at) f) }
+) -> Result<Boxed<TypedExpr>, Memory>
+    requires { TypingUseIn scopes.now name.now (length indices) }
+    ensures { IfOk result (IsCastElement scopes.now name.now indices at) }
 {
-    match scopes.find(name) {
-        Some(Binding::Array { array, ty }) => {
+    match object(scopes, name, indices.len()) {
+        (Object::Var(var), ty) => typed_node(alloc, TypedExprKind::Var(var), ty, at),
+        (Object::Array(array), ty) => {
             let kind = TypedExprKind::Element { array, indices };
-            Ok(TypedExpr { kind, ty, at })
+            typed_node(alloc, kind, ty, at)
         }
-        Some(Binding::Var { var, ty }) => {
-            if indices.is_empty() {
-                let kind = TypedExprKind::Var(var);
-                return Ok(TypedExpr { kind, ty, at });
-            }
-            Err(Memory)
-        }
-        None => Err(Memory),
     }
 }

@@ -1,25 +1,30 @@
 //! The type checker.
 ghost use Rattle.std.specs.Prelude.{◌≡◌, ◌↔◌, [], OnOk, IfOk, IfErr};
+ghost use Rattle.el_base.specs.Limits.{IsNumbered};
+ghost use Rattle.c_ast.specs.Nodes.{tree_nodes};
 ghost use Rattle.c_ast.specs.Typing.{Typing};
-ghost use Rattle.c_meaning.specs.Casts.{Casts};
+ghost use Rattle.c_ast.specs.Casts.{Casts};
 ghost use Rattle.c_types.specs.Faults.{tree_faults};
 ghost use Rattle.c_types.specs.Causes.{IsCause};
 
 use crate::casts::casts;
-use crate::fault::{TypeRefusal, refusal_of};
+use crate::fault::TypeRefusal;
 use crate::faults::first_fault;
 use c_ast::{Tree, Typed};
 use std::alloc::Global;
 
 /// The typed tree of a tree that keeps the rules on names, arrays, returns and loops.
 ///
-/// Linear in the tree but for look-ups of names; its recursion is as deep as the tree.
+/// Linear in the tree but for look-ups of names. The tree has fewer than 2^32 nodes, which
+/// [`c_ast::nodes`] tells. The recursion is as deep as the tree: of one of 1,024 nodes at most 511
+/// levels, for which 1 MiB of stack is enough.
 ///
 /// # Errors
 ///
-/// The rule that is broken first, with its place: the one whose place begins first, and at one place the
-/// one with the lowest number; [`TypeRefusal::Memory`] where memory is wanting.
+/// The rule that is broken first, with its place: the one whose place begins first, and at one
+/// place the one with the lowest number; [`TypeRefusal::Memory`] where memory is wanting.
 pub fn check(alloc: Global, tree: &Tree) -> Result<Typed, TypeRefusal>
+    requires { IsNumbered (tree_nodes tree.now) }
     ensures kept { OnOk result (Typing tree.now) }
     ensures typed { IfOk result (λ k. Casts tree.now k) }
     ensures refused { IfErr result (IsCause tree.now) }
@@ -29,7 +34,7 @@ pub fn check(alloc: Global, tree: &Tree) -> Result<Typed, TypeRefusal>
     Ok(typed)
 }
 
-/// Checks a tree against the rules alone, as [`check`] does.
+/// Checks a tree, of any number of nodes, against the rules alone.
 ///
 /// # Errors
 ///
@@ -41,6 +46,6 @@ pub fn check_rules(alloc: Global, tree: &Tree) -> Result<(), TypeRefusal>
 {
     match first_fault(alloc, tree)? {
         None => Ok(()),
-        Some(fault) => Err(refusal_of(fault)),
+        Some(fault) => Err(TypeRefusal::Broken(fault)),
     }
 }

@@ -1,11 +1,17 @@
-//! The conversions that an expression implies (ISO/IEC 9899:1999 6.3.1), and typed expressions with them.
+//! The conversions that an expression implies (ISO/IEC 9899:1999 6.3.1), and typed expressions
+//! with them.
 ghost use Rattle.std.specs.Prelude.{◌≡◌, IfOk};
 ghost use Rattle.el_base.specs.declared.ty.Ty.TheVariants.{U32, I64};
 ghost use Rattle.c_ast.specs.declared.typed.TypedExprKind.TheVariants as typed;
-ghost use Rattle.c_meaning.specs.Types.{promoted, common, usual};
-ghost use Rattle.c_meaning.specs.Operators.{joint_type};
-ghost use Rattle.c_meaning.specs.Patterns.{result_type, unary_type};
-ghost use Rattle.c_meaning.specs.Casts.{
+ghost use Rattle.c_ast.specs.ResultTypes.{
+  promoted,
+  common,
+  usual,
+  joint_type,
+  result_type,
+  unary_type,
+};
+ghost use Rattle.c_ast.specs.Casts.{
   same_type,
   of_type,
   converted,
@@ -13,6 +19,7 @@ ghost use Rattle.c_meaning.specs.Casts.{
   right_type,
   assigned_type,
 };
+ghost use Rattle.c_types.specs.TypedNodes.{unary_of, binary_of, choice_of};
 
 use c_ast::{Binary, Boxed, Span, Ty, TypedExpr, TypedExprKind, Unary};
 use el_base::Memory;
@@ -96,7 +103,21 @@ fn left_type(op: Binary, left: Ty, right: Ty) -> Ty
 {
     match op {
         Binary::Both | Binary::Either => left,
-        _ => joint_type(op, left, right),
+        Binary::Shl | Binary::Shr => promoted(left),
+        Binary::Mul
+        | Binary::Div
+        | Binary::Rem
+        | Binary::Add
+        | Binary::Sub
+        | Binary::Lt
+        | Binary::Gt
+        | Binary::Le
+        | Binary::Ge
+        | Binary::Eq
+        | Binary::Ne
+        | Binary::And
+        | Binary::Xor
+        | Binary::Or => usual(left, right),
     }
 }
 
@@ -164,90 +185,97 @@ fn same_type(left: Ty, right: Ty) -> bool
     left == right
 }
 
+/// A typed expression. Expressions go from call to call in boxes: a level of the recursion then
+/// takes little stack.
+#[inline(never)]
+pub(crate) fn typed_node(
+    alloc: Global,
+    kind: TypedExprKind,
+    ty: Ty,
+    at: Span,
+) -> Result<Boxed<TypedExpr>, Memory>
+    ensures { IfOk result (λ f. f ≡ of_type kind ty at) }
+{
+    let boxed = Boxed::new(alloc, TypedExpr { kind, ty, at })?;
+    Ok(boxed)
+}
+
 /// A cast to a type, written or implied.
 pub(crate) fn cast(
     alloc: Global,
     implied: bool,
     ty: Ty,
-    arg: TypedExpr,
+    arg: Boxed<TypedExpr>,
     at: Span,
-) -> Result<TypedExpr, Memory>
+) -> Result<Boxed<TypedExpr>, Memory>
     ensures { IfOk result (λ f. f ≡ of_type (typed.Cast implied arg) ty at) }
 {
-    let arg = Boxed::new(alloc, arg)?;
-    Ok(TypedExpr {
-        kind: TypedExprKind::Cast { implied, arg },
-        ty,
-        at,
-    })
+    typed_node(alloc, TypedExprKind::Cast { implied, arg }, ty, at)
 }
 
 /// An expression where a type is asked: itself, or an implied cast of it at its place.
-pub(crate) fn converted(alloc: Global, ty: Ty, arg: TypedExpr) -> Result<TypedExpr, Memory>
+pub(crate) fn converted(
+    alloc: Global,
+    ty: Ty,
+    arg: Boxed<TypedExpr>,
+) -> Result<Boxed<TypedExpr>, Memory>
     ensures { IfOk result (λ f. f ≡ converted ty arg) }
 {
-    if same_type(ty, arg.ty) {
+    if same_type(ty, arg.get().ty) {
         return Ok(arg);
     }
-    let at = arg.at;
+    let at = arg.get().at;
     cast(alloc, true, ty, arg, at)
 }
 
 /// An operator on one operand, which is promoted.
-pub(crate) fn unary(alloc: Global, op: Unary, arg: TypedExpr, at: Span) -> Result<TypedExpr, Memory>
-    ensures { IfOk result (λ f. f ≡ of_type (typed.Unary op (converted (promoted arg.ty) arg)) (unary_type op (promoted arg.ty)) at) }
+#[inline(never)]
+pub(crate) fn unary(
+    alloc: Global,
+    op: Unary,
+    arg: Boxed<TypedExpr>,
+    at: Span,
+) -> Result<Boxed<TypedExpr>, Memory>
+    ensures { IfOk result (λ f. f ≡ unary_of op arg at) }
 {
-    let ty = promoted(arg.ty);
-    let arg = Boxed::new(alloc, converted(alloc, ty, arg)?)?;
-    Ok(TypedExpr {
-        kind: TypedExprKind::Unary(op, arg),
-        ty: unary_type(op, ty),
-        at,
-    })
+    let ty = promoted(arg.get().ty);
+    let arg = converted(alloc, ty, arg)?;
+    typed_node(alloc, TypedExprKind::Unary(op, arg), unary_type(op, ty), at)
 }
 
 /// An operator on two operands, each converted as it asks.
+#[inline(never)]
 pub(crate) fn binary(
     alloc: Global,
     op: Binary,
-    left: TypedExpr,
-    right: TypedExpr,
+    left: Boxed<TypedExpr>,
+    right: Boxed<TypedExpr>,
     at: Span,
-) -> Result<TypedExpr, Memory>
-    ensures { IfOk result (λ f. f ≡ of_type (typed.Binary op (converted (left_type op left.ty right.ty) left) (converted (right_type op left.ty right.ty) right))
-        (result_type op (joint_type op left.ty right.ty)) at) }
+) -> Result<Boxed<TypedExpr>, Memory>
+    ensures { IfOk result (λ f. f ≡ binary_of op left right at) }
 {
-    let to_left = left_type(op, left.ty, right.ty);
-    let to_right = right_type(op, left.ty, right.ty);
-    let joint = joint_type(op, left.ty, right.ty);
-    let first = Boxed::new(alloc, converted(alloc, to_left, left)?)?;
-    let second = Boxed::new(alloc, converted(alloc, to_right, right)?)?;
-    Ok(TypedExpr {
-        kind: TypedExprKind::Binary(op, first, second),
-        ty: result_type(op, joint),
-        at,
-    })
+    let (from_left, from_right) = (left.get().ty, right.get().ty);
+    let ty = result_type(op, joint_type(op, from_left, from_right));
+    let first = converted(alloc, left_type(op, from_left, from_right), left)?;
+    let second = converted(alloc, right_type(op, from_left, from_right), right)?;
+    typed_node(alloc, TypedExprKind::Binary(op, first, second), ty, at)
 }
 
 /// A condition and two values, which get their usual type.
+#[inline(never)]
 pub(crate) fn choose(
     alloc: Global,
-    cond: TypedExpr,
-    then: TypedExpr,
-    other: TypedExpr,
+    cond: Boxed<TypedExpr>,
+    then: Boxed<TypedExpr>,
+    other: Boxed<TypedExpr>,
     at: Span,
-) -> Result<TypedExpr, Memory>
-    ensures { IfOk result (λ f. f ≡ of_type (typed.Choose cond (converted (usual then.ty other.ty) then) (converted (usual then.ty other.ty) other)) (usual then.ty other.ty) at) }
+) -> Result<Boxed<TypedExpr>, Memory>
+    ensures { IfOk result (λ f. f ≡ choice_of cond then other at) }
 {
-    let ty = usual(then.ty, other.ty);
-    let test = Boxed::new(alloc, cond)?;
-    let first = Boxed::new(alloc, converted(alloc, ty, then)?)?;
-    let second = Boxed::new(alloc, converted(alloc, ty, other)?)?;
-    Ok(TypedExpr {
-        kind: TypedExprKind::Choose(test, first, second),
-        ty,
-        at,
-    })
+    let ty = usual(then.get().ty, other.get().ty);
+    let first = converted(alloc, ty, then)?;
+    let second = converted(alloc, ty, other)?;
+    typed_node(alloc, TypedExprKind::Choose(cond, first, second), ty, at)
 }
 
 /// The value of an assignment to a type; with an operator it is that of its right operand.
@@ -255,14 +283,14 @@ pub(crate) fn assigned(
     alloc: Global,
     op: Option<Binary>,
     to: Ty,
-    value: TypedExpr,
-) -> Result<TypedExpr, Memory>
+    value: Boxed<TypedExpr>,
+) -> Result<Boxed<TypedExpr>, Memory>
     ensures { IfOk result (λ f. f ≡ converted (assigned_type op to value.ty) value) }
 {
     match op {
         None => converted(alloc, to, value),
         Some(op) => {
-            let ty = right_type(op, to, value.ty);
+            let ty = right_type(op, to, value.get().ty);
             converted(alloc, ty, value)
         }
     }

@@ -1,9 +1,11 @@
 //! Broken rules with their places, and what is refused.
 ghost use Rattle.std.specs.Prelude.{◌≡◌, Some, None};
-ghost use Rattle.c_types.specs.Places.{rule_number, earlier, is_before, refusal_of, fault_of, first_bytes};
+ghost use Rattle.c_types.specs.Places.{earlier, is_before, first_bytes};
+ghost use Rattle.c_types.specs.Refusals.{rule_number, rule_word, number_of, word_of, span_of};
 
 use el_base::{Memory, Span};
-use thiserror::Error;
+use std::error::Error;
+use std::fmt;
 
 /// A rule on names, arrays, returns and loops.
 #[derive(Clone, Copy, Debug, PartialEq, Eq)]
@@ -16,9 +18,10 @@ pub enum Rule {
     NotArray,
     /// An array has no index.
     NotScalar,
-    /// An array has another number of indices than dimensions, or more than three dimensions.
+    /// An array has another number of indices than dimensions, or more dimensions than an array
+    /// may have.
     Dimensions,
-    /// A dimension is 0, or the arrays so far have more than 1,048,576 elements together.
+    /// A dimension is 0, or the arrays so far have more elements together than a kernel may.
     Length,
     /// A value is returned where there is no result, or none where there is one.
     ReturnKind,
@@ -31,15 +34,30 @@ impl Rule {
     pub fn number(self) -> u32
         ensures { result ≡ rule_number self }
     {
+        self.number_and_word().0
+    }
+
+    /// Its word, as it is printed. Takes no memory.
+    pub fn word(self) -> &'static str
+        ensures { result.now ≡ rule_word self }
+    {
+        self.number_and_word().1
+    }
+
+    // Its number and its word: the one place that pairs them.
+    fn number_and_word(self) -> (u32, &'static str)
+        ensures number { result.0 ≡ rule_number self }
+        ensures word { result.1.now ≡ rule_word self }
+    {
         match self {
-            Rule::Undeclared => 20,
-            Rule::Redeclared => 21,
-            Rule::NotArray => 22,
-            Rule::NotScalar => 23,
-            Rule::Dimensions => 24,
-            Rule::Length => 25,
-            Rule::ReturnKind => 26,
-            Rule::OutsideLoop => 27,
+            Rule::Undeclared => (20, "Undeclared"),
+            Rule::Redeclared => (21, "Redeclared"),
+            Rule::NotArray => (22, "NotArray"),
+            Rule::NotScalar => (23, "NotScalar"),
+            Rule::Dimensions => (24, "Dimensions"),
+            Rule::Length => (25, "Length"),
+            Rule::ReturnKind => (26, "ReturnKind"),
+            Rule::OutsideLoop => (27, "OutsideLoop"),
         }
     }
 }
@@ -51,57 +69,64 @@ pub struct Fault {
     pub span: Span,
 }
 
-/// Why a tree has no typed tree: the first rule that it breaks with its place, or want of memory.
-#[derive(Debug, Drop, Error)]
+/// Why a tree has no typed tree.
+#[derive(Clone, Copy, Debug, PartialEq, Eq)]
 pub enum TypeRefusal {
-    /// 20: a name is used where it is not declared.
-    #[error("undeclared name at {}:{}", span.line, span.column)]
-    Undeclared { span: Span },
-    /// 21: a name is declared twice in one scope.
-    #[error("name declared twice at {}:{}", span.line, span.column)]
-    Redeclared { span: Span },
-    /// 22: a scalar has indices.
-    #[error("no array at {}:{}", span.line, span.column)]
-    NotArray { span: Span },
-    /// 23: an array has no index.
-    #[error("no scalar at {}:{}", span.line, span.column)]
-    NotScalar { span: Span },
-    /// 24: an array has another number of indices than dimensions, or more than three dimensions.
-    #[error("wrong number of dimensions at {}:{}", span.line, span.column)]
-    Dimensions { span: Span },
-    /// 25: a dimension is 0, or the arrays so far have more than 1,048,576 elements together.
-    #[error("wrong length of an array at {}:{}", span.line, span.column)]
-    Length { span: Span },
-    /// 26: a value is returned where there is no result, or none where there is one.
-    #[error("wrong kind of return at {}:{}", span.line, span.column)]
-    ReturnKind { span: Span },
-    /// 27: `break` or `continue` stands outside of a loop.
-    #[error("outside of a loop at {}:{}", span.line, span.column)]
-    OutsideLoop { span: Span },
-    /// Memory ran out.
-    #[error("memory ran out")]
+    /// The rule that is broken first, with its place.
+    Broken(Fault),
+    /// Memory is wanting.
     Memory,
 }
 
 impl TypeRefusal {
-    /// The broken rule and its place; `None` for want of memory.
-    pub fn fault(&self) -> Option<Fault>
-        ensures { result ≡ fault_of self.now }
+    /// The number of the broken rule, from 20 to 27; `None` for want of memory.
+    pub fn number(&self) -> Option<u32>
+        ensures { result ≡ number_of self.now }
     {
-        let (rule, span) = match self {
-            TypeRefusal::Undeclared { span } => (Rule::Undeclared, *span),
-            TypeRefusal::Redeclared { span } => (Rule::Redeclared, *span),
-            TypeRefusal::NotArray { span } => (Rule::NotArray, *span),
-            TypeRefusal::NotScalar { span } => (Rule::NotScalar, *span),
-            TypeRefusal::Dimensions { span } => (Rule::Dimensions, *span),
-            TypeRefusal::Length { span } => (Rule::Length, *span),
-            TypeRefusal::ReturnKind { span } => (Rule::ReturnKind, *span),
-            TypeRefusal::OutsideLoop { span } => (Rule::OutsideLoop, *span),
-            TypeRefusal::Memory => return None,
-        };
-        Some(Fault { rule, span })
+        match self {
+            TypeRefusal::Broken(fault) => Some(fault.rule.number()),
+            TypeRefusal::Memory => None,
+        }
+    }
+
+    /// The word of the broken rule, as `Undeclared`; `Memory` for want of memory.
+    pub fn word(&self) -> &'static str
+        ensures { result.now ≡ word_of self.now }
+    {
+        match self {
+            TypeRefusal::Broken(fault) => fault.rule.word(),
+            TypeRefusal::Memory => "Memory",
+        }
+    }
+
+    /// The place where the rule is broken; `None` for want of memory.
+    pub fn span(&self) -> Option<Span>
+        ensures { result ≡ span_of self.now }
+    {
+        match self {
+            TypeRefusal::Broken(fault) => Some(fault.span),
+            TypeRefusal::Memory => None,
+        }
     }
 }
+
+/// The number and the word, as `20 Undeclared`.
+impl fmt::Display for TypeRefusal {
+    ghost use Rattle.std.specs.Prelude.{Some};
+    ghost use Rattle.c_types.specs.Refusals.{refusal_text};
+
+    ghost output = { λ refusal. Some (refusal_text refusal) };
+
+    fn fmt<W: fmt::Write>(&self, f: &mut fmt::Formatter<W>) -> fmt::Result {
+        let word = self.word();
+        match self.number() {
+            Some(number) => write!(f, "{number} {word}"),
+            None => f.write_str("want of memory"),
+        }
+    }
+}
+
+impl Error for TypeRefusal {}
 
 impl From<Memory> for TypeRefusal {
     ghost use Rattle.c_types.specs.declared.fault.TypeRefusal.TheVariants as refusal;
@@ -114,24 +139,8 @@ impl From<Memory> for TypeRefusal {
     }
 }
 
-// What is refused for a broken rule.
-pub(crate) fn refusal_of(fault: Fault) -> TypeRefusal
-    ensures { result ≡ refusal_of fault }
-{
-    let span = fault.span;
-    match fault.rule {
-        Rule::Undeclared => TypeRefusal::Undeclared { span },
-        Rule::Redeclared => TypeRefusal::Redeclared { span },
-        Rule::NotArray => TypeRefusal::NotArray { span },
-        Rule::NotScalar => TypeRefusal::NotScalar { span },
-        Rule::Dimensions => TypeRefusal::Dimensions { span },
-        Rule::Length => TypeRefusal::Length { span },
-        Rule::ReturnKind => TypeRefusal::ReturnKind { span },
-        Rule::OutsideLoop => TypeRefusal::OutsideLoop { span },
-    }
-}
-
-// Whether the first fault goes before the second: it begins earlier, or at one place has the lower number.
+// Whether the first fault goes before the second: it begins earlier, or at one place has the lower
+// number.
 fn is_before(first: Fault, second: Fault) -> bool
     ensures { result ≡ is_before first second }
 {

@@ -1,6 +1,8 @@
-//! The first rule that a tree breaks: a walk with the names in force, which keeps the fault that goes first.
+//! The first rule that a tree breaks: a walk with the names in force, which keeps the fault that
+//! goes first.
 ghost use Rattle.std.specs.Prelude.{◌≡◌, ◌∷◌, [], ◌+◌, ◌-◌, ◌^◌, min, IfOk, OnOk, length, not, nat_lt, nat_eq, ◌||◌};
 ghost use Rattle.std.specs.List.{list_any};
+ghost use Rattle.el_base.specs.Limits.{max_dimensions, max_elements};
 ghost use Rattle.c_ast.specs.Typing.{elements_of, product_of};
 ghost use Rattle.c_types.specs.Places.{first_of};
 ghost use Rattle.c_types.specs.Scopes.{is_new_in, with_entry};
@@ -29,11 +31,8 @@ use crate::fault::{Fault, Rule, earlier, first_bytes};
 use crate::scopes::Scopes;
 use crate::sort::Sort;
 use c_ast::{Boxed, Expr, ExprKind, Name, Param, Span, Stmt, StmtKind, Target, Tree, Ty};
-use el_base::Memory;
+use el_base::{MAX_DIMENSIONS, MAX_ELEMENTS, Memory};
 use std::alloc::Global;
-
-// The most elements that the arrays of a kernel have together.
-const ELEMENTS: u64 = 1_048_576;
 
 // The fault of a tree that goes first, if it breaks any rule.
 pub(crate) fn first_fault(alloc: Global, tree: &Tree) -> Result<Option<Fault>, Memory>
@@ -74,18 +73,18 @@ fn of_param(param: &Param, new: bool, total: u64) -> Option<Fault>
     earlier(again, rest)
 }
 
-// Whether there are at most three dimensions.
+// Whether there are no more dimensions than an array may have.
 fn are_few(dims: &[u64]) -> bool
-    ensures { result ≡ not (nat_lt 3 (length dims.now)) }
+    ensures { result ≡ not (nat_lt max_dimensions (length dims.now)) }
 {
-    dims.len() <= 3
+    dims.len() <= MAX_DIMENSIONS
 }
 
 // Whether no dimension is 0, and the arrays up to this one have no more elements than a kernel may.
 fn are_lengths(dims: &[u64], total: u64) -> bool
-    ensures { result ≡ not (list_any (λ d. nat_eq d 0) dims.now || nat_lt 1048576 total) }
+    ensures { result ≡ not (list_any (λ d. nat_eq d 0) dims.now || nat_lt max_elements total) }
 {
-    !has_zero(dims) && total <= ELEMENTS
+    !has_zero(dims) && total <= MAX_ELEMENTS
 }
 
 fn has_zero(dims: &[u64]) -> bool
@@ -129,7 +128,8 @@ fn of_stmts(
     returned: Option<Ty>,
     in_loop: bool,
 ) -> Result<Option<Fault>, Memory>
-    ensures fault { IfOk result (λ f. f ≡ first_of (stmts_faults stmts.now returned in_loop scopes.old)) }
+    ensures fault { IfOk result
+        (λ f. f ≡ first_of (stmts_faults stmts.now returned in_loop scopes.old)) }
     ensures scopes { OnOk result (scopes.new ≡ sorts_after_all scopes.old stmts.now) }
 {
     let mut first = None;
@@ -146,7 +146,8 @@ fn of_stmt(
     returned: Option<Ty>,
     in_loop: bool,
 ) -> Result<Option<Fault>, Memory>
-    ensures fault { IfOk result (λ f. f ≡ first_of (stmt_faults stmt.now returned in_loop scopes.old)) }
+    ensures fault { IfOk result
+        (λ f. f ≡ first_of (stmt_faults stmt.now returned in_loop scopes.old)) }
     ensures scopes { OnOk result (scopes.new ≡ sorts_after scopes.old stmt.now.kind) }
 {
     match &stmt.kind {
@@ -233,7 +234,8 @@ fn of_held(
     returned: Option<Ty>,
     in_loop: bool,
 ) -> Result<Option<Fault>, Memory>
-    ensures fault { IfOk result (λ f. f ≡ first_of (inner_faults stmt.now returned in_loop scopes.old)) }
+    ensures fault { IfOk result
+        (λ f. f ≡ first_of (inner_faults stmt.now returned in_loop scopes.old)) }
     ensures scopes { OnOk result (scopes.new ≡ scopes.old) }
 {
     match stmt {
@@ -255,7 +257,8 @@ fn of_inner(
     returned: Option<Ty>,
     in_loop: bool,
 ) -> Result<Option<Fault>, Memory>
-    ensures fault { IfOk result (λ f. f ≡ first_of (stmt_faults stmt.now returned in_loop ([] ∷ scopes.old))) }
+    ensures fault { IfOk result
+        (λ f. f ≡ first_of (stmt_faults stmt.now returned in_loop ([] ∷ scopes.old))) }
     ensures scopes { OnOk result (scopes.new ≡ scopes.old) }
 {
     scopes.enter()?;

@@ -1,5 +1,6 @@
 //! The declarations in force: what each name stands for, and the types of all variables so far.
-ghost use Rattle.std.specs.Prelude.{◌≡◌, ◌∷◌, [], ◌++◌, ◌<◌, length, true, IfOk, OnOk};
+ghost use Rattle.std.specs.Prelude.{◌≡◌, ◌∷◌, [], ◌++◌, ◌<◌, length, true, IfOk, OnOk, OnErr};
+ghost use Rattle.el_base.specs.Limits.{IsNumbered};
 ghost use Rattle.c_types.specs.Scopes.{is_new_in, with_entry, without_innermost};
 ghost use Rattle.c_types.specs.declared.known.Binding.TheVariants as binding;
 
@@ -8,14 +9,16 @@ use c_ast::{List, Name, Ty};
 use el_base::Memory;
 use std::alloc::Global;
 
-/// What a name stands for: a variable or an array, by its number, with its type or that of its elements.
+/// What a name stands for: a variable or an array, by its number, with its type or that of its
+/// elements.
 #[derive(Clone, Copy, Debug, PartialEq, Eq)]
 pub(crate) enum Binding {
     Var { var: u32, ty: Ty },
     Array { array: u32, ty: Ty },
 }
 
-/// The declarations in force at a place, and the types of all variables that are declared before it.
+/// The declarations in force at a place, and the types of all variables that are declared before
+/// it.
 #[derive(Drop)]
 pub(crate) struct Known {
     pub scopes: Scopes<Binding>,
@@ -35,9 +38,14 @@ impl Known {
     }
 
     /// Begins a scope inside.
+    ///
+    /// # Errors
+    ///
+    /// [`Memory`] where memory is wanting; what is declared is then as it was.
     pub fn enter(&mut self) -> Result<(), Memory>
         ensures scopes { OnOk result (self.new.scopes ≡ [] ∷ self.old.scopes) }
-        ensures types { OnOk result (self.new.types ≡ self.old.types) }
+        ensures types { self.new.types ≡ self.old.types }
+        ensures err { OnErr result (self.new.scopes ≡ self.old.scopes) }
         ensures some { 0 < length self.old.scopes }
     {
         self.scopes.enter()
@@ -51,46 +59,38 @@ impl Known {
         self.scopes.leave();
     }
 
-    /// Declares a variable, and gives its number. A name that its scope has already is no case of a tree that
-    /// keeps the rules; it is answered as [`Memory`].
+    /// Declares a variable by a name that its scope does not have yet, and gives its number.
+    ///
+    /// # Errors
+    ///
+    /// [`Memory`] where memory is wanting; what is declared is then not used again.
     pub fn declare_var(&mut self, name: &Name, ty: Ty) -> Result<u32, Memory>
+        requires new { is_new_in self.old.scopes name.now ≡ true }
+        requires numbered { IsNumbered (length self.old.types) }
         ensures number { IfOk result (λ v. v ≡ length self.old.types) }
-        ensures new { OnOk result (is_new_in self.old.scopes name.now ≡ true) }
-        ensures scopes { OnOk result (self.new.scopes ≡ with_entry name.now (binding.Var (length self.old.types) ty) self.old.scopes) }
+        ensures scopes { OnOk result (self.new.scopes
+            ≡ with_entry name.now (binding.Var (length self.old.types) ty) self.old.scopes) }
         ensures types { OnOk result (self.new.types ≡ self.old.types ++ ty ∷ []) }
     {
-        let var = number(self.types.len())?;
-        declare_new(&mut self.scopes, name, Binding::Var { var, ty })?;
+        let var = self.types.len() as u32;
+        self.scopes.declare(name, Binding::Var { var, ty })?;
         self.types.push(ty)?;
         Ok(var)
     }
 
-    /// Declares an array of a number, as a variable is declared.
+    /// Declares an array of a number by a name that its scope does not have yet.
+    ///
+    /// # Errors
+    ///
+    /// [`Memory`] where memory is wanting; what is declared is then as it was.
     pub fn declare_array(&mut self, name: &Name, array: u32, ty: Ty) -> Result<(), Memory>
-        ensures new { OnOk result (is_new_in self.old.scopes name.now ≡ true) }
-        ensures scopes { OnOk result (self.new.scopes ≡ with_entry name.now (binding.Array array ty) self.old.scopes) }
-        ensures types { OnOk result (self.new.types ≡ self.old.types) }
+        requires { is_new_in self.old.scopes name.now ≡ true }
+        ensures scopes { OnOk result (self.new.scopes
+            ≡ with_entry name.now (binding.Array array ty) self.old.scopes) }
+        ensures types { self.new.types ≡ self.old.types }
+        ensures err { OnErr result (self.new.scopes ≡ self.old.scopes) }
     {
-        declare_new(&mut self.scopes, name, Binding::Array { array, ty })
-    }
-}
-
-// Declares a name that its scope does not have yet.
-fn declare_new(scopes: &mut Scopes<Binding>, name: &Name, item: Binding) -> Result<(), Memory>
-    ensures new { OnOk result (is_new_in scopes.old name.now ≡ true) }
-    ensures scopes { OnOk result (scopes.new ≡ with_entry name.now item scopes.old) }
-{
-    if scopes.declare(name, item)? {
+        self.scopes.declare(name, Binding::Array { array, ty })?;
         Ok(())
-    } else {
-        Err(Memory)
     }
-}
-
-/// The number of what comes after so many; [`Memory`] past 2^32.
-pub(crate) fn number(count: usize) -> Result<u32, Memory>
-    ensures { IfOk result (λ n. n ≡ count) }
-{
-    let number = u32::try_from(count).map_err(|_| Memory)?;
-    Ok(number)
 }

@@ -14,14 +14,4 @@ pub use checker::{check, check_rules};
 pub use fault::{Fault, Rule, TypeRefusal};
 
 #[cfg(test)]
-mod given_arrays;
-#[cfg(test)]
-mod given_names;
-#[cfg(test)]
-mod given_tests;
-#[cfg(test)]
-mod test_rows;
-#[cfg(test)]
 mod tests;
-#[cfg(test)]
-mod typed_tests;

@@ -1,9 +1,29 @@
 //! The scopes in force, with what each name stands for.
-ghost use Rattle.std.specs.Prelude.{◌≡◌, ◌==◌, List, [], ◌∷◌, None, OnOk, IfOk, flat_map, ◌<◌, length};
+ghost use Rattle.std.specs.Prelude.{
+  ◌≡◌,
+  ◌==◌,
+  ◌<◌,
+  List,
+  [],
+  ◌∷◌,
+  length,
+  flat_map,
+  None,
+  All,
+  OnOk,
+  OnErr,
+  IfOk,
+};
 ghost use Rattle.std.specs.Cmp.Lexicographic.{pointwise};
 ghost use Rattle.std.specs.Map.{lookup};
-ghost use Rattle.c_types.specs.Scopes.{declared_in, is_new_in, with_entry, latest_first, outer_scopes, without_innermost};
-ghost use Rattle.std.specs.Prelude.{All};
+ghost use Rattle.c_types.specs.Scopes.{
+  declared_in,
+  is_new_in,
+  with_entry,
+  latest_first,
+  outer_scopes,
+  without_innermost,
+};
 ghost use Rattle.indexmap.specs.IndexMap.{IsUnique};
 
 use el_base::{Memory, Name};
@@ -14,7 +34,8 @@ use std::mem;
 
 /// What each name in force stands for, scope by scope.
 ///
-/// Contracts see the list of the scopes, the innermost first, each with its names, the latest first.
+/// Contracts see the list of the scopes, the innermost first, each with its names, the latest
+/// first.
 #[derive(Drop)]
 pub(crate) struct Scopes<T: Drop> {
     alloc: Global,
@@ -35,7 +56,8 @@ impl<T: Drop> Model for Scopes<T> {
 
     ghost view = { λ s. latest_first s.inner ∷ outer_scopes s.outer.items };
 
-    ghost invariant = { λ s. IsUnique (pointwise ◌==◌) s.inner × All (IsUnique (pointwise ◌==◌)) s.outer.items };
+    ghost invariant = { λ s. IsUnique (pointwise ◌==◌) s.inner
+        × All (IsUnique (pointwise ◌==◌)) s.outer.items };
 }
 
 impl<T: Copy + Drop> Scopes<T> {
@@ -64,10 +86,11 @@ impl<T: Copy + Drop> Scopes<T> {
     ///
     /// # Errors
     ///
-    /// [`Memory`] where memory is wanting.
+    /// [`Memory`] where memory is wanting; the scopes are then as they were.
     pub fn declare(&mut self, name: &Name, item: T) -> Result<bool, Memory>
         ensures is { IfOk result (λ new. new ≡ is_new_in self.old name.now) }
         ensures scopes { OnOk result (self.new ≡ with_entry name.now item self.old) }
+        ensures err { OnErr result (self.new ≡ self.old) }
     {
         if self.inner.contains_key(name) {
             return Ok(false);
@@ -80,14 +103,20 @@ impl<T: Copy + Drop> Scopes<T> {
     ///
     /// # Errors
     ///
-    /// [`Memory`] where memory is wanting.
+    /// [`Memory`] where memory is wanting; the scopes are then as they were.
     pub fn enter(&mut self) -> Result<(), Memory>
         ensures entered { OnOk result (self.new ≡ [] ∷ self.old) }
+        ensures err { OnErr result (self.new ≡ self.old) }
         ensures some { 0 < length self.old }
     {
         let outer = mem::replace(&mut self.inner, IndexMap::new(self.alloc));
-        self.outer.push(outer)?;
-        Ok(())
+        match self.outer.push(outer) {
+            Ok(()) => Ok(()),
+            Err(failed) => {
+                self.inner = failed.value;
+                Err(Memory)
+            }
+        }
     }
 
     /// Ends the innermost scope, unless it is the only one.

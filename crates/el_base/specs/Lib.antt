@@ -1,5 +1,7 @@
 pub mod formers
 pub mod Digits
+pub mod Lending
+pub mod Limits
 pub mod Logs
 pub mod Names
 pub mod Numbers

@@ -6,6 +6,7 @@ ghost use Rattle.el_base.specs.Digits.{IsAsWritten, ReadsBack, capped_value, is_
 ghost use Rattle.std.specs.Str.Parse.{starts_with_minus};
 
 use crate::memory::Memory;
+use itoa::Buffer;
 
 /// Appends a number in decimal, with no leading zeros.
 ///
@@ -16,8 +17,7 @@ pub fn put_u64(text: &mut Vec<u8>, n: u64) -> Result<(), Memory>
     ensures ok { OnOk result (text.new.items ≡ text.old.items ++ decimal n) }
     ensures err { OnErr result (text.new.items ≡ text.old.items) }
 {
-    let digits = format!(in *text.allocator(); "{n}")?;
-    text.extend_from_slice(digits.as_bytes())?;
+    text.extend_from_slice(Buffer::new().format(n).as_bytes())?;
     Ok(())
 }
 
@@ -30,8 +30,7 @@ pub fn put_i64(text: &mut Vec<u8>, n: i64) -> Result<(), Memory>
     ensures ok { OnOk result (text.new.items ≡ text.old.items ++ signed_decimal n) }
     ensures err { OnErr result (text.new.items ≡ text.old.items) }
 {
-    let sign_and_digits = format!(in *text.allocator(); "{n}")?;
-    text.extend_from_slice(sign_and_digits.as_bytes())?;
+    text.extend_from_slice(Buffer::new().format(n).as_bytes())?;
     Ok(())
 }
 

@@ -56,7 +56,8 @@ pub trait Files {
     fn read(&mut self, name: &str, max: u64, into: &mut Vec<u8>) -> Result<Got, FileFail>
         requires { into.old.items ≡ [] }
         // What was read is what the name holds, or the name holds more than `max` bytes, `longs` rose and `long` is `max`.
-        ensures whole { result ≡ Ok got.Whole → IsWhole (holds self.old name.now) max into.new.items }
+        ensures whole { result ≡ Ok got.Whole
+            → IsWhole (holds self.old name.now) max into.new.items }
         ensures longer { result ≡ Ok got.Longer → IsLonger (holds self.old name.now) max
             (longs self.old) (longs self.new) (long self.new) into.new.items }
 

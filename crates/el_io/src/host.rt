@@ -1,6 +1,7 @@
 //! The adapters over the real files and streams. They tell nothing of content.
-ghost use Rattle.std.specs.Prelude.{◌≡◌, ◌<◌, ◌≤◌, [], IsOk, Ok, length};
-ghost use Rattle.std.specs.Io.KnownBytes.{Consumes, IsAtEnd};
+ghost use Rattle.std.specs.Prelude.{◌≡◌, ◌≢◌, ◌<◌, ◌≤◌, [], IfOk, IsOk, Ok, length};
+ghost use Rattle.std.specs.Io.KnownBytes.{Consumes, IsAtEnd, WriteAppends};
+ghost use Rattle.el_io.specs.Hosts.{Passes};
 ghost use Rattle.el_io.specs.declared.files.Got.TheVariants as got;
 
 use crate::files::{FileFail, Files, Got};
@@ -48,24 +49,37 @@ impl<R: std::rt::Files> Files for HostFiles<R> {
 
     fn read(&mut self, name: &str, max: u64, into: &mut Vec<u8>) -> Result<Got, FileFail> {
         let ended = match fs::open(&self.rt, name) {
-            Ok(mut file) => read_up_to(&mut file, max, into),
+            Ok(mut file) => read_whole(&mut file, max, into),
             Err(_) => Err(FileFail::Failed),
         };
         match ended {
-            Ok(Got::Whole) => {}
+            Ok(Got::Whole) | Err(FileFail::Memory) => {}
             Ok(Got::Longer) => {
-                into.clear();
                 self.longs = self.longs.saturating_add(1);
                 self.long = max;
             }
-            Err(FileFail::Failed) => {
-                into.clear();
-                self.faults = self.faults.saturating_add(1);
-            }
-            Err(FileFail::Memory) => into.clear(),
+            Err(FileFail::Failed) => self.faults = self.faults.saturating_add(1),
         }
         ended
     }
+}
+
+// Reads the file where it has at most `max` bytes, and else nothing.
+fn read_whole<F: Read>(file: &mut F, max: u64, into: &mut Vec<u8>) -> Result<Got, FileFail>
+    requires { into.old.items ≡ [] }
+    ensures bound { result ≡ Ok got.Whole → length into.new.items ≤ max }
+    ensures bytes { result ≡ Ok got.Whole
+        → Consumes (F.remaining file.old) (F.remaining file.new) into.new.items }
+    ensures end { result ≡ Ok got.Whole → IsAtEnd (F.remaining file.new) }
+    ensures longer { result ≡ Ok got.Longer
+        → Passes (F.remaining file.old) (F.remaining file.new) max }
+    ensures nothing { result ≢ Ok got.Whole → into.new.items ≡ [] }
+{
+    let ended = read_up_to(file, max, into);
+    if ended != Ok(Got::Whole) {
+        into.clear();
+    }
+    ended
 }
 
 // Reads to the end of the file, or one byte more than `max`.
@@ -73,7 +87,8 @@ fn read_up_to<F: Read>(file: &mut F, max: u64, into: &mut Vec<u8>) -> Result<Got
     requires { into.old.items ≡ [] }
     ensures bound { result ≡ Ok got.Whole → length into.new.items ≤ max }
     ensures past { result ≡ Ok got.Longer → max < length into.new.items }
-    ensures bytes { IsOk result → Consumes (F.remaining file.old) (F.remaining file.new) into.new.items }
+    ensures bytes { IsOk result
+        → Consumes (F.remaining file.old) (F.remaining file.new) into.new.items }
     ensures end { result ≡ Ok got.Whole → IsAtEnd (F.remaining file.new) }
 {
     let mut buf = [0u8; 4096];
@@ -110,22 +125,42 @@ impl<W: Write + Drop> HostSink<W> {
 }
 
 impl<W: Write + Drop> Sink for HostSink<W> {
-    ghost use Rattle.std.specs.Prelude.{None};
+    ghost use Rattle.std.specs.Prelude.{◌≡◌, ◌≤◌, None, IfOk, OnErr};
+    ghost use Rattle.std.specs.Io.KnownBytes.{WriteAppends};
+    ghost use Rattle.el_io.specs.Outside.{Rose, IsTaken};
+    ghost use Rattle.el_io.specs.Hosts.{stream_of, put_faults};
 
     ghost written = { λ s. None };
 
-    ghost faults = { λ s. s.faults };
+    ghost faults = { put_faults };
 
-    fn put(&mut self, bytes: &[u8]) -> Result<usize, SinkFail> {
-        if bytes.is_empty() {
-            return Ok(0);
+    fn put(&mut self, bytes: &[u8]) -> Result<usize, SinkFail>
+        // The stream got as many bytes as are answered.
+        ensures handed { WriteAppends (W.contents (stream_of self.old))
+            (W.contents (stream_of self.new)) result bytes.now }
+        ensures taken { IfOk result (λ n. IsTaken None None bytes.now n) }
+        ensures failed { OnErr result (Rose (put_faults self.old) (put_faults self.new)) }
+        ensures later { put_faults self.old ≤ put_faults self.new }
+    {
+        let taken = hand_on(&mut self.inner, bytes);
+        if taken.is_err() {
+            self.faults = self.faults.saturating_add(1);
         }
-        match self.inner.write(bytes) {
-            Ok(n) if n > 0 => Ok(n),
-            _ => {
-                self.faults = self.faults.saturating_add(1);
-                Err(SinkFail::Failed)
-            }
-        }
+        taken
+    }
+}
+
+// Hands bytes to the stream in one write.
+fn hand_on<W: Write>(stream: &mut W, bytes: &[u8]) -> Result<usize, SinkFail>
+    ensures handed { WriteAppends (W.contents stream.old) (W.contents stream.new) result bytes.now }
+    ensures within { IfOk result (λ n. n ≤ length bytes.now) }
+    ensures some { IfOk result (λ n. 0 < length bytes.now → 0 < n) }
+{
+    if bytes.is_empty() {
+        return Ok(0);
+    }
+    match stream.write(bytes) {
+        Ok(n) if n > 0 => Ok(n),
+        _ => Err(SinkFail::Failed),
     }
 }

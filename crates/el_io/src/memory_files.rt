@@ -25,7 +25,8 @@ impl MemFiles {
     pub fn new(alloc: Global) -> MemFiles
         ensures held { (n : List ℕ) → held_in result n ≡ None }
         ensures failing { failing_reads result ≡ [] }
-        ensures counts { read_counts result ≡ record { calls = 0; faults = 0; longs = 0; long = 0 } }
+        ensures counts { read_counts result
+            ≡ record { calls = 0; faults = 0; longs = 0; long = 0 } }
     {
         MemFiles {
             alloc,
@@ -86,15 +87,20 @@ impl Files for MemFiles {
         // It fails exactly where the call was named, or the name is not held.
         ensures fails { IsErrOf result fail.Failed ↔ IsTrue (fails_read self.old name.now) }
         ensures counts { read_counts self.new ≡ counts_after (read_counts self.old) max result }
-        ensures whole { result ≡ Ok got.Whole → IsWhole (Some (held_in self.old name.now)) max into.new.items }
+        ensures whole { result ≡ Ok got.Whole
+            → IsWhole (Some (held_in self.old name.now)) max into.new.items }
         ensures longer { result ≡ Ok got.Longer → IsLonger (Some (held_in self.old name.now)) max
-            (read_counts self.old).longs (read_counts self.new).longs (read_counts self.new).long into.new.items }
-        ensures failed { IsErrOf result fail.Failed → Rose (read_counts self.old).faults (read_counts self.new).faults }
+            (read_counts self.old).longs (read_counts self.new).longs (read_counts self.new).long
+            into.new.items }
+        ensures failed { IsErrOf result fail.Failed
+            → Rose (read_counts self.old).faults (read_counts self.new).faults }
         ensures empty { OnErr result (into.new.items ≡ []) }
         ensures faults_later { (read_counts self.old).faults ≤ (read_counts self.new).faults }
         ensures longs_later { (read_counts self.old).longs ≤ (read_counts self.new).longs }
-        ensures longs_same { result ≢ Ok got.Longer → (read_counts self.new).longs ≡ (read_counts self.old).longs }
-        ensures long_same { result ≢ Ok got.Longer → (read_counts self.new).long ≡ (read_counts self.old).long }
+        ensures longs_same { result ≢ Ok got.Longer
+            → (read_counts self.new).longs ≡ (read_counts self.old).longs }
+        ensures long_same { result ≢ Ok got.Longer
+            → (read_counts self.new).long ≡ (read_counts self.old).long }
         ensures held_same { (n : List ℕ) → held_in self.new n ≡ held_in self.old n }
         ensures failing_same { failing_reads self.new ≡ failing_reads self.old }
     {

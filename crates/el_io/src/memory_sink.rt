@@ -73,7 +73,8 @@ impl MemSink {
 
     /// Makes the put of this number fail; puts are counted from 0.
     pub fn fail_at(&mut self, call: u64) -> Result<(), Memory>
-        ensures ok { OnOk result (self.new ≡ record self.old { failing = self.old.failing ++ call ∷ [] }) }
+        ensures ok { OnOk result
+            (self.new ≡ record self.old { failing = self.old.failing ++ call ∷ [] }) }
         ensures err { OnErr result (self.new ≡ self.old) }
     {
         self.failing.push(call)?;
@@ -103,7 +104,8 @@ impl Sink for MemSink {
         ensures put { IfOk result (λ n. (n ≡ length (take self.old.piece bytes.now))
             × (self.new ≡ after_put self.old bytes.now)) }
         ensures err { OnErr result (self.new ≡ after_refused_put self.old) }
-        ensures taken { IfOk result (λ n. IsTaken (Some self.old.written) (Some self.new.written) bytes.now n) }
+        ensures taken { IfOk result (λ n.
+            IsTaken (Some self.old.written) (Some self.new.written) bytes.now n) }
         ensures later { self.old.faults ≤ self.new.faults }
     {
         let call = self.calls;

@@ -19,7 +19,8 @@ pub trait Sink {
 
     /// Takes some first bytes, at least one where there is one, and answers how many.
     fn put(&mut self, bytes: &[u8]) -> Result<usize, SinkFail>
-        ensures taken { IfOk result (λ n. IsTaken (written self.old) (written self.new) bytes.now n) }
+        ensures taken { IfOk result (λ n.
+            IsTaken (written self.old) (written self.new) bytes.now n) }
         ensures failed { OnErr result (Rose (faults self.old) (faults self.new)) }
         ensures unchanged { OnErr result (written self.new ≡ written self.old) }
         ensures later { faults self.old ≤ faults self.new };

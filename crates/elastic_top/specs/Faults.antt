@@ -15,6 +15,10 @@ fault_code (Inputs file) = 6
 fault_code Memory = 11
 fault_code (TooLong file) = 12
 
+-- the statuses of all calls: that of a call that is done, and those of faults
+abbrev pub statuses : List ℕ
+statuses = 0 ∷ (1 ∷ (2 ∷ (3 ∷ (4 ∷ (6 ∷ (11 ∷ (12 ∷ [])))))))
+
 -- its line, with the line feed; a file is named by the word that named it
 abbrev pub fault_line : Fault → List ℕ
 fault_line Usage = codes "elastic: the words are no command" ++ 10 ∷ []

@@ -1,12 +1,4 @@
-pub mod Answers
 pub mod Causes
-pub mod Draft
 pub mod Faults
-pub mod Good
-pub mod Inputs
-pub mod Meaning
-pub mod PartRefusals
-pub mod Pass
-pub mod Reading
-pub mod Spelling
 pub mod Words
+pub mod straight

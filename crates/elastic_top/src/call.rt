@@ -1,7 +1,8 @@
-ghost use Rattle.std.specs.Prelude.{◌≡◌, ◌≢◌, ◌↔◌, ◌<◌, ℕ, List, ◌∷◌, [], Contains, codes, ◌++◌};
-ghost use Rattle.el_io.specs.Outside.{Rose, IsHeld};
-ghost use Rattle.elastic_top.specs.Causes.{Written, Cut, RefusesKernel, RefusesInputs, PassesLimit, TellsLine};
-ghost use Rattle.elastic_top.specs.Faults.{IsTold};
+ghost use Rattle.std.specs.Prelude.{◌≡◌, ◌≢◌, ◌↔◌, ℕ, List, Contains};
+ghost use Rattle.el_io.specs.Outside.{Rose};
+ghost use Rattle.elastic_top.specs.declared.fault.Fault.TheVariants as fault;
+ghost use Rattle.elastic_top.specs.Causes.{Written, Cut, RefusesKernel, RefusesInputs, Counts, IsGoFault, TellsLine};
+ghost use Rattle.elastic_top.specs.Faults.{IsTold, fault_line, statuses};
 ghost use Rattle.elastic_top.specs.Words.{texts, Command};
 
 use crate::fault::{Fault, tell};
@@ -28,37 +29,42 @@ pub fn top<R: Threads + Sync, F: Files, O: Sink, E: Sink, G: Gate + Sync>(
     err: &mut E,
     _gate: &G,
 ) -> Status
-    ensures usage { (result.code ≡ 1) ↔ ((kernel inputs : List ℕ) → Command (texts words.now) kernel inputs → ⊥) }
-    ensures codes { Contains (0 ∷ 1 ∷ 2 ∷ 3 ∷ 4 ∷ 6 ∷ 11 ∷ 12 ∷ []) result.code }
+    ensures usage { (result.code ≡ 1)
+        ↔ ((kernel inputs : List ℕ) → Command (texts words.now) kernel inputs → ⊥) }
+    ensures codes { Contains statuses result.code }
 
-    ensures done { result.code ≡ 0 → (kernel inputs : List ℕ) → Command (texts words.now) kernel inputs
-        → Written (F.holds files.old kernel) (F.holds files.old inputs) (O.written out.old) (O.written out.new) }
+    ensures done { result.code ≡ 0 → (kernel inputs : List ℕ)
+        → Command (texts words.now) kernel inputs
+        → Written (F.holds files.old kernel) (F.holds files.old inputs)
+        (O.written out.old) (O.written out.new) }
 
-    ensures read { result.code ≡ 2 → Rose (F.faults files.old) (F.faults files.new) }
-    ensures read_steady { result.code ≡ 2 → F.steady files.old → (kernel inputs a b : List ℕ) → Command (texts words.now) kernel inputs
-        → IsHeld (F.holds files.old kernel) a → IsHeld (F.holds files.old inputs) b → ⊥ }
+    ensures counts { Counts result.code (F.faults files.old) (F.faults files.new)
+        (F.longs files.old) (F.longs files.new) }
+    ensures unread { result.code ≡ 1 → files.new ≡ files.old }
 
     ensures write { result.code ≡ 3 → Rose (O.faults out.old) (O.faults out.new) }
-    ensures write_cut { result.code ≡ 3 → (kernel inputs : List ℕ) → Command (texts words.now) kernel inputs
-        → Cut (F.holds files.old kernel) (F.holds files.old inputs) (O.written out.old) (O.written out.new) }
+    ensures write_cut { result.code ≡ 3 → (kernel inputs : List ℕ)
+        → Command (texts words.now) kernel inputs
+        → Cut (F.holds files.old kernel) (F.holds files.old inputs)
+        (O.written out.old) (O.written out.new) }
 
-    ensures kernel { result.code ≡ 4 → (kernel inputs : List ℕ) → Command (texts words.now) kernel inputs
-        → RefusesKernel (F.holds files.old kernel) }
-    ensures inputs { result.code ≡ 6 → (kernel inputs : List ℕ) → Command (texts words.now) kernel inputs
+    ensures kernel { result.code ≡ 4 → (kernel inputs : List ℕ)
+        → Command (texts words.now) kernel inputs → RefusesKernel (F.holds files.old kernel) }
+    ensures inputs { result.code ≡ 6 → (kernel inputs : List ℕ)
+        → Command (texts words.now) kernel inputs
         → RefusesInputs (F.holds files.old kernel) (F.holds files.old inputs) }
-
-    ensures long { result.code ≡ 12 → Rose (F.longs files.old) (F.longs files.new) }
-    ensures long_limit { result.code ≡ 12 → (kernel inputs : List ℕ) → Command (texts words.now) kernel inputs
-        → PassesLimit (F.holds files.old kernel) (F.holds files.old inputs) (F.long files.new) }
-    ensures long_always { F.longs files.old < F.longs files.new → result.code ≡ 12 }
 
     ensures out_same { result.code ≢ 0 → result.code ≢ 3 → O.written out.new ≡ O.written out.old }
 
     ensures err_same { result.code ≡ 0 → E.written err.new ≡ E.written err.old }
-    ensures err_usage { result.code ≡ 1 → IsTold (E.written err.old) (E.written err.new) (E.faults err.old) (E.faults err.new)
-        (codes "elastic: the words are no command" ++ 10 ∷ []) }
-    ensures err_line { result.code ≢ 0 → (kernel inputs : List ℕ) → Command (texts words.now) kernel inputs
-        → TellsLine result.code kernel inputs (E.written err.old) (E.written err.new) (E.faults err.old) (E.faults err.new) }
+    ensures err_usage { result.code ≡ 1 → IsTold (E.written err.old) (E.written err.new)
+        (E.faults err.old) (E.faults err.new) (fault_line fault.Usage) }
+    // The line of every other status names the file that is its cause.
+    ensures err_line { result.code ≢ 0 → (kernel inputs : List ℕ)
+        → Command (texts words.now) kernel inputs
+        → TellsLine result.code (IsGoFault (F.holds files.old) kernel inputs
+        (F.steady files.old) (F.long files.new))
+        (E.written err.old) (E.written err.new) (E.faults err.old) (E.faults err.new) }
 {
     let Some(go) = command(words) else {
         return tell(err, Fault::Usage);

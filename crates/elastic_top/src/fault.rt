@@ -64,7 +64,8 @@ struct Line<'a> {
 }
 
 fn pieces<'a>(front: &'static str, file: &'a str, back: &'static str) -> Line<'a>
-    ensures { result.front.now ++ result.file.now ++ result.back.now ≡ front.now ++ file.now ++ back.now }
+    ensures { result.front.now ++ result.file.now ++ result.back.now
+        ≡ front.now ++ file.now ++ back.now }
 {
     Line { front, file, back }
 }
@@ -72,16 +73,19 @@ fn pieces<'a>(front: &'static str, file: &'a str, back: &'static str) -> Line<'a
 // Writes the fault's line and gives its status. A fault of the sink changes no status.
 pub fn tell<E: Sink>(err: &mut E, fault: Fault<'_>) -> Status
     ensures code { result.code ≡ fault_code fault.entry }
-    ensures told { IsTold (E.written err.old) (E.written err.new) (E.faults err.old) (E.faults err.new) (fault_line fault.entry) }
+    ensures told { IsTold (E.written err.old) (E.written err.new)
+        (E.faults err.old) (E.faults err.new) (fault_line fault.entry) }
 {
     let _ = write_line(err, fault.line());
     Status { code: fault.code() }
 }
 
 fn write_line<E: Sink>(err: &mut E, line: Line<'_>) -> Result<(), WriteFault>
-    ensures ok { OnOk result (E.written err.new ≡ append_known (E.written err.old) (line.entry.front.now ++ line.entry.file.now ++ line.entry.back.now)) }
+    ensures ok { OnOk result (E.written err.new ≡ append_known (E.written err.old)
+        (line.entry.front.now ++ line.entry.file.now ++ line.entry.back.now)) }
     ensures failed { OnErr result (Rose (E.faults err.old) (E.faults err.new)) }
-    ensures cut { OnErr result (IsCut (E.written err.old) (E.written err.new) (line.entry.front.now ++ line.entry.file.now ++ line.entry.back.now)) }
+    ensures cut { OnErr result (IsCut (E.written err.old) (E.written err.new)
+        (line.entry.front.now ++ line.entry.file.now ++ line.entry.back.now)) }
 {
     write_all(err, line.front.as_bytes())?;
     write_all(err, line.file.as_bytes())?;

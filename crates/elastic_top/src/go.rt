@@ -1,21 +1,15 @@
-ghost use Rattle.std.specs.Prelude.{◌≡◌, ◌≢◌, ◌⊎◌, ◌≤◌, ◌<◌, ◌↔◌, ℕ, List, Ok, Err, IfOk, IfErr, OnOk, Contains, ◌∷◌, []};
-ghost use Rattle.std.specs.Io.KnownBytes.{append_known};
-ghost use Rattle.el_io.specs.Outside.{Rose, IsCut, IsHeld, IsWhole, MayPass};
-ghost use Rattle.elastic_top.specs.Answers.{IsAnswer, SpellsNothing, SpellsNoInputs};
-ghost use Rattle.elastic_top.specs.Causes.{code_of, Prints, RefusesKernel, RefusesInputs, PassesLimit, IsLine, IsReadFault, IsTextFault, IsGoFault, Written, Cut, kernel_limit, inputs_limit};
-ghost use Rattle.elastic_top.specs.Faults.{fault_code, fault_line};
+ghost use Rattle.std.specs.Prelude.{◌≡◌, ◌≢◌, ◌↔◌, ℕ, List, IfOk, IfErr};
+ghost use Rattle.el_io.specs.Outside.{Rose, IsWhole};
+ghost use Rattle.elastic_top.specs.straight.Answers.{IsAnswer, SpellsNothing, SpellsNoInputs};
+ghost use Rattle.elastic_top.specs.Causes.{Written, Cut, RefusesKernel, RefusesInputs, Counts, IsOfReading, IsReadFault, IsTextFault, IsGoFault, code_of};
+ghost use Rattle.el_base.specs.Limits.{max_kernel_bytes, max_inputs_bytes};
 
 use crate::fault::Fault;
 use crate::straight::answer::{Refusal, answer};
 use crate::words::Go;
+use el_base::{MAX_INPUTS_BYTES, MAX_KERNEL_BYTES};
 use el_io::{FileFail, Files, Got, Sink, WriteFault, write_all};
 use std::alloc::Global;
-
-/// The greatest kernel file, in bytes.
-pub const KERNEL_LIMIT: u64 = 65_536;
-
-/// The greatest inputs file, in bytes.
-pub const INPUTS_LIMIT: u64 = 33_554_432;
 
 // What the two files hold.
 #[derive(Drop)]
@@ -32,17 +26,13 @@ fn read<'a, F: Files>(
     limit: u64,
 ) -> Result<Vec<u8>, Fault<'a>>
     ensures ok { IfOk result (λ bytes. IsWhole (F.holds files.old name.now) limit bytes.items) }
-    ensures failed { code_of result ≡ 2 → Rose (F.faults files.old) (F.faults files.new) }
-    ensures steady { code_of result ≡ 2 → F.steady files.old → (bytes : List ℕ) → IsHeld (F.holds files.old name.now) bytes → ⊥ }
-    ensures long { code_of result ≡ 12 → Rose (F.longs files.old) (F.longs files.new) }
-    ensures passes { code_of result ≡ 12 → MayPass (F.holds files.old name.now) limit }
-    ensures limit { code_of result ≡ 12 → F.long files.new ≡ limit }
-    ensures longs { code_of result ≢ 12 → F.longs files.new ≡ F.longs files.old }
-    ensures longs_later { F.longs files.old ≤ F.longs files.new }
-    ensures later { F.faults files.old ≤ F.faults files.new }
+    ensures fault { IfErr result (IsReadFault (F.holds files.old name.now) name.now limit
+        (F.steady files.old) (F.long files.new)) }
+    ensures counts { Counts (code_of result) (F.faults files.old) (F.faults files.new)
+        (F.longs files.old) (F.longs files.new) }
+    ensures code { IsOfReading (code_of result) }
     ensures holds { (n : List ℕ) → F.holds files.new n ≡ F.holds files.old n }
-    ensures steady_same { F.steady files.new ↔ F.steady files.old }
-    ensures fault { IfErr result (IsReadFault name.now) }
+    ensures steady { F.steady files.new ↔ F.steady files.old }
 {
     let mut bytes = Vec::new(alloc);
     match files.read(name, limit, &mut bytes) {
@@ -55,19 +45,19 @@ fn read<'a, F: Files>(
 
 // Reads both files, the kernel first.
 fn read_both<'a, F: Files>(alloc: Global, files: &mut F, go: Go<'a>) -> Result<Texts, Fault<'a>>
-    ensures kernel { IfOk result (λ texts. IsWhole (F.holds files.old go.entry.kernel.now) kernel_limit texts.kernel.items) }
-    ensures inputs { IfOk result (λ texts. IsWhole (F.holds files.old go.entry.inputs.now) inputs_limit texts.inputs.items) }
-    ensures failed { code_of result ≡ 2 → Rose (F.faults files.old) (F.faults files.new) }
-    ensures steady { code_of result ≡ 2 → F.steady files.old → (a b : List ℕ) → IsHeld (F.holds files.old go.entry.kernel.now) a
-        → IsHeld (F.holds files.old go.entry.inputs.now) b → ⊥ }
-    ensures long { code_of result ≡ 12 → Rose (F.longs files.old) (F.longs files.new) }
-    ensures limit { code_of result ≡ 12 → PassesLimit (F.holds files.old go.entry.kernel.now) (F.holds files.old go.entry.inputs.now) (F.long files.new) }
-    ensures longs { code_of result ≢ 12 → F.longs files.new ≡ F.longs files.old }
-    ensures fault { IfErr result (λ f. IsReadFault go.entry.kernel.now f ⊎ IsReadFault go.entry.inputs.now f) }
+    ensures kernel { IfOk result (λ texts.
+        IsWhole (F.holds files.old go.entry.kernel.now) max_kernel_bytes texts.kernel.items) }
+    ensures inputs { IfOk result (λ texts.
+        IsWhole (F.holds files.old go.entry.inputs.now) max_inputs_bytes texts.inputs.items) }
+    ensures fault { IfErr result (IsGoFault (F.holds files.old) go.entry.kernel.now
+        go.entry.inputs.now (F.steady files.old) (F.long files.new)) }
+    ensures counts { Counts (code_of result) (F.faults files.old) (F.faults files.new)
+        (F.longs files.old) (F.longs files.new) }
+    ensures code { IsOfReading (code_of result) }
 {
-    match read(alloc, files, go.kernel, KERNEL_LIMIT) {
+    match read(alloc, files, go.kernel, MAX_KERNEL_BYTES) {
         Err(fault) => Err(fault),
-        Ok(kernel) => match read(alloc, files, go.inputs, INPUTS_LIMIT) {
+        Ok(kernel) => match read(alloc, files, go.inputs, MAX_INPUTS_BYTES) {
             Err(fault) => Err(fault),
             Ok(inputs) => Ok(Texts { kernel, inputs }),
         },
@@ -76,9 +66,11 @@ fn read_both<'a, F: Files>(alloc: Global, files: &mut F, go: Go<'a>) -> Result<T
 
 // Makes the text for the bytes of the two files.
 fn text_of<'a>(alloc: Global, go: Go<'a>, texts: &Texts) -> Result<Vec<u8>, Fault<'a>>
-    ensures ok { IfOk result (λ text. IsAnswer texts.now.kernel.items texts.now.inputs.items text.items) }
+    ensures ok { IfOk result (λ text.
+        IsAnswer texts.now.kernel.items texts.now.inputs.items text.items) }
     ensures kernel { code_of result ≡ 4 → SpellsNothing texts.now.kernel.items }
-    ensures inputs { code_of result ≡ 6 → SpellsNoInputs texts.now.kernel.items texts.now.inputs.items }
+    ensures inputs { code_of result ≡ 6
+        → SpellsNoInputs texts.now.kernel.items texts.now.inputs.items }
     ensures fault { IfErr result (IsTextFault go.entry.kernel.now go.entry.inputs.now) }
 {
     match answer(alloc, &texts.kernel, &texts.inputs) {
@@ -96,19 +88,20 @@ pub fn run_go<'a, F: Files, O: Sink>(
     files: &mut F,
     out: &mut O,
 ) -> Result<(), Fault<'a>>
-    ensures done { code_of result ≡ 0 → Written (F.holds files.old go.entry.kernel.now) (F.holds files.old go.entry.inputs.now) (O.written out.old) (O.written out.new) }
-    ensures failed { code_of result ≡ 2 → Rose (F.faults files.old) (F.faults files.new) }
-    ensures steady { code_of result ≡ 2 → F.steady files.old → (a b : List ℕ) → IsHeld (F.holds files.old go.entry.kernel.now) a
-        → IsHeld (F.holds files.old go.entry.inputs.now) b → ⊥ }
+    ensures done { code_of result ≡ 0 → Written (F.holds files.old go.entry.kernel.now)
+        (F.holds files.old go.entry.inputs.now) (O.written out.old) (O.written out.new) }
+    ensures counts { Counts (code_of result) (F.faults files.old) (F.faults files.new)
+        (F.longs files.old) (F.longs files.new) }
     ensures write { code_of result ≡ 3 → Rose (O.faults out.old) (O.faults out.new) }
-    ensures cut { code_of result ≡ 3 → Cut (F.holds files.old go.entry.kernel.now) (F.holds files.old go.entry.inputs.now) (O.written out.old) (O.written out.new) }
+    ensures cut { code_of result ≡ 3 → Cut (F.holds files.old go.entry.kernel.now)
+        (F.holds files.old go.entry.inputs.now) (O.written out.old) (O.written out.new) }
     ensures kernel { code_of result ≡ 4 → RefusesKernel (F.holds files.old go.entry.kernel.now) }
-    ensures inputs { code_of result ≡ 6 → RefusesInputs (F.holds files.old go.entry.kernel.now) (F.holds files.old go.entry.inputs.now) }
-    ensures long { code_of result ≡ 12 → Rose (F.longs files.old) (F.longs files.new) }
-    ensures limit { code_of result ≡ 12 → PassesLimit (F.holds files.old go.entry.kernel.now) (F.holds files.old go.entry.inputs.now) (F.long files.new) }
-    ensures longs { code_of result ≢ 12 → F.longs files.new ≡ F.longs files.old }
-    ensures out_same { code_of result ≢ 0 → code_of result ≢ 3 → O.written out.new ≡ O.written out.old }
-    ensures fault { IfErr result (IsGoFault go.entry.kernel.now go.entry.inputs.now) }
+    ensures inputs { code_of result ≡ 6 → RefusesInputs (F.holds files.old go.entry.kernel.now)
+        (F.holds files.old go.entry.inputs.now) }
+    ensures out_same { code_of result ≢ 0 → code_of result ≢ 3
+        → O.written out.new ≡ O.written out.old }
+    ensures fault { IfErr result (IsGoFault (F.holds files.old) go.entry.kernel.now
+        go.entry.inputs.now (F.steady files.old) (F.long files.new)) }
 {
     match read_both(alloc, files, go) {
         Err(fault) => Err(fault),

@@ -4,18 +4,14 @@
 mod call;
 mod fault;
 mod go;
+mod program;
 mod status;
 mod straight;
 mod words;
 
 pub use call::top;
-pub use fault::{Fault, tell};
+pub use program::run;
 pub use status::Status;
-pub use straight::kernel::{Kernel, Operator, Sum};
-pub use straight::nodes::nodes;
-pub use straight::reader::{one_kernel_per_text, read_kernel};
-pub use straight::refusal::KernelRefusal;
-pub use words::{Go, command};
 
 #[cfg(test)]
 mod tests;

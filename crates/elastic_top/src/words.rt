@@ -11,7 +11,8 @@ pub struct Go<'a> {
 /// Reads the whole list of words as a command; `None` exactly where it is none.
 pub fn command(words: &[String]) -> Option<Go<'_>>
     ensures some { IfSome result (λ go. Command (texts words.now) go.kernel.now go.inputs.now) }
-    ensures none { IsNone result → (kernel inputs : List ℕ) → Command (texts words.now) kernel inputs → ⊥ }
+    ensures none { IsNone result → (kernel inputs : List ℕ)
+        → Command (texts words.now) kernel inputs → ⊥ }
 {
     match words {
         [first, kernel, inputs] if first.as_str() == "go" => Some(Go {

@@ -56,7 +56,7 @@ faulty_breaks net u f k = by (kind_of net u) refl f.fault
         let P : Kind → Type 0 = IsNamed net in
         let l : j < length net.scalars = subst P e (k.named u (Sink 0) f.within) in
         let b = k.one_param j l in omega arith
-    by (Lsq a d ps gs) e (inr (inl s)) = let x = at_two (is_queue a) (tested (is_queue a) (Lsq a d ps gs) e (eq-eqb a a refl)) s in let b = k.one_queue a in omega arith
+    by (Lsq a d ps gs f) e (inr (inl s)) = let x = at_two (is_queue a) (tested (is_queue a) (Lsq a d ps gs f) e (eq-eqb a a refl)) s in let b = k.one_queue a in omega arith
     by (Read a) e (inr (inr s)) =
         let z = k.unread a s in
         let c = count_some (is_read a) net.units (length net.units) u (omega arith) f.within (tested (is_read a) (Read a) e (eq-eqb a a refl)) in
@@ -74,7 +74,7 @@ faulty_breaks net u f k = by (kind_of net u) refl f.fault
     by Entry e (inr (inr s)) = s
     by Exit e (inr (inr s)) = s
     by (Param j) e (inr (inr s)) = s
-    by (Lsq a d ps gs) e (inr (inr s)) = s
+    by (Lsq a d ps gs f) e (inr (inr s)) = s
     by (Const w v) e (inr (inr s)) = s
     by (Op1 o) e (inr (inr s)) = s
     by (Op2 o) e (inr (inr s)) = s

@@ -14,12 +14,14 @@ use Rattle.net_check.specs.Headers.{KeepsC8, IsNamed, is_entry, is_exit, is_para
 use Rattle.net_check.specs.Shapes.{KeepsC7, HasShape}
 use Rattle.net_check.specs.Sizes.{KeepsC3}
 use Rattle.net_check.specs.Cycles.{KeepsC4}
-use Rattle.net_check.specs.Controls.{KeepsC5}
+use Rattle.net_check.specs.Controls.{KeepsC5, ctl_in, ctl_out, passes_control}
 use Rattle.net_check.specs.Ends.{KeepsC6}
-use Rattle.net_check.specs.Steers.{steers, ctl_in, ctl_out, HasMark, Marked}
+use Rattle.net_types.specs.Numbered.{AreNumbered}
+use Rattle.net_check.specs.private.Steers.{HasMark, Marked}
+use Rattle.net_check.specs.private.Bases.{KeepsBase}
+use Rattle.net_check.proofs.BoundLemmas.{all_numbered}
 use Rattle.net_check.specs.Checks.{EndsFit, EndsWithin, EachOnce, HasOne, IsChecked}
 use Rattle.net_check.proofs.WiredLemmas.{from_within, to_within, to_own, from_own, into_each, out_of_each}
-use Rattle.net_check.proofs.SteerLemmas.{marked_so}
 use Rattle.net_check.proofs.TallyLemmas.{one_if, count_more, count_some, whole}
 use Rattle.net_check.proofs.Breaks.{two}
 
@@ -38,7 +40,7 @@ width_passed_in net m n (Mux v c) p w h = h
 width_passed_in net m n (Cmerge c) p w h = h
 width_passed_in net m n (Sink v) p w h = h
 width_passed_in net m n (Read r) p w h = h
-width_passed_in net m n (Lsq r d ps gs) p w h = h
+width_passed_in net m n (Lsq r d ps gs f) p w h = h
 width_passed_in net m n Exit p w h = h
 
 width_passed_out : (net : Net) (m n : Bool) (k : Kind) (p w : ℕ) → HasWidth (outs net m k) p w → HasWidth (outs net n k) p w
@@ -55,7 +57,7 @@ width_passed_out net m n (Mux v c) p w h = h
 width_passed_out net m n (Cmerge c) p w h = h
 width_passed_out net m n (Sink v) p w h = h
 width_passed_out net m n (Read r) p w h = h
-width_passed_out net m n (Lsq r d ps gs) p w h = h
+width_passed_out net m n (Lsq r d ps gs f) p w h = h
 width_passed_out net m n Exit p w h = h
 
 -- a place of some width has that width and a mark, and the other way round
@@ -106,15 +108,15 @@ wired net k = record {
   out_of_each = λ u p w l h. out_of_each net u p w k l h;
 }
 
-ends_fit : (net : Net) → IsWired net → KeepsC2 net → KeepsC5 net → EndsFit net (steers net)
+ends_fit : (net : Net) → IsWired net → KeepsC2 net → KeepsC5 net → EndsFit net (passes_control net)
 ends_fit net a w s = record {
   from = λ c l. (let x : Place = (chan_at net c).from in
-      let u = marked_so net x.unit (s.units x.unit (a.within.from c l)) in
-      let h = width_passed_out net false (steers net x.unit) (kind_of net x.unit) x.place (chan_at net c).width (w.chans c nowhere l).source in
+      let u = s.units x.unit (a.within.from c l) in
+      let h = width_passed_out net false (passes_control net x.unit) (kind_of net x.unit) x.place (chan_at net c).width (w.chans c nowhere l).source in
       spot_marked (ctl_out net x.unit) _ x.place (chan_at net c).width (chan_at net c).ctl u.outs h (ap (λ d. (chan_at net d).ctl) (a.from_own c l)));
   to = λ c l. (let x : Place = (chan_at net c).to in
-      let u = marked_so net x.unit (s.units x.unit (a.within.to c l)) in
-      let h = width_passed_in net false (steers net x.unit) (kind_of net x.unit) x.place (chan_at net c).width (w.chans c nowhere l).target in
+      let u = s.units x.unit (a.within.to c l) in
+      let h = width_passed_in net false (passes_control net x.unit) (kind_of net x.unit) x.place (chan_at net c).width (w.chans c nowhere l).target in
       spot_marked (ctl_in net x.unit) _ x.place (chan_at net c).width (chan_at net c).ctl u.ins h (ap (λ d. (chan_at net d).ctl) (a.to_own c l)));
 }
 
@@ -178,11 +180,11 @@ has_one q net d e =
 -- the arrays of queues
 
 queue_owns : (k : Kind) (a : ℕ) → owns k ≡ Some a → is_queue a k ≡ true
-queue_owns (Lsq b d ps gs) a e = let z : b ≡ a = cc in eq-eqb b a z
+queue_owns (Lsq b d ps gs f) a e = let z : b ≡ a = cc in eq-eqb b a z
 queue_owns _ a e = cc
 
 queue_uses : (k : Kind) (a : ℕ) → uses k ≡ Some a → (is_queue a k ≡ true) ⊎ (is_read a k ≡ true)
-queue_uses (Lsq b d ps gs) a e = let z : b ≡ a = cc in inl (eq-eqb b a z)
+queue_uses (Lsq b d ps gs f) a e = let z : b ≡ a = cc in inl (eq-eqb b a z)
 queue_uses (Read b) a e = let z : b ≡ a = cc in inr (eq-eqb b a z)
 queue_uses _ a e = cc
 
@@ -200,8 +202,8 @@ alone net k u v a e f =
       | inr t ↦ (let z = k.unread a (passing (is_queue a) net refl u o) in let y = passing (is_read a) net refl v t in absurd (omega arith))
     ]
 
-pub checked_of : (net : Net) → KeepsC1 net → KeepsC2 net → KeepsC3 net → KeepsC4 net → KeepsC5 net → KeepsC6 net → KeepsC7 net → KeepsC8 net → IsChecked net
-checked_of net c1 c2 c3 c4 c5 c6 c7 c8 = record {
+pub checked_of : (net : Net) → AreNumbered net → KeepsC1 net → KeepsC2 net → KeepsC3 net → KeepsC4 net → KeepsC5 net → KeepsC6 net → KeepsC7 net → KeepsC8 net → IsChecked net
+checked_of net n c1 c2 c3 c4 c5 c6 c7 c8 = record {
   c1 = c1;
   c2 = c2;
   c3 = c3;
@@ -210,12 +212,14 @@ checked_of net c1 c2 c3 c4 c5 c6 c7 c8 = record {
   c6 = c6;
   c7 = c7;
   c8 = c8;
+  numbered = all_numbered net c1 n;
   fit = ends_fit net (wired net c1) c2 c5;
   within = (wired net c1).within;
-  once = each_once net (steers net) (wired net c1);
+  once = each_once net (passes_control net) (wired net c1);
+  to_own = (wired net c1).to_own;
+  from_own = (wired net c1).from_own;
   sized = λ c l. c3.chans c nowhere l;
   delayed = λ c l. c4.queues c nowhere l;
-  marked = λ u l. marked_so net u (c5.units u l);
   shapes = every_unit net HasShape c7.units tt;
   named = every_unit net (IsNamed net) c8.named tt;
   widths = λ u l. c2.units u (Sink 0) l;
@@ -224,3 +228,6 @@ checked_of net c1 c2 c3 c4 c5 c6 c7 c8 = record {
   one_param = λ j l. has_one (is_param j) net refl (c8.one_param j l);
   alone = alone net c8;
 }
+
+pub checked_base : (net : Net) → KeepsBase net → KeepsC4 net → KeepsC5 net → KeepsC6 net → IsChecked net
+checked_base net b c4 c5 c6 = checked_of net b.numbered b.c1 b.c2 b.c3 c4 c5 c6 b.c7 b.c8

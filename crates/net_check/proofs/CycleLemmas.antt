@@ -1,5 +1,5 @@
 -- Rule C4: what follows from rule C1, and from a culprit.
-use Rattle.std.proofs.Common.{◌≡◌, ℕ, ◌+◌, ◌<◌, true, List, [], ◌∷◌, length, map, refl, sym, ap, ◌∙◌, arith}
+use Rattle.std.proofs.Common.{◌≡◌, ℕ, ◌+◌, ◌<◌, true, Option, None, List, [], ◌∷◌, length, map, refl, sym, ap, subst, ◌∙◌, arith}
 use Rattle.std.specs.List.{count_by}
 use Rattle.std.proofs.lemmas.Bool.{eq-eqb, and_from}
 use Rattle.std.proofs.lemmas.List.Sums.{sum_by-cons, get_or-le-sum_by}
@@ -11,9 +11,13 @@ use Rattle.net_types.specs.Rules.{KeepsC1, times_in}
 use Rattle.net_check.specs.declared.refusal.At.{At}
 use Rattle.net_check.specs.declared.refusal.At.TheVariants as «at»
 use Rattle.net_check.specs.declared.wires.Side.TheVariants.{In, Out}
-use Rattle.net_check.specs.Cycles.{KeepsC4, CulpritC4}
-use Rattle.net_check.specs.Joins.{placed}
-use Rattle.net_check.specs.Peels.{HasUnits, IsLinked}
+use Rattle.std.specs.Prelude.{MatchOption}
+use Rattle.net_check.specs.Cycles.{IsEndless, KeepsC4, CulpritC4}
+use Rattle.net_check.specs.Lowest.{IsLowest}
+use Rattle.net_check.specs.private.Joins.{placed}
+use Rattle.net_check.specs.private.Peels.{HasUnits, IsLinked}
+use Rattle.net_check.specs.private.Peels.{AreDelayed, NoneEndless}
+use Rattle.net_check.proofs.ClosedWalks.{none_endless, no_cycle}
 use Rattle.net_check.proofs.FirstLemmas.{all_chans}
 use Rattle.net_check.proofs.PeelLemmas.{bit}
 use Rattle.net_check.proofs.PlaceCounts.{placed_within}
@@ -54,6 +58,13 @@ linked net k = record { chans = all_chans net (HasUnits net) at_chan }
 
 -- a net with a culprit breaks the rule
 pub breaks_cycles : (net : Net) (x : At) → CulpritC4 net x → KeepsC4 net → ⊥
-breaks_cycles net (at.Unit u) c k = k.ends u c.1.here
+breaks_cycles net (at.Unit u) c k = none_endless net k.cycles u c.1.here
 breaks_cycles net (at.Chan d) c k = c.here.lacks (k.queues d nowhere c.here.within)
 breaks_cycles net at.Net c k = c
+
+-- the rule from its two halves
+keeps_of : (net : Net) → AreDelayed net → NoneEndless net → KeepsC4 net
+keeps_of net d n = record { queues = d; cycles = no_cycle net n }
+
+pub keeps_by : (net : Net) (o : Option ℕ) → AreDelayed net → MatchOption o (NoneEndless net) (IsLowest (IsEndless net)) → o ≡ None → KeepsC4 net
+keeps_by net o d m e = let P : Option ℕ → Type 0 = λ x. MatchOption x (NoneEndless net) (IsLowest (IsEndless net)) in keeps_of net d (subst P e m)

@@ -17,12 +17,12 @@ use Rattle.net_check.specs.declared.refusal.At.{At}
 use Rattle.net_check.specs.declared.refusal.At.TheVariants as «at»
 use Rattle.net_check.specs.declared.wires.Side.TheVariants.{Out}
 use Rattle.net_check.specs.Ends.{is_lsq, end_place, IsEnd, IsQueue, end_target, EndsWell, source_of, WalksBack, stops, meets, IsChain, times_met, KeepsC6, IsAstray, IsUnmet, CulpritC6}
-use Rattle.net_check.specs.Firsts.{IsFirst}
+use Rattle.net_check.specs.private.Firsts.{IsFirst}
 use Rattle.net_check.specs.Headers.{is_exit}
 use Rattle.net_check.specs.Lowest.{IsLowest}
-use Rattle.net_check.specs.Marks.{times}
+use Rattle.net_check.specs.private.Marks.{times}
 use Rattle.net_check.specs.Shapes.{HasShape, KeepsC7}
-use Rattle.net_check.specs.Walks.{IsMet, AreMet, IsFirstUnmet, AreAllMet}
+use Rattle.net_check.specs.private.Walks.{IsMet, AreMet, IsFirstUnmet, AreAllMet}
 use Rattle.net_check.proofs.PeelLemmas.{bit, counted, uncounted, times_push, fewer}
 use Rattle.net_check.proofs.PlaceCounts.{placed_most}
 
@@ -70,11 +70,11 @@ one_out net u p k =
 
 -- a queue has groups, so that the number of its End's places is not 0
 end_some : (k : Kind) → HasShape k → is_lsq k ≡ true → 0 < end_place k
-end_some (Lsq a d ps gs) h t = h.some_group
+end_some (Lsq a d ps gs f) h t = h.some_group
 end_some _ h t = absurd (false≢true t)
 
 not_both : (k : Kind) → is_lsq k ≡ true → is_exit k ≡ true → ⊥
-not_both (Lsq a d ps gs) t x = false≢true x
+not_both (Lsq a d ps gs f) t x = false≢true x
 not_both _ t x = false≢true t
 
 -- the channel out of an End goes to the place from which the walk back came to it

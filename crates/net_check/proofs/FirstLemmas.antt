@@ -10,8 +10,8 @@ use Rattle.net_types.specs.declared.net.Unit.{Unit as Kind}
 use Rattle.net_types.specs.declared.net.Unit.TheVariants.{Sink, Param as KindParam, Lsq}
 use Rattle.net_types.specs.declared.net.Chan.{Chan}
 use Rattle.net_types.specs.Nets.{kind_of, chan_at, nowhere}
-use Rattle.net_check.specs.Firsts.{IsFirst}
-use Rattle.net_check.specs.Roles.{is_of, number_of, noted, noted_if}
+use Rattle.net_check.specs.private.Firsts.{IsFirst}
+use Rattle.net_check.specs.private.Roles.{is_of, number_of, noted, noted_if}
 use Rattle.net_check.specs.declared.firsts.Role.{Role}
 use Rattle.net_check.specs.declared.firsts.Role.TheVariants.{Param, Queue}
 use Rattle.net_check.specs.Lowest.{IsLowest, UnitLacks, ChanLacks}
@@ -77,13 +77,13 @@ some_same a b e = cc
 is_of_number : (role : Role) (k : Kind) (p number : ℕ) → number_of role k ≡ Some number → is_of role p k ≡ (number == p)
 is_of_number Param (KindParam j) p number e = ap (λ x. x == p) (some_same j number e)
 is_of_number Param _ p number e = cc
-is_of_number Queue (Lsq a d ps gs) p number e = ap (λ x. x == p) (some_same a number e)
+is_of_number Queue (Lsq a d ps gs f) p number e = ap (λ x. x == p) (some_same a number e)
 is_of_number Queue _ p number e = cc
 
 is_of_none : (role : Role) (k : Kind) (p : ℕ) → number_of role k ≡ None → is_of role p k ≡ false
 is_of_none Param (KindParam j) p e = cc
 is_of_none Param _ p e = refl
-is_of_none Queue (Lsq a d ps gs) p e = cc
+is_of_none Queue (Lsq a d ps gs f) p e = cc
 is_of_none Queue _ p e = refl
 
 pub noted_other : (role : Role) (units : List Kind) (n count : ℕ) (table : List (Option ℕ)) → number_of role (get_or units n (Sink 0)) ≡ None → Noted role units n count table → Noted role units (n + 1) count table

@@ -7,8 +7,8 @@ use Rattle.net_types.specs.declared.net.Unit.{Unit as Kind}
 use Rattle.net_types.specs.Nets.{kind_of}
 use Rattle.net_check.specs.Lowest.{IsLowest}
 use Rattle.net_check.specs.Headers.{is_entry, is_exit, is_param, is_queue, is_read, IsNamed, IsFaultyC8, IsHeader, KeepsC8}
-use Rattle.net_check.specs.Firsts.{IsFirst}
-use Rattle.net_check.specs.Tallies.{IsTallied, IsComplete, is_faulty}
+use Rattle.net_check.specs.private.Firsts.{IsFirst}
+use Rattle.net_check.specs.private.Tallies.{IsTallied, IsComplete, is_faulty}
 use Rattle.net_check.proofs.MarkLemmas.{default}
 use Rattle.net_check.proofs.FirstLemmas.{kind_read, all_units}
 use Rattle.net_check.proofs.TallyLemmas.{Fault, faulty, not_faulty, named_of, count_none, whole, none_passes, one_at_most, exactly_one, entry_told, exit_told, param_told, queue_told, read_told}

@@ -1,5 +1,5 @@
 -- Rule C1 from the ends of channels.
-use Rattle.std.proofs.Common.{◌≡◌, ◌⊎◌, inl, inr, ℕ, suc, ◌+◌, ◌<◌, ◌≤◌, ◌==◌, ◌&&◌, not, nat_lt, Bool, true, false, cond, Option, Some, None, is_some, MatchOption, IsTrue, ◌↔◌, List, [], ◌∷◌, length, get_or, take, subst, refl, sym, ap, ◌∙◌, arith, below_more, eqb-true, rules}
+use Rattle.std.proofs.Common.{◌≡◌, ◌⊎◌, inl, inr, ℕ, suc, ◌+◌, ◌<◌, ◌≤◌, ◌==◌, ◌&&◌, not, nat_lt, Bool, true, false, cond, Option, Some, None, is_some, MatchOption, IsTrue, ◌↔◌, List, [], ◌∷◌, length, get_or, map, take, subst, refl, sym, ap, ◌∙◌, arith, below_more, eqb-true, rules}
 use Rattle.std.specs.List.{All}
 use Rattle.std.specs.declared.cmp.Ordering.{Ordering}
 use Rattle.std.specs.Ordering.{nat_cmp, ordering_then, is_eq}
@@ -13,18 +13,18 @@ use Rattle.net_types.specs.declared.net.Chan.{Chan}
 use Rattle.net_types.specs.declared.net.Net.{Net}
 use Rattle.net_types.specs.declared.net.Unit.{Unit as Kind}
 use Rattle.net_types.specs.Nets.{is_at, nowhere, chan_at, kind_of}
-use Rattle.net_types.specs.Rules.{KeepsC1}
+use Rattle.net_types.specs.Rules.{KeepsC1, times_in}
 use Rattle.net_check.specs.declared.refusal.At.{At}
 use Rattle.net_check.specs.declared.refusal.At.TheVariants as «at»
 use Rattle.net_check.specs.declared.wires.Side.{Side}
 use Rattle.net_check.specs.declared.wires.Side.TheVariants.{In, Out}
 use Rattle.net_check.specs.Lowest.{IsLowest, ChanLacks}
 use Rattle.net_check.specs.Places.{HasEnds, IsJoined, IsUnjoined, CulpritC1}
-use Rattle.net_check.specs.Widths.{width_in}
-use Rattle.net_check.specs.Wires.{end_of, bound}
-use Rattle.net_check.specs.Joins.{ended, placed, row, AreEnds, AreJoined, IsJoinedOn, IsUnjoinedOn, pair_cmp, knows, IsTwice, IsGathered, AreKnown, IsKnown, IsMissing, lowest}
+use Rattle.net_check.specs.private.Widths.{width_in}
+use Rattle.net_check.specs.private.Wires.{end_of, bound}
+use Rattle.net_check.specs.private.Joins.{ended, placed, row, AreJoined, pair_cmp, knows, IsTwice, IsGathered, AreKnown, IsKnown, IsKnownUnit, IsMissing, lowest}
 use Rattle.net_check.proofs.MarkLemmas.{default, no-true, true_iff, false_iff}
-use Rattle.net_check.proofs.FirstLemmas.{all_chans, kind_read, within_same, past_same, read_same}
+use Rattle.net_check.proofs.FirstLemmas.{all_chans, within_same, past_same}
 use Rattle.net_check.proofs.PlaceCounts.{count_map, one_some, placed_at, placed_past, placed_most, placed_within, placed_below}
 
 pub at_same : (x : Place) (u p : ℕ) → is_at x u p ≡ true → (x.unit ≡ u) × (x.place ≡ p)
@@ -187,19 +187,6 @@ known_no side net known u n p b d l e t f g a = both_ways _ (sym e2) (a.each p l
     e2 : false ≡ knows known u p
     e2 = sym g ∙ f
 
-unit_at : (net : Net) (us : List Kind) (u : ℕ) (k : Kind) → us ≡ net.units → u < length us → k ≡ get_or us u k → k ≡ kind_of net u
-unit_at net us u k e l r = kind_read net u k (within_same us net.units u e l) (read_same us net.units u k e r)
-
-pub unit_known : (side : Side) (net : Net) (known : BTreeSet (ℕ × ℕ)) (us : List Kind) (u number places : ℕ) (k : Kind) (b : Bool) → us ≡ net.units → u < length us → k ≡ get_or us u k → number ≡ u → places ≡ bound side k
-    → (IsTrue b ↔ AreKnown side net known number places) → b ≡ true → IsKnown side net known u
-unit_known side net known us u number places k b e l r n q d t =
-    let P : ℕ → Type 0 = λ x. AreKnown side net known x places in
-    known_unit side net known u places (q ∙ ap (bound side) (unit_at net us u k e l r)) (subst P n (true_iff b (AreKnown side net known number places) d t))
-
-pub unit_unknown : (side : Side) (net : Net) (known : BTreeSet (ℕ × ℕ)) (u number places : ℕ) (b : Bool) → number ≡ u
-    → (IsTrue b ↔ AreKnown side net known number places) → b ≡ false → IsKnown side net known number → ⊥
-unit_unknown side net known u number places b n d f k = false_iff b (AreKnown side net known number places) d f (known_below side net known number places k)
-
 -- whether a place exists
 pub place_absent : (side : Side) (net : Net) (us : List Kind) (u p : ℕ) → us ≡ net.units → length us ≤ u → false ≡ nat_lt 0 (placed side net u p)
 place_absent side net us u p e l = sym (ap (nat_lt 0) (placed_past side net u p (past_same us net.units u e l)))
@@ -216,68 +203,6 @@ no_from net c b e f = no-true _ (λ h. (let z : placed Out net c.from.unit c.fro
 pub to_decides : (net : Net) (c : Chan) (b d : Bool) → b ≡ nat_lt 0 (placed Out net c.from.unit c.from.place) → b ≡ true → d ≡ nat_lt 0 (placed In net c.to.unit c.to.place) → IsTrue d ↔ HasEnds net c
 to_decides net c b true e t f = (λ x. record { from = ltb-true _ _ (sym e ∙ t); to = ltb-true _ _ (sym f) }, λ h. search rules)
 to_decides net c b false e t f = no-true _ (λ h. (let z : placed In net c.to.unit c.to.place ≤ 0 = ltb-false _ _ (sym f) in let y : 0 < placed In net c.to.unit c.to.place = h.to in omega arith))
-
--- the lowest unit that is not joined on a side
-module _ (side : Side) (net : Net) (known : BTreeSet (ℕ × ℕ)) (t : Option ℕ) (g : IsGathered side net.chans known t) (ends : AreEnds side net) where
-  one_each : (v p : ℕ) → IsKnown side net known v → ended side net.chans v p ≤ 1 → 0 < placed side net v p → ended side net.chans v p ≡ 1
-  one_each v p k m h = let z : 0 < ended side net.chans v p = ltb-true _ _ (sym (g.has v p) ∙ k.each p h) in omega arith
-
-  joined_on : (v : ℕ) → IsKnown side net known v → ((p : ℕ) → ended side net.chans v p ≤ 1) → IsJoinedOn side net v
-  joined_on v k m = record { each = λ p h. one_each v p k (m p) h }
-
-  known_of : (v : ℕ) → IsJoinedOn side net v → IsKnown side net known v
-  known_of v j = record { each = λ p h. (let z = j.each p h in g.has v p ∙ lt-ltb 0 _ (omega arith)) }
-
-  twice_within : (v p : ℕ) → 2 ≤ ended side net.chans v p → v < length net.units
-  twice_within v p h = placed_within side net v p (ends.each v p (omega arith))
-
-  unjoined_twice : (v p : ℕ) → 2 ≤ ended side net.chans v p → IsUnjoinedOn side net v
-  unjoined_twice v p h = record {
-    within = twice_within v p h;
-    lacks = λ j. (let a = j.each p (ends.each v p (omega arith)) in omega arith);
-  }
-
-  joined_all : ((u p : ℕ) → ended side net.chans u p ≤ 1) → ((v : ℕ) → v < length net.units → IsKnown side net known v) → AreJoined side net
-  joined_all m k = record { each = λ u p. by u p (cases_lt 0 (placed side net u p)) }
-    where
-      by : (u p : ℕ) → (0 < placed side net u p) ⊎ (placed side net u p ≤ 0) → ended side net.chans u p ≡ placed side net u p
-      by u p (inl h) =
-          let a = one_each u p (k u (placed_within side net u p h)) (m u p) h in
-          let b = placed_most side net u p in omega arith
-      by u p (inr h) = elim (cases_lt 0 (ended side net.chans u p)) [
-        | inl x ↦ (let y = ends.each u p x in absurd (omega arith))
-        | inr x ↦ (omega arith)
-      ]
-
-  decides : (o m : Option ℕ) → IsTwice side net.chans o → IsMissing side net known m → MatchOption (lowest o m) (AreJoined side net) (IsLowest (IsUnjoinedOn side net))
-  decides None None a b = joined_all a b
-  decides None (Some u) a (w, lacks, below) = record {
-    here = record { within = w; lacks = λ j. lacks (known_of u j) };
-    below = λ v l x. x.lacks (joined_on v (below v l) (λ p. a v p));
-  }
-  decides (Some o) None ((p, two), under) b = record {
-    here = unjoined_twice o p two;
-    below = λ v l x. x.lacks (joined_on v (b v (let z = twice_within o p two in omega arith)) (λ q. under v q l));
-  }
-  decides (Some o) (Some u) ((p, two), under) (w, lacks, below) = pick (nat_lt u o) refl
-    where
-      pick : (x : Bool) → nat_lt u o ≡ x → MatchOption (cond x (Some u) (Some o)) (AreJoined side net) (IsLowest (IsUnjoinedOn side net))
-      pick true x = let z : u < o = ltb-true _ _ x in record {
-        here = record { within = w; lacks = λ j. lacks (known_of u j) };
-        below = λ v l y. y.lacks (joined_on v (below v l) (λ q. under v q (omega arith)));
-      }
-      pick false x = let z : o ≤ u = ltb-false _ _ x in record {
-        here = unjoined_twice o p two;
-        below = λ v l y. y.lacks (joined_on v (below v (omega arith)) (λ q. under v q l));
-      }
-
-pub unjoined : (side : Side) (net : Net) (cs : List Chan) (known : BTreeSet (ℕ × ℕ)) (t m s : Option ℕ) → cs ≡ net.chans → AreEnds side net → IsGathered side cs known t → IsMissing side net known m → s ≡ lowest t m
-    → MatchOption s (AreJoined side net) (IsLowest (IsUnjoinedOn side net))
-unjoined side net cs known t m s same ends h k e =
-    let Q : List Chan → Type 0 = λ xs. IsGathered side xs known t in
-    let g : IsGathered side net.chans known t = subst Q same h in
-    let P : Option ℕ → Type 0 = λ o. MatchOption o (AreJoined side net) (IsLowest (IsUnjoinedOn side net)) in
-    subst P (sym e) (decides side net known t g ends t m g.two k)
 
 -- the lowest channel with an end that is no place
 chan_read_at : (net : Net) (cs : List Chan) (i : ℕ) (d : Chan) → cs ≡ net.chans → i < length cs → get_or cs i d ≡ chan_at net i
@@ -322,12 +247,6 @@ ends_of side net u p (c ∷ cs) a h = by (is_at (end_of side c) u p) refl (ends_
         let k : ended side (c ∷ cs) u p ≡ 0 + ended side cs u p = s ∙ ap (λ x. cond x 1 0 + ended side cs u p) b in
         rest (omega arith)
 
-pub ends_in : (net : Net) → All (HasEnds net) net.chans → AreEnds In net
-ends_in net a = record { each = λ u p. ends_of In net u p net.chans (λ i l. (a i nowhere l).to) }
-
-pub ends_out : (net : Net) → All (HasEnds net) net.chans → AreEnds Out net
-ends_out net a = record { each = λ u p. ends_of Out net u p net.chans (λ i l. (a i nowhere l).from) }
-
 -- the rule from both sides
 pub joined_both : (net : Net) → AreJoined In net → AreJoined Out net → KeepsC1 net
 joined_both net i o = record {
@@ -335,67 +254,112 @@ joined_both net i o = record {
   out_of_each = λ u p. count_map (λ (c : Chan). c.from) (λ q. is_at q u p) net.chans ∙ o.each u p;
 }
 
-joined_at : (side : Side) (net : Net) (u : ℕ) → AreJoined side net → IsJoinedOn side net u
-joined_at side net u j = record { each = λ p h. (let a = j.each u p in let b = placed_most side net u p in omega arith) }
+in_count : (net : Net) (u p : ℕ) → times_in (map (λ (c : Chan). c.to) net.chans) u p ≡ ended In net.chans u p
+in_count net u p = count_map (λ (c : Chan). c.to) (λ q. is_at q u p) net.chans
 
-unit_joined : (net : Net) (u : ℕ) → IsJoinedOn In net u → IsJoinedOn Out net u → IsJoined net u
-unit_joined net u i o = record {
-  ins = λ p h. count_map (λ (c : Chan). c.to) (λ q. is_at q u p) net.chans ∙ i.each p h;
-  outs = λ p h. count_map (λ (c : Chan). c.from) (λ q. is_at q u p) net.chans ∙ o.each p h;
-}
+out_count : (net : Net) (u p : ℕ) → times_in (map (λ (c : Chan). c.from) net.chans) u p ≡ ended Out net.chans u p
+out_count net u p = count_map (λ (c : Chan). c.from) (λ q. is_at q u p) net.chans
 
-unjoined_in : (net : Net) (u : ℕ) → IsUnjoinedOn In net u → IsUnjoined net u
-unjoined_in net u x = record {
-  within = x.within;
-  lacks = λ j. x.lacks (record { each = λ p h. sym (count_map (λ (c : Chan). c.to) (λ q. is_at q u p) net.chans) ∙ j.ins p h });
-}
+-- the lowest unit at whose places two channels end, on either side
+abbrev IsTwiceOn : Net → Option ℕ → Type 0
+IsTwiceOn net None = (u p : ℕ) → (ended In net.chans u p ≤ 1) × (ended Out net.chans u p ≤ 1)
+IsTwiceOn net (Some t) = ((p : ℕ) × ((2 ≤ ended In net.chans t p) ⊎ (2 ≤ ended Out net.chans t p))) × ((u p : ℕ) → u < t → (ended In net.chans u p ≤ 1) × (ended Out net.chans u p ≤ 1))
 
-unjoined_out : (net : Net) (u : ℕ) → IsUnjoinedOn Out net u → IsUnjoined net u
-unjoined_out net u x = record {
-  within = x.within;
-  lacks = λ j. x.lacks (record { each = λ p h. sym (count_map (λ (c : Chan). c.from) (λ q. is_at q u p) net.chans) ∙ j.outs p h });
-}
-
-none_below : (net : Net) (u : ℕ) → (IsUnjoinedOn In net u → ⊥) → (IsUnjoinedOn Out net u → ⊥) → IsUnjoined net u → ⊥
-none_below net u i o x = i (record { within = x.within; lacks = λ a. o (record { within = x.within; lacks = λ b. x.lacks (unit_joined net u a b) }) })
-
-all_joined_no : (side : Side) (net : Net) (u : ℕ) → AreJoined side net → IsUnjoinedOn side net u → ⊥
-all_joined_no side net u j x = x.lacks (joined_at side net u j)
-
-both_sides : (net : Net) (a b : Option ℕ) → MatchOption a (AreJoined In net) (IsLowest (IsUnjoinedOn In net)) → MatchOption b (AreJoined Out net) (IsLowest (IsUnjoinedOn Out net))
-    → MatchOption (lowest a b) (KeepsC1 net) (IsLowest (IsUnjoined net))
-both_sides net None None i o = joined_both net i o
-both_sides net None (Some b) i o = record {
-  here = unjoined_out net b o.here;
-  below = λ v l. none_below net v (all_joined_no In net v i) (o.below v l);
-}
-both_sides net (Some a) None i o = record {
-  here = unjoined_in net a i.here;
-  below = λ v l. none_below net v (i.below v l) (all_joined_no Out net v o);
-}
-both_sides net (Some a) (Some b) i o = pick (nat_lt b a) refl
+twice_on : (net : Net) (a b : Option ℕ) → IsTwice In net.chans a → IsTwice Out net.chans b → IsTwiceOn net (lowest a b)
+twice_on net None None x y = λ u p. (x u p, y u p)
+twice_on net None (Some b) x ((p, two), under) = ((p, inr two), λ u q l. (x u q, under u q l))
+twice_on net (Some a) None ((p, two), under) y = ((p, inl two), λ u q l. (under u q l, y u q))
+twice_on net (Some a) (Some b) ((p, two), under) ((q, duo), below) = by (nat_lt b a) refl
   where
-    pick : (x : Bool) → nat_lt b a ≡ x → MatchOption (cond x (Some b) (Some a)) (KeepsC1 net) (IsLowest (IsUnjoined net))
-    pick true x = let z : b < a = ltb-true _ _ x in record {
-      here = unjoined_out net b o.here;
-      below = λ v l. none_below net v (i.below v (omega arith)) (o.below v l);
-    }
-    pick false x = let z : a ≤ b = ltb-false _ _ x in record {
-      here = unjoined_in net a i.here;
-      below = λ v l. none_below net v (i.below v l) (o.below v (omega arith));
-    }
+    by : (x : Bool) → nat_lt b a ≡ x → IsTwiceOn net (cond x (Some b) (Some a))
+    by true x = let z : b < a = ltb-true _ _ x in ((q, inr duo), λ u r l. (under u r (omega arith), below u r l))
+    by false x = let z : a ≤ b = ltb-false _ _ x in ((p, inl two), λ u r l. (under u r l, below u r (omega arith)))
 
-pub kept_joined : (net : Net) (a b s : Option ℕ) → MatchOption a (AreJoined In net) (IsLowest (IsUnjoinedOn In net)) → MatchOption b (AreJoined Out net) (IsLowest (IsUnjoinedOn Out net))
-    → s ≡ lowest a b → s ≡ None → KeepsC1 net
-kept_joined net a b s i o e n =
-    let P : Option ℕ → Type 0 = λ x. MatchOption x (KeepsC1 net) (IsLowest (IsUnjoined net)) in
-    subst P (sym e ∙ n) (both_sides net a b i o)
+module _ (net : Net) (ins outs : BTreeSet (ℕ × ℕ)) (s t : Option ℕ) (gi : IsGathered In net.chans ins s) (go : IsGathered Out net.chans outs t) (ends : All (HasEnds net) net.chans) where
+  in_place : (u p : ℕ) → 0 < ended In net.chans u p → 0 < placed In net u p
+  in_place u p = ends_of In net u p net.chans (λ i l. (ends i nowhere l).to)
 
-pub culprit_joined : (net : Net) (a b s : Option ℕ) (u : ℕ) → All (HasEnds net) net.chans → MatchOption a (AreJoined In net) (IsLowest (IsUnjoinedOn In net)) → MatchOption b (AreJoined Out net) (IsLowest (IsUnjoinedOn Out net))
-    → s ≡ lowest a b → s ≡ Some u → CulpritC1 net (at.Unit u)
-culprit_joined net a b s u h i o e n =
+  out_place : (u p : ℕ) → 0 < ended Out net.chans u p → 0 < placed Out net u p
+  out_place u p = ends_of Out net u p net.chans (λ i l. (ends i nowhere l).from)
+
+  -- a unit whose places are known, no two channels at one, has one channel at each
+  joined_unit : (v : ℕ) → IsKnownUnit net ins outs v → ((p : ℕ) → (ended In net.chans v p ≤ 1) × (ended Out net.chans v p ≤ 1)) → IsJoined net v
+  joined_unit v k m = record {
+    ins = λ p h. (let z : 0 < ended In net.chans v p = ltb-true _ _ (sym (gi.has v p) ∙ k.into.each p h) in let y = (m p).0 in let c = in_count net v p in omega arith);
+    outs = λ p h. (let z : 0 < ended Out net.chans v p = ltb-true _ _ (sym (go.has v p) ∙ k.out_of.each p h) in let y = (m p).1 in let c = out_count net v p in omega arith);
+  }
+
+  known_joined : (v : ℕ) → IsJoined net v → IsKnownUnit net ins outs v
+  known_joined v j = record {
+    into = record { each = λ p h. (let z = j.ins p h in let c = in_count net v p in gi.has v p ∙ lt-ltb 0 _ (omega arith)) };
+    out_of = record { each = λ p h. (let z = j.outs p h in let c = out_count net v p in go.has v p ∙ lt-ltb 0 _ (omega arith)) };
+  }
+
+  unjoined_two : (v p : ℕ) → (2 ≤ ended In net.chans v p) ⊎ (2 ≤ ended Out net.chans v p) → IsUnjoined net v
+  unjoined_two v p (inl h) =
+      let q = in_place v p (omega arith) in
+      record { within = placed_within In net v p q; lacks = λ j. (let a = j.ins p q in let c = in_count net v p in omega arith) }
+  unjoined_two v p (inr h) =
+      let q = out_place v p (omega arith) in
+      record { within = placed_within Out net v p q; lacks = λ j. (let a = j.outs p q in let c = out_count net v p in omega arith) }
+
+  side_joined : (side : Side) (known : BTreeSet (ℕ × ℕ)) → ((u p : ℕ) → 0 < ended side net.chans u p → 0 < placed side net u p) → ((u p : ℕ) → knows known u p ≡ nat_lt 0 (ended side net.chans u p))
+      → ((u p : ℕ) → ended side net.chans u p ≤ 1) → ((v : ℕ) → v < length net.units → IsKnown side net known v) → AreJoined side net
+  side_joined side known place has m k = record { each = λ u p. by u p (cases_lt 0 (placed side net u p)) }
+    where
+      by : (u p : ℕ) → (0 < placed side net u p) ⊎ (placed side net u p ≤ 0) → ended side net.chans u p ≡ placed side net u p
+      by u p (inl h) =
+          let a : 0 < ended side net.chans u p = ltb-true _ _ (sym (has u p) ∙ (k u (placed_within side net u p h)).each p h) in
+          let b = placed_most side net u p in
+          let c = m u p in omega arith
+      by u p (inr h) = elim (cases_lt 0 (ended side net.chans u p)) [
+        | inl x ↦ (let y = place u p x in absurd (omega arith))
+        | inr x ↦ (omega arith)
+      ]
+
+  all_joined : ((u p : ℕ) → (ended In net.chans u p ≤ 1) × (ended Out net.chans u p ≤ 1)) → ((v : ℕ) → v < length net.units → IsKnownUnit net ins outs v) → KeepsC1 net
+  all_joined m k = joined_both net
+      (side_joined In ins in_place gi.has (λ u p. (m u p).0) (λ v l. (k v l).into))
+      (side_joined Out outs out_place go.has (λ u p. (m u p).1) (λ v l. (k v l).out_of))
+
+  decides : (o m : Option ℕ) → IsTwiceOn net o → IsMissing net ins outs m → MatchOption (lowest o m) (KeepsC1 net) (IsLowest (IsUnjoined net))
+  decides None None a b = all_joined a b
+  decides None (Some u) a (w, lacks, below) = record {
+    here = record { within = w; lacks = λ j. lacks (known_joined u j) };
+    below = λ v l x. x.lacks (joined_unit v (below v l) (λ p. a v p));
+  }
+  decides (Some o) None ((p, two), under) b =
+      let h = unjoined_two o p two in
+      record { here = h; below = λ v l x. x.lacks (joined_unit v (b v (let z = h.within in omega arith)) (λ q. under v q l)) }
+  decides (Some o) (Some u) ((p, two), under) (w, lacks, below) = pick (nat_lt u o) refl
+    where
+      pick : (x : Bool) → nat_lt u o ≡ x → MatchOption (cond x (Some u) (Some o)) (KeepsC1 net) (IsLowest (IsUnjoined net))
+      pick true x = let z : u < o = ltb-true _ _ x in record {
+        here = record { within = w; lacks = λ j. lacks (known_joined u j) };
+        below = λ v l y. y.lacks (joined_unit v (below v l) (λ q. under v q (omega arith)));
+      }
+      pick false x = let z : o ≤ u = ltb-false _ _ x in record {
+        here = unjoined_two o p two;
+        below = λ v l y. y.lacks (joined_unit v (below v (omega arith)) (λ q. under v q l));
+      }
+
+pub unjoined : (net : Net) (cs ds : List Chan) (ins outs : BTreeSet (ℕ × ℕ)) (s t m l r : Option ℕ) → cs ≡ net.chans → ds ≡ net.chans → All (HasEnds net) net.chans → IsGathered In cs ins s → IsGathered Out ds outs t
+    → IsMissing net ins outs m → l ≡ lowest s t → r ≡ lowest l m → MatchOption r (KeepsC1 net) (IsLowest (IsUnjoined net))
+unjoined net cs ds ins outs s t m l r e f ends i o k a b =
+    let P : List Chan → Type 0 = λ xs. IsGathered In xs ins s in
+    let Q : List Chan → Type 0 = λ xs. IsGathered Out xs outs t in
+    let gi : IsGathered In net.chans ins s = subst P e i in
+    let go : IsGathered Out net.chans outs t = subst Q f o in
+    let R : Option ℕ → Type 0 = λ x. MatchOption x (KeepsC1 net) (IsLowest (IsUnjoined net)) in
+    subst R (sym (b ∙ ap (λ x. lowest x m) a)) (decides net ins outs s t gi go ends (lowest s t) m (twice_on net s t gi.two go.two) k)
+
+pub unjoined_culprit : (net : Net) (o : Option ℕ) (u : ℕ) → All (HasEnds net) net.chans → MatchOption o (KeepsC1 net) (IsLowest (IsUnjoined net)) → o ≡ Some u → CulpritC1 net (at.Unit u)
+unjoined_culprit net o u h m e =
     let P : Option ℕ → Type 0 = λ x. MatchOption x (KeepsC1 net) (IsLowest (IsUnjoined net)) in
-    (λ c x. x.lacks (h c nowhere x.within), subst P (sym e ∙ n) (both_sides net a b i o))
+    (λ c x. x.lacks (h c nowhere x.within), subst P e m)
+
+pub unjoined_none : (net : Net) (o : Option ℕ) → MatchOption o (KeepsC1 net) (IsLowest (IsUnjoined net)) → o ≡ None → KeepsC1 net
+unjoined_none net o m e = let P : Option ℕ → Type 0 = λ x. MatchOption x (KeepsC1 net) (IsLowest (IsUnjoined net)) in subst P e m
 
 -- a channel is at its own end
 ended_own : (side : Side) (cs : List Chan) (d : ℕ) (x : Place) → d < length cs → x ≡ end_of side (get_or cs d nowhere) → 0 < ended side cs x.unit x.place

@@ -19,3 +19,7 @@ pub mod JoinLemmas
 pub mod CheckLemmas
 pub mod RefusalLemmas
 pub mod WiredLemmas
+pub mod BoundLemmas
+pub mod ClosedWalks
+pub mod KeepLemmas
+pub mod LawLemmas

@@ -6,7 +6,7 @@ use Rattle.std.proofs.lemmas.List.{get_or-replicate, take_all}
 use Rattle.std.proofs.lemmas.List.Elements.{All-more, All-nil}
 use Rattle.std.proofs.lemmas.List.Sums.{count_by_more_yes, count_by_more_no, sum_by-take-le}
 use Rattle.std.proofs.Math.ListN.{length-replicate}
-use Rattle.net_check.specs.Marks.{times, IsEachOnce}
+use Rattle.net_check.specs.private.Marks.{times, IsEachOnce}
 
 -- within a list the default does not matter
 pub default : {A : Type 0} (xs : List A) (q : ℕ) (a b : A) → q < length xs → get_or xs q a ≡ get_or xs q b

@@ -5,7 +5,7 @@ use Rattle.net_types.specs.declared.net.Chan.{Chan}
 use Rattle.net_types.specs.Nets.{kind_of}
 use Rattle.net_types.specs.Tables.{ins, outs}
 use Rattle.net_types.specs.Rules.{IsOfWidth}
-use Rattle.net_check.specs.Widths.{width_in}
+use Rattle.net_check.specs.private.Widths.{width_in}
 use Rattle.net_check.proofs.MarkLemmas.{no-true, false_iff, true_iff}
 use Rattle.net_check.proofs.RowLemmas.{width-has, has-width, rises-in, rises-out}
 

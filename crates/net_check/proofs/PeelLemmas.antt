@@ -11,8 +11,8 @@ use Rattle.net_types.specs.declared.net.Chan.{Chan}
 use Rattle.net_types.specs.declared.net.Net.{Net}
 use Rattle.net_types.specs.Nets.{chan_at, nowhere}
 use Rattle.net_check.specs.Cycles.{IsInstant, IsEndless}
-use Rattle.net_check.specs.Marks.{times}
-use Rattle.net_check.specs.Peels.{HasUnits, IsLinked, arrives, goes, holds, AreTargets, target_added, AreWaits, wait_added, done, AreReady, IsAwaited, IsReleased, IsPeeled, IsFirstUnset}
+use Rattle.net_check.specs.private.Marks.{times}
+use Rattle.net_check.specs.private.Peels.{HasUnits, IsLinked, arrives, goes, holds, AreTargets, target_added, AreWaits, wait_added, done, AreReady, IsAwaited, IsReleased, IsPeeled, IsFirstUnset}
 use Rattle.net_check.specs.Lowest.{IsLowest}
 use Rattle.net_check.proofs.MarkLemmas.{default}
 

@@ -15,9 +15,9 @@ use Rattle.net_types.specs.Tables.{Spot, spots, ins, outs, port_ins, port_outs, 
 use Rattle.net_types.specs.Rules.{places_at, in_places_from, out_places_from, times_in}
 use Rattle.net_check.specs.declared.wires.Side.{Side}
 use Rattle.net_check.specs.declared.wires.Side.TheVariants.{In, Out}
-use Rattle.net_check.specs.Widths.{width_in}
-use Rattle.net_check.specs.Wires.{bound}
-use Rattle.net_check.specs.Joins.{row, placed}
+use Rattle.net_check.specs.private.Widths.{width_in}
+use Rattle.net_check.specs.private.Wires.{bound}
+use Rattle.net_check.specs.private.Joins.{row, placed}
 use Rattle.net_check.proofs.RowLemmas.{Rises, rises-in, rises-out}
 
 pub count_map : {A B : Type 0} (f : A → B) (q : B → Bool) (xs : List A) → count_by q (map f xs) ≡ count_by (λ x. q (f x)) xs
@@ -33,10 +33,10 @@ count_false [] = refl
 count_false (x ∷ xs) = sum_by-cons (λ y. 0) x xs ∙ (let a = count_false xs in omega arith)
 
 -- the places of a row at its unit, and at another
-row_here : (n p : ℕ) (ss : List Spot) → times_in (places_at n ss) n p ≡ count_by (λ (s : Spot). s.place == p) ss
+pub row_here : (n p : ℕ) (ss : List Spot) → times_in (places_at n ss) n p ≡ count_by (λ (s : Spot). s.place == p) ss
 row_here n p ss = count_map (λ (s : Spot). at n s.place) (λ q. is_at q n p) ss ∙ ap (λ b. count_by (λ (s : Spot). b && (s.place == p)) ss) (eq-eqb n n refl)
 
-row_other : (n u p : ℕ) (ss : List Spot) → (n ≡ u → ⊥) → times_in (places_at n ss) u p ≡ 0
+pub row_other : (n u p : ℕ) (ss : List Spot) → (n ≡ u → ⊥) → times_in (places_at n ss) u p ≡ 0
 row_other n u p ss h = count_map (λ (s : Spot). at n s.place) (λ q. is_at q u p) ss ∙ ap (λ b. count_by (λ (s : Spot). b && (s.place == p)) ss) (ne_eqb n u h) ∙ count_false ss
 
 abbrev pub one : Option ℕ → ℕ
@@ -51,7 +51,7 @@ count_above n p (s ∷ ss) r l =
     sum_by-cons (λ (x : Spot). cond (x.place == p) 1 0) s ss ∙ ap (λ b. cond b 1 0 + count_by (λ (x : Spot). x.place == p) ss) e ∙ (omega arith)
 
 -- a rising row has each of its places once
-count_row : (n p : ℕ) (ss : List Spot) → Rises n ss → count_by (λ (s : Spot). s.place == p) ss ≡ one (width_in ss p)
+pub count_row : (n p : ℕ) (ss : List Spot) → Rises n ss → count_by (λ (s : Spot). s.place == p) ss ≡ one (width_in ss p)
 count_row n p [] r = refl
 count_row n p (s ∷ ss) r = sum_by-cons (λ (x : Spot). cond (x.place == p) 1 0) s ss ∙ by (cases_eq s.place p) (count_row (suc s.place) p ss r.1)
   where
@@ -177,7 +177,7 @@ below-row In net (Cmerge n) = below-spots n 0 32 true n (omega arith)
 below-row In net (Branch w) = (omega arith, (omega arith, tt))
 below-row In net (Sink w) = (omega arith, tt)
 below-row In net (Read a) = (omega arith, tt)
-below-row In net (Lsq a d ps gs) = below-append (length gs + 1 + 2 * length ps) (spots 0 32 true (suc (length gs))) (port_ins (length gs + 1) (array_width net.arrays a) ps)
+below-row In net (Lsq a d ps gs f) = below-append (length gs + 1 + 2 * length ps) (spots 0 32 true (suc (length gs))) (port_ins (length gs + 1) (array_width net.arrays a) ps)
     (below-spots _ 0 32 true (suc (length gs)) (omega arith)) (below-port_ins _ (length gs + 1) (array_width net.arrays a) ps (omega arith))
 below-row In net Exit = (omega arith, below-result net.result)
 below-row Out net Entry = (omega arith, tt)
@@ -193,7 +193,7 @@ below-row Out net (Cmerge n) = (omega arith, tt)
 below-row Out net (Branch w) = (omega arith, (omega arith, tt))
 below-row Out net (Sink w) = tt
 below-row Out net (Read a) = (omega arith, tt)
-below-row Out net (Lsq a d ps gs) = below-append (length gs + 1 + length ps) (spots 0 32 true (suc (length gs))) (port_outs (length gs + 1) (array_width net.arrays a) ps)
+below-row Out net (Lsq a d ps gs f) = below-append (length gs + 1 + length ps) (spots 0 32 true (suc (length gs))) (port_outs (length gs + 1) (array_width net.arrays a) ps)
     (below-spots _ 0 32 true (suc (length gs)) (omega arith)) (below-port_outs _ (length gs + 1) (array_width net.arrays a) ps (omega arith))
 below-row Out net Exit = tt
 

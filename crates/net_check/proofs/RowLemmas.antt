@@ -9,7 +9,7 @@ use Rattle.net_types.specs.declared.net.Unit.{Unit as Kind}
 use Rattle.net_types.specs.declared.net.Unit.TheVariants.{Entry, Param, Const, Op1, Op2, Select, Fork, Mux, Cmerge, Branch, Sink, Read, Lsq, Exit}
 use Rattle.net_types.specs.Tables.{Spot, spots, ins, outs, port_ins, port_outs, array_width, result_in}
 use Rattle.net_types.specs.Rules.{HasWidth}
-use Rattle.net_check.specs.Widths.{width_in}
+use Rattle.net_check.specs.private.Widths.{width_in}
 
 abbrev pub Rises : ℕ → List Spot → Type 0
 Rises n [] = Unit {0}
@@ -82,7 +82,7 @@ rises-in net (Cmerge n) = spots-alone 0 32 true n
 rises-in net (Branch w) = (omega arith, (omega arith, tt))
 rises-in net (Sink w) = (omega arith, tt)
 rises-in net (Read a) = (omega arith, tt)
-rises-in net (Lsq a d ps gs) = rises-spots 0 32 true (suc (length gs)) (port_ins (length gs + 1) (array_width net.arrays a) ps)
+rises-in net (Lsq a d ps gs f) = rises-spots 0 32 true (suc (length gs)) (port_ins (length gs + 1) (array_width net.arrays a) ps)
     (rises-from (0 + suc (length gs)) (length gs + 1) (port_ins (length gs + 1) (array_width net.arrays a) ps) (omega arith) (rises-port_ins (length gs + 1) (array_width net.arrays a) ps))
 rises-in net Exit = (omega arith, rises-result net.result)
 
@@ -100,6 +100,6 @@ rises-out net (Cmerge n) = (omega arith, tt)
 rises-out net (Branch w) = (omega arith, (omega arith, tt))
 rises-out net (Sink w) = tt
 rises-out net (Read a) = (omega arith, tt)
-rises-out net (Lsq a d ps gs) = rises-spots 0 32 true (suc (length gs)) (port_outs (length gs + 1) (array_width net.arrays a) ps)
+rises-out net (Lsq a d ps gs f) = rises-spots 0 32 true (suc (length gs)) (port_outs (length gs + 1) (array_width net.arrays a) ps)
     (rises-from (0 + suc (length gs)) (length gs + 1) (port_outs (length gs + 1) (array_width net.arrays a) ps) (omega arith) (rises-port_outs (length gs + 1) (array_width net.arrays a) ps))
 rises-out net Exit = tt

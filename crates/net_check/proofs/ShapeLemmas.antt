@@ -8,8 +8,8 @@ use Rattle.std.proofs.lemmas.List.Elements.{All-nil, All-cons, All-head, All-tai
 use Rattle.std.proofs.lemmas.Result.{IfOk-weaker}
 use Rattle.net_types.specs.declared.net.Port.{Port}
 use Rattle.net_types.specs.Queues.{IsQueueShape}
-use Rattle.net_check.specs.Marks.{IsEachOnce}
-use Rattle.net_check.specs.Shapes.{AreGroups}
+use Rattle.net_check.specs.private.Marks.{IsEachOnce}
+use Rattle.net_check.specs.private.Groups.{AreGroups}
 
 pub concat-take-more : (xss : List (List ℕ)) (i : ℕ) (x ys zs : List ℕ) → i < length xss → x ≡ get_or xss i x → ys ≡ concat (take i xss) → zs ≡ ys ++ x → zs ≡ concat (take (i + 1) xss)
 concat-take-more xss i x ys zs l e a b =

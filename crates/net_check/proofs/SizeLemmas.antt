@@ -4,6 +4,7 @@ use Rattle.std.specs.List.{sum_by}
 use Rattle.std.proofs.lemmas.List.{take_all}
 use Rattle.std.proofs.lemmas.List.Sums.{sum_by_more}
 use Rattle.net_types.specs.declared.net.Net.{Net}
+use Rattle.el_base.specs.Limits.{max_sum_of_slots}
 use Rattle.net_types.specs.declared.net.Chan.{Chan}
 use Rattle.net_types.specs.Nets.{chan_at, nowhere}
 use Rattle.net_check.specs.Sizes.{IsSized, slots_of, KeepsC3}
@@ -36,7 +37,7 @@ summed_more net cs together more after c b e l d t m a s =
 total_at : (net : Net) (together c : ℕ) → length net.chans ≤ c → Summed net together c → together ≡ min (slots_of net) (2 ^ 64 - 1)
 total_at net together c l s = s.total ∙ ap (λ ys. min (sum_by (λ (x : Chan). x.slots) ys) (2 ^ 64 - 1)) (take_all c net.chans l)
 
-pub sizes_kept : (net : Net) (cs : List Chan) (together c : ℕ) → cs ≡ net.chans → length cs ≤ c → Summed net together c → together ≤ 67108864 → KeepsC3 net
+pub sizes_kept : (net : Net) (cs : List Chan) (together c : ℕ) → cs ≡ net.chans → length cs ≤ c → Summed net together c → together ≤ max_sum_of_slots → KeepsC3 net
 sizes_kept net cs together c e l s h =
     let P : List Chan → Type 0 = λ ys. length ys ≤ c in
     let w : length net.chans ≤ c = subst P e l in

@@ -1,19 +1,17 @@
 -- Rule C5 from the marks of rows.
-use Rattle.std.proofs.Common.{◌≡◌, ℕ, suc, ◌+◌, ◌-◌, ◌<◌, ◌&&◌, not, Bool, true, false, List, [], ◌∷◌, ◌++◌, length, get_or, sym, ap, refl, ◌∙◌, subst, arith, below_more}
-use Rattle.std.specs.Prelude.{Result, IfOk}
-use Rattle.std.proofs.lemmas.Result.{IfOk-weaker}
+use Rattle.std.proofs.Common.{◌≡◌, ℕ, suc, ◌+◌, ◌-◌, ◌<◌, ◌≤◌, ◌&&◌, not, Bool, true, false, List, [], ◌∷◌, ◌++◌, length, get_or, sym, ap, refl, ◌∙◌, subst, arith, below_more}
 use Rattle.std.proofs.lemmas.List.Elements.{All-nil, All-cons, All-head, All-tail}
 use Rattle.net_types.specs.declared.net.Net.{Net}
 use Rattle.net_types.specs.declared.net.Unit.{Unit as Kind}
-use Rattle.net_types.specs.declared.net.Unit.TheVariants.{Entry, Param, Const, Op1, Op2, Select, Fork, Mux, Cmerge, Branch, Sink, Read, Lsq, Exit}
+use Rattle.net_types.specs.declared.net.Unit.TheVariants.{Fork, Branch}
 use Rattle.net_types.specs.Nets.{kind_of, chan_at}
-use Rattle.net_types.specs.Tables.{Spot, spot, spots, ins, outs}
+use Rattle.net_types.specs.Tables.{Spot, spots, ins, outs}
 use Rattle.net_check.specs.declared.wires.Side.TheVariants.{In, Out}
 use Rattle.net_check.specs.declared.wires.Wires.{Wires}
-use Rattle.net_check.specs.Controls.{IsSteered, IsUnsteered}
+use Rattle.net_check.specs.Controls.{ctl_in, ctl_out, passes, passes_control, PlacesMarked, IsUnmarked, KeepsC5}
 use Rattle.net_check.specs.Lowest.{IsLowest}
-use Rattle.net_check.proofs.FirstLemmas.{kind_read, within_same, read_same}
-use Rattle.net_check.specs.Steers.{ctl_in, ctl_out, IsTableOf, told, is_mark, agrees, passes, is_steered, steers, HasMark, Marked, IsMarked}
+use Rattle.net_check.proofs.FirstLemmas.{kind_read, within_same, past_same, read_same}
+use Rattle.net_check.specs.private.Steers.{IsTableOf, told, is_mark, agrees, is_steered, HasMark, Marked}
 
 same_mark : (b x : Bool) → is_mark b x ≡ true → x ≡ b
 same_mark true x e = e
@@ -51,54 +49,24 @@ agrees-append f (s ∷ ss) ys = by (is_mark s.ctl (f s.place)) (agrees-append f 
     by true e = e
     by false e = refl
 
--- a unit that is marked as it should be passes what its inputs tell, so its rows are these
-record SameRows (net : Net) (m n : Bool) (k : Kind) : Type 0 where
-  ins : ins net m k ≡ ins net n k
-  outs : outs net m k ≡ outs net n k
-
-passed : (net : Net) (h : ℕ → Bool) (m : Bool) (k : Kind) → Marked h (ins net m k) → SameRows net m (passes h k) k
-passed net h m (Fork w n) a =
-    let e : h 0 ≡ m = All-head (HasMark h) (spot 0 w m) [] a in
-    record { ins = ap (λ b. ins net b (Fork w n)) (sym e); outs = ap (λ b. outs net b (Fork w n)) (sym e) }
-passed net h m (Branch w) a =
-    let e : h 1 ≡ m = All-head (HasMark h) (spot 1 w m) [] (All-tail (HasMark h) (spot 0 32 false) (spot 1 w m ∷ []) a) in
-    record { ins = ap (λ b. ins net b (Branch w)) (sym e); outs = ap (λ b. outs net b (Branch w)) (sym e) }
-passed net h m Entry a = record { ins = refl; outs = refl }
-passed net h m (Param j) a = record { ins = refl; outs = refl }
-passed net h m (Const w v) a = record { ins = refl; outs = refl }
-passed net h m (Op1 o) a = record { ins = refl; outs = refl }
-passed net h m (Op2 o) a = record { ins = refl; outs = refl }
-passed net h m (Select w) a = record { ins = refl; outs = refl }
-passed net h m (Mux w n) a = record { ins = refl; outs = refl }
-passed net h m (Cmerge n) a = record { ins = refl; outs = refl }
-passed net h m (Sink w) a = record { ins = refl; outs = refl }
-passed net h m (Read r) a = record { ins = refl; outs = refl }
-passed net h m (Lsq r d ps gs) a = record { ins = refl; outs = refl }
-passed net h m Exit a = record { ins = refl; outs = refl }
-
-pub marked_so : (net : Net) (u : ℕ) → IsSteered net u → IsMarked net u
-marked_so net u s =
-    let e = passed net (ctl_in net u) s.m (kind_of net u) s.ins in
-    record { ins = subst (Marked (ctl_in net u)) e.ins s.ins; outs = subst (Marked (ctl_out net u)) e.outs s.outs }
-
 same_passes : (f h : ℕ → Bool) (k : Kind) → ((p : ℕ) → f p ≡ h p) → passes f k ≡ passes h k
 same_passes f h (Fork w n) e = e 0
 same_passes f h (Branch w) e = e 1
 same_passes f h _ e = refl
 
-steered_of : (net : Net) (f g : ℕ → Bool) (u : ℕ) (k : Kind) → k ≡ kind_of net u → ((p : ℕ) → f p ≡ ctl_in net u p) → ((p : ℕ) → g p ≡ ctl_out net u p)
-    → is_steered net f g k ≡ true → IsSteered net u
-steered_of net f g u k e i o t =
-    let p = and_parts (agrees f (ins net (passes f k) k)) (agrees g (outs net (passes f k) k)) t in
-    let P : Kind → Type 0 = λ x. Marked (ctl_in net u) (ins net (passes f k) x) in
-    let Q : Kind → Type 0 = λ x. Marked (ctl_out net u) (outs net (passes f k) x) in
-    record { m = passes f k; ins = subst P e (marked_of f (ctl_in net u) _ i p.0); outs = subst Q e (marked_of g (ctl_out net u) _ o p.1) }
+marked_at : (net : Net) (f g : ℕ → Bool) (u : ℕ) (k : Kind) → k ≡ kind_of net u → ((p : ℕ) → f p ≡ ctl_in net u p) → ((p : ℕ) → g p ≡ ctl_out net u p)
+    → is_steered net f g k ≡ true → PlacesMarked net u
+marked_at net f g u k e i o t =
+    let b : passes f (kind_of net u) ≡ passes_control net u = same_passes f (ctl_in net u) (kind_of net u) i in
+    let p = and_parts (agrees f (ins net (passes f (kind_of net u)) (kind_of net u))) (agrees g (outs net (passes f (kind_of net u)) (kind_of net u))) (ap (is_steered net f g) (sym e) ∙ t) in
+    let P : Bool → Type 0 = λ m. Marked (ctl_in net u) (ins net m (kind_of net u)) in
+    let Q : Bool → Type 0 = λ m. Marked (ctl_out net u) (outs net m (kind_of net u)) in
+    record { ins = subst P b (marked_of f (ctl_in net u) _ i p.0); outs = subst Q b (marked_of g (ctl_out net u) _ o p.1) }
 
-of_steered : (net : Net) (f g : ℕ → Bool) (u : ℕ) (k : Kind) → k ≡ kind_of net u → ((p : ℕ) → f p ≡ ctl_in net u p) → ((p : ℕ) → g p ≡ ctl_out net u p)
-    → IsSteered net u → is_steered net f g k ≡ true
-of_steered net f g u k e i o s =
-    let so = marked_so net u s in
-    let b : steers net u ≡ passes f (kind_of net u) = sym (same_passes f (ctl_in net u) (kind_of net u) i) in
+of_marked : (net : Net) (f g : ℕ → Bool) (u : ℕ) (k : Kind) → k ≡ kind_of net u → ((p : ℕ) → f p ≡ ctl_in net u p) → ((p : ℕ) → g p ≡ ctl_out net u p)
+    → PlacesMarked net u → is_steered net f g k ≡ true
+of_marked net f g u k e i o so =
+    let b : passes_control net u ≡ passes f (kind_of net u) = sym (same_passes f (ctl_in net u) (kind_of net u) i) in
     let P : Bool → Type 0 = λ m. Marked (ctl_in net u) (ins net m (kind_of net u)) in
     let Q : Bool → Type 0 = λ m. Marked (ctl_out net u) (outs net m (kind_of net u)) in
     let x : agrees f (ins net (passes f (kind_of net u)) (kind_of net u)) ≡ true = agrees_of f (ctl_in net u) _ i (subst P b so.ins) in
@@ -111,14 +79,14 @@ tells_in net w u p t = ap (λ c. (chan_at net c).ctl) (t.tells u p)
 pub tells_out : (net : Net) (w : Wires) (u p : ℕ) → IsTableOf Out net w → told net w u p ≡ ctl_out net u p
 tells_out net w u p t = ap (λ c. (chan_at net c).ctl) (t.tells u p)
 
-pub steered_told : (net : Net) (i o : Wires) (u : ℕ) (k : Kind) → k ≡ kind_of net u → IsTableOf In net i → IsTableOf Out net o → is_steered net (told net i u) (told net o u) k ≡ true → IsSteered net u
-steered_told net i o u k e a b t = steered_of net (told net i u) (told net o u) u k e (λ p. tells_in net i u p a) (λ p. tells_out net o u p b) t
+pub marked_told : (net : Net) (i o : Wires) (u : ℕ) (k : Kind) → k ≡ kind_of net u → IsTableOf In net i → IsTableOf Out net o → is_steered net (told net i u) (told net o u) k ≡ true → PlacesMarked net u
+marked_told net i o u k e a b t = marked_at net (told net i u) (told net o u) u k e (λ p. tells_in net i u p a) (λ p. tells_out net o u p b) t
 
-pub unsteered_told : (net : Net) (i o : Wires) (u : ℕ) (k : Kind) → k ≡ kind_of net u → IsTableOf In net i → IsTableOf Out net o → is_steered net (told net i u) (told net o u) k ≡ false → IsSteered net u → ⊥
-unsteered_told net i o u k e a b f s = let t = of_steered net (told net i u) (told net o u) u k e (λ p. tells_in net i u p a) (λ p. tells_out net o u p b) s in cc
+pub unmarked_told : (net : Net) (i o : Wires) (u : ℕ) (k : Kind) → k ≡ kind_of net u → IsTableOf In net i → IsTableOf Out net o → is_steered net (told net i u) (told net o u) k ≡ false → PlacesMarked net u → ⊥
+unmarked_told net i o u k e a b f s = let t = of_marked net (told net i u) (told net o u) u k e (λ p. tells_in net i u p a) (λ p. tells_out net o u p b) s in cc
 
-pub lowest_unsteered : (net : Net) (u : ℕ) → u < length net.units → ((v : ℕ) → v < u → IsSteered net v) → (IsSteered net u → ⊥) → IsLowest (IsUnsteered net) u
-lowest_unsteered net u l a h = record { here = record { within = l; lacks = h }; below = λ v b x. x.lacks (a v b) }
+lowest_unmarked : (net : Net) (u : ℕ) → u < length net.units → ((v : ℕ) → v < u → PlacesMarked net v) → (PlacesMarked net u → ⊥) → IsLowest (IsUnmarked net) u
+lowest_unmarked net u l a h = record { here = record { within = l; lacks = h }; below = λ v b x. x.lacks (a v b) }
 
 -- runs of places
 
@@ -143,28 +111,23 @@ stops whole x a y b e f g t = let k : a ≡ false = sym g ∙ t in sym (e ∙ f 
 pub ends_fail : (f : ℕ → Bool) (xs ys : List Spot) (b : Bool) → b ≡ agrees f xs → b ≡ false → false ≡ agrees f (xs ++ ys)
 ends_fail f xs ys b e t = let k : agrees f xs ≡ false = sym e ∙ t in sym (agrees-append f xs ys ∙ ap (λ z. z && agrees f ys) k)
 
-pub ports_decide : {E : Type 0} (f : ℕ → Bool) (xs : List Spot) (ys : ℕ → List Spot) (b : Bool) (r : Result Bool E) → b ≡ agrees f xs → b ≡ true
-    → IfOk r (λ d. (w : ℕ) → d ≡ agrees f (ys w)) → IfOk r (λ d. (w : ℕ) → d ≡ agrees f (xs ++ ys w))
-ports_decide f xs ys b r e t h = IfOk-weaker r _ _ (λ d k. by d k) h
-  where
-    by : (d : Bool) → ((w : ℕ) → d ≡ agrees f (ys w)) → (w : ℕ) → d ≡ agrees f (xs ++ ys w)
-    by d k w = let z : agrees f xs ≡ true = sym e ∙ t in k w ∙ sym (agrees-append f xs (ys w) ∙ ap (λ x. x && agrees f (ys w)) z)
+pub ports_decide : (f : ℕ → Bool) (xs ys : List Spot) (b d : Bool) → b ≡ agrees f xs → b ≡ true → d ≡ agrees f ys → d ≡ agrees f (xs ++ ys)
+ports_decide f xs ys b d e t h = let z : agrees f xs ≡ true = sym e ∙ t in h ∙ sym (agrees-append f xs ys ∙ ap (λ x. x && agrees f ys) z)
 
 -- the unit of number u, read from the list us of units
-pub broken_at : (net : Net) (us : List Kind) (i o : Wires) (u at : ℕ) (k : Kind) (b : Bool) → us ≡ net.units → at ≡ u → u < length us → k ≡ get_or us u k → IsTableOf In net i → IsTableOf Out net o
-    → ((v : ℕ) → v < u → IsSteered net v) → b ≡ is_steered net (told net i at) (told net o at) k → b ≡ false → IsLowest (IsUnsteered net) at
-broken_at net us i o u at k b s e l r ti to inv d f =
+pub broken_at : (net : Net) (us : List Kind) (i o : Wires) (u : ℕ) (k : Kind) (b : Bool) → us ≡ net.units → u < length us → k ≡ get_or us u k → IsTableOf In net i → IsTableOf Out net o
+    → ((v : ℕ) → v < u → PlacesMarked net v) → b ≡ is_steered net (told net i u) (told net o u) k → b ≡ false → IsLowest (IsUnmarked net) u
+broken_at net us i o u k b s l r ti to inv d f =
     let m = within_same us net.units u s l in
     let g : k ≡ kind_of net u = kind_read net u k m (read_same us net.units u k s r) in
-    let P : ℕ → Type 0 = λ x. b ≡ is_steered net (told net i x) (told net o x) k in
-    let h : IsSteered net u → ⊥ = unsteered_told net i o u k g ti to (sym (subst P e d) ∙ f) in
-    let Q : ℕ → Type 0 = IsLowest (IsUnsteered net) in
-    subst Q (sym e) (lowest_unsteered net u m inv h)
+    lowest_unmarked net u m inv (unmarked_told net i o u k g ti to (sym d ∙ f))
 
-pub kept_at : (net : Net) (us : List Kind) (i o : Wires) (u at : ℕ) (k : Kind) (b : Bool) → us ≡ net.units → at ≡ u → u < length us → k ≡ get_or us u k → IsTableOf In net i → IsTableOf Out net o
-    → ((v : ℕ) → v < u → IsSteered net v) → b ≡ is_steered net (told net i at) (told net o at) k → b ≡ true → (v : ℕ) → v < u + 1 → IsSteered net v
-kept_at net us i o u at k b s e l r ti to inv d f =
+pub kept_at : (net : Net) (us : List Kind) (i o : Wires) (u : ℕ) (k : Kind) (b : Bool) → us ≡ net.units → u < length us → k ≡ get_or us u k → IsTableOf In net i → IsTableOf Out net o
+    → ((v : ℕ) → v < u → PlacesMarked net v) → b ≡ is_steered net (told net i u) (told net o u) k → b ≡ true → (v : ℕ) → v < u + 1 → PlacesMarked net v
+kept_at net us i o u k b s l r ti to inv d f =
     let m = within_same us net.units u s l in
     let g : k ≡ kind_of net u = kind_read net u k m (read_same us net.units u k s r) in
-    let P : ℕ → Type 0 = λ x. b ≡ is_steered net (told net i x) (told net o x) k in
-    below_more _ _ inv (steered_told net i o u k g ti to (sym (subst P e d) ∙ f))
+    below_more _ _ inv (marked_told net i o u k g ti to (sym d ∙ f))
+
+pub all_marked : (net : Net) (us : List Kind) (u : ℕ) → us ≡ net.units → length us ≤ u → ((v : ℕ) → v < u → PlacesMarked net v) → KeepsC5 net
+all_marked net us u s l inv = record { units = λ v m. (let z = past_same us net.units u s l in inv v (omega arith)) }

@@ -1,5 +1,5 @@
 -- Filling a table from the last channel to the first.
-use Rattle.std.proofs.Common.{◌≡◌, ℕ, zero, suc, ◌+◌, ◌-◌, ◌<◌, ◌≤◌, ◌⊎◌, ◌&&◌, ◌==◌, Bool, true, false, cond, Option, Some, None, IfNone, ◌^◌, List, [], ◌∷◌, length, get_or, set, drop, refl, sym, ap, subst, ◌∙◌, inl, inr, arith, eqb-true, eq-eqb, length-set, get_or-set_same, get_or-set_other, lt-ltb, le-ltb, nat_lt}
+use Rattle.std.proofs.Common.{◌≡◌, ℕ, zero, suc, ◌+◌, ◌-◌, ◌<◌, ◌≤◌, ◌⊎◌, ◌&&◌, ◌==◌, Bool, true, false, cond, List, [], ◌∷◌, length, get_or, set, drop, refl, sym, ap, subst, ◌∙◌, inl, inr, arith, eqb-true, eq-eqb, length-set, get_or-set_same, get_or-set_other, lt-ltb, le-ltb, nat_lt}
 use Rattle.std.proofs.lemmas.Bool.{cases_lt, cases_eq}
 use Rattle.std.proofs.Math.Seq.{drop-cons}
 use Rattle.net_types.specs.declared.net.Place.{Place}
@@ -9,7 +9,7 @@ use Rattle.net_types.specs.declared.net.Unit.TheVariants.{Sink}
 use Rattle.net_types.specs.Nets.{is_at, nowhere}
 use Rattle.net_check.specs.declared.wires.Side.{Side}
 use Rattle.net_check.specs.declared.wires.Side.TheVariants.{In, Out}
-use Rattle.net_check.specs.Wires.{bound, end_of, first_at, starts_from, Rises, Fits, Inside, wire, IsTable, IsOutside, IsStray}
+use Rattle.net_check.specs.private.Wires.{bound, end_of, first_at, starts_from, Rises, Fits, Inside, wire, IsTable, AreInside}
 
 pub starts-some : (side : Side) (n : ℕ) (ks : List Kind) → 0 < length (starts_from side n ks)
 starts-some side n [] = omega arith
@@ -164,46 +164,22 @@ filled_at side starts table (suc i) chans d x rises f some is here =
     filled_step side starts table i chans c rises f (any_default chans i c d (omega arith)) (subst P a here) in
     rw (e, a) k
 
--- why there is no table
-pub outside_past : (side : Side) (starts : List ℕ) (chans : List Chan) (i : ℕ) (d : Chan) (x : Place) → 0 < i → i ≤ length chans → x ≡ end_of side (get_or chans (i - 1) d) → length starts ≤ x.unit + 1 → IsOutside side starts chans
-outside_past side starts chans i d x some most is l = record {
-  chan = i - 1;
-  within = omega arith;
-  outside = λ h. (let e : x ≡ end_of side (get_or chans (i - 1) nowhere) = is ∙ ap (end_of side) (any_default chans (i - 1) d nowhere (omega arith)) in
-      let P : Place → Type 0 = λ y. Inside starts y.unit y.place in
-      let k : Inside starts x.unit x.place = subst P (sym e) h in
-      let w = inside_within starts x.unit x.place k in omega arith);
-}
+-- a place with an entry has it within the table
+pub entry_within : (starts table : List ℕ) (x : Place) → Rises starts → length table ≡ get_or starts (length starts - 1) 0 → Inside starts x.unit x.place
+    → (x.unit + 1 < length starts) × (get_or starts x.unit 0 + x.place < length table)
+entry_within starts table x rises size h =
+    let w = inside_within starts x.unit x.place h in
+    let r = rises (x.unit + 1) (length starts - 1) (omega arith) (omega arith) in
+    (w, omega arith)
 
-pub outside_unit : (side : Side) (starts : List ℕ) (chans : List Chan) (i : ℕ) (d : Chan) (x : Place) → 0 < i → i ≤ length chans → x ≡ end_of side (get_or chans (i - 1) d)
-    → get_or starts (x.unit + 1) 0 - get_or starts x.unit 0 ≤ x.place → IsOutside side starts chans
-outside_unit side starts chans i d x some most is l = record {
-  chan = i - 1;
-  within = omega arith;
-  outside = λ h. (let e : x ≡ end_of side (get_or chans (i - 1) nowhere) = is ∙ ap (end_of side) (any_default chans (i - 1) d nowhere (omega arith)) in
-      let P : Place → Type 0 = λ y. Inside starts y.unit y.place in
-      let k : get_or starts x.unit 0 + x.place < get_or starts (x.unit + 1) 0 = subst P (sym e) h in omega arith);
-}
+pub inside_at : (side : Side) (starts : List ℕ) (chans : List Chan) (i : ℕ) (d : Chan) (x : Place) → AreInside side starts chans → 0 < i → i ≤ length chans → x ≡ end_of side (get_or chans (i - 1) d) → Inside starts x.unit x.place
+inside_at side starts chans i d x a some most is =
+    let e : x ≡ end_of side (get_or chans (i - 1) nowhere) = is ∙ ap (end_of side) (any_default chans (i - 1) d nowhere (omega arith)) in
+    let P : Place → Type 0 = λ y. Inside starts y.unit y.place in
+    subst P (sym e) (a.each (i - 1) (omega arith))
 
-starts_next : (side : Side) (n : ℕ) (ks : List Kind) (u : ℕ) → u < length ks → get_or (starts_from side n ks) (u + 1) 0 ≡ get_or (starts_from side n ks) u 0 + bound side (get_or ks u (Sink 0))
+pub starts_next : (side : Side) (n : ℕ) (ks : List Kind) (u : ℕ) → u < length ks → get_or (starts_from side n ks) (u + 1) 0 ≡ get_or (starts_from side n ks) u 0 + bound side (get_or ks u (Sink 0))
 starts_next side n [] u l = absurd (omega arith)
 starts_next side n (k ∷ []) zero l = refl
 starts_next side n (k ∷ (j ∷ ks)) zero l = refl
 starts_next side n (k ∷ ks) (suc u) l = let z : suc u + 1 ≡ suc (u + 1) = omega arith in rw z (starts_next side (n + bound side k) ks u (omega arith))
-
-pub stray_of : (side : Side) (units : List Kind) (starts : List ℕ) (chans : List Chan) → starts ≡ starts_from side 0 units → IsOutside side starts chans → IsStray side units chans
-stray_of side units starts chans e o = record {
-  chan = o.chan;
-  within = o.within;
-  stray = λ l m. o.outside (let x : Place = end_of side (get_or chans o.chan nowhere) in
-      let a = starts_next side 0 units x.unit l in
-      let P : List ℕ → Type 0 = λ ss. Inside ss x.unit x.place in
-      let k : get_or (starts_from side 0 units) x.unit 0 + x.place < get_or (starts_from side 0 units) (x.unit + 1) 0 = omega arith in
-      subst P (sym e) k);
-}
-
-pub stray_or : {A : Type 0} (o : Option A) (side : Side) (units : List Kind) (starts : List ℕ) (chans : List Chan) → starts ≡ starts_from side 0 units → IfNone o ((2 ^ 32 ≤ length chans) ⊎ IsOutside side starts chans) → o ≡ None
-    → (2 ^ 32 ≤ length chans) ⊎ IsStray side units chans
-stray_or None side units starts chans e (inl l) n = inl l
-stray_or None side units starts chans e (inr x) n = inr (stray_of side units starts chans e x)
-stray_or (Some a) side units starts chans e h n = cc

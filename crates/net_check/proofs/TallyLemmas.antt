@@ -6,16 +6,17 @@ use Rattle.std.proofs.lemmas.List.{take_all}
 use Rattle.std.proofs.lemmas.List.Elements.{All-more}
 use Rattle.std.proofs.lemmas.List.Sums.{sum_by_more}
 use Rattle.el_base.specs.declared.ty.Array.{Array}
+use Rattle.el_base.specs.Limits.{max_elements}
 use Rattle.net_types.specs.declared.net.Net.{Net}
 use Rattle.net_types.specs.declared.net.Unit.{Unit as Kind}
 use Rattle.net_types.specs.declared.net.Unit.TheVariants.{Entry, Param, Const, Op1, Op2, Select, Fork, Mux, Cmerge, Branch, Sink, Read, Lsq, Exit}
 use Rattle.net_check.specs.Headers.{is_entry, is_exit, is_param, is_queue, is_read, IsNamed, IsSecond, ReadsQueued}
-use Rattle.net_check.specs.Firsts.{IsFirst}
-use Rattle.net_check.specs.Tallies.{IsTallied, is_second, is_second_at, is_taken, is_faulty}
+use Rattle.net_check.specs.private.Firsts.{IsFirst}
+use Rattle.net_check.specs.private.Tallies.{IsTallied, is_second, is_second_at, is_taken, is_faulty}
 
 pub sized_more : (arrays : List Array) (i : ℕ) (a : Array) (rest : ℕ) → i < length arrays → a ≡ get_or arrays i a → 0 < a.len → a.len ≤ rest
-    → All (λ (x : Array). 0 < x.len) (take i arrays) × (rest + sum_by (λ (x : Array). x.len) (take i arrays) ≡ 1048576)
-    → All (λ (x : Array). 0 < x.len) (take (i + 1) arrays) × (rest - a.len + sum_by (λ (x : Array). x.len) (take (i + 1) arrays) ≡ 1048576)
+    → All (λ (x : Array). 0 < x.len) (take i arrays) × (rest + sum_by (λ (x : Array). x.len) (take i arrays) ≡ max_elements)
+    → All (λ (x : Array). 0 < x.len) (take (i + 1) arrays) × (rest - a.len + sum_by (λ (x : Array). x.len) (take (i + 1) arrays) ≡ max_elements)
 sized_more arrays i a rest l e p r h =
     let P : Array → Type 0 = λ x. 0 < x.len in
     let s = sum_by_more (λ (x : Array). x.len) arrays i a l in
@@ -155,9 +156,9 @@ faulty net e x ps qs u (Param j) l t f = by (cases_lt j (length net.scalars)) (o
     by (inr h) y = inl (λ n. (omega arith))
     by (inl h) (inl y) = let z : length ps ≤ j = leb-true _ _ y in let w = t.params_len in absurd (omega arith)
     by (inl h) (inr y) = inr (inl (second (is_param j) net.units (get_or ps j None) u l (t.params j h) y))
-faulty net e x ps qs u (Lsq a d ports gs) l t f = by (cases_lt a (length net.arrays)) (or_cases _ _ f)
+faulty net e x ps qs u (Lsq a d ports gs mark) l t f = by (cases_lt a (length net.arrays)) (or_cases _ _ f)
   where
-    by : (a < length net.arrays) ⊎ (length net.arrays ≤ a) → (nat_le (length qs) a ≡ true) ⊎ (is_second (get_or qs a None) u ≡ true) → Fault net u (Lsq a d ports gs)
+    by : (a < length net.arrays) ⊎ (length net.arrays ≤ a) → (nat_le (length qs) a ≡ true) ⊎ (is_second (get_or qs a None) u ≡ true) → Fault net u (Lsq a d ports gs mark)
     by (inr h) y = inl (λ n. (omega arith))
     by (inl h) (inl y) = let z : length qs ≤ a = leb-true _ _ y in let w = t.queues_len in absurd (omega arith)
     by (inl h) (inr y) = inr (inl (second (is_queue a) net.units (get_or qs a None) u l (t.queues a h) y))
@@ -183,7 +184,7 @@ listed n m a e f = let z : a < n = leb-false n a f in omega arith
 
 pub named_of : (net : Net) (e x : Option ℕ) (ps qs : List (Option ℕ)) (u : ℕ) (k : Kind) → IsTallied net e x ps qs → is_faulty e x ps qs u k ≡ false → IsNamed net k
 named_of net e x ps qs u (Param j) t f = listed _ _ j t.params_len (or_parts _ _ f).0
-named_of net e x ps qs u (Lsq a d ports gs) t f = listed _ _ a t.queues_len (or_parts _ _ f).0
+named_of net e x ps qs u (Lsq a d ports gs mark) t f = listed _ _ a t.queues_len (or_parts _ _ f).0
 named_of net e x ps qs u (Read a) t f = listed _ _ a t.queues_len (or_parts _ _ f).0
 named_of net e x ps qs u Entry t f = tt
 named_of net e x ps qs u Exit t f = tt
@@ -203,7 +204,7 @@ not_faulty net e x ps qs u Entry l t f (inr (inl s)) = not_second is_entry net.u
 not_faulty net e x ps qs u Exit l t f (inr (inl s)) = not_second is_exit net.units x u l t.exit f s
 not_faulty net e x ps qs u (Param j) l t f (inr (inl s)) =
     not_second (is_param j) net.units _ u l (t.params j (listed _ _ j t.params_len (or_parts _ _ f).0)) (or_parts _ _ f).1 s
-not_faulty net e x ps qs u (Lsq a d ports gs) l t f (inr (inl s)) =
+not_faulty net e x ps qs u (Lsq a d ports gs mark) l t f (inr (inl s)) =
     not_second (is_queue a) net.units _ u l (t.queues a (listed _ _ a t.queues_len (or_parts _ _ f).0)) (or_parts _ _ f).1 s
 not_faulty net e x ps qs u (Read a) l t f (inr (inr s)) =
     let z : count_by (is_queue a) net.units ≡ 0 = none_passes (is_queue a) net.units (get_or qs a None) (t.queues a (listed _ _ a t.queues_len (or_parts _ _ f).0)) (or_parts _ _ f).1 in omega arith
@@ -220,7 +221,7 @@ not_faulty net e x ps qs u (Sink w) l t f (inr (inl s)) = s
 not_faulty net e x ps qs u Entry l t f (inr (inr s)) = s
 not_faulty net e x ps qs u Exit l t f (inr (inr s)) = s
 not_faulty net e x ps qs u (Param j) l t f (inr (inr s)) = s
-not_faulty net e x ps qs u (Lsq a d ports gs) l t f (inr (inr s)) = s
+not_faulty net e x ps qs u (Lsq a d ports gs mark) l t f (inr (inr s)) = s
 not_faulty net e x ps qs u (Const w v) l t f (inr (inr s)) = s
 not_faulty net e x ps qs u (Op1 o) l t f (inr (inr s)) = s
 not_faulty net e x ps qs u (Op2 o) l t f (inr (inr s)) = s
@@ -245,7 +246,7 @@ param_told e x ps qs u j (Param i) t f = let P : ℕ → Type 0 = λ n. is_secon
 param_told e x ps qs u j _ t f = cc
 
 pub queue_told : (e x : Option ℕ) (ps qs : List (Option ℕ)) (u a : ℕ) (k : Kind) → is_queue a k ≡ true → is_faulty e x ps qs u k ≡ false → is_second_at qs a u ≡ false
-queue_told e x ps qs u a (Lsq b d ports gs) t f = let P : ℕ → Type 0 = λ n. is_second_at qs n u ≡ false in subst P (eqb-true b a t) f
+queue_told e x ps qs u a (Lsq b d ports gs mark) t f = let P : ℕ → Type 0 = λ n. is_second_at qs n u ≡ false in subst P (eqb-true b a t) f
 queue_told e x ps qs u a _ t f = cc
 
 pub read_told : (e x : Option ℕ) (ps qs : List (Option ℕ)) (u a : ℕ) (k : Kind) → is_read a k ≡ true → is_faulty e x ps qs u k ≡ false → is_taken qs a ≡ false

@@ -9,7 +9,7 @@ use Rattle.net_types.specs.declared.net.Port.TheVariants.{Load, Store}
 use Rattle.net_types.specs.declared.net.Net.{Net}
 use Rattle.net_types.specs.declared.net.Unit.TheVariants.{Fork}
 use Rattle.net_types.specs.Tables.{Spot, spot, spots, outs, port_ins, port_outs, array_width, scalar_width}
-use Rattle.net_check.specs.Widths.{width_in}
+use Rattle.net_check.specs.private.Widths.{width_in}
 
 other : (s : Spot) (ss : List Spot) (p : ℕ) → (s.place ≡ p → ⊥) → width_in (s ∷ ss) p ≡ width_in ss p
 other s ss p h = ap (λ b. cond b (Some s.width) (width_in ss p)) (ne_eqb s.place p h)

@@ -1,7 +1,8 @@
 -- What rule C1 says of each channel and of each place.
-use Rattle.std.proofs.Common.{◌≡◌, ℕ, zero, suc, ◌+◌, ◌<◌, ◌≤◌, Bool, true, false, cond, List, [], ◌∷◌, length, get_or, refl, sym, ap, ◌∙◌, arith}
+use Rattle.std.proofs.Common.{◌≡◌, ℕ, zero, suc, ◌+◌, ◌<◌, ◌≤◌, Bool, true, false, cond, List, [], ◌∷◌, length, get_or, refl, sym, ap, subst, ◌∙◌, arith}
 use Rattle.std.proofs.lemmas.List.Sums.{sum_by-cons}
 use Rattle.net_types.specs.declared.net.Chan.{Chan}
+use Rattle.net_types.specs.declared.net.Place.{Place}
 use Rattle.net_types.specs.declared.net.Net.{Net}
 use Rattle.net_types.specs.declared.net.Unit.{Unit as Kind}
 use Rattle.net_types.specs.Nets.{is_at, nowhere, chan_at, kind_of, into, out_of}
@@ -9,10 +10,10 @@ use Rattle.net_types.specs.Tables.{ins, outs}
 use Rattle.net_types.specs.Rules.{KeepsC1, HasWidth}
 use Rattle.net_check.specs.declared.wires.Side.{Side}
 use Rattle.net_check.specs.declared.wires.Side.TheVariants.{In, Out}
-use Rattle.net_check.specs.Wires.{end_of, first_at, IsStray}
-use Rattle.net_check.specs.Joins.{ended, placed, row, AreJoined}
+use Rattle.net_check.specs.private.Wires.{end_of, first_at, starts_from, Inside, AreInside}
+use Rattle.net_check.specs.private.Joins.{ended, placed, row, AreJoined}
 use Rattle.net_check.proofs.RowLemmas.{Rises, rises-in, rises-out, has-width}
-use Rattle.net_check.proofs.Tables.{first-cons}
+use Rattle.net_check.proofs.Tables.{first-cons, starts_next}
 use Rattle.net_check.proofs.PlaceCounts.{one, count_map, placed_at, placed_most, placed_within, placed_below}
 use Rattle.net_check.proofs.JoinLemmas.{at_itself, ended_some}
 
@@ -35,11 +36,21 @@ from_within net c k l = placed_within Out net (chan_at net c).from.unit (chan_at
 pub to_within : (net : Net) (c : ℕ) → KeepsC1 net → c < length net.chans → (chan_at net c).to.unit < length net.units
 to_within net c k l = placed_within In net (chan_at net c).to.unit (chan_at net c).to.place (own_place In net c k l)
 
--- so a table can be made
-pub no_stray : (side : Side) (net : Net) → KeepsC1 net → IsStray side net.units net.chans → ⊥
-no_stray side net k s =
-    let h = own_place side net s.chan k s.within in
-    s.stray (placed_within side net (end_of side (chan_at net s.chan)).unit (end_of side (chan_at net s.chan)).place h) (placed_below side net (end_of side (chan_at net s.chan)).unit (end_of side (chan_at net s.chan)).place h)
+-- so each channel ends at a place that has an entry
+pub all_inside : (side : Side) (net : Net) (starts : List ℕ) (cs : List Chan) → KeepsC1 net → starts ≡ starts_from side 0 net.units → cs ≡ net.chans → AreInside side starts cs
+all_inside side net starts cs k e f =
+    let P : List Chan → Type 0 = λ xs. AreInside side starts xs in
+    let Q : List ℕ → Type 0 = λ xs. AreInside side xs net.chans in
+    subst P (sym f) (subst Q (sym e) (record { each = entry }))
+  where
+    entry : (c : ℕ) → c < length net.chans → Inside (starts_from side 0 net.units) (end_of side (chan_at net c)).unit (end_of side (chan_at net c)).place
+    entry c l =
+        let x : Place = end_of side (chan_at net c) in
+        let h = own_place side net c k l in
+        let w = placed_within side net x.unit x.place h in
+        let b = placed_below side net x.unit x.place h in
+        let n = starts_next side 0 net.units x.unit w in
+        omega arith
 
 -- where a channel ends, one is found
 first_within : (side : Side) (u p : ℕ) (cs : List Chan) → 0 < ended side cs u p → first_at side u p cs < length cs

@@ -1,7 +1,10 @@
 -- What a checked net keeps: the eight rules, and what follows from them for each channel, place and unit.
-use Rattle.std.specs.Prelude.{◌≡◌, ℕ, ◌<◌, Bool, true, Some, IsTrue, length}
+use Rattle.std.specs.Prelude.{◌≡◌, ℕ, ◌<◌, Bool, true, Some, List, IsTrue, length}
+use Rattle.el_base.specs.Limits.{IsNumbered}
 use Rattle.net_types.specs.declared.net.Net.{Net}
+use Rattle.net_types.specs.declared.net.Port.{Port}
 use Rattle.net_types.specs.declared.net.Unit.{Unit as Kind}
+use Rattle.net_types.specs.declared.net.Unit.TheVariants.{Lsq}
 use Rattle.net_types.specs.Nets.{kind_of, chan_at, into, out_of, uses, owns}
 use Rattle.net_types.specs.Tables.{ins, outs, InSpots}
 use Rattle.net_types.specs.Rules.{KeepsC1, KeepsC2, width_fits}
@@ -9,9 +12,8 @@ use Rattle.net_check.specs.Headers.{KeepsC8, IsNamed, is_entry, is_exit, is_para
 use Rattle.net_check.specs.Shapes.{KeepsC7, HasShape}
 use Rattle.net_check.specs.Sizes.{KeepsC3, IsSized}
 use Rattle.net_check.specs.Cycles.{KeepsC4, IsDelayed}
-use Rattle.net_check.specs.Controls.{KeepsC5}
+use Rattle.net_check.specs.Controls.{KeepsC5, passes_control}
 use Rattle.net_check.specs.Ends.{KeepsC6}
-use Rattle.net_check.specs.Steers.{steers, IsMarked}
 
 -- each end of a channel is a place of the table, of the channel's width and control; m says of each fork and branch
 -- whether it passes control
@@ -40,14 +42,14 @@ pub record HasOne (q : Kind → Bool) (net : Net) : Type 0 where
   pub here : q (kind_of net unit) ≡ true
   pub only : (u : ℕ) → q (kind_of net u) ≡ true → u ≡ unit
 
--- the rules that are tried first, which ask for no table of the channels at places
-pub record KeepsBase (net : Net) : Type 0 where
-  pub c8 : KeepsC8 net
-  pub c7 : KeepsC7 net
-  pub c1 : KeepsC1 net
-  pub c2 : KeepsC2 net
-  pub c3 : KeepsC3 net
+-- units, channels, and each queue's ports and groups have numbers of 32 bits
+pub record AllNumbered (net : Net) : Type 0 where
+  pub units : IsNumbered (length net.units)
+  pub chans : IsNumbered (length net.chans)
+  pub ports : (u a d : ℕ) (ps : List Port) (gs : List (List ℕ)) (f : Bool) → kind_of net u ≡ Lsq a d ps gs f → IsNumbered (length ps)
+  pub groups : (u a d : ℕ) (ps : List Port) (gs : List (List ℕ)) (f : Bool) → kind_of net u ≡ Lsq a d ps gs f → IsNumbered (length gs)
 
+-- what is known of a net that keeps the eight rules
 pub record IsChecked (net : Net) : Type 0 where
   -- the eight rules
   pub c1 : KeepsC1 net
@@ -58,14 +60,16 @@ pub record IsChecked (net : Net) : Type 0 where
   pub c6 : KeepsC6 net
   pub c7 : KeepsC7 net
   pub c8 : KeepsC8 net
+  pub numbered : AllNumbered net
   -- channels and places
-  pub fit : EndsFit net (steers net)
+  pub fit : EndsFit net (passes_control net)
   pub within : EndsWithin net
-  pub once : EachOnce net (steers net)
+  pub once : EachOnce net (passes_control net)
+  pub to_own : (c : ℕ) → c < length net.chans → into (chan_at net c).to.unit (chan_at net c).to.place net.chans ≡ c
+  pub from_own : (c : ℕ) → c < length net.chans → out_of (chan_at net c).from.unit (chan_at net c).from.place net.chans ≡ c
   pub sized : (c : ℕ) → c < length net.chans → IsSized (chan_at net c)
   pub delayed : (c : ℕ) → c < length net.chans → IsDelayed net (chan_at net c)
   -- units
-  pub marked : (u : ℕ) → u < length net.units → IsMarked net u
   pub shapes : (u : ℕ) → HasShape (kind_of net u)
   pub named : (u : ℕ) → IsNamed net (kind_of net u)
   pub widths : (u : ℕ) → u < length net.units → IsTrue (width_fits (kind_of net u))

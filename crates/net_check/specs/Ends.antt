@@ -3,7 +3,7 @@ use Rattle.std.specs.Prelude.{◌≡◌, ◌⊎◌, ℕ, ◌<◌, ◌==◌, Bool
 use Rattle.net_types.specs.declared.net.Place.{Place}
 use Rattle.net_types.specs.declared.net.Net.{Net}
 use Rattle.net_types.specs.declared.net.Unit.{Unit as Kind}
-use Rattle.net_types.specs.declared.net.Unit.TheVariants.{Lsq}
+use Rattle.net_types.specs.declared.net.Unit.TheVariants.{Entry, Param, Const, Op1, Op2, Select, Fork, Mux, Cmerge, Branch, Sink, Read, Lsq, Exit}
 use Rattle.net_types.specs.Nets.{kind_of, chan_at, into, out_of}
 use Rattle.net_check.specs.declared.refusal.At.{At}
 use Rattle.net_check.specs.declared.refusal.At.TheVariants as «at»
@@ -11,13 +11,25 @@ use Rattle.net_check.specs.Lowest.{IsLowest}
 use Rattle.net_check.specs.Headers.{is_exit}
 
 abbrev pub is_lsq : Kind → Bool
-is_lsq (Lsq a d ps gs) = true
+is_lsq (Lsq a d ps gs f) = true
 is_lsq _ = false
 
 -- the number of the End's places, input and output, at a queue
 abbrev pub end_place : Kind → ℕ
-end_place (Lsq a d ps gs) = length gs
-end_place _ = 0
+end_place Entry = 0
+end_place (Param j) = 0
+end_place (Const w n) = 0
+end_place (Op1 op) = 0
+end_place (Op2 op) = 0
+end_place (Select w) = 0
+end_place (Fork w n) = 0
+end_place (Mux w n) = 0
+end_place (Cmerge n) = 0
+end_place (Branch w) = 0
+end_place (Sink w) = 0
+end_place (Read a) = 0
+end_place (Lsq a d ps gs f) = length gs
+end_place Exit = 0
 
 -- the place is the End of a queue
 pub record IsEnd (net : Net) (p : Place) : Type 0 where
@@ -41,6 +53,10 @@ end_target net u = (chan_at net (out_of u (end_place (kind_of net u)) net.chans)
 -- the channel out of the End of the queue u goes to an End or to the exit
 abbrev pub EndsWell : Net → ℕ → Type 0
 EndsWell net u = IsEnd net (end_target net u) ⊎ IsAtExit net (end_target net u)
+
+-- so at each queue
+abbrev pub EachEndsWell : Net → Type 0
+EachEndsWell net = (u : ℕ) → IsQueue net u → EndsWell net u
 
 -- where the channel into an input place comes from
 abbrev pub source_of : Net → ℕ → ℕ → Place
@@ -67,7 +83,7 @@ times_met us u = count_by (λ v. v == u) us
 -- C6: the channel out of each End goes to the End of a queue or to the exit, and walking back from input 0 of the exit
 -- through Ends meets each queue once
 pub record KeepsC6 (net : Net) : Type 0 where
-  pub targets : (u : ℕ) → IsQueue net u → EndsWell net u
+  pub targets : EachEndsWell net
   pub chain : List ℕ
   pub walked : IsChain net chain
   pub each : (u : ℕ) → IsQueue net u → times_met chain u ≡ 1

@@ -1,9 +1,11 @@
-ghost use Rattle.std.specs.Prelude.{◌≡◌, None, IfOk, IfErr, OnOk, MatchOption};
+ghost use Rattle.std.specs.Prelude.{◌≡◌, None, IfOk, IfErr, OnOk};
 ghost use Rattle.net_types.specs.Nets.{into, out_of};
-ghost use Rattle.net_types.specs.Rules.{KeepsC1};
-ghost use Rattle.net_check.specs.Checks.{KeepsBase, IsChecked};
+ghost use Rattle.net_types.specs.Numbered.{AreNumbered};
+ghost use Rattle.net_check.specs.Checks.{IsChecked};
 ghost use Rattle.net_check.specs.Refusals.{RefusalHolds};
-ghost use Rattle.net_check.specs.Steers.{IsTableOf};
+ghost use Rattle.net_check.specs.private.Bases.{KeepsBase};
+ghost use Rattle.net_check.specs.private.Broken.{IsRefusalBy};
+ghost use Rattle.net_check.specs.private.Steers.{IsTableOf};
 ghost use Rattle.net_check.specs.declared.wires.Side.TheVariants.{In, Out};
 
 use crate::controls::check_controls;
@@ -12,7 +14,7 @@ use crate::ends::check_ends;
 use crate::headers::check_header;
 use crate::matches::check_widths;
 use crate::places::check_places;
-use crate::refusal::{At, NetRefusal};
+use crate::refusal::{At, NetRefusal, Rule};
 use crate::shapes::check_shapes;
 use crate::sizes::check_sizes;
 use crate::wires::{Side, Wires};
@@ -33,7 +35,7 @@ impl Model for Checked {
 
     ghost Value = { Net };
 
-    ghost use Rattle.net_check.specs.Tabled.{IsTabled};
+    ghost use Rattle.net_check.specs.private.Tabled.{IsTabled};
 
     ghost view = { λ c. c.net };
 
@@ -58,8 +60,8 @@ impl Checked {
         ensures { IfOk result (λ copy. copy ≡ self.now) }
     {
         let net = self.net.copy(alloc)?;
-        let into = table(alloc, &net, Side::In)?;
-        let out_of = table(alloc, &net, Side::Out)?;
+        let into = Wires::new(alloc, &net, Side::In)?;
+        let out_of = Wires::new(alloc, &net, Side::Out)?;
         Ok(Checked { net, into, out_of })
     }
 
@@ -81,22 +83,24 @@ impl Checked {
 /// A checked net of a net that keeps the eight rules; else the first rule that it breaks, in the order C8, C7, C1, C2,
 /// C3, C4, C5, C6, with its culprit, and the net is dropped.
 ///
+/// The units and the channels have to be fewer than 2^32 each, as [`Net::is_numbered`] tells.
+///
 /// C8 costs time in proportion to the units and the header, C7 to the units and the lists of queues, C1 to the units
 /// and the channels times a logarithm, and each other rule to the units and the channels. C2, C3 and C5 take no
 /// memory. No rule takes memory in proportion to a number that stands in a unit before C7 and C1 have bounded it.
 ///
 /// # Errors
 ///
-/// [`NetRefusal::Rule`] exactly where a rule is broken, and [`NetRefusal::Memory`] where memory is wanting, or where
-/// the units or the channels are 2^32 and more.
+/// [`NetRefusal::Rule`] exactly where a rule is broken, and [`NetRefusal::Memory`] where memory is wanting.
 pub fn check_net(alloc: Global, net: Net) -> Result<Checked, NetRefusal>
+    requires { AreNumbered net }
     ensures value { IfOk result (λ checked. checked ≡ net) }
     ensures checked { OnOk result (IsChecked net) }
     ensures refused { IfErr result (λ e. RefusalHolds net e) }
 {
     check_base(alloc, &net)?;
-    let into = table(alloc, &net, Side::In)?;
-    let out_of = table(alloc, &net, Side::Out)?;
+    let into = Wires::new(alloc, &net, Side::In)?;
+    let out_of = Wires::new(alloc, &net, Side::Out)?;
     check_rest(alloc, &net, &into, &out_of)?;
     Ok(Checked { net, into, out_of })
 }
@@ -107,19 +111,20 @@ pub fn check_net(alloc: Global, net: Net) -> Result<Checked, NetRefusal>
 ///
 /// The first of them that is broken, and want of memory.
 fn check_base(alloc: Global, net: &Net) -> Result<(), NetRefusal>
+    requires { AreNumbered net.now }
     ensures kept { OnOk result (KeepsBase net.now) }
     ensures refused { IfErr result (λ e. RefusalHolds net.now e) }
 {
     let header = check_header(alloc, net)?;
-    refuse(37, header)?;
+    refuse(Rule::C8, header)?;
     let shapes = check_shapes(alloc, net)?;
-    refuse(36, shapes)?;
+    refuse(Rule::C7, shapes)?;
     let places = check_places(alloc, net)?;
-    refuse(30, places)?;
-    let widths = check_widths(net)?;
-    refuse(31, widths)?;
-    let sizes = check_sizes(net)?;
-    refuse(32, sizes)
+    refuse(Rule::C1, places)?;
+    let widths = check_widths(net);
+    refuse(Rule::C2, widths)?;
+    let sizes = check_sizes(net);
+    refuse(Rule::C3, sizes)
 }
 
 /// The other rules, where those are kept.
@@ -135,36 +140,27 @@ fn check_rest(alloc: Global, net: &Net, into: &Wires, out_of: &Wires) -> Result<
     ensures refused { IfErr result (λ e. RefusalHolds net.now e) }
 {
     let cycles = check_cycles(alloc, net)?;
-    refuse(33, cycles)?;
-    let controls = check_controls(net, into, out_of)?;
-    refuse(34, controls)?;
+    refuse(Rule::C4, cycles)?;
+    let controls = check_controls(net, into, out_of);
+    refuse(Rule::C5, controls)?;
     let ends = check_ends(alloc, net, into, out_of)?;
-    refuse(35, ends)
+    refuse(Rule::C6, ends)
 }
 
-/// Goes on where nothing was found, else refuses by the rule of this number.
+/// Goes on where nothing was found, else refuses by this rule.
 ///
 /// # Errors
 ///
 /// The rule, where something was found.
-fn refuse(rule: u32, found: Option<At>) -> Result<(), NetRefusal>
+fn refuse(rule: Rule, found: Option<At>) -> Result<(), NetRefusal>
     ensures kept { OnOk result (found ≡ None) }
-    ensures broken { IfErr result (λ e. MatchOption found ⊥ (λ at. e ≡ NetRefusal.Rule rule at)) }
+    ensures broken { IfErr result (λ e. IsRefusalBy rule found e) }
 {
     match found {
         None => Ok(()),
-        Some(at) => Err(NetRefusal::Rule { rule, at }),
+        Some(at) => Err(NetRefusal::Rule {
+            rule: rule.number(),
+            at,
+        }),
     }
-}
-
-/// The table of one side.
-///
-/// # Errors
-///
-/// [`Memory`] where memory is wanting, and past 2^32 channels.
-fn table(alloc: Global, net: &Net, side: Side) -> Result<Wires, Memory>
-    requires { KeepsC1 net.now }
-    ensures { IfOk result (λ wires. IsTableOf side net.now wires) }
-{
-    Wires::new(alloc, net.units.as_slice(), net.chans.as_slice(), side)?.ok_or(Memory)
 }

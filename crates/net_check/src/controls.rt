@@ -1,30 +1,32 @@
-ghost use Rattle.std.specs.Prelude.{◌≡◌, ℕ, ◌+◌, ◌^◌, ◌<◌, ◌++◌, suc, true, false, [], ◌∷◌, length, IfOk, MatchOption};
+ghost use Rattle.std.specs.Prelude.{◌≡◌, ℕ, ◌+◌, ◌*◌, ◌^◌, ◌<◌, suc, true, false, [], ◌∷◌, length, MatchOption};
+ghost use Rattle.net_types.specs.Numbered.{AreNumbered};
+ghost use Rattle.net_types.specs.Rules.{KeepsC1};
 ghost use Rattle.net_types.specs.declared.net.Net.{Net};
 ghost use Rattle.net_types.specs.declared.net.Unit.TheVariants.{Fork};
 ghost use Rattle.net_types.specs.Tables.{spot, spots, ins, outs, port_ins, port_outs, result_in};
-ghost use Rattle.net_check.specs.Controls.{KeepsC5, CulpritC5};
-ghost use Rattle.net_check.specs.Steers.{IsTableOf, agrees, is_mark, is_steered, marks, passes};
+ghost use Rattle.net_check.specs.Controls.{KeepsC5, CulpritC5, passes};
 ghost use Rattle.net_check.specs.declared.wires.Side.TheVariants.{In, Out};
+ghost use Rattle.net_check.specs.private.Bounds.{IsBounded};
+ghost use Rattle.net_check.specs.private.Queues.{queue_ins, queue_outs};
+ghost use Rattle.net_check.specs.private.Steers.{IsTableOf, agrees, is_mark, is_steered, marks, mux_ins, three_spots};
 
-use crate::refusal::{At, number};
+use crate::refusal::At;
 use crate::wires::Wires;
-use net_types::{Memory, Net, Port, Ty, Unit};
+use net_types::{Net, Port, Ty, Unit};
 
 /// Rule C5, control: `None` where it is kept, else the culprit.
 ///
 /// The tables tell the channels into and out of places. It costs time in proportion to the units and their places,
 /// which are as many as the ends of channels where rule C1 is kept, and takes no memory.
-///
-/// # Errors
-///
-/// [`Memory`] past 2^32 units.
-pub(crate) fn check_controls(net: &Net, into: &Wires, out_of: &Wires) -> Result<Option<At>, Memory>
+pub(crate) fn check_controls(net: &Net, into: &Wires, out_of: &Wires) -> Option<At>
+    requires places { KeepsC1 net.now }
+    requires numbered { AreNumbered net.now }
     requires ins { IsTableOf In net.now into.now }
     requires outs { IsTableOf Out net.now out_of.now }
-    ensures { IfOk result (λ o. MatchOption o (KeepsC5 net.now) (CulpritC5 net.now)) }
+    ensures { MatchOption result (KeepsC5 net.now) (CulpritC5 net.now) }
 {
     for (u, unit) in net.units.as_slice().iter().enumerate() {
-        let at = number(u)?;
+        let at = u as u32;
         let inputs = Row {
             net,
             wires: into,
@@ -35,11 +37,11 @@ pub(crate) fn check_controls(net: &Net, into: &Wires, out_of: &Wires) -> Result<
             wires: out_of,
             unit: at,
         };
-        if !is_steered(&inputs, &outputs, unit)? {
-            return Ok(Some(At::Unit(at)));
+        if !is_steered(&inputs, &outputs, unit) {
+            return Some(At::Unit(at));
         }
     }
-    Ok(None)
+    None
 }
 
 /// The places of a unit on one side, with the table that tells their channels.
@@ -82,7 +84,7 @@ impl Row<'_> {
     }
 
     fn has_three(&self, first: bool, second: bool, third: bool) -> bool
-        ensures { result ≡ agrees (marks self.now) (spot 0 0 first ∷ spot 1 0 second ∷ spot 2 0 third ∷ []) }
+        ensures { result ≡ agrees (marks self.now) (three_spots first second third) }
     {
         self.has(0, first) && self.has(1, second) && self.has(2, third)
     }
@@ -102,14 +104,15 @@ impl Row<'_> {
 
     /// Of a mux: its condition, and its data inputs.
     fn has_choices(&self, ins: u32) -> bool
-        ensures { (w : ℕ) → result ≡ agrees (marks self.now) (spot 0 32 false ∷ spots 1 w false ins) }
+        ensures { (w : ℕ) → result ≡ agrees (marks self.now) (mux_ins w ins) }
     {
         self.has(0, false) && self.has_run(1, u64::from(ins), false)
     }
 
     /// Of a fork: the first output is marked as its input, and no other.
     fn has_copies(&self, passes: bool, count: u32) -> bool
-        ensures { (net : Net) (w : ℕ) → result ≡ agrees (marks self.now) (outs net passes (Fork w count)) }
+        ensures { (net : Net) (w : ℕ)
+            → result ≡ agrees (marks self.now) (outs net passes (Fork w count)) }
     {
         count == 0 || self.has(0, passes) && self.has_run(1, u64::from(count - 1), false)
     }
@@ -132,22 +135,18 @@ impl Row<'_> {
     }
 
     /// The addresses and the data of ports, from a place on.
-    ///
-    /// # Errors
-    ///
-    /// [`Memory`] past 2^64 places.
-    fn has_sources(&self, first: u64, ports: &[Port]) -> Result<bool, Memory>
-        ensures { IfOk result (λ b. (w : ℕ) → b ≡ agrees (marks self.now) (port_ins first w ports.now)) }
+    fn has_sources(&self, first: u64, ports: &[Port]) -> bool
+        requires { first + 2 * length ports.now < 2 ^ 64 }
+        ensures { (w : ℕ) → result ≡ agrees (marks self.now) (port_ins first w ports.now) }
     {
         let mut place = first;
         for port in ports {
-            let next = place.checked_add(2).ok_or(Memory)?;
             if !self.has_source(place, *port) {
-                return Ok(false);
+                return false;
             }
-            place = next;
+            place += 2;
         }
-        Ok(true)
+        true
     }
 
     /// The address of a port, and its data where it stores.
@@ -162,22 +161,18 @@ impl Row<'_> {
     }
 
     /// The values of ports that load, from a place on.
-    ///
-    /// # Errors
-    ///
-    /// [`Memory`] past 2^64 places.
-    fn has_values(&self, first: u64, ports: &[Port]) -> Result<bool, Memory>
-        ensures { IfOk result (λ b. (w : ℕ) → b ≡ agrees (marks self.now) (port_outs first w ports.now)) }
+    fn has_values(&self, first: u64, ports: &[Port]) -> bool
+        requires { first + length ports.now < 2 ^ 64 }
+        ensures { (w : ℕ) → result ≡ agrees (marks self.now) (port_outs first w ports.now) }
     {
         let mut place = first;
         for port in ports {
-            let next = place.checked_add(1).ok_or(Memory)?;
             if !self.has_value(place, *port) {
-                return Ok(false);
+                return false;
             }
-            place = next;
+            place += 1;
         }
-        Ok(true)
+        true
     }
 
     fn has_value(&self, place: u64, port: Port) -> bool
@@ -190,26 +185,20 @@ impl Row<'_> {
     }
 
     /// Of a queue: its controls, and then its ports.
-    fn has_queue_ins(&self, groups: usize, ports: &[Port]) -> Result<bool, Memory>
-        requires { groups + 1 < 2 ^ 64 }
-        ensures { IfOk result (λ b. (w : ℕ) → b ≡ agrees (marks self.now) (spots 0 32 true (suc groups) ++ port_ins (groups + 1) w ports.now)) }
+    fn has_queue_ins(&self, groups: usize, ports: &[Port]) -> bool
+        requires { groups + 1 + 2 * length ports.now < 2 ^ 64 }
+        ensures { (w : ℕ) → result ≡ agrees (marks self.now) (queue_ins groups w ports.now) }
     {
         let groups = groups as u64;
-        if !self.has_ends(groups) {
-            return Ok(false);
-        }
-        self.has_sources(groups + 1, ports)
+        self.has_ends(groups) && self.has_sources(groups + 1, ports)
     }
 
-    fn has_queue_outs(&self, groups: usize, ports: &[Port]) -> Result<bool, Memory>
-        requires { groups + 1 < 2 ^ 64 }
-        ensures { IfOk result (λ b. (w : ℕ) → b ≡ agrees (marks self.now) (spots 0 32 true (suc groups) ++ port_outs (groups + 1) w ports.now)) }
+    fn has_queue_outs(&self, groups: usize, ports: &[Port]) -> bool
+        requires { groups + 1 + length ports.now < 2 ^ 64 }
+        ensures { (w : ℕ) → result ≡ agrees (marks self.now) (queue_outs groups w ports.now) }
     {
         let groups = groups as u64;
-        if !self.has_ends(groups) {
-            return Ok(false);
-        }
-        self.has_values(groups + 1, ports)
+        self.has_ends(groups) && self.has_values(groups + 1, ports)
     }
 
     /// Whether the unit passes control, as its inputs tell.
@@ -235,62 +224,64 @@ impl Row<'_> {
     }
 
     /// Whether the marks are those of the unit's inputs.
-    fn has_ins(&self, passes: bool, unit: &Unit) -> Result<bool, Memory>
-        ensures { IfOk result (λ b. b ≡ agrees (marks self.now) (ins self.now.net.now passes unit.now)) }
+    fn has_ins(&self, passes: bool, unit: &Unit) -> bool
+        requires { IsBounded In unit.now }
+        ensures { result ≡ agrees (marks self.now) (ins self.now.net.now passes unit.now) }
     {
         match unit {
-            Unit::Entry => Ok(true),
-            Unit::Param(_) => Ok(true),
-            Unit::Const { .. } => Ok(self.has_one(false)),
-            Unit::Op1(_) => Ok(self.has_one(false)),
-            Unit::Op2(_) => Ok(self.has_two(false, false)),
-            Unit::Select { .. } => Ok(self.has_three(false, false, false)),
-            Unit::Fork { .. } => Ok(self.has_one(passes)),
-            Unit::Mux { ins, .. } => Ok(self.has_choices(*ins)),
-            Unit::Cmerge { ins } => Ok(self.has_run(0, u64::from(*ins), true)),
-            Unit::Branch { .. } => Ok(self.has_two(false, passes)),
-            Unit::Sink { .. } => Ok(self.has_one(false)),
-            Unit::Read(_) => Ok(self.has_one(false)),
+            Unit::Entry => true,
+            Unit::Param(_) => true,
+            Unit::Const { .. } => self.has_one(false),
+            Unit::Op1(_) => self.has_one(false),
+            Unit::Op2(_) => self.has_two(false, false),
+            Unit::Select { .. } => self.has_three(false, false, false),
+            Unit::Fork { .. } => self.has_one(passes),
+            Unit::Mux { ins, .. } => self.has_choices(*ins),
+            Unit::Cmerge { ins } => self.has_run(0, u64::from(*ins), true),
+            Unit::Branch { .. } => self.has_two(false, passes),
+            Unit::Sink { .. } => self.has_one(false),
+            Unit::Read(_) => self.has_one(false),
             Unit::Lsq { ports, groups, .. } => {
                 self.has_queue_ins(groups.as_slice().len(), ports.as_slice())
             }
-            Unit::Exit => Ok(self.has_result(self.net.result)),
+            Unit::Exit => self.has_result(self.net.result),
         }
     }
 
     /// Whether the marks are those of the unit's outputs.
-    fn has_outs(&self, passes: bool, unit: &Unit) -> Result<bool, Memory>
-        ensures { IfOk result (λ b. b ≡ agrees (marks self.now) (outs self.now.net.now passes unit.now)) }
+    fn has_outs(&self, passes: bool, unit: &Unit) -> bool
+        requires { IsBounded Out unit.now }
+        ensures { result ≡ agrees (marks self.now) (outs self.now.net.now passes unit.now) }
     {
         match unit {
-            Unit::Entry => Ok(self.has_one(true)),
-            Unit::Param(_) => Ok(self.has_one(false)),
-            Unit::Const { .. } => Ok(self.has_one(false)),
-            Unit::Op1(_) => Ok(self.has_one(false)),
-            Unit::Op2(_) => Ok(self.has_one(false)),
-            Unit::Select { .. } => Ok(self.has_one(false)),
-            Unit::Fork { outs, .. } => Ok(self.has_copies(passes, *outs)),
-            Unit::Mux { .. } => Ok(self.has_one(false)),
-            Unit::Cmerge { .. } => Ok(self.has_one(true)),
-            Unit::Branch { .. } => Ok(self.has_two(passes, passes)),
-            Unit::Sink { .. } => Ok(true),
-            Unit::Read(_) => Ok(self.has_one(false)),
+            Unit::Entry => self.has_one(true),
+            Unit::Param(_) => self.has_one(false),
+            Unit::Const { .. } => self.has_one(false),
+            Unit::Op1(_) => self.has_one(false),
+            Unit::Op2(_) => self.has_one(false),
+            Unit::Select { .. } => self.has_one(false),
+            Unit::Fork { outs, .. } => self.has_copies(passes, *outs),
+            Unit::Mux { .. } => self.has_one(false),
+            Unit::Cmerge { .. } => self.has_one(true),
+            Unit::Branch { .. } => self.has_two(passes, passes),
+            Unit::Sink { .. } => true,
+            Unit::Read(_) => self.has_one(false),
             Unit::Lsq { ports, groups, .. } => {
                 self.has_queue_outs(groups.as_slice().len(), ports.as_slice())
             }
-            Unit::Exit => Ok(true),
+            Unit::Exit => true,
         }
     }
 }
 
 /// Whether the channels at the unit's places are control where the table of places says so.
-fn is_steered(inputs: &Row, outputs: &Row, unit: &Unit) -> Result<bool, Memory>
-    requires { inputs.now.net.now ≡ outputs.now.net.now }
-    ensures { IfOk result (λ b. b ≡ is_steered inputs.now.net.now (marks inputs.now) (marks outputs.now) unit.now) }
+fn is_steered(inputs: &Row, outputs: &Row, unit: &Unit) -> bool
+    requires one { inputs.now.net.now ≡ outputs.now.net.now }
+    requires ins { IsBounded In unit.now }
+    requires outs { IsBounded Out unit.now }
+    ensures { result
+        ≡ is_steered inputs.now.net.now (marks inputs.now) (marks outputs.now) unit.now }
 {
     let passes = inputs.passes(unit);
-    if !inputs.has_ins(passes, unit)? {
-        return Ok(false);
-    }
-    outputs.has_outs(passes, unit)
+    inputs.has_ins(passes, unit) && outputs.has_outs(passes, unit)
 }

@@ -1,8 +1,9 @@
-ghost use Rattle.std.specs.Prelude.{◌≡◌, ◌↔◌, ℕ, ◌+◌, ◌-◌, ◌^◌, ◌<◌, ◌==◌, ◌++◌, ◌∷◌, [], cond, IfOk, OnOk, IsTrue, MatchOption, slice_index, slice_set, true, vec_len};
+ghost use Rattle.std.specs.Prelude.{◌≡◌, ◌↔◌, ◌+◌, ◌^◌, ◌<◌, [], IfOk, OnOk, IsTrue, MatchOption, slice_index, true, vec_len};
 ghost use Rattle.std.specs.List.{All};
+ghost use Rattle.net_types.specs.Numbered.{AreNumbered};
 ghost use Rattle.net_check.specs.Cycles.{IsDelayed, IsEndless, KeepsC4, CulpritC4};
 ghost use Rattle.net_check.specs.Lowest.{IsLowest, ChanLacks};
-ghost use Rattle.net_check.specs.Peels.{IsLinked, AreTargets, target_added, AreWaits, wait_added, AreReady, IsAwaited, IsReleased, IsPeeled, IsFirstUnset};
+ghost use Rattle.net_check.specs.private.Peels.{AreDelayed, NoneEndless, IsLinked, AreTargets, target_added, AreWaits, wait_added, wait_taken, ready_added, AreReady, IsAwaited, IsReleased, IsPeeled, IsFirstUnset};
 
 use crate::refusal::{At, chan_at, unit_at};
 use net_types::{Chan, List, Memory, Net, Unit};
@@ -16,21 +17,23 @@ use std::alloc::Global;
 ///
 /// [`Memory`] where memory is wanting.
 pub(crate) fn check_cycles(alloc: Global, net: &Net) -> Result<Option<At>, Memory>
-    requires { IsLinked net.now }
+    requires linked { IsLinked net.now }
+    requires numbered { AreNumbered net.now }
     ensures { IfOk result (λ o. MatchOption o (KeepsC4 net.now) (CulpritC4 net.now)) }
 {
     if let Some(c) = first_undelayed(net) {
-        return Ok(Some(chan_at(c)?));
+        return Ok(Some(chan_at(c)));
     }
     match first_endless(alloc, net)? {
-        Some(u) => Ok(Some(unit_at(u)?)),
+        Some(u) => Ok(Some(unit_at(u))),
         None => Ok(None),
     }
 }
 
 /// The lowest channel of delay 0 out of a queue.
 fn first_undelayed(net: &Net) -> Option<usize>
-    ensures { MatchOption result (All (IsDelayed net.now) net.now.chans) (IsLowest (ChanLacks net.now (IsDelayed net.now))) }
+    ensures { MatchOption result (AreDelayed net.now)
+        (IsLowest (ChanLacks net.now (IsDelayed net.now))) }
 {
     for (c, chan) in net.chans.as_slice().iter().enumerate() {
         if !is_delayed(net, *chan) {
@@ -52,7 +55,8 @@ fn is_delayed(net: &Net, chan: Chan) -> bool
 /// The lowest unit from which channels of delay 0 can be walked backward without end.
 fn first_endless(alloc: Global, net: &Net) -> Result<Option<usize>, Memory>
     requires { IsLinked net.now }
-    ensures { IfOk result (λ o. MatchOption o ((u : ℕ) → IsEndless net.now u → ⊥) (IsLowest (IsEndless net.now))) }
+    ensures { IfOk result
+        (λ o. MatchOption o (NoneEndless net.now) (IsLowest (IsEndless net.now))) }
 {
     let peeled = peel(alloc, net)?;
     Ok(first_unset(peeled.as_slice()))
@@ -156,7 +160,8 @@ fn ready_units(alloc: Global, waits: &[usize]) -> Result<Vec<usize>, Memory>
 /// Takes one from the wait of each target, and adds those that then wait for nothing.
 fn release(targets: &[usize], waits: &mut Vec<usize>, ready: &mut Vec<usize>) -> Result<(), Memory>
     requires { IsAwaited targets.now waits.old.items }
-    ensures { OnOk result (IsReleased targets.now waits.old.items ready.old.items waits.new.items ready.new.items) }
+    ensures { OnOk result
+        (IsReleased targets.now waits.old.items ready.old.items waits.new.items ready.new.items) }
 {
     for target in targets {
         release_one(*target, waits, ready)?;
@@ -167,8 +172,9 @@ fn release(targets: &[usize], waits: &mut Vec<usize>, ready: &mut Vec<usize>) ->
 fn release_one(target: usize, waits: &mut Vec<usize>, ready: &mut Vec<usize>) -> Result<(), Memory>
     requires within { target < vec_len waits.old }
     requires some { 0 < slice_index waits.old.items target }
-    ensures wait { OnOk result (waits.new.items ≡ slice_set waits.old.items target (slice_index waits.old.items target - 1)) }
-    ensures ready { OnOk result (ready.new.items ≡ cond (slice_index waits.old.items target == 1) (ready.old.items ++ target ∷ []) ready.old.items) }
+    ensures wait { OnOk result (waits.new.items ≡ wait_taken waits.old.items target) }
+    ensures ready { OnOk result
+        (ready.new.items ≡ ready_added waits.old.items target ready.old.items) }
 {
     waits[target] -= 1;
     if waits[target] == 0 {

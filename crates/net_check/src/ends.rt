@@ -1,14 +1,15 @@
 ghost use Rattle.std.specs.Prelude.{◌≡◌, ◌↔◌, ℕ, IfOk, IsTrue, MatchOption, count_by, length, true};
 ghost use Rattle.net_types.specs.Nets.{kind_of, chan_at, out_of};
+ghost use Rattle.net_types.specs.Numbered.{AreNumbered};
 ghost use Rattle.net_types.specs.Rules.{KeepsC1};
 ghost use Rattle.net_check.specs.declared.wires.Side.TheVariants.{In, Out};
-ghost use Rattle.net_check.specs.Ends.{is_lsq, end_place, IsEnd, IsAtExit, IsQueue, EndsWell, IsAstray, IsUnmet, source_of, KeepsC6, CulpritC6};
-ghost use Rattle.net_check.specs.Firsts.{IsFirst};
+ghost use Rattle.net_check.specs.Ends.{is_lsq, end_place, IsEnd, IsAtExit, EachEndsWell, EndsWell, IsAstray, IsUnmet, source_of, KeepsC6, CulpritC6};
+ghost use Rattle.net_check.specs.private.Firsts.{IsFirst};
 ghost use Rattle.net_check.specs.Headers.{is_exit};
 ghost use Rattle.net_check.specs.Lowest.{IsLowest};
 ghost use Rattle.net_check.specs.Shapes.{KeepsC7};
-ghost use Rattle.net_check.specs.Walks.{IsMet, AreMet, IsFirstUnmet, AreAllMet};
-ghost use Rattle.net_check.specs.Wires.{IsTable};
+ghost use Rattle.net_check.specs.private.Walks.{IsMet, AreMet, IsFirstUnmet, AreAllMet};
+ghost use Rattle.net_check.specs.private.Steers.{IsTableOf};
 
 use crate::firsts::first_exit;
 use crate::refusal::{At, unit_at};
@@ -30,34 +31,36 @@ pub(crate) fn check_ends(
     ins: &Wires,
     outs: &Wires,
 ) -> Result<Option<At>, Memory>
+    requires numbered { AreNumbered net.now }
     requires places { KeepsC1 net.now }
     requires shapes { KeepsC7 net.now }
     requires exit { count_by is_exit net.now.units ≡ 1 }
-    requires ins { IsTable In ins.now.starts.items ins.now.chans.items ins.now.none net.now.chans }
-    requires outs { IsTable Out outs.now.starts.items outs.now.chans.items outs.now.none net.now.chans }
+    requires ins { IsTableOf In net.now ins.now }
+    requires outs { IsTableOf Out net.now outs.now }
     ensures { IfOk result (λ o. MatchOption o (KeepsC6 net.now) (CulpritC6 net.now)) }
 {
-    if let Some(astray) = first_astray(net, outs)? {
+    if let Some(astray) = first_astray(net, outs) {
         return Ok(Some(At::Unit(astray)));
     }
     match first_left(alloc, net, ins)? {
-        Some(left) => Ok(Some(unit_at(left)?)),
+        Some(left) => Ok(Some(unit_at(left))),
         None => Ok(None),
     }
 }
 
 /// The lowest queue whose End's channel goes neither to an End nor to the exit.
-fn first_astray(net: &Net, outs: &Wires) -> Result<Option<u32>, Memory>
-    requires { IsTable Out outs.now.starts.items outs.now.chans.items outs.now.none net.now.chans }
-    ensures { IfOk result (λ o. MatchOption o ((u : ℕ) → IsQueue net.now u → EndsWell net.now u) (IsLowest (IsAstray net.now))) }
+fn first_astray(net: &Net, outs: &Wires) -> Option<u32>
+    requires numbered { AreNumbered net.now }
+    requires outs { IsTableOf Out net.now outs.now }
+    ensures { MatchOption result (EachEndsWell net.now) (IsLowest (IsAstray net.now)) }
 {
     for (u, unit) in net.units.as_slice().iter().enumerate() {
-        let number = u32::try_from(u).map_err(|_| Memory)?;
+        let number = u as u32;
         if is_lsq(unit) && !ends_well(net, outs, number) {
-            return Ok(Some(number));
+            return Some(number);
         }
     }
-    Ok(None)
+    None
 }
 
 fn is_lsq(unit: &Unit) -> bool
@@ -68,7 +71,7 @@ fn is_lsq(unit: &Unit) -> bool
 
 /// Whether the channel out of the End of the queue goes to an End or to the exit.
 fn ends_well(net: &Net, outs: &Wires, queue: u32) -> bool
-    requires { IsTable Out outs.now.starts.items outs.now.chans.items outs.now.none net.now.chans }
+    requires { IsTableOf Out net.now outs.now }
     ensures { IsTrue result ↔ EndsWell net.now queue }
 {
     let target = target(net, outs, queue, end_place(net, queue));
@@ -106,7 +109,7 @@ fn is_at_exit(net: &Net, place: Place) -> bool
 
 /// Where the channel out of an output place goes.
 fn target(net: &Net, outs: &Wires, unit: u32, place: u64) -> Place
-    requires { IsTable Out outs.now.starts.items outs.now.chans.items outs.now.none net.now.chans }
+    requires { IsTableOf Out net.now outs.now }
     ensures { result ≡ (chan_at net.now (out_of unit place net.now.chans)).to }
 {
     match net.chans.as_slice().get(outs.at(unit, place) as usize) {
@@ -117,7 +120,7 @@ fn target(net: &Net, outs: &Wires, unit: u32, place: u64) -> Place
 
 /// Where the channel into an input place comes from.
 fn source(net: &Net, ins: &Wires, unit: u32, place: u64) -> Place
-    requires { IsTable In ins.now.starts.items ins.now.chans.items ins.now.none net.now.chans }
+    requires { IsTableOf In net.now ins.now }
     ensures { result ≡ source_of net.now unit place }
 {
     match net.chans.as_slice().get(ins.at(unit, place) as usize) {
@@ -128,25 +131,27 @@ fn source(net: &Net, ins: &Wires, unit: u32, place: u64) -> Place
 
 /// The lowest queue that the walk back from input 0 of the exit through Ends does not meet.
 fn first_left(alloc: Global, net: &Net, ins: &Wires) -> Result<Option<usize>, Memory>
+    requires numbered { AreNumbered net.now }
     requires places { KeepsC1 net.now }
     requires shapes { KeepsC7 net.now }
     requires exit { count_by is_exit net.now.units ≡ 1 }
-    requires ins { IsTable In ins.now.starts.items ins.now.chans.items ins.now.none net.now.chans }
+    requires ins { IsTableOf In net.now ins.now }
     ensures { IfOk result (λ o. MatchOption o (AreAllMet net.now) (IsLowest (IsUnmet net.now))) }
 {
-    let Some(exit) = the_exit(net.units.as_slice())? else {
+    let Some(exit) = the_exit(net) else {
         return Ok(None);
     };
     let met = met_queues(alloc, net, ins, exit)?;
     Ok(first_unmet(net.units.as_slice(), met.as_slice()))
 }
 
-fn the_exit(units: &[Unit]) -> Result<Option<u32>, Memory>
-    ensures { IfOk result (λ o. IsFirst is_exit units.now (length units.now) o) }
+fn the_exit(net: &Net) -> Option<u32>
+    requires { AreNumbered net.now }
+    ensures { IsFirst is_exit net.now.units (length net.now.units) result }
 {
-    match first_exit(units) {
-        Some(exit) => Ok(Some(u32::try_from(exit).map_err(|_| Memory)?)),
-        None => Ok(None),
+    match first_exit(net.units.as_slice()) {
+        Some(exit) => Some(exit as u32),
+        None => None,
     }
 }
 
@@ -155,7 +160,7 @@ fn met_queues(alloc: Global, net: &Net, ins: &Wires, exit: u32) -> Result<Vec<bo
     requires places { KeepsC1 net.now }
     requires shapes { KeepsC7 net.now }
     requires exit { is_exit (kind_of net.now exit) ≡ true }
-    requires ins { IsTable In ins.now.starts.items ins.now.chans.items ins.now.none net.now.chans }
+    requires ins { IsTableOf In net.now ins.now }
     ensures { IfOk result (λ met. IsMet net.now exit met.items) }
 {
     let mut met = vec![in alloc; false; net.units.as_slice().len()]?;

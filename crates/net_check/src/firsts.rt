@@ -1,8 +1,8 @@
 ghost use Rattle.std.specs.Prelude.{◌≡◌, ◌↔◌, ℕ, ◌<◌, List, length, get_or, IfOk, IsTrue, vec_len, Bool, None, Some, MatchOption, true};
 ghost use Rattle.net_types.specs.declared.net.Unit.{Unit as Kind};
-ghost use Rattle.net_check.specs.Firsts.{IsFirst};
+ghost use Rattle.net_check.specs.private.Firsts.{IsFirst};
 ghost use Rattle.net_check.specs.Headers.{is_entry, is_exit};
-ghost use Rattle.net_check.specs.Roles.{is_of, number_of, noted, noted_if};
+ghost use Rattle.net_check.specs.private.Roles.{AreFirsts, number_of, noted, noted_if};
 
 use net_types::{Memory, Unit};
 use std::alloc::Global;
@@ -78,7 +78,7 @@ pub(crate) fn firsts(
     count: usize,
 ) -> Result<Vec<Option<usize>>, Memory>
     ensures len { IfOk result (λ table. vec_len table ≡ count) }
-    ensures first { IfOk result (λ table. (p : ℕ) → p < count → IsFirst (is_of role p) units.now (length units.now) (get_or table.items p None)) }
+    ensures first { IfOk result (λ table. AreFirsts role units.now count table.items) }
 {
     let mut table = vec![in alloc; None; count]?;
     for (u, unit) in units.iter().enumerate() {

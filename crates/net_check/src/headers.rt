@@ -1,17 +1,16 @@
 ghost use Rattle.std.specs.Prelude.{◌≡◌, ◌≢◌, ◌↔◌, ℕ, ◌<◌, IfOk, IsTrue, MatchOption, length, Option, None, Some};
 ghost use Rattle.std.specs.List.{AllPairs};
 ghost use Rattle.net_types.specs.Nets.{kind_of};
+ghost use Rattle.net_types.specs.Numbered.{AreNumbered};
 ghost use Rattle.net_check.specs.Headers.{AreSized, IsHeader, header_names, IsNamed, IsFaultyC8, KeepsC8, CulpritC8};
-ghost use Rattle.net_check.specs.Tallies.{IsComplete, IsTallied, is_faulty, is_second, is_second_at, is_taken};
+ghost use Rattle.net_check.specs.private.Tallies.{IsComplete, IsTallied, is_faulty, is_second, is_second_at, is_taken};
 
 use crate::firsts::{Role, first_entry, first_exit, firsts};
 use crate::refusal::{At, unit_at};
+use el_base::MAX_ELEMENTS;
 use net_types::{Array, List, Memory, Name, Net, Unit};
 use std::alloc::Global;
 use std::collections::HashSet;
-
-/// The most elements that all arrays have together.
-const MOST_ELEMENTS: u64 = 1048576;
 
 /// Rule C8, the header and the units that it asks for: `None` where it is kept, else the culprit.
 ///
@@ -21,12 +20,13 @@ const MOST_ELEMENTS: u64 = 1048576;
 ///
 /// [`Memory`] where memory is wanting.
 pub fn check_header(alloc: Global, net: &Net) -> Result<Option<At>, Memory>
+    requires { AreNumbered net.now }
     ensures { IfOk result (λ o. MatchOption o (KeepsC8 net.now) (CulpritC8 net.now)) }
 {
     let tally = tally_of(alloc, net)?;
     for (u, unit) in net.units.as_slice().iter().enumerate() {
         if is_faulty(&tally, u, unit) {
-            return Ok(Some(unit_at(u)?));
+            return Ok(Some(unit_at(u)));
         }
     }
     if !is_complete(&tally) {
@@ -66,7 +66,8 @@ fn tally_of(alloc: Global, net: &Net) -> Result<Tally, Memory>
 
 /// Whether the unit names nothing of the header, is a second of its sort, or reads an array that has a queue.
 fn is_faulty(tally: &Tally, u: usize, unit: &Unit) -> bool
-    ensures { result ≡ is_faulty tally.now.entry tally.now.exit tally.now.params.items tally.now.queues.items u unit.now }
+    ensures { result ≡ is_faulty tally.now.entry tally.now.exit tally.now.params.items
+        tally.now.queues.items u unit.now }
 {
     match unit {
         Unit::Entry => is_second(tally.entry, u),
@@ -123,11 +124,11 @@ fn header_names(alloc: Global, net: &Net) -> Result<List<Name>, Memory>
     Ok(names)
 }
 
-/// Whether each array has an element, and all together have 1,048,576 at most.
+/// Whether each array has an element, and all together have [`MAX_ELEMENTS`] at most.
 fn are_sized(arrays: &[Array]) -> bool
     ensures { IsTrue result ↔ AreSized arrays.now }
 {
-    let mut rest = MOST_ELEMENTS;
+    let mut rest = MAX_ELEMENTS;
     for array in arrays {
         if array.len == 0 || array.len > rest {
             return false;

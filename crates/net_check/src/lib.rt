@@ -9,15 +9,12 @@ mod controls;
 mod cycles;
 mod ends;
 mod firsts;
-#[cfg(test)]
-mod given_tests;
 mod headers;
+mod laws;
 mod marks;
 mod matches;
 mod places;
 mod refusal;
-#[cfg(test)]
-mod rule_tests;
 mod shapes;
 mod sizes;
 #[cfg(test)]
@@ -27,6 +24,7 @@ mod wires;
 
 pub use checked::{Checked, check_net};
 pub use headers::check_header;
+pub use laws::{a_net_has_one_refusal, all_rules_make_a_checked_net, cycles_are_endless_walks};
 pub use matches::check_widths;
 pub use refusal::{At, NetRefusal};
 pub use shapes::check_shapes;

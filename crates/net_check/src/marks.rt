@@ -1,6 +1,6 @@
 ghost use Rattle.std.specs.Prelude.{◌≡◌, ◌↔◌, IfOk, IsTrue, true};
 ghost use Rattle.std.specs.List.{All};
-ghost use Rattle.net_check.specs.Marks.{IsEachOnce};
+ghost use Rattle.net_check.specs.private.Marks.{IsEachOnce};
 
 use net_types::Memory;
 use std::alloc::Global;

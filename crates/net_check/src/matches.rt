@@ -1,33 +1,31 @@
-ghost use Rattle.std.specs.Prelude.{◌≡◌, ◌↔◌, ◌^◌, ◌&&◌, nat_lt, IfOk, IsTrue, MatchOption, Some};
+ghost use Rattle.std.specs.Prelude.{◌≡◌, ◌↔◌, ◌^◌, ◌&&◌, nat_lt, IsTrue, MatchOption, Some};
+ghost use Rattle.net_types.specs.Numbered.{AreNumbered};
 ghost use Rattle.net_types.specs.Rules.{width_fits, is_width, IsOfWidth, KeepsC2};
 ghost use Rattle.net_types.specs.Nets.{kind_of};
 ghost use Rattle.net_check.specs.Places.{CulpritC2};
 
 use crate::refusal::{At, chan_at, unit_at};
 use crate::widths::{in_width_at, out_width_at};
-use net_types::{Chan, Memory, Net, Unit};
+use net_types::{Chan, Net, Unit};
 
 /// Rule C2, widths: `None` where it is kept, else the culprit.
 ///
 /// It costs time in proportion to the units and the channels, and takes no memory.
-///
-/// # Errors
-///
-/// [`Memory`] past 2^32 units or channels.
-pub fn check_widths(net: &Net) -> Result<Option<At>, Memory>
-    ensures { IfOk result (λ o. MatchOption o (KeepsC2 net.now) (CulpritC2 net.now)) }
+pub fn check_widths(net: &Net) -> Option<At>
+    requires { AreNumbered net.now }
+    ensures { MatchOption result (KeepsC2 net.now) (CulpritC2 net.now) }
 {
     for (u, unit) in net.units.as_slice().iter().enumerate() {
         if !width_fits(unit) {
-            return Ok(Some(unit_at(u)?));
+            return Some(unit_at(u));
         }
     }
     for (c, chan) in net.chans.as_slice().iter().enumerate() {
         if !is_of_width(net, *chan) {
-            return Ok(Some(chan_at(c)?));
+            return Some(chan_at(c));
         }
     }
-    Ok(None)
+    None
 }
 
 /// Whether the channel has the width of both its places.

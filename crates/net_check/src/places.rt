@@ -1,35 +1,38 @@
 ghost use Rattle.std.specs.Prelude.{◌≡◌, ◌↔◌, nat_lt, IfOk, IsTrue, MatchOption};
 ghost use Rattle.std.specs.List.{All};
+ghost use Rattle.net_types.specs.Numbered.{AreNumbered};
 ghost use Rattle.net_types.specs.Rules.{KeepsC1};
+ghost use Rattle.net_check.specs.declared.wires.Side.TheVariants.{In, Out};
 ghost use Rattle.net_check.specs.Lowest.{IsLowest, ChanLacks};
-ghost use Rattle.net_check.specs.Places.{HasEnds, CulpritC1};
-ghost use Rattle.net_check.specs.Wires.{bound};
-ghost use Rattle.net_check.specs.Joins.{placed, AreEnds, AreJoined, IsUnjoinedOn, knows, IsGathered, AreKnown, IsMissing, lowest};
+ghost use Rattle.net_check.specs.Places.{HasEnds, IsUnjoined, CulpritC1};
+ghost use Rattle.net_check.specs.Shapes.{KeepsC7};
+ghost use Rattle.net_check.specs.private.Bounds.{IsBounded, IsCrowded};
+ghost use Rattle.net_check.specs.private.Joins.{placed, knows, IsGathered, AreKnown, AreKnownOn, IsMissing, lowest};
 
 use crate::refusal::{At, chan_at};
-use crate::widths::{in_width_at, out_width_at};
+use crate::widths::{in_width_of, out_width_of};
 use crate::wires::{Side, bound, end_of};
-use net_types::{Chan, Memory, Net, Place, Unit};
+use net_types::{Chan, Memory, Net, Unit};
 use std::alloc::Global;
 use std::collections::BTreeSet;
 
-/// Rule C1, each place has one channel: `None` where it is kept, else the culprit.
+/// Rule C1, each place has one channel: `None` where it is kept, else the culprit. The net has to keep C7.
 ///
 /// It costs time in proportion to the units, the ports of queues and the channels, times a logarithm, and memory in
 /// proportion to the channels, whatever numbers of places the units name.
 ///
 /// # Errors
 ///
-/// [`Memory`] where memory is wanting, and past 2^32 units, channels or places of a unit.
+/// [`Memory`] where memory is wanting.
 pub(crate) fn check_places(alloc: Global, net: &Net) -> Result<Option<At>, Memory>
+    requires numbered { AreNumbered net.now }
+    requires shapes { KeepsC7 net.now }
     ensures { IfOk result (λ o. MatchOption o (KeepsC1 net.now) (CulpritC1 net.now)) }
 {
     if let Some(chan) = first_stray(net) {
-        return Ok(Some(chan_at(chan)?));
+        return Ok(Some(chan_at(chan)));
     }
-    let ins = first_unjoined(alloc, net, Side::In)?;
-    let outs = first_unjoined(alloc, net, Side::Out)?;
-    match lowest(ins, outs) {
+    match first_unjoined(alloc, net)? {
         None => Ok(None),
         Some(unit) => Ok(Some(At::Unit(unit))),
     }
@@ -37,7 +40,8 @@ pub(crate) fn check_places(alloc: Global, net: &Net) -> Result<Option<At>, Memor
 
 /// The lowest channel with an end that is no place.
 fn first_stray(net: &Net) -> Option<usize>
-    ensures { MatchOption result (All (HasEnds net.now) net.now.chans) (IsLowest (ChanLacks net.now (HasEnds net.now))) }
+    ensures { MatchOption result (All (HasEnds net.now) net.now.chans)
+        (IsLowest (ChanLacks net.now (HasEnds net.now))) }
 {
     for (c, chan) in net.chans.as_slice().iter().enumerate() {
         if !has_ends(net, *chan) {
@@ -51,44 +55,47 @@ fn first_stray(net: &Net) -> Option<usize>
 fn has_ends(net: &Net, chan: Chan) -> bool
     ensures { IsTrue result ↔ HasEnds net.now chan }
 {
-    if !is_place(net, chan.from, Side::Out) {
+    if !is_place(net, chan.from.unit, chan.from.place as u64, Side::Out) {
         return false;
     }
-    is_place(net, chan.to, Side::In)
+    is_place(net, chan.to.unit, chan.to.place as u64, Side::In)
 }
 
-/// Whether the net has this place on the side.
-fn is_place(net: &Net, place: Place, side: Side) -> bool
-    ensures { result ≡ nat_lt 0 (placed side net.now place.unit place.place) }
+/// Whether the unit has this place on the side.
+fn is_place(net: &Net, unit: u32, place: u64, side: Side) -> bool
+    ensures { result ≡ nat_lt 0 (placed side net.now unit place) }
 {
-    if place.unit as usize >= net.units.as_slice().len() {
+    if unit as usize >= net.units.as_slice().len() {
         return false;
     }
     match side {
-        Side::In => in_width_at(net, place).is_some(),
-        Side::Out => out_width_at(net, place).is_some(),
+        Side::In => in_width_of(net, unit, place).is_some(),
+        Side::Out => out_width_of(net, unit, place).is_some(),
     }
 }
 
-/// The lowest unit with a place on the side that has no channel, or more than one.
+/// The lowest unit with a place that has no channel, or more than one.
 ///
 /// # Errors
 ///
-/// [`Memory`] where memory is wanting, and past 2^32 units or places of a unit.
-fn first_unjoined(alloc: Global, net: &Net, side: Side) -> Result<Option<u32>, Memory>
-    requires { AreEnds side net.now }
-    ensures { IfOk result (λ o. MatchOption o (AreJoined side net.now) (IsLowest (IsUnjoinedOn side net.now))) }
+/// [`Memory`] where memory is wanting.
+fn first_unjoined(alloc: Global, net: &Net) -> Result<Option<u32>, Memory>
+    requires ends { All (HasEnds net.now) net.now.chans }
+    requires numbered { AreNumbered net.now }
+    requires shapes { KeepsC7 net.now }
+    ensures { IfOk result (λ o. MatchOption o (KeepsC1 net.now) (IsLowest (IsUnjoined net.now))) }
 {
-    let ends = gather(alloc, net.chans.as_slice(), side)?;
-    let missing = first_missing(net, side, &ends.known)?;
-    Ok(lowest(ends.twice, missing))
+    let ins = gather(alloc, net.chans.as_slice(), Side::In)?;
+    let outs = gather(alloc, net.chans.as_slice(), Side::Out)?;
+    let missing = first_missing(net, &ins, &outs);
+    Ok(lowest(lowest(ins.twice, outs.twice), missing))
 }
 
 /// The ends of channels on one side of units, each as its unit and place, and the lowest unit with a place at which two
 /// channels end.
 #[derive(Drop)]
 struct Gathered {
-    known: BTreeSet<(u32, u32)>,
+    known: BTreeSet<(u32, u64)>,
     twice: Option<u32>,
 }
 
@@ -104,73 +111,86 @@ fn gather(alloc: Global, chans: &[Chan], side: Side) -> Result<Gathered, Memory>
     let mut twice = None;
     for chan in chans {
         let end = end_of(chan, side);
-        if !known.insert((end.unit, end.place))? {
+        if !known.insert((end.unit, end.place as u64))? {
             twice = lowest(twice, Some(end.unit));
         }
     }
     Ok(Gathered { known, twice })
 }
 
-/// The lowest unit with a place on the side that is no end of a channel.
+/// The lowest unit with a place that is no end of a channel.
 ///
 /// It stops at the first such place, so it looks at no more places than there are ends and one more, and at the numbers
 /// of queues without a place, at most two a port.
-///
-/// # Errors
-///
-/// [`Memory`] past 2^32 units or places of a unit.
-fn first_missing(net: &Net, side: Side, known: &BTreeSet<(u32, u32)>) -> Result<Option<u32>, Memory>
-    ensures { IfOk result (λ o. IsMissing side net.now known.now o) }
+fn first_missing(net: &Net, ins: &Gathered, outs: &Gathered) -> Option<u32>
+    requires numbered { AreNumbered net.now }
+    requires shapes { KeepsC7 net.now }
+    requires ins { IsGathered In net.now.chans ins.now.known ins.now.twice }
+    ensures { IsMissing net.now ins.now.known outs.now.known result }
 {
     for (u, unit) in net.units.as_slice().iter().enumerate() {
-        let number = narrow(u)?;
-        let places = places_below(unit, side)?;
-        if !are_known(net, number, places, side, known) {
-            return Ok(Some(number));
+        let number = u as u32;
+        if is_crowded(unit, net.chans.as_slice().len()) {
+            return Some(number);
+        }
+        if !is_known_unit(net, number, unit, ins, outs) {
+            return Some(number);
         }
     }
-    Ok(None)
+    None
 }
 
-/// A number above those of all places of the unit on the side.
-///
-/// # Errors
-///
-/// [`Memory`] past 2^32.
-fn places_below(unit: &Unit, side: Side) -> Result<u32, Memory>
-    ensures { IfOk result (λ n. n ≡ bound side unit.now) }
+/// Whether the unit is a queue with more ports or groups, and so more inputs, than there are channels.
+fn is_crowded(unit: &Unit, chans: usize) -> bool
+    ensures { IsTrue result ↔ IsCrowded unit.now chans }
 {
-    narrow(bound(unit, side).ok_or(Memory)?)
+    match unit {
+        Unit::Lsq { ports, groups, .. } => {
+            ports.as_slice().len() > chans || groups.as_slice().len() > chans
+        }
+        Unit::Entry => false,
+        Unit::Param(_) => false,
+        Unit::Const { .. } => false,
+        Unit::Op1(_) => false,
+        Unit::Op2(_) => false,
+        Unit::Select { .. } => false,
+        Unit::Fork { .. } => false,
+        Unit::Mux { .. } => false,
+        Unit::Cmerge { .. } => false,
+        Unit::Branch { .. } => false,
+        Unit::Sink { .. } => false,
+        Unit::Read(_) => false,
+        Unit::Exit => false,
+    }
 }
 
-/// The number in 32 bits.
-///
-/// # Errors
-///
-/// [`Memory`] past 2^32.
-fn narrow(number: usize) -> Result<u32, Memory>
-    ensures { IfOk result (λ n. n ≡ number) }
+/// Whether each place of the unit is an end of a channel.
+fn is_known_unit(net: &Net, number: u32, unit: &Unit, ins: &Gathered, outs: &Gathered) -> bool
+    requires ins { IsBounded In unit.now }
+    requires outs { IsBounded Out unit.now }
+    ensures { IsTrue result ↔ AreKnownOn net.now ins.now.known outs.now.known number unit.now }
 {
-    Ok(u32::try_from(number).map_err(|_| Memory)?)
+    are_known(net, number, bound(unit, Side::In), Side::In, &ins.known)
+        && are_known(net, number, bound(unit, Side::Out), Side::Out, &outs.known)
 }
 
 /// Whether the places of the unit with a number below this one are ends of channels.
-fn are_known(net: &Net, unit: u32, places: u32, side: Side, known: &BTreeSet<(u32, u32)>) -> bool
+fn are_known(net: &Net, unit: u32, places: usize, side: Side, known: &BTreeSet<(u32, u64)>) -> bool
     ensures { IsTrue result ↔ AreKnown side net.now known.now unit places }
 {
     for p in 0..places {
-        let place = Place { unit, place: p };
-        if is_place(net, place, side) && !is_known(known, place) {
+        let place = p as u64;
+        if is_place(net, unit, place, side) && !is_known(known, unit, place) {
             return false;
         }
     }
     true
 }
 
-fn is_known(known: &BTreeSet<(u32, u32)>, place: Place) -> bool
-    ensures { result ≡ knows known.now place.unit place.place }
+fn is_known(known: &BTreeSet<(u32, u64)>, unit: u32, place: u64) -> bool
+    ensures { result ≡ knows known.now unit place }
 {
-    known.contains(&(place.unit, place.place))
+    known.contains(&(unit, place))
 }
 
 /// The lower of two numbers, where there are.

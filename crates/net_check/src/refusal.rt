@@ -1,6 +1,11 @@
-ghost use Rattle.std.specs.Prelude.{◌≡◌, IfOk};
+//! What a net is refused for.
+ghost use Rattle.std.specs.Prelude.{◌≡◌, ◌+◌, ◌^◌, ◌<◌};
+ghost use Rattle.net_check.specs.Refusals.{refusal_number, refusal_word, refusal_at, rule_word};
+ghost use Rattle.net_check.specs.private.Rules.{rule_number};
 
 use net_types::Memory;
+use std::error::Error;
+use std::fmt;
 
 /// What a broken rule names: a unit or a channel, by its number, or the net as a whole.
 #[derive(Clone, Copy, Debug, PartialEq, Eq)]
@@ -19,6 +24,56 @@ pub enum NetRefusal {
     Memory,
 }
 
+impl NetRefusal {
+    /// The number of the broken rule, from 30 for C1 to 37 for C8; `None` for want of memory.
+    pub fn number(&self) -> Option<u32>
+        ensures { result ≡ refusal_number self.now }
+    {
+        match self {
+            NetRefusal::Rule { rule, .. } => Some(*rule),
+            NetRefusal::Memory => None,
+        }
+    }
+
+    /// The printed word of the broken rule, `C1` to `C8`; `Memory` for want of memory.
+    pub fn word(&self) -> &'static str
+        ensures { result.now ≡ refusal_word self.now }
+    {
+        match self {
+            NetRefusal::Rule { rule, .. } => rule_word(*rule),
+            NetRefusal::Memory => "Memory",
+        }
+    }
+
+    /// What the broken rule names; `None` for want of memory.
+    pub fn at(&self) -> Option<At>
+        ensures { result ≡ refusal_at self.now }
+    {
+        match self {
+            NetRefusal::Rule { at, .. } => Some(*at),
+            NetRefusal::Memory => None,
+        }
+    }
+}
+
+/// The number and the word, as `33 C4`.
+impl fmt::Display for NetRefusal {
+    ghost use Rattle.std.specs.Prelude.{Some};
+    ghost use Rattle.net_check.specs.Refusals.{refusal_text};
+
+    ghost output = { λ refusal. Some (refusal_text refusal) };
+
+    fn fmt<W: fmt::Write>(&self, f: &mut fmt::Formatter<W>) -> fmt::Result {
+        let word = self.word();
+        match self.number() {
+            Some(number) => write!(f, "{number} {word}"),
+            None => f.write_str("want of memory"),
+        }
+    }
+}
+
+impl Error for NetRefusal {}
+
 impl From<Memory> for NetRefusal {
     ghost use Rattle.net_check.specs.declared.refusal.NetRefusal.TheVariants as refusal;
 
@@ -29,35 +84,66 @@ impl From<Memory> for NetRefusal {
     }
 }
 
-/// The unit of this number.
-///
-/// # Errors
-///
-/// [`Memory`] past 2^32, which no memory of units reaches.
-pub(crate) fn unit_at(unit: usize) -> Result<At, Memory>
-    ensures { IfOk result (λ at. at ≡ At.Unit unit) }
+/// The printed word of the rule of this number; `Rule` where there is none.
+fn rule_word(rule: u32) -> &'static str
+    ensures { result.now ≡ rule_word rule }
 {
-    Ok(At::Unit(u32::try_from(unit).map_err(|_| Memory)?))
+    match rule {
+        30 => "C1",
+        31 => "C2",
+        32 => "C3",
+        33 => "C4",
+        34 => "C5",
+        35 => "C6",
+        36 => "C7",
+        37 => "C8",
+        _ => "Rule",
+    }
+}
+
+/// A rule of nets.
+#[derive(Clone, Copy, Debug)]
+pub(crate) enum Rule {
+    C1,
+    C2,
+    C3,
+    C4,
+    C5,
+    C6,
+    C7,
+    C8,
+}
+
+impl Rule {
+    /// The number that a refusal has.
+    pub(crate) fn number(self) -> u32
+        ensures { result ≡ 29 + rule_number self }
+    {
+        match self {
+            Rule::C1 => 30,
+            Rule::C2 => 31,
+            Rule::C3 => 32,
+            Rule::C4 => 33,
+            Rule::C5 => 34,
+            Rule::C6 => 35,
+            Rule::C7 => 36,
+            Rule::C8 => 37,
+        }
+    }
+}
+
+/// The unit of this number.
+pub(crate) fn unit_at(unit: usize) -> At
+    requires { unit < 2 ^ 32 }
+    ensures { result ≡ At.Unit unit }
+{
+    At::Unit(unit as u32)
 }
 
 /// The channel of this number.
-///
-/// # Errors
-///
-/// [`Memory`] past 2^32.
-pub(crate) fn chan_at(chan: usize) -> Result<At, Memory>
-    ensures { IfOk result (λ at. at ≡ At.Chan chan) }
+pub(crate) fn chan_at(chan: usize) -> At
+    requires { chan < 2 ^ 32 }
+    ensures { result ≡ At.Chan chan }
 {
-    Ok(At::Chan(u32::try_from(chan).map_err(|_| Memory)?))
-}
-
-/// The number of a unit or a channel, from its index.
-///
-/// # Errors
-///
-/// [`Memory`] past 2^32.
-pub(crate) fn number(index: usize) -> Result<u32, Memory>
-    ensures { IfOk result (λ n. n ≡ index) }
-{
-    u32::try_from(index).map_err(|_| Memory)
+    At::Chan(chan as u32)
 }

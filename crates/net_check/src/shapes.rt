@@ -1,18 +1,15 @@
 ghost use Rattle.std.specs.Prelude.{◌≡◌, ◌↔◌, ℕ, ◌<◌, ◌≤◌, ◌++◌, IfOk, OnOk, IsTrue, MatchOption, length};
 ghost use Rattle.std.specs.List.{concat};
+ghost use Rattle.net_types.specs.Numbered.{AreNumbered};
 ghost use Rattle.net_types.specs.Queues.{IsGroup, IsQueueShape};
-ghost use Rattle.net_check.specs.Shapes.{AreGroups, IsCount, HasShape, KeepsC7, CulpritC7};
+ghost use Rattle.net_check.specs.Shapes.{IsCount, HasShape, KeepsC7, CulpritC7};
+ghost use Rattle.net_check.specs.private.Groups.{AreGroups};
 
 use crate::marks::is_each_once;
 use crate::refusal::{At, unit_at};
+use el_base::{MAX_DEPTH, MAX_WAYS};
 use net_types::{List, Memory, Net, Port, Unit};
 use std::alloc::Global;
-
-/// The greatest number of a fork's outputs and of a merge's inputs.
-const MOST_PLACES: u32 = 65536;
-
-/// The greatest depth of a queue.
-const MOST_ENTRIES: u32 = 1024;
 
 /// Rule C7, the shapes of units: `None` where it is kept, else the culprit.
 ///
@@ -22,11 +19,12 @@ const MOST_ENTRIES: u32 = 1024;
 ///
 /// [`Memory`] where memory is wanting.
 pub fn check_shapes(alloc: Global, net: &Net) -> Result<Option<At>, Memory>
+    requires { AreNumbered net.now }
     ensures { IfOk result (λ o. MatchOption o (KeepsC7 net.now) (CulpritC7 net.now)) }
 {
     for (u, unit) in net.units.as_slice().iter().enumerate() {
         if !has_shape(alloc, unit)? {
-            return Ok(Some(unit_at(u)?));
+            return Ok(Some(unit_at(u)));
         }
     }
     Ok(None)
@@ -61,7 +59,7 @@ fn has_shape(alloc: Global, unit: &Unit) -> Result<bool, Memory>
 fn is_count(count: u32) -> bool
     ensures { IsTrue result ↔ IsCount count }
 {
-    0 < count && count <= MOST_PLACES
+    0 < count && count <= MAX_WAYS
 }
 
 fn is_queue_shape(
@@ -85,7 +83,7 @@ fn is_queue_shape(
 fn are_groups(depth: u32, groups: &[List<u32>]) -> bool
     ensures { IsTrue result ↔ AreGroups depth groups.now }
 {
-    !groups.is_empty() && depth <= MOST_ENTRIES && groups.iter().all(|group| is_group(depth, group))
+    !groups.is_empty() && depth <= MAX_DEPTH && groups.iter().all(|group| is_group(depth, group))
 }
 
 fn is_group(depth: u32, group: &List<u32>) -> bool

@@ -1,9 +1,10 @@
-ghost use Rattle.std.specs.Prelude.{◌≡◌, ℕ, ◌+◌, Bool, suc, true, false, [], ◌∷◌, ◌++◌, length};
-ghost use Rattle.net_types.specs.Tables.{spot, spots, ins, outs, port_ins, port_outs, result_in, array_width, scalar_width};
+ghost use Rattle.std.specs.Prelude.{◌≡◌, Bool, false, true, [], ◌∷◌};
+ghost use Rattle.net_types.specs.Tables.{spot, spots, ins, outs, result_in, array_width, scalar_width};
 ghost use Rattle.net_types.specs.Nets.{kind_of};
 ghost use Rattle.net_types.specs.declared.net.Net.{Net};
 ghost use Rattle.net_types.specs.declared.net.Unit.TheVariants.{Fork};
-ghost use Rattle.net_check.specs.Widths.{width_in};
+ghost use Rattle.net_check.specs.private.Queues.{queue_ins, queue_outs};
+ghost use Rattle.net_check.specs.private.Widths.{width_in};
 
 use net_types::{Array, Net, Place, Port, Scalar, Ty, Unit};
 
@@ -11,24 +12,38 @@ use net_types::{Array, Net, Place, Port, Scalar, Ty, Unit};
 pub(crate) fn in_width_at(net: &Net, place: Place) -> Option<u32>
     ensures { result ≡ width_in (ins net.now false (kind_of net.now place.unit)) place.place }
 {
-    match net.units.as_slice().get(place.unit as usize) {
-        Some(unit) => in_width(net, unit, place.place),
-        None => one(place.place, 0),
-    }
+    in_width_of(net, place.unit, place.place as u64)
 }
 
 /// The width of an output place; `None` where the place does not exist.
 pub(crate) fn out_width_at(net: &Net, place: Place) -> Option<u32>
     ensures { result ≡ width_in (outs net.now false (kind_of net.now place.unit)) place.place }
 {
-    match net.units.as_slice().get(place.unit as usize) {
-        Some(unit) => out_width(net, unit, place.place),
+    out_width_of(net, place.unit, place.place as u64)
+}
+
+/// As [`in_width_at`], of a place with any number.
+pub(crate) fn in_width_of(net: &Net, unit: u32, place: u64) -> Option<u32>
+    ensures { result ≡ width_in (ins net.now false (kind_of net.now unit)) place }
+{
+    match net.units.as_slice().get(unit as usize) {
+        Some(unit) => in_width(net, unit, place),
+        None => one(place, 0),
+    }
+}
+
+/// As [`out_width_at`], of a place with any number.
+pub(crate) fn out_width_of(net: &Net, unit: u32, place: u64) -> Option<u32>
+    ensures { result ≡ width_in (outs net.now false (kind_of net.now unit)) place }
+{
+    match net.units.as_slice().get(unit as usize) {
+        Some(unit) => out_width(net, unit, place),
         None => None,
     }
 }
 
 /// The width of an input place of a unit; `None` where the unit has no such input.
-fn in_width(net: &Net, unit: &Unit, place: u32) -> Option<u32>
+fn in_width(net: &Net, unit: &Unit, place: u64) -> Option<u32>
     ensures { result ≡ width_in (ins net.now false unit.now) place }
 {
     match unit {
@@ -40,7 +55,7 @@ fn in_width(net: &Net, unit: &Unit, place: u32) -> Option<u32>
         Unit::Select { width } => three(place, 32, *width, *width),
         Unit::Fork { width, .. } => one(place, *width),
         Unit::Mux { width, ins } => selected(place, *width, *ins),
-        Unit::Cmerge { ins } => run(place, 0, *ins, 32),
+        Unit::Cmerge { ins } => run(place, 0, *ins as u64, 32),
         Unit::Branch { width } => two(place, 32, *width),
         Unit::Sink { width } => one(place, *width),
         Unit::Read(_) => one(place, 64),
@@ -60,7 +75,7 @@ fn in_width(net: &Net, unit: &Unit, place: u32) -> Option<u32>
 }
 
 /// The width of an output place of a unit; `None` where the unit has no such output.
-fn out_width(net: &Net, unit: &Unit, place: u32) -> Option<u32>
+fn out_width(net: &Net, unit: &Unit, place: u64) -> Option<u32>
     ensures { result ≡ width_in (outs net.now false unit.now) place }
 {
     match unit {
@@ -92,13 +107,13 @@ fn out_width(net: &Net, unit: &Unit, place: u32) -> Option<u32>
 }
 
 /// Of a unit with one place on this side.
-fn one(place: u32, width: u32) -> Option<u32>
+fn one(place: u64, width: u32) -> Option<u32>
     ensures { result ≡ width_in (spot 0 width false ∷ []) place }
 {
     if place == 0 { Some(width) } else { None }
 }
 
-fn two(place: u32, first: u32, second: u32) -> Option<u32>
+fn two(place: u64, first: u32, second: u32) -> Option<u32>
     ensures { result ≡ width_in (spot 0 first false ∷ spot 1 second false ∷ []) place }
 {
     match place {
@@ -108,8 +123,9 @@ fn two(place: u32, first: u32, second: u32) -> Option<u32>
     }
 }
 
-fn three(place: u32, first: u32, second: u32, third: u32) -> Option<u32>
-    ensures { result ≡ width_in (spot 0 first false ∷ spot 1 second false ∷ spot 2 third false ∷ []) place }
+fn three(place: u64, first: u32, second: u32, third: u32) -> Option<u32>
+    ensures { result
+        ≡ width_in (spot 0 first false ∷ spot 1 second false ∷ spot 2 third false ∷ []) place }
 {
     match place {
         0 => Some(first),
@@ -120,7 +136,7 @@ fn three(place: u32, first: u32, second: u32, third: u32) -> Option<u32>
 }
 
 /// Of places of one width, of a number and from a number on.
-fn run(place: u32, first: u32, count: u32, width: u32) -> Option<u32>
+fn run(place: u64, first: u64, count: u64, width: u32) -> Option<u32>
     ensures { (c : Bool) → result ≡ width_in (spots first width c count) place }
 {
     if place < first {
@@ -133,27 +149,27 @@ fn run(place: u32, first: u32, count: u32, width: u32) -> Option<u32>
 }
 
 /// Of a mux: its condition, and its data inputs.
-fn selected(place: u32, width: u32, ins: u32) -> Option<u32>
+fn selected(place: u64, width: u32, ins: u32) -> Option<u32>
     ensures { result ≡ width_in (spot 0 32 false ∷ spots 1 width false ins) place }
 {
     if place == 0 {
         Some(32)
     } else {
-        run(place, 1, ins, width)
+        run(place, 1, ins as u64, width)
     }
 }
 
 /// Of a fork: all outputs have its width.
-fn fork_out(place: u32, width: u32, count: u32) -> Option<u32>
+fn fork_out(place: u64, width: u32, count: u32) -> Option<u32>
     ensures { (net : Net) → result ≡ width_in (outs net false (Fork width count)) place }
 {
-    if place < count {
+    if place < count as u64 {
         return Some(width);
     }
     None
 }
 
-fn exit_in(place: u32, value: Option<Ty>) -> Option<u32>
+fn exit_in(place: u64, value: Option<Ty>) -> Option<u32>
     ensures { result ≡ width_in (spot 0 32 true ∷ result_in value) place }
 {
     match place {
@@ -184,8 +200,8 @@ fn scalar_width(scalars: &[Scalar], scalar: u32) -> u32
 }
 
 /// Of a queue: the controls of its groups and its end, then for each port an address, and data where it stores.
-fn queue_in(place: u32, groups: usize, width: u32, ports: &[Port]) -> Option<u32>
-    ensures { result ≡ width_in (spots 0 32 true (suc groups) ++ port_ins (groups + 1) width ports.now) place }
+fn queue_in(place: u64, groups: usize, width: u32, ports: &[Port]) -> Option<u32>
+    ensures { result ≡ width_in (queue_ins groups width ports.now) place }
 {
     let place = place as usize;
     if place <= groups {
@@ -203,8 +219,8 @@ fn queue_in(place: u32, groups: usize, width: u32, ports: &[Port]) -> Option<u32
 }
 
 /// Of a queue: the controls of its groups and its end, then the value of each port that loads.
-fn queue_out(place: u32, groups: usize, width: u32, ports: &[Port]) -> Option<u32>
-    ensures { result ≡ width_in (spots 0 32 true (suc groups) ++ port_outs (groups + 1) width ports.now) place }
+fn queue_out(place: u64, groups: usize, width: u32, ports: &[Port]) -> Option<u32>
+    ensures { result ≡ width_in (queue_outs groups width ports.now) place }
 {
     let place = place as usize;
     if place <= groups {

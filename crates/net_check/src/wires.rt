@@ -1,11 +1,12 @@
-ghost use Rattle.std.specs.Prelude.{◌≡◌, ◌⊎◌, ◌^◌, ◌<◌, ◌≤◌, length, IfOk, IfSome, IfNone};
-ghost use Rattle.net_check.specs.Wires.{wire, bound, end_of, starts_from, IsTable, Rises, Fits, IsOutside, IsStray};
+ghost use Rattle.std.specs.Prelude.{◌≡◌, ◌^◌, ◌<◌, length, IfOk};
+ghost use Rattle.net_types.specs.Numbered.{AreNumbered};
+ghost use Rattle.net_types.specs.Rules.{KeepsC1};
+ghost use Rattle.net_check.specs.declared.wires.Side.TheVariants.{In, Out};
+ghost use Rattle.net_check.specs.private.Bounds.{HasRoom, IsBounded};
+ghost use Rattle.net_check.specs.private.Wires.{wire, bound, in_bound, out_bound, end_of, starts_from, IsFilled, IsTable, Rises, Fits, AreInside};
 
-use net_types::{Chan, Memory, Place, Unit};
+use net_types::{Chan, Memory, Net, Place, Unit};
 use std::alloc::Global;
-
-/// The most channels that have numbers of 32 bits, with one more for none.
-const MOST_CHANS: usize = 4294967295;
 
 /// The input or the output side of units.
 #[derive(Clone, Copy, Debug)]
@@ -23,42 +24,60 @@ pub(crate) struct Wires {
     pub ghost fits: { Fits starts.items chans.items },
 }
 
-/// Each place of a unit has a number below this one; `None` only past 2^64.
-pub(crate) fn bound(unit: &Unit, side: Side) -> Option<usize>
-    ensures { IfSome result (λ n. n ≡ bound side unit.now) }
+/// Each place of a unit on a side has a number below this one.
+pub(crate) fn bound(unit: &Unit, side: Side) -> usize
+    requires { IsBounded side unit.now }
+    ensures { result ≡ bound side unit.now }
 {
     match side {
-        Side::In => match unit {
-            Unit::Entry => Some(0),
-            Unit::Param(_) => Some(0),
-            Unit::Const { .. } => Some(1),
-            Unit::Op1(_) => Some(1),
-            Unit::Op2(_) => Some(2),
-            Unit::Select { .. } => Some(3),
-            Unit::Fork { .. } => Some(1),
-            Unit::Mux { ins, .. } => Some(*ins as usize + 1),
-            Unit::Cmerge { ins } => Some(*ins as usize),
-            Unit::Branch { .. } => Some(2),
-            Unit::Sink { .. } => Some(1),
-            Unit::Read(_) => Some(1),
-            Unit::Lsq { ports, groups, .. } => {
-                let two = ports.as_slice().len().checked_mul(2)?;
-                let ends = groups.as_slice().len().checked_add(1)?;
-                ends.checked_add(two)
-            }
-            Unit::Exit => Some(2),
-        },
-        Side::Out => match unit {
-            Unit::Fork { outs, .. } => Some(*outs as usize),
-            Unit::Branch { .. } => Some(2),
-            Unit::Sink { .. } => Some(0),
-            Unit::Lsq { ports, groups, .. } => {
-                let ends = groups.as_slice().len().checked_add(1)?;
-                ends.checked_add(ports.as_slice().len())
-            }
-            Unit::Exit => Some(0),
-            _ => Some(1),
-        },
+        Side::In => in_bound(unit),
+        Side::Out => out_bound(unit),
+    }
+}
+
+fn in_bound(unit: &Unit) -> usize
+    requires { IsBounded In unit.now }
+    ensures { result ≡ in_bound unit.now }
+{
+    match unit {
+        Unit::Entry => 0,
+        Unit::Param(_) => 0,
+        Unit::Const { .. } => 1,
+        Unit::Op1(_) => 1,
+        Unit::Op2(_) => 2,
+        Unit::Select { .. } => 3,
+        Unit::Fork { .. } => 1,
+        Unit::Mux { ins, .. } => *ins as usize + 1,
+        Unit::Cmerge { ins } => *ins as usize,
+        Unit::Branch { .. } => 2,
+        Unit::Sink { .. } => 1,
+        Unit::Read(_) => 1,
+        Unit::Lsq { ports, groups, .. } => {
+            groups.as_slice().len() + 1 + 2 * ports.as_slice().len()
+        }
+        Unit::Exit => 2,
+    }
+}
+
+fn out_bound(unit: &Unit) -> usize
+    requires { IsBounded Out unit.now }
+    ensures { result ≡ out_bound unit.now }
+{
+    match unit {
+        Unit::Entry => 1,
+        Unit::Param(_) => 1,
+        Unit::Const { .. } => 1,
+        Unit::Op1(_) => 1,
+        Unit::Op2(_) => 1,
+        Unit::Select { .. } => 1,
+        Unit::Fork { outs, .. } => *outs as usize,
+        Unit::Mux { .. } => 1,
+        Unit::Cmerge { .. } => 1,
+        Unit::Branch { .. } => 2,
+        Unit::Sink { .. } => 0,
+        Unit::Read(_) => 1,
+        Unit::Lsq { ports, groups, .. } => groups.as_slice().len() + 1 + ports.as_slice().len(),
+        Unit::Exit => 0,
     }
 }
 
@@ -76,89 +95,67 @@ pub(crate) fn end_of(chan: &Chan, side: Side) -> Place
 ///
 /// # Errors
 ///
-/// [`Memory`] where memory is wanting, and past 2^64 places.
+/// [`Memory`] where memory is wanting.
 fn starts(alloc: Global, units: &[Unit], side: Side) -> Result<Vec<usize>, Memory>
-    ensures all { IfOk result (λ v. v.items ≡ starts_from side 0 units.now) }
+    requires { HasRoom side units.now }
+    ensures { IfOk result (λ v. v.items ≡ starts_from side 0 units.now) }
 {
     let mut starts = Vec::new(alloc);
     let mut total: usize = 0;
     for unit in units {
         starts.push(total)?;
-        let bound = bound(unit, side).ok_or(Memory)?;
-        total = total.checked_add(bound).ok_or(Memory)?;
+        total += bound(unit, side);
     }
     starts.push(total)?;
     Ok(starts)
 }
 
-/// The numbers of the channels at all places; `None` where there are 2^32 channels, or one ends outside the table.
+/// The numbers of the channels at all places; the number of channels where there is none.
 ///
 /// Filled from the last channel to the first, so that the first of two at one place stays.
 ///
 /// # Errors
 ///
 /// [`Memory`] where memory is wanting.
-fn filled(
-    alloc: Global,
-    starts: &[usize],
-    chans: &[Chan],
-    side: Side,
-) -> Result<Option<Vec<u32>>, Memory>
+fn filled(alloc: Global, starts: &[usize], chans: &[Chan], side: Side) -> Result<Vec<u32>, Memory>
     requires some { 0 < length starts.now }
     requires rising { Rises starts.now }
-    ensures table { IfOk result (λ o. IfSome o (λ table. IsTable side starts.now table.items (length chans.now) chans.now × Fits starts.now table.items × (length chans.now < 2 ^ 32))) }
-    ensures none { IfOk result (λ o. IfNone o ((2 ^ 32 ≤ length chans.now) ⊎ IsOutside side starts.now chans.now)) }
+    requires numbered { length chans.now < 2 ^ 32 }
+    requires inside { AreInside side starts.now chans.now }
+    ensures { IfOk result (λ table. IsFilled side starts.now table.items chans.now) }
 {
-    if chans.len() > MOST_CHANS {
-        return Ok(None);
-    }
     let total = starts[starts.len() - 1];
     let mut table = vec![in alloc; chans.len() as u32; total]?;
     let mut at = chans.len();
     while at > 0 {
         at -= 1;
         let place = end_of(&chans[at], side);
-        let unit = place.unit as usize;
-        if unit + 1 >= starts.len() {
-            return Ok(None);
-        }
-        let start = starts[unit];
-        let end = starts[unit + 1];
-        if place.place as usize >= end - start {
-            return Ok(None);
-        }
-        table[start + place.place as usize] = at as u32;
+        table[starts[place.unit as usize] + place.place as usize] = at as u32;
     }
-    Ok(Some(table))
+    Ok(table)
 }
 
 impl Wires {
-    /// The table of the channels at the places of a side; `None` where there are 2^32 channels, or one ends at no unit
-    /// or past the places of its unit.
+    /// The table of the channels at the places of a side, where each place has one channel.
     ///
     /// It costs time in proportion to the units, the channels and the places, and 8 bytes a unit and 4 a place.
     ///
     /// # Errors
     ///
-    /// [`Memory`] where memory is wanting, and past 2^64 places.
-    pub(crate) fn new(
-        alloc: Global,
-        units: &[Unit],
-        chans: &[Chan],
-        side: Side,
-    ) -> Result<Option<Wires>, Memory>
-        ensures table { IfOk result (λ o. IfSome o (λ w. (w.none ≡ length chans.now) × IsTable side w.starts.items w.chans.items w.none chans.now)) }
-        ensures none { IfOk result (λ o. IfNone o ((2 ^ 32 ≤ length chans.now) ⊎ IsStray side units.now chans.now)) }
+    /// [`Memory`] where memory is wanting.
+    pub(crate) fn new(alloc: Global, net: &Net, side: Side) -> Result<Wires, Memory>
+        requires places { KeepsC1 net.now }
+        requires numbered { AreNumbered net.now }
+        ensures { IfOk result (λ w. IsTable side w.starts.items w.chans.items w.none net.now.chans) }
     {
-        let starts = starts(alloc, units, side)?;
-        match filled(alloc, starts.as_slice(), chans, side)? {
-            None => Ok(None),
-            Some(table) => Ok(Some(Wires {
-                starts,
-                chans: table,
-                none: chans.len() as u32,
-            })),
-        }
+        let starts = starts(alloc, net.units.as_slice(), side)?;
+        let chans = filled(alloc, starts.as_slice(), net.chans.as_slice(), side)?;
+        let none = net.chans.as_slice().len() as u32;
+        Ok(Wires {
+            starts,
+            chans,
+            none,
+        })
     }
 
     /// The number of the channel at a place, or how many channels there are where it has none. It costs one step.

@@ -17,14 +17,16 @@ use Rattle.net_types.specs.declared.net.Port.{Port}
 use Rattle.net_types.specs.declared.net.Port.TheVariants.{Load, Store}
 use Rattle.net_types.specs.declared.net.Unit.{Unit as Kind}
 use Rattle.net_types.specs.declared.net.Unit.TheVariants.{Entry, Param, Const, Op1, Op2, Select, Fork, Mux, Cmerge, Branch, Sink, Read, Lsq, Exit}
-use Rattle.net_text.specs.Fits.{FitsU32, PlaceFits, GroupFits, GroupsFit, ScalarFits, ArrayFits, UnitFits, ChanFits, NetFits}
-use Rattle.net_text.specs.Pieces.{place_text, port_letter, ports_text, group_text, groups_text, control_parts}
-use Rattle.net_text.specs.Reads.{version_text, kernel_text, scalar_text, array_text, result_text, unit_text, chan_text}
-use Rattle.net_text.specs.Bodies.{Complete, texts}
+use Rattle.net_text.specs.declared.version.Version.{Version}
+use Rattle.net_text.specs.declared.version.Version.TheVariants.{One, Two}
+use Rattle.net_text.specs.Fits.{FitsU32, PlaceFits, GroupsFit, ScalarFits, ArrayFits, UnitFits, ChanFits, NetFits}
+use Rattle.net_text.specs.Pieces.{place_text, port_letter, ports_text, groups_text, mark_text, control_parts}
+use Rattle.net_text.specs.Reads.{kernel_text, scalar_text, array_text, result_text, unit_text, queue_end, chan_text}
+use Rattle.net_text.specs.Bodies.{Complete, first_text, texts}
 use Rattle.net_text.proofs.Cuts.{decimal_lacks}
-use Rattle.net_text.proofs.GroupTexts.{lacks-append, numbers_lack}
+use Rattle.net_text.proofs.GroupTexts.{lacks-append, groups_lack}
 use Rattle.net_text.proofs.Lists.{All_head, All_tail, All_single}
-use Rattle.net_text.proofs.Texts.{identifier_complete, kernel_complete, version_complete, all-cons}
+use Rattle.net_text.proofs.Texts.{identifier_complete, kernel_complete, first_complete, all-cons}
 
 ty_complete : (t : Ty) → Complete (ty_name t)
 ty_complete I8 = refl
@@ -120,36 +122,31 @@ ports : (ps : List Port) → Complete (ports_text ps)
 ports [] = refl
 ports (p ∷ ps) = letters (p ∷ ps)
 
-group : (g : List ℕ) → GroupFits g → Complete (group_text g)
-group [] h = refl
-group (n ∷ ns) h = numbers_lack 10 number (λ e. omega arith) n ns h
+mark_complete : (m : Bool) → Complete (mark_text m)
+mark_complete true = refl
+mark_complete false = refl
 
-group_list : (g : List ℕ) (gs : List (List ℕ)) → GroupsFit (g ∷ gs) → Complete (join_with_byte 59 (map group_text (g ∷ gs)))
-group_list g [] h = group g (All_head GroupFits g [] h)
-group_list g (x ∷ xs) h =
-    lacks-append 10 (group_text g) (59 ∷ join_with_byte 59 (map group_text (x ∷ xs))) (group g (All_head GroupFits g (x ∷ xs) h)) (group_list x xs (All_tail GroupFits g (x ∷ xs) h))
+end_complete : (ver : Version) (gs : List (List ℕ)) (m : Bool) → GroupsFit gs → Complete (queue_end ver (gs, m))
+end_complete One gs m h = groups_lack 10 (lit< tt) gs h
+end_complete Two gs m h = two (groups_text gs) (mark_text m) (groups_lack 10 (lit< tt) gs h) (mark_complete m)
 
-groups : (gs : List (List ℕ)) → GroupsFit gs → Complete (groups_text gs)
-groups [] h = refl
-groups (g ∷ gs) h = group_list g gs h
-
-unit_complete : (u : Kind) → UnitFits u → Complete (unit_text u)
-unit_complete Entry f = refl
-unit_complete Exit f = refl
-unit_complete (Param j) f = number j f
-unit_complete (Select w) f = number w f
-unit_complete (Cmerge n) f = number n f
-unit_complete (Branch w) f = number w f
-unit_complete (Sink w) f = number w f
-unit_complete (Read a) f = number a f
-unit_complete (Fork w n) f = numbers w n f.0 f.1
-unit_complete (Mux w n) f = numbers w n f.0 f.1
-unit_complete (Const w v) f = two (decimal w) (decimal v) (number w f.0) (decimal_lacks 10 v (lit< tt) f.1)
-unit_complete (Op1 op) f = op1_complete op
-unit_complete (Op2 op) f = op2_complete op
-unit_complete (Lsq a d ps gs) f =
-    two (decimal a) (decimal d ++ 32 ∷ (ports_text ps ++ 32 ∷ groups_text gs)) (number a f.array)
-    (two (decimal d) (ports_text ps ++ 32 ∷ groups_text gs) (number d f.depth) (two (ports_text ps) (groups_text gs) (ports ps) (groups gs f.groups)))
+unit_complete : (ver : Version) (u : Kind) → UnitFits u → Complete (unit_text ver u)
+unit_complete ver Entry f = refl
+unit_complete ver Exit f = refl
+unit_complete ver (Param j) f = number j f
+unit_complete ver (Select w) f = number w f
+unit_complete ver (Cmerge n) f = number n f
+unit_complete ver (Branch w) f = number w f
+unit_complete ver (Sink w) f = number w f
+unit_complete ver (Read a) f = number a f
+unit_complete ver (Fork w n) f = numbers w n f.0 f.1
+unit_complete ver (Mux w n) f = numbers w n f.0 f.1
+unit_complete ver (Const w v) f = two (decimal w) (decimal v) (number w f.0) (decimal_lacks 10 v (lit< tt) f.1)
+unit_complete ver (Op1 op) f = op1_complete op
+unit_complete ver (Op2 op) f = op2_complete op
+unit_complete ver (Lsq a d ps gs m) f =
+    two (decimal a) (decimal d ++ 32 ∷ (ports_text ps ++ 32 ∷ queue_end ver (gs, m))) (number a f.array)
+    (two (decimal d) (ports_text ps ++ 32 ∷ queue_end ver (gs, m)) (number d f.depth) (two (ports_text ps) (queue_end ver (gs, m)) (ports ps) (end_complete ver gs m f.groups)))
 
 scalar_complete : (s : Scalar) → ScalarFits s → Complete (scalar_text s)
 scalar_complete s f = two s.name (ty_name s.ty) (identifier_complete s.name f) (ty_complete s.ty)
@@ -181,14 +178,14 @@ all_map Fits f each [] h rest r = r
 all_map Fits f each (x ∷ xs) h rest r = all-cons Complete (f x) (map f xs ++ rest) (each x (All_head Fits x xs h)) (all_map Fits f each xs (All_tail Fits x xs h) rest r)
 
 -- the lines of a net that fits
-pub texts_complete : (net : Net) → NetFits net → All Complete (texts net)
-texts_complete net fits =
+pub texts_complete : (ver : Version) (net : Net) → NetFits net → All Complete (texts ver net)
+texts_complete ver net fits =
     let e = codes "end" ∷ [] in
     let c = map chan_text net.chans ++ e in
-    let u = map unit_text net.units ++ c in
+    let u = map (unit_text ver) net.units ++ c in
     let r = result_text net.result ∷ u in
     let a = map array_text net.arrays ++ r in
     let s = map scalar_text net.scalars ++ a in
-    all-cons Complete (version_text 1) (kernel_text net.name ∷ s) (version_complete 1 (lit< tt)) (all-cons Complete (kernel_text net.name) s (kernel_complete net.name fits.name)
+    all-cons Complete (first_text ver) (kernel_text net.name ∷ s) (first_complete ver) (all-cons Complete (kernel_text net.name) s (kernel_complete net.name fits.name)
     (all_map ScalarFits scalar_text scalar_complete net.scalars fits.scalars a (all_map ArrayFits array_text array_complete net.arrays fits.arrays r (all-cons Complete (result_text net.result) u (result_complete net.result)
-    (all_map UnitFits unit_text unit_complete net.units fits.units c (all_map ChanFits chan_text chan_complete net.chans fits.chans e (All_single Complete (codes "end") refl)))))))
+    (all_map UnitFits (unit_text ver) (unit_complete ver) net.units fits.units c (all_map ChanFits chan_text chan_complete net.chans fits.chans e (All_single Complete (codes "end") refl)))))))

@@ -18,23 +18,24 @@ use Rattle.net_text.proofs.Cuts.{and_first, and_second, cut_unique, cut_present,
 use Rattle.net_text.proofs.GroupTexts.{lacks-cons, lacks-append}
 use Rattle.net_text.proofs.ReadLemmas.{none_some, after_word}
 
-letter_other : (b : ℕ) → is_letter b ≡ true → b ≢ 32
-letter_other b h e = false≢true (sym (ap is_letter e) ∙ h)
+-- no byte of a name is one that is neither a letter nor a byte of words
+word_other : (c b : ℕ) → is_word c ≡ false → is_word b ≡ true → b ≢ c
+word_other c b none h e = false≢true (sym none ∙ ap is_word (sym e) ∙ h)
 
-word_other : (b : ℕ) → is_word b ≡ true → b ≢ 32
-word_other b h e = false≢true (sym (ap is_word e) ∙ h)
+letter_other : (c b : ℕ) → is_letter c ≡ false → is_letter b ≡ true → b ≢ c
+letter_other c b none h e = false≢true (sym none ∙ ap is_letter (sym e) ∙ h)
 
-words_lack : (bs : List ℕ) → list_all is_word bs ≡ true → lacks 32 bs ≡ true
-words_lack [] h = refl
-words_lack (b ∷ bs) h = lacks-cons 32 b bs (word_other b (and_first _ _ h)) (words_lack bs (and_second _ _ h))
+words_lack : (c : ℕ) → is_word c ≡ false → (bs : List ℕ) → list_all is_word bs ≡ true → lacks c bs ≡ true
+words_lack c none [] h = refl
+words_lack c none (b ∷ bs) h = lacks-cons c b bs (word_other c b none (and_first _ _ h)) (words_lack c none bs (and_second _ _ h))
 
-identifier_lacks : (bs : List ℕ) → is_identifier bs ≡ true → lacks 32 bs ≡ true
-identifier_lacks [] h = refl
-identifier_lacks (b ∷ bs) h = lacks-cons 32 b bs (letter_other b (and_first _ _ h)) (words_lack bs (and_second _ _ h))
+pub identifier_lacks : (c : ℕ) → is_letter c ≡ false → is_word c ≡ false → (bs : List ℕ) → is_identifier bs ≡ true → lacks c bs ≡ true
+identifier_lacks c letter word [] h = refl
+identifier_lacks c letter word (b ∷ bs) h = lacks-cons c b bs (letter_other c b letter (and_first _ _ h)) (words_lack c word bs (and_second _ _ h))
 
 -- no space stands in a name or a type's word
 pub name_lacks : (bs : List ℕ) → NameFits bs → lacks 32 bs ≡ true
-name_lacks bs h = identifier_lacks bs h
+name_lacks bs h = identifier_lacks 32 refl refl bs h
 
 pub ty_lacks : (t : Ty) → lacks 32 (ty_name t) ≡ true
 ty_lacks I8 = refl

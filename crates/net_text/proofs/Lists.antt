@@ -6,7 +6,9 @@ use Rattle.std.specs.List.{slice_split, onto_first, join_with_byte}
 use Rattle.std.proofs.lemmas.Bool.{ne_eqb}
 use Rattle.std.proofs.lemmas.List.Splits.{slice_split-cons_yes, slice_split-cons_no, join_with_byte-slice_split, length-slice_split}
 use Rattle.net_types.specs.declared.net.Port.{Port}
-use Rattle.net_text.specs.Fits.{Always}
+use Rattle.net_types.specs.declared.net.Net.{Net}
+use Rattle.net_text.specs.declared.version.Version.{Version}
+use Rattle.net_text.specs.Fits.{Always, WritesUnit, Writes}
 use Rattle.net_text.specs.Pieces.{port_letter, ports_text}
 use Rattle.net_text.specs.Reads.{Reads, lacks}
 use Rattle.net_text.proofs.Cuts.{lacks_head, lacks_tail}
@@ -84,3 +86,7 @@ reads_joined {X} Fits c f text bytes parts None lack form empty cut r = none
     none (x ∷ xs) h e = r (x ∷ xs) h (sym (split_map Fits c f lack x xs h) ∙ ap (slice_split (λ b. b == c)) (sym (form x xs) ∙ e) ∙ sym cut)
 reads_joined Fits c f text bytes parts (Some []) lack form empty cut r = absurd (omega (arith, ap length (r.1 ∙ cut), length-slice_split (λ b. b == c) bytes))
 reads_joined Fits c f text bytes parts (Some (x ∷ xs)) lack form empty cut r = (r.0, form x xs ∙ ap (join_with_byte c) (r.1 ∙ cut) ∙ join_with_byte-slice_split c bytes)
+
+-- the units of a net that a version can write
+pub written_units : (ver : Version) (net : Net) → Writes ver net → All (WritesUnit ver) net.units
+written_units ver net w = λ k d l. (w.fits.units k d l, w.written k d l)

@@ -16,14 +16,17 @@ use Rattle.net_types.specs.declared.net.Port.{Port}
 use Rattle.net_types.specs.declared.net.Port.TheVariants.{Load, Store}
 use Rattle.net_types.specs.declared.net.Unit.{Unit as Kind}
 use Rattle.net_types.specs.declared.net.Unit.TheVariants.{Entry, Param, Const, Op1, Op2, Select, Fork, Mux, Cmerge, Branch, Sink, Read, Lsq, Exit}
-use Rattle.net_text.specs.Fits.{FitsU32, PlaceFits, GroupFits, GroupsFit, ScalarFits, ArrayFits, UnitFits, ChanFits, NetFits, QueueFits}
-use Rattle.net_text.specs.Pieces.{place_text, port_letter, ports_text, group_text, groups_text}
-use Rattle.net_text.specs.Reads.{lacks, scalar_text, array_text, result_text, unit_text, kind_text, chan_text, delay_text}
+use Rattle.net_text.specs.declared.version.Version.{Version}
+use Rattle.net_text.specs.declared.version.Version.TheVariants.{One, Two}
+use Rattle.net_text.specs.Fits.{FitsU32, PlaceFits, GroupFits, GroupsFit, ScalarFits, ArrayFits, ChanFits, QueueFits, MarkFits, WritesUnit, Writes}
+use Rattle.net_text.specs.Pieces.{place_text, port_letter, ports_text, group_text, groups_text, mark_text}
+use Rattle.net_text.specs.Reads.{lacks, scalar_text, array_text, result_text, unit_text, kind_text, QueueEndFits, queue_end, chan_text, delay_text}
 use Rattle.net_text.specs.Bodies.{texts}
 use Rattle.net_text.proofs.Cuts.{cut_unique, cut_present, decimal_lacks, decimal_lacks_above}
-use Rattle.net_text.proofs.GroupTexts.{lacks-append, numbers_lack, ports_lack, group_lacks}
+use Rattle.net_text.proofs.GroupTexts.{lacks-append, numbers_lack, ports_lack, group_lacks, groups_lack}
 use Rattle.net_text.proofs.LineTexts.{name_lacks, ty_lacks, place_lacks, from_to, from_width, from_slots}
-use Rattle.net_text.proofs.Lists.{All_head, All_tail, split_map}
+use Rattle.net_text.proofs.Lists.{All_head, All_tail, split_map, written_units}
+use Rattle.net_text.proofs.Paths.{result_letter}
 use Rattle.net_text.proofs.ReadLemmas.{after_word}
 use Rattle.net_text.proofs.UnitKinds.{unit_kind, queue_text}
 
@@ -112,35 +115,50 @@ numbers w n x m fw fn fx fm e =
     let cut = cut_unique 32 (decimal w) (decimal n) (decimal x) (decimal m) (no_space w fw) (no_space x fx) e in
     (number w x fw fx cut.0, number n m fn fm cut.1)
 
-queue_one : (a d b c : ℕ) (ps qs : List Port) (gs hs : List (List ℕ)) → QueueFits a d gs → QueueFits b c hs → queue_text a d ps gs ≡ queue_text b c qs hs → Lsq a d ps gs ≡ Lsq b c qs hs
-queue_one a d b c ps qs gs hs f g e =
-    let one = cut_unique 32 (decimal a) (decimal d ++ 32 ∷ (ports_text ps ++ 32 ∷ groups_text gs)) (decimal b) (decimal c ++ 32 ∷ (ports_text qs ++ 32 ∷ groups_text hs)) (no_space a f.array) (no_space b g.array) e in
-    let two = cut_unique 32 (decimal d) (ports_text ps ++ 32 ∷ groups_text gs) (decimal c) (ports_text qs ++ 32 ∷ groups_text hs) (no_space d f.depth) (no_space c g.depth) one.1 in
-    let three = cut_unique 32 (ports_text ps) (groups_text gs) (ports_text qs) (groups_text hs) (ports_lack ps) (ports_lack qs) two.1 in
-    ap (λ x. Lsq x d ps gs) (number a b f.array g.array one.0) ∙ ap (λ x. Lsq b x ps gs) (number d c f.depth g.depth two.0) ∙ ap (λ x. Lsq b c x gs) (ports_one ps qs three.0) ∙ ap (λ x. Lsq b c qs x) (groups_one gs hs f.groups g.groups three.1)
+mark_one : (m n : Bool) → mark_text m ≡ mark_text n → m ≡ n
+mark_one true true e = refl
+mark_one false false e = refl
+mark_one true false e = absurd (omega (arith, ap (λ l. get_or l 0 0) e))
+mark_one false true e = absurd (omega (arith, ap (λ l. get_or l 0 0) e))
 
-kind_one : (u v : Kind) → UnitFits u → UnitFits v → kind_text u ≡ kind_text v → u ≡ v
+end_one : (ver : Version) (gs hs : List (List ℕ)) (m n : Bool) → QueueEndFits ver (gs, m) → QueueEndFits ver (hs, n) → queue_end ver (gs, m) ≡ queue_end ver (hs, n) → (gs ≡ hs) × (m ≡ n)
+end_one One gs hs m n f g e = (groups_one gs hs f.0 g.0 e, f.1 ∙ sym g.1)
+end_one Two gs hs m n f g e =
+    let cut = cut_unique 32 (groups_text gs) (mark_text m) (groups_text hs) (mark_text n) (groups_lack 32 (lit< tt) gs f.0) (groups_lack 32 (lit< tt) hs g.0) e in
+    (groups_one gs hs f.0 g.0 cut.0, mark_one m n cut.1)
+
+queue_one : (ver : Version) (a d b c : ℕ) (ps qs : List Port) (gs hs : List (List ℕ)) (m n : Bool) → QueueFits a d gs × MarkFits ver m → QueueFits b c hs × MarkFits ver n
+    → queue_text ver a d ps gs m ≡ queue_text ver b c qs hs n → Lsq a d ps gs m ≡ Lsq b c qs hs n
+queue_one ver a d b c ps qs gs hs m n f g e =
+    let one = cut_unique 32 (decimal a) (decimal d ++ 32 ∷ (ports_text ps ++ 32 ∷ queue_end ver (gs, m))) (decimal b) (decimal c ++ 32 ∷ (ports_text qs ++ 32 ∷ queue_end ver (hs, n))) (no_space a f.0.array) (no_space b g.0.array) e in
+    let two = cut_unique 32 (decimal d) (ports_text ps ++ 32 ∷ queue_end ver (gs, m)) (decimal c) (ports_text qs ++ 32 ∷ queue_end ver (hs, n)) (no_space d f.0.depth) (no_space c g.0.depth) one.1 in
+    let three = cut_unique 32 (ports_text ps) (queue_end ver (gs, m)) (ports_text qs) (queue_end ver (hs, n)) (ports_lack ps) (ports_lack qs) two.1 in
+    let four = end_one ver gs hs m n (f.0.groups, f.1) (g.0.groups, g.1) three.1 in
+    ap (λ x. Lsq x d ps gs m) (number a b f.0.array g.0.array one.0) ∙ ap (λ x. Lsq b x ps gs m) (number d c f.0.depth g.0.depth two.0) ∙ ap (λ x. Lsq b c x gs m) (ports_one ps qs three.0)
+    ∙ ap (λ x. Lsq b c qs x m) four.0 ∙ ap (λ x. Lsq b c qs hs x) four.1
+
+kind_one : (ver : Version) (u v : Kind) → WritesUnit ver u → WritesUnit ver v → kind_text ver u ≡ kind_text ver v → u ≡ v
 unfolding mark
-kind_one Entry Entry f g e = refl
-kind_one Exit Exit f g e = refl
-kind_one (Param m) (Param n) f g e = ap Param (number m n f g (after_word (codes "param ") (decimal m) (decimal n) e))
-kind_one (Select m) (Select n) f g e = ap Select (number m n f g (after_word (codes "select ") (decimal m) (decimal n) e))
-kind_one (Cmerge m) (Cmerge n) f g e = ap Cmerge (number m n f g (after_word (codes "cmerge ") (decimal m) (decimal n) e))
-kind_one (Branch m) (Branch n) f g e = ap Branch (number m n f g (after_word (codes "branch ") (decimal m) (decimal n) e))
-kind_one (Sink m) (Sink n) f g e = ap Sink (number m n f g (after_word (codes "sink ") (decimal m) (decimal n) e))
-kind_one (Read m) (Read n) f g e = ap Read (number m n f g (after_word (codes "read ") (decimal m) (decimal n) e))
-kind_one (Fork w n) (Fork x m) f g e = let p = numbers w n x m f.0 f.1 g.0 g.1 (after_word (codes "fork ") (decimal w ++ 32 ∷ decimal n) (decimal x ++ 32 ∷ decimal m) e) in ap (λ z. Fork z n) p.0 ∙ ap (λ z. Fork x z) p.1
-kind_one (Mux w n) (Mux x m) f g e = let p = numbers w n x m f.0 f.1 g.0 g.1 (after_word (codes "mux ") (decimal w ++ 32 ∷ decimal n) (decimal x ++ 32 ∷ decimal m) e) in ap (λ z. Mux z n) p.0 ∙ ap (λ z. Mux x z) p.1
-kind_one (Const w n) (Const x m) f g e =
-    let cut = cut_unique 32 (decimal w) (decimal n) (decimal x) (decimal m) (no_space w f.0) (no_space x g.0) (after_word (codes "const ") (decimal w ++ 32 ∷ decimal n) (decimal x ++ 32 ∷ decimal m) e) in
-    ap (λ z. Const z n) (number w x f.0 g.0 cut.0) ∙ ap (λ z. Const x z) (decimal_injective n m f.1 g.1 cut.1)
-kind_one (Op1 m) (Op1 n) f g e = ap Op1 (op1_name_injective m n (after_word (codes "op1 ") (op1_name m) (op1_name n) e))
-kind_one (Op2 m) (Op2 n) f g e = ap Op2 (op2_name_injective m n (after_word (codes "op2 ") (op2_name m) (op2_name n) e))
-kind_one (Lsq a d ps gs) (Lsq b c qs hs) f g e = queue_one a d b c ps qs gs hs f g (after_word (codes "lsq ") (queue_text a d ps gs) (queue_text b c qs hs) e)
-kind_one u v f g e = absurd (omega (arith, ap mark e))
+kind_one ver Entry Entry f g e = refl
+kind_one ver Exit Exit f g e = refl
+kind_one ver (Param m) (Param n) f g e = ap Param (number m n f.0 g.0 (after_word (codes "param ") (decimal m) (decimal n) e))
+kind_one ver (Select m) (Select n) f g e = ap Select (number m n f.0 g.0 (after_word (codes "select ") (decimal m) (decimal n) e))
+kind_one ver (Cmerge m) (Cmerge n) f g e = ap Cmerge (number m n f.0 g.0 (after_word (codes "cmerge ") (decimal m) (decimal n) e))
+kind_one ver (Branch m) (Branch n) f g e = ap Branch (number m n f.0 g.0 (after_word (codes "branch ") (decimal m) (decimal n) e))
+kind_one ver (Sink m) (Sink n) f g e = ap Sink (number m n f.0 g.0 (after_word (codes "sink ") (decimal m) (decimal n) e))
+kind_one ver (Read m) (Read n) f g e = ap Read (number m n f.0 g.0 (after_word (codes "read ") (decimal m) (decimal n) e))
+kind_one ver (Fork w n) (Fork x m) f g e = let p = numbers w n x m f.0.0 f.0.1 g.0.0 g.0.1 (after_word (codes "fork ") (decimal w ++ 32 ∷ decimal n) (decimal x ++ 32 ∷ decimal m) e) in ap (λ z. Fork z n) p.0 ∙ ap (λ z. Fork x z) p.1
+kind_one ver (Mux w n) (Mux x m) f g e = let p = numbers w n x m f.0.0 f.0.1 g.0.0 g.0.1 (after_word (codes "mux ") (decimal w ++ 32 ∷ decimal n) (decimal x ++ 32 ∷ decimal m) e) in ap (λ z. Mux z n) p.0 ∙ ap (λ z. Mux x z) p.1
+kind_one ver (Const w n) (Const x m) f g e =
+    let cut = cut_unique 32 (decimal w) (decimal n) (decimal x) (decimal m) (no_space w f.0.0) (no_space x g.0.0) (after_word (codes "const ") (decimal w ++ 32 ∷ decimal n) (decimal x ++ 32 ∷ decimal m) e) in
+    ap (λ z. Const z n) (number w x f.0.0 g.0.0 cut.0) ∙ ap (λ z. Const x z) (decimal_injective n m f.0.1 g.0.1 cut.1)
+kind_one ver (Op1 m) (Op1 n) f g e = ap Op1 (op1_name_injective m n (after_word (codes "op1 ") (op1_name m) (op1_name n) e))
+kind_one ver (Op2 m) (Op2 n) f g e = ap Op2 (op2_name_injective m n (after_word (codes "op2 ") (op2_name m) (op2_name n) e))
+kind_one ver (Lsq a d ps gs m) (Lsq b c qs hs n) f g e = queue_one ver a d b c ps qs gs hs m n f g (after_word (codes "lsq ") (queue_text ver a d ps gs m) (queue_text ver b c qs hs n) e)
+kind_one ver u v f g e = absurd (omega (arith, ap mark e))
 
-unit_one : (u v : Kind) → UnitFits u → UnitFits v → unit_text u ≡ unit_text v → u ≡ v
-unit_one u v f g e = kind_one u v f g (after_word (codes "unit ") (kind_text u) (kind_text v) (sym (unit_kind u) ∙ e ∙ unit_kind v))
+unit_one : (ver : Version) (u v : Kind) → WritesUnit ver u → WritesUnit ver v → unit_text ver u ≡ unit_text ver v → u ≡ v
+unit_one ver u v f g e = kind_one ver u v f g (after_word (codes "unit ") (kind_text ver u) (kind_text ver v) (sym (unit_kind ver u) ∙ e ∙ unit_kind ver v))
 
 scalar_one : (s t : Scalar) → ScalarFits s → ScalarFits t → scalar_text s ≡ scalar_text t → s ≡ t
 scalar_one s t f g e =
@@ -213,18 +231,14 @@ peel Fits f b one begins (x ∷ xs) (y ∷ ys) t u h k nt nu e =
     let head : x ≡ y = one x y (All_head Fits x xs h) (All_head Fits y ys k) (ap (λ l. get_or l 0 []) e) in
     (ap (λ z. z ∷ xs) head ∙ ap (λ l. y ∷ l) rest.0, rest.1)
 
-result_first : (t : Option Ty) → get_or (result_text t) 0 0 ≡ 114
-result_first None = refl
-result_first (Some t) = refl
-
 after_scalars : (xs : List Array) (t : Option Ty) (rest : List (List ℕ)) → first (map array_text xs ++ result_text t ∷ rest) ≢ 115
 unfolding first
-after_scalars [] t rest e = omega (arith, sym (result_first t) ∙ e)
+after_scalars [] t rest e = omega (arith, sym (result_letter t) ∙ e)
 after_scalars (x ∷ xs) t rest e = omega (arith, e)
 
 after_arrays : (t : Option Ty) (rest : List (List ℕ)) → first (result_text t ∷ rest) ≢ 97
 unfolding first
-after_arrays t rest e = omega (arith, sym (result_first t) ∙ e)
+after_arrays t rest e = omega (arith, sym (result_letter t) ∙ e)
 
 after_units : (cs : List Chan) → first (map chan_text cs ++ codes "end" ∷ []) ≢ 117
 unfolding first
@@ -236,18 +250,20 @@ unfolding first
 after_chans e = omega (arith, e)
 
 -- two nets of the same lines are one
-pub net_one : (m n : Net) → NetFits m → NetFits n → texts m ≡ texts n → m ≡ n
-net_one m n f g e =
+pub net_one : (ver : Version) (m n : Net) → Writes ver m → Writes ver n → texts ver m ≡ texts ver n → m ≡ n
+net_one ver m n wm wn e =
+    let f = wm.fits in
+    let g = wn.fits in
     let name = after_word (codes "kernel ") m.name n.name (ap (λ l. get_or l 1 []) e) in
     let cm = map chan_text m.chans ++ codes "end" ∷ [] in
     let cn = map chan_text n.chans ++ codes "end" ∷ [] in
-    let um = map unit_text m.units ++ cm in
-    let un = map unit_text n.units ++ cn in
+    let um = map (unit_text ver) m.units ++ cm in
+    let un = map (unit_text ver) n.units ++ cn in
     let s = peel ScalarFits scalar_text 115 scalar_one (λ x. refl) m.scalars n.scalars (map array_text m.arrays ++ result_text m.result ∷ um) (map array_text n.arrays ++ result_text n.result ∷ un) f.scalars g.scalars
     (after_scalars m.arrays m.result um) (after_scalars n.arrays n.result un) (ap (drop 2) e) in
     let a = peel ArrayFits array_text 97 array_one (λ x. refl) m.arrays n.arrays (result_text m.result ∷ um) (result_text n.result ∷ un) f.arrays g.arrays (after_arrays m.result um) (after_arrays n.result un) s.1 in
     let r = result_one m.result n.result (ap (λ l. get_or l 0 []) a.1) in
-    let u = peel UnitFits unit_text 117 unit_one (λ x. ap (λ l. get_or l 0 0) (unit_kind x)) m.units n.units cm cn f.units g.units (after_units m.chans) (after_units n.chans) (ap (drop 1) a.1) in
+    let u = peel (WritesUnit ver) (unit_text ver) 117 (unit_one ver) (λ x. ap (λ l. get_or l 0 0) (unit_kind ver x)) m.units n.units cm cn (written_units ver m wm) (written_units ver n wn) (after_units m.chans) (after_units n.chans) (ap (drop 1) a.1) in
     let c = peel ChanFits chan_text 99 chan_one (λ x. refl) m.chans n.chans (codes "end" ∷ []) (codes "end" ∷ []) f.chans g.chans after_chans after_chans u.1 in
     let e1 : m ≡ record m { name = n.name } = ap (λ x. record m { name = x }) name in
     e1 ∙ ap (λ x. record n { scalars = x; arrays = m.arrays; result = m.result; units = m.units; chans = m.chans }) s.0 ∙ ap (λ x. record n { arrays = x; result = m.result; units = m.units; chans = m.chans }) a.0

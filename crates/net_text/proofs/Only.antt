@@ -10,15 +10,19 @@ use Rattle.net_text.specs.declared.body.Stage.{Stage}
 use Rattle.net_text.specs.declared.body.Stage.TheVariants.{Scalars, Ended}
 use Rattle.net_text.specs.declared.refusal.TextRefusal.{TextRefusal}
 use Rattle.net_text.specs.declared.refusal.TextRefusal.TheVariants as refusal
-use Rattle.net_text.specs.Fits.{NetFits}
-use Rattle.net_text.specs.Texts.{NetText}
-use Rattle.net_text.specs.Reads.{lacks, version_text}
-use Rattle.net_text.specs.Bodies.{Complete, text_of, texts, body_texts, may_stand}
+use Rattle.net_text.specs.declared.version.Version.{Version}
+use Rattle.net_text.specs.declared.version.Version.TheVariants.{One, Two}
+use Rattle.net_types.specs.declared.net.Unit.{Unit as Kind}
+use Rattle.net_types.specs.declared.net.Unit.TheVariants.{Entry, Param, Const, Op1, Op2, Select, Fork, Mux, Cmerge, Branch, Sink, Read, Lsq, Exit}
+use Rattle.net_text.specs.Fits.{NetFits, IsWritten, Writes}
+use Rattle.net_text.specs.Texts.{NetText, OldText, net_text, version_number}
+use Rattle.net_text.specs.Reads.{lacks, version_text, kernel_text}
+use Rattle.net_text.specs.Bodies.{Complete, text_of, first_text, texts, body_texts, may_stand}
 use Rattle.net_text.specs.Refusals.{Begins, Spells, IsOtherVersion, IsMisplaced, IsWrongLine, IsCutShort, Says, ReadsBack, IsOnly}
 use Rattle.net_text.proofs.Cuts.{cut_unique, cut_present}
 use Rattle.net_text.proofs.Lists.{All_head, All_tail}
 use Rattle.net_text.proofs.Paths.{Allowed, Path, path_at, body_path}
-use Rattle.net_text.proofs.Texts.{body_reaches, is_first, text_is}
+use Rattle.net_text.proofs.Texts.{body_reaches, is_first, one_version, first_complete, text_is}
 use Rattle.net_text.proofs.OneNet.{net_one}
 use Rattle.net_text.proofs.CompleteLines.{texts_complete}
 
@@ -53,14 +57,14 @@ abbrev Stops : List (List ℕ) → List ℕ → Type 0
 Stops a r = IsMisplaced a r ⊎ (Spells a × (0 < length r))
 
 spells_begins : (a : List (List ℕ)) → Spells a → Begins a
-spells_begins a w = record { net = w.net; fits = w.fits; more = []; whole = w.whole ∙ sym (append-nil a) }
+spells_begins a w = record { version = w.version; net = w.net; writes = w.writes; more = []; whole = w.whole ∙ sym (append-nil a) }
 
 stops_begins : (a : List (List ℕ)) (r : List ℕ) → Stops a r → Begins a
 stops_begins a r (inl m) = m.begins
 stops_begins a r (inr w) = spells_begins a w.0
 
 begins_less : (a k : List (List ℕ)) (l : List ℕ) → Begins (a ++ l ∷ k) → Begins (a ++ l ∷ [])
-begins_less a k l b = record { net = b.net; fits = b.fits; more = k ++ b.more; whole = b.whole ∙ simp append_assoc refl }
+begins_less a k l b = record { version = b.version; net = b.net; writes = b.writes; more = k ++ b.more; whole = b.whole ∙ simp append_assoc refl }
 
 never_ended : (x : BodyLine) → may_stand x Ended ≡ false
 never_ended (Scalar s) = refl
@@ -73,9 +77,11 @@ never_ended End = refl
 -- no line comes after a whole text
 spells_more : (a k : List (List ℕ)) (l : List ℕ) → Spells a → Begins (a ++ l ∷ k) → ⊥
 spells_more a k l w b =
-    let P : Stage → Type 0 = λ t. Allowed t l in
-    let same : body_texts b.net ≡ body_texts w.net ++ l ∷ (k ++ b.more) = ap (drop 2) (b.whole ∙ ap (λ ls. (ls ++ l ∷ k) ++ b.more) (sym w.whole)) ∙ append_assoc (body_texts w.net) (l ∷ k) b.more in
-    let at : Allowed Ended l = subst P (body_reaches w.net) (path_at Scalars (body_texts w.net) (k ++ b.more) l (subst (Path Scalars) same (body_path b.net b.fits))) in
+    let P : Stage → Type 0 = λ t. Allowed b.version t l in
+    let same : body_texts b.version b.net ≡ body_texts w.version w.net ++ l ∷ (k ++ b.more) =
+    ap (drop 2) (b.whole ∙ ap (λ ls. (ls ++ l ∷ k) ++ b.more) (sym w.whole)) ∙ append_assoc (body_texts w.version w.net) (l ∷ k) b.more in
+    let at : Allowed b.version Ended l = subst P (body_reaches w.version w.net)
+    (path_at b.version Scalars (body_texts w.version w.net) (k ++ b.more) l (subst (Path b.version Scalars) same (body_path b.version b.net b.writes))) in
     false≢true (sym (never_ended at.value) ∙ at.stands)
 
 no_more : (a k : List (List ℕ)) (r s l : List ℕ) → Complete l → Stops a r → r ≡ text_of (l ∷ k) ++ s → Begins (a ++ l ∷ k) → ⊥
@@ -127,35 +133,68 @@ line_ends bytes n w v =
     let same = stop_and_end w.before v.before w.rest v.rest v.complete w.wrong v.begins v.incomplete (compare w.before v.before w.rest v.rest w.complete v.complete (sym w.whole ∙ v.whole)) in
     ends_stop w.before v.before w.rest v.rest w.wrong same.0 same.1 v.incomplete v.unended
 
-net_whole : (bytes : List ℕ) (net : Net) → NetText net bytes → bytes ≡ text_of (texts net) ++ []
-net_whole bytes net t = t ∙ sym (text_is net) ∙ sym (append-nil (text_of (texts net)))
+-- version 2 writes each unit
+all_marks : (u : Kind) → IsWritten Two u
+all_marks Entry = tt
+all_marks (Param j) = tt
+all_marks (Const w n) = tt
+all_marks (Op1 op) = tt
+all_marks (Op2 op) = tt
+all_marks (Select w) = tt
+all_marks (Fork w n) = tt
+all_marks (Mux w n) = tt
+all_marks (Cmerge n) = tt
+all_marks (Branch w) = tt
+all_marks (Sink w) = tt
+all_marks (Read a) = tt
+all_marks (Lsq a d ps gs f) = tt
+all_marks Exit = tt
 
-own : (net : Net) → NetFits net → Spells (texts net)
-own net f = record { net = net; fits = f; whole = refl }
+two_is_not_one : Two ≢ One
+two_is_not_one e = omega (arith, ap version_number e)
+
+-- bytes are the text of a net that a version can write
+record IsIn (bytes : List ℕ) (net : Net) : Type 0 where
+  version : Version
+  writes : Writes version net
+  whole : bytes ≡ text_of (texts version net) ++ []
+
+in_version : (ver : Version) (bytes : List ℕ) (net : Net) → NetFits net → All (IsWritten ver) net.units → bytes ≡ net_text ver net → IsIn bytes net
+in_version ver bytes net f w t = record { version = ver; writes = record { fits = f; written = w }; whole = t ∙ sym (text_is ver net) ∙ sym (append-nil (text_of (texts ver net))) }
+
+is_in : (bytes : List ℕ) (net : Net) → NetFits net → NetText net bytes ⊎ OldText net bytes → IsIn bytes net
+is_in bytes net f (inl t) = in_version Two bytes net f (λ k d l. all_marks (get_or net.units k d)) t
+is_in bytes net f (inr t) = in_version One bytes net f t.unmarked t.text
+
+own : (bytes : List ℕ) (net : Net) (t : IsIn bytes net) → Spells (texts t.version net)
+own bytes net t = record { version = t.version; net = net; writes = t.writes; whole = refl }
+
+in_complete : (bytes : List ℕ) (net : Net) (t : IsIn bytes net) → All Complete (texts t.version net)
+in_complete bytes net t = texts_complete t.version net t.writes.fits
 
 line_stop : (a : List (List ℕ)) (r : List ℕ) → Stops a r → r ≡ [] → ⊥
 line_stop a r (inl m) f = cut_present 10 m.text m.more (ap (lacks 10) (sym m.whole ∙ f))
 line_stop a r (inr w) f = omega (arith, w.1, ap length f)
 
-net_line : (bytes : List ℕ) (net : Net) (n : ℕ) → NetFits net → NetText net bytes → IsWrongLine bytes n → ⊥
-net_line bytes net n f t w =
-    let same = stop_and_end w.before (texts net) w.rest [] (texts_complete net f) w.wrong (spells_begins (texts net) (own net f)) refl
-    (compare w.before (texts net) w.rest [] w.complete (texts_complete net f) (sym w.whole ∙ net_whole bytes net t)) in
+net_line : (bytes : List ℕ) (net : Net) (n : ℕ) → IsIn bytes net → IsWrongLine bytes n → ⊥
+net_line bytes net n t w =
+    let same = stop_and_end w.before (texts t.version net) w.rest [] (in_complete bytes net t) w.wrong (spells_begins (texts t.version net) (own bytes net t)) refl
+    (compare w.before (texts t.version net) w.rest [] w.complete (in_complete bytes net t) (sym w.whole ∙ t.whole)) in
     line_stop w.before w.rest w.wrong same.1
 
-net_ends : (bytes : List ℕ) (net : Net) → NetFits net → NetText net bytes → IsCutShort bytes → ⊥
-net_ends bytes net f t w =
-    let same = both_end (texts net) w.before [] w.rest refl w.incomplete (compare (texts net) w.before [] w.rest (texts_complete net f) w.complete (sym (net_whole bytes net t) ∙ w.whole)) in
-    w.unended (subst Spells same.0 (own net f))
+net_ends : (bytes : List ℕ) (net : Net) → IsIn bytes net → IsCutShort bytes → ⊥
+net_ends bytes net t w =
+    let same = both_end (texts t.version net) w.before [] w.rest refl w.incomplete (compare (texts t.version net) w.before [] w.rest (in_complete bytes net t) w.complete (sym t.whole ∙ w.whole)) in
+    w.unended (subst Spells same.0 (own bytes net t))
 
 lines_version : (bytes : List ℕ) (ls : List (List ℕ)) (rest : List ℕ) → bytes ≡ text_of ls ++ rest → Begins ls → (ls ≡ [] → Complete rest) → IsOtherVersion bytes → ⊥
 lines_version bytes [] rest e b c o = cut_present 10 (version_text o.number) o.more (ap (lacks 10) (sym o.whole ∙ e) ∙ c refl)
 lines_version bytes (l ∷ ls) rest e b c o =
-    let first : l ≡ version_text 1 = sym (ap (λ l. get_or l 0 []) b.whole) in
-    is_first (text_of ls ++ rest) (subst IsOtherVersion (e ∙ cons_whole l ls rest ∙ ap (λ l. l ++ 10 ∷ (text_of ls ++ rest)) first) o)
+    let first : l ≡ first_text b.version = sym (ap (λ l. get_or l 0 []) b.whole) in
+    is_first b.version (text_of ls ++ rest) (subst IsOtherVersion (e ∙ cons_whole l ls rest ∙ ap (λ l. l ++ 10 ∷ (text_of ls ++ rest)) first) o)
 
-net_version : (bytes : List ℕ) (net : Net) → NetFits net → NetText net bytes → IsOtherVersion bytes → ⊥
-net_version bytes net f t o = lines_version bytes (texts net) [] (net_whole bytes net t) (spells_begins (texts net) (own net f)) (λ e. refl) o
+net_version : (bytes : List ℕ) (net : Net) → IsIn bytes net → IsOtherVersion bytes → ⊥
+net_version bytes net t o = lines_version bytes (texts t.version net) [] t.whole (spells_begins (texts t.version net) (own bytes net t)) (λ e. refl) o
 
 ends_version : (bytes : List ℕ) → IsCutShort bytes → IsOtherVersion bytes → ⊥
 ends_version bytes w o = lines_version bytes w.before w.rest w.whole w.begins (λ e. w.incomplete) o
@@ -164,9 +203,9 @@ ends_version bytes w o = lines_version bytes w.before w.rest w.whole w.begins (�
 pub only_refusal : (bytes : List ℕ) (r : Result Net TextRefusal) (e : TextRefusal) → Says bytes r → e ≢ refusal.Memory → Says bytes (Err e) → (r ≡ Err e) ⊎ (r ≡ Err refusal.Memory)
 only_refusal bytes (Err refusal.Memory) e s m t = inr refl
 only_refusal bytes r refusal.Memory s m t = absurd (m refl)
-only_refusal bytes (Ok net) refusal.Version s m t = absurd (net_version bytes net s.0 s.1 t)
-only_refusal bytes (Ok net) (refusal.Line n) s m t = absurd (net_line bytes net n s.0 s.1 t.1)
-only_refusal bytes (Ok net) refusal.Ends s m t = absurd (net_ends bytes net s.0 s.1 t)
+only_refusal bytes (Ok net) refusal.Version s m t = absurd (net_version bytes net (is_in bytes net s.0 s.1) t)
+only_refusal bytes (Ok net) (refusal.Line n) s m t = absurd (net_line bytes net n (is_in bytes net s.0 s.1) t.1)
+only_refusal bytes (Ok net) refusal.Ends s m t = absurd (net_ends bytes net (is_in bytes net s.0 s.1) t)
 only_refusal bytes (Err refusal.Version) refusal.Version s m t = inl refl
 only_refusal bytes (Err refusal.Version) (refusal.Line n) s m t = absurd (t.0 s)
 only_refusal bytes (Err refusal.Version) refusal.Ends s m t = absurd (ends_version bytes t s)
@@ -177,24 +216,45 @@ only_refusal bytes (Err refusal.Ends) refusal.Version s m t = absurd (ends_versi
 only_refusal bytes (Err refusal.Ends) (refusal.Line n) s m t = absurd (line_ends bytes n t.1 s)
 only_refusal bytes (Err refusal.Ends) refusal.Ends s m t = inl refl
 
-net_net : (bytes : List ℕ) (m n : Net) → NetFits m → NetFits n → NetText m bytes → NetText n bytes → m ≡ n
-net_net bytes m n f g s t =
-    let same = both_end (texts m) (texts n) [] [] refl refl (compare (texts m) (texts n) [] [] (texts_complete m f) (texts_complete n g) (sym (net_whole bytes m s) ∙ net_whole bytes n t)) in
-    net_one m n f g same.0
+-- two nets of one text are one
+net_net : (bytes : List ℕ) (m n : Net) → IsIn bytes m → IsIn bytes n → m ≡ n
+net_net bytes m n s t =
+    let same = both_end (texts s.version m) (texts t.version n) [] [] refl refl (compare (texts s.version m) (texts t.version n) [] [] (in_complete bytes m s) (in_complete bytes n t) (sym s.whole ∙ t.whole)) in
+    let at : s.version ≡ t.version = one_version s.version t.version (ap (λ l. get_or l 0 []) same.0) in
+    let P : Version → Type 0 = λ v. Writes v m × (texts v m ≡ texts t.version n) in
+    let moved : P t.version = subst P at (s.writes, same.0) in
+    net_one t.version m n moved.0 t.writes moved.1
 
 -- an answer that holds of the bytes is the only one
 pub only_answer : (bytes : List ℕ) (r : Result Net TextRefusal) → Says bytes r → IsOnly bytes r
 only_answer bytes r s (Err e) m t = only_refusal bytes r e s (λ x. m (ap Err x)) t
-only_answer bytes (Ok net) s (Ok other) m t = inl (ap Ok (net_net bytes net other s.0 t.0 s.1 t.1))
+only_answer bytes (Ok net) s (Ok other) m t = inl (ap Ok (net_net bytes net other (is_in bytes net s.0 s.1) (is_in bytes other t.0 t.1)))
 only_answer bytes (Err refusal.Memory) s (Ok other) m t = inr refl
-only_answer bytes (Err refusal.Version) s (Ok other) m t = absurd (net_version bytes other t.0 t.1 s)
-only_answer bytes (Err (refusal.Line n)) s (Ok other) m t = absurd (net_line bytes other n t.0 t.1 s.1)
-only_answer bytes (Err refusal.Ends) s (Ok other) m t = absurd (net_ends bytes other t.0 t.1 s)
+only_answer bytes (Err refusal.Version) s (Ok other) m t = absurd (net_version bytes other (is_in bytes other t.0 t.1) s)
+only_answer bytes (Err (refusal.Line n)) s (Ok other) m t = absurd (net_line bytes other n (is_in bytes other t.0 t.1) s.1)
+only_answer bytes (Err refusal.Ends) s (Ok other) m t = absurd (net_ends bytes other (is_in bytes other t.0 t.1) s)
 
 -- an answer that holds of a net's text is the net
 pub reads_back : (bytes : List ℕ) (net : Net) → NetFits net → NetText net bytes → ReadsBack bytes net
-reads_back bytes net f t (Ok other) s = inl (ap Ok (net_net bytes other net s.0 f s.1 t))
+reads_back bytes net f t (Ok other) s = inl (ap Ok (net_net bytes other net (is_in bytes other s.0 s.1) (is_in bytes net f (inl t))))
 reads_back bytes net f t (Err refusal.Memory) s = inr refl
-reads_back bytes net f t (Err refusal.Version) s = absurd (net_version bytes net f t s)
-reads_back bytes net f t (Err (refusal.Line n)) s = absurd (net_line bytes net n f t s.1)
-reads_back bytes net f t (Err refusal.Ends) s = absurd (net_ends bytes net f t s)
+reads_back bytes net f t (Err refusal.Version) s = absurd (net_version bytes net (is_in bytes net f (inl t)) s)
+reads_back bytes net f t (Err (refusal.Line n)) s = absurd (net_line bytes net n (is_in bytes net f (inl t)) s.1)
+reads_back bytes net f t (Err refusal.Ends) s = absurd (net_ends bytes net (is_in bytes net f (inl t)) s)
+
+-- the laws of texts
+pub one_net : (m n : Net) (bytes : List ℕ) → NetFits m → NetFits n → NetText m bytes → NetText n bytes → m ≡ n
+one_net m n bytes f g s t = net_net bytes m n (is_in bytes m f (inl s)) (is_in bytes n g (inl t))
+
+pub one_old_net : (m n : Net) (bytes : List ℕ) → NetFits m → NetFits n → OldText m bytes → OldText n bytes → m ≡ n
+one_old_net m n bytes f g s t = net_net bytes m n (is_in bytes m f (inr s)) (is_in bytes n g (inr t))
+
+begin_line : (ver : Version) (net : Net) → (rest : List ℕ) × (net_text ver net ≡ first_text ver ++ 10 ∷ rest)
+begin_line ver net = (text_of (kernel_text net.name ∷ body_texts ver net), sym (text_is ver net) ∙ append_assoc (first_text ver) (10 ∷ []) (text_of (kernel_text net.name ∷ body_texts ver net)))
+
+pub other_version : (m n : Net) (bytes : List ℕ) → NetText m bytes → OldText n bytes → ⊥
+other_version m n bytes s t =
+    let a = begin_line Two m in
+    let b = begin_line One n in
+    let cut = cut_unique 10 (first_text Two) a.0 (first_text One) b.0 (first_complete Two) (first_complete One) (sym a.1 ∙ sym s ∙ t.text ∙ b.1) in
+    two_is_not_one (one_version Two One cut.0)

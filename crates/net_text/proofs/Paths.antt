@@ -11,11 +11,12 @@ use Rattle.net_text.specs.declared.body.BodyLine.{BodyLine}
 use Rattle.net_text.specs.declared.body.BodyLine.TheVariants.{Scalar, Array, Result, Unit as UnitLine, Chan, End}
 use Rattle.net_text.specs.declared.body.Stage.{Stage}
 use Rattle.net_text.specs.declared.body.Stage.TheVariants.{Scalars, Arrays, Units, Chans, Ended}
-use Rattle.net_text.specs.Fits.{ScalarFits, ArrayFits, UnitFits, ChanFits, NetFits}
+use Rattle.net_text.specs.Fits.{ScalarFits, ArrayFits, ChanFits, WritesUnit, Writes}
 use Rattle.net_text.specs.Reads.{scalar_text, array_text, result_text, unit_text, chan_text}
 use Rattle.net_text.specs.Bodies.{LineFits, line_text, before_arrays, before_result, before_chans, after_result, may_stand, stage_after, body_texts}
 use Rattle.net_text.proofs.UnitKinds.{unit_kind}
-use Rattle.net_text.proofs.Lists.{All_head, All_tail}
+use Rattle.net_text.proofs.Lists.{All_head, All_tail, written_units}
+use Rattle.net_text.specs.declared.version.Version.{Version}
 
 -- each kind of line begins with a letter of its own
 letter : BodyLine → ℕ
@@ -26,18 +27,18 @@ letter (UnitLine u) = 117
 letter (Chan c) = 99
 letter End = 101
 
-result_letter : (t : Option Ty) → get_or (result_text t) 0 0 ≡ 114
+pub result_letter : (t : Option Ty) → get_or (result_text t) 0 0 ≡ 114
 result_letter None = refl
 result_letter (Some t) = refl
 
-first_letter : (x : BodyLine) → get_or (line_text x) 0 0 ≡ letter x
+first_letter : (ver : Version) (x : BodyLine) → get_or (line_text ver x) 0 0 ≡ letter x
 unfolding letter
-first_letter (Scalar s) = refl
-first_letter (Array a) = refl
-first_letter (Result t) = result_letter t
-first_letter (UnitLine u) = ap (λ l. get_or l 0 0) (unit_kind u)
-first_letter (Chan c) = refl
-first_letter End = refl
+first_letter ver (Scalar s) = refl
+first_letter ver (Array a) = refl
+first_letter ver (Result t) = result_letter t
+first_letter ver (UnitLine u) = ap (λ l. get_or l 0 0) (unit_kind ver u)
+first_letter ver (Chan c) = refl
+first_letter ver End = refl
 
 -- which line may stand at a stage, and the stage after it, by its first letter
 abbrev pick : {A : Type 0} → Bool → A → A → A
@@ -71,36 +72,36 @@ next_letter End = refl
 abbrev pub next : List ℕ → Stage
 next l = next_of (get_or l 0 0)
 
-pub next_text : (x : BodyLine) → next (line_text x) ≡ stage_after x
-next_text x = ap next_of (first_letter x) ∙ sym (next_letter x)
+pub next_text : (ver : Version) (x : BodyLine) → next (line_text ver x) ≡ stage_after x
+next_text ver x = ap next_of (first_letter ver x) ∙ sym (next_letter x)
 
-may_text : (x : BodyLine) (s : Stage) → may_stand x s ≡ may_of (get_or (line_text x) 0 0) s
-may_text x s = may_letter x s ∙ ap (λ b. may_of b s) (sym (first_letter x))
+may_text : (ver : Version) (x : BodyLine) (s : Stage) → may_stand x s ≡ may_of (get_or (line_text ver x) 0 0) s
+may_text ver x s = may_letter x s ∙ ap (λ b. may_of b s) (sym (first_letter ver x))
 
 -- two values of one text may stand at the same stages
-pub may_same : (x y : BodyLine) (s : Stage) → line_text x ≡ line_text y → may_stand x s ≡ may_stand y s
-may_same x y s e = may_text x s ∙ ap (λ l. may_of (get_or l 0 0) s) e ∙ sym (may_text y s)
+pub may_same : (ver : Version) (x y : BodyLine) (s : Stage) → line_text ver x ≡ line_text ver y → may_stand x s ≡ may_stand y s
+may_same ver x y s e = may_text ver x s ∙ ap (λ l. may_of (get_or l 0 0) s) e ∙ sym (may_text ver y s)
 
 -- some line of this text may stand at a stage
-pub record Allowed (s : Stage) (l : List ℕ) : Type 0 where
+pub record Allowed (ver : Version) (s : Stage) (l : List ℕ) : Type 0 where
   pub value : BodyLine
-  pub fits : LineFits value
-  pub text : line_text value ≡ l
+  pub fits : LineFits ver value
+  pub text : line_text ver value ≡ l
   pub stands : may_stand value s ≡ true
 
 -- each line may stand where it stands
-abbrev pub Path : Stage → List (List ℕ) → Type 0
-Path s [] = Unit {0}
-Path s (l ∷ ls) = Allowed s l × Path (next l) ls
+abbrev pub Path : (ver : Version) → Stage → List (List ℕ) → Type 0
+Path ver s [] = Unit {0}
+Path ver s (l ∷ ls) = Allowed ver s l × Path ver (next l) ls
 
 -- the stage that lines reach
 abbrev pub reach : Stage → List (List ℕ) → Stage
 reach s [] = s
 reach s (l ∷ ls) = reach (next l) ls
 
-pub path_at : (s : Stage) (ls more : List (List ℕ)) (l : List ℕ) → Path s (ls ++ l ∷ more) → Allowed (reach s ls) l
-path_at s [] more l p = p.0
-path_at s (x ∷ xs) more l p = path_at (next x) xs more l p.1
+pub path_at : (ver : Version) (s : Stage) (ls more : List (List ℕ)) (l : List ℕ) → Path ver s (ls ++ l ∷ more) → Allowed ver (reach s ls) l
+path_at ver s [] more l p = p.0
+path_at ver s (x ∷ xs) more l p = path_at ver (next x) xs more l p.1
 
 pub reach_more : (s : Stage) (ls : List (List ℕ)) (l : List ℕ) → reach s (ls ++ l ∷ []) ≡ next l
 reach_more s [] l = refl
@@ -110,42 +111,43 @@ pub reach_append : (s : Stage) (ls more : List (List ℕ)) → reach s (ls ++ mo
 reach_append s [] more = refl
 reach_append s (x ∷ xs) more = reach_append (next x) xs more
 
-allowed : (x : BodyLine) (s : Stage) (rest : List (List ℕ)) → LineFits x → may_stand x s ≡ true → Path (stage_after x) rest → Path s (line_text x ∷ rest)
-allowed x s rest fits stands path =
-    let P : Stage → Type 0 = λ t. Path t rest in
-    (record { value = x; fits = fits; text = refl; stands = stands }, subst P (sym (next_text x)) path)
+allowed : (ver : Version) (x : BodyLine) (s : Stage) (rest : List (List ℕ)) → LineFits ver x → may_stand x s ≡ true → Path ver (stage_after x) rest → Path ver s (line_text ver x ∷ rest)
+allowed ver x s rest fits stands path =
+    let P : Stage → Type 0 = λ t. Path ver t rest in
+    (record { value = x; fits = fits; text = refl; stands = stands }, subst P (sym (next_text ver x)) path)
 
-scalars_path : (ss : List Scal) (rest : List (List ℕ)) → All ScalarFits ss → Path Scalars rest → Path Scalars (map scalar_text ss ++ rest)
-scalars_path [] rest h p = p
-scalars_path (s ∷ ss) rest h p = allowed (Scalar s) Scalars (map scalar_text ss ++ rest) (All_head ScalarFits s ss h) refl (scalars_path ss rest (All_tail ScalarFits s ss h) p)
+scalars_path : (ver : Version) (ss : List Scal) (rest : List (List ℕ)) → All ScalarFits ss → Path ver Scalars rest → Path ver Scalars (map scalar_text ss ++ rest)
+scalars_path ver [] rest h p = p
+scalars_path ver (s ∷ ss) rest h p = allowed ver (Scalar s) Scalars (map scalar_text ss ++ rest) (All_head ScalarFits s ss h) refl (scalars_path ver ss rest (All_tail ScalarFits s ss h) p)
 
-more_arrays : (xs : List Arr) (rest : List (List ℕ)) → All ArrayFits xs → Path Arrays rest → Path Arrays (map array_text xs ++ rest)
-more_arrays [] rest h p = p
-more_arrays (x ∷ xs) rest h p = allowed (Array x) Arrays (map array_text xs ++ rest) (All_head ArrayFits x xs h) refl (more_arrays xs rest (All_tail ArrayFits x xs h) p)
+more_arrays : (ver : Version) (xs : List Arr) (rest : List (List ℕ)) → All ArrayFits xs → Path ver Arrays rest → Path ver Arrays (map array_text xs ++ rest)
+more_arrays ver [] rest h p = p
+more_arrays ver (x ∷ xs) rest h p = allowed ver (Array x) Arrays (map array_text xs ++ rest) (All_head ArrayFits x xs h) refl (more_arrays ver xs rest (All_tail ArrayFits x xs h) p)
 
-arrays_path : (xs : List Arr) (rest : List (List ℕ)) → All ArrayFits xs → Path Scalars rest → Path Arrays rest → Path Scalars (map array_text xs ++ rest)
-arrays_path [] rest h p q = p
-arrays_path (x ∷ xs) rest h p q = allowed (Array x) Scalars (map array_text xs ++ rest) (All_head ArrayFits x xs h) refl (more_arrays xs rest (All_tail ArrayFits x xs h) q)
+arrays_path : (ver : Version) (xs : List Arr) (rest : List (List ℕ)) → All ArrayFits xs → Path ver Scalars rest → Path ver Arrays rest → Path ver Scalars (map array_text xs ++ rest)
+arrays_path ver [] rest h p q = p
+arrays_path ver (x ∷ xs) rest h p q = allowed ver (Array x) Scalars (map array_text xs ++ rest) (All_head ArrayFits x xs h) refl (more_arrays ver xs rest (All_tail ArrayFits x xs h) q)
 
-units_path : (us : List Kind) (rest : List (List ℕ)) → All UnitFits us → Path Units rest → Path Units (map unit_text us ++ rest)
-units_path [] rest h p = p
-units_path (u ∷ us) rest h p = allowed (UnitLine u) Units (map unit_text us ++ rest) (All_head UnitFits u us h) refl (units_path us rest (All_tail UnitFits u us h) p)
+units_path : (ver : Version) (us : List Kind) (rest : List (List ℕ)) → All (WritesUnit ver) us → Path ver Units rest → Path ver Units (map (unit_text ver) us ++ rest)
+units_path ver [] rest h p = p
+units_path ver (u ∷ us) rest h p = allowed ver (UnitLine u) Units (map (unit_text ver) us ++ rest) (All_head (WritesUnit ver) u us h) refl (units_path ver us rest (All_tail (WritesUnit ver) u us h) p)
 
-more_chans : (cs : List Channel) (rest : List (List ℕ)) → All ChanFits cs → Path Chans rest → Path Chans (map chan_text cs ++ rest)
-more_chans [] rest h p = p
-more_chans (c ∷ cs) rest h p = allowed (Chan c) Chans (map chan_text cs ++ rest) (All_head ChanFits c cs h) refl (more_chans cs rest (All_tail ChanFits c cs h) p)
+more_chans : (ver : Version) (cs : List Channel) (rest : List (List ℕ)) → All ChanFits cs → Path ver Chans rest → Path ver Chans (map chan_text cs ++ rest)
+more_chans ver [] rest h p = p
+more_chans ver (c ∷ cs) rest h p = allowed ver (Chan c) Chans (map chan_text cs ++ rest) (All_head ChanFits c cs h) refl (more_chans ver cs rest (All_tail ChanFits c cs h) p)
 
-chans_path : (cs : List Channel) (rest : List (List ℕ)) → All ChanFits cs → Path Units rest → Path Chans rest → Path Units (map chan_text cs ++ rest)
-chans_path [] rest h p q = p
-chans_path (c ∷ cs) rest h p q = allowed (Chan c) Units (map chan_text cs ++ rest) (All_head ChanFits c cs h) refl (more_chans cs rest (All_tail ChanFits c cs h) q)
+chans_path : (ver : Version) (cs : List Channel) (rest : List (List ℕ)) → All ChanFits cs → Path ver Units rest → Path ver Chans rest → Path ver Units (map chan_text cs ++ rest)
+chans_path ver [] rest h p q = p
+chans_path ver (c ∷ cs) rest h p q = allowed ver (Chan c) Units (map chan_text cs ++ rest) (All_head ChanFits c cs h) refl (more_chans ver cs rest (All_tail ChanFits c cs h) q)
 
 -- the lines of a net may each stand where they stand
-pub body_path : (net : Net) → NetFits net → Path Scalars (body_texts net)
-body_path net fits =
-    let last : (s : Stage) → after_result s ≡ true → Path s (codes "end" ∷ []) = λ s e. allowed End s [] tt e tt in
-    let body : Path Units (map unit_text net.units ++ (map chan_text net.chans ++ codes "end" ∷ [])) = units_path net.units (map chan_text net.chans ++ codes "end" ∷ []) fits.units
-    (chans_path net.chans (codes "end" ∷ []) fits.chans (last Units refl) (last Chans refl)) in
-    let result : (s : Stage) → before_result s ≡ true → Path s (result_text net.result ∷ (map unit_text net.units ++ (map chan_text net.chans ++ codes "end" ∷ []))) =
-    λ s e. allowed (Result net.result) s (map unit_text net.units ++ (map chan_text net.chans ++ codes "end" ∷ [])) tt e body in
-    scalars_path net.scalars (map array_text net.arrays ++ (result_text net.result ∷ (map unit_text net.units ++ (map chan_text net.chans ++ codes "end" ∷ [])))) fits.scalars
-    (arrays_path net.arrays (result_text net.result ∷ (map unit_text net.units ++ (map chan_text net.chans ++ codes "end" ∷ []))) fits.arrays (result Scalars refl) (result Arrays refl))
+pub body_path : (ver : Version) (net : Net) → Writes ver net → Path ver Scalars (body_texts ver net)
+body_path ver net w =
+    let fits = w.fits in
+    let last : (s : Stage) → after_result s ≡ true → Path ver s (codes "end" ∷ []) = λ s e. allowed ver End s [] tt e tt in
+    let body : Path ver Units (map (unit_text ver) net.units ++ (map chan_text net.chans ++ codes "end" ∷ [])) = units_path ver net.units (map chan_text net.chans ++ codes "end" ∷ []) (written_units ver net w)
+    (chans_path ver net.chans (codes "end" ∷ []) fits.chans (last Units refl) (last Chans refl)) in
+    let result : (s : Stage) → before_result s ≡ true → Path ver s (result_text net.result ∷ (map (unit_text ver) net.units ++ (map chan_text net.chans ++ codes "end" ∷ []))) =
+    λ s e. allowed ver (Result net.result) s (map (unit_text ver) net.units ++ (map chan_text net.chans ++ codes "end" ∷ [])) tt e body in
+    scalars_path ver net.scalars (map array_text net.arrays ++ (result_text net.result ∷ (map (unit_text ver) net.units ++ (map chan_text net.chans ++ codes "end" ∷ [])))) fits.scalars
+    (arrays_path ver net.arrays (result_text net.result ∷ (map (unit_text ver) net.units ++ (map chan_text net.chans ++ codes "end" ∷ []))) fits.arrays (result Scalars refl) (result Arrays refl))

@@ -4,6 +4,7 @@ use Rattle.std.proofs.lemmas.List.{append-nil, take_all}
 use Rattle.std.proofs.lemmas.List.Concat.{flat_map-append}
 use Rattle.std.specs.List.{join_with_byte, flat_map}
 use Rattle.net_types.specs.declared.net.Net.{Net}
+use Rattle.net_text.specs.declared.version.Version.TheVariants.{Two}
 use Rattle.net_text.specs.Pieces.{line}
 use Rattle.net_text.specs.Texts.{unit_parts, chan_parts, header_lines, end_parts, net_text}
 
@@ -50,7 +51,7 @@ chan_written t p q w s d c t1 t2 t3 t4 t5 t6 t7 t8 t9 t10 t11 h1 h2 h3 h4 h5 h6 
     h11 ∙ ap (λ l. l ++ (flat_map (λ y. 32 ∷ y) c ++ 10 ∷ [])) (h10 ∙ ap (λ l. l ++ d) (h9 ∙ ap (λ l. l ++ codes " ") (h8 ∙ ap (λ l. l ++ s) (h7 ∙ ap (λ l. l ++ codes " ") (h6 ∙ ap (λ l. l ++ w) (h5 ∙ ap (λ l. l ++ codes " ") (h4 ∙ ap (λ l. l ++ q) (h3 ∙ ap (λ l. l ++ codes " ") (h2 ∙ ap (λ l. l ++ p) (h1))))))))))
     ∙ simp append_assoc (ap (λ l. t ++ (codes "chan " ++ (p ++ 32 ∷ (q ++ 32 ∷ (w ++ 32 ∷ (s ++ 32 ∷ l)))))) (line_end d c))
 
-pub queue_written : (t a d p g : List ℕ) (t1 t2 t3 t4 t5 t6 t7 t8 t9 : List ℕ)
+pub queue_written : (t a d p g m : List ℕ) (t1 t2 t3 t4 t5 t6 t7 t8 t9 t10 t11 : List ℕ)
     → t1 ≡ t ++ codes "unit lsq "
     → t2 ≡ t1 ++ a
     → t3 ≡ t2 ++ codes " "
@@ -59,24 +60,26 @@ pub queue_written : (t a d p g : List ℕ) (t1 t2 t3 t4 t5 t6 t7 t8 t9 : List �
     → t6 ≡ t5 ++ p
     → t7 ≡ t6 ++ codes " "
     → t8 ≡ t7 ++ g
-    → t9 ≡ t8 ++ codes "\n"
-    → t9 ≡ t ++ line (codes "unit" ∷ codes "lsq" ∷ a ∷ d ∷ p ∷ g ∷ [])
-queue_written t a d p g t1 t2 t3 t4 t5 t6 t7 t8 t9 h1 h2 h3 h4 h5 h6 h7 h8 h9 =
-    h9 ∙ ap (λ l. l ++ codes "\n") (h8 ∙ ap (λ l. l ++ g) (h7 ∙ ap (λ l. l ++ codes " ") (h6 ∙ ap (λ l. l ++ p) (h5 ∙ ap (λ l. l ++ codes " ") (h4 ∙ ap (λ l. l ++ d) (h3 ∙ ap (λ l. l ++ codes " ") (h2 ∙ ap (λ l. l ++ a) (h1))))))))
+    → t9 ≡ t8 ++ codes " "
+    → t10 ≡ t9 ++ m
+    → t11 ≡ t10 ++ codes "\n"
+    → t11 ≡ t ++ line (codes "unit" ∷ codes "lsq" ∷ a ∷ d ∷ p ∷ g ∷ m ∷ [])
+queue_written t a d p g m t1 t2 t3 t4 t5 t6 t7 t8 t9 t10 t11 h1 h2 h3 h4 h5 h6 h7 h8 h9 h10 h11 =
+    h11 ∙ ap (λ l. l ++ codes "\n") (h10 ∙ ap (λ l. l ++ m) (h9 ∙ ap (λ l. l ++ codes " ") (h8 ∙ ap (λ l. l ++ g) (h7 ∙ ap (λ l. l ++ codes " ") (h6 ∙ ap (λ l. l ++ p) (h5 ∙ ap (λ l. l ++ codes " ") (h4 ∙ ap (λ l. l ++ d) (h3 ∙ ap (λ l. l ++ codes " ") (h2 ∙ ap (λ l. l ++ a) (h1))))))))))
     ∙ simp append_assoc refl
 
 -- the whole text, from its parts
 pub text_written : (net : Net) (header units chans text : List ℕ)
-    → header ≡ flat_map line (header_lines net)
-    → units ≡ header ++ flat_map line (map unit_parts net.units)
+    → header ≡ flat_map line (header_lines Two net)
+    → units ≡ header ++ flat_map line (map (unit_parts Two) net.units)
     → chans ≡ units ++ flat_map line (map chan_parts net.chans)
     → text ≡ chans ++ line end_parts
-    → text ≡ net_text net
+    → text ≡ net_text Two net
 text_written net header units chans text h u c e =
-    e ∙ ap (λ l. l ++ line end_parts) (c ∙ ap (λ l. l ++ flat_map line (map chan_parts net.chans)) (u ∙ ap (λ l. l ++ flat_map line (map unit_parts net.units)) h))
-    ∙ ap (λ l. l ++ flat_map line (map chan_parts net.chans) ++ line end_parts) (sym (flat_map-append line (header_lines net) (map unit_parts net.units)))
-    ∙ ap (λ l. l ++ line end_parts) (sym (flat_map-append line (header_lines net ++ map unit_parts net.units) (map chan_parts net.chans)))
-    ∙ sym (flat_map-append line (header_lines net ++ map unit_parts net.units ++ map chan_parts net.chans) (end_parts ∷ []))
+    e ∙ ap (λ l. l ++ line end_parts) (c ∙ ap (λ l. l ++ flat_map line (map chan_parts net.chans)) (u ∙ ap (λ l. l ++ flat_map line (map (unit_parts Two) net.units)) h))
+    ∙ ap (λ l. l ++ flat_map line (map chan_parts net.chans) ++ line end_parts) (sym (flat_map-append line (header_lines Two net) (map (unit_parts Two) net.units)))
+    ∙ ap (λ l. l ++ line end_parts) (sym (flat_map-append line (header_lines Two net ++ map (unit_parts Two) net.units) (map chan_parts net.chans)))
+    ∙ sym (flat_map-append line (header_lines Two net ++ map (unit_parts Two) net.units ++ map chan_parts net.chans) (end_parts ∷ []))
 
 -- what a loop over all but the first item has written, where it has passed them all
 pub loop_written : {X : Type 0} (c : ℕ) (f : X → List ℕ) (before first text : List ℕ) (i : ℕ) (x : X) (xs : List X)

@@ -6,7 +6,9 @@ use Rattle.net_text.specs.declared.body.BodyLine.{BodyLine}
 use Rattle.net_text.specs.declared.body.BodyLine.TheVariants.{Scalar, Array, Result, Unit, Chan, End}
 use Rattle.net_text.specs.declared.body.Stage.{Stage}
 use Rattle.net_text.specs.declared.body.Stage.TheVariants.{Scalars, Arrays, Units, Chans, Ended}
-use Rattle.net_text.specs.Fits.{ScalarFits, ArrayFits, UnitFits, ChanFits, Always}
+use Rattle.net_text.specs.declared.version.Version.{Version}
+use Rattle.net_text.specs.Fits.{ScalarFits, ArrayFits, WritesUnit, ChanFits, Always}
+use Rattle.net_text.specs.Texts.{version_number}
 use Rattle.net_text.specs.Reads.{lacks, version_text, kernel_text, scalar_text, array_text, result_text, unit_text, chan_text}
 
 -- no line feed (10) stands in a line
@@ -17,29 +19,33 @@ Complete l = lacks 10 l ≡ true
 abbrev pub text_of : List (List ℕ) → List ℕ
 text_of ls = flat_map (λ l. l ++ 10 ∷ []) ls
 
--- the lines of a net after the kernel's name, and all its lines
-abbrev pub body_texts : Net → List (List ℕ)
-body_texts net = map scalar_text net.scalars ++ (map array_text net.arrays ++ (result_text net.result ∷ (map unit_text net.units ++ (map chan_text net.chans ++ codes "end" ∷ []))))
+-- the first line of a version
+abbrev pub first_text : Version → List ℕ
+first_text v = version_text (version_number v)
 
-abbrev pub texts : Net → List (List ℕ)
-texts net = version_text 1 ∷ kernel_text net.name ∷ body_texts net
+-- the lines of a net after the kernel's name, and all its lines
+abbrev pub body_texts : Version → Net → List (List ℕ)
+body_texts v net = map scalar_text net.scalars ++ (map array_text net.arrays ++ (result_text net.result ∷ (map (unit_text v) net.units ++ (map chan_text net.chans ++ codes "end" ∷ []))))
+
+abbrev pub texts : Version → Net → List (List ℕ)
+texts v net = first_text v ∷ kernel_text net.name ∷ body_texts v net
 
 -- one line after the kernel's name
-abbrev pub LineFits : BodyLine → Type 0
-LineFits (Scalar s) = ScalarFits s
-LineFits (Array a) = ArrayFits a
-LineFits (Result t) = Always t
-LineFits (Unit u) = UnitFits u
-LineFits (Chan c) = ChanFits c
-LineFits End = Always End
+abbrev pub LineFits : Version → BodyLine → Type 0
+LineFits v (Scalar s) = ScalarFits s
+LineFits v (Array a) = ArrayFits a
+LineFits v (Result t) = Always t
+LineFits v (Unit u) = WritesUnit v u
+LineFits v (Chan c) = ChanFits c
+LineFits v End = Always End
 
-abbrev pub line_text : BodyLine → List ℕ
-line_text (Scalar s) = scalar_text s
-line_text (Array a) = array_text a
-line_text (Result t) = result_text t
-line_text (Unit u) = unit_text u
-line_text (Chan c) = chan_text c
-line_text End = codes "end"
+abbrev pub line_text : Version → BodyLine → List ℕ
+line_text v (Scalar s) = scalar_text s
+line_text v (Array a) = array_text a
+line_text v (Result t) = result_text t
+line_text v (Unit u) = unit_text v u
+line_text v (Chan c) = chan_text c
+line_text v End = codes "end"
 
 -- before the first array, before the result, before the first channel, and after the result
 abbrev pub before_arrays : Stage → Bool

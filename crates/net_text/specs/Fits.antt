@@ -1,5 +1,5 @@
--- Nets whose numbers fit their fields, and whose names are names.
-use Rattle.std.specs.Prelude.{ℕ, ◌<◌, ◌^◌, List, IsTrue}
+-- Nets whose numbers fit their fields, and whose names are names; and what a version has words for.
+use Rattle.std.specs.Prelude.{◌≡◌, ℕ, ◌<◌, ◌^◌, Bool, false, List, IsTrue}
 use Rattle.std.specs.List.{All}
 use Rattle.el_base.specs.Words.{is_identifier}
 use Rattle.el_base.specs.declared.ty.Array.{Array}
@@ -9,6 +9,8 @@ use Rattle.net_types.specs.declared.net.Chan.{Chan}
 use Rattle.net_types.specs.declared.net.Net.{Net}
 use Rattle.net_types.specs.declared.net.Unit.{Unit as Kind}
 use Rattle.net_types.specs.declared.net.Unit.TheVariants.{Entry, Param, Const, Op1, Op2, Select, Fork, Mux, Cmerge, Branch, Sink, Read, Lsq, Exit}
+use Rattle.net_text.specs.declared.version.Version.{Version}
+use Rattle.net_text.specs.declared.version.Version.TheVariants.{One, Two}
 
 abbrev pub FitsU32 : ℕ → Type 0
 FitsU32 n = n < 2 ^ 32
@@ -47,8 +49,11 @@ pub record QueueFits (a d : ℕ) (gs : List (List ℕ)) : Type 0 where
   pub groups : GroupsFit gs
 
 abbrev pub UnitFits : Kind → Type 0
+UnitFits Entry = Unit {0}
 UnitFits (Param j) = FitsU32 j
 UnitFits (Const w v) = FitsU32 w × FitsU64 v
+UnitFits (Op1 op) = Unit {0}
+UnitFits (Op2 op) = Unit {0}
 UnitFits (Select w) = FitsU32 w
 UnitFits (Fork w n) = FitsU32 w × FitsU32 n
 UnitFits (Mux w n) = FitsU32 w × FitsU32 n
@@ -56,10 +61,7 @@ UnitFits (Cmerge n) = FitsU32 n
 UnitFits (Branch w) = FitsU32 w
 UnitFits (Sink w) = FitsU32 w
 UnitFits (Read a) = FitsU32 a
-UnitFits (Lsq a d ps gs) = QueueFits a d gs
-UnitFits Entry = Unit {0}
-UnitFits (Op1 op) = Unit {0}
-UnitFits (Op2 op) = Unit {0}
+UnitFits (Lsq a d ps gs f) = QueueFits a d gs
 UnitFits Exit = Unit {0}
 
 pub record ChanFits (c : Chan) : Type 0 where
@@ -82,3 +84,33 @@ pub record NetFits (net : Net) : Type 0 where
   pub arrays : All ArrayFits net.arrays
   pub units : All UnitFits net.units
   pub chans : All ChanFits net.chans
+
+-- version 1 has no word for a mark
+abbrev pub MarkFits : Version → Bool → Type 0
+MarkFits One f = f ≡ false
+MarkFits Two f = Unit {0}
+
+-- a version has a text for a unit
+abbrev pub IsWritten : Version → Kind → Type 0
+IsWritten v Entry = Unit {0}
+IsWritten v (Param j) = Unit {0}
+IsWritten v (Const w n) = Unit {0}
+IsWritten v (Op1 op) = Unit {0}
+IsWritten v (Op2 op) = Unit {0}
+IsWritten v (Select w) = Unit {0}
+IsWritten v (Fork w n) = Unit {0}
+IsWritten v (Mux w n) = Unit {0}
+IsWritten v (Cmerge n) = Unit {0}
+IsWritten v (Branch w) = Unit {0}
+IsWritten v (Sink w) = Unit {0}
+IsWritten v (Read a) = Unit {0}
+IsWritten v (Lsq a d ps gs f) = MarkFits v f
+IsWritten v Exit = Unit {0}
+
+-- a unit, and a net, that a version can write
+abbrev pub WritesUnit : Version → Kind → Type 0
+WritesUnit v u = UnitFits u × IsWritten v u
+
+pub record Writes (v : Version) (net : Net) : Type 0 where
+  pub fits : NetFits net
+  pub written : All (IsWritten v) net.units

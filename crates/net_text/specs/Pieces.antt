@@ -4,6 +4,8 @@ use Rattle.std.specs.List.{join_with_byte}
 use Rattle.net_types.specs.declared.net.Place.{Place}
 use Rattle.net_types.specs.declared.net.Port.{Port}
 use Rattle.net_types.specs.declared.net.Port.TheVariants.{Load, Store}
+use Rattle.net_text.specs.declared.version.Version.{Version}
+use Rattle.net_text.specs.declared.version.Version.TheVariants.{One, Two}
 
 -- a line: its parts with one space (32) between two, and a line feed (10)
 abbrev pub line : List (List ℕ) → List ℕ
@@ -31,6 +33,15 @@ group_text (n ∷ ns) = join_with_byte 44 (map decimal (n ∷ ns))
 abbrev pub groups_text : List (List ℕ) → List ℕ
 groups_text [] = codes "none"
 groups_text (g ∷ gs) = join_with_byte 59 (map group_text (g ∷ gs))
+
+-- the mark of a queue, and the part of its line that it is: version 1 writes none
+abbrev pub mark_text : Bool → List ℕ
+mark_text false = codes "plain"
+mark_text true = codes "forward"
+
+abbrev pub mark_parts : Version → Bool → List (List ℕ)
+mark_parts One f = []
+mark_parts Two f = mark_text f ∷ []
 
 -- the part at the end of a control channel's line
 abbrev pub control_parts : Bool → List (List ℕ)

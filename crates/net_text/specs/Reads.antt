@@ -6,9 +6,10 @@ use Rattle.el_base.specs.declared.ty.Array.{Array}
 use Rattle.el_base.specs.declared.ty.Scalar.{Scalar}
 use Rattle.net_types.specs.declared.net.Chan.{Chan}
 use Rattle.net_types.specs.declared.net.Unit.{Unit as Kind}
-use Rattle.net_types.specs.declared.net.Unit.TheVariants.{Lsq}
-use Rattle.net_text.specs.Fits.{FitsU32, FitsU64, UnitFits}
-use Rattle.net_text.specs.Pieces.{control_parts}
+use Rattle.net_types.specs.declared.net.Unit.TheVariants.{Entry, Param, Const, Op1, Op2, Select, Fork, Mux, Cmerge, Branch, Sink, Read, Lsq, Exit}
+use Rattle.net_text.specs.declared.version.Version.{Version}
+use Rattle.net_text.specs.Fits.{FitsU32, FitsU64, GroupsFit, MarkFits, UnitFits}
+use Rattle.net_text.specs.Pieces.{groups_text, mark_parts, control_parts}
 use Rattle.net_text.specs.Texts.{kernel_parts, scalar_parts, array_parts, result_parts, unit_parts, chan_parts}
 
 -- the answer has the text
@@ -39,16 +40,35 @@ abbrev pub pair_text : ℕ → ℕ × ℕ → List ℕ
 pair_text c p = decimal p.0 ++ c ∷ decimal p.1
 
 -- a unit's line without its line feed, and that without the word `unit`
-abbrev pub unit_text : Kind → List ℕ
-unit_text u = join_with_byte 32 (unit_parts u)
+abbrev pub unit_text : Version → Kind → List ℕ
+unit_text v u = join_with_byte 32 (unit_parts v u)
 
-abbrev pub kind_text : Kind → List ℕ
-kind_text u = drop 5 (unit_text u)
+abbrev pub kind_text : Version → Kind → List ℕ
+kind_text v u = drop 5 (unit_text v u)
+
+-- the groups and the mark at the end of a queue's line
+abbrev pub QueueEndFits : Version → List (List ℕ) × Bool → Type 0
+QueueEndFits v p = GroupsFit p.0 × MarkFits v p.1
+
+abbrev pub queue_end : Version → List (List ℕ) × Bool → List ℕ
+queue_end v p = join_with_byte 32 (groups_text p.0 ∷ mark_parts v p.1)
 
 -- a unit that is no queue
 abbrev pub PlainFits : Kind → Type 0
-PlainFits (Lsq a d ps gs) = ⊥
-PlainFits u = UnitFits u
+PlainFits Entry = UnitFits Entry
+PlainFits (Param j) = UnitFits (Param j)
+PlainFits (Const w n) = UnitFits (Const w n)
+PlainFits (Op1 op) = UnitFits (Op1 op)
+PlainFits (Op2 op) = UnitFits (Op2 op)
+PlainFits (Select w) = UnitFits (Select w)
+PlainFits (Fork w n) = UnitFits (Fork w n)
+PlainFits (Mux w n) = UnitFits (Mux w n)
+PlainFits (Cmerge n) = UnitFits (Cmerge n)
+PlainFits (Branch w) = UnitFits (Branch w)
+PlainFits (Sink w) = UnitFits (Sink w)
+PlainFits (Read a) = UnitFits (Read a)
+PlainFits (Lsq a d ps gs f) = ⊥
+PlainFits Exit = UnitFits Exit
 
 -- a width and a value with a space between them
 abbrev pub ConstFits : ℕ × ℕ → Type 0

@@ -1,39 +1,62 @@
 -- What each answer of the reader says of the bytes.
-use Rattle.std.specs.Prelude.{◌≡◌, ◌≢◌, ◌⊎◌, ℕ, ◌+◌, ◌<◌, List, [], ◌∷◌, ◌++◌, length, Option, Some, None, Result, Ok, Err}
+use Rattle.std.specs.Prelude.{◌≡◌, ◌≢◌, ◌⊎◌, ℕ, ◌+◌, ◌<◌, List, [], ◌∷◌, ◌++◌, length, codes, decimal, Option, Some, None, Result, Ok, Err}
 use Rattle.std.specs.List.{All}
 use Rattle.net_types.specs.declared.net.Net.{Net}
 use Rattle.net_text.specs.declared.refusal.TextRefusal.{TextRefusal}
 use Rattle.net_text.specs.declared.refusal.TextRefusal.TheVariants as refusal
-use Rattle.net_text.specs.Fits.{FitsU32, NetFits}
-use Rattle.net_text.specs.Texts.{NetText}
+use Rattle.net_text.specs.declared.version.Version.{Version}
+use Rattle.net_text.specs.Fits.{FitsU32, NetFits, Writes}
+use Rattle.net_text.specs.Texts.{NetText, OldText, version_number}
 use Rattle.net_text.specs.Reads.{version_text}
 use Rattle.net_text.specs.Bodies.{Complete, text_of, texts}
 
--- the number by which a refusal is printed
+-- the number and the word by which a refusal is printed, and its line
 abbrev pub refusal_number : TextRefusal → Option ℕ
 refusal_number (refusal.Line n) = Some 40
 refusal_number refusal.Ends = Some 41
 refusal_number refusal.Version = Some 42
 refusal_number refusal.Memory = None
 
--- lines begin the text of some net
+abbrev pub refusal_word : TextRefusal → List ℕ
+refusal_word (refusal.Line n) = codes "Line"
+refusal_word refusal.Ends = codes "Ends"
+refusal_word refusal.Version = codes "Version"
+refusal_word refusal.Memory = codes "Memory"
+
+abbrev pub refusal_line : TextRefusal → Option ℕ
+refusal_line (refusal.Line n) = Some n
+refusal_line refusal.Ends = None
+refusal_line refusal.Version = None
+refusal_line refusal.Memory = None
+
+-- what is printed of a refusal: the number, a space (32) and the word
+abbrev pub printed : Option ℕ → List ℕ → List ℕ
+printed None word = codes "want of memory"
+printed (Some number) word = decimal number ++ 32 ∷ word
+
+abbrev pub refusal_text : TextRefusal → List ℕ
+refusal_text r = printed (refusal_number r) (refusal_word r)
+
+-- lines begin the text of some net in some version; a text's first line names its version
 pub record Begins (ls : List (List ℕ)) : Type 0 where
+  pub version : Version
   pub net : Net
-  pub fits : NetFits net
+  pub writes : Writes version net
   pub more : List (List ℕ)
-  pub whole : texts net ≡ ls ++ more
+  pub whole : texts version net ≡ ls ++ more
 
--- lines are the whole text of some net
+-- lines are the whole text of some net in some version
 pub record Spells (ls : List (List ℕ)) : Type 0 where
+  pub version : Version
   pub net : Net
-  pub fits : NetFits net
-  pub whole : texts net ≡ ls
+  pub writes : Writes version net
+  pub whole : texts version net ≡ ls
 
--- the first line is complete and names a version other than 1
+-- the first line is complete and is `elastic` and a number that is no version's
 pub record IsOtherVersion (bytes : List ℕ) : Type 0 where
   pub number : ℕ
   pub fits : FitsU32 number
-  pub other : number ≢ 1
+  pub other : (v : Version) → number ≢ version_number v
   pub more : List ℕ
   pub whole : bytes ≡ version_text number ++ 10 ∷ more
 
@@ -68,7 +91,7 @@ pub record IsCutShort (bytes : List ℕ) : Type 0 where
 
 -- what an answer says of the bytes; want of memory says nothing
 abbrev pub Says : List ℕ → Result Net TextRefusal → Type 0
-Says bytes (Ok net) = NetFits net × NetText net bytes
+Says bytes (Ok net) = NetFits net × (NetText net bytes ⊎ OldText net bytes)
 Says bytes (Err refusal.Version) = IsOtherVersion bytes
 Says bytes (Err (refusal.Line n)) = (IsOtherVersion bytes → ⊥) × IsWrongLine bytes n
 Says bytes (Err refusal.Ends) = IsCutShort bytes

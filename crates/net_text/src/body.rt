@@ -4,6 +4,7 @@ ghost use Rattle.net_text.specs.Bodies.{LineFits, line_text, before_arrays, befo
 
 use crate::lines::{is_end, read_array, read_chan, read_result, read_scalar};
 use crate::read_units::read_unit;
+use crate::version::Version;
 use net_types::{Array, Chan, Memory, Net, Scalar, Ty, Unit};
 use std::alloc::Global;
 
@@ -29,14 +30,18 @@ pub(crate) enum Stage {
     Ended,
 }
 
-/// The line that a text without its line feed writes.
-pub(crate) fn read_line(alloc: Global, text: &[u8]) -> Result<Option<BodyLine>, Memory>
-    ensures { IfOk result (λ o. Reads LineFits line_text text.now o) }
+/// The line that a text without its line feed writes in a version.
+pub(crate) fn read_line(
+    alloc: Global,
+    version: Version,
+    text: &[u8],
+) -> Result<Option<BodyLine>, Memory>
+    ensures { IfOk result (λ o. Reads (LineFits version) (line_text version) text.now o) }
 {
     if let Some(chan) = read_chan(text) {
         return Ok(Some(BodyLine::Chan(chan)));
     }
-    if let Some(unit) = read_unit(alloc, text)? {
+    if let Some(unit) = read_unit(alloc, version, text)? {
         return Ok(Some(BodyLine::Unit(unit)));
     }
     if let Some(scalar) = read_scalar(alloc, text)? {

@@ -1,22 +1,21 @@
-//! The text of a net, printed, and its lines and pieces, read.
+//! The text of a net: printed in version 2, and read in versions 1 and 2.
 #![tactic(auto)]
 
 mod body;
-#[cfg(test)]
-mod given_tests;
-pub mod lines;
+mod laws;
+mod lines;
 mod pieces;
 mod printer;
 mod read_pieces;
-#[cfg(test)]
-mod read_tests;
 mod read_units;
 mod reader;
 mod refusal;
 #[cfg(test)]
 mod tests;
 mod units;
+mod version;
 
+pub use laws::one_net_per_text;
 pub use printer::print;
 pub use reader::read;
 pub use refusal::TextRefusal;

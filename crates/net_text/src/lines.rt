@@ -5,12 +5,11 @@ ghost use Rattle.net_text.specs.Fits.{FitsU32, NameFits, ScalarFits, ArrayFits, 
 ghost use Rattle.net_text.specs.Reads.{Reads, version_text, kernel_text, scalar_text, array_text, result_text, chan_text, DelayFits, delay_text};
 
 use crate::read_pieces::{after, cut, number_after, read_place, read_u32, read_u64};
-pub use crate::read_units::read_unit;
 use net_types::{Array, Chan, Memory, Name, Scalar, Ty};
 use std::alloc::Global;
 
 /// The version that a first line names; `None` where it is no such line.
-pub fn read_version(line: &[u8]) -> Option<u32>
+pub(crate) fn read_version(line: &[u8]) -> Option<u32>
     ensures { Reads FitsU32 version_text line.now result }
 {
     number_after(line, b"elastic ")
@@ -21,7 +20,7 @@ pub fn read_version(line: &[u8]) -> Option<u32>
 /// # Errors
 ///
 /// `Memory` where memory ran out.
-pub fn read_kernel(alloc: Global, line: &[u8]) -> Result<Option<Name>, Memory>
+pub(crate) fn read_kernel(alloc: Global, line: &[u8]) -> Result<Option<Name>, Memory>
     ensures { IfOk result (λ o. Reads NameFits kernel_text line.now o) }
 {
     match after(line, b"kernel ") {
@@ -35,7 +34,7 @@ pub fn read_kernel(alloc: Global, line: &[u8]) -> Result<Option<Name>, Memory>
 /// # Errors
 ///
 /// `Memory` where memory ran out.
-pub fn read_scalar(alloc: Global, line: &[u8]) -> Result<Option<Scalar>, Memory>
+pub(crate) fn read_scalar(alloc: Global, line: &[u8]) -> Result<Option<Scalar>, Memory>
     ensures { IfOk result (λ o. Reads ScalarFits scalar_text line.now o) }
 {
     let Some(rest) = after(line, b"scalar ") else {
@@ -58,7 +57,7 @@ pub fn read_scalar(alloc: Global, line: &[u8]) -> Result<Option<Scalar>, Memory>
 /// # Errors
 ///
 /// `Memory` where memory ran out.
-pub fn read_array(alloc: Global, line: &[u8]) -> Result<Option<Array>, Memory>
+pub(crate) fn read_array(alloc: Global, line: &[u8]) -> Result<Option<Array>, Memory>
     ensures { IfOk result (λ o. Reads ArrayFits array_text line.now o) }
 {
     let Some(rest) = after(line, b"array ") else {
@@ -83,7 +82,7 @@ pub fn read_array(alloc: Global, line: &[u8]) -> Result<Option<Array>, Memory>
 }
 
 /// The result that a line writes, a type or none; `None` where it is no result's line.
-pub fn read_result(line: &[u8]) -> Option<Option<Ty>>
+pub(crate) fn read_result(line: &[u8]) -> Option<Option<Ty>>
     ensures { Reads Always result_text line.now result }
 {
     let word = after(line, b"result ")?;
@@ -97,7 +96,7 @@ pub fn read_result(line: &[u8]) -> Option<Option<Ty>>
 }
 
 /// The channel that a line writes; `None` where it is no channel's line.
-pub fn read_chan(line: &[u8]) -> Option<Chan>
+pub(crate) fn read_chan(line: &[u8]) -> Option<Chan>
     ensures { Reads ChanFits chan_text line.now result }
 {
     let (from, rest) = cut(after(line, b"chan ")?, b' ')?;
@@ -127,7 +126,7 @@ fn read_delay(text: &[u8]) -> Option<(u32, bool)>
 }
 
 /// Whether a line is the last one.
-pub fn is_end(line: &[u8]) -> bool
+pub(crate) fn is_end(line: &[u8]) -> bool
     ensures { IsTrue result ↔ line.now ≡ codes "end" }
 {
     line == b"end".as_slice()

@@ -1,6 +1,6 @@
 ghost use Rattle.std.specs.Prelude.{◌≡◌, [], ◌∷◌, ◌++◌, OnOk, map, decimal};
 ghost use Rattle.net_text.specs.Fits.{GroupFits, GroupsFit};
-ghost use Rattle.net_text.specs.Pieces.{line, place_text, port_letter, ports_text, group_text, groups_text};
+ghost use Rattle.net_text.specs.Pieces.{line, place_text, port_letter, ports_text, group_text, groups_text, mark_text};
 
 use el_base::put_u64;
 use net_types::{List, Memory, Place, Port};
@@ -23,7 +23,8 @@ pub(crate) fn put_u32(text: &mut Vec<u8>, number: u32) -> Result<(), Memory>
 
 /// Appends a line: its first words, and numbers.
 pub(crate) fn put_line(text: &mut Vec<u8>, words: &[u8], numbers: &[u64]) -> Result<(), Memory>
-    ensures ok { OnOk result (text.new.items ≡ text.old.items ++ line (words.now ∷ map decimal numbers.now)) }
+    ensures ok { OnOk result
+        (text.new.items ≡ text.old.items ++ line (words.now ∷ map decimal numbers.now)) }
 {
     put_bytes(text, words)?;
     for number in numbers {
@@ -36,7 +37,8 @@ pub(crate) fn put_line(text: &mut Vec<u8>, words: &[u8], numbers: &[u64]) -> Res
 
 /// Appends a line of two parts.
 pub(crate) fn put_word_line(text: &mut Vec<u8>, first: &[u8], second: &[u8]) -> Result<(), Memory>
-    ensures ok { OnOk result (text.new.items ≡ text.old.items ++ line (first.now ∷ second.now ∷ [])) }
+    ensures ok { OnOk result
+        (text.new.items ≡ text.old.items ++ line (first.now ∷ second.now ∷ [])) }
 {
     put_bytes(text, first)?;
     put_bytes(text, b" ")?;
@@ -115,5 +117,16 @@ pub(crate) fn put_groups(text: &mut Vec<u8>, groups: &[List<u32>]) -> Result<(),
             }
             Ok(())
         }
+    }
+}
+
+/// Appends the mark of a queue.
+pub(crate) fn put_mark(text: &mut Vec<u8>, forward: bool) -> Result<(), Memory>
+    ensures ok { OnOk result (text.new.items ≡ text.old.items ++ mark_text forward) }
+{
+    if forward {
+        put_bytes(text, b"forward")
+    } else {
+        put_bytes(text, b"plain")
     }
 }

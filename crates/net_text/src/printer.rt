@@ -3,6 +3,7 @@ ghost use Rattle.std.specs.List.{All, flat_map};
 ghost use Rattle.net_text.specs.Pieces.{line, control_parts};
 ghost use Rattle.net_text.specs.Fits.{NetFits, HeaderFits, ScalarFits, ArrayFits, UnitFits, ChanFits};
 ghost use Rattle.net_text.specs.Refusals.{ReadsBack};
+ghost use Rattle.net_text.specs.declared.version.Version.TheVariants.{Two};
 ghost use Rattle.net_text.specs.Texts.{NetText, scalar_parts, array_parts, result_parts, unit_parts, chan_parts, header_lines};
 
 use crate::pieces::{put_bytes, put_line, put_place, put_u32, put_word_line};
@@ -11,9 +12,9 @@ use el_base::put_u64;
 use net_types::{Array, Chan, Memory, Net, Scalar, Ty, Unit};
 use std::alloc::Global;
 
-/// The text of a net.
+/// The text of a net, in version 2.
 ///
-/// One net has one text, and [`read`](crate::read) gives the net back from it.
+/// One net has one such text, and [`read`](crate::read) gives the net back from it.
 ///
 /// # Errors
 ///
@@ -32,10 +33,11 @@ pub fn print(alloc: Global, net: &Net) -> Result<Vec<u8>, Memory>
 }
 
 fn put_header(text: &mut Vec<u8>, net: &Net) -> Result<(), Memory>
-    ensures ok { OnOk result (text.new.items ≡ text.old.items ++ flat_map line (header_lines net.now)) }
+    ensures ok { OnOk result
+        (text.new.items ≡ text.old.items ++ flat_map line (header_lines Two net.now)) }
     ensures fits { OnOk result (HeaderFits net.now) }
 {
-    put_line(text, b"elastic", &[1])?;
+    put_line(text, b"elastic", &[2])?;
     put_word_line(text, b"kernel", net.name.as_slice())?;
     put_scalars(text, net.scalars.as_slice())?;
     put_arrays(text, net.arrays.as_slice())?;
@@ -43,7 +45,8 @@ fn put_header(text: &mut Vec<u8>, net: &Net) -> Result<(), Memory>
 }
 
 fn put_scalars(text: &mut Vec<u8>, scalars: &[Scalar]) -> Result<(), Memory>
-    ensures ok { OnOk result (text.new.items ≡ text.old.items ++ flat_map line (map scalar_parts scalars.now)) }
+    ensures ok { OnOk result
+        (text.new.items ≡ text.old.items ++ flat_map line (map scalar_parts scalars.now)) }
     ensures fits { OnOk result (All ScalarFits scalars.now) }
 {
     for scalar in scalars {
@@ -64,7 +67,8 @@ fn put_scalar(text: &mut Vec<u8>, scalar: &Scalar) -> Result<(), Memory>
 }
 
 fn put_arrays(text: &mut Vec<u8>, arrays: &[Array]) -> Result<(), Memory>
-    ensures ok { OnOk result (text.new.items ≡ text.old.items ++ flat_map line (map array_parts arrays.now)) }
+    ensures ok { OnOk result
+        (text.new.items ≡ text.old.items ++ flat_map line (map array_parts arrays.now)) }
     ensures fits { OnOk result (All ArrayFits arrays.now) }
 {
     for array in arrays {
@@ -96,7 +100,8 @@ fn put_result(text: &mut Vec<u8>, ty: Option<Ty>) -> Result<(), Memory>
 }
 
 fn put_units(text: &mut Vec<u8>, units: &[Unit]) -> Result<(), Memory>
-    ensures ok { OnOk result (text.new.items ≡ text.old.items ++ flat_map line (map unit_parts units.now)) }
+    ensures ok { OnOk result
+        (text.new.items ≡ text.old.items ++ flat_map line (map (unit_parts Two) units.now)) }
     ensures fits { OnOk result (All UnitFits units.now) }
 {
     for unit in units {
@@ -106,7 +111,8 @@ fn put_units(text: &mut Vec<u8>, units: &[Unit]) -> Result<(), Memory>
 }
 
 fn put_chans(text: &mut Vec<u8>, chans: &[Chan]) -> Result<(), Memory>
-    ensures ok { OnOk result (text.new.items ≡ text.old.items ++ flat_map line (map chan_parts chans.now)) }
+    ensures ok { OnOk result
+        (text.new.items ≡ text.old.items ++ flat_map line (map chan_parts chans.now)) }
     ensures fits { OnOk result (All ChanFits chans.now) }
 {
     for chan in chans {
@@ -134,7 +140,8 @@ fn put_chan(text: &mut Vec<u8>, chan: Chan) -> Result<(), Memory>
 }
 
 fn put_control(text: &mut Vec<u8>, control: bool) -> Result<(), Memory>
-    ensures ok { OnOk result (text.new.items ≡ text.old.items ++ (flat_map (λ part. 32 ∷ part) (control_parts control) ++ 10 ∷ [])) }
+    ensures ok { OnOk result (text.new.items ≡ text.old.items
+        ++ (flat_map (λ part. 32 ∷ part) (control_parts control) ++ 10 ∷ [])) }
 {
     if control {
         put_bytes(text, b" control\n")

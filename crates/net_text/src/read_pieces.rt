@@ -1,7 +1,7 @@
 ghost use Rattle.std.specs.Prelude.{◌≡◌, ◌≢◌, ◌==◌, ◌∷◌, ◌++◌, ◌<◌, true, decimal, map, IfOk, MatchOption, List, ℕ};
 ghost use Rattle.std.specs.List.{slice_split};
 ghost use Rattle.net_text.specs.Fits.{FitsU32, FitsU64, PlaceFits, GroupFits, GroupsFit, Always};
-ghost use Rattle.net_text.specs.Pieces.{place_text, port_letter, ports_text, group_text, groups_text};
+ghost use Rattle.net_text.specs.Pieces.{place_text, port_letter, ports_text, group_text, groups_text, mark_text};
 ghost use Rattle.net_text.specs.Reads.{Named, Every, Reads, PairFits, pair_text, lacks, starts_plain};
 
 use net_types::{List, Memory, Place, Port};
@@ -9,7 +9,8 @@ use std::alloc::Global;
 
 /// The parts of bytes between the places of a separator.
 pub(crate) fn parts(alloc: Global, bytes: &[u8], separator: u8) -> Result<Vec<&[u8]>, Memory>
-    ensures { IfOk result (λ v. map (λ part. part.now) v.items ≡ slice_split (λ b. b == separator) bytes.now) }
+    ensures { IfOk result
+        (λ v. map (λ part. part.now) v.items ≡ slice_split (λ b. b == separator) bytes.now) }
 {
     Ok(bytes.split(|b| *b == separator).collect(alloc)?)
 }
@@ -47,7 +48,8 @@ pub(crate) fn read_u32(bytes: &[u8]) -> Option<u32>
 
 /// What stands before the first separator, and what stands after it.
 pub(crate) fn cut(bytes: &[u8], separator: u8) -> Option<(&[u8], &[u8])>
-    ensures { MatchOption result (lacks separator bytes.now ≡ true) (λ p. (bytes.now ≡ p.0.now ++ separator ∷ p.1.now) × (lacks separator p.0.now ≡ true)) }
+    ensures { MatchOption result (lacks separator bytes.now ≡ true)
+        (λ p. (bytes.now ≡ p.0.now ++ separator ∷ p.1.now) × (lacks separator p.0.now ≡ true)) }
 {
     for (i, byte) in bytes.iter().enumerate() {
         if *byte == separator {
@@ -59,7 +61,8 @@ pub(crate) fn cut(bytes: &[u8], separator: u8) -> Option<(&[u8], &[u8])>
 
 /// What stands after a word.
 pub(crate) fn after<'a>(text: &'a [u8], word: &[u8]) -> Option<&'a [u8]>
-    ensures { MatchOption result ((rest : List ℕ) → text.now ≢ word.now ++ rest) (λ rest. text.now ≡ word.now ++ rest.now) }
+    ensures { MatchOption result ((rest : List ℕ) → text.now ≢ word.now ++ rest)
+        (λ rest. text.now ≡ word.now ++ rest.now) }
 {
     text.strip_prefix(word)
 }
@@ -151,7 +154,8 @@ pub(crate) fn read_group(alloc: Global, bytes: &[u8]) -> Result<Option<List<u32>
 }
 
 fn read_numbers(alloc: Global, parts: &[&[u8]]) -> Result<Option<List<u32>>, Memory>
-    ensures { IfOk result (λ o. Reads GroupFits (map decimal) (map (λ part. part.now) parts.now) o) }
+    ensures { IfOk result
+        (λ o. Reads GroupFits (map decimal) (map (λ part. part.now) parts.now) o) }
 {
     let mut numbers = List::new(alloc);
     for part in parts {
@@ -175,7 +179,8 @@ pub(crate) fn read_groups(alloc: Global, bytes: &[u8]) -> Result<Option<List<Lis
 }
 
 fn read_group_list(alloc: Global, parts: &[&[u8]]) -> Result<Option<List<List<u32>>>, Memory>
-    ensures { IfOk result (λ o. Reads GroupsFit (map group_text) (map (λ part. part.now) parts.now) o) }
+    ensures { IfOk result
+        (λ o. Reads GroupsFit (map group_text) (map (λ part. part.now) parts.now) o) }
 {
     let mut groups = List::new(alloc);
     for part in parts {
@@ -185,4 +190,17 @@ fn read_group_list(alloc: Global, parts: &[&[u8]]) -> Result<Option<List<List<u3
         }
     }
     Ok(Some(groups))
+}
+
+/// The mark that bytes write.
+pub(crate) fn read_mark(bytes: &[u8]) -> Option<bool>
+    ensures { Reads Always mark_text bytes.now result }
+{
+    if bytes == b"plain".as_slice() {
+        return Some(false);
+    }
+    if bytes == b"forward".as_slice() {
+        return Some(true);
+    }
+    None
 }

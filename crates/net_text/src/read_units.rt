@@ -1,36 +1,42 @@
 ghost use Rattle.std.specs.Prelude.{◌++◌, codes, IfOk};
 ghost use Rattle.el_base.specs.Names.{op1_name, op2_name};
-ghost use Rattle.net_text.specs.Fits.{Always, UnitFits};
-ghost use Rattle.net_text.specs.Reads.{Reads, PlainFits, ConstFits, pair_text, kind_text, unit_text};
+ghost use Rattle.net_text.specs.declared.version.Version.TheVariants.{Two};
+ghost use Rattle.net_text.specs.Fits.{Always, WritesUnit};
+ghost use Rattle.net_text.specs.Reads.{Reads, PlainFits, ConstFits, QueueEndFits, pair_text, kind_text, unit_text, queue_end};
 
 use crate::read_pieces::{
-    after, cut, number_after, pair_after, read_groups, read_ports, read_u32, read_u64,
+    after, cut, number_after, pair_after, read_groups, read_mark, read_ports, read_u32, read_u64,
 };
-use net_types::{Memory, Op1, Op2, Unit};
+use crate::version::Version;
+use net_types::{List, Memory, Op1, Op2, Unit};
 use std::alloc::Global;
 
-/// The unit that a line without its line feed writes.
-pub fn read_unit(alloc: Global, line: &[u8]) -> Result<Option<Unit>, Memory>
-    ensures { IfOk result (λ o. Reads UnitFits unit_text line.now o) }
+/// The unit that a line without its line feed writes in a version.
+pub(crate) fn read_unit(
+    alloc: Global,
+    version: Version,
+    line: &[u8],
+) -> Result<Option<Unit>, Memory>
+    ensures { IfOk result (λ o. Reads (WritesUnit version) (unit_text version) line.now o) }
 {
     match after(line, b"unit ") {
-        Some(kind) => read_kind(alloc, kind),
+        Some(kind) => read_kind(alloc, version, kind),
         None => Ok(None),
     }
 }
 
-fn read_kind(alloc: Global, text: &[u8]) -> Result<Option<Unit>, Memory>
-    ensures { IfOk result (λ o. Reads UnitFits kind_text text.now o) }
+fn read_kind(alloc: Global, version: Version, text: &[u8]) -> Result<Option<Unit>, Memory>
+    ensures { IfOk result (λ o. Reads (WritesUnit version) (kind_text version) text.now o) }
 {
     match after(text, b"lsq ") {
-        Some(args) => read_queue(alloc, args),
+        Some(args) => read_queue(alloc, version, args),
         None => Ok(read_plain(text)),
     }
 }
 
 /// A unit of any kind but a queue.
 fn read_plain(text: &[u8]) -> Option<Unit>
-    ensures { Reads PlainFits kind_text text.now result }
+    ensures { Reads PlainFits (kind_text Two) text.now result }
 {
     if text == b"entry".as_slice() {
         return Some(Unit::Entry);
@@ -96,9 +102,10 @@ fn op2_after(text: &[u8], word: &[u8]) -> Option<Op2>
     Op2::of_name(after(text, word)?)
 }
 
-/// The array, the depth, the ports and the groups of a queue.
-fn read_queue(alloc: Global, args: &[u8]) -> Result<Option<Unit>, Memory>
-    ensures { IfOk result (λ o. Reads UnitFits kind_text (codes "lsq " ++ args.now) o) }
+/// The array, the depth, the ports, the groups and the mark of a queue.
+fn read_queue(alloc: Global, version: Version, args: &[u8]) -> Result<Option<Unit>, Memory>
+    ensures { IfOk result
+        (λ o. Reads (WritesUnit version) (kind_text version) (codes "lsq " ++ args.now) o) }
 {
     let Some((array, rest)) = cut(args, b' ') else {
         return Ok(None);
@@ -106,7 +113,7 @@ fn read_queue(alloc: Global, args: &[u8]) -> Result<Option<Unit>, Memory>
     let Some((depth, rest)) = cut(rest, b' ') else {
         return Ok(None);
     };
-    let Some((ports, groups)) = cut(rest, b' ') else {
+    let Some((ports, end)) = cut(rest, b' ') else {
         return Ok(None);
     };
     let Some(array) = read_u32(array) else {
@@ -118,7 +125,7 @@ fn read_queue(alloc: Global, args: &[u8]) -> Result<Option<Unit>, Memory>
     let Some(ports) = read_ports(alloc, ports)? else {
         return Ok(None);
     };
-    let Some(groups) = read_groups(alloc, groups)? else {
+    let Some((groups, forward)) = read_queue_end(alloc, version, end)? else {
         return Ok(None);
     };
     Ok(Some(Unit::Lsq {
@@ -126,5 +133,39 @@ fn read_queue(alloc: Global, args: &[u8]) -> Result<Option<Unit>, Memory>
         depth,
         ports,
         groups,
+        forward,
     }))
+}
+
+/// The groups at the end of a queue's line, and its mark, which version 1 does not write.
+fn read_queue_end(
+    alloc: Global,
+    version: Version,
+    text: &[u8],
+) -> Result<Option<(List<List<u32>>, bool)>, Memory>
+    ensures { IfOk result (λ o. Reads (QueueEndFits version) (queue_end version) text.now o) }
+{
+    match version {
+        Version::One => match read_groups(alloc, text)? {
+            Some(groups) => Ok(Some((groups, false))),
+            None => Ok(None),
+        },
+        Version::Two => read_marked(alloc, text),
+    }
+}
+
+/// Groups, a space and a mark.
+fn read_marked(alloc: Global, text: &[u8]) -> Result<Option<(List<List<u32>>, bool)>, Memory>
+    ensures { IfOk result (λ o. Reads (QueueEndFits Two) (queue_end Two) text.now o) }
+{
+    let Some((groups, mark)) = cut(text, b' ') else {
+        return Ok(None);
+    };
+    let Some(forward) = read_mark(mark) else {
+        return Ok(None);
+    };
+    match read_groups(alloc, groups)? {
+        Some(groups) => Ok(Some((groups, forward))),
+        None => Ok(None),
+    }
 }

@@ -1,24 +1,27 @@
-ghost use Rattle.std.specs.Prelude.{◌∷◌, ◌++◌, ◌+◌, ◌<◌, ◌^◌, length};
+ghost use Rattle.std.specs.Prelude.{◌∷◌, ◌++◌, ◌+◌, length};
+ghost use Rattle.el_base.specs.Limits.{IsNumbered};
 ghost use Rattle.net_text.specs.Fits.{NameFits};
-ghost use Rattle.net_text.specs.Reads.{version_text, kernel_text};
+ghost use Rattle.net_text.specs.Bodies.{first_text};
+ghost use Rattle.net_text.specs.Reads.{kernel_text};
 ghost use Rattle.net_text.specs.Refusals.{Says, IsOnly};
 
 use crate::body::{Stage, add, may_stand, read_line, stage_after};
 use crate::lines::{read_kernel, read_version};
 use crate::read_pieces::cut;
 use crate::refusal::TextRefusal;
+use crate::version::Version;
 use net_types::{List, Name, Net};
 use std::alloc::Global;
 
-/// The net of a text.
+/// The net of a text of version 1 or 2, of fewer than 2^32 bytes; in version 1 no queue is marked.
 ///
 /// # Errors
 ///
-/// `Version` where the first line is complete and names a version other than 1; else `Line` at the first complete line
+/// `Version` where the first line is complete and names a version other than 1 and 2; else `Line` at the first complete line
 /// that may not stand where it stands, or at the line after `end` where any byte follows it; else `Ends` where the text
 /// ends before the complete line `end`. `Memory` where memory ran out.
 pub fn read(alloc: Global, bytes: &[u8]) -> Result<Net, TextRefusal>
-    requires { length bytes.now < 2 ^ 32 }
+    requires { IsNumbered (length bytes.now) }
     ensures says { Says bytes.now result }
     ensures only { IsOnly bytes.now result }
 {
@@ -27,25 +30,25 @@ pub fn read(alloc: Global, bytes: &[u8]) -> Result<Net, TextRefusal>
 
 /// The net of a text, from its first line on.
 fn read_text(alloc: Global, bytes: &[u8]) -> Result<Net, TextRefusal>
-    requires { length bytes.now < 2 ^ 32 }
+    requires { IsNumbered (length bytes.now) }
     ensures { Says bytes.now result }
 {
-    let Some((version, rest)) = cut(bytes, b'\n') else {
+    let Some((first, rest)) = cut(bytes, b'\n') else {
         return Err(TextRefusal::Ends);
     };
-    let Some(number) = read_version(version) else {
+    let Some(number) = read_version(first) else {
         return Err(TextRefusal::Line { number: 1 });
     };
-    if number != 1 {
+    let Some(version) = Version::of_number(number) else {
         return Err(TextRefusal::Version);
-    }
-    read_named(alloc, rest)
+    };
+    read_named(alloc, version, rest)
 }
 
 /// The net of a text without its first line.
-fn read_named(alloc: Global, text: &[u8]) -> Result<Net, TextRefusal>
-    requires { length text.now + 1 < 2 ^ 32 }
-    ensures { Says (version_text 1 ++ 10 ∷ text.now) result }
+fn read_named(alloc: Global, version: Version, text: &[u8]) -> Result<Net, TextRefusal>
+    requires { IsNumbered (length text.now + 1) }
+    ensures { Says (first_text version ++ 10 ∷ text.now) result }
 {
     let Some((kernel, body)) = cut(text, b'\n') else {
         return Err(TextRefusal::Ends);
@@ -53,14 +56,14 @@ fn read_named(alloc: Global, text: &[u8]) -> Result<Net, TextRefusal>
     let Some(name) = read_kernel(alloc, kernel)? else {
         return Err(TextRefusal::Line { number: 2 });
     };
-    read_body(alloc, name, body)
+    read_body(alloc, version, name, body)
 }
 
 /// The net of a text without its first line and the line of the kernel's name.
-fn read_body(alloc: Global, name: Name, body: &[u8]) -> Result<Net, TextRefusal>
+fn read_body(alloc: Global, version: Version, name: Name, body: &[u8]) -> Result<Net, TextRefusal>
     requires fits { NameFits name }
-    requires short { length body.now + 4 < 2 ^ 32 }
-    ensures { Says (version_text 1 ++ 10 ∷ (kernel_text name ++ 10 ∷ body.now)) result }
+    requires short { IsNumbered (length body.now + 4) }
+    ensures { Says (first_text version ++ 10 ∷ (kernel_text name ++ 10 ∷ body.now)) result }
 {
     let mut net = Net {
         name,
@@ -74,7 +77,7 @@ fn read_body(alloc: Global, name: Name, body: &[u8]) -> Result<Net, TextRefusal>
     let mut rest = body;
     let mut number: u32 = 3;
     'lines: while let Some((text, after)) = cut(rest, b'\n') {
-        let Some(line) = read_line(alloc, text)? else {
+        let Some(line) = read_line(alloc, version, text)? else {
             return Err(TextRefusal::Line { number });
         };
         if !may_stand(&line, stage) {

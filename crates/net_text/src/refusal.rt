@@ -1,7 +1,9 @@
 ghost use Rattle.std.specs.Prelude.{◌≡◌};
-ghost use Rattle.net_text.specs.Refusals.{refusal_number};
+ghost use Rattle.net_text.specs.Refusals.{refusal_number, refusal_word, refusal_line};
 
 use net_types::Memory;
+use std::error::Error;
+use std::fmt;
 
 /// Why bytes are not the text of a net.
 #[derive(Clone, Copy, Debug, PartialEq, Eq)]
@@ -10,7 +12,7 @@ pub enum TextRefusal {
     Line { number: u32 },
     /// The text ends before the complete line `end`.
     Ends,
-    /// The first line names a version other than 1.
+    /// The first line names a version other than 1 and 2.
     Version,
     /// Memory ran out.
     Memory,
@@ -28,7 +30,47 @@ impl TextRefusal {
             TextRefusal::Memory => None,
         }
     }
+
+    /// The word by which the refusal is printed.
+    pub fn word(&self) -> &'static str
+        ensures { result.now ≡ refusal_word self.now }
+    {
+        match self {
+            TextRefusal::Line { .. } => "Line",
+            TextRefusal::Ends => "Ends",
+            TextRefusal::Version => "Version",
+            TextRefusal::Memory => "Memory",
+        }
+    }
+
+    /// The number of the line that is refused, from 1; none where it is no line.
+    pub fn line(&self) -> Option<u32>
+        ensures { result ≡ refusal_line self.now }
+    {
+        match self {
+            TextRefusal::Line { number } => Some(*number),
+            TextRefusal::Ends | TextRefusal::Version | TextRefusal::Memory => None,
+        }
+    }
 }
+
+/// The number and the word, as `40 Line`.
+impl fmt::Display for TextRefusal {
+    ghost use Rattle.std.specs.Prelude.{Some};
+    ghost use Rattle.net_text.specs.Refusals.{refusal_text};
+
+    ghost output = { λ refusal. Some (refusal_text refusal) };
+
+    fn fmt<W: fmt::Write>(&self, f: &mut fmt::Formatter<W>) -> fmt::Result {
+        let word = self.word();
+        match self.number() {
+            Some(number) => write!(f, "{number} {word}"),
+            None => f.write_str("want of memory"),
+        }
+    }
+}
+
+impl Error for TextRefusal {}
 
 impl From<Memory> for TextRefusal {
     ghost use Rattle.net_text.specs.declared.refusal.TextRefusal.TheVariants as refusal;

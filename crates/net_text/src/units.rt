@@ -1,15 +1,16 @@
 ghost use Rattle.std.specs.Prelude.{◌≡◌, ◌++◌, OnOk};
 ghost use Rattle.net_text.specs.Fits.{UnitFits, QueueFits};
 ghost use Rattle.net_text.specs.Pieces.{line};
+ghost use Rattle.net_text.specs.declared.version.Version.TheVariants.{Two};
 ghost use Rattle.net_text.specs.Texts.{unit_parts};
 ghost use Rattle.net_types.specs.declared.net.Unit.TheVariants as unit;
 
-use crate::pieces::{put_bytes, put_groups, put_line, put_ports, put_u32, put_word_line};
+use crate::pieces::{put_bytes, put_groups, put_line, put_mark, put_ports, put_u32, put_word_line};
 use net_types::{List, Memory, Port, Unit};
 
 /// Appends the line of a unit.
 pub(crate) fn put_unit(text: &mut Vec<u8>, unit: &Unit) -> Result<(), Memory>
-    ensures ok { OnOk result (text.new.items ≡ text.old.items ++ line (unit_parts unit.now)) }
+    ensures ok { OnOk result (text.new.items ≡ text.old.items ++ line (unit_parts Two unit.now)) }
     ensures fits { OnOk result (UnitFits unit.now) }
 {
     match unit {
@@ -36,7 +37,15 @@ pub(crate) fn put_unit(text: &mut Vec<u8>, unit: &Unit) -> Result<(), Memory>
             depth,
             ports,
             groups,
-        } => put_queue(text, *array, *depth, ports.as_slice(), groups.as_slice()),
+            forward,
+        } => put_queue(
+            text,
+            *array,
+            *depth,
+            ports.as_slice(),
+            groups.as_slice(),
+            *forward,
+        ),
         Unit::Exit => put_line(text, b"unit exit", &[]),
     }
 }
@@ -47,8 +56,10 @@ fn put_queue(
     depth: u32,
     ports: &[Port],
     groups: &[List<u32>],
+    forward: bool,
 ) -> Result<(), Memory>
-    ensures ok { OnOk result (text.new.items ≡ text.old.items ++ line (unit_parts (unit.Lsq array depth ports.now groups.now))) }
+    ensures ok { let queue = unit.Lsq array depth ports.now groups.now forward in
+        OnOk result (text.new.items ≡ text.old.items ++ line (unit_parts Two queue)) }
     ensures fits { OnOk result (QueueFits array depth groups.now) }
 {
     put_bytes(text, b"unit lsq ")?;
@@ -59,6 +70,8 @@ fn put_queue(
     put_ports(text, ports)?;
     put_bytes(text, b" ")?;
     put_groups(text, groups)?;
+    put_bytes(text, b" ")?;
+    put_mark(text, forward)?;
     put_bytes(text, b"\n")?;
     Ok(())
 }

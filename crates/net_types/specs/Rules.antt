@@ -5,7 +5,7 @@ use Rattle.net_types.specs.declared.net.Place.{Place}
 use Rattle.net_types.specs.declared.net.Chan.{Chan}
 use Rattle.net_types.specs.declared.net.Net.{Net}
 use Rattle.net_types.specs.declared.net.Unit.{Unit as Kind}
-use Rattle.net_types.specs.declared.net.Unit.TheVariants.{Const, Select, Fork, Mux, Branch, Sink}
+use Rattle.net_types.specs.declared.net.Unit.TheVariants.{Entry, Param, Const, Op1, Op2, Select, Fork, Mux, Cmerge, Branch, Sink, Read, Lsq, Exit}
 use Rattle.net_types.specs.Nets.{is_at, at, kind_of}
 use Rattle.net_types.specs.Tables.{Spot, ins, outs}
 
@@ -43,13 +43,20 @@ is_width w = (w == 8) || (w == 16) || (w == 32) || (w == 64)
 
 -- the width that a unit names is one of 8, 16, 32 and 64, and its constant is a pattern of that width
 abbrev pub width_fits : Kind → Bool
+width_fits Entry = true
+width_fits (Param j) = true
 width_fits (Const w n) = is_width w && nat_lt n (2 ^ w)
+width_fits (Op1 op) = true
+width_fits (Op2 op) = true
 width_fits (Select w) = is_width w
 width_fits (Fork w n) = is_width w
 width_fits (Mux w n) = is_width w
+width_fits (Cmerge n) = true
 width_fits (Branch w) = is_width w
 width_fits (Sink w) = is_width w
-width_fits _ = true
+width_fits (Read a) = true
+width_fits (Lsq a d ps gs f) = true
+width_fits Exit = true
 
 -- a place of this number and width is in a row of the table
 abbrev pub HasWidth : List Spot → ℕ → ℕ → Type 0

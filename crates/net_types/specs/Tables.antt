@@ -65,7 +65,7 @@ ins net m (Cmerge n) = spots 0 32 true n
 ins net m (Branch w) = spot 0 32 false ∷ spot 1 w m ∷ []
 ins net m (Sink w) = spot 0 w false ∷ []
 ins net m (Read a) = spot 0 64 false ∷ []
-ins net m (Lsq a d ps gs) = spots 0 32 true (suc (length gs)) ++ port_ins (length gs + 1) (array_width net.arrays a) ps
+ins net m (Lsq a d ps gs f) = spots 0 32 true (suc (length gs)) ++ port_ins (length gs + 1) (array_width net.arrays a) ps
 ins net m Exit = spot 0 32 true ∷ result_in net.result
 
 -- the output places of a unit
@@ -83,7 +83,7 @@ outs net m (Cmerge n) = spot 0 32 true ∷ []
 outs net m (Branch w) = spot 0 w m ∷ spot 1 w m ∷ []
 outs net m (Sink w) = []
 outs net m (Read a) = spot 0 (array_width net.arrays a) false ∷ []
-outs net m (Lsq a d ps gs) = spots 0 32 true (suc (length gs)) ++ port_outs (length gs + 1) (array_width net.arrays a) ps
+outs net m (Lsq a d ps gs f) = spots 0 32 true (suc (length gs)) ++ port_outs (length gs + 1) (array_width net.arrays a) ps
 outs net m Exit = []
 
 -- a place of this number, width and control is in a row of the table

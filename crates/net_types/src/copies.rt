@@ -61,11 +61,13 @@ impl Unit {
                 depth,
                 ports,
                 groups,
+                forward,
             } => Ok(Unit::Lsq {
                 array: *array,
                 depth: *depth,
                 ports: ports.copy()?,
                 groups: copy_lists(alloc, groups.as_slice())?,
+                forward: *forward,
             }),
             Unit::Exit => Ok(Unit::Exit),
         }

@@ -3,12 +3,14 @@ use Rattle.std.proofs.Common.{◌≡◌, ◌≢◌, ◌^◌, Bool, true, false, 
 use Rattle.std.specs.Prelude.{pos, negsuc, ◌+ℤ◌, ◌-ℤ◌, ◌*ℤ◌, neg_ℤ, ◌<ℤ◌, ◌≤ℤ◌, int_div, int_rem, bit_and, bit_or, bit_xor}
 use Rattle.std.specs.Int.{int_shr, bit_at, w32, w64}
 use Rattle.std.proofs.lemmas.Nat.Bits.{bit_at_not}
+use Rattle.el_base.specs.declared.operation.Op1.{Op1}
 use Rattle.el_base.specs.declared.operation.Op1.TheVariants.{Neg32, Neg64, Not32, Not64, Zero32, Zero64, S8to16, S8to32, S8to64, S16to32, S16to64, S32to64, U8to16, U8to32, U8to64, U16to32, U16to64, U32to64, Cut16to8, Cut32to8, Cut32to16, Cut64to8, Cut64to16, Cut64to32}
+use Rattle.el_base.specs.declared.operation.Op2.{Op2}
 use Rattle.el_base.specs.declared.operation.Op2.TheVariants.{Add32, Add64, Sub32, Sub64, Mul32, Mul64, And32, And64, Or32, Or64, Xor32, Xor64, Shl32, Shl64, Shru32, Shru64, Shrs32, Shrs64, Divu32, Divu64, Remu32, Remu64, Divs32, Divs64, Rems32, Rems64, Eq32, Eq64, Ne32, Ne64, Ltu32, Ltu64, Leu32, Leu64, Lts32, Lts64, Les32, Les64}
 use Rattle.el_base.specs.Widths.{op1_in, op2_in}
 use Rattle.el_base.specs.Numbers.{residue}
 use Rattle.word_ops.specs.Operations.{op1_on, op2_on, op1_result, op2_result}
-use Rattle.word_ops.specs.Laws.{OnResidues1, OnResidues2, Gives1, GivesIn1, Gives2, ByZeroGivesZero, LeastByMinusOneGives, FlipsBits, JoinsBits, Shifts, ShiftsIn, Divides, Tells1, Tells2}
+use Rattle.word_ops.specs.Laws.{Law1, Law2, OnResidues1, OnResidues2, Gives1, GivesIn1, Gives2, ByZeroGivesZero, LeastByMinusOneGives, FlipsBits, JoinsBits, Shifts, ShiftsIn, Divides, Tells1, Tells2}
 use Rattle.word_ops.proofs.Residues.{residue-residue, residue_below}
 use Rattle.word_ops.proofs.Exact.{summed, subtracted, multiplied, negated, flipped, joined, shifted_left, shifted_right, shifted_signed, divided_unsigned, rest_unsigned, divided_signed, rest_signed, told_zero, told_equal, told_unequal, told_less, told_at_most, extended_signed, extended_unsigned, cut}
 
@@ -323,3 +325,70 @@ cut64to16 = λ x. cut 64 16 x (lit≤ tt)
 pub cut64to32 : Gives1 Cut64to32 (λ x. x)
 unfolding op1_result op1_on
 cut64to32 = λ x. cut 64 32 x (lit≤ tt)
+
+-- the law of each operation
+pub law1 : (op : Op1) → Law1 op
+law1 Neg32 = neg32
+law1 Neg64 = neg64
+law1 Not32 = flips32
+law1 Not64 = flips64
+law1 Zero32 = zero32
+law1 Zero64 = zero64
+law1 S8to16 = s8to16
+law1 S8to32 = s8to32
+law1 S8to64 = s8to64
+law1 S16to32 = s16to32
+law1 S16to64 = s16to64
+law1 S32to64 = s32to64
+law1 U8to16 = u8to16
+law1 U8to32 = u8to32
+law1 U8to64 = u8to64
+law1 U16to32 = u16to32
+law1 U16to64 = u16to64
+law1 U32to64 = u32to64
+law1 Cut16to8 = cut16to8
+law1 Cut32to8 = cut32to8
+law1 Cut32to16 = cut32to16
+law1 Cut64to8 = cut64to8
+law1 Cut64to16 = cut64to16
+law1 Cut64to32 = cut64to32
+
+pub law2 : (op : Op2) → Law2 op
+law2 Add32 = add32
+law2 Add64 = add64
+law2 Sub32 = sub32
+law2 Sub64 = sub64
+law2 Mul32 = mul32
+law2 Mul64 = mul64
+law2 And32 = and32
+law2 And64 = and64
+law2 Or32 = or32
+law2 Or64 = or64
+law2 Xor32 = xor32
+law2 Xor64 = xor64
+law2 Shl32 = shl32
+law2 Shl64 = shl64
+law2 Shru32 = shru32
+law2 Shru64 = shru64
+law2 Shrs32 = shrs32
+law2 Shrs64 = shrs64
+law2 Divu32 = (divu32, divu32_zero)
+law2 Divu64 = (divu64, divu64_zero)
+law2 Remu32 = (remu32, remu32_zero)
+law2 Remu64 = (remu64, remu64_zero)
+law2 Divs32 = (divs32, divs32_zero, divs32_least)
+law2 Divs64 = (divs64, divs64_zero, divs64_least)
+law2 Rems32 = (rems32, rems32_zero, rems32_least)
+law2 Rems64 = (rems64, rems64_zero, rems64_least)
+law2 Eq32 = eq32
+law2 Eq64 = eq64
+law2 Ne32 = ne32
+law2 Ne64 = ne64
+law2 Ltu32 = ltu32
+law2 Ltu64 = ltu64
+law2 Leu32 = leu32
+law2 Leu64 = leu64
+law2 Lts32 = lts32
+law2 Lts64 = lts64
+law2 Les32 = les32
+law2 Les64 = les64

@@ -1,9 +1,17 @@
 //! Laws of the operations, for every number: each is the contract of a function that does nothing.
 ghost use Rattle.std.specs.Prelude.{◌≡◌, ◌≢◌, ◌^◌, Bool, true, false, pos, negsuc, ◌+ℤ◌, ◌-ℤ◌, ◌*ℤ◌, neg_ℤ, ◌<ℤ◌, ◌≤ℤ◌, int_div, int_rem, bit_and, bit_or, bit_xor};
 ghost use Rattle.std.specs.Int.{int_shr};
+ghost use Rattle.el_base.specs.declared.operation.Op1.{Op1};
 ghost use Rattle.el_base.specs.declared.operation.Op1.TheVariants as op1;
+ghost use Rattle.el_base.specs.declared.operation.Op2.{Op2};
 ghost use Rattle.el_base.specs.declared.operation.Op2.TheVariants as op2;
-ghost use Rattle.word_ops.specs.Laws.{BelowWidth1, BelowWidth2, OnResidues1, OnResidues2, Gives1, GivesIn1, Gives2, ByZeroGivesZero, LeastByMinusOneGives, FlipsBits, JoinsBits, Shifts, ShiftsIn, Divides, Tells1, Tells2};
+ghost use Rattle.word_ops.specs.Laws.{Law1, Law2, BelowWidth1, BelowWidth2, OnResidues1, OnResidues2, Gives1, GivesIn1, Gives2, ByZeroGivesZero, LeastByMinusOneGives, FlipsBits, JoinsBits, Shifts, ShiftsIn, Divides, Tells1, Tells2};
+
+/// Each operation has a law that says what it means on whole numbers; the functions below say the same by the kind of law.
+pub fn operations_have_laws()
+    ensures one { (op : Op1) → Law1 op }
+    ensures two { (op : Op2) → Law2 op }
+{}
 
 /// A result is below two to its width.
 pub fn results_are_patterns()

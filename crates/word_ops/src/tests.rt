@@ -1,19 +1,4 @@
-mod one_operand;
-mod two_operands;
-
 use crate::{Op1, Op2, apply1, apply2, laws};
-use one_operand::ONE_OPERAND;
-use two_operands::TWO_OPERANDS;
-
-#[test]
-fn gives_the_rows_of_two_independent_implementations(rt: HostRuntime) {
-    for (op, a, want) in ONE_OPERAND.iter() {
-        assert_eq!(rt; apply1(*op, *a), *want, "{} of {a}", op.name());
-    }
-    for (op, a, b, want) in TWO_OPERANDS.iter() {
-        assert_eq!(rt; apply2(*op, *a, *b), *want, "{} of {a} and {b}", op.name());
-    }
-}
 
 #[test]
 fn divides_shifts_compares_and_extends(rt: HostRuntime) {
@@ -30,6 +15,7 @@ fn divides_shifts_compares_and_extends(rt: HostRuntime) {
 
 #[test]
 fn laws_can_be_called() {
+    laws::operations_have_laws();
     laws::results_are_patterns();
     laws::operands_are_reduced();
     laws::arithmetic_is_exact();

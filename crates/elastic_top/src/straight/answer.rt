@@ -2,7 +2,7 @@ ghost use Rattle.std.specs.Prelude.{◌≡◌, ◌++◌, ◌<◌, ◌^◌, Err, 
 ghost use Rattle.std.specs.Fmt.{signed_decimal};
 ghost use Rattle.el_base.specs.Numbers.{number};
 ghost use Rattle.el_base.specs.declared.ty.Ty.TheVariants.{I32};
-ghost use Rattle.elastic_top.specs.Answers.{IsAnswer, SpellsNothing, SpellsNoInputs, result_line};
+ghost use Rattle.elastic_top.specs.straight.Answers.{IsAnswer, SpellsNothing, SpellsNoInputs, result_line};
 ghost use Rattle.elastic_top.specs.declared.straight.answer.Refusal.TheVariants as refusal;
 
 use crate::straight::circuit::circuit;
@@ -10,7 +10,7 @@ use crate::straight::inputs::{InputsRefusal, read_inputs};
 use crate::straight::pass::evaluate;
 use crate::straight::reader::read_kernel;
 use crate::straight::refusal::KernelRefusal;
-use el_base::{Memory, put_i64};
+use el_base::{Memory, Ty, number, put_i64};
 use net_text::print;
 use std::alloc::{AllocError, Global};
 
@@ -43,7 +43,7 @@ impl From<AllocError> for Refusal {
 }
 
 impl From<KernelRefusal> for Refusal {
-    ghost use Rattle.elastic_top.specs.PartRefusals.{of_kernel};
+    ghost use Rattle.elastic_top.specs.straight.PartRefusals.{of_kernel};
 
     ghost from_gives = { λ e f. f ≡ of_kernel e };
 
@@ -56,7 +56,7 @@ impl From<KernelRefusal> for Refusal {
 }
 
 impl From<InputsRefusal> for Refusal {
-    ghost use Rattle.elastic_top.specs.PartRefusals.{of_inputs};
+    ghost use Rattle.elastic_top.specs.straight.PartRefusals.{of_inputs};
 
     ghost from_gives = { λ e f. f ≡ of_inputs e };
 
@@ -89,11 +89,7 @@ fn number_of(pattern: u64) -> i64
     requires { pattern < 2 ^ 32 }
     ensures { result ≡ number I32 pattern }
 {
-    if pattern < 2_147_483_648 {
-        pattern as i64
-    } else {
-        pattern as i64 - 4_294_967_296
-    }
+    number(Ty::I32, pattern) as i64
 }
 
 // Appends the line of a result.

@@ -1,7 +1,7 @@
 ghost use Rattle.std.specs.Prelude.{◌≡◌, ◌+◌, ◌*◌, ◌^◌, ◌<◌, length, IfOk, IsTrue, map};
-ghost use Rattle.elastic_top.specs.Draft.{drawn};
-ghost use Rattle.elastic_top.specs.Good.{scalar_of, is_fit_sum, IsFit, IsGood};
-ghost use Rattle.elastic_top.specs.Spelling.{sum_nodes};
+ghost use Rattle.elastic_top.specs.straight.Draft.{drawn};
+ghost use Rattle.elastic_top.specs.straight.Good.{scalar_of, is_fit_sum, IsFit, IsGood};
+ghost use Rattle.elastic_top.specs.straight.Spelling.{sum_nodes};
 
 use crate::straight::draft::Draft;
 use crate::straight::kernel::{Kernel, Sum};

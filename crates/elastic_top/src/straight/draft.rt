@@ -1,5 +1,5 @@
 ghost use Rattle.std.specs.Prelude.{◌≡◌, ◌+◌, ◌^◌, ◌<◌, length, IfOk, OnOk};
-ghost use Rattle.elastic_top.specs.Draft.{
+ghost use Rattle.elastic_top.specs.straight.Draft.{
   with_channel,
   with_unit,
   with_one,
@@ -32,7 +32,7 @@ pub struct Draft {
     pub control: Place,
 }
 
-#[tactic(auto, unfolding(crate::specs::Draft::number_drawn, crate::specs::Draft::param_drawn, crate::specs::Draft::op_drawn, crate::specs::Draft::with_param, crate::specs::Draft::with_sink, crate::specs::Draft::with_exit))]
+#[tactic(auto, unfolding(crate::specs::straight::Draft::number_drawn, crate::specs::straight::Draft::param_drawn, crate::specs::straight::Draft::op_drawn, crate::specs::straight::Draft::with_param, crate::specs::straight::Draft::with_sink, crate::specs::straight::Draft::with_exit))]
 impl Draft {
     /// The entry and the units of the parameters.
     pub fn new(alloc: Global, params: u32) -> Result<Draft, Memory>
@@ -110,7 +110,8 @@ impl Draft {
     /// A constant, which takes its token from the control; the place where it comes out.
     pub fn number(&mut self, number: u32) -> Result<Place, Memory>
         requires { length self.old.units + 1 < 2 ^ 32 }
-        ensures { IfOk result (λ p. number_drawn number self.old ≡ record { draft = self.new; at = p }) }
+        ensures { IfOk result (λ p.
+            number_drawn number self.old ≡ record { draft = self.new; at = p }) }
     {
         let kept = self.next(0);
         let used = self.next(1);
@@ -129,7 +130,8 @@ impl Draft {
     pub fn param(&mut self, param: u32) -> Result<Place, Memory>
         requires within { param < length self.old.sources }
         requires few { length self.old.units < 2 ^ 32 }
-        ensures { IfOk result (λ p. param_drawn param self.old ≡ record { draft = self.new; at = p }) }
+        ensures { IfOk result (λ p.
+            param_drawn param self.old ≡ record { draft = self.new; at = p }) }
     {
         let kept = self.next(0);
         let used = self.next(1);
@@ -142,7 +144,8 @@ impl Draft {
     /// An operation on two values; the place where its result comes out.
     pub fn op(&mut self, operator: Operator, left: Place, right: Place) -> Result<Place, Memory>
         requires { length self.old.units < 2 ^ 32 }
-        ensures { IfOk result (λ p. op_drawn operator left right self.old ≡ record { draft = self.new; at = p }) }
+        ensures { IfOk result (λ p.
+            op_drawn operator left right self.old ≡ record { draft = self.new; at = p }) }
     {
         let value = self.next(0);
         self.channel(left, 0, false)?;

@@ -2,10 +2,10 @@ ghost use Rattle.std.specs.Prelude.{◌≡◌, ◌≤◌, ◌≤ℤ◌, ℕ, ℤ
 ghost use Rattle.std.specs.Fmt.{signed_decimal};
 ghost use Rattle.el_base.specs.Numbers.{IsInRange, pattern};
 ghost use Rattle.el_base.specs.declared.ty.Ty.TheVariants.{I32};
-ghost use Rattle.elastic_top.specs.Inputs.{InputText, ReadsInputs, Finds, input_line};
+ghost use Rattle.elastic_top.specs.straight.Inputs.{InputText, ReadsInputs, Finds, input_line};
 ghost use Rattle.elastic_top.specs.declared.straight.inputs.InputsRefusal.TheVariants as refusal;
 
-use el_base::{List, Memory, Name, put_i64, read_number, written_numbers_read_back};
+use el_base::{List, Memory, Name, Ty, pattern, put_i64, read_number, written_numbers_read_back};
 use net_types::Inputs;
 use std::alloc::{AllocError, Global};
 
@@ -45,7 +45,8 @@ impl From<AllocError> for InputsRefusal {
 /// `NotYet` exactly where the bytes have not this form; `Memory` where memory is wanting.
 pub fn read_inputs(alloc: Global, names: &[Name], bytes: &[u8]) -> Result<Inputs, InputsRefusal>
     ensures ok { IfOk result (ReadsInputs names.now bytes.now) }
-    ensures not_yet { result ≡ Err refusal.NotYet → (numbers : List ℤ) → InputText names.now numbers bytes.now → ⊥ }
+    ensures not_yet { result ≡ Err refusal.NotYet
+        → (numbers : List ℤ) → InputText names.now numbers bytes.now → ⊥ }
 {
     let mut scalars = List::new(alloc);
     let mut rest = bytes;
@@ -77,11 +78,14 @@ fn read_line<'a>(
     name: &Name,
     bytes: &'a [u8],
 ) -> Result<InputLine<'a>, InputsRefusal>
-    ensures ok { IfOk result (λ line. bytes.now ≡ input_line name.now line.number ++ line.rest.now) }
+    ensures ok { IfOk result (λ line.
+        bytes.now ≡ input_line name.now line.number ++ line.rest.now) }
     ensures range { IfOk result (λ line. IsInRange I32 line.number) }
-    ensures only { IfOk result (λ line. (n : ℤ) (rest : List ℕ) → IsInRange I32 n → bytes.now ≡ input_line name.now n ++ rest
+    ensures only { IfOk result (λ line. (n : ℤ) (rest : List ℕ) → IsInRange I32 n
+        → bytes.now ≡ input_line name.now n ++ rest
         → (n ≡ line.number) × (rest ≡ line.rest.now)) }
-    ensures not_yet { result ≡ Err refusal.NotYet → (n : ℤ) (rest : List ℕ) → IsInRange I32 n → bytes.now ≡ input_line name.now n ++ rest → ⊥ }
+    ensures not_yet { result ≡ Err refusal.NotYet → (n : ℤ) (rest : List ℕ) → IsInRange I32 n
+        → bytes.now ≡ input_line name.now n ++ rest → ⊥ }
 {
     let Some(number) = number_after(bytes, name.as_slice().len() + 3) else {
         return Err(InputsRefusal::NotYet);
@@ -140,14 +144,9 @@ fn line_of(alloc: Global, name: &Name, number: i64) -> Result<Vec<u8>, Memory>
     Ok(line)
 }
 
-// The pattern of a number of `int32_t` in two's complement.
+// The pattern of a number of `int32_t`.
 fn pattern_of(number: i64) -> u64
-    requires { IsInRange I32 number }
     ensures { result ≡ pattern I32 number }
 {
-    if number < 0 {
-        (number + 4_294_967_296) as u64
-    } else {
-        number as u64
-    }
+    pattern(Ty::I32, i128::from(number))
 }

@@ -2,10 +2,11 @@
 ghost use Rattle.std.specs.Prelude.{◌≡◌, ◌≤◌, [], ◌∷◌, ◌||◌, ◌==◌, Some, None, IfSome, IfNone, length, drop, bytes_eq};
 ghost use Rattle.std.specs.List.{prefix_len};
 ghost use Rattle.el_base.specs.Words.{is_word};
-ghost use Rattle.elastic_top.specs.Spelling.{is_blank};
-ghost use Rattle.elastic_top.specs.Reading.{lexemes, lexeme_len, after_word, name_of, name_first, symbol_of, Answers, Passes};
+ghost use Rattle.elastic_top.specs.straight.Spelling.{is_blank};
+ghost use Rattle.elastic_top.specs.straight.Reading.{lexemes, lexeme_len, after_word, name_of, name_first, symbol_of, Answers, Passes};
 
 use crate::straight::pending::Symbol;
+use el_base::is_word;
 
 /// The lexemes that are left of a text.
 #[derive(Drop)]
@@ -23,7 +24,8 @@ impl<'a> Lexemes<'a> {
 
     /// The next lexeme, if one is left.
     pub fn next(&mut self) -> Option<&'a [u8]>
-        ensures some { IfSome result (λ x. lexemes self.old.rest.now ≡ x.now ∷ lexemes self.new.rest.now) }
+        ensures some { IfSome result (λ x.
+            lexemes self.old.rest.now ≡ x.now ∷ lexemes self.new.rest.now) }
         ensures none { IfNone result (lexemes self.old.rest.now ≡ []) }
     {
         let text = without_blanks(self.rest);
@@ -72,12 +74,6 @@ fn is_blank(byte: u8) -> bool
     ensures { result ≡ is_blank byte }
 {
     byte == b' ' || byte == b'\n'
-}
-
-fn is_word(byte: u8) -> bool
-    ensures { result ≡ is_word byte }
-{
-    byte.is_ascii_alphanumeric() || byte == b'_'
 }
 
 /// Whether a lexeme is this word.

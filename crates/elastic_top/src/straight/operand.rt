@@ -3,7 +3,8 @@ ghost use Rattle.std.specs.Prelude.{◌≡◌, ℕ, ◌<◌, ◌≤◌, ◌^◌,
 ghost use Rattle.std.specs.Str.Parse.{digits_value};
 ghost use Rattle.std.specs.List.{list_all};
 ghost use Rattle.std.specs.Char.{is_ascii_digit};
-ghost use Rattle.elastic_top.specs.Reading.{is_decimal, number_of, operand_of, is_name, is_reserved, name_of, Answers};
+ghost use Rattle.elastic_top.specs.straight.Reading.{is_decimal, number_of, operand_of, is_name, is_reserved, name_of, Answers};
+ghost use Rattle.el_base.specs.Limits.{max_nodes};
 
 use crate::straight::kernel::Sum;
 use crate::straight::refusal::KernelRefusal;
@@ -15,7 +16,7 @@ use std::str;
 
 /// The operand that a lexeme is: a number, or a parameter.
 pub fn operand(names: &Scope, lexeme: &[u8]) -> Option<Sum>
-    requires { length names.now ≤ 1024 }
+    requires { length names.now ≤ max_nodes }
     ensures { result ≡ operand_of names.now lexeme.now }
 {
     match number(lexeme) {
@@ -28,7 +29,7 @@ pub fn operand(names: &Scope, lexeme: &[u8]) -> Option<Sum>
 }
 
 // The number that a lexeme is.
-#[tactic(auto, using(crate::proofs::Operands::number_none))]
+#[tactic(auto, using(crate::proofs::straight_path::Operands::number_none))]
 fn number(lexeme: &[u8]) -> Option<u32>
     ensures { result ≡ number_of lexeme.now }
 {
@@ -39,7 +40,7 @@ fn number(lexeme: &[u8]) -> Option<u32>
     }
 }
 
-#[tactic(auto, unfolding(crate::specs::Reading::is_decimal))]
+#[tactic(auto, unfolding(crate::specs::straight::Reading::is_decimal))]
 fn is_decimal(lexeme: &[u8]) -> bool
     ensures { result ≡ is_decimal lexeme.now }
 {
@@ -67,7 +68,7 @@ fn small_number(lexeme: &[u8]) -> Option<u32>
 }
 
 /// The name that a lexeme is.
-#[tactic(auto, unfolding(crate::specs::Reading::is_name))]
+#[tactic(auto, unfolding(crate::specs::straight::Reading::is_name))]
 pub fn name(alloc: Global, lexeme: &[u8]) -> Result<Name, KernelRefusal>
     ensures { Answers result (name_of lexeme.now) }
 {

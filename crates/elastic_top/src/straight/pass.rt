@@ -1,5 +1,5 @@
 ghost use Rattle.std.specs.Prelude.{◌≡◌, ◌≢◌, ◌<◌, IfOk, slice_set, vec_len};
-ghost use Rattle.elastic_top.specs.Pass.{put_by, Gives, IsSinglePass};
+ghost use Rattle.elastic_top.specs.straight.Pass.{put_by, Gives, IsSinglePass};
 
 use el_base::Memory;
 use net_types::{Inputs, Net, Place, Unit};
@@ -30,8 +30,10 @@ pub fn evaluate(alloc: Global, net: &Net, inputs: &Inputs) -> Result<u64, Memory
 fn hold(first: &mut Vec<u64>, second: &mut Vec<u64>, to: Place, value: u64)
     requires first { to.unit < vec_len first.old }
     requires second { to.unit < vec_len second.old }
-    ensures zero { to.place ≡ 0 → (first.new.items ≡ slice_set first.old.items to.unit value) × (second.new.items ≡ second.old.items) }
-    ensures other { to.place ≢ 0 → (first.new.items ≡ first.old.items) × (second.new.items ≡ slice_set second.old.items to.unit value) }
+    ensures zero { to.place ≡ 0 → (first.new.items ≡ slice_set first.old.items to.unit value)
+        × (second.new.items ≡ second.old.items) }
+    ensures other { to.place ≢ 0 → (first.new.items ≡ first.old.items)
+        × (second.new.items ≡ slice_set second.old.items to.unit value) }
     ensures first_len { vec_len first.new ≡ vec_len first.old }
     ensures second_len { vec_len second.new ≡ vec_len second.old }
 {
@@ -65,6 +67,7 @@ fn put_by(unit: &Unit, scalars: &[u64], first: u64, second: u64) -> u64
             depth: _,
             ports: _,
             groups: _,
+            forward: _,
         }
         | Unit::Exit => 0,
     }

@@ -1,30 +1,32 @@
 //! The reader of straight kernels.
 ghost use Rattle.std.specs.Prelude.{◌≡◌, ℕ, ◌≤◌, List, [], None, Err, IfOk, length};
-ghost use Rattle.elastic_top.specs.Spelling.{Spells};
-ghost use Rattle.elastic_top.specs.Reading.{lexemes, place_of, after_word, name_first, parameter_of, parameters_of, head_of, body_of, kernel_of, Answers, Passes, Goes};
+ghost use Rattle.elastic_top.specs.straight.Spelling.{Spells};
+ghost use Rattle.elastic_top.specs.straight.Reading.{lexemes, place_of, after_word, name_first, parameter_of, parameters_of, head_of, body_of, kernel_of, Answers, Passes, Goes};
 ghost use Rattle.elastic_top.specs.declared.straight.kernel.Kernel.{Kernel};
 ghost use Rattle.elastic_top.specs.declared.straight.refusal.KernelRefusal.TheVariants as refusal;
+ghost use Rattle.el_base.specs.Limits.{max_nodes};
 
 use crate::straight::kernel::{Kernel, Sum};
 use crate::straight::lexeme::{Lexemes, is};
 use crate::straight::operand::name;
 use crate::straight::refusal::KernelRefusal;
 use crate::straight::scope::Scope;
-use crate::straight::sum::{MOST_NODES, sum};
-use el_base::Name;
+use crate::straight::sum::sum;
+use el_base::{MAX_NODES, Name};
 use std::alloc::Global;
 
 /// The straight kernel that a text spells. `NotYet` says that it spells none.
-#[tactic(auto, using(crate::proofs::Kernels::read_spelled, crate::proofs::Kernels::spelled_read))]
+#[tactic(auto, using(crate::proofs::straight_path::Kernels::read_spelled, crate::proofs::straight_path::Kernels::spelled_read))]
 pub fn read_kernel(alloc: Global, bytes: &[u8]) -> Result<Kernel, KernelRefusal>
     ensures ok { IfOk result (λ kernel. Spells bytes.now kernel) }
-    ensures not_yet { result ≡ Err refusal.NotYet → (kernel : Kernel) → Spells bytes.now kernel → ⊥ }
+    ensures not_yet { result ≡ Err refusal.NotYet
+        → (kernel : Kernel) → Spells bytes.now kernel → ⊥ }
 {
     kernel(alloc, bytes)
 }
 
 // The kernel of a text.
-#[tactic(auto, unfolding(crate::specs::Reading::kernel_of))]
+#[tactic(auto, unfolding(crate::specs::straight::Reading::kernel_of))]
 fn kernel(alloc: Global, bytes: &[u8]) -> Result<Kernel, KernelRefusal>
     ensures { Answers result (kernel_of (lexemes bytes.now)) }
 {
@@ -36,10 +38,10 @@ fn kernel(alloc: Global, bytes: &[u8]) -> Result<Kernel, KernelRefusal>
 }
 
 // The name of the kernel and those of its parameters.
-#[tactic(auto, unfolding(crate::specs::Reading::head_of))]
+#[tactic(auto, unfolding(crate::specs::straight::Reading::head_of))]
 fn head(alloc: Global, text: &mut Lexemes) -> Result<(Name, Scope), KernelRefusal>
     ensures read { Passes result (lexemes text.new.rest.now) (head_of (lexemes text.old.rest.now)) }
-    ensures few { IfOk result (λ h. length h.1 ≤ 1024) }
+    ensures few { IfOk result (λ h. length h.1 ≤ max_nodes) }
 {
     word(text, b"int32_t")?;
     let name = next_name(alloc, text)?;
@@ -49,9 +51,9 @@ fn head(alloc: Global, text: &mut Lexemes) -> Result<(Name, Scope), KernelRefusa
 }
 
 // The block after the parameters: the sum that it returns.
-#[tactic(auto, unfolding(crate::specs::Reading::body_of))]
+#[tactic(auto, unfolding(crate::specs::straight::Reading::body_of))]
 fn body(alloc: Global, names: &Scope, text: &mut Lexemes) -> Result<Sum, KernelRefusal>
-    requires { length names.now ≤ 1024 }
+    requires { length names.now ≤ max_nodes }
     ensures { Answers result (body_of names.now (lexemes text.old.rest.now)) }
 {
     word(text, b"{")?;
@@ -65,9 +67,10 @@ fn body(alloc: Global, names: &Scope, text: &mut Lexemes) -> Result<Sum, KernelR
 }
 
 // Goes past this word.
-#[tactic(auto, unfolding(crate::specs::Reading::after_word))]
+#[tactic(auto, unfolding(crate::specs::straight::Reading::after_word))]
 fn word(text: &mut Lexemes, word: &[u8]) -> Result<(), KernelRefusal>
-    ensures { Goes result (lexemes text.new.rest.now) (after_word word.now (lexemes text.old.rest.now)) }
+    ensures { Goes result (lexemes text.new.rest.now)
+        (after_word word.now (lexemes text.old.rest.now)) }
 {
     match text.next() {
         Some(lexeme) if is(lexeme, word) => Ok(()),
@@ -76,7 +79,7 @@ fn word(text: &mut Lexemes, word: &[u8]) -> Result<(), KernelRefusal>
 }
 
 // The name that comes next.
-#[tactic(auto, unfolding(crate::specs::Reading::name_first))]
+#[tactic(auto, unfolding(crate::specs::straight::Reading::name_first))]
 fn next_name(alloc: Global, text: &mut Lexemes) -> Result<Name, KernelRefusal>
     ensures { Passes result (lexemes text.new.rest.now) (name_first (lexemes text.old.rest.now)) }
 {
@@ -87,10 +90,11 @@ fn next_name(alloc: Global, text: &mut Lexemes) -> Result<Name, KernelRefusal>
 }
 
 // The names of all parameters, up to the `)` after them.
-#[tactic(auto, using(crate::proofs::Kernels::parameters_one))]
+#[tactic(auto, using(crate::proofs::straight_path::Kernels::parameters_one))]
 fn parameters(alloc: Global, text: &mut Lexemes) -> Result<Scope, KernelRefusal>
-    ensures read { Passes result (lexemes text.new.rest.now) (parameters_of [] (lexemes text.old.rest.now)) }
-    ensures few { IfOk result (λ names. length names ≤ 1024) }
+    ensures read { Passes result (lexemes text.new.rest.now)
+        (parameters_of [] (lexemes text.old.rest.now)) }
+    ensures few { IfOk result (λ names. length names ≤ max_nodes) }
 {
     let mut names = Scope::new(alloc);
     loop {
@@ -109,14 +113,15 @@ fn parameters(alloc: Global, text: &mut Lexemes) -> Result<Scope, KernelRefusal>
 }
 
 // The name of one more parameter, after those with these names.
-#[tactic(auto, unfolding(crate::specs::Reading::parameter_of))]
+#[tactic(auto, unfolding(crate::specs::straight::Reading::parameter_of))]
 fn parameter(alloc: Global, names: &Scope, text: &mut Lexemes) -> Result<Name, KernelRefusal>
-    ensures read { Passes result (lexemes text.new.rest.now) (parameter_of names.now (lexemes text.old.rest.now)) }
+    ensures read { Passes result (lexemes text.new.rest.now)
+        (parameter_of names.now (lexemes text.old.rest.now)) }
     ensures new { IfOk result (λ name. place_of names.now name ≡ None) }
 {
     word(text, b"int32_t")?;
     let name = next_name(alloc, text)?;
-    if names.len() as u64 >= MOST_NODES - 3 || names.place(name.as_slice()).is_some() {
+    if names.len() as u64 >= MAX_NODES - 3 || names.place(name.as_slice()).is_some() {
         return Err(KernelRefusal::NotYet);
     }
     Ok(name)

@@ -1,6 +1,6 @@
 //! The names that are declared, in their order, with look-ups by bytes.
 ghost use Rattle.std.specs.Prelude.{◌≡◌, [], ◌∷◌, ◌++◌, None, OnOk, IfOk, length};
-ghost use Rattle.elastic_top.specs.Reading.{place_of};
+ghost use Rattle.elastic_top.specs.straight.Reading.{place_of};
 
 use el_base::{List, Memory, Name};
 use indexmap::{Equivalent, IndexSet};
@@ -62,7 +62,7 @@ impl Scope {
     }
 
     /// The place of the name with these bytes, from 0.
-    #[tactic(auto, unfolding(crate::specs::Reading::place_of))]
+    #[tactic(auto, unfolding(crate::specs::straight::Reading::place_of))]
     pub fn place(&self, bytes: &[u8]) -> Option<usize>
         ensures { result ≡ place_of self.now bytes.now }
     {

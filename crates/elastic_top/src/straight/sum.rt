@@ -1,6 +1,7 @@
 //! Sums are read with a stack: what waits for an operand is put aside, and joined when its operand is there.
 ghost use Rattle.std.specs.Prelude.{◌≡◌, ◌≤◌, [], ◌∷◌, ◌++◌, Some, None, IfOk, OnOk, length, option_to_list};
-ghost use Rattle.elastic_top.specs.Reading.{lexemes, joined, opened, with_operand, valued, signed, multiplied, closed_into, step, finish, sum_of, start, Answers, Passes};
+ghost use Rattle.elastic_top.specs.straight.Reading.{lexemes, joined, opened, with_operand, valued, signed, multiplied, closed_into, step, finish, sum_of, start, Answers, Passes};
+ghost use Rattle.el_base.specs.Limits.{max_nodes};
 
 use crate::straight::kernel::{Operator, Sum};
 use crate::straight::lexeme::{Lexemes, is, symbol};
@@ -8,14 +9,11 @@ use crate::straight::operand::operand;
 use crate::straight::pending::{Group, Groups, Left, Reading, Symbol, Turn};
 use crate::straight::refusal::KernelRefusal;
 use crate::straight::scope::Scope;
-use el_base::{Boxed, Memory};
+use el_base::{Boxed, MAX_NESTING, MAX_NODES, Memory};
 use std::alloc::Global;
 
-/// The most nodes of a kernel.
-pub const MOST_NODES: u64 = 1024;
-
-/// The most parentheses of a sum that are open at once.
-pub const MOST_OPEN: usize = 63;
+/// The most parentheses of a sum that are open at once: the block is one construct besides.
+const MOST_OPEN: usize = MAX_NESTING as usize - 1;
 
 // An operand, after the left operand that waits for it.
 fn joined(alloc: Global, left: Option<Left>, right: Sum) -> Result<Sum, Memory>
@@ -91,10 +89,10 @@ fn valued(
     product: Option<Left>,
     nodes: u64,
 ) -> Result<Reading, KernelRefusal>
-    requires { length names.now ≤ 1024 }
+    requires { length names.now ≤ max_nodes }
     ensures { Answers result (valued names.now lexeme.now outer total product nodes) }
 {
-    if nodes >= MOST_NODES {
+    if nodes >= MAX_NODES {
         return Err(KernelRefusal::NotYet);
     }
     match operand(names, lexeme) {
@@ -119,7 +117,7 @@ fn signed(
 ) -> Result<Reading, KernelRefusal>
     ensures { Answers result (signed sign outer total value nodes) }
 {
-    if nodes >= MOST_NODES {
+    if nodes >= MAX_NODES {
         return Err(KernelRefusal::NotYet);
     }
     Ok(Reading {
@@ -142,7 +140,7 @@ fn multiplied(
 ) -> Result<Reading, KernelRefusal>
     ensures { Answers result (multiplied outer total value nodes) }
 {
-    if nodes >= MOST_NODES {
+    if nodes >= MAX_NODES {
         return Err(KernelRefusal::NotYet);
     }
     Ok(Reading {
@@ -157,14 +155,14 @@ fn multiplied(
 }
 
 // The reading after one more lexeme.
-#[tactic(auto, unfolding(crate::specs::Reading::step))]
+#[tactic(auto, unfolding(crate::specs::straight::Reading::step))]
 fn step(
     alloc: Global,
     names: &Scope,
     lexeme: &[u8],
     reading: Reading,
 ) -> Result<Reading, KernelRefusal>
-    requires { length names.now ≤ 1024 }
+    requires { length names.now ≤ max_nodes }
     ensures { Answers result (step names.now lexeme.now reading) }
 {
     let Reading {
@@ -190,10 +188,11 @@ fn step(
 }
 
 /// The sum from here to its `;`, over these parameters.
-#[tactic(auto, unfolding(crate::specs::Reading::sum_of))]
+#[tactic(auto, unfolding(crate::specs::straight::Reading::sum_of))]
 pub fn sum(alloc: Global, names: &Scope, text: &mut Lexemes) -> Result<Sum, KernelRefusal>
-    requires { length names.now ≤ 1024 }
-    ensures { Passes result (lexemes text.new.rest.now) (sum_of names.now (start names.now) (lexemes text.old.rest.now)) }
+    requires { length names.now ≤ max_nodes }
+    ensures { Passes result (lexemes text.new.rest.now)
+        (sum_of names.now (start names.now) (lexemes text.old.rest.now)) }
 {
     let mut reading = Reading {
         outer: Groups::new(alloc),
@@ -213,7 +212,7 @@ pub fn sum(alloc: Global, names: &Scope, text: &mut Lexemes) -> Result<Sum, Kern
 }
 
 // The sum at its end.
-#[tactic(auto, unfolding(crate::specs::Reading::finish))]
+#[tactic(auto, unfolding(crate::specs::straight::Reading::finish))]
 fn finish(alloc: Global, reading: Reading) -> Result<Sum, KernelRefusal>
     ensures { Answers result (finish reading) }
 {

@@ -1,11 +1,11 @@
 use Rattle.c_parse.proofs.Determined.{only}
-use Rattle.c_parse.proofs.Answering.{refused_says, limited_says}
+use Rattle.c_parse.proofs.Answering.{refused_says, limited_says, limited_fits}
 use Rattle.c_parse.proofs.kernel.parse.Goals as goal
 
 pub returns-in-Ok : goal.returns-in-Ok
 returns-in-Ok c =
     let said = limited_says _ _ _ _ c.in-Ok.ensures.derived c.in-Ok.ensures.whole c.limited.ensures.same c.limited.ensures.small c.limited.ensures.large in
-    record { says = said; only = only _ _ _ said }
+    record { says = said; only = only _ _ _ said; fits = limited_fits _ _ _ c.in-Ok.ensures.derived c.limited.ensures.same }
 
 pub returns-in-Err : goal.returns-in-Err
-returns-in-Err c = let said = refused_says _ _ _ _ c.refused.ensures c.in-Err.ensures.told in record { says = said; only = only _ _ _ said }
+returns-in-Err c = let said = refused_says _ _ _ _ c.refused.ensures c.in-Err.ensures.told in record { says = said; only = only _ _ _ said; fits = λ h. tt }

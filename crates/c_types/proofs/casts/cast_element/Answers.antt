@@ -1,12 +1,13 @@
-use Rattle.std.proofs.Common.{sym, ◌∙◌}
-use Rattle.c_types.proofs.CastLemmas.{element_node, whole_node}
+use Rattle.std.proofs.lemmas.Result.{IfOk-weaker}
+use Rattle.c_types.proofs.CastLemmas.{whole_made, element_made}
 use Rattle.c_types.proofs.casts.cast_element.Goals as goal
 
-pub returns-in-Some-Array : goal.returns-in-Some-Array
-returns-in-Some-Array c =
-    λ es hs. element_node c.args.scopes.now c.args.name.now c.in-Some-Array.array c.in-Some-Array.ty es c.args.indices c.args.at (cc (c.find.ensures, c.in-Some-Array.is, c.in-Some-Array.field-0-is)) hs
+pub returns-in-Var-default : goal.returns-in-Var-default
+returns-in-Var-default c =
+    IfOk-weaker c.typed_node.result _ _ (λ f made. whole_made c.args.scopes.now c.args.name.now c.in-Var-default.var c.len.result c.object.result.1 c.args.indices c.args.at c.object.result.0 f c.object.ensures
+    c.len.ensures c.in-Var-default.is-0 made) c.typed_node.ensures
 
-pub returns-then-is_empty : goal.returns-then-is_empty
-returns-then-is_empty c =
-    λ es hs. whole_node c.args.scopes.now c.args.name.now c.in-Some-Var.var c.in-Some-Var.ty es c.args.indices c.args.at (cc (c.find.ensures, c.in-Some-Var.is, c.in-Some-Var.field-0-is)) hs
-    (sym c.is_empty.ensures ∙ c.if-is_empty.true)
+pub returns-in-Array-default : goal.returns-in-Array-default
+returns-in-Array-default c =
+    IfOk-weaker c.typed_node-in-Array-default.result _ _ (λ f made. element_made c.args.scopes.now c.args.name.now c.in-Array-default.array c.len.result c.object.result.1 c.args.indices c.args.at c.object.result.0 f
+    c.object.ensures c.in-Array-default.is-0 made) c.typed_node-in-Array-default.ensures

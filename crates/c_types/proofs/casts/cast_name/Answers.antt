@@ -1,5 +1,8 @@
-use Rattle.c_types.proofs.CastLemmas.{name_node}
+use Rattle.std.proofs.lemmas.Result.{IfOk-weaker}
+use Rattle.c_types.proofs.CastLemmas.{name_made}
 use Rattle.c_types.proofs.casts.cast_name.Goals as goal
 
-pub returns-in-Some-Var : goal.returns-in-Some-Var
-returns-in-Some-Var c = name_node c.args.scopes.now c.args.name.now c.in-Some-Var.var c.in-Some-Var.ty c.args.at (cc (c.find.ensures, c.in-Some-Var.is, c.in-Some-Var.field-0-is))
+pub returns : goal.returns
+returns c =
+    IfOk-weaker c.typed_node.result _ _ (λ f made. name_made c.args.scopes.now c.args.name.now c.in-Var-default.var 0 c.object.result.1 c.args.at c.object.result.0 f c.object.ensures c.in-Var-default.is-0 made)
+    c.typed_node.ensures

@@ -1,4 +1,4 @@
-use Rattle.std.proofs.Common.{refl}
+use Rattle.std.proofs.Common.{refl, ◌∙◌}
 use Rattle.c_types.specs.Contexts.{no_value}
 use Rattle.c_types.proofs.CastLemmas.{value_is, value_arm}
 use Rattle.c_types.proofs.casts.cast_value.Goals as goal
@@ -8,4 +8,4 @@ returns-in-None-default c = value_is _ _ c.args.scopes.now _ _ _ refl c.in-None-
 
 pub returns-in_ok-converted-in-Some-Some : goal.returns-in_ok-converted-in-Some-Some
 returns-in_ok-converted-in-Some-Some c =
-    value_is _ _ c.args.scopes.now _ _ _ c.in-Some-Some.is-1 c.in-Some-Some.is-0 (value_arm _ c.args.scopes.now _ _ _ c.in_ok-value-in-Some-Some.ensures c.in_ok-converted-in-Some-Some.ensures)
+    value_is _ _ c.args.scopes.now _ _ _ c.in-Some-Some.is-1 c.in-Some-Some.is-0 (value_arm _ c.args.scopes.now _ _ _ c.in_ok-value-in-Some-Some.ensures (c.into_inner.ensures ∙ c.in_ok-converted-in-Some-Some.ensures))

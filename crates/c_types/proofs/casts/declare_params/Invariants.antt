@@ -1,5 +1,5 @@
 use Rattle.std.proofs.Common.{take}
-use Rattle.c_meaning.specs.Casts.{parameters}
+use Rattle.c_ast.specs.Casts.{parameters}
 use Rattle.c_types.specs.Contexts.{AreParameters}
 use Rattle.c_types.proofs.casts.declare_params.Given as goal
 

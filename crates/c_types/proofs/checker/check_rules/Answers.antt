@@ -11,7 +11,7 @@ pub returns-in-None-clause-faults : goal.returns-in-None-clause-faults
 returns-in-None-clause-faults c = no_faults c.args.tree.now
 
 pub returns-in-Some-clause-refused : goal.returns-in-Some-clause-refused
-returns-in-Some-clause-refused c = refused c.args.tree.now c.in_ok-first_fault.field-0 c.in-Some.fault c.refusal_of.result c.in_ok-first_fault.ensures c.in-Some.is c.refusal_of.ensures
+returns-in-Some-clause-refused c = refused c.args.tree.now c.in_ok-first_fault.field-0 c.in-Some.fault c.in_ok-first_fault.ensures c.in-Some.is
 
 pub returns-in-Some-clause-faults : goal.returns-in-Some-clause-faults
 returns-in-Some-clause-faults c = no_faults c.args.tree.now

@@ -1,5 +1,5 @@
-use Rattle.std.proofs.Common.{refl}
 use Rattle.net_types.specs.Rules.{KeepsC1, KeepsC2}
+use Rattle.net_check.specs.declared.refusal.Rule.TheVariants.{C1, C2, C3, C7, C8}
 use Rattle.net_check.specs.Headers.{KeepsC8, CulpritC8}
 use Rattle.net_check.specs.Shapes.{KeepsC7, CulpritC7}
 use Rattle.net_check.specs.Places.{CulpritC1, CulpritC2}
@@ -10,14 +10,14 @@ use Rattle.net_check.proofs.checked.check_base.Goals as goal
 pub returns-in_err-refuse-clause-refused : goal.returns-in_err-refuse-clause-refused
 returns-in_err-refuse-clause-refused c =
     let net = c.args.net.now in
-    refused_exit net _ _ c.from_residual-in_err-refuse.ensures.1 (refused_by net 37 8 (KeepsC8 net) (CulpritC8 net) c.in_ok-header.header _ refl (first_8 net) c.in_ok-header.ensures c.in_err-refuse.ensures.broken)
+    refused_exit net _ _ c.from_residual-in_err-refuse.ensures.1 (refused_by net C8 (KeepsC8 net) (CulpritC8 net) c.in_ok-header.header _ (first_8 net) c.in_ok-header.ensures c.in_err-refuse.ensures.broken)
 
 pub returns-in_err-refuse-2-clause-refused : goal.returns-in_err-refuse-2-clause-refused
 returns-in_err-refuse-2-clause-refused c =
     let net = c.args.net.now in
     let k8 = kept_by (KeepsC8 net) (CulpritC8 net) c.in_ok-header.header c.in_ok-header.ensures c.in_ok-refuse.ensures.kept in
     refused_exit net _ _ c.from_residual-in_err-refuse-2.ensures.1
-    (refused_by net 36 7 (KeepsC7 net) (CulpritC7 net) c.in_ok-shapes.shapes _ refl (λ x. first_7 net x k8) c.in_ok-shapes.ensures c.in_err-refuse-2.ensures.broken)
+    (refused_by net C7 (KeepsC7 net) (CulpritC7 net) c.in_ok-shapes.shapes _ (λ x. first_7 net x k8) c.in_ok-shapes.ensures c.in_err-refuse-2.ensures.broken)
 
 pub returns-in_err-refuse-3-clause-refused : goal.returns-in_err-refuse-3-clause-refused
 returns-in_err-refuse-3-clause-refused c =
@@ -25,7 +25,7 @@ returns-in_err-refuse-3-clause-refused c =
     let k8 = kept_by (KeepsC8 net) (CulpritC8 net) c.in_ok-header.header c.in_ok-header.ensures c.in_ok-refuse.ensures.kept in
     let k7 = kept_by (KeepsC7 net) (CulpritC7 net) c.in_ok-shapes.shapes c.in_ok-shapes.ensures c.in_ok-refuse-2.ensures.kept in
     refused_exit net _ _ c.from_residual-in_err-refuse-3.ensures.1
-    (refused_by net 30 1 (KeepsC1 net) (CulpritC1 net) c.in_ok-places.places _ refl (λ x. first_1 net x k8 k7) c.in_ok-places.ensures c.in_err-refuse-3.ensures.broken)
+    (refused_by net C1 (KeepsC1 net) (CulpritC1 net) c.in_ok-places.places _ (λ x. first_1 net x k8 k7) c.in_ok-places.ensures c.in_err-refuse-3.ensures.broken)
 
 pub returns-in_err-refuse-4-clause-refused : goal.returns-in_err-refuse-4-clause-refused
 returns-in_err-refuse-4-clause-refused c =
@@ -34,7 +34,7 @@ returns-in_err-refuse-4-clause-refused c =
     let k7 = kept_by (KeepsC7 net) (CulpritC7 net) c.in_ok-shapes.shapes c.in_ok-shapes.ensures c.in_ok-refuse-2.ensures.kept in
     let k1 = kept_by (KeepsC1 net) (CulpritC1 net) c.in_ok-places.places c.in_ok-places.ensures c.in_ok-refuse-3.ensures.kept in
     refused_exit net _ _ c.from_residual-in_err-refuse-4.ensures.1
-    (refused_by net 31 2 (KeepsC2 net) (CulpritC2 net) c.in_ok-widths.widths _ refl (λ x. first_2 net x k8 k7 k1) c.in_ok-widths.ensures c.in_err-refuse-4.ensures.broken)
+    (refused_by net C2 (KeepsC2 net) (CulpritC2 net) c.check_widths-widths.result _ (λ x. first_2 net x k8 k7 k1) c.check_widths-widths.ensures c.in_err-refuse-4.ensures.broken)
 
 pub returns-clause-refused : goal.returns-clause-refused
 returns-clause-refused c =
@@ -42,5 +42,5 @@ returns-clause-refused c =
     let k8 = kept_by (KeepsC8 net) (CulpritC8 net) c.in_ok-header.header c.in_ok-header.ensures c.in_ok-refuse.ensures.kept in
     let k7 = kept_by (KeepsC7 net) (CulpritC7 net) c.in_ok-shapes.shapes c.in_ok-shapes.ensures c.in_ok-refuse-2.ensures.kept in
     let k1 = kept_by (KeepsC1 net) (CulpritC1 net) c.in_ok-places.places c.in_ok-places.ensures c.in_ok-refuse-3.ensures.kept in
-    let k2 = kept_by (KeepsC2 net) (CulpritC2 net) c.in_ok-widths.widths c.in_ok-widths.ensures c.in_ok-refuse-4.ensures.kept in
-    refused_last net 32 3 (KeepsC3 net) (CulpritC3 net) c.in_ok-sizes.sizes c.refuse-5.result refl (λ x. first_3 net x k8 k7 k1 k2) c.in_ok-sizes.ensures c.refuse-5.ensures.broken
+    let k2 = kept_by (KeepsC2 net) (CulpritC2 net) c.check_widths-widths.result c.check_widths-widths.ensures c.in_ok-refuse-4.ensures.kept in
+    refused_last net C3 (KeepsC3 net) (CulpritC3 net) c.check_sizes-sizes.result c.refuse-5.result (λ x. first_3 net x k8 k7 k1 k2) c.check_sizes-sizes.ensures c.refuse-5.ensures.broken

@@ -1,5 +1,5 @@
 use Rattle.std.proofs.Common.{take}
-use Rattle.net_check.specs.Peels.{IsReleased}
+use Rattle.net_check.specs.private.Peels.{IsReleased}
 use Rattle.net_check.proofs.cycles.release.Given as goal
 
 abbrev pub invariant-loop-target : goal.invariant-loop-target

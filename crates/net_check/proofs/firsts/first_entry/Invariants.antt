@@ -1,5 +1,5 @@
 use Rattle.std.proofs.Common.{None}
-use Rattle.net_check.specs.Firsts.{IsFirst}
+use Rattle.net_check.specs.private.Firsts.{IsFirst}
 use Rattle.net_check.specs.Headers.{is_entry}
 use Rattle.net_check.proofs.firsts.first_entry.Given as goal
 

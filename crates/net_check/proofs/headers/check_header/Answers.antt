@@ -1,7 +1,7 @@
 use Rattle.std.proofs.Common.{subst, sym}
 use Rattle.net_check.specs.declared.refusal.At.{At}
 use Rattle.net_check.specs.Headers.{CulpritC8, IsHeader}
-use Rattle.net_check.specs.Tallies.{IsComplete}
+use Rattle.net_check.specs.private.Tallies.{IsComplete}
 use Rattle.net_check.proofs.MarkLemmas.{false_iff, true_iff}
 use Rattle.net_check.proofs.FirstLemmas.{within_same, past_same, read_same}
 use Rattle.net_check.proofs.HeaderLemmas.{first_fault, more_none, no_fault, keeps_of, complete_of}
@@ -12,7 +12,7 @@ returns-then-is_faulty c =
     let P : At → Type 0 = CulpritC8 c.args.net.now in
     let e = c.as_slice-unit-items.ensures in
     let t = c.in_ok-tally.tally in
-    subst P (sym c.in_ok-unit_at.ensures)
+    subst P (sym c.unit_at.ensures)
     (first_fault c.args.net.now t.entry t.exit t.params.items t.queues.items c.loop-u.u _ c.is_faulty.result (within_same _ _ _ e c.loop-u-test.true) (read_same _ _ _ _ e c.unit-item.is) c.in_ok-tally.ensures c.loop-u.invariant c.is_faulty.ensures c.if-is_faulty.true)
 
 pub loop-u-preserved : goal.loop-u-preserved

@@ -1,4 +1,4 @@
-use Rattle.net_check.specs.Joins.{AreKnown}
+use Rattle.net_check.specs.private.Joins.{AreKnown}
 use Rattle.net_check.proofs.places.are_known.Given as goal
 
 abbrev pub invariant-loop-p : goal.invariant-loop-p

@@ -1,14 +1,8 @@
-use Rattle.net_check.proofs.JoinLemmas.{ends_in, ends_out, kept_joined, culprit_joined}
+use Rattle.net_check.proofs.JoinLemmas.{unjoined_none, unjoined_culprit}
 use Rattle.net_check.proofs.places.check_places.Goals as goal
 
-pub first_unjoined-requires : goal.first_unjoined-requires
-first_unjoined-requires c = ends_in c.args.net.now c.in_default.ensures
-
-pub first_unjoined-requires-2 : goal.first_unjoined-requires-2
-first_unjoined-requires-2 c = ends_out c.args.net.now c.in_default.ensures
-
 pub returns-in-None : goal.returns-in-None
-returns-in-None c = kept_joined c.args.net.now c.in_ok-ins.ins c.in_ok-outs.outs c.lowest.result c.in_ok-ins.ensures c.in_ok-outs.ensures c.lowest.ensures c.in-None.is
+returns-in-None c = unjoined_none c.args.net.now _ c.in_ok-first_unjoined.ensures c.in-None.is
 
-pub returns-in-Some-lowest : goal.returns-in-Some-lowest
-returns-in-Some-lowest c = culprit_joined c.args.net.now c.in_ok-ins.ins c.in_ok-outs.outs c.lowest.result c.in-Some-lowest.unit c.in_default.ensures c.in_ok-ins.ensures c.in_ok-outs.ensures c.lowest.ensures c.in-Some-lowest.is
+pub returns-in-Some-2 : goal.returns-in-Some-2
+returns-in-Some-2 c = unjoined_culprit c.args.net.now _ c.in-Some-2.unit c.in_default.ensures c.in_ok-first_unjoined.ensures c.in-Some-2.is

@@ -1,5 +1,5 @@
 use Rattle.std.proofs.Common.{take}
-use Rattle.net_check.specs.Joins.{IsGathered}
+use Rattle.net_check.specs.private.Joins.{IsGathered}
 use Rattle.net_check.proofs.places.gather.Given as goal
 
 abbrev pub invariant-loop-chan : goal.invariant-loop-chan

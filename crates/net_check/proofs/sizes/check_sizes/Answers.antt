@@ -7,4 +7,4 @@ loop-c-preserved c =
     c.from.ensures c.saturating_add-together.ensures c.loop-c.invariant
 
 pub returns : goal.returns
-returns c = sizes_kept c.args.net.now c.as_slice-chan-items.result.now c.loop-c.together c.loop-c.c c.as_slice-chan-items.ensures c.loop-c-test.false c.loop-c.invariant c.if-together-gt-MOST_SLOTS_TOGETHER.false
+returns c = sizes_kept c.args.net.now c.as_slice-chan-items.result.now c.loop-c.together c.loop-c.c c.as_slice-chan-items.ensures c.loop-c-test.false c.loop-c.invariant c.if-together-gt-MAX_SUM_OF_SLOTS.false

@@ -1,7 +1,7 @@
 use Rattle.std.proofs.Common.{◌≡◌, false, subst, sym}
 use Rattle.net_types.specs.declared.net.Unit.{Unit as Kind}
 use Rattle.net_types.specs.Tables.{outs}
-use Rattle.net_check.specs.Widths.{width_in}
+use Rattle.net_check.specs.private.Widths.{width_in}
 use Rattle.net_check.proofs.widths.out_width.Goals as goal
 
 pub returns-in-Fork : goal.returns-in-Fork

@@ -5,4 +5,4 @@ pub returns-in_default : goal.returns-in_default
 returns-in_default c = says_no_first c.args.bytes.now c.in_default.ensures
 
 pub returns-in_default-read_version : goal.returns-in_default-read_version
-returns-in_default-read_version c = says_first c.args.bytes.now c.in-Some.version.now c.in-Some.rest.now c.in-Some.ensures.0 c.in-Some.ensures.1 c.in_default-read_version.ensures
+returns-in_default-read_version c = says_first c.args.bytes.now c.in-Some.first.now c.in-Some.rest.now c.in-Some.ensures.0 c.in-Some.ensures.1 c.in_default-read_version.ensures

@@ -1,58 +1,70 @@
-use Rattle.std.proofs.Common.{rules, ◌≡◌, ◌+◌, suc, [], ◌∷◌, refl, sym, subst, arith}
+use Rattle.std.proofs.Common.{rules, suc, [], ◌∷◌, refl, sym, subst, arith}
 use Rattle.c_parse.specs.Symbols.{Symbol, Reduction, Fixed, in_group}
-use Rattle.c_parse.specs.Verdicts.{Judges}
+use Rattle.c_parse.specs.Stops.{IsLooserAt}
 use Rattle.c_parse.proofs.Rules.{reads_tighter, reads_choice, reads_joined, reads_name, reads_element, reads_unary, reads_cast, reads_parens, reads_group, reads_brackets, reads_no_indices, reads_index_after, reads_same, if_ok, no_items, some_items}
 use Rattle.c_parse.proofs.Chains.{same_done, same_then, same_to, same_part, same_fixed, same_name, same_reduces, fails_then, part_fails, fixed_fails, fixed_deep, name_fails, deep_fails, known_fails, stopped, told, went, judges_on, judges_reduced, within, full, inner, room}
-use Rattle.c_parse.proofs.JudgedExprs.{same_unrolled, same_operator, same_no_operator, same_choice, same_no_choice, same_signed, signed_deep, sign_fails, same_as_name, same_as_number, same_as_cast, same_as_group, no_operand, same_index, same_no_index}
+use Rattle.c_parse.proofs.Climbing.{reads_looser, operates_as, same_climbed, same_no_tails, climbs, same_right, right_fails}
+use Rattle.c_parse.proofs.JudgedExprs.{same_unrolled, same_choice, same_no_choice, same_signed, signed_deep, sign_fails, same_as_name, same_as_number, same_as_cast, same_as_group, no_operand, same_index, same_no_index}
 use Rattle.c_parse.proofs.cursor.Cursor.+expr.Goals as goal
 
 pub expr-returns-in_err-cond-clause-judged : goal.expr-returns-in_err-cond-clause-judged
-expr-returns-in_err-cond-clause-judged t c = λ n all. rw (stopped _ _ c.from_residual.ensures.1) (told (Symbol.expression n 0 ∷ []) (fails_then (same_unrolled (omega arith)) (part_fails (Symbol.expression n 1 ∷ []) _ (c.in_err-cond.ensures.judged n all (omega arith)))))
+expr-returns-in_err-cond-clause-judged t c = λ n all. rw (stopped _ _ c.from_residual.ensures.1) (told (Symbol.expression n 0 ∷ []) (fails_then (same_unrolled (omega arith)) (part_fails (Symbol.expression n 1 ∷ []) _ (c.in_err-cond.ensures.judged n all))))
 
 pub expr-returns-in_default-clause-derived : goal.expr-returns-in_default-clause-derived
 expr-returns-in_default-clause-derived t c = reads_same _ _ _ _ (reads_tighter 0 1 _ _ _ refl (omega arith) c.in_ok-cond.ensures.derived) c.in_default.ensures.none
 
 pub expr-returns-in_default-clause-judged : goal.expr-returns-in_default-clause-judged
-expr-returns-in_default-clause-judged t c = λ n all. went (Symbol.expression n 0 ∷ []) ([]) (same_to (same_then (same_unrolled (omega arith)) (same_then (same_part (Symbol.expression n 1 ∷ []) (c.in_ok-cond.ensures.judged n all (omega arith))) (same_no_choice c.in_default.ensures.other))) c.in_default.ensures.none)
+expr-returns-in_default-clause-judged t c = λ n all. went (Symbol.expression n 0 ∷ []) ([]) (same_to (same_then (same_unrolled (omega arith)) (same_then (same_part (Symbol.expression n 1 ∷ []) (c.in_ok-cond.ensures.judged n all)) (same_no_choice c.in_default.ensures.other))) c.in_default.ensures.none)
 
 pub expr-returns-in_err-depth-clause-judged : goal.expr-returns-in_err-depth-clause-judged
-expr-returns-in_err-depth-clause-judged t c = λ n all. rw (stopped _ _ c.from_residual-in_err-depth.ensures.1) (told (Symbol.expression n 0 ∷ []) (fails_then (same_unrolled (omega arith)) (fails_then (same_part (Symbol.expression n 1 ∷ []) (c.in_ok-cond.ensures.judged n all (omega arith))) (deep_fails c.in-Some.ensures.some refl (full _ _ all c.in_err-depth.ensures.none_left) c.in_err-depth.ensures.place))))
+expr-returns-in_err-depth-clause-judged t c = λ n all. rw (stopped _ _ c.from_residual-in_err-depth.ensures.1) (told (Symbol.expression n 0 ∷ []) (fails_then (same_unrolled (omega arith)) (fails_then (same_part (Symbol.expression n 1 ∷ []) (c.in_ok-cond.ensures.judged n all)) (deep_fails c.in-Some.ensures.some refl (full _ _ all c.in_err-depth.ensures.none_left) c.in_err-depth.ensures.place))))
 
 pub expr-returns-in_err-yes-clause-judged : goal.expr-returns-in_err-yes-clause-judged
-expr-returns-in_err-yes-clause-judged t c = λ n all. rw (stopped _ _ c.from_residual-in_err-yes.ensures.1) (told (Symbol.expression n 0 ∷ []) (fails_then (same_unrolled (omega arith)) (fails_then (same_part (Symbol.expression n 1 ∷ []) (c.in_ok-cond.ensures.judged n all (omega arith))) (fails_then (same_choice (room _ _ _ all c.in_ok-depth.ensures.one_less) c.in-Some.ensures.some) (part_fails (Symbol.expression (suc n) 0 ∷ []) _ (c.in_err-yes.ensures.judged (suc n) (inner _ _ _ all c.in_ok-depth.ensures.one_less)))))))
+expr-returns-in_err-yes-clause-judged t c = λ n all. rw (stopped _ _ c.from_residual-in_err-yes.ensures.1) (told (Symbol.expression n 0 ∷ []) (fails_then (same_unrolled (omega arith)) (fails_then (same_part (Symbol.expression n 1 ∷ []) (c.in_ok-cond.ensures.judged n all)) (fails_then (same_choice (room _ _ _ all c.in_ok-depth.ensures.one_less) c.in-Some.ensures.some) (part_fails (Symbol.expression (suc n) 0 ∷ []) _ (c.in_err-yes.ensures.judged (suc n) (inner _ _ _ all c.in_ok-depth.ensures.one_less)))))))
 
 pub expr-returns-in_err-mark-clause-judged : goal.expr-returns-in_err-mark-clause-judged
-expr-returns-in_err-mark-clause-judged t c = λ n all. rw (stopped _ _ c.from_residual-in_err-mark.ensures.1) (told (Symbol.expression n 0 ∷ []) (fails_then (same_unrolled (omega arith)) (fails_then (same_part (Symbol.expression n 1 ∷ []) (c.in_ok-cond.ensures.judged n all (omega arith))) (fails_then (same_choice (room _ _ _ all c.in_ok-depth.ensures.one_less) c.in-Some.ensures.some) (fails_then (same_part (Symbol.expression (suc n) 0 ∷ []) (c.in_ok-yes.ensures.judged (suc n) (inner _ _ _ all c.in_ok-depth.ensures.one_less))) (fixed_fails refl c.in_err-mark.ensures.refused))))))
+expr-returns-in_err-mark-clause-judged t c = λ n all. rw (stopped _ _ c.from_residual-in_err-mark.ensures.1) (told (Symbol.expression n 0 ∷ []) (fails_then (same_unrolled (omega arith)) (fails_then (same_part (Symbol.expression n 1 ∷ []) (c.in_ok-cond.ensures.judged n all)) (fails_then (same_choice (room _ _ _ all c.in_ok-depth.ensures.one_less) c.in-Some.ensures.some) (fails_then (same_part (Symbol.expression (suc n) 0 ∷ []) (c.in_ok-yes.ensures.judged (suc n) (inner _ _ _ all c.in_ok-depth.ensures.one_less))) (fixed_fails refl c.in_err-mark.ensures.refused))))))
 
 pub expr-returns-in_err-no-clause-judged : goal.expr-returns-in_err-no-clause-judged
-expr-returns-in_err-no-clause-judged t c = λ n all. rw (stopped _ _ c.from_residual-in_err-no.ensures.1) (told (Symbol.expression n 0 ∷ []) (fails_then (same_unrolled (omega arith)) (fails_then (same_part (Symbol.expression n 1 ∷ []) (c.in_ok-cond.ensures.judged n all (omega arith))) (fails_then (same_choice (room _ _ _ all c.in_ok-depth.ensures.one_less) c.in-Some.ensures.some) (fails_then (same_part (Symbol.expression (suc n) 0 ∷ []) (c.in_ok-yes.ensures.judged (suc n) (inner _ _ _ all c.in_ok-depth.ensures.one_less))) (fails_then (same_fixed refl (room _ _ _ all c.in_ok-depth.ensures.one_less) c.in_ok-mark.ensures.read) (part_fails (Symbol.expression (suc n) 0 ∷ []) _ (c.in_err-no.ensures.judged (suc n) (inner _ _ _ all c.in_ok-depth.ensures.one_less)))))))))
+expr-returns-in_err-no-clause-judged t c = λ n all. rw (stopped _ _ c.from_residual-in_err-no.ensures.1) (told (Symbol.expression n 0 ∷ []) (fails_then (same_unrolled (omega arith)) (fails_then (same_part (Symbol.expression n 1 ∷ []) (c.in_ok-cond.ensures.judged n all)) (fails_then (same_choice (room _ _ _ all c.in_ok-depth.ensures.one_less) c.in-Some.ensures.some) (fails_then (same_part (Symbol.expression (suc n) 0 ∷ []) (c.in_ok-yes.ensures.judged (suc n) (inner _ _ _ all c.in_ok-depth.ensures.one_less))) (fails_then (same_fixed refl (room _ _ _ all c.in_ok-depth.ensures.one_less) c.in_ok-mark.ensures.read) (part_fails (Symbol.expression (suc n) 0 ∷ []) _ (c.in_err-no.ensures.judged (suc n) (inner _ _ _ all c.in_ok-depth.ensures.one_less)))))))))
 
 pub expr-returns-clause-derived : goal.expr-returns-clause-derived
 expr-returns-clause-derived t c = reads_choice _ _ _ _ _ _ _ _ _ _ _ _ _ c.in_ok-cond.ensures.derived c.in-Some.ensures.some c.in_ok-yes.ensures.derived c.in_ok-mark.ensures.read c.in_ok-no.ensures.derived c.in_ok-kind.ensures c.place.ensures
 
 pub expr-returns-clause-judged : goal.expr-returns-clause-judged
-expr-returns-clause-judged t c = λ n all. went (Symbol.expression n 0 ∷ []) ([]) (same_then (same_unrolled (omega arith)) (same_then (same_part (Symbol.expression n 1 ∷ []) (c.in_ok-cond.ensures.judged n all (omega arith))) (same_then (same_choice (room _ _ _ all c.in_ok-depth.ensures.one_less) c.in-Some.ensures.some) (same_then (same_part (Symbol.expression (suc n) 0 ∷ []) (c.in_ok-yes.ensures.judged (suc n) (inner _ _ _ all c.in_ok-depth.ensures.one_less))) (same_then (same_fixed refl (room _ _ _ all c.in_ok-depth.ensures.one_less) c.in_ok-mark.ensures.read) (same_then (same_part (Symbol.expression (suc n) 0 ∷ []) (c.in_ok-no.ensures.judged (suc n) (inner _ _ _ all c.in_ok-depth.ensures.one_less))) same_reduces))))))
-
-pub binary-returns-then-level-gt-TIGHTEST-clause-judged : goal.binary-returns-then-level-gt-TIGHTEST-clause-judged
-binary-returns-then-level-gt-TIGHTEST-clause-judged t c = λ n all some. let tight : 11 ≡ c.args.level = omega (arith, c.requires, c.if-level-gt-TIGHTEST.true) in subst (λ l. Judges (Symbol.expression n l ∷ []) [] c.args.self.now.rest.now c.unary.new.self.rest.now c.unary.result) tight (c.unary.ensures.judged n all)
+expr-returns-clause-judged t c = λ n all. went (Symbol.expression n 0 ∷ []) ([]) (same_then (same_unrolled (omega arith)) (same_then (same_part (Symbol.expression n 1 ∷ []) (c.in_ok-cond.ensures.judged n all)) (same_then (same_choice (room _ _ _ all c.in_ok-depth.ensures.one_less) c.in-Some.ensures.some) (same_then (same_part (Symbol.expression (suc n) 0 ∷ []) (c.in_ok-yes.ensures.judged (suc n) (inner _ _ _ all c.in_ok-depth.ensures.one_less))) (same_then (same_fixed refl (room _ _ _ all c.in_ok-depth.ensures.one_less) c.in_ok-mark.ensures.read) (same_then (same_part (Symbol.expression (suc n) 0 ∷ []) (c.in_ok-no.ensures.judged (suc n) (inner _ _ _ all c.in_ok-depth.ensures.one_less))) same_reduces))))))
 
 pub binary-returns-in_err-left-clause-judged : goal.binary-returns-in_err-left-clause-judged
-binary-returns-in_err-left-clause-judged t c = λ n all some. rw (stopped _ _ c.from_residual.ensures.1) (told (Symbol.expression n c.args.level ∷ []) (fails_then (same_unrolled (omega (arith, c.if-level-gt-TIGHTEST.false))) (part_fails (Symbol.expression n (c.args.level + 1) ∷ []) _ (c.in_err-left.ensures.judged n all (omega arith)))))
+binary-returns-in_err-left-clause-judged t c = λ n all. rw (stopped _ _ c.from_residual.ensures.1) (told (Symbol.expression n c.args.level ∷ []) (fails_then (same_climbed c.requires.known) (part_fails (Symbol.expression n 11 ∷ []) _ (c.in_err-left.ensures.judged n all))))
 
 pub binary-operators-init : goal.binary-operators-init
-binary-operators-init t c = (reads_tighter _ _ _ _ _ refl (omega (arith, c.if-level-gt-TIGHTEST.false)) c.in_ok-left.ensures.derived, λ n all some. (same_then (same_unrolled (omega (arith, c.if-level-gt-TIGHTEST.false))) (same_part (Symbol.expression n (c.args.level + 1) ∷ []) (c.in_ok-left.ensures.judged n all (omega arith)))))
+binary-operators-init t c = record {
+  read = reads_looser c.args.level 11 _ _ _ c.requires.known (omega arith) c.in_ok-left.ensures.derived;
+  tight = λ op k is above most. reads_looser k 11 _ _ _ (omega arith) (omega arith) c.in_ok-left.ensures.derived;
+  judged = λ n all. same_then (same_climbed c.requires.known) (same_part (Symbol.expression n 11 ∷ []) (c.in_ok-left.ensures.judged n all));
+}
 
 pub binary-returns-in_err-right-clause-judged : goal.binary-returns-in_err-right-clause-judged
-binary-returns-in_err-right-clause-judged t c = λ n all some. rw (stopped _ _ c.from_residual-in_err-right.ensures.1) (told (Symbol.expression n c.args.level ∷ []) (fails_then (c.operators.invariant.1 n all some) (fails_then (same_operator (within _ _ all) c.in-Some.ensures.some) (part_fails (Symbol.expression n (c.args.level + 1) ∷ []) _ (c.in_err-right.ensures.judged n all (omega arith))))))
+binary-returns-in_err-right-clause-judged t c = λ n all. rw (stopped _ _ c.from_residual-in_err-right.ensures.1)
+    (told (Symbol.expression n c.args.level ∷ []) (fails_then (c.operators.invariant.judged n all) (right_fails (climbs (within _ _ all) c.in-Some.ensures.tight c.in-Some.ensures.known c.in-Some.ensures.some) (c.in_err-right.ensures.judged n all))))
 
 pub binary-operators-preserved : goal.binary-operators-preserved
-binary-operators-preserved t c = (reads_joined _ _ _ _ _ _ _ _ _ _ _ c.operators.invariant.0 c.in-Some.ensures.some c.in_ok-right.ensures.derived refl c.in_ok-join.ensures c.place.ensures, λ n all some. (same_then (c.operators.invariant.1 n all some) (same_then (same_operator (within _ _ all) c.in-Some.ensures.some) (same_then (same_part (Symbol.expression n (c.args.level + 1) ∷ []) (c.in_ok-right.ensures.judged n all (omega arith))) same_reduces))))
+binary-operators-preserved t c =
+    let joined = reads_joined _ _ _ _ _ _ _ _ _ _ _ (c.operators.invariant.tight _ _ (operates_as c.in-Some.ensures.some) c.in-Some.ensures.tight c.in-Some.ensures.known) c.in-Some.ensures.some c.in_ok-right.ensures.derived refl c.in_ok-join.ensures c.place.ensures in
+    record {
+      read = reads_looser _ _ _ _ _ c.in-Some.ensures.tight (omega (arith, c.in-Some.ensures.known)) joined;
+      tight = λ op k is above most. let below = c.in_ok-right.ensures.behind op k is in reads_looser k _ _ _ _ (omega arith) (omega (arith, c.in-Some.ensures.known)) joined;
+      judged = λ n all. same_then (c.operators.invariant.judged n all) (same_right (climbs (within _ _ all) c.in-Some.ensures.tight c.in-Some.ensures.known c.in-Some.ensures.some) (c.in_ok-right.ensures.judged n all) c.in_ok-right.ensures.behind);
+    }
 
 pub binary-returns-clause-derived : goal.binary-returns-clause-derived
-binary-returns-clause-derived t c = reads_same _ _ _ _ c.operators.invariant.0 c.in_default.ensures.none
+binary-returns-clause-derived t c = reads_same _ _ _ _ c.operators.invariant.read c.in_default.ensures.none
 
 pub binary-returns-clause-judged : goal.binary-returns-clause-judged
-binary-returns-clause-judged t c = λ n all some. went (Symbol.expression n c.args.level ∷ []) ([]) (same_to (same_then (c.operators.invariant.1 n all some) (same_no_operator some c.in_default.ensures.other)) c.in_default.ensures.none)
+binary-returns-clause-judged t c = λ n all. went (Symbol.expression n c.args.level ∷ []) ([]) (same_to (same_then (c.operators.invariant.judged n all) (same_no_tails n c.args.level c.requires.some c.requires.known c.in_default.ensures.other)) c.in_default.ensures.none)
+
+pub binary-returns-clause-behind : goal.binary-returns-clause-behind
+binary-returns-clause-behind t c = subst (λ ts. IsLooserAt c.args.level ts) (sym c.in_default.ensures.none) c.in_default.ensures.other
 
 pub cast-returns-in_err-open-clause-judged : goal.cast-returns-in_err-open-clause-judged
 cast-returns-in_err-open-clause-judged t c = λ n all. rw (stopped _ _ c.from_residual.ensures.1) (told (Symbol.fixed (suc n) Fixed.opening ∷ Symbol.a_type (suc n) ∷ Symbol.fixed (suc n) Fixed.closing ∷ Symbol.expression (suc n) 11 ∷ []) (fixed_fails refl c.in_err-open.ensures.refused))

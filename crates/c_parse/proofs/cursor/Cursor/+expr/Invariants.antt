@@ -1,7 +1,11 @@
-use Rattle.std.proofs.Common.{◌≡◌, ℕ, ◌+◌, ◌-◌, ◌*◌, ◌≤◌, [], ◌∷◌, length}
+use Rattle.std.proofs.Common.{◌≡◌, ℕ, ◌+◌, ◌-◌, ◌*◌, ◌≤◌, [], ◌∷◌, ◌++◌, Some, length}
+use Rattle.el_base.specs.Limits.{max_nesting}
+use Rattle.c_ast.specs.declared.tree.Binary.{Binary}
 use Rattle.c_ast.specs.Derives.{DerivesExpr, DerivesIndices}
 use Rattle.c_parse.specs.Reads.{Reads}
-use Rattle.c_parse.specs.Symbols.{Symbol}
+use Rattle.c_parse.specs.Stops.{meaning_at}
+use Rattle.c_parse.specs.Symbols.{Symbol, tails}
+use Rattle.c_parse.specs.Tables.{operator_of}
 use Rattle.c_parse.proofs.Chains.{Same}
 use Rattle.c_parse.proofs.cursor.Cursor.+expr.Given as goal
 
@@ -33,9 +37,11 @@ abbrev pub decreases-indices : goal.decreases-indices
 decreases-indices l = 16 * l.depth + 1
 
 abbrev pub invariant-binary-operators : goal.invariant-binary-operators
-invariant-binary-operators l =
-    Reads (λ ts. DerivesExpr l.level ts l.left) l.fn.self.rest.now l.self.rest.now
-    × ((n : ℕ) → n + l.depth ≡ 64 → 1 ≤ l.level → Same (Symbol.expression n l.level ∷ []) (Symbol.operators n l.level ∷ []) l.fn.self.rest.now l.self.rest.now)
+invariant-binary-operators l = record {
+  read : Reads (λ ts. DerivesExpr l.level ts l.left) l.fn.self.rest.now l.self.rest.now;
+  tight : (op : Binary) (k : ℕ) → meaning_at operator_of l.self.rest.now ≡ Some (op, k) → l.level ≤ k → k ≤ 10 → Reads (λ ts. DerivesExpr k ts l.left) l.fn.self.rest.now l.self.rest.now;
+  judged : (n : ℕ) → n + l.depth ≡ max_nesting → Same (Symbol.expression n l.level ∷ []) (tails n l.level ++ []) l.fn.self.rest.now l.self.rest.now;
+}
 
 abbrev pub decreases-binary-operators : goal.decreases-binary-operators
 decreases-binary-operators l = length l.self.rest.now
@@ -43,7 +49,7 @@ decreases-binary-operators l = length l.self.rest.now
 abbrev pub invariant-indices-brackets : goal.invariant-indices-brackets
 invariant-indices-brackets l =
     Reads (λ ts. DerivesIndices ts l.indices) l.fn.self.rest.now l.self.rest.now
-    × ((n : ℕ) → n + l.depth ≡ 64 → Same (Symbol.indices n ∷ []) (Symbol.indices n ∷ []) l.fn.self.rest.now l.self.rest.now)
+    × ((n : ℕ) → n + l.depth ≡ max_nesting → Same (Symbol.indices n ∷ []) (Symbol.indices n ∷ []) l.fn.self.rest.now l.self.rest.now)
 
 abbrev pub decreases-indices-brackets : goal.decreases-indices-brackets
 decreases-indices-brackets l = length l.self.rest.now

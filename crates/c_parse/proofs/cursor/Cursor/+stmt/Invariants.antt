@@ -1,4 +1,5 @@
 use Rattle.std.proofs.Common.{◌≡◌, ◌+◌, ◌*◌, ℕ, [], ◌∷◌, length}
+use Rattle.el_base.specs.Limits.{max_nesting}
 use Rattle.c_ast.specs.Derives.{DerivesItems}
 use Rattle.c_parse.specs.Reads.{Reads}
 use Rattle.c_parse.specs.Symbols.{Symbol}
@@ -38,7 +39,7 @@ decreases-for_stmt l = 8 * l.depth
 abbrev pub invariant-braced-items : goal.invariant-braced-items
 invariant-braced-items l = record {
   read : Reads (λ ts. DerivesItems ts l.body) l.initial.self.rest.now l.self.rest.now;
-  judged : (n : ℕ) → n + l.depth ≡ 64 → Same (Symbol.body n ∷ []) (Symbol.body n ∷ []) l.initial.self.rest.now l.self.rest.now;
+  judged : (n : ℕ) → n + l.depth ≡ max_nesting → Same (Symbol.body n ∷ []) (Symbol.body n ∷ []) l.initial.self.rest.now l.self.rest.now;
 }
 
 abbrev pub decreases-braced-items : goal.decreases-braced-items

@@ -1,8 +1,8 @@
 use Rattle.std.proofs.Common.{rules, Err, ap}
 use Rattle.elastic_top.proofs.straight.answer.answer.Goals as goal
-use Rattle.elastic_top.proofs.AnswerLemmas.{right_value, small_value}
-use Rattle.elastic_top.proofs.Fitness.{fit_of_spelling}
-use Rattle.elastic_top.proofs.RefusalLemmas.{kernel_not_yet, inputs_not_yet}
+use Rattle.elastic_top.proofs.straight_path.AnswerLemmas.{right_value, small_value}
+use Rattle.elastic_top.proofs.straight_path.Fitness.{fit_of_spelling}
+use Rattle.elastic_top.proofs.straight_path.RefusalLemmas.{kernel_not_yet, inputs_not_yet}
 
 pub returns-in_err-kernel-clause-kernel : goal.returns-in_err-kernel-clause-kernel
 returns-in_err-kernel-clause-kernel c = λ is.

@@ -1,5 +1,5 @@
 use Rattle.std.proofs.Common.{◌^◌, arith}
-use Rattle.elastic_top.proofs.Sizes.{left_less, right_less, left_asks, right_asks, op_asks}
+use Rattle.elastic_top.proofs.straight_path.Sizes.{left_less, right_less, left_asks, right_asks, op_asks}
 use Rattle.elastic_top.proofs.straight.circuit.+draw.Goals as goal
 
 pub draw-requires : goal.draw-requires

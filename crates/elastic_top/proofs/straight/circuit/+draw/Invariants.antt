@@ -1,4 +1,4 @@
-use Rattle.elastic_top.specs.Spelling.{sum_nodes}
+use Rattle.elastic_top.specs.straight.Spelling.{sum_nodes}
 use Rattle.elastic_top.proofs.straight.circuit.+draw.Given as goal
 
 abbrev pub decreases-draw : goal.decreases-draw

@@ -1,4 +1,4 @@
-use Rattle.elastic_top.proofs.Circuits.{draw_fits, draw_few, sinks_few, exit_few, makes}
+use Rattle.elastic_top.proofs.straight_path.Circuits.{draw_fits, draw_few, sinks_few, exit_few, makes}
 use Rattle.elastic_top.proofs.straight.circuit.circuit.Goals as goal
 
 pub draw-requires-clause-fit : goal.draw-requires-clause-fit

@@ -1,6 +1,6 @@
 use Rattle.std.proofs.lemmas.Slice.Eq.{strip_prefix_is}
 use Rattle.std.proofs.lemmas.Bool.Decides.{Decides-eqb}
-use Rattle.elastic_top.proofs.InputLemmas.{prefix_some, prefix_none}
+use Rattle.elastic_top.proofs.straight_path.InputLemmas.{prefix_some, prefix_none}
 use Rattle.elastic_top.proofs.straight.inputs.after_prefix.Goals as goal
 
 pub returns : goal.returns

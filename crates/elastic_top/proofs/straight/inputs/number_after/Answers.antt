@@ -2,7 +2,7 @@ use Rattle.std.proofs.Common.{◌≡◌, rules, sym, to_z, of_z}
 use Rattle.std.specs.Int.{w128}
 use Rattle.std.proofs.lemmas.Int.{to_z-of_z}
 use mir.Val.{SFits}
-use Rattle.elastic_top.proofs.InputLemmas.{finds_of, finds_none}
+use Rattle.elastic_top.proofs.straight_path.InputLemmas.{finds_of, finds_none}
 use Rattle.elastic_top.proofs.straight.inputs.number_after.Goals as goal
 
 pub returns-in-None-clause-finds : goal.returns-in-None-clause-finds

@@ -4,7 +4,7 @@ use Rattle.std.proofs.lemmas.Int.{to_z-of_z}
 use mir.Val.{SFits}
 use Rattle.el_base.specs.Numbers.{pattern}
 use Rattle.el_base.specs.declared.ty.Ty.TheVariants.{I32}
-use Rattle.elastic_top.proofs.TextLemmas.{line_more, no_line, at_end, left_over, empty_when, some_when, same_error}
+use Rattle.elastic_top.proofs.straight_path.TextLemmas.{line_more, no_line, at_end, left_over, empty_when, some_when, same_error}
 use Rattle.elastic_top.proofs.straight.inputs.read_inputs.Goals as goal
 
 pub returns-in_err-line-clause-not_yet : goal.returns-in_err-line-clause-not_yet

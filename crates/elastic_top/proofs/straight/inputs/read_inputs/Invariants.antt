@@ -1,5 +1,5 @@
 use Rattle.std.proofs.Common.{drop}
-use Rattle.elastic_top.proofs.TextLemmas.{ReadsFrom}
+use Rattle.elastic_top.proofs.straight_path.TextLemmas.{ReadsFrom}
 use Rattle.elastic_top.proofs.straight.inputs.read_inputs.Given as goal
 
 abbrev pub invariant-loop-name : goal.invariant-loop-name

@@ -1,8 +1,8 @@
 use Rattle.std.proofs.Common.{◌≡◌, ◌++◌, ◌+◌, Some, to_z, of_z, w64, rules, sym, ap, ◌∙◌, length, refl}
 use Rattle.std.proofs.lemmas.Int.{to_z-of_z}
 use mir.Val.{SFits}
-use Rattle.elastic_top.specs.Inputs.{Finds, input_line}
-use Rattle.elastic_top.proofs.InputLemmas.{found_is, rest_is}
+use Rattle.elastic_top.specs.straight.Inputs.{Finds, input_line}
+use Rattle.elastic_top.proofs.straight_path.InputLemmas.{found_is, rest_is}
 use Rattle.elastic_top.proofs.straight.inputs.read_line.Goals as goal
 
 pub returns-in_default-clause-not_yet : goal.returns-in_default-clause-not_yet

@@ -1,5 +1,5 @@
 use Rattle.std.proofs.Common.{rules}
-use Rattle.elastic_top.proofs.Operands.{name_reserved, name_read}
+use Rattle.elastic_top.proofs.straight_path.Operands.{name_reserved, name_read}
 use Rattle.elastic_top.proofs.straight.operand.name.Goals as goal
 
 pub returns-then-is_some : goal.returns-then-is_some

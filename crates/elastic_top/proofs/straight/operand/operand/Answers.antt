@@ -1,5 +1,5 @@
 use Rattle.std.proofs.Common.{sym, arith, ◌<◌, length}
-use Rattle.elastic_top.proofs.Operands.{place_below}
+use Rattle.elastic_top.proofs.straight_path.Operands.{place_below}
 use Rattle.elastic_top.proofs.straight.operand.operand.Goals as goal
 
 pub overflow_cast-result : goal.overflow_cast-result

@@ -1,5 +1,5 @@
 use Rattle.std.proofs.Common.{ℕ, sym, ◌∙◌}
-use Rattle.elastic_top.proofs.Operands.{number_parsed, number_not_parsed, decimal_text}
+use Rattle.elastic_top.proofs.straight_path.Operands.{number_parsed, number_not_parsed, decimal_text}
 use Rattle.elastic_top.proofs.straight.operand.small_number.Goals as goal
 
 pub returns-in-Ok-parse : goal.returns-in-Ok-parse

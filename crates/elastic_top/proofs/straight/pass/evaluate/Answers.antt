@@ -1,4 +1,4 @@
-use Rattle.elastic_top.proofs.Passes.{held_turn, held_gives}
+use Rattle.elastic_top.proofs.straight_path.Passes.{held_turn, held_gives}
 use Rattle.elastic_top.proofs.straight.pass.evaluate.Goals as goal
 
 pub loop-chan-preserved : goal.loop-chan-preserved

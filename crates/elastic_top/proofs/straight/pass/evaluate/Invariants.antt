@@ -1,6 +1,6 @@
 use Rattle.std.proofs.Common.{ℕ, ◌<◌, length}
-use Rattle.elastic_top.specs.Pass.{IsInOrder}
-use Rattle.elastic_top.proofs.Passes.{IsHeld}
+use Rattle.elastic_top.specs.straight.Pass.{IsInOrder}
+use Rattle.elastic_top.proofs.straight_path.Passes.{IsHeld}
 use Rattle.elastic_top.proofs.straight.pass.evaluate.Given as goal
 
 abbrev pub invariant-loop-chan : goal.invariant-loop-chan

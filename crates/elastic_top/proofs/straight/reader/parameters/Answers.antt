@@ -1,5 +1,5 @@
-use Rattle.elastic_top.specs.Reading.{lexemes}
-use Rattle.elastic_top.proofs.Kernels.{few_names, fewer_left}
+use Rattle.elastic_top.specs.straight.Reading.{lexemes}
+use Rattle.elastic_top.proofs.straight_path.Kernels.{few_names, fewer_left}
 use Rattle.elastic_top.proofs.straight.reader.parameters.Goals as goal
 
 pub returns-then-is-clause-few : goal.returns-then-is-clause-few

@@ -1,5 +1,5 @@
 use Rattle.std.proofs.Common.{◌≡◌, [], length}
-use Rattle.elastic_top.specs.Reading.{lexemes, parameters_of}
+use Rattle.elastic_top.specs.straight.Reading.{lexemes, parameters_of}
 use Rattle.elastic_top.proofs.straight.reader.parameters.Given as goal
 
 abbrev pub invariant-loop-names : goal.invariant-loop-names

@@ -1,5 +1,5 @@
 use Rattle.std.proofs.Common.{◌≡◌, length}
-use Rattle.elastic_top.specs.Reading.{lexemes, sum_of, start}
+use Rattle.elastic_top.specs.straight.Reading.{lexemes, sum_of, start}
 use Rattle.elastic_top.proofs.straight.sum.sum.Given as goal
 
 abbrev pub invariant-loop-lexeme : goal.invariant-loop-lexeme

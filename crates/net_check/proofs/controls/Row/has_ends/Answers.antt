@@ -1,6 +1,6 @@
 use Rattle.std.proofs.Common.{◌≡◌, ◌+◌, suc, true, ap, ◌∙◌, arith}
 use Rattle.net_types.specs.Tables.{spots}
-use Rattle.net_check.specs.Steers.{agrees, marks}
+use Rattle.net_check.specs.private.Steers.{agrees, marks}
 use Rattle.net_check.proofs.controls.Row.has_ends.Goals as goal
 
 pub returns : goal.returns

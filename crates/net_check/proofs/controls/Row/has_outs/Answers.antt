@@ -1,6 +1,6 @@
 use Rattle.std.proofs.Common.{sym, ap, ◌∙◌}
 use Rattle.net_types.specs.Tables.{outs}
-use Rattle.net_check.specs.Steers.{agrees, marks}
+use Rattle.net_check.specs.private.Steers.{agrees, marks}
 use Rattle.net_check.proofs.controls.Row.has_outs.Goals as goal
 
 pub returns-in-Fork : goal.returns-in-Fork

@@ -1,5 +1,5 @@
 use Rattle.std.proofs.Common.{sym, ◌∙◌, arith}
-use Rattle.net_check.specs.Steers.{marks}
+use Rattle.net_check.specs.private.Steers.{marks}
 use Rattle.net_check.proofs.SteerLemmas.{agrees-spots-more, agrees-spots-none, goes_on, stops}
 use Rattle.net_check.proofs.controls.Row.has_run.Goals as goal
 

@@ -1,6 +1,6 @@
 use Rattle.std.proofs.Common.{◌≡◌, ℕ, ◌+◌, ◌-◌}
 use Rattle.net_types.specs.Tables.{spots}
-use Rattle.net_check.specs.Steers.{agrees, marks}
+use Rattle.net_check.specs.private.Steers.{agrees, marks}
 use Rattle.net_check.proofs.controls.Row.has_run.Given as goal
 
 abbrev pub invariant-loop-i : goal.invariant-loop-i

@@ -1,7 +1,10 @@
-use Rattle.std.proofs.Common.{◌≡◌, ℕ, drop}
+use Rattle.std.proofs.Common.{◌≡◌, ℕ, ◌+◌, ◌*◌, drop}
 use Rattle.net_types.specs.Tables.{port_ins}
-use Rattle.net_check.specs.Steers.{agrees, marks}
+use Rattle.net_check.specs.private.Steers.{agrees, marks}
 use Rattle.net_check.proofs.controls.Row.has_sources.Given as goal
 
 abbrev pub invariant-loop-port : goal.invariant-loop-port
-invariant-loop-port l = (w : ℕ) → agrees (marks l.self) (port_ins l.first w l.ports) ≡ agrees (marks l.self) (port_ins l.place w (drop l.port-index l.ports))
+invariant-loop-port l = record {
+  rest : (w : ℕ) → agrees (marks l.self) (port_ins l.first w l.ports) ≡ agrees (marks l.self) (port_ins l.place w (drop l.port-index l.ports));
+  place : l.place ≡ l.first + 2 * l.port-index;
+}

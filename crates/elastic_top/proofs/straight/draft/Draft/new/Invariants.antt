@@ -1,5 +1,5 @@
 use Rattle.std.proofs.Common.{◌≡◌, ◌+◌, length}
-use Rattle.elastic_top.specs.Draft.{started}
+use Rattle.elastic_top.specs.straight.Draft.{started}
 use Rattle.elastic_top.proofs.straight.draft.Draft.new.Given as goal
 
 abbrev pub invariant-loop-i : goal.invariant-loop-i

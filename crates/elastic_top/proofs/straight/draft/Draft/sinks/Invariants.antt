@@ -1,5 +1,5 @@
 use Rattle.std.proofs.Common.{◌≡◌, ◌+◌, length}
-use Rattle.elastic_top.specs.Draft.{with_sinks}
+use Rattle.elastic_top.specs.straight.Draft.{with_sinks}
 use Rattle.elastic_top.proofs.straight.draft.Draft.sinks.Given as goal
 
 abbrev pub invariant-loop-i : goal.invariant-loop-i

@@ -1,5 +1,5 @@
 use Rattle.std.proofs.Common.{rules}
-use Rattle.elastic_top.proofs.LexemeLemmas.{next_none, next_some_at}
+use Rattle.elastic_top.proofs.straight_path.LexemeLemmas.{next_none, next_some_at}
 use Rattle.elastic_top.proofs.straight.lexeme.Lexemes.next.Goals as goal
 
 pub returns-then-is_empty-clause-none : goal.returns-then-is_empty-clause-none

@@ -1,6 +1,6 @@
 use Rattle.std.proofs.Common.{bytes_eq, ap, ◌∙◌}
 use Rattle.indexmap.specs.IndexSet.{insert_key}
-use Rattle.elastic_top.proofs.ScopeLemmas.{new_goes_last}
+use Rattle.elastic_top.proofs.straight_path.ScopeLemmas.{new_goes_last}
 use Rattle.elastic_top.proofs.straight.scope.Scope.declare.Goals as goal
 
 pub returns : goal.returns

@@ -1,0 +1,52 @@
+//! Answers given rows: kernel texts, net texts and operations, one a line of the files of its folder.
+//!
+//! With no word it answers all files in turn, each below its name. With the path of a file it answers that one.
+#![tactic(auto)]
+
+mod field;
+mod kernels;
+mod nets;
+mod operations;
+mod pairs;
+mod refusals;
+mod repeats;
+mod rows;
+mod trees;
+mod words;
+
+use crate::rows::{FILES, Rows, rows_of};
+use anyhow::{Context, Result};
+use std::io::{BufWriter, Write};
+use std::path::Path;
+use std::{env, fs, io};
+
+fn main(rt: HostRuntime) -> Result<()> {
+    let mut out = BufWriter::new(rt.alloc(), io::writer(&rt))?;
+    match env::args(&rt)?.nth(1) {
+        None => {
+            for (name, rows) in FILES {
+                answer(&rt, name, name, rows, &mut out)?;
+            }
+        }
+        Some(path) => {
+            let name = Path::new(path.as_str()).file_name().unwrap_or("");
+            let rows = rows_of(name).context("no file of rows has that name")?;
+            answer(&rt, path.as_str(), name, rows, &mut out)?;
+        }
+    }
+    out.flush()?;
+    Ok(())
+}
+
+/// Writes the answers to a file below its name.
+fn answer<W: Write>(
+    rt: &HostRuntime,
+    path: &str,
+    name: &str,
+    rows: Rows,
+    out: &mut W,
+) -> Result<()> {
+    let text = fs::read_to_string(rt, path)?;
+    writeln!(out, "== {name}")?;
+    rows.answer(rt.alloc(), text.as_str(), out)
+}

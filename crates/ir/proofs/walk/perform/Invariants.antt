@@ -1,0 +1,7 @@
+use Rattle.std.proofs.Common.{◌≡◌, ◌≤◌, drop}
+use Rattle.ir.specs.Steps.{through, beginning}
+use Rattle.ir.proofs.Performed.{IsPerforming}
+use Rattle.ir.proofs.walk.perform.Given as goal
+
+abbrev pub invariant-loop-step : goal.invariant-loop-step
+invariant-loop-step l = IsPerforming l.steps l.step-index (beginning l.initial.values l.initial.arrays) l.values l.arrays l.strays

@@ -1,0 +1,12 @@
+pub mod Steps
+pub mod Visits
+pub mod Shapes
+pub mod Graphs
+pub mod Variables
+pub mod Headers
+pub mod Accesses
+pub mod Renaming
+pub mod Walks
+pub mod Passes
+pub mod Sample
+pub mod Strictness

@@ -1,0 +1,130 @@
+//! Why the bytes of a kernel have no typed tree.
+ghost use Rattle.std.specs.Prelude.{◌≡◌};
+ghost use Rattle.kernel_front.specs.Refusals.{refusal_number, refusal_word, refusal_span};
+
+use c_lex::LexRefusal;
+use c_parse::ParseRefusal;
+use c_types::TypeRefusal;
+use el_base::{Memory, Span};
+use std::error::Error;
+use std::fmt;
+
+/// Why the bytes of a kernel have no typed tree: what the first of lexer, parser and type checker to
+/// refuse it says. Want of memory is [`KernelRefusal::Memory`] whichever of them wanted it.
+#[derive(Debug, Drop)]
+pub enum KernelRefusal {
+    /// The text has no tokens.
+    Lex(LexRefusal),
+    /// Its tokens have no tree.
+    Parse(ParseRefusal),
+    /// Its tree has no typed tree.
+    Types(TypeRefusal),
+    /// Memory ran out.
+    Memory,
+}
+
+impl KernelRefusal {
+    /// The number by which it is printed: 1 to 6 from the lexer, 10 to 13 from the parser, 20 to 27 from
+    /// the type checker; none for want of memory.
+    pub fn number(&self) -> Option<u32>
+        ensures { result ≡ refusal_number self.now }
+    {
+        match self {
+            KernelRefusal::Lex(refusal) => refusal.number(),
+            KernelRefusal::Parse(refusal) => refusal.number(),
+            KernelRefusal::Types(refusal) => refusal.number(),
+            KernelRefusal::Memory => None,
+        }
+    }
+
+    /// The word by which it is printed.
+    pub fn word(&self) -> &'static str
+        ensures { result.now ≡ refusal_word self.now }
+    {
+        match self {
+            KernelRefusal::Lex(refusal) => refusal.word(),
+            KernelRefusal::Parse(refusal) => refusal.word(),
+            KernelRefusal::Types(refusal) => refusal.word(),
+            KernelRefusal::Memory => "Memory",
+        }
+    }
+
+    /// Its place in the text; none for want of memory.
+    pub fn span(&self) -> Option<Span>
+        ensures { result ≡ refusal_span self.now }
+    {
+        match self {
+            KernelRefusal::Lex(refusal) => refusal.span(),
+            KernelRefusal::Parse(refusal) => refusal.span(),
+            KernelRefusal::Types(refusal) => refusal.span(),
+            KernelRefusal::Memory => None,
+        }
+    }
+}
+
+/// The number and the word, as `10 Unexpected`.
+impl fmt::Display for KernelRefusal {
+    ghost use Rattle.std.specs.Prelude.{Some};
+    ghost use Rattle.kernel_front.specs.Refusals.{refusal_text};
+
+    ghost output = { λ refusal. Some (refusal_text refusal) };
+
+    fn fmt<W: fmt::Write>(&self, f: &mut fmt::Formatter<W>) -> fmt::Result {
+        let word = self.word();
+        match self.number() {
+            Some(number) => write!(f, "{number} {word}"),
+            None => f.write_str("want of memory"),
+        }
+    }
+}
+
+impl Error for KernelRefusal {}
+
+impl From<Memory> for KernelRefusal {
+    ghost use Rattle.kernel_front.specs.declared.refusal.KernelRefusal.TheVariants as refusal;
+
+    ghost from_gives = { λ _ e. e ≡ refusal.Memory };
+
+    fn from(_: Memory) -> KernelRefusal {
+        KernelRefusal::Memory
+    }
+}
+
+impl From<LexRefusal> for KernelRefusal {
+    ghost use Rattle.kernel_front.specs.Refusals.{of_lexer};
+
+    ghost from_gives = { λ r e. e ≡ of_lexer r };
+
+    fn from(refusal: LexRefusal) -> KernelRefusal {
+        match refusal {
+            LexRefusal::Memory => KernelRefusal::Memory,
+            _ => KernelRefusal::Lex(refusal),
+        }
+    }
+}
+
+impl From<ParseRefusal> for KernelRefusal {
+    ghost use Rattle.kernel_front.specs.Refusals.{of_parser};
+
+    ghost from_gives = { λ r e. e ≡ of_parser r };
+
+    fn from(refusal: ParseRefusal) -> KernelRefusal {
+        match refusal {
+            ParseRefusal::Memory => KernelRefusal::Memory,
+            _ => KernelRefusal::Parse(refusal),
+        }
+    }
+}
+
+impl From<TypeRefusal> for KernelRefusal {
+    ghost use Rattle.kernel_front.specs.Refusals.{of_types};
+
+    ghost from_gives = { λ r e. e ≡ of_types r };
+
+    fn from(refusal: TypeRefusal) -> KernelRefusal {
+        match refusal {
+            TypeRefusal::Memory => KernelRefusal::Memory,
+            _ => KernelRefusal::Types(refusal),
+        }
+    }
+}

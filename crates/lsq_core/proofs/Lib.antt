@@ -1,0 +1,10 @@
+pub mod EntryLemmas
+pub mod JoinLemmas
+pub mod KeepLemmas
+pub mod MarkLemmas
+pub mod PairLemmas
+pub mod PlaceLemmas
+pub mod RowLemmas
+pub mod RunLemmas
+pub mod StayLemmas
+pub mod ViewLemmas

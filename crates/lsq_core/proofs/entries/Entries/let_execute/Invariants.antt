@@ -1,0 +1,7 @@
+use Rattle.std.proofs.Common.{◌≡◌, ℕ, ◌<◌, true}
+use Rattle.lsq_core.specs.Acts.{lets}
+use Rattle.lsq_core.specs.Views.{entry_at}
+use Rattle.lsq_core.proofs.entries.Entries.let_execute.Given as goal
+
+abbrev pub invariant-loop-at : goal.invariant-loop-at
+invariant-loop-at l = (k : ℕ) → k < l.at → lets l.store (entry_at l.self.queue.items k) ≡ true

@@ -1,0 +1,6 @@
+pub mod Acts
+pub mod Views
+pub mod Wants
+pub mod Runs
+pub mod Laws
+pub mod Rows

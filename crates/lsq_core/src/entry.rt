@@ -1,0 +1,154 @@
+//! Entries of a queue.
+
+ghost use Rattle.std.specs.Prelude.{◌≡◌};
+ghost use Rattle.lsq_core.specs.Acts.{ready, lets, known, waiting, same, spent, fresh_entry};
+ghost use Rattle.lsq_core.specs.Wants.{wanted, changed_by};
+
+/// An access that was allocated and has not retired.
+///
+/// Entries are numbered in order of allocation by `serial`; an entry is older than another where its number is
+/// lower. `store` tells whether its port is a store port. A load that is `done` has read `value`.
+#[derive(Clone, Copy, Debug)]
+pub struct Entry {
+    pub serial: u64,
+    pub port: u32,
+    pub store: bool,
+    pub addr: Option<u64>,
+    pub datum: Option<u64>,
+    pub done: bool,
+    pub value: u64,
+    pub replied: bool,
+}
+
+/// What an act asks of the entry that it changes.
+#[derive(Clone, Copy, Debug)]
+pub(crate) enum Want {
+    /// It is of this port and waits for its address.
+    Addr(u32),
+    /// It is of this store port and waits for its data.
+    Data(u32),
+    /// It is of this load port and has not replied.
+    Reply(u32),
+    /// It has this serial number.
+    Serial(u64),
+}
+
+/// What an act makes of the entry that it changes.
+#[derive(Clone, Copy, Debug)]
+pub(crate) enum Made {
+    /// It has this address.
+    Addr(u64),
+    /// It has these data.
+    Datum(u64),
+    /// It is executed, and read this value.
+    Done(u64),
+    /// It has replied.
+    Replied,
+}
+
+impl Entry {
+    /// A new entry of a port.
+    pub(crate) fn fresh(serial: u64, port: u32, store: bool) -> Entry
+        ensures { result ≡ fresh_entry serial port store }
+    {
+        Entry {
+            serial,
+            port,
+            store,
+            addr: None,
+            datum: None,
+            done: false,
+            value: 0,
+            replied: false,
+        }
+    }
+
+    /// Whether it is what an act asks for.
+    pub(crate) fn meets(&self, want: Want) -> bool
+        ensures { result ≡ wanted want self.now }
+    {
+        match want {
+            Want::Addr(port) => self.port == port && self.addr.is_none(),
+            Want::Data(port) => self.port == port && self.store && self.datum.is_none(),
+            Want::Reply(port) => self.port == port && !self.store && !self.replied,
+            Want::Serial(serial) => self.serial == serial,
+        }
+    }
+
+    /// Whether it has what it needs to execute, and has not.
+    pub(crate) fn is_ready(&self) -> bool
+        ensures { result ≡ ready self.now }
+    {
+        !self.done && self.addr.is_some() && (!self.store || self.datum.is_some())
+    }
+
+    /// Whether this entry lets a store execute.
+    pub(crate) fn lets(&self, other: &Entry) -> bool
+        ensures { result ≡ lets other.now self.now }
+    {
+        if self.serial >= other.serial {
+            return true;
+        }
+        if !self.store && !other.store {
+            return true;
+        }
+        self.addr.is_some() && (self.done || !self.has_address_of(other))
+    }
+
+    /// Whether it is no older store of unknown address than a load.
+    pub(crate) fn is_known_to(&self, load: &Entry) -> bool
+        ensures { result ≡ known load.now self.now }
+    {
+        self.serial >= load.serial || !self.store || self.addr.is_some()
+    }
+
+    /// Whether it is an older store of a load's address that is not executed.
+    pub(crate) fn waits_before(&self, load: &Entry) -> bool
+        ensures { result ≡ waiting load.now self.now }
+    {
+        self.serial < load.serial && self.store && self.has_address_of(load) && !self.done
+    }
+
+    /// Whether both addresses are known and equal.
+    fn has_address_of(&self, other: &Entry) -> bool
+        ensures { result ≡ same self.now.addr other.now.addr }
+    {
+        match (self.addr, other.addr) {
+            (Some(own), Some(addr)) => own == addr,
+            (Some(_), None) => false,
+            (None, _) => false,
+        }
+    }
+
+    /// Whether nothing is left to do for it.
+    pub(crate) fn is_spent(&self) -> bool
+        ensures { result ≡ spent self.now }
+    {
+        self.done && (self.store || self.replied)
+    }
+
+    /// The entry with a change.
+    pub(crate) fn with(self, made: Made) -> Entry
+        ensures { result ≡ changed_by made self }
+    {
+        match made {
+            Made::Addr(addr) => Entry {
+                addr: Some(addr),
+                ..self
+            },
+            Made::Datum(datum) => Entry {
+                datum: Some(datum),
+                ..self
+            },
+            Made::Done(value) => Entry {
+                done: true,
+                value,
+                ..self
+            },
+            Made::Replied => Entry {
+                replied: true,
+                ..self
+            },
+        }
+    }
+}

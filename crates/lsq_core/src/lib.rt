@@ -1,0 +1,17 @@
+//! Load-store queues: which acts they allow, what each act does, and the laws of acts.
+#![tactic(auto)]
+
+mod entries;
+mod entry;
+mod laws;
+mod list_lsq;
+mod queue;
+mod runs;
+#[cfg(test)]
+mod tests;
+
+pub use entry::Entry;
+pub use laws::{acts_join, acts_keep_a_queue, acts_stay_refused, mark_allows_more, rows_hold};
+pub use list_lsq::ListLsq;
+pub use queue::{Outcome, Queue};
+pub use runs::run_acts;

@@ -1,0 +1,16 @@
+//! The order of firings: a law, as the contract of a function that does nothing.
+ghost use Rattle.std.specs.Prelude.{◌≡◌};
+ghost use Rattle.std.specs.declared.cmp.Ordering.TheVariants.{Equal};
+ghost use Rattle.net_types.specs.declared.firing.Act.{Act as Acts};
+ghost use Rattle.net_types.specs.declared.firing.Firing.{Firing as Firings};
+ghost use Rattle.net_types.specs.Order.{act_order, firing_order};
+
+use crate::firing::{Act, Firing};
+
+/// Firings are ordered by unit, then by act, and acts by their place among the variants of [`Act`], then by number.
+/// Only equal firings are not told apart.
+pub fn firings_are_ordered()
+    ensures acts { (a b : Acts) → ⟦<Act as Ord>⟧.cmp a b ≡ act_order a b }
+    ensures firings { (f g : Firings) → ⟦<Firing as Ord>⟧.cmp f g ≡ firing_order f g }
+    ensures equal { (f g : Firings) → ⟦<Firing as Ord>⟧.cmp f g ≡ Equal → f ≡ g }
+{}
