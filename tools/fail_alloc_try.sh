@@ -3,7 +3,7 @@
 # program before its proofs, and counts how the runs end: with status 11, its line and nothing on the output, with the
 # whole result, or otherwise (which is a fault). A run takes some 20 seconds. RT is the command, rt where it is not set.
 set -eu
-first=${1:-1} last=${2:-146}
+first=${1:-1} last=${2:-46}
 cd "$(dirname "$0")/../crates/elastic"
 folder=$(mktemp -d)
 trap 'rm -rf "$folder"' EXIT
