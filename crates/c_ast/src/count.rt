@@ -56,13 +56,16 @@ fn of_stmt(stmt: &Stmt) -> u64
     match &stmt.kind {
         StmtKind::Block(body) => node(&[of_stmts(body.as_slice())]),
         StmtKind::Declare { init, .. } => node(&[of_option(init)]),
-        StmtKind::Assign { target, value, .. } => node(&[of_target(target), of_expr(value)]),
-        StmtKind::Step { target, .. } => node(&[of_target(target)]),
+        StmtKind::Assign { target, value, .. } => node(&[
+            of_target(target.get()),
+            of_expr(value.get()),
+        ]),
+        StmtKind::Step { target, .. } => node(&[of_target(target.get())]),
         StmtKind::If { cond, then, other } => {
-            node(&[of_expr(cond), of_stmt(then.get()), of_held(other)])
+            node(&[of_expr(cond.get()), of_stmt(then.get()), of_held(other)])
         }
         StmtKind::While { cond, body } | StmtKind::DoWhile { body, cond } => {
-            node(&[of_expr(cond), of_stmt(body.get())])
+            node(&[of_expr(cond.get()), of_stmt(body.get())])
         }
         StmtKind::For {
             first,
@@ -96,12 +99,12 @@ fn of_target(target: &Target) -> u64
     of_exprs(target.indices.as_slice()).saturating_add(1)
 }
 
-fn of_option(expr: &Option<Expr>) -> u64
+fn of_option(expr: &Option<Boxed<Expr>>) -> u64
     ensures { result ≡ min (opt_nodes expr.now) (2 ^ 64 - 1) }
 {
     match expr {
         None => 0,
-        Some(expr) => of_expr(expr),
+        Some(expr) => of_expr(expr.get()),
     }
 }
 

@@ -60,7 +60,7 @@ fn minus_one(alloc: Global) -> Result<Expr, Fail> {
 fn counts_nodes(rt: HostRuntime) -> Result<(), Fail> {
     let alloc = rt.alloc();
     let body = Stmt {
-        kind: StmtKind::Return(Some(minus_one(alloc)?)),
+        kind: StmtKind::Return(Some(Boxed::new(alloc, minus_one(alloc)?)?)),
         at: HERE,
     };
     let tree = Tree {

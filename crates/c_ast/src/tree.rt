@@ -30,7 +30,8 @@ pub struct Stmt {
     pub at: Span,
 }
 
-/// The statements (ISO/IEC 9899:1999 6.8), and declarations, which stand among them.
+/// The statements (ISO/IEC 9899:1999 6.8), and declarations, which stand among them. Targets and expressions lie in
+/// boxes, so that a statement is small: a text is of up to 65,536 of them.
 #[cycle(stmt)]
 #[derive(Drop)]
 pub enum StmtKind {
@@ -39,42 +40,42 @@ pub enum StmtKind {
     Declare {
         name: Name,
         ty: Ty,
-        init: Option<Expr>,
+        init: Option<Boxed<Expr>>,
     },
     /// `target = value`, or `target op= value` where there is an operator.
     Assign {
-        target: Target,
+        target: Boxed<Target>,
         op: Option<Binary>,
-        value: Expr,
+        value: Boxed<Expr>,
     },
     /// `target++` where `up`, else `target--`, written before or after.
     Step {
-        target: Target,
+        target: Boxed<Target>,
         up: bool,
     },
     If {
-        cond: Expr,
+        cond: Boxed<Expr>,
         then: Boxed<Stmt>,
         other: Option<Boxed<Stmt>>,
     },
     While {
-        cond: Expr,
+        cond: Boxed<Expr>,
         body: Boxed<Stmt>,
     },
     DoWhile {
         body: Boxed<Stmt>,
-        cond: Expr,
+        cond: Boxed<Expr>,
     },
     /// `first` is empty, one assignment or step, or one declaration for each declared name.
     For {
         first: List<Stmt>,
-        cond: Option<Expr>,
+        cond: Option<Boxed<Expr>>,
         step: Option<Boxed<Stmt>>,
         body: Boxed<Stmt>,
     },
     Break,
     Continue,
-    Return(Option<Expr>),
+    Return(Option<Boxed<Expr>>),
     Empty,
 }
 

@@ -6,6 +6,7 @@ use Rattle.std.proofs.lemmas.List.Elements.{All-nil, All-cons, All-append}
 use Rattle.std.specs.Char.{is_ascii_digit}
 use Rattle.std.specs.List.{All, find}
 use Rattle.std.specs.Map.{lookup}
+use Rattle.el_base.specs.Choices.{Has, has, has_if}
 use Rattle.el_base.specs.declared.span.Span.{Span}
 use Rattle.el_base.specs.declared.ty.Ty.{Ty}
 use Rattle.el_base.specs.declared.ty.Ty.TheVariants.{I8, U8, I16, U16, I32, U32, I64, U64}
@@ -20,17 +21,6 @@ use Rattle.c_ast.specs.declared.mark.Mark.{Mark}
 use Rattle.c_ast.specs.declared.token.Token.{Token}
 use Rattle.c_lex.specs.Refusals.{Says}
 use Rattle.c_lex.specs.declared.refusal.LexRefusal.{LexRefusal}
-
--- a fact of the one or the other of two values, whichever is taken
-record Has {A : Type 0} (P : A → Type 0) (a : A) : Type 0 where
-  is : P a
-
-has : {A : Type 0} {P : A → Type 0} (a : A) → P a → Has P a
-has a h = record { is = h }
-
-has_if : {A : Type 0} {P : A → Type 0} (b : Bool) (x y : A) → Has P x → Has P y → Has P (cond b x y)
-has_if true x y one other = one
-has_if false x y one other = other
 
 -- ---- constants
 

@@ -11,7 +11,7 @@ use Rattle.std.specs.Int.{is_in_range}
 use Rattle.std.specs.Char.{is_digit, is_ascii_digit}
 use Rattle.std.specs.List.{prefix_len, list_all}
 use Rattle.std.specs.Str.Parse.{digits_value}
-use Rattle.el_base.specs.Words.{is_letter, is_word, is_identifier}
+use Rattle.el_base.specs.Words.{is_letter, is_word, letter_is_word, is_identifier}
 use Rattle.c_ast.specs.Numerals.{base_of, digits_of, prefix_of}
 use Rattle.c_ast.specs.Pieces.{word_of, number_token, is_number_byte, begins_with_letter, begins_with_digit, is_definable, key_of}
 
@@ -66,13 +66,6 @@ add_wide base ds i v m p d some within is in_base product digit never =
     wide_value base ds (i + 1) (p + d) some (omega (arith, more)) (high_from (p + d) (2 ^ 64) never)
 
 -- ---- words
-
-widen : (d a b u : Bool) → ((a || b) || u) ≡ true → (((d || a) || b) || u) ≡ true
-widen true a b u e = refl
-widen false a b u e = e
-
-letter_is_word : (b : ℕ) → is_letter b ≡ true → is_word b ≡ true
-letter_is_word b e = widen (is_in_range 48 57 b) (is_in_range 65 90 b) (is_in_range 97 122 b) (b == 95) e
 
 digit_is_word : (d a b u : Bool) → d ≡ true → (((d || a) || b) || u) ≡ true
 digit_is_word true a b u e = refl

@@ -2,7 +2,7 @@
 ghost use Rattle.std.specs.Prelude.{◌≡◌};
 ghost use Rattle.c_lex.specs.Refusals.{refusal_number, refusal_word, refusal_span, refusal_by};
 
-use el_base::{Memory, Span};
+use el_base::{Label, Memory, Span};
 use std::error::Error;
 use std::fmt;
 
@@ -112,11 +112,11 @@ impl fmt::Display for LexRefusal {
     ghost output = { λ refusal. Some (refusal_text refusal) };
 
     fn fmt<W: fmt::Write>(&self, f: &mut fmt::Formatter<W>) -> fmt::Result {
-        let word = self.word();
-        match self.number() {
-            Some(number) => write!(f, "{number} {word}"),
-            None => f.write_str("want of memory"),
-        }
+        let label = Label {
+            number: self.number(),
+            word: self.word(),
+        };
+        write!(f, "{label}")
     }
 }
 

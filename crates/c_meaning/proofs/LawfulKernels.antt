@@ -8,6 +8,7 @@ use Rattle.std.specs.Prelude.{Bool, true, false, ◌==◌, All, Contains, sum_by
 use Rattle.std.specs.Cmp.Lexicographic.{pointwise, bytes_decides}
 use denote.Hole.Carrier.{hidden}
 use Rattle.el_base.specs.declared.ty.Ty.{Ty}
+use Rattle.el_base.specs.Limits.{max_elements}
 use Rattle.c_ast.specs.declared.tree.Param.{Param}
 use Rattle.c_ast.specs.declared.tree.Stmt.{Stmt}
 use Rattle.c_ast.specs.declared.tree.StmtKind.TheBlock.{shape-the_row-Stmt-0, hidden-the_row-Stmt-0, shape-the_row-Stmt-1, hidden-the_row-Stmt-1}
@@ -21,7 +22,7 @@ use Rattle.c_meaning.specs.Stores.{Objects, elements, scalar_type, scalar_types}
 use Rattle.c_meaning.specs.Statements.{objects}
 use Rattle.c_ast.specs.Constants.{NumbersFitStmt, NumbersFitStmts, NumbersFit}
 use Rattle.c_ast.specs.Casts.{a_var, an_array, Parameters, with_param, with_params, parameters, first_context}
-use Rattle.c_meaning.specs.Lawful.{LawfulHeader, LawfulStmt, LawfulStmts, stmt_vars_of, stmt_vars_row, AreDistinct, AreDimensions, most_elements, all_vars, Lawful}
+use Rattle.c_meaning.specs.Lawful.{LawfulHeader, LawfulStmt, LawfulStmts, stmt_vars_of, stmt_vars_row, AreDistinct, AreDimensions, all_vars, Lawful}
 use Rattle.c_meaning.proofs.Elaboration.{cast_body, cast_tree}
 use Rattle.c_meaning.proofs.Existence.{all_head, all_tail, body_typing}
 use Rattle.c_meaning.proofs.LawfulExpressions.{Extends, extends_refl, extends_more, extends_trans, get_extends, get_last, Valid, into_valid}
@@ -79,12 +80,12 @@ sizes_of p (d ∷ ds) q e =
     let r : ArrayOf = record { name = p.name; ty = p.ty; dims = p.dims } in
     sym (sum_by_push size q.arrays r ∙ ap (λ n. sum_by size q.arrays + n) (ap elements e ∙ product_is (d ∷ ds)))
 
-few : (ps : List Param) (q : Parameters) (scope : List (List ℕ × Sort)) → TypingParams ps scope (sum_by size q.arrays) → sum_by size q.arrays ≤ most_elements → sum_by size (with_params ps q).arrays ≤ most_elements
+few : (ps : List Param) (q : Parameters) (scope : List (List ℕ × Sort)) → TypingParams ps scope (sum_by size q.arrays) → sum_by size q.arrays ≤ max_elements → sum_by size (with_params ps q).arrays ≤ max_elements
 few [] q scope h l = l
 few (p ∷ ps) q scope h l =
     let e : sum_by size q.arrays + elements_of p.dims ≡ sum_by size (with_param p p.dims q).arrays = sizes_of p p.dims q refl in
     few ps (with_param p p.dims q) ((p.name, sort_of_dims p.dims) ∷ scope)
-    (subst (λ b. TypingParams ps ((p.name, sort_of_dims p.dims) ∷ scope) b) e h.1) (subst (λ b. b ≤ most_elements) e h.0.rule_25_elements)
+    (subst (λ b. TypingParams ps ((p.name, sort_of_dims p.dims) ∷ scope) b) e h.1) (subst (λ b. b ≤ max_elements) e h.0.rule_25_elements)
 
 -- ---- variables and arrays of parameters
 

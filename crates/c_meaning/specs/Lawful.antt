@@ -2,6 +2,7 @@
 use Rattle.std.specs.Prelude.{◌≡◌, ℕ, ◌+◌, ◌<◌, ◌≤◌, ◌⊎◌, List, [], ◌∷◌, ◌++◌, map, length, take, slice_get, sum_by, All, Contains, pos, Bool, true, false, IsTrue, Option, Some, None}
 use mathlib.Core.Former.{Count}
 use Rattle.el_base.specs.declared.ty.Ty.{Ty}
+use Rattle.el_base.specs.Limits.{max_dimensions, max_elements}
 use Rattle.el_base.specs.Numbers.{IsInRange}
 use Rattle.c_ast.specs.declared.tree.Binary.{Binary as BinaryOp}
 use Rattle.c_ast.specs.declared.tree.Binary.TheVariants.{Mul, Div, Rem, Add, Sub, Shl, Shr, Lt, Gt, Le, Ge, Eq, Ne, And, Xor, Or, Both, Either}
@@ -286,19 +287,15 @@ abbrev pub AreDistinct : List (List ℕ) → Type 0
 AreDistinct [] = Unit {0}
 AreDistinct (x ∷ xs) = ¬ (Contains xs x) × AreDistinct xs
 
--- at most three dimensions, none of them 0
+-- at most as many dimensions as an array may have, none of them 0
 abbrev pub AreDimensions : List ℕ → Type 0
-AreDimensions ds = (length ds ≤ 3) × All (λ d. 0 < d) ds
-
--- the greatest number of elements of all arrays together
-abbrev pub most_elements : ℕ
-most_elements = 1048576
+AreDimensions ds = (length ds ≤ max_dimensions) × All (λ d. 0 < d) ds
 
 -- a header: parameters of distinct names, their variables first, their arrays, and dimensions within the bounds
 pub record LawfulHeader (params : List Param) (k : Objects) : Type 0 where
   pub distinct : AreDistinct (map (λ p. p.name) params)
   pub dimensions : All (λ p. AreDimensions p.dims) params
-  pub few_elements : sum_by (λ a. elements a.dims) k.arrays ≤ most_elements
+  pub few_elements : sum_by (λ a. elements a.dims) k.arrays ≤ max_elements
   pub first_vars : take (length (scalar_types params)) k.vars ≡ scalar_types params
   pub arrays_are : k.arrays ≡ (parameters params).arrays
 

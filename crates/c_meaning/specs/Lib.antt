@@ -2,6 +2,7 @@ pub mod Bounds
 pub mod Counts
 pub mod Equations
 pub mod Expressions
+pub mod Headers
 pub mod KernelPatterns
 pub mod Lawful
 pub mod Normals

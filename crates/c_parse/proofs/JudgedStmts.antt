@@ -1,5 +1,5 @@
 -- The verdict over statements and their parts, by what was read of them.
-use Rattle.std.proofs.Common.{◌≡◌, ℕ, suc, ◌≤◌, List, [], ◌∷◌, ◌++◌, true, false, Some, None, Result, Ok, Err, refl, sym, subst}
+use Rattle.std.proofs.Common.{◌≡◌, ℕ, suc, ◌≤◌, List, [], ◌∷◌, ◌++◌, true, false, Some, None, Result, Ok, Err, refl, sym, ap, ◌∙◌, subst}
 use Rattle.el_base.specs.Limits.{max_nesting}
 use Rattle.el_base.specs.declared.span.Span.{Span}
 use Rattle.c_ast.specs.declared.token.Token.{Token}
@@ -178,6 +178,11 @@ item_stops n before e plain other stops = fails_then (body_opened n before plain
 
 pub item_read : (n : ℕ) (before after : List Token) → is_type_at before ≡ false → (mark_at before ≡ Some mark.CloseBrace → ⊥) → Read (Symbol.statement n ∷ []) before after → Same (Symbol.body n ∷ []) (Symbol.body n ∷ []) before after
 item_read n before after plain other stmt = same_then (body_opened n before plain other) (same_then (same_part (Symbol.statement n ∷ []) stmt) same_reduces)
+
+pub empty_item : (n : ℕ) (s : Span) (before after : List Token) → n ≤ max_nesting → before ≡ marked mark.Semicolon s ∷ after → Same (Symbol.body n ∷ []) (Symbol.body n ∷ []) before after
+empty_item n s before after small p =
+    let other : mark_at before ≡ Some mark.CloseBrace → ⊥ = λ is. let h : Some mark.Semicolon ≡ Some mark.CloseBrace = sym (ap mark_at p) ∙ is in absurd (cc) in
+    item_read n before after (ap is_type_at p) other (empty_read n s before after small p).holds
 
 -- ---- statements that begin with a word
 

@@ -303,5 +303,9 @@ skips_int None before after some none other = MaySkip.none (sym none) other
 pub reads_same : (D : List Token → Type 0) (before mid after : List Token) → Reads D before mid → after ≡ mid → Reads D before after
 reads_same D before mid after r same = subst (λ us. Reads D before us) (sym same) r
 
+-- what was read lies in a box
+pub reads_boxed : {A : Type 0} (D : A → List Token → Type 0) (x y : A) (before after : List Token) → Reads (λ ts. D x ts) before after → y ≡ x → Reads (λ ts. D y ts) before after
+reads_boxed D x y before after r same = subst (λ z. Reads (λ ts. D z ts) before after) (sym same) r
+
 pub reads_from : (D : List Token → Type 0) (before mid after : List Token) → Reads D mid after → before ≡ mid → Reads D before after
 reads_from D before mid after r same = subst (λ us. Reads D us after) (sym same) r

@@ -2,7 +2,7 @@
 ghost use Rattle.std.specs.Prelude.{◌≡◌, ◌+◌, ℕ, List, [], ◌∷◌, None, IfOk};
 ghost use Rattle.el_base.specs.Limits.{max_nesting};
 ghost use Rattle.c_ast.specs.declared.token.Token.{Token};
-ghost use Rattle.c_ast.specs.Derives.{DerivesTarget, DerivesSimple, DerivesDeclared, DerivesDeclaration};
+ghost use Rattle.c_ast.specs.Derives.{DerivesExpr, DerivesTarget, DerivesSimple, DerivesDeclared, DerivesDeclaration};
 ghost use Rattle.c_parse.specs.Reads.{Reads, Adds};
 ghost use Rattle.c_parse.specs.Tables.{step_of};
 ghost use Rattle.c_parse.specs.Stops.{meaning_at};
@@ -12,11 +12,11 @@ ghost use Rattle.c_parse.specs.Verdicts.{Judges};
 
 use crate::cursor::{Cursor, place};
 use crate::refusal::Stop;
-use c_ast::{List, Mark, Stmt, StmtKind, Target, Ty};
+use c_ast::{Boxed, Expr, List, Mark, Stmt, StmtKind, Target, Ty};
 
 impl<'a> Cursor<'a> {
     // What is assigned to.
-    fn target(&mut self, depth: u32) -> Result<Target, Stop>
+    fn target(&mut self, depth: u32) -> Result<Boxed<Target>, Stop>
         ensures derived { IfOk result (λ t. Reads (λ ts. DerivesTarget ts t)
             self.old.rest.now self.new.rest.now) }
         ensures judged { (n : ℕ) → n + depth ≡ max_nesting
@@ -25,11 +25,23 @@ impl<'a> Cursor<'a> {
         let from = self.rest;
         let (name, _) = self.name()?;
         let indices = self.indices(depth)?;
-        Ok(Target {
+        let target = Target {
             name,
             at: place(from, self.rest),
             indices,
-        })
+        };
+        Ok(Boxed::new(self.alloc, target)?)
+    }
+
+    /// An expression, which a statement holds.
+    pub fn value(&mut self, depth: u32) -> Result<Boxed<Expr>, Stop>
+        ensures derived { IfOk result (λ e. Reads (λ ts. DerivesExpr 0 ts e)
+            self.old.rest.now self.new.rest.now) }
+        ensures judged { (n : ℕ) → n + depth ≡ max_nesting
+            → Judges (Symbol.expression n 0 ∷ []) [] self.old.rest.now self.new.rest.now result }
+    {
+        let value = self.expr(depth)?;
+        Ok(Boxed::new(self.alloc, value)?)
     }
 
     /// An assignment or a step.
@@ -76,7 +88,7 @@ impl<'a> Cursor<'a> {
         let from = self.rest;
         let target = self.target(depth)?;
         if let Some(op) = self.assigning() {
-            let value = self.expr(depth)?;
+            let value = self.value(depth)?;
             return Ok(Stmt {
                 kind: StmtKind::Assign { target, op, value },
                 at: place(from, self.rest),
@@ -108,7 +120,7 @@ impl<'a> Cursor<'a> {
             });
         }
         self.mark(Mark::Assign)?;
-        let value = self.expr(depth)?;
+        let value = self.value(depth)?;
         Ok(Stmt {
             kind: StmtKind::Declare {
                 name,

@@ -6,7 +6,7 @@ ghost use Rattle.c_ast.specs.declared.mark.Mark.TheVariants as mark;
 ghost use Rattle.c_ast.specs.declared.token.Token.{Token};
 ghost use Rattle.c_ast.specs.Derives.{DerivesExpr, DerivesFirst, DerivesOption, DerivesStep, DerivesItems};
 ghost use Rattle.c_parse.specs.Reads.{Reads, Adds, ReadsStmt, InParens, InBraces, DerivesHead, mark_at, key_at};
-ghost use Rattle.c_parse.specs.Symbols.{Symbol, Fixed};
+ghost use Rattle.c_parse.specs.Symbols.{Symbol, Fixed, in_group};
 ghost use Rattle.c_parse.specs.Parts.{braced_symbols, head_symbols};
 ghost use Rattle.c_parse.specs.Verdicts.{Judges};
 
@@ -18,7 +18,7 @@ use c_ast::{Boxed, Expr, Key, List, Mark, Stmt, StmtKind};
 #[derive(Drop)]
 struct Head {
     first: List<Stmt>,
-    cond: Option<Expr>,
+    cond: Option<Boxed<Expr>>,
     step: Option<Boxed<Stmt>>,
 }
 
@@ -118,11 +118,31 @@ impl<'a> Cursor<'a> {
             → Judges (Symbol.body n ∷ []) (Symbol.body n ∷ [])
             self.old.rest.now self.new.rest.now result }
     {
+        if self.is_at(Mark::Semicolon) {
+            return self.semicolon(body);
+        }
         if self.is_at_type() {
             return self.declaration(depth, body);
         }
         let stmt = self.stmt(depth)?;
         body.push(stmt)?;
+        Ok(())
+    }
+
+    // The empty statement, which is added to the others: it is made where it stays.
+    fn semicolon(&mut self, body: &mut List<Stmt>) -> Result<(), Stop>
+        ensures added { IfOk result (λ _. Adds (λ ts ss. DerivesItems ts ss)
+            self.old.rest.now self.new.rest.now body.old body.new) }
+        ensures shorter { IfOk result (λ _. length self.new.rest.now < length self.old.rest.now) }
+        ensures judged { (n : ℕ) → n ≤ max_nesting → mark_at self.old.rest.now ≡ Some mark.Semicolon
+            → Judges (Symbol.body n ∷ []) (Symbol.body n ∷ [])
+            self.old.rest.now self.new.rest.now result }
+    {
+        let at = self.mark(Mark::Semicolon)?;
+        body.push(Stmt {
+            kind: StmtKind::Empty,
+            at,
+        })?;
         Ok(())
     }
 
@@ -161,7 +181,7 @@ impl<'a> Cursor<'a> {
         let from = self.rest;
         let word = self.key(Key::If)?;
         let depth = deeper(depth, word)?;
-        let cond = self.group(depth)?;
+        let cond = self.condition(depth)?;
         let then = self.stmt(depth)?;
         let then = Boxed::new(self.alloc, then)?;
         if !self.is_at_else() {
@@ -197,7 +217,7 @@ impl<'a> Cursor<'a> {
         let from = self.rest;
         let word = self.key(Key::While)?;
         let depth = deeper(depth, word)?;
-        let cond = self.group(depth)?;
+        let cond = self.condition(depth)?;
         let body = self.stmt(depth)?;
         let body = Boxed::new(self.alloc, body)?;
         Ok(Stmt {
@@ -218,7 +238,7 @@ impl<'a> Cursor<'a> {
         let body = self.stmt(depth)?;
         let body = Boxed::new(self.alloc, body)?;
         self.key(Key::While)?;
-        let cond = self.group(depth)?;
+        let cond = self.condition(depth)?;
         let at = place(from, self.rest);
         self.mark(Mark::Semicolon)?;
         Ok(Stmt {
@@ -289,8 +309,19 @@ impl<'a> Cursor<'a> {
         Ok(stmts)
     }
 
+    // An expression in parentheses, which a statement holds.
+    fn condition(&mut self, depth: u32) -> Result<Boxed<Expr>, Stop>
+        ensures derived { IfOk result (λ e. Reads (λ ts. InParens ts e)
+            self.old.rest.now self.new.rest.now) }
+        ensures judged { (n : ℕ) → n + depth ≡ max_nesting
+            → Judges (in_group (suc n) []) [] self.old.rest.now self.new.rest.now result }
+    {
+        let inner = self.group(depth)?;
+        Ok(Boxed::new(self.alloc, inner)?)
+    }
+
     // An expression before a semicolon, if there is one.
-    fn optional(&mut self, depth: u32) -> Result<Option<Expr>, Stop>
+    fn optional(&mut self, depth: u32) -> Result<Option<Boxed<Expr>>, Stop>
         ensures derived { IfOk result (λ e. Reads (λ ts. DerivesOption ts e)
             self.old.rest.now self.new.rest.now) }
         ensures judged { (n : ℕ) → n + depth ≡ max_nesting
@@ -300,7 +331,7 @@ impl<'a> Cursor<'a> {
         if self.is_at(Mark::Semicolon) {
             return Ok(None);
         }
-        let value = self.expr(depth)?;
+        let value = self.value(depth)?;
         Ok(Some(value))
     }
 

@@ -3,6 +3,7 @@ use Rattle.std.proofs.Common.{◌≡◌, ℕ, ◌+◌, ◌-◌, ◌^◌, min, na
 use Rattle.std.proofs.lemmas.Bool.Decides.{nat_tests}
 use Rattle.std.specs.List.{list_any}
 use Rattle.std.specs.Prelude.{nat_eq}
+use Rattle.el_base.specs.Limits.{max_dimensions, max_elements}
 use Rattle.c_ast.specs.declared.tree.Param.{Param}
 use Rattle.c_ast.specs.Typing.{elements_of}
 use Rattle.c_types.specs.declared.fault.Rule.TheVariants as rule
@@ -57,9 +58,9 @@ params_faults-append (q ∷ ps) p v n =
 -- a number of elements above the limit may be cut where it is far above
 cut : (p : Param) (new : Bool) (n : ℕ) → param_faults p new (min n (2 ^ 64 - 1)) ≡ param_faults p new n
 cut p new n =
-    ap (λ b. unless new rule.Redeclared p.at ++ (unless (not (nat_lt 3 (length p.dims))) rule.Dimensions p.at ++ unless (not (list_any (λ d. nat_eq d 0) p.dims || b)) rule.Length p.at)) (same n)
+    ap (λ b. unless new rule.Redeclared p.at ++ (unless (not (nat_lt max_dimensions (length p.dims))) rule.Dimensions p.at ++ unless (not (list_any (λ d. nat_eq d 0) p.dims || b)) rule.Length p.at)) (same n)
   where
-    same : (n : ℕ) → nat_lt 1048576 (min n (2 ^ 64 - 1)) ≡ nat_lt 1048576 n
+    same : (n : ℕ) → nat_lt max_elements (min n (2 ^ 64 - 1)) ≡ nat_lt max_elements n
     same n = grind (arith, nat_tests)
 
 pub one_more_total : (ps us : List Param) (p : Param) (total next el : ℕ) → us ≡ ps ++ p ∷ [] → total ≡ min (all_elements ps) (2 ^ 64 - 1) → el ≡ min (elements_of p.dims) (2 ^ 64 - 1)

@@ -170,7 +170,7 @@ fn cast_stmt(
         }
         StmtKind::Assign { target, op, value } => {
             let (target, ty) = cast_target(alloc, &known.scopes, target)?;
-            let value = cast_expr(alloc, &known.scopes, value)?;
+            let value = cast_boxed(alloc, &known.scopes, value)?;
             let value = assigned(alloc, *op, ty, value)?.into_inner();
             let op = *op;
             Ok(act(TypedStmtKind::Assign { target, op, value }, at))
@@ -181,18 +181,18 @@ fn cast_stmt(
             Ok(act(TypedStmtKind::Step { target, up }, at))
         }
         StmtKind::If { cond, then, other } => {
-            let cond = cast_expr(alloc, &known.scopes, cond)?.into_inner();
+            let cond = cast_boxed(alloc, &known.scopes, cond)?.into_inner();
             let then = cast_inside(alloc, known, returned, then)?;
             let other = cast_held(alloc, known, returned, other)?;
             Ok(act(TypedStmtKind::If { cond, then, other }, at))
         }
         StmtKind::While { cond, body } => {
-            let cond = cast_expr(alloc, &known.scopes, cond)?.into_inner();
+            let cond = cast_boxed(alloc, &known.scopes, cond)?.into_inner();
             let body = cast_inside(alloc, known, returned, body)?;
             Ok(act(TypedStmtKind::While { cond, body }, at))
         }
         StmtKind::DoWhile { body, cond } => {
-            let cond = cast_expr(alloc, &known.scopes, cond)?.into_inner();
+            let cond = cast_boxed(alloc, &known.scopes, cond)?.into_inner();
             let body = cast_inside(alloc, known, returned, body)?;
             Ok(act(TypedStmtKind::DoWhile { body, cond }, at))
         }
@@ -295,11 +295,12 @@ fn object(scopes: &Scopes<Binding>, name: &Name, indices: usize) -> (Object, Ty)
 fn cast_target(
     alloc: Global,
     scopes: &Scopes<Binding>,
-    target: &Target,
+    target: &Boxed<Target>,
 ) -> Result<(TypedTarget, Ty), Memory>
     requires { TypingTargetIn scopes.now target.now }
     ensures { IfOk result (λ t. IsCastTarget scopes.now target.now t.0 t.1) }
 {
+    let target = target.get();
     let at = target.at;
     let (to, ty) = object(scopes, &target.name, target.indices.len());
     let indices = cast_exprs(alloc, scopes, target.indices.as_slice())?;
@@ -311,7 +312,7 @@ fn cast_value(
     alloc: Global,
     scopes: &Scopes<Binding>,
     to: Option<Ty>,
-    value: &Option<Expr>,
+    value: &Option<Boxed<Expr>>,
 ) -> Result<Option<TypedExpr>, Memory>
     requires typing { IfSome value.now (TypingExprIn scopes.now) }
     requires typed { IfSome value.now (λ e. IsSome to) }
@@ -320,7 +321,7 @@ fn cast_value(
     match (value, to) {
         (None, _) => Ok(None),
         (Some(value), Some(ty)) => {
-            let value = cast_expr(alloc, scopes, value)?;
+            let value = cast_boxed(alloc, scopes, value)?;
             Ok(Some(converted(alloc, ty, value)?.into_inner()))
         }
         (Some(_), None) => unreachable!(),
@@ -330,15 +331,26 @@ fn cast_value(
 fn cast_option(
     alloc: Global,
     scopes: &Scopes<Binding>,
-    expr: &Option<Expr>,
+    expr: &Option<Boxed<Expr>>,
 ) -> Result<Option<TypedExpr>, Memory>
     requires { IfSome expr.now (TypingExprIn scopes.now) }
     ensures { IfOk result (λ f. IsCastOption scopes.now expr.now f) }
 {
     match expr {
         None => Ok(None),
-        Some(expr) => Ok(Some(cast_expr(alloc, scopes, expr)?.into_inner())),
+        Some(expr) => Ok(Some(cast_boxed(alloc, scopes, expr)?.into_inner())),
     }
+}
+
+fn cast_boxed(
+    alloc: Global,
+    scopes: &Scopes<Binding>,
+    expr: &Boxed<Expr>,
+) -> Result<Boxed<TypedExpr>, Memory>
+    requires { TypingExprIn scopes.now expr.now }
+    ensures { IfOk result (λ f. IsCastExpr scopes.now expr.now f) }
+{
+    cast_expr(alloc, scopes, expr.get())
 }
 
 #[cycle(cast_expr)]

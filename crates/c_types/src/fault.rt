@@ -3,7 +3,7 @@ ghost use Rattle.std.specs.Prelude.{◌≡◌, Some, None};
 ghost use Rattle.c_types.specs.Places.{earlier, is_before, first_bytes};
 ghost use Rattle.c_types.specs.Refusals.{rule_number, rule_word, number_of, word_of, span_of};
 
-use el_base::{Memory, Span};
+use el_base::{Label, Memory, Span};
 use std::error::Error;
 use std::fmt;
 
@@ -118,11 +118,11 @@ impl fmt::Display for TypeRefusal {
     ghost output = { λ refusal. Some (refusal_text refusal) };
 
     fn fmt<W: fmt::Write>(&self, f: &mut fmt::Formatter<W>) -> fmt::Result {
-        let word = self.word();
-        match self.number() {
-            Some(number) => write!(f, "{number} {word}"),
-            None => f.write_str("want of memory"),
-        }
+        let label = Label {
+            number: self.number(),
+            word: self.word(),
+        };
+        write!(f, "{label}")
     }
 }
 

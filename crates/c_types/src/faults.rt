@@ -165,25 +165,25 @@ fn of_stmt(
         }
         StmtKind::Assign { target, value, .. } => {
             let in_target = of_target(scopes, target);
-            let in_value = of_expr(scopes, value);
+            let in_value = of_boxed(scopes, value);
             Ok(earlier(in_target, in_value))
         }
         StmtKind::Step { target, .. } => Ok(of_target(scopes, target)),
         StmtKind::If { cond, then, other } => {
-            let in_cond = of_expr(scopes, cond);
+            let in_cond = of_boxed(scopes, cond);
             let in_then = of_inner(scopes, then, returned, in_loop)?;
             let in_other = of_held(scopes, other, returned, in_loop)?;
             let rest = earlier(in_then, in_other);
             Ok(earlier(in_cond, rest))
         }
         StmtKind::While { cond, body } => {
-            let in_cond = of_expr(scopes, cond);
+            let in_cond = of_boxed(scopes, cond);
             let in_body = of_inner(scopes, body, returned, true)?;
             Ok(earlier(in_cond, in_body))
         }
         StmtKind::DoWhile { body, cond } => {
             let in_body = of_inner(scopes, body, returned, true)?;
-            let in_cond = of_expr(scopes, cond);
+            let in_cond = of_boxed(scopes, cond);
             Ok(earlier(in_body, in_cond))
         }
         StmtKind::For {
@@ -217,7 +217,7 @@ fn of_stmt(
 const RETURN: usize = 6;
 
 // Whether a value is returned exactly where there is a result.
-fn is_returnable(returned: Option<Ty>, value: &Option<Expr>) -> bool
+fn is_returnable(returned: Option<Ty>, value: &Option<Boxed<Expr>>) -> bool
     ensures { result ≡ is_returnable returned value.now }
 {
     match (returned, value) {
@@ -280,21 +280,28 @@ fn unless(holds: bool, rule: Rule, span: Span) -> Option<Fault>
 
 // ---- expressions
 
-fn of_target(scopes: &Scopes<Sort>, target: &Target) -> Option<Fault>
+fn of_target(scopes: &Scopes<Sort>, target: &Boxed<Target>) -> Option<Fault>
     ensures { result ≡ first_of (target_faults scopes.now target.now) }
 {
+    let target = target.get();
     let indices = target.indices.as_slice();
     let fault = of_use(scopes, &target.name, indices.len(), target.at);
     earlier(fault, of_exprs(scopes, indices))
 }
 
-fn of_option(scopes: &Scopes<Sort>, expr: &Option<Expr>) -> Option<Fault>
+fn of_option(scopes: &Scopes<Sort>, expr: &Option<Boxed<Expr>>) -> Option<Fault>
     ensures { result ≡ first_of (option_faults scopes.now expr.now) }
 {
     match expr {
         None => None,
-        Some(expr) => of_expr(scopes, expr),
+        Some(expr) => of_boxed(scopes, expr),
     }
+}
+
+fn of_boxed(scopes: &Scopes<Sort>, expr: &Boxed<Expr>) -> Option<Fault>
+    ensures { result ≡ first_of (expr_faults scopes.now expr.now) }
+{
+    of_expr(scopes, expr.get())
 }
 
 #[cycle(expr_faults)]

@@ -1,7 +1,7 @@
 //! Each public call once: a typed tree, and a refusal.
 use crate::{check, check_rules};
 use c_ast::{
-    Expr, ExprKind, List, Name, Param, Span, Stmt, StmtKind, Tree, Ty, TypedStmtKind, nodes,
+    Boxed, Expr, ExprKind, List, Name, Param, Span, Stmt, StmtKind, Tree, Ty, TypedStmtKind, nodes,
 };
 use std::alloc::Global;
 use std::test::Fail;
@@ -35,7 +35,7 @@ fn kernel(alloc: Global, text: &str) -> Result<Tree, Fail> {
     };
     let mut body = List::new(alloc);
     body.push(Stmt {
-        kind: StmtKind::Return(Some(value)),
+        kind: StmtKind::Return(Some(Boxed::new(alloc, value)?)),
         at: place(23),
     })?;
     Ok(Tree {

@@ -1,9 +1,13 @@
 pub mod formers
+pub mod Choices
 pub mod Digits
+pub mod Headers
+pub mod Labels
 pub mod Lending
 pub mod Limits
 pub mod Logs
 pub mod Names
 pub mod Numbers
+pub mod Rises
 pub mod Widths
 pub mod Words

@@ -5,6 +5,7 @@ mod boxed;
 mod bytes;
 mod decimal;
 mod digits;
+mod label;
 mod limits;
 mod list;
 mod log;
@@ -24,6 +25,7 @@ pub use digits::{
     Number, canonical_numbers_are_as_written, put_i64, put_u64, read_number,
     written_numbers_read_back,
 };
+pub use label::Label;
 pub use limits::{
     MAX_DELAY, MAX_DEPTH, MAX_DIMENSIONS, MAX_ELEMENTS, MAX_INPUTS_BYTES, MAX_KERNEL_BYTES,
     MAX_NESTING, MAX_NETLIST_BYTES, MAX_NODES, MAX_SCHEDULE_BYTES, MAX_SLOTS, MAX_SUM_OF_SLOTS,

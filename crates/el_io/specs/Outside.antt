@@ -1,10 +1,7 @@
 -- What a call tells of the outside.
-use Rattle.std.specs.Prelude.{◌≡◌, ℕ, ◌+◌, ◌-◌, ◌^◌, ◌<◌, ◌≤◌, min, List, [], length, take, Option, Some, None}
+use Rattle.std.specs.Prelude.{◌≡◌, ℕ, ◌<◌, ◌≤◌, List, [], length, take, Option, Some, None}
 use Rattle.std.specs.Io.KnownBytes.{append_known}
-
--- A count rose in this call: it is greater than when the call began, or it stands at 2 ^ 64 - 1, its last value, where it stays.
-abbrev pub Rose : ℕ → ℕ → Type 0
-Rose before now = min (before + 1) (2 ^ 64 - 1) ≤ now
+pub use Rattle.el_base.specs.Rises.{Rose}
 
 -- what stands under a name: none where the object does not tell, and then the bytes, or none where there are none
 abbrev pub Told : Type 0

@@ -40,7 +40,7 @@ pub fn whole_of(alloc: Global, line: &str) -> Result<Side> {
 fn returned(tree: &Tree) -> Result<&Expr> {
     match tree.body.as_slice() {
         [only] => match &only.kind {
-            StmtKind::Return(Some(value)) => Ok(value),
+            StmtKind::Return(Some(value)) => Ok(value.get()),
             _ => bail!("a kernel of another statement"),
         },
         _ => bail!("a kernel of more than one statement"),

@@ -6,9 +6,10 @@ use Rattle.std.specs.Prelude.{bytes_eq}
 use Rattle.std.specs.Char.{is_ascii_digit}
 use Rattle.std.specs.Int.{is_in_range}
 use Rattle.std.specs.List.{prefix_len}
+use Rattle.el_base.specs.Choices.{Has, has, has_if}
 use Rattle.el_base.specs.declared.span.Span.{Span}
 use Rattle.el_base.specs.declared.ty.Ty.{Ty}
-use Rattle.el_base.specs.Words.{is_letter, is_word}
+use Rattle.el_base.specs.Words.{is_letter, is_word, letter_is_word}
 use Rattle.c_ast.specs.Numerals.{number_of}
 use Rattle.c_ast.specs.Pieces.{Numeral, Directive, includes, defines, directive_of, key_of, keys, is_white, number_token, word_of, mark_of}
 use Rattle.c_ast.specs.Texts.{key_text}
@@ -18,17 +19,6 @@ use Rattle.c_ast.specs.declared.mark.Mark.{Mark}
 use Rattle.c_ast.specs.declared.token.Token.{Token}
 use Rattle.c_ast.specs.declared.token.Word.{Word}
 use Rattle.c_ast.specs.declared.token.Word.TheVariants as word
-
--- a fact of the one or the other of two values, whichever is taken
-record Has {A : Type 0} (P : A → Type 0) (a : A) : Type 0 where
-  is : P a
-
-has : {A : Type 0} {P : A → Type 0} (a : A) → P a → Has P a
-has a h = record { is = h }
-
-has_if : {A : Type 0} {P : A → Type 0} (b : Bool) (x y : A) → Has P x → Has P y → Has P (cond b x y)
-has_if true x y one other = one
-has_if false x y one other = other
 
 -- the one value where the test passes
 has_given : {A : Type 0} {P : A → Type 0} (b t : Bool) (x y : A) → b ≡ t → (b ≡ true → Has P x) → Has P y → Has P (cond t x y)
@@ -71,13 +61,6 @@ meant_long ds name (Some k) some is = (some, is)
 meaning_long : (ds : Defined) (name : List ℕ) → 0 < length name → WordLong (meaning_of ds name) (length name)
 unfolding meaning_of
 meaning_long ds name some = meant_long ds name (key_of name) some (key_long name)
-
-widen : (d a b u : Bool) → ((a || b) || u) ≡ true → (((d || a) || b) || u) ≡ true
-widen true a b u e = refl
-widen false a b u e = e
-
-letter_is_word : (b : ℕ) → is_letter b ≡ true → is_word b ≡ true
-letter_is_word b h = widen (is_in_range 48 57 b) (is_in_range 65 90 b) (is_in_range 97 122 b) (b == 95) h
 
 some_passes : (p : ℕ → Bool) (b : ℕ) (rest : List ℕ) → p b ≡ true → 0 < prefix_len p (b ∷ rest)
 some_passes p b rest h = by (p b) h

@@ -1,5 +1,6 @@
 -- The number, the word and the place by which refusals of kernels are printed, each by the table of the lexer, the parser or the type checker.
-use Rattle.std.specs.Prelude.{ℕ, List, ◌∷◌, ◌++◌, Option, Some, None, codes, decimal}
+use Rattle.std.specs.Prelude.{ℕ, List, Option, Some, None, codes}
+use Rattle.el_base.specs.Labels.{printed}
 use Rattle.el_base.specs.declared.span.Span.{Span}
 use Rattle.c_lex.specs.Refusals as lexer
 use Rattle.c_lex.specs.declared.refusal.LexRefusal.{LexRefusal}
@@ -34,10 +35,6 @@ refusal_span (refusal.Types e) = checker.span_of e
 refusal_span refusal.Memory = None
 
 -- what is printed: the number, a space (32) and the word
-abbrev pub printed : Option ℕ → List ℕ → List ℕ
-printed None word = codes "want of memory"
-printed (Some number) word = decimal number ++ 32 ∷ word
-
 abbrev pub refusal_text : KernelRefusal → List ℕ
 refusal_text r = printed (refusal_number r) (refusal_word r)
 

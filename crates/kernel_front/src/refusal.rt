@@ -5,7 +5,7 @@ ghost use Rattle.kernel_front.specs.Refusals.{refusal_number, refusal_word, refu
 use c_lex::LexRefusal;
 use c_parse::ParseRefusal;
 use c_types::TypeRefusal;
-use el_base::{Memory, Span};
+use el_base::{Label, Memory, Span};
 use std::error::Error;
 use std::fmt;
 
@@ -70,11 +70,11 @@ impl fmt::Display for KernelRefusal {
     ghost output = { λ refusal. Some (refusal_text refusal) };
 
     fn fmt<W: fmt::Write>(&self, f: &mut fmt::Formatter<W>) -> fmt::Result {
-        let word = self.word();
-        match self.number() {
-            Some(number) => write!(f, "{number} {word}"),
-            None => f.write_str("want of memory"),
-        }
+        let label = Label {
+            number: self.number(),
+            word: self.word(),
+        };
+        write!(f, "{label}")
     }
 }
 

@@ -11,3 +11,4 @@ pub mod Refusals
 pub mod Checks
 pub mod Laws
 pub mod private
+pub mod Retimed

@@ -1,6 +1,7 @@
 -- Refusals of nets: the first rule that a net breaks, and a refusal's number, word and place.
-use Rattle.std.specs.Prelude.{◌≡◌, ℕ, ◌+◌, ◌==◌, cond, Option, Some, None, List, ◌∷◌, ◌++◌, codes, decimal}
+use Rattle.std.specs.Prelude.{◌≡◌, ℕ, ◌+◌, ◌==◌, cond, Option, Some, None, List, ◌∷◌, ◌++◌, codes}
 use Rattle.std.specs.List.{All}
+use Rattle.el_base.specs.Labels.{printed}
 use Rattle.net_types.specs.declared.net.Net.{Net}
 use Rattle.net_check.specs.declared.refusal.At.{At}
 use Rattle.net_check.specs.declared.refusal.NetRefusal.{NetRefusal}
@@ -49,10 +50,6 @@ refusal_word (Rule number x) = rule_word number
 refusal_word Memory = codes "Memory"
 
 -- what is printed of a refusal: its number, a space (32) and its word
-abbrev pub printed : Option ℕ → List ℕ → List ℕ
-printed None word = codes "want of memory"
-printed (Some number) word = decimal number ++ 32 ∷ word
-
 abbrev pub refusal_text : NetRefusal → List ℕ
 refusal_text r = printed (refusal_number r) (refusal_word r)
 

@@ -3,6 +3,7 @@ ghost use Rattle.std.specs.Prelude.{◌≡◌, ◌+◌, ◌^◌, ◌<◌};
 ghost use Rattle.net_check.specs.Refusals.{refusal_number, refusal_word, refusal_at, rule_word};
 ghost use Rattle.net_check.specs.private.Rules.{rule_number};
 
+use el_base::Label;
 use net_types::Memory;
 use std::error::Error;
 use std::fmt;
@@ -64,11 +65,11 @@ impl fmt::Display for NetRefusal {
     ghost output = { λ refusal. Some (refusal_text refusal) };
 
     fn fmt<W: fmt::Write>(&self, f: &mut fmt::Formatter<W>) -> fmt::Result {
-        let word = self.word();
-        match self.number() {
-            Some(number) => write!(f, "{number} {word}"),
-            None => f.write_str("want of memory"),
-        }
+        let label = Label {
+            number: self.number(),
+            word: self.word(),
+        };
+        write!(f, "{label}")
     }
 }
 

@@ -1,6 +1,7 @@
 -- What each answer of the reader says of the bytes.
-use Rattle.std.specs.Prelude.{◌≡◌, ◌≢◌, ◌⊎◌, ℕ, ◌+◌, ◌<◌, List, [], ◌∷◌, ◌++◌, length, codes, decimal, Option, Some, None, Result, Ok, Err}
+use Rattle.std.specs.Prelude.{◌≡◌, ◌≢◌, ◌⊎◌, ℕ, ◌+◌, ◌<◌, List, [], ◌∷◌, ◌++◌, length, codes, Option, Some, None, Result, Ok, Err}
 use Rattle.std.specs.List.{All}
+use Rattle.el_base.specs.Labels.{printed}
 use Rattle.net_types.specs.declared.net.Net.{Net}
 use Rattle.net_text.specs.declared.refusal.TextRefusal.{TextRefusal}
 use Rattle.net_text.specs.declared.refusal.TextRefusal.TheVariants as refusal
@@ -30,10 +31,6 @@ refusal_line refusal.Version = None
 refusal_line refusal.Memory = None
 
 -- what is printed of a refusal: the number, a space (32) and the word
-abbrev pub printed : Option ℕ → List ℕ → List ℕ
-printed None word = codes "want of memory"
-printed (Some number) word = decimal number ++ 32 ∷ word
-
 abbrev pub refusal_text : TextRefusal → List ℕ
 refusal_text r = printed (refusal_number r) (refusal_word r)
 

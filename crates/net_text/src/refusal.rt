@@ -1,6 +1,7 @@
 ghost use Rattle.std.specs.Prelude.{◌≡◌};
 ghost use Rattle.net_text.specs.Refusals.{refusal_number, refusal_word, refusal_line};
 
+use el_base::Label;
 use net_types::Memory;
 use std::error::Error;
 use std::fmt;
@@ -62,11 +63,11 @@ impl fmt::Display for TextRefusal {
     ghost output = { λ refusal. Some (refusal_text refusal) };
 
     fn fmt<W: fmt::Write>(&self, f: &mut fmt::Formatter<W>) -> fmt::Result {
-        let word = self.word();
-        match self.number() {
-            Some(number) => write!(f, "{number} {word}"),
-            None => f.write_str("want of memory"),
-        }
+        let label = Label {
+            number: self.number(),
+            word: self.word(),
+        };
+        write!(f, "{label}")
     }
 }
 

@@ -14,7 +14,7 @@ use Rattle.std.specs.List.{list_all, position_or_len}
 use Rattle.std.specs.Char.{is_ascii_digit, is_ascii_uppercase, is_ascii_lowercase}
 use Rattle.std.specs.Str.{all_ascii_digits}
 use Rattle.std.specs.Str.Parse.{digits_value, ParsesUnsigned}
-use Rattle.el_base.specs.Words.{is_word, is_letter, is_identifier}
+use Rattle.el_base.specs.Words.{is_word, is_letter, letter_is_word, is_identifier}
 use Rattle.elastic_top.specs.declared.straight.kernel.Sum.{Sum}
 use Rattle.elastic_top.specs.declared.straight.kernel.Sum.TheVariants as sum
 use Rattle.elastic_top.specs.straight.Spelling.{Lexeme, IsName, IsNew, Parameters, first, next, DerivesPrimary, name, number, sum_nodes}
@@ -118,13 +118,6 @@ or_left : (x y : Bool) → x ≡ true → (x || y) ≡ true
 or_left true y h = refl
 or_left false y h = absurd (false≢true h)
 
-more_bytes : (d u l e : Bool) → ((u || l) || e) ≡ true → (((d || u) || l) || e) ≡ true
-more_bytes true u l e h = refl
-more_bytes false u l e h = h
-
-letter_word : (b : ℕ) → is_letter b ≡ true → is_word b ≡ true
-letter_word b h = more_bytes (is_ascii_digit b) (is_ascii_uppercase b) (is_ascii_lowercase b) (eqb b 95) h
-
 digit_word : (b : ℕ) → is_ascii_digit b ≡ true → is_word b ≡ true
 digit_word b h = rw h refl
 
@@ -155,7 +148,7 @@ number_wordy n h = let fits : n < 2 ^ 64 = omega arith in digits_wordy (decimal 
 
 name_wordy : (x : Lexeme) → is_identifier x ≡ true → IsWordy x
 name_wordy [] h = absurd (false≢true h)
-name_wordy (b ∷ bs) h = record { head = b; tail = bs; whole = refl; wordy = letter_word b (and_left (is_letter b) (list_all is_word bs) h) }
+name_wordy (b ∷ bs) h = record { head = b; tail = bs; whole = refl; wordy = letter_is_word b (and_left (is_letter b) (list_all is_word bs) h) }
 
 name_no_number : (x : Lexeme) → is_identifier x ≡ true → number_of x ≡ None
 unfolding is_decimal

@@ -42,15 +42,15 @@ cast_stmt-returns-in_ok-target-in-Step t c = step_arm c.args.returned c.args.kno
 
 pub cast_stmt-returns-in_ok-other-in-If : goal.cast_stmt-returns-in_ok-other-in-If
 cast_stmt-returns-in_ok-other-in-If t c =
-    if_arm c.args.returned c.args.known.now _ _ c.args.stmt.now _ _ _ _ _ _ _ c.in-If.is (subst (IsCastExpr c.args.known.now.scopes _) (sym c.into_inner-cond.ensures) c.in_ok-cast_expr-in-If.ensures) c.in_ok-then-in-If.ensures c.in_ok-other-in-If.ensures c.act-in-If.ensures
+    if_arm c.args.returned c.args.known.now _ _ c.args.stmt.now _ _ _ _ _ _ _ c.in-If.is (subst (IsCastExpr c.args.known.now.scopes _) (sym c.into_inner-cond.ensures) c.in_ok-cast_boxed-in-If.ensures) c.in_ok-then-in-If.ensures c.in_ok-other-in-If.ensures c.act-in-If.ensures
 
 pub cast_stmt-returns-in_ok-body-in-While : goal.cast_stmt-returns-in_ok-body-in-While
 cast_stmt-returns-in_ok-body-in-While t c =
-    while_arm c.args.returned c.args.known.now _ c.args.stmt.now _ _ _ _ _ c.in-While.is (subst (IsCastExpr c.args.known.now.scopes _) (sym c.into_inner-cond-in-While.ensures) c.in_ok-cast_expr-in-While.ensures) c.in_ok-body-in-While.ensures c.act-in-While.ensures
+    while_arm c.args.returned c.args.known.now _ c.args.stmt.now _ _ _ _ _ c.in-While.is (subst (IsCastExpr c.args.known.now.scopes _) (sym c.into_inner-cond-in-While.ensures) c.in_ok-cast_boxed-in-While.ensures) c.in_ok-body-in-While.ensures c.act-in-While.ensures
 
 pub cast_stmt-returns-in_ok-body-in-DoWhile : goal.cast_stmt-returns-in_ok-body-in-DoWhile
 cast_stmt-returns-in_ok-body-in-DoWhile t c =
-    do_arm c.args.returned c.args.known.now _ c.args.stmt.now _ _ _ _ _ c.in-DoWhile.is (subst (IsCastExpr c.args.known.now.scopes _) (sym c.into_inner-cond-in-DoWhile.ensures) c.in_ok-cast_expr-in-DoWhile.ensures) c.in_ok-body-in-DoWhile.ensures c.act-in-DoWhile.ensures
+    do_arm c.args.returned c.args.known.now _ c.args.stmt.now _ _ _ _ _ c.in-DoWhile.is (subst (IsCastExpr c.args.known.now.scopes _) (sym c.into_inner-cond-in-DoWhile.ensures) c.in_ok-cast_boxed-in-DoWhile.ensures) c.in_ok-body-in-DoWhile.ensures c.act-in-DoWhile.ensures
 
 pub cast_stmt-returns-in_ok-body-in-For : goal.cast_stmt-returns-in_ok-body-in-For
 cast_stmt-returns-in_ok-body-in-For t c =
@@ -105,8 +105,8 @@ pub cast_stmt-cast_value-requires-clause-typing : goal.cast_stmt-cast_value-requ
 cast_stmt-cast_value-requires-clause-typing t c =
     declared_value c.args.returned c.args.known.now.scopes _ (length c.args.known.now.types) c.args.stmt.now _ _ _ c.requires c.in-Declare.is c.in_ok-var-in-Declare.ensures.scopes
 
-pub cast_stmt-cast_expr-requires-in-If : goal.cast_stmt-cast_expr-requires-in-If
-cast_stmt-cast_expr-requires-in-If t c = if_cond c.args.returned c.args.known.now.scopes (length c.args.known.now.types) c.args.stmt.now _ _ _ c.requires c.in-If.is
+pub cast_stmt-cast_boxed-requires-in-If : goal.cast_stmt-cast_boxed-requires-in-If
+cast_stmt-cast_boxed-requires-in-If t c = if_cond c.args.returned c.args.known.now.scopes (length c.args.known.now.types) c.args.stmt.now _ _ _ c.requires c.in-If.is
 
 pub cast_stmt-cast_inside-requires : goal.cast_stmt-cast_inside-requires
 cast_stmt-cast_inside-requires t c = (search (rules, the_lemmas), if_then c.args.returned c.args.known.now.scopes (length c.args.known.now.types) c.args.stmt.now _ _ _ c.requires c.in-If.is)
@@ -115,14 +115,14 @@ pub cast_stmt-cast_held-requires : goal.cast_stmt-cast_held-requires
 cast_stmt-cast_held-requires t c =
     (search (rules, the_lemmas), if_other c.args.returned c.args.known.now c.cast_inside.new.known c.args.stmt.now _ _ _ _ c.requires c.in-If.is c.in_ok-then-in-If.ensures)
 
-pub cast_stmt-cast_expr-requires-in-While : goal.cast_stmt-cast_expr-requires-in-While
-cast_stmt-cast_expr-requires-in-While t c = while_cond c.args.returned c.args.known.now.scopes (length c.args.known.now.types) c.args.stmt.now _ _ c.requires c.in-While.is
+pub cast_stmt-cast_boxed-requires-in-While : goal.cast_stmt-cast_boxed-requires-in-While
+cast_stmt-cast_boxed-requires-in-While t c = while_cond c.args.returned c.args.known.now.scopes (length c.args.known.now.types) c.args.stmt.now _ _ c.requires c.in-While.is
 
 pub cast_stmt-cast_inside-requires-in-While : goal.cast_stmt-cast_inside-requires-in-While
 cast_stmt-cast_inside-requires-in-While t c = (search (rules, the_lemmas), while_body c.args.returned c.args.known.now.scopes (length c.args.known.now.types) c.args.stmt.now _ _ c.requires c.in-While.is)
 
-pub cast_stmt-cast_expr-requires-in-DoWhile : goal.cast_stmt-cast_expr-requires-in-DoWhile
-cast_stmt-cast_expr-requires-in-DoWhile t c = do_cond c.args.returned c.args.known.now.scopes (length c.args.known.now.types) c.args.stmt.now _ _ c.requires c.in-DoWhile.is
+pub cast_stmt-cast_boxed-requires-in-DoWhile : goal.cast_stmt-cast_boxed-requires-in-DoWhile
+cast_stmt-cast_boxed-requires-in-DoWhile t c = do_cond c.args.returned c.args.known.now.scopes (length c.args.known.now.types) c.args.stmt.now _ _ c.requires c.in-DoWhile.is
 
 pub cast_stmt-cast_inside-requires-in-DoWhile : goal.cast_stmt-cast_inside-requires-in-DoWhile
 cast_stmt-cast_inside-requires-in-DoWhile t c = (search (rules, the_lemmas), do_body c.args.returned c.args.known.now.scopes (length c.args.known.now.types) c.args.stmt.now _ _ c.requires c.in-DoWhile.is)

@@ -6,5 +6,5 @@ use Rattle.c_types.proofs.casts.cast_option.Goals as goal
 pub returns-in-None : goal.returns-in-None
 returns-in-None c = option_is c.args.scopes.now _ _ _ c.in-None.is (no_option c.args.scopes.now)
 
-pub returns-in_ok-cast_expr-in-Some : goal.returns-in_ok-cast_expr-in-Some
-returns-in_ok-cast_expr-in-Some c = option_is c.args.scopes.now _ _ _ c.in-Some.is (an_option c.args.scopes.now _ _ (subst (IsCastExpr c.args.scopes.now _) (sym c.into_inner.ensures) c.in_ok-cast_expr-in-Some.ensures))
+pub returns-in_ok-cast_boxed-in-Some : goal.returns-in_ok-cast_boxed-in-Some
+returns-in_ok-cast_boxed-in-Some c = option_is c.args.scopes.now _ _ _ c.in-Some.is (an_option c.args.scopes.now _ _ (subst (IsCastExpr c.args.scopes.now _) (sym c.into_inner.ensures) c.in_ok-cast_boxed-in-Some.ensures))

@@ -15,22 +15,22 @@ of_stmt-returns-in_ok-fault-in-Block-clause-scopes t c =
     block_scopes c.args.stmt.now c.in-Block.body c.as_slice.result.now _ _ _ _ c.in-Block.is c.in_ok-enter-in-Block.ensures.entered c.enter.ensures.some c.in_ok-fault-in-Block.ensures.scopes c.leave.ensures
 
 pub of_stmt-returns-in-Assign-clause-fault : goal.of_stmt-returns-in-Assign-clause-fault
-of_stmt-returns-in-Assign-clause-fault t c = assign_arm _ _ _ _ _ _ _ _ _ _ c.in-Assign.is c.of_target-in_target.ensures c.of_expr-in_value.ensures c.earlier-in-Assign.ensures
+of_stmt-returns-in-Assign-clause-fault t c = assign_arm _ _ _ _ _ _ _ _ _ _ c.in-Assign.is c.of_target-in_target.ensures c.of_boxed-in_value.ensures c.earlier-in-Assign.ensures
 
 pub of_stmt-returns-in_ok-in_other-in-If-clause-fault : goal.of_stmt-returns-in_ok-in_other-in-If-clause-fault
 of_stmt-returns-in_ok-in_other-in-If-clause-fault t c =
     if_arm c.args.stmt.now c.in-If.cond c.in-If.then c.in-If.other c.args.returned c.args.in_loop c.args.scopes.now c.of_inner.new.scopes c.of_inner.new.scopes _ _ _ _ _ c.in-If.is
-    c.of_expr-in_cond.ensures c.in_ok-in_then-in-If.ensures.fault c.in_ok-in_then-in-If.ensures.scopes c.in_ok-in_other-in-If.ensures.fault c.earlier-rest.ensures c.earlier-in-If.ensures
+    c.of_boxed-in_cond.ensures c.in_ok-in_then-in-If.ensures.fault c.in_ok-in_then-in-If.ensures.scopes c.in_ok-in_other-in-If.ensures.fault c.earlier-rest.ensures c.earlier-in-If.ensures
 
 pub of_stmt-returns-in_ok-in_body-in-While-clause-fault : goal.of_stmt-returns-in_ok-in_body-in-While-clause-fault
 of_stmt-returns-in_ok-in_body-in-While-clause-fault t c =
     while_arm c.args.stmt.now c.in-While.cond c.in-While.body c.args.returned c.args.in_loop c.args.scopes.now _ _ _ c.in-While.is
-    c.of_expr-in_cond-in-While.ensures c.in_ok-in_body-in-While.ensures.fault c.earlier-in-While.ensures
+    c.of_boxed-in_cond-in-While.ensures c.in_ok-in_body-in-While.ensures.fault c.earlier-in-While.ensures
 
 pub of_stmt-returns-in_ok-in_body-in-DoWhile-clause-fault : goal.of_stmt-returns-in_ok-in_body-in-DoWhile-clause-fault
 of_stmt-returns-in_ok-in_body-in-DoWhile-clause-fault t c =
     do_arm c.args.stmt.now c.in-DoWhile.body c.in-DoWhile.cond c.args.returned c.args.in_loop c.args.scopes.now c.of_inner-in-DoWhile.new.scopes _ _ _ c.in-DoWhile.is
-    c.in_ok-in_body-in-DoWhile.ensures.fault c.in_ok-in_body-in-DoWhile.ensures.scopes c.of_expr-in_cond-in-DoWhile.ensures c.earlier-in-DoWhile.ensures
+    c.in_ok-in_body-in-DoWhile.ensures.fault c.in_ok-in_body-in-DoWhile.ensures.scopes c.of_boxed-in_cond-in-DoWhile.ensures c.earlier-in-DoWhile.ensures
 
 pub of_stmt-returns-in_ok-in_body-in-For-clause-fault : goal.of_stmt-returns-in_ok-in_body-in-For-clause-fault
 of_stmt-returns-in_ok-in_body-in-For-clause-fault t c =

@@ -135,6 +135,13 @@ braced-returns t c = record {
   judged = λ n deep. (braces_read (suc n) _ _ _ _ c.items.self.rest.now _ (room _ _ _ deep c.in_ok-depth.ensures.one_less) c.in_ok-open.ensures.read (c.items.invariant.judged (suc n) (inner _ _ _ deep c.in_ok-depth.ensures.one_less)) c.in_ok-mark.ensures.read).holds;
 }
 
+pub item-returns-then-is_at : goal.item-returns-then-is_at
+item-returns-then-is_at t c = record {
+  added = c.semicolon.ensures.added;
+  shorter = c.semicolon.ensures.shorter;
+  judged = λ n deep other. c.semicolon.ensures.judged n (within _ _ deep) (c.if-is_at.ensures.0 refl);
+}
+
 pub item-returns-then-is_at_type : goal.item-returns-then-is_at_type
 item-returns-then-is_at_type t c = record {
   added = if_ok _ _ _ (λ x a. adds_item _ _ _ _ a) c.declaration.ensures.derived;
@@ -177,25 +184,25 @@ if_stmt-returns-in_err-cond t c = record {
 pub if_stmt-returns-in_err-then : goal.if_stmt-returns-in_err-then
 if_stmt-returns-in_err-then t c = record {
   derived = search rules;
-  judged = λ n deep next. rw (stopped _ _ c.from_residual-in_err-then.ensures.1) (if_then_stops n _ _ _ (if_condition n _ _ _ c.group.new.self.rest.now (room _ _ _ deep c.in_ok-depth.ensures.one_less) c.in_ok-word.ensures.read (c.in_ok-cond.ensures.judged (suc n) (inner _ _ _ deep c.in_ok-depth.ensures.one_less))) (c.in_err-then.ensures.judged (suc n) (inner _ _ _ deep c.in_ok-depth.ensures.one_less))).holds;
+  judged = λ n deep next. rw (stopped _ _ c.from_residual-in_err-then.ensures.1) (if_then_stops n _ _ _ (if_condition n _ _ _ c.condition.new.self.rest.now (room _ _ _ deep c.in_ok-depth.ensures.one_less) c.in_ok-word.ensures.read (c.in_ok-cond.ensures.judged (suc n) (inner _ _ _ deep c.in_ok-depth.ensures.one_less))) (c.in_err-then.ensures.judged (suc n) (inner _ _ _ deep c.in_ok-depth.ensures.one_less))).holds;
 }
 
 pub if_stmt-returns-then-not-is_at_else : goal.if_stmt-returns-then-not-is_at_else
 if_stmt-returns-then-not-is_at_else t c = record {
   derived = reads_if _ _ _ _ _ _ _ _ _ c.in_ok-word.ensures.read c.in_ok-cond.ensures.derived c.in_ok-then.ensures.derived c.in_ok-then-2.ensures (search rules) c.place.ensures;
-  judged = λ n deep next. (if_alone n _ _ (if_then n _ c.group.new.self.rest.now c.stmt.new.self.rest.now (if_condition n _ _ _ c.group.new.self.rest.now (room _ _ _ deep c.in_ok-depth.ensures.one_less) c.in_ok-word.ensures.read (c.in_ok-cond.ensures.judged (suc n) (inner _ _ _ deep c.in_ok-depth.ensures.one_less))) (c.in_ok-then.ensures.judged (suc n) (inner _ _ _ deep c.in_ok-depth.ensures.one_less))) (search rules)).holds;
+  judged = λ n deep next. (if_alone n _ _ (if_then n _ c.condition.new.self.rest.now c.stmt.new.self.rest.now (if_condition n _ _ _ c.condition.new.self.rest.now (room _ _ _ deep c.in_ok-depth.ensures.one_less) c.in_ok-word.ensures.read (c.in_ok-cond.ensures.judged (suc n) (inner _ _ _ deep c.in_ok-depth.ensures.one_less))) (c.in_ok-then.ensures.judged (suc n) (inner _ _ _ deep c.in_ok-depth.ensures.one_less))) (search rules)).holds;
 }
 
 pub if_stmt-returns-in_err-other : goal.if_stmt-returns-in_err-other
 if_stmt-returns-in_err-other t c = record {
   derived = search rules;
-  judged = λ n deep next. rw (stopped _ _ c.from_residual-in_err-other.ensures.1) (if_other_stops n _ _ c.stmt.new.self.rest.now _ _ (room _ _ _ deep c.in_ok-depth.ensures.one_less) (if_then n _ c.group.new.self.rest.now c.stmt.new.self.rest.now (if_condition n _ _ _ c.group.new.self.rest.now (room _ _ _ deep c.in_ok-depth.ensures.one_less) c.in_ok-word.ensures.read (c.in_ok-cond.ensures.judged (suc n) (inner _ _ _ deep c.in_ok-depth.ensures.one_less))) (c.in_ok-then.ensures.judged (suc n) (inner _ _ _ deep c.in_ok-depth.ensures.one_less))) c.in_ok-key.ensures.read (c.in_err-other.ensures.judged (suc n) (inner _ _ _ deep c.in_ok-depth.ensures.one_less))).holds;
+  judged = λ n deep next. rw (stopped _ _ c.from_residual-in_err-other.ensures.1) (if_other_stops n _ _ c.stmt.new.self.rest.now _ _ (room _ _ _ deep c.in_ok-depth.ensures.one_less) (if_then n _ c.condition.new.self.rest.now c.stmt.new.self.rest.now (if_condition n _ _ _ c.condition.new.self.rest.now (room _ _ _ deep c.in_ok-depth.ensures.one_less) c.in_ok-word.ensures.read (c.in_ok-cond.ensures.judged (suc n) (inner _ _ _ deep c.in_ok-depth.ensures.one_less))) (c.in_ok-then.ensures.judged (suc n) (inner _ _ _ deep c.in_ok-depth.ensures.one_less))) c.in_ok-key.ensures.read (c.in_err-other.ensures.judged (suc n) (inner _ _ _ deep c.in_ok-depth.ensures.one_less))).holds;
 }
 
 pub if_stmt-returns : goal.if_stmt-returns
 if_stmt-returns t c = record {
   derived = reads_if_else _ _ _ _ _ _ _ _ _ _ _ _ _ _ c.in_ok-word.ensures.read c.in_ok-cond.ensures.derived c.in_ok-then.ensures.derived c.in_ok-then-2.ensures (search rules) c.in_ok-key.ensures.read c.in_ok-other.ensures.derived c.in_ok-other-2.ensures c.place-2.ensures;
-  judged = λ n deep next. (if_read n _ _ c.stmt.new.self.rest.now _ _ (room _ _ _ deep c.in_ok-depth.ensures.one_less) (if_then n _ c.group.new.self.rest.now c.stmt.new.self.rest.now (if_condition n _ _ _ c.group.new.self.rest.now (room _ _ _ deep c.in_ok-depth.ensures.one_less) c.in_ok-word.ensures.read (c.in_ok-cond.ensures.judged (suc n) (inner _ _ _ deep c.in_ok-depth.ensures.one_less))) (c.in_ok-then.ensures.judged (suc n) (inner _ _ _ deep c.in_ok-depth.ensures.one_less))) c.in_ok-key.ensures.read (c.in_ok-other.ensures.judged (suc n) (inner _ _ _ deep c.in_ok-depth.ensures.one_less))).holds;
+  judged = λ n deep next. (if_read n _ _ c.stmt.new.self.rest.now _ _ (room _ _ _ deep c.in_ok-depth.ensures.one_less) (if_then n _ c.condition.new.self.rest.now c.stmt.new.self.rest.now (if_condition n _ _ _ c.condition.new.self.rest.now (room _ _ _ deep c.in_ok-depth.ensures.one_less) c.in_ok-word.ensures.read (c.in_ok-cond.ensures.judged (suc n) (inner _ _ _ deep c.in_ok-depth.ensures.one_less))) (c.in_ok-then.ensures.judged (suc n) (inner _ _ _ deep c.in_ok-depth.ensures.one_less))) c.in_ok-key.ensures.read (c.in_ok-other.ensures.judged (suc n) (inner _ _ _ deep c.in_ok-depth.ensures.one_less))).holds;
 }
 
 pub while_stmt-returns-in_err-word : goal.while_stmt-returns-in_err-word
@@ -219,13 +226,13 @@ while_stmt-returns-in_err-cond t c = record {
 pub while_stmt-returns-in_err-body : goal.while_stmt-returns-in_err-body
 while_stmt-returns-in_err-body t c = record {
   derived = search rules;
-  judged = λ n deep next. rw (stopped _ _ c.from_residual-in_err-body.ensures.1) (while_body_stops n _ _ _ c.group.new.self.rest.now _ (room _ _ _ deep c.in_ok-depth.ensures.one_less) c.in_ok-word.ensures.read (c.in_ok-cond.ensures.judged (suc n) (inner _ _ _ deep c.in_ok-depth.ensures.one_less)) (c.in_err-body.ensures.judged (suc n) (inner _ _ _ deep c.in_ok-depth.ensures.one_less))).holds;
+  judged = λ n deep next. rw (stopped _ _ c.from_residual-in_err-body.ensures.1) (while_body_stops n _ _ _ c.condition.new.self.rest.now _ (room _ _ _ deep c.in_ok-depth.ensures.one_less) c.in_ok-word.ensures.read (c.in_ok-cond.ensures.judged (suc n) (inner _ _ _ deep c.in_ok-depth.ensures.one_less)) (c.in_err-body.ensures.judged (suc n) (inner _ _ _ deep c.in_ok-depth.ensures.one_less))).holds;
 }
 
 pub while_stmt-returns : goal.while_stmt-returns
 while_stmt-returns t c = record {
   derived = reads_while _ _ _ _ _ _ _ _ _ c.in_ok-word.ensures.read c.in_ok-cond.ensures.derived c.in_ok-body.ensures.derived c.in_ok-body-2.ensures c.place.ensures;
-  judged = λ n deep next. (while_read n _ _ _ c.group.new.self.rest.now _ (room _ _ _ deep c.in_ok-depth.ensures.one_less) c.in_ok-word.ensures.read (c.in_ok-cond.ensures.judged (suc n) (inner _ _ _ deep c.in_ok-depth.ensures.one_less)) (c.in_ok-body.ensures.judged (suc n) (inner _ _ _ deep c.in_ok-depth.ensures.one_less))).holds;
+  judged = λ n deep next. (while_read n _ _ _ c.condition.new.self.rest.now _ (room _ _ _ deep c.in_ok-depth.ensures.one_less) c.in_ok-word.ensures.read (c.in_ok-cond.ensures.judged (suc n) (inner _ _ _ deep c.in_ok-depth.ensures.one_less)) (c.in_ok-body.ensures.judged (suc n) (inner _ _ _ deep c.in_ok-depth.ensures.one_less))).holds;
 }
 
 pub do_stmt-returns-in_err-word : goal.do_stmt-returns-in_err-word
@@ -261,13 +268,13 @@ do_stmt-returns-in_err-cond t c = record {
 pub do_stmt-returns-in_err-mark : goal.do_stmt-returns-in_err-mark
 do_stmt-returns-in_err-mark t c = record {
   derived = search rules;
-  judged = λ n deep next. rw (stopped _ _ c.from_residual-in_err-mark.ensures.1) (fails_then (do_condition n _ _ _ _ c.group.new.self.rest.now (room _ _ _ deep c.in_ok-depth.ensures.one_less) (do_body n _ _ _ c.stmt.new.self.rest.now (room _ _ _ deep c.in_ok-depth.ensures.one_less) c.in_ok-word.ensures.read (c.in_ok-body.ensures.judged (suc n) (inner _ _ _ deep c.in_ok-depth.ensures.one_less))) c.in_ok-key.ensures.read (c.in_ok-cond.ensures.judged (suc n) (inner _ _ _ deep c.in_ok-depth.ensures.one_less))) (fixed_fails refl c.in_err-mark.ensures.refused)).holds;
+  judged = λ n deep next. rw (stopped _ _ c.from_residual-in_err-mark.ensures.1) (fails_then (do_condition n _ _ _ _ c.condition.new.self.rest.now (room _ _ _ deep c.in_ok-depth.ensures.one_less) (do_body n _ _ _ c.stmt.new.self.rest.now (room _ _ _ deep c.in_ok-depth.ensures.one_less) c.in_ok-word.ensures.read (c.in_ok-body.ensures.judged (suc n) (inner _ _ _ deep c.in_ok-depth.ensures.one_less))) c.in_ok-key.ensures.read (c.in_ok-cond.ensures.judged (suc n) (inner _ _ _ deep c.in_ok-depth.ensures.one_less))) (fixed_fails refl c.in_err-mark.ensures.refused)).holds;
 }
 
 pub do_stmt-returns : goal.do_stmt-returns
 do_stmt-returns t c = record {
   derived = reads_do _ _ _ _ _ _ _ _ _ _ _ _ _ c.in_ok-word.ensures.read c.in_ok-body.ensures.derived c.in_ok-body-2.ensures c.in_ok-key.ensures.read c.in_ok-cond.ensures.derived c.place-at.ensures c.in_ok-mark.ensures.read;
-  judged = λ n deep next. (do_read n _ _ _ _ (room _ _ _ deep c.in_ok-depth.ensures.one_less) (do_condition n _ _ _ _ c.group.new.self.rest.now (room _ _ _ deep c.in_ok-depth.ensures.one_less) (do_body n _ _ _ c.stmt.new.self.rest.now (room _ _ _ deep c.in_ok-depth.ensures.one_less) c.in_ok-word.ensures.read (c.in_ok-body.ensures.judged (suc n) (inner _ _ _ deep c.in_ok-depth.ensures.one_less))) c.in_ok-key.ensures.read (c.in_ok-cond.ensures.judged (suc n) (inner _ _ _ deep c.in_ok-depth.ensures.one_less))) c.in_ok-mark.ensures.read).holds;
+  judged = λ n deep next. (do_read n _ _ _ _ (room _ _ _ deep c.in_ok-depth.ensures.one_less) (do_condition n _ _ _ _ c.condition.new.self.rest.now (room _ _ _ deep c.in_ok-depth.ensures.one_less) (do_body n _ _ _ c.stmt.new.self.rest.now (room _ _ _ deep c.in_ok-depth.ensures.one_less) c.in_ok-word.ensures.read (c.in_ok-body.ensures.judged (suc n) (inner _ _ _ deep c.in_ok-depth.ensures.one_less))) c.in_ok-key.ensures.read (c.in_ok-cond.ensures.judged (suc n) (inner _ _ _ deep c.in_ok-depth.ensures.one_less))) c.in_ok-mark.ensures.read).holds;
 }
 
 pub for_stmt-returns-in_err-word : goal.for_stmt-returns-in_err-word

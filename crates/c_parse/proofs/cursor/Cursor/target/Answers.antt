@@ -1,4 +1,6 @@
 use Rattle.std.proofs.Common.{rules, arith}
+use Rattle.c_ast.specs.Derives.{DerivesTarget}
+use Rattle.c_parse.proofs.Rules.{reads_boxed}
 use Rattle.c_parse.proofs.StmtRules.{reads_target}
 use Rattle.c_parse.proofs.Chains.{stopped}
 use Rattle.c_parse.proofs.JudgedSimple.{target_refused, target_stops, target_read}
@@ -18,6 +20,6 @@ returns-in_err-indices c = record {
 
 pub returns : goal.returns
 returns c = record {
-  derived = reads_target _ _ _ _ _ _ _ c.in_ok-name.ensures.read c.in_ok-indices.ensures.derived c.place.ensures;
+  derived = reads_boxed (λ t ts. DerivesTarget ts t) _ _ _ _ (reads_target _ _ _ _ _ _ _ c.in_ok-name.ensures.read c.in_ok-indices.ensures.derived c.place.ensures) c.in_ok-new.ensures;
   judged = λ n deep. (target_read n _ _ _ _ _ (omega arith) c.in_ok-name.ensures.read (c.in_ok-indices.ensures.judged n deep)).holds;
 }
