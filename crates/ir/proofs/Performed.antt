@@ -1,5 +1,5 @@
 -- Steps of the walk: writes past a list, the sides of a jump, and steps that were made.
-use Rattle.std.proofs.Common.{◌≡◌, ◌≢◌, ℕ, zero, suc, ◌+◌, ◌<◌, ◌≤◌, List, [], ◌∷◌, ◌++◌, map, drop, length, get_or, refl, sym, ◌∙◌, ap, subst, arith, append_assoc, drop-cons, append-nil}
+use Rattle.std.proofs.Common.{◌≡◌, ◌≢◌, ℕ, zero, suc, ◌+◌, ◌<◌, ◌≤◌, List, [], ◌∷◌, ◌++◌, map, drop, length, get_or, refl, sym, ◌∙◌, ap, arith, append_assoc, drop-cons, append-nil}
 use Rattle.std.specs.Prelude.{set}
 use Rattle.ir.specs.declared.instr.Instr.{Instr}
 use Rattle.ir.specs.Steps.{Work, value_at, step_value, step_arrays, step_strays, after_step, through}

@@ -1,12 +1,9 @@
 -- The worked graph is well formed.
-use Rattle.std.proofs.Common.{◌≡◌, ℕ, ◌⊎◌, ◌^◌, ◌<◌, List, [], ◌∷◌, map, Some, refl, sym, subst, arith, inl, inr}
+use Rattle.std.proofs.Common.{◌≡◌, ℕ, List, [], ◌∷◌, refl, sym, subst, arith, inl, inr}
 use Rattle.std.specs.Prelude.{All}
 use Rattle.std.proofs.lemmas.List.Elements.{All-cons, All-nil}
-use Rattle.el_base.specs.declared.ty.Array.{Array}
 use Rattle.el_base.specs.declared.ty.Ty.TheVariants.{U32}
-use Rattle.ir.specs.declared.graph.Block.{Block}
-use Rattle.ir.specs.declared.graph.To.{To}
-use Rattle.ir.specs.Shapes.{Shape, IsWidth, IsArray}
+use Rattle.ir.specs.Shapes.{IsWidth, IsArray}
 use Rattle.ir.specs.Graphs.{Graph, IsTarget, IsBlock, IsGraph, shape_of}
 use Rattle.ir.specs.Sample.{entry_block, head_block, body_block, end_block, sample_graph}
 

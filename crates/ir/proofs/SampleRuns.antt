@@ -1,11 +1,11 @@
 -- The worked graph's run, computed.
-use Rattle.std.proofs.Common.{◌≡◌, ℕ, zero, suc, List, [], ◌∷◌, Some, None, refl, sym, arith}
+use Rattle.std.proofs.Common.{◌≡◌, ℕ, zero, suc, List, [], ◌∷◌, Some, refl}
 use Rattle.std.specs.Prelude.{slice_get, true, false}
 use Rattle.word_ops.specs.Operations.{op1_on, op2_on, op1_result, op2_result}
 use Rattle.ir.specs.Visits.{Finishes, over_visits, strays_of}
 use Rattle.ir.specs.Graphs.{Graph, passage, weight, size}
-use Rattle.ir.specs.Accesses.{IsStoredTo, AreGroups}
-use Rattle.ir.specs.Sample.{body_block, sample_graph, sample_first, sample_rest, sample_groups, SampleRun, SamplesRun}
+use Rattle.ir.specs.Accesses.{IsStoredTo, GroupsShare}
+use Rattle.ir.specs.Sample.{body_block, sample_graph, sample_first, sample_rest, sample_groups, SamplesRun}
 
 module _ (name n a : List ℕ) where
   abbrev g : Graph
@@ -33,7 +33,7 @@ module _ (name n a : List ℕ) where
   not_only_read zero h = absurd (cc)
   not_only_read (suc b) h = absurd (cc)
 
-  groups : AreGroups g sample_groups
+  groups : GroupsShare g sample_groups
   groups = record { as_many = refl; read_only = not_only_read; stored_to = stored; accesses = refl }
 
 pub samples_run : SamplesRun

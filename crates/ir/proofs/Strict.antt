@@ -1,5 +1,5 @@
 -- What no well formed graph has.
-use Rattle.std.proofs.Common.{◌≡◌, ℕ, ◌++◌, List, [], ◌∷◌, length, Option, Some, None, refl, sym, ◌∙◌}
+use Rattle.std.proofs.Common.{◌≡◌, ℕ, Option, Some, None, refl, sym, ◌∙◌}
 use Rattle.ir.specs.Strictness.{StoresHaveNoWidth, NoTargetIsTheEntry, ConditionsHave32Bits}
 use Rattle.ir.proofs.Fitting.{behind}
 

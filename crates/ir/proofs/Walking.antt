@@ -1,13 +1,12 @@
 -- A walk is at a visit after those before it.
-use Rattle.std.proofs.Common.{◌≡◌, ℕ, zero, suc, ◌+◌, ◌*◌, ◌<◌, ◌≤◌, ◌^◌, List, [], ◌∷◌, ◌++◌, length, Option, Some, None, refl, sym, ◌∙◌, ap, subst, arith, length-append}
-use Rattle.ir.specs.declared.walk.Walk.{Walk}
+use Rattle.std.proofs.Common.{◌≡◌, ℕ, ◌+◌, ◌<◌, ◌≤◌, List, [], ◌∷◌, ◌++◌, Option, Some, refl, sym, ◌∙◌, ap, subst, arith, length-append}
 use Rattle.ir.specs.declared.walk.Ending.TheVariants.{Returned, Unfinished}
 use Rattle.ir.specs.declared.walk.Passed.{Passed}
 use Rattle.ir.specs.declared.walk.Way.TheVariants.{Onto, Leaves}
-use Rattle.ir.specs.Visits.{Visit, Onward, onto, leaves, Passing, next_of, next_visit, AreNext, AreVisits, Returns, Finishes, over_visits, strays_of}
+use Rattle.ir.specs.Visits.{Visit, onto, leaves, Passing, next_of, next_visit, AreNext, AreVisits, Returns, Finishes, over_visits}
 use Rattle.ir.specs.Graphs.{Graph, block_at, passage, weight}
 use Rattle.ir.specs.Passes.{onward_by, IsPassed, IsAt}
-use Rattle.ir.specs.Walks.{ReturnsAfter, GoesOn, IsWalk}
+use Rattle.ir.specs.Walks.{ReturnsAfter, IsWalk}
 
 -- ---- lists of visits
 

@@ -1,5 +1,5 @@
 -- The accesses of a graph by blocks and arrays: which arrays are only read, and which steps access the others.
-use Rattle.std.specs.Prelude.{◌≡◌, ℕ, zero, suc, ◌==◌, Bool, true, false, cond, get_or, slice_get, Option, Some, List, [], ◌∷◌, ◌++◌, length}
+use Rattle.std.specs.Prelude.{◌≡◌, ◌+◌, ℕ, suc, ◌==◌, Bool, true, false, cond, slice_get, Some, List, [], ◌∷◌, ◌++◌, length}
 use Rattle.ir.specs.declared.instr.Instr.{Instr}
 use Rattle.ir.specs.declared.instr.Instr.TheVariants.{Const, One, Two, Select, Load, Store}
 use Rattle.ir.specs.declared.groups.Groups.{Groups}
@@ -16,6 +16,20 @@ pub record IsStoredTo (g : Graph) (a : ℕ) : Type 0 where
   pub addr : ℕ
   pub value : ℕ
   pub is_step : slice_get block.steps place ≡ Some (Store a addr value)
+
+-- 1 for a step that is a load or a store
+abbrev pub is_access : Instr → ℕ
+is_access (Const w n) = 0
+is_access (One op x) = 0
+is_access (Two op x y) = 0
+is_access (Select w c x y) = 0
+is_access (Load a p) = 1
+is_access (Store a p v) = 1
+
+-- how many of the steps are loads and stores
+abbrev pub accesses_in : List Instr → ℕ
+accesses_in [] = 0
+accesses_in (i ∷ is) = is_access i + accesses_in is
 
 -- is the step a load or a store of the array
 abbrev pub is_on : ℕ → Instr → Bool
@@ -53,7 +67,7 @@ accesses_from rs b (x ∷ xs) = block_accesses b x.steps 0 rs ++ accesses_from r
 
 -- an array is only read exactly where no step stores to it, and of each block and each other array that the block
 -- accesses there is one access with all its places, in order, and no other
-pub record AreGroups (g : Graph) (gs : Groups) : Type 0 where
+pub record GroupsShare (g : Graph) (gs : Groups) : Type 0 where
   pub as_many : length gs.read_only ≡ length g.arrays
   pub read_only : (a : ℕ) → slice_get gs.read_only a ≡ Some true → ¬ (IsStoredTo g a)
   pub stored_to : (a : ℕ) → slice_get gs.read_only a ≡ Some false → IsStoredTo g a

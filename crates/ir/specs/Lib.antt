@@ -10,3 +10,4 @@ pub mod Walks
 pub mod Passes
 pub mod Sample
 pub mod Strictness
+pub mod Finished

@@ -1,6 +1,6 @@
 -- A worked graph, and its run computed: n times one is added to an element of an array of 2 elements, one element after the
 -- other. With n = 3 the third turn goes past the array, once by its load and once by its store.
-use Rattle.std.specs.Prelude.{◌≡◌, ℕ, false, List, [], ◌∷◌, Some, None}
+use Rattle.std.specs.Prelude.{◌≡◌, ℕ, false, List, [], ◌∷◌, Some}
 use Rattle.el_base.specs.declared.ty.Ty.TheVariants.{U32}
 use Rattle.el_base.specs.declared.operation.Op1.TheVariants.{U32to64}
 use Rattle.el_base.specs.declared.operation.Op2.TheVariants.{Add32, Ltu32}
@@ -10,8 +10,8 @@ use Rattle.ir.specs.declared.graph.Block.{Block}
 use Rattle.ir.specs.declared.graph.Jump.TheVariants as jump
 use Rattle.ir.specs.declared.groups.Groups.{Groups}
 use Rattle.ir.specs.Visits.{Visit, Finishes, over_visits, strays_of}
-use Rattle.ir.specs.Graphs.{Graph, IsGraph, passage, first_visit, weight, size}
-use Rattle.ir.specs.Accesses.{AreGroups}
+use Rattle.ir.specs.Graphs.{Graph, passage, first_visit, weight, size}
+use Rattle.ir.specs.Accesses.{GroupsShare}
 
 -- the count begins at 0
 abbrev pub entry_block : Block
@@ -67,7 +67,7 @@ pub record SampleRun (g : Graph) : Type 0 where
   pub strays : strays_of (passage g) (sample_first ∷ sample_rest) ≡ 2
   pub weight_is : over_visits (weight g) (sample_first ∷ sample_rest) ≡ 68
   pub size_is : size g ≡ 25
-  pub groups : AreGroups g sample_groups
+  pub groups : GroupsShare g sample_groups
 
 abbrev pub SamplesRun : Type 0
 SamplesRun = (name n a : List ℕ) → SampleRun (sample_graph name n a)

@@ -4,12 +4,11 @@ use Rattle.el_base.specs.declared.ty.Ty.{Ty}
 use Rattle.el_base.specs.declared.ty.Array.{Array}
 use Rattle.el_base.specs.declared.ty.Scalar.{Scalar}
 use Rattle.el_base.specs.Widths.{ty_width}
-use Rattle.ir.specs.declared.instr.Instr.{Instr}
 use Rattle.ir.specs.declared.cfg.CfgBlock.{CfgBlock}
 use Rattle.ir.specs.declared.cfg.CfgJump.{CfgJump}
 use Rattle.ir.specs.declared.cfg.CfgJump.TheVariants.{Go, Two, Return}
 use Rattle.ir.specs.declared.cfg.Write.{Write}
-use Rattle.ir.specs.Steps.{Work, value_at, through, beginning}
+use Rattle.ir.specs.Steps.{value_at, through, beginning}
 use Rattle.ir.specs.Visits.{Visit, Onward, onto, leaves, Passage}
 use Rattle.ir.specs.Shapes.{IsWidth, Shape, IsOfWidth, StepsFit, shape_after}
 use Rattle.ir.specs.Graphs.{IsReturn, side, result_of}

@@ -7,6 +7,8 @@ mod groups;
 mod instr;
 mod laws;
 mod perform;
+#[cfg(test)]
+mod tests;
 mod walk;
 mod weight;
 mod worked;

@@ -1,5 +1,4 @@
-use Rattle.std.proofs.Common.{◌≡◌, ◌≤◌, drop}
-use Rattle.ir.specs.Steps.{through, beginning}
+use Rattle.ir.specs.Steps.{beginning}
 use Rattle.ir.proofs.Performed.{IsPerforming}
 use Rattle.ir.proofs.walk.perform.Given as goal
 

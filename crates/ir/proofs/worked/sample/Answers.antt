@@ -1,5 +1,4 @@
-use Rattle.std.proofs.Common.{arith, rules}
-use Rattle.std.proofs.lemmas.Grind.{common_steps}
+use Rattle.std.proofs.Common.{rules}
 use Rattle.ir.proofs.SampleGraphs.{is_sample}
 use Rattle.ir.proofs.worked.sample.Goals as goal
 

@@ -1,6 +1,6 @@
 use Rattle.std.proofs.Common.{◌≡◌, ◌+◌, drop}
 use Rattle.std.specs.Prelude.{sum_by}
-use Rattle.ir.specs.Graphs.{block_weight, size}
+use Rattle.ir.specs.Graphs.{block_weight}
 use Rattle.ir.proofs.graph.Ir.has_size_within.Given as goal
 
 abbrev pub invariant-loop-block : goal.invariant-loop-block

@@ -1,0 +1,5 @@
+pub mod Live
+pub mod Tables
+pub mod Arguments
+pub mod Shares
+pub mod Laws

@@ -1,0 +1,9 @@
+//! The graph over block arguments that a graph over variables becomes, where each block but block 0 gets the variables
+//! that a table lists for it: definitions, and laws of them.
+#![tactic(auto)]
+
+mod laws;
+
+pub use laws::{
+    live_variables_serve, served_graphs_are_well_formed, served_graphs_run_the_same, sizes_are_kept,
+};

@@ -1,0 +1,15 @@
+pub mod Assigns
+pub mod Built
+pub mod Costs
+pub mod Expanded
+pub mod Expands
+pub mod Imitates
+pub mod Kernels
+pub mod Leaves
+pub mod Meanings
+pub mod Rows
+pub mod Stores
+pub mod Takes
+pub mod Targets
+pub mod Trees
+pub mod Whole

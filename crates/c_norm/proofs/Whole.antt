@@ -1,0 +1,309 @@
+-- Each lawful statement of the kernel is imitated by the statements that it is made of: all kinds.
+use Rattle.std.proofs.Common.{◌≡◌, ℕ, zero, suc, ◌+◌, ◌*◌, ◌<◌, ◌≤◌, List, [], ◌∷◌, ◌++◌, map, length, get_or, Option, Some, None, refl, sym, ◌∙◌, ap, subst, arith, length-append}
+use Rattle.std.specs.Prelude.{Bool, true, false, ℤ, pos, All, slice_get, flat_map, option_map}
+use Rattle.std.proofs.lemmas.List.Sums.{sum_by-cons}
+use Rattle.std.proofs.lemmas.List.Elements.{All-head, All-tail}
+use mathlib.Core.Former.{Count}
+use Rattle.el_base.specs.declared.span.Span.{Span}
+use Rattle.el_base.specs.declared.ty.Ty.{Ty}
+use Rattle.el_base.specs.declared.ty.Ty.TheVariants.{I32}
+use Rattle.c_ast.specs.Casts.{of_type}
+use Rattle.c_ast.specs.Nodes.{typed_expr_nodes, typed_opt_nodes, act_nodes, held_act_nodes, acts_nodes, typed_stmt_nodes, typed_stmts_nodes}
+use Rattle.c_ast.specs.ResultTypes.{joint_type}
+use Rattle.c_ast.specs.declared.tree.Binary.{Binary}
+use Rattle.c_ast.specs.declared.typed.Object.{Object}
+use Rattle.c_ast.specs.declared.typed.Object.TheVariants as object
+use Rattle.c_ast.specs.declared.typed.TypedTarget.{TypedTarget}
+use Rattle.c_ast.specs.declared.typed.TypedExpr.{TypedExpr}
+use Rattle.c_ast.specs.declared.typed.TypedExprKind.TheVariants as expr
+use Rattle.c_ast.specs.declared.typed.TypedStmtKind.{TypedStmtKind, Row_of-TypedStmt, end_of-TypedStmt, more_of-TypedStmt, Held-TypedStmtKind-If-2}
+use Rattle.c_ast.specs.declared.typed.TypedStmt.{TypedStmt}
+use Rattle.c_ast.specs.declared.typed.TypedStmtKind as tree
+use Rattle.c_ast.specs.declared.normal.NormalStmt.{NormalStmt}
+use Rattle.c_ast.specs.declared.normal.NormalStmtKind.TheVariants as normal
+use Rattle.c_ast.specs.declared.normal.NormalStmtKind.TheOpen as part_of
+use Rattle.c_meaning.specs.declared.profile.Profile.{Profile}
+use Rattle.c_meaning.specs.Stores.{Store, Objects, unset_vars}
+use Rattle.c_meaning.specs.Expressions.{Meaning, meaning, always, value}
+use Rattle.c_meaning.specs.Runs.{How, normally, by_break, by_continue, by_return, Run, ends, turn, both_runs, branch, loop, looped}
+use Rattle.c_meaning.specs.Statements.{Act, meant_target, meant_if_any, in_order, block, entering, part, run_if_any, nothing, condition, joined_in, object_type, step_operator, kind_act, act_if_any, row_acts, act, declared_run, returned, a_break, a_continue, a_return, a_declaration, an_empty}
+use Rattle.c_meaning.specs.Counts.{Tally, tally, Counting, counting, only, counting_after, Counted, counted, run_of, acts_of, counts_in_order, counts_branch, counts_part, counts_if_any, counts_loop, counts_looped, counts_entering, counts_both, step_run, step_counts, expr_price, option_price}
+use Rattle.c_meaning.specs.Lawful.{LawfulExpr, LawfulStmt, LawfulStmtHeld, LawfulStmts, LawfulOption, LawfulReturn, IsObject}
+use Rattle.c_meaning.specs.Ranges.{ValuesFit, StatementsFit}
+use Rattle.c_meaning.proofs.TreeEquations.{expr_number}
+use Rattle.c_meaning.proofs.PartsOfNumbers.{price_number}
+use Rattle.c_norm.specs.Expand.{Out, Outs, whole, expand_expr, rest_of, expand_all, set_all}
+use Rattle.c_norm.specs.Forms.{Made, normal_at, block_of, optional, rest_if_any, compound, assignment_form, step_form, MadeIfAny, form_of, held_form, row_form, all_forms}
+use Rattle.c_norm.proofs.Takes.{Takes}
+use Rattle.c_norm.proofs.Stores.{Matches}
+use Rattle.c_norm.proofs.Expands.{Expands, whole_expands}
+use Rattle.c_norm.proofs.Built.{counted_all, counted_kind, built, a_block_of, an_if_of, a_while_of, a_do_of, a_for_of, act_if_held, block_built, if_built, while_built, do_built, for_built, break_built, continue_built, return_built, declare_built, empty_built, declared_by, declared_append, counted_append}
+use Rattle.c_norm.proofs.Costs.{kind_cost}
+use Rattle.c_norm.proofs.Meanings.{wide, Room, room_left, room_right}
+use Rattle.c_norm.proofs.Expanded.{Expansion, expanded}
+use Rattle.c_norm.proofs.Targets.{costs, expr_bounded, costs_bounded}
+use Rattle.c_norm.proofs.Imitates.{Sims, Sim, Condition, weaker, both_sims, kernel_turn, form_turn, unset_sim, jump_sim, nothing_sim, append_sim, branch_sims, looped_sims, loop_sim}
+use Rattle.c_norm.proofs.Trees as trees
+use Rattle.c_norm.proofs.Trees.{FewDimensions, Imitated}
+use Rattle.c_norm.proofs.Assigns as assigns
+
+returned_lawful : (k : Objects) (r : Option Ty) (e : TypedExpr) → LawfulReturn (LawfulExpr k) r (Some e) → LawfulExpr k e
+returned_lawful k None e h = absurd h
+returned_lawful k (Some t) e h = h.1
+
+module _ (k : Objects) (ws : List Ty) (fit : ValuesFit) (stay : StatementsFit) (result : Option Ty) (price : ℕ) (le : length k.vars ≤ length ws) (own : (v : ℕ) → v < length k.vars → get_or ws v I32 ≡ get_or k.vars v I32) (flat : FewDimensions k) (base : Profile) where
+  abbrev k2 : Objects
+  k2 = wide k ws
+
+  abbrev all : ℕ
+  all = length ws
+
+  -- the kernel's objects under whatever profile: the form asks for types alone
+  abbrev k0 : Objects
+  k0 = record { profile = base; vars = k.vars; arrays = k.arrays }
+
+  abbrev Is : Act → List NormalStmt → Type 0
+  Is a ss = Imitated k ws fit stay result price le own flat a ss
+
+  abbrev Does : ℕ → Run → Run → Counting → Type 0
+  Does spare a b c = Sim k all price le spare a b c
+
+  weak : (i : ℕ) (a b : Run) (c : Counting) → Does i a b c → Does 0 a b c
+  weak i a b c z = trees.weak k ws fit stay result price le own flat i a b c z
+
+  pub both_turn : (a b : Run) (c : Counting) → Does 0 a b c → Does 1 (turn a) (turn b) (counting_after 1 c)
+  both_turn a b c z = trees.both_turn k ws fit stay result price le own flat a b c z
+
+  one : (a : Act) (kind : _) (at : Span) (c : Counted) → counted_kind k2 kind ≡ c → Does 1 a.run (run_of c) c.counts → c.act.declares ≡ a.declares → Is a (normal_at kind at ∷ [])
+  one a kind at c e z d = trees.one k ws fit stay result price le own flat a kind at c e z d
+
+  none_more : (xs : List ℕ) → xs ++ [] ≡ xs
+  none_more xs = trees.none_more k ws fit stay result price le own flat xs
+
+  -- a condition by its expansion
+  condition_of : (f : ℕ) (e : TypedExpr) → length k.vars ≤ f → LawfulExpr k e → 13 * typed_expr_nodes e ≤ price → Room ws f (expand_expr f e).types → Condition k all price le (expr_price (rest_of (expand_expr f e) e)) (meaning k e) (counted_all k2 (expand_expr f e).before) (meaning k2 (rest_of (expand_expr f e) e))
+  condition_of f e n h total room =
+      let o = expand_expr f e in
+      let x = expanded k ws fit e.kind e.ty e.at f n h room in
+      record { from = f; to = f + length o.types; most = x.most; does = x.does; cheap = let c = x.cheap in let b = expr_bounded k e h in omega arith }
+
+  option_condition : (f : ℕ) (e : Option TypedExpr) → length k.vars ≤ f → LawfulOption (LawfulExpr k) e → 13 * typed_opt_nodes e + 13 ≤ price → Room ws f (optional f e).types
+      → Condition k all price le (option_price (rest_if_any (optional f e) e)) (condition (meant_if_any k e)) (counted_all k2 (optional f e).before) (condition (meant_if_any k2 (rest_if_any (optional f e) e)))
+  option_condition f None n h total room = record { from = f; to = f; most = 0; does = whole_expands k all f (always (pos 1)) (always (pos 1)) n (λ s r m. refl); cheap = omega arith }
+  option_condition f (Some e) n h total room = condition_of f e n h (omega arith) room
+
+  -- a part is a block of what it is made of
+  block_sim : (a : Act) (y : Made) (at : Span) → Is a y.stmts → Does 1 (part a) (part (counted k2 (block_of y at)).act) (counts_part (counted k2 (block_of y at)))
+  block_sim a y at i =
+      let parts = counted_all k2 y.stmts in
+      let e : a.declares ++ [] ≡ declared_by parts = none_more a.declares ∙ sym i.declares in
+      let x = unset_sim k all price le 1 (a.declares ++ []) (declared_by parts) a.run (in_order (acts_of parts)) (counts_in_order parts) e i.sim in
+      let z = form_turn k all price le 1 (part a) (block (acts_of parts)) (counts_entering parts (counts_in_order parts)) x in
+      subst (λ (c : Counted). Does 1 (part a) (part c.act) (counts_part c)) (sym (block_built k2 y.stmts)) z
+
+  -- a part that may be absent
+  pub record HeldIs (o : Option Act) (s : Option NormalStmt) : Type 0 where
+    pub second : Does 0 (run_if_any o) (run_if_any (act_if_held (option_map (counted k2) s))) (counts_if_any (option_map (counted k2) s))
+    pub step : Does 0 (run_if_any o) (step_run (option_map (counted k2) s)) (step_counts (option_map (counted k2) s))
+    pub same_run : run_if_any (act_if_held (option_map (counted k2) s)) ≡ step_run (option_map (counted k2) s)
+
+  pub record RowIs (acts : List Act) (ss : List NormalStmt) : Type 0 where
+    pub sim : Does 0 (in_order acts) (in_order (acts_of (counted_all k2 ss))) (counts_in_order (counted_all k2 ss))
+    pub declares : declared_by (counted_all k2 ss) ≡ flat_map (λ (a : Act). a.declares) acts
+
+  pub more_row : (a : Act) (acts : List Act) (xs ys : List NormalStmt) → Is a xs → RowIs acts ys → RowIs (a ∷ acts) (xs ++ ys)
+  more_row a acts xs ys i j =
+      let e = sym (counted_append k2 xs ys) in
+      record {
+        sim = subst (λ l. Does 0 (in_order (a ∷ acts)) (in_order (acts_of l)) (counts_in_order l)) e (append_sim k all price le a.run (in_order acts) (counted_all k2 xs) (counted_all k2 ys) (weak 1 a.run (in_order (acts_of (counted_all k2 xs))) (counts_in_order (counted_all k2 xs)) i.sim) j.sim);
+        declares = ap declared_by (sym e) ∙ declared_append (counted_all k2 xs) (counted_all k2 ys) ∙ ap (λ l. l ++ declared_by (counted_all k2 ys)) i.declares ∙ ap (λ l. a.declares ++ l) j.declares;
+      }
+
+  pub entered : (acts : List Act) (parts : List Counted) (a b : Run) (c : Counting) → declared_by parts ≡ flat_map (λ (x : Act). x.declares) acts → Does 0 a b c → Does 0 (entering acts a) (entering (acts_of parts) b) (counts_entering parts c)
+  entered acts parts a b c e z = unset_sim k all price le 0 (flat_map (λ (x : Act). x.declares) acts) (declared_by parts) a b c (sym e) z
+
+  if_is : (f : ℕ) (cond : TypedExpr) (a : Act) (y : Made) (at s : Span) (o : Option Act) (n : Option NormalStmt) → Condition k all price le (expr_price (rest_of (expand_expr f cond) cond)) (meaning k cond) (counted_all k2 (expand_expr f cond).before) (meaning k2 (rest_of (expand_expr f cond) cond)) → Is a y.stmts → HeldIs o n
+      → Is (record { declares = []; run = turn (branch (in_order []) (meaning k cond) (part a) (run_if_any o)) }) (normal_at (normal.If (expand_expr f cond).before (rest_of (expand_expr f cond) cond) (block_of y at) n) s ∷ [])
+  if_is f cond a y at s o n cd i h =
+      let e = expand_expr f cond in
+      let before = counted_all k2 e.before in
+      let rest = rest_of e cond in
+      let b = counted k2 (block_of y at) in
+      let no = option_map (counted k2) n in
+      let yes_form = part b.act in
+      let no_form = run_if_any (act_if_held no) in
+      let x = branch_sims k all price le (expr_price rest) (meaning k cond) (meaning k2 rest) before (part a) (run_if_any o) (λ i. yes_form) (λ i. no_form) (λ i. counts_part b) (λ i. counts_if_any no) cd (weak 1 (part a) yes_form (counts_part b) (block_sim a y at i)) h.second in
+      let w = weaker k all price le 1 0 0 0 (branch nothing (meaning k cond) (part a) (run_if_any o)) (λ i. branch (in_order (acts_of before)) (meaning k2 rest) yes_form no_form) (λ i. counts_branch before (expr_price rest) (meaning k2 rest) (counts_part b) (counts_if_any no)) (omega arith) (omega arith) x in
+      one (record { declares = []; run = turn (branch (in_order []) (meaning k cond) (part a) (run_if_any o)) }) (normal.If e.before rest (block_of y at) n) s (an_if_of k2 before rest b no) (if_built k2 e.before rest (block_of y at) n)
+      (both_turn (branch nothing (meaning k cond) (part a) (run_if_any o)) (branch (in_order (acts_of before)) (meaning k2 rest) yes_form no_form) (counts_branch before (expr_price rest) (meaning k2 rest) (counts_part b) (counts_if_any no)) w) refl
+
+  while_sim : (p : ℕ) (m m2 : Meaning) (before : List Counted) (a : Act) (y : Made) (at : Span) → Condition k all price le p m before m2 → Is a y.stmts
+      → Does 0 (loop nothing m (part a) nothing) (loop (in_order (acts_of before)) m2 (part (counted k2 (block_of y at)).act) nothing) (counts_loop before p m2 (counted k2 (block_of y at)) None)
+  while_sim p m m2 before a y at cd i =
+      let b = counted k2 (block_of y at) in
+      loop_sim k all price le p m m2 before cd (part a) nothing b None (weak 1 (part a) (part b.act) (counts_part b) (block_sim a y at i)) (nothing_sim k all price le)
+
+  while_is : (f : ℕ) (cond : TypedExpr) (a : Act) (y : Made) (at s : Span) → Condition k all price le (expr_price (rest_of (expand_expr f cond) cond)) (meaning k cond) (counted_all k2 (expand_expr f cond).before) (meaning k2 (rest_of (expand_expr f cond) cond)) → Is a y.stmts
+      → Is (record { declares = []; run = turn (loop (in_order []) (meaning k cond) (part a) nothing) }) (normal_at (normal.While (expand_expr f cond).before (rest_of (expand_expr f cond) cond) (block_of y at)) s ∷ [])
+  while_is f cond a y at s cd i =
+      let e = expand_expr f cond in
+      let before = counted_all k2 e.before in
+      let rest = rest_of e cond in
+      let b = counted k2 (block_of y at) in
+      let x = while_sim (expr_price rest) (meaning k cond) (meaning k2 rest) before a y at cd i in
+      one (record { declares = []; run = turn (loop (in_order []) (meaning k cond) (part a) nothing) }) (normal.While e.before rest (block_of y at)) s (a_while_of k2 before rest b) (while_built k2 e.before rest (block_of y at))
+      (both_turn (loop nothing (meaning k cond) (part a) nothing) (loop (in_order (acts_of before)) (meaning k2 rest) (part b.act) nothing) (counts_loop before (expr_price rest) (meaning k2 rest) b None) x) refl
+
+  do_is : (f : ℕ) (cond : TypedExpr) (a : Act) (y : Made) (at s : Span) → Condition k all price le (expr_price (rest_of (expand_expr f cond) cond)) (meaning k cond) (counted_all k2 (expand_expr f cond).before) (meaning k2 (rest_of (expand_expr f cond) cond)) → Is a y.stmts
+      → Is (record { declares = []; run = turn (looped (part a) (loop (in_order []) (meaning k cond) (part a) nothing)) }) (normal_at (normal.DoWhile (block_of y at) (expand_expr f cond).before (rest_of (expand_expr f cond) cond)) s ∷ [])
+  do_is f cond a y at s cd i =
+      let e = expand_expr f cond in
+      let before = counted_all k2 e.before in
+      let rest = rest_of e cond in
+      let b = counted k2 (block_of y at) in
+      let again = loop nothing (meaning k cond) (part a) nothing in
+      let again2 = loop (in_order (acts_of before)) (meaning k2 rest) (part b.act) nothing in
+      let counts = counts_loop before (expr_price rest) (meaning k2 rest) b None in
+      let x = looped_sims k all price le (part a) again (λ i. part b.act) (λ i. again2) (λ i. counts_part b) (λ i. counts) (weak 1 (part a) (part b.act) (counts_part b) (block_sim a y at i)) (while_sim (expr_price rest) (meaning k cond) (meaning k2 rest) before a y at cd i) in
+      let z = kernel_turn k all price le 0 (looped (part a) again) (λ i. looped (part b.act) again2) (λ i. counts_looped b counts) x in
+      let j = jump_sim k all price le 1 (turn (looped (part a) again)) (looped (part b.act) again2) (counts_looped b counts) z in
+      one (record { declares = []; run = turn (looped (part a) (loop (in_order []) (meaning k cond) (part a) nothing)) }) (normal.DoWhile (block_of y at) e.before rest) s (a_do_of k2 b before rest) (do_built k2 (block_of y at) e.before rest)
+      (form_turn k all price le 1 (turn (looped (part a) again)) (looped (part b.act) again2) (counting (tally 1 0) (counts_looped b counts)) j) refl
+
+  for_is : (f : ℕ) (acts : List Act) (first : List NormalStmt) (cond : Option TypedExpr) (a : Act) (y : Made) (at s : Span) (o : Option Act) (n : Option NormalStmt)
+      → Condition k all price le (option_price (rest_if_any (optional f cond) cond)) (condition (meant_if_any k cond)) (counted_all k2 (optional f cond).before) (condition (meant_if_any k2 (rest_if_any (optional f cond) cond))) → RowIs acts first → HeldIs o n → Is a y.stmts
+      → Is (record { declares = []; run = turn (entering acts (both_runs (in_order acts) (loop (in_order []) (condition (meant_if_any k cond)) (part a) (run_if_any o)))) }) (normal_at (normal.For first (optional f cond).before (rest_if_any (optional f cond) cond) n (block_of y at)) s ∷ [])
+  for_is f acts first cond a y at s o n cd row h i =
+      let e = optional f cond in
+      let before = counted_all k2 e.before in
+      let rest = rest_if_any e cond in
+      let b = counted k2 (block_of y at) in
+      let step = option_map (counted k2) n in
+      let parts = counted_all k2 first in
+      let m = condition (meant_if_any k cond) in
+      let m2 = condition (meant_if_any k2 rest) in
+      let again = loop nothing m (part a) (run_if_any o) in
+      let form_with = λ (r : Run). loop (in_order (acts_of before)) m2 (part b.act) r in
+      let counts = counts_loop before (option_price rest) m2 b step in
+      let x = loop_sim k all price le (option_price rest) m m2 before cd (part a) (run_if_any o) b step (weak 1 (part a) (part b.act) (counts_part b) (block_sim a y at i)) h.step in
+      let x2 = subst (λ r. Does 0 again (form_with r) counts) (sym h.same_run) x in
+      let form = form_with (run_if_any (act_if_held step)) in
+      let z = both_sims k all price le (in_order acts) again (λ i. in_order (acts_of parts)) (λ i. form) (λ i. counts_in_order parts) (λ i. counts) row.sim x2 in
+      let w = entered acts parts (both_runs (in_order acts) again) (both_runs (in_order (acts_of parts)) form) (counts_both (in_order (acts_of parts)) (counts_in_order parts) counts) row.declares z in
+      one (record { declares = []; run = turn (entering acts (both_runs (in_order acts) (loop (in_order []) (condition (meant_if_any k cond)) (part a) (run_if_any o)))) }) (normal.For first e.before rest n (block_of y at)) s (a_for_of k2 parts before rest step b) (for_built k2 first e.before rest n (block_of y at))
+      (both_turn (entering acts (both_runs (in_order acts) again)) (entering (acts_of parts) (both_runs (in_order (acts_of parts)) form)) (counts_entering parts (counts_both (in_order (acts_of parts)) (counts_in_order parts) counts)) w) refl
+
+  type_same : (to : Object) → object_type k0 to ≡ object_type k to
+  type_same (object.Var v) = refl
+  type_same (object.Array a) = refl
+
+  at_most_three : (to : Object) (n : ℕ) (ty : Ty) → IsObject k to n ty → n ≤ 3
+  at_most_three (object.Var v) n ty h = let e = h.1 in omega arith
+  at_most_three (object.Array a) n ty h = let e = h.3 in let q = flat a h.0 h.1 in omega arith
+
+  assign_is : (loop : Bool) (f : ℕ) (target : TypedTarget) (op : Option Binary) (e : TypedExpr) (s : Span) → length k.vars ≤ f → LawfulStmt k result loop (tree.Assign target op e) → 13 * act_nodes (tree.Assign target op e) ≤ price → Room ws f (assignment_form k0 f target op e s).types
+      → Is (kind_act k (tree.Assign target op e)) (assignment_form k0 f target op e s).stmts
+  assign_is loop f target None e s n h total room = assigns.plain_imitated k ws fit stay result price le own flat loop f target e s h.0 n h h.1.0 h.1.1 h.3 total room
+  assign_is loop f target (Some op) e s n h total room =
+      let i = set_all f target.indices in
+      let g = f + length i.types in
+      let o = expand_expr g e in
+      let j = joint_type op (object_type k target.to) e.ty in
+      let x = expanded k ws fit e.kind e.ty e.at g (omega arith) h.3 (room_right ws f i.types o.types room) in
+      let sum : 12 * length target.indices + costs target.indices + 7 + (x.most + expr_price (rest_of o e)) ≤ price =
+      let c = x.cheap in let b = expr_bounded k e h.3 in let cb = costs_bounded k target.indices h.1.1 in let t3 = at_most_three target.to (length target.indices) h.0 h.1.0 in omega arith in
+      subst (λ t. Is (kind_act k (tree.Assign target (Some op) e)) (compound i target op t (joint_type op t e.ty) o e s).stmts) (sym (type_same target.to))
+      (assigns.compound_imitated k ws fit stay result price le own flat (tree.Assign target (Some op) e) loop f (g + length o.types) x.most target op j (meaning k e) o e s h.0 n h h.1.0 h.1.1 refl refl x.does x.silent sum (room_left ws f i.types o.types room))
+
+  step_is : (loop : Bool) (f : ℕ) (target : TypedTarget) (up : Bool) (s : Span) → length k.vars ≤ f → LawfulStmt k result loop (tree.Step target up) → 13 * act_nodes (tree.Step target up) ≤ price → Room ws f (step_form k0 f target (step_operator up) s).types
+      → Is (kind_act k (tree.Step target up)) (step_form k0 f target (step_operator up) s).stmts
+  step_is loop f target up s n h total room =
+      let i = set_all f target.indices in
+      let g = f + length i.types in
+      let op = step_operator up in
+      let one_of_type = λ (t : Ty). of_type (expr.Number 1) (joint_type op t I32) s in
+      let t0 = object_type k target.to in
+      let e = one_of_type t0 in
+      let o = whole (expr.Number 1) in
+      let ex = subst (λ l. Expands k all g g (always (pos 1)) [] l 0) (sym (expr_number 1 k2 (joint_type op t0 I32) s)) (whole_expands k all g (always (pos 1)) (always (pos 1)) (omega arith) (λ s r m. refl)) in
+      let sum : 12 * length target.indices + costs target.indices + 7 + (0 + expr_price (rest_of o e)) ≤ price =
+      let p = price_number 1 in let cb = costs_bounded k target.indices h.1.1 in let t3 = at_most_three target.to (length target.indices) h.0 h.1.0 in omega arith in
+      subst (λ t. Is (kind_act k (tree.Step target up)) (compound i target op t (joint_type op t I32) o (one_of_type t) s).stmts) (sym (type_same target.to))
+      (assigns.compound_imitated k ws fit stay result price le own flat (tree.Step target up) loop f g 0 target op (joint_type op t0 I32) (always (pos 1)) o e s h.0 n h h.1.0 h.1.1 refl refl ex refl sum (room_left ws f i.types [] room))
+
+  mutual
+    pub imitated : (x : TypedStmtKind) (loop : Bool) (s : Span) (f : ℕ) → length k.vars ≤ f → LawfulStmt k result loop x → 13 * act_nodes x ≤ price → Room ws f (form_of k0 f x s).types → Is (kind_act k x) (form_of k0 f x s).stmts
+    imitated (tree.Block' n row) loop s f w h total room =
+        let b = row_form k0 f row in
+        let parts = counted_all k2 b.stmts in
+        let r = row_imitated row loop f w h (omega arith) room in
+        one (kind_act k (tree.Block' n row)) (normal.Block b.stmts) s (a_block_of k2 parts) (block_built k2 b.stmts)
+        (both_turn (block (row_acts k row)) (block (acts_of parts)) (counts_entering parts (counts_in_order parts)) (entered (row_acts k row) parts (in_order (row_acts k row)) (in_order (acts_of parts)) (counts_in_order parts) r.declares r.sim)) refl
+    imitated (tree.Declare v None) loop s f w h total room =
+        one (kind_act k (tree.Declare v None)) (normal.Declare v None) s (built k2 (a_declaration v None) (part_of.Declare v None)) (declare_built k2 v None) (trees.unset_does k ws fit stay result price le own flat v) refl
+    imitated (tree.Declare v (Some e)) loop s f w h total room = trees.declare_imitated k ws fit stay result price le own flat loop f v e s w h (let b = expr_bounded k e h.1 in omega arith) room
+    imitated (tree.Assign target op e) loop s f w h total room = assign_is loop f target op e s w h total room
+    imitated (tree.Step target up) loop s f w h total room = step_is loop f target up s w h total room
+    imitated (tree.If' cond b (more_of-TypedStmt x at end_of-TypedStmt) o) loop s f w h total room =
+        let c = expand_expr f cond in
+        let g = f + length c.types in
+        let y = form_of k0 g x at in
+        let n = held_form k0 (g + length y.types) o in
+        let tail = room_right ws f c.types (y.types ++ n.types) room in
+        if_is f cond (kind_act k x) y at s (act_if_any k o) n.stmt (condition_of f cond w h.0 (omega arith) (room_left ws f c.types (y.types ++ n.types) room))
+        (imitated x loop at g (omega arith) h.1 (omega arith) (room_left ws g y.types n.types tail)) (held_imitated o loop (g + length y.types) (omega arith) h.2 (omega arith) (room_right ws g y.types n.types tail))
+    imitated (tree.While' cond b (more_of-TypedStmt x at end_of-TypedStmt)) loop s f w h total room =
+        let c = expand_expr f cond in
+        let g = f + length c.types in
+        let y = form_of k0 g x at in
+        while_is f cond (kind_act k x) y at s (condition_of f cond w h.0 (omega arith) (room_left ws f c.types y.types room)) (imitated x true at g (omega arith) h.1 (omega arith) (room_right ws f c.types y.types room))
+    imitated (tree.DoWhile' b (more_of-TypedStmt x at end_of-TypedStmt) cond) loop s f w h total room =
+        let y = form_of k0 f x at in
+        let g = f + length y.types in
+        let c = expand_expr g cond in
+        do_is g cond (kind_act k x) y at s (condition_of g cond (omega arith) h.1 (omega arith) (room_right ws f y.types c.types room)) (imitated x true at f w h.0 (omega arith) (room_left ws f y.types c.types room))
+    imitated (tree.For' n first cond o b (more_of-TypedStmt x at end_of-TypedStmt)) loop s f w h total room =
+        let i = row_form k0 f first in
+        let g = f + length i.types in
+        let c = optional g cond in
+        let g2 = g + length c.types in
+        let p = held_form k0 g2 o in
+        let g3 = g2 + length p.types in
+        let y = form_of k0 g3 x at in
+        let tail = room_right ws f i.types (c.types ++ (p.types ++ y.types)) room in
+        let tail2 = room_right ws g c.types (p.types ++ y.types) tail in
+        for_is g (row_acts k first) i.stmts cond (kind_act k x) y at s (act_if_any k o) p.stmt (option_condition g cond (omega arith) h.1 (omega arith) (room_left ws g c.types (p.types ++ y.types) tail))
+        (row_imitated first false f w h.0 (omega arith) (room_left ws f i.types (c.types ++ (p.types ++ y.types)) room)) (held_imitated o false g2 (omega arith) h.2 (omega arith) (room_left ws g2 p.types y.types tail2)) (imitated x true at g3 (omega arith) h.3 (omega arith) (room_right ws g2 p.types y.types tail2))
+    imitated tree.Break loop s f w h total room = one (kind_act k tree.Break) normal.Break s (built k2 a_break part_of.Break) (break_built k2) (trees.ends_does k ws fit stay result price le own flat by_break 1 (omega arith)) refl
+    imitated tree.Continue loop s f w h total room = one (kind_act k tree.Continue) normal.Continue s (built k2 a_continue part_of.Continue) (continue_built k2) (trees.ends_does k ws fit stay result price le own flat by_continue 1 (omega arith)) refl
+    imitated (tree.Return None) loop s f w h total room = one (kind_act k (tree.Return None)) (normal.Return None) s (built k2 (a_return None) (part_of.Return None)) (return_built k2 None) (trees.ends_does k ws fit stay result price le own flat (by_return None) 1 (omega arith)) refl
+    imitated (tree.Return (Some e)) loop s f w h total room = let l = returned_lawful k result e h in trees.return_imitated k ws fit stay result price le own flat loop f e s w h l (let b = expr_bounded k e l in omega arith) room
+    imitated tree.Empty loop s f w h total room = one (kind_act k tree.Empty) normal.Empty s (built k2 an_empty part_of.Empty) (empty_built k2) (trees.ends_does k ws fit stay result price le own flat normally 0 (omega arith)) refl
+
+    held_imitated : (o : Held-TypedStmtKind-If-2) (loop : Bool) (f : ℕ) → length k.vars ≤ f → LawfulStmtHeld k result loop o → 13 * held_act_nodes o ≤ price → Room ws f (held_form k0 f o).types → HeldIs (act_if_any k o) (held_form k0 f o).stmt
+    held_imitated tree.None' loop f w h total room = record { second = nothing_sim k all price le; step = nothing_sim k all price le; same_run = refl }
+    held_imitated (tree.Some' b (more_of-TypedStmt x at end_of-TypedStmt)) loop f w h total room =
+        let y = form_of k0 f x at in
+        let a = kind_act k x in
+        let c = counted k2 (block_of y at) in
+        let z = block_sim a y at (imitated x loop at f w h total room) in
+        record { second = weak 1 (part a) (part c.act) (counts_part c) z; step = jump_sim k all price le 0 (part a) (part c.act) (counts_part c) z; same_run = refl }
+
+    row_imitated : {n : Count} (row : Row_of-TypedStmt n) (loop : Bool) (f : ℕ) → length k.vars ≤ f → LawfulStmts k result loop row → 13 * acts_nodes row ≤ price → Room ws f (row_form k0 f row).types → RowIs (row_acts k row) (row_form k0 f row).stmts
+    row_imitated end_of-TypedStmt loop f w h total room = record { sim = nothing_sim k all price le; declares = refl }
+    row_imitated (more_of-TypedStmt x at row) loop f w h total room =
+        let y = form_of k0 f x at in
+        let g = f + length y.types in
+        let r = row_form k0 g row in
+        more_row (kind_act k x) (row_acts k row) y.stmts r.stmts (imitated x loop at f w h.0 (omega arith) (room_left ws f y.types r.types room)) (row_imitated row loop g (omega arith) h.1 (omega arith) (room_right ws f y.types r.types room))
+
+  -- the statements of a kernel's block
+  pub all_imitated : (xs : List TypedStmt) (f : ℕ) → length k.vars ≤ f → All (λ x. LawfulStmt k result false x.kind) xs → 13 * typed_stmts_nodes xs ≤ price → Room ws f (all_forms k0 f xs).types → RowIs (map (act k) xs) (all_forms k0 f xs).stmts
+  all_imitated [] f w h total room = record { sim = nothing_sim k all price le; declares = refl }
+  all_imitated (x ∷ xs) f w h total room =
+      let y = form_of k0 f x.kind x.at in
+      let g = f + length y.types in
+      let r = all_forms k0 g xs in
+      let q = sum_by-cons typed_stmt_nodes x xs in
+      more_row (act k x) (map (act k) xs) y.stmts r.stmts (imitated x.kind false x.at f w (All-head (λ x. LawfulStmt k result false x.kind) x xs h) (omega arith) (room_left ws f y.types r.types room))
+      (all_imitated xs g (omega arith) (All-tail (λ x. LawfulStmt k result false x.kind) x xs h) (omega arith) (room_right ws f y.types r.types room))

@@ -1,0 +1,4 @@
+pub mod Expand
+pub mod Forms
+pub mod Kernels
+pub mod Shares

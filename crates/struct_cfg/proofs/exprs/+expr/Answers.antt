@@ -1,0 +1,61 @@
+use Rattle.c_ast.specs.declared.typed.TypedExprKind.TheViews.{the_lemmas}
+use Rattle.std.proofs.Common.{◌<◌, length, arith, rules, refl}
+use Rattle.std.proofs.lemmas.Grind.{common_steps}
+use Rattle.struct_cfg.proofs.PlaceCode.{next_room, at_index, goes_next, goes_past, goes_end}
+use Rattle.struct_cfg.proofs.exprs.+expr.Goals.{place-then-k-dims+in_ok-at, place-else-k-dims}
+use Rattle.struct_cfg.proofs.ExprCode.{expr_few, unary_laid, cast_laid, binary_laid, choice_laid, element_laid, index_put, next_put, place_few}
+use Rattle.struct_cfg.proofs.exprs.+expr.Goals as goal
+
+pub expr-returns-clause-few : goal.expr-returns-clause-few
+expr-returns-clause-few t c = expr_few c.args.arrays.now c.args.env.now c.args.e.now c.args.steps.now _ _ c.in_ok-value.ensures
+
+pub unary-returns : goal.unary-returns
+unary-returns t c =
+    unary_laid c.args.arrays.now c.args.env.now c.args.e.now c.args.op c.args.arg.now _ c.args.steps.now _ _ _ _ c.requires.is c.unary_operation.ensures c.in_ok-operand.ensures.laid c.in_ok-value.ensures.laid
+
+pub cast-returns : goal.cast-returns
+cast-returns t c =
+    cast_laid c.args.arrays.now c.args.env.now c.args.e.now c.args.implied c.args.arg.now c.args.steps.now _ _ _ _ c.requires.is c.in_ok-operand.ensures.laid c.in_ok-value.ensures.laid
+
+pub binary-returns : goal.binary-returns
+binary-returns t c =
+    binary_laid c.args.arrays.now c.args.env.now c.args.e.now c.args.op c.args.left.now c.args.right.now c.args.steps.now _ _ _ _ _ _ c.requires.is c.in_ok-a.ensures.laid c.in_ok-b.ensures.laid c.in_ok-value.ensures
+
+pub choose-returns : goal.choose-returns
+choose-returns t c =
+    choice_laid c.args.arrays.now c.args.env.now c.args.e.now c.args.cond.now c.args.yes.now c.args.no.now _ c.args.steps.now _ _ _ _ _ _ _ _ _ _ c.requires.is c.width.ensures c.in_ok-test.ensures.laid c.in_ok-flag.ensures.laid c.in_ok-a.ensures.laid c.in_ok-b.ensures.laid c.in_ok-value.ensures.laid
+
+pub element-returns : goal.element-returns
+element-returns t c =
+    element_laid c.args.arrays.now c.args.env.now c.args.e.now c.args.array c.args.indices.now _ c.args.steps.now _ _ _ _ c.requires.is c.dims_of.ensures c.in_ok-place.ensures.laid c.in_ok-value.ensures.laid
+
+pub index-returns-clause-laid : goal.index-returns-clause-laid
+index-returns-clause-laid t c = index_put c.args.arrays.now c.args.env.now c.args.e.now c.args.steps.now _ _ _ _ c.in_ok-value.ensures.laid c.in_ok-wide.ensures.laid
+
+pub next_place-returns-clause-laid : goal.next_place-returns-clause-laid
+next_place-returns-clause-laid t c =
+    next_put c.args.arrays.now c.args.env.now c.args.at c.args.size c.args.e.now c.args.steps.now _ _ _ _ _ _ _ _ c.in_ok-j.ensures.laid c.in_ok-width.ensures.laid c.in_ok-row.ensures.laid c.in_ok-place.ensures.laid
+
+pub place-one_place-requires : goal.place-one_place-requires
+place-one_place-requires t c =
+    let more : c.loop-e.e-index < length c.args.indices.now = omega (arith, c.loop-e-test.true) in
+    (search (rules, the_lemmas), next_room c.args.arrays.now c.args.env.now c.args.dims.now c.args.indices.now c.args.steps.now c.loop-e.e-index c.loop-e.k c.loop-e.at c.loop-e.steps c.e-item.result c.loop-e.invariant more c.e-item.is c.requires)
+
+pub place-loop-e-preserved : goal.place-loop-e-preserved
+place-loop-e-preserved t c =
+    let more : c.loop-e.e-index < length c.args.indices.now = omega (arith, c.loop-e-test.true) in
+    let is = at_index c.args.indices.now c.loop-e.e-index c.e-item.result more c.e-item.is in
+    let some : 0 < length c.args.dims.now = grind (arith, common_steps) in
+    elim c.if-k-dims.branch [
+      | place-then-k-dims+in_ok-at w ↦ rw (w.k-is, w.at-is, w.steps-is) (goes_next c.args.arrays.now c.args.env.now c.args.dims.now c.args.indices.now c.e-item.result c.args.steps.now c.loop-e.steps _ c.loop-e.e-index c.loop-e.k c.loop-e.at _ _ _ refl w.if-k-dims.true refl is c.loop-e.invariant w.in_ok-at.ensures.laid w.in_ok-at.ensures.few)
+      | place-else-k-dims w ↦ rw (w.k-is, w.at-is, w.steps-is) (goes_past c.args.arrays.now c.args.env.now c.args.dims.now c.args.indices.now c.e-item.result c.args.steps.now c.loop-e.steps c.loop-e.e-index c.loop-e.k c.loop-e.at some w.if-k-dims.false is c.loop-e.invariant)
+    ]
+
+pub place-returns-clause-laid : goal.place-returns-clause-laid
+place-returns-clause-laid t c =
+    let some : 0 < length c.args.indices.now = grind (arith, common_steps) in
+    goes_end c.args.arrays.now c.args.env.now c.args.dims.now c.args.indices.now c.args.steps.now c.loop-e.steps c.loop-e.e-index c.loop-e.k c.loop-e.at some (omega (arith, c.loop-e-test.false)) c.loop-e.invariant
+
+pub place-returns-clause-few : goal.place-returns-clause-few
+place-returns-clause-few t c =
+    place_few c.args.arrays.now c.args.env.now c.args.dims.now c.args.indices.now c.args.steps.now c.loop-e.steps c.loop-e.at (place-returns-clause-laid t c)

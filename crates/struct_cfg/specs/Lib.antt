@@ -1,0 +1,14 @@
+pub mod Layings
+pub mod Code
+pub mod Operators
+pub mod Exprs
+pub mod Seen
+pub mod Shares
+pub mod Fits
+pub mod Drafts
+pub mod Lowering
+pub mod Lists
+pub mod Kernels
+pub mod Runs
+pub mod Laws
+pub mod Places

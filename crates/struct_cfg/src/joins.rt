@@ -1,0 +1,160 @@
+//! The steps of operators on two values.
+ghost use Rattle.std.specs.Prelude.{◌≡◌, ◌+◌, ◌*◌, ◌≤◌, length, IfOk, OnOk, ◌&&◌};
+ghost use Rattle.ir.specs.declared.instr.Instr.TheVariants as instr;
+ghost use Rattle.c_meaning.specs.Patterns.{by_type};
+ghost use Rattle.c_meaning.specs.Counts.{operator_price};
+ghost use Rattle.struct_cfg.specs.Layings.{one_step, after};
+ghost use Rattle.struct_cfg.specs.Operators.{converted, is_narrow, both_laid, either_laid, joined};
+ghost use Rattle.struct_cfg.specs.Code.{IsLaid, HasRoom};
+
+use crate::operators::{
+    both_narrow, both_wide, by_type2, convert, either_narrow, either_wide, is_narrow, put,
+};
+use c_ast::Binary;
+use el_base::{List, Memory, Op2, Ty};
+use ir::Instr;
+
+/// `a && b`.
+fn both(
+    steps: &mut List<Instr>,
+    env: &[u32],
+    left: Ty,
+    right: Ty,
+    a: u32,
+    b: u32,
+) -> Result<u32, Memory>
+    requires { HasRoom env.now steps.old 10 }
+    ensures { IfOk result
+        (IsLaid (both_laid (is_narrow left && is_narrow right) left right a b)
+        env.now steps.old steps.new) }
+{
+    if is_narrow(left) && is_narrow(right) {
+        both_narrow(steps, env, left, right, a, b)
+    } else {
+        both_wide(steps, env, left, right, a, b)
+    }
+}
+
+/// `a || b`.
+fn either(
+    steps: &mut List<Instr>,
+    env: &[u32],
+    left: Ty,
+    right: Ty,
+    a: u32,
+    b: u32,
+) -> Result<u32, Memory>
+    requires { HasRoom env.now steps.old 10 }
+    ensures { IfOk result
+        (IsLaid (either_laid (is_narrow left && is_narrow right) left right a b)
+        env.now steps.old steps.new) }
+{
+    if is_narrow(left) && is_narrow(right) {
+        either_narrow(steps, env, left, right, a, b)
+    } else {
+        either_wide(steps, env, left, right, a, b)
+    }
+}
+
+/// A shift: the amount is converted to the type of what is shifted.
+fn shift(
+    steps: &mut List<Instr>,
+    env: &[u32],
+    op: Op2,
+    left: Ty,
+    right: Ty,
+    a: u32,
+    b: u32,
+) -> Result<u32, Memory>
+    requires { HasRoom env.now steps.old 2 }
+    ensures { IfOk result
+        (IsLaid (after (converted right left b) (λ c. one_step (instr.Two op a c)))
+        env.now steps.old steps.new) }
+{
+    let amount = convert(steps, env, right, left, b)?;
+    let value = put(steps, env, Instr::Two(op, a, amount))?;
+    Ok(value)
+}
+
+/// An operator on two values, of types `left` and `right`.
+pub(crate) fn join(
+    steps: &mut List<Instr>,
+    env: &[u32],
+    op: Binary,
+    left: Ty,
+    right: Ty,
+    a: u32,
+    b: u32,
+) -> Result<u32, Memory>
+    requires { HasRoom env.now steps.old (2 * (1 + operator_price op)) }
+    ensures { IfOk result (IsLaid (joined op left right a b) env.now steps.old steps.new) }
+{
+    match op {
+        Binary::Both => both(steps, env, left, right, a, b),
+        Binary::Either => either(steps, env, left, right, a, b),
+        Binary::Shl => {
+            let op = by_type2(left, Op2::Shl32, Op2::Shl32, Op2::Shl64, Op2::Shl64);
+            shift(steps, env, op, left, right, a, b)
+        }
+        Binary::Shr => {
+            let op = by_type2(left, Op2::Shrs32, Op2::Shru32, Op2::Shrs64, Op2::Shru64);
+            shift(steps, env, op, left, right, a, b)
+        }
+        Binary::Gt => {
+            let op = by_type2(left, Op2::Lts32, Op2::Ltu32, Op2::Lts64, Op2::Ltu64);
+            put(steps, env, Instr::Two(op, b, a))
+        }
+        Binary::Ge => {
+            let op = by_type2(left, Op2::Les32, Op2::Leu32, Op2::Les64, Op2::Leu64);
+            put(steps, env, Instr::Two(op, b, a))
+        }
+        Binary::Mul => {
+            let op = by_type2(left, Op2::Mul32, Op2::Mul32, Op2::Mul64, Op2::Mul64);
+            put(steps, env, Instr::Two(op, a, b))
+        }
+        Binary::Div => {
+            let op = by_type2(left, Op2::Divs32, Op2::Divu32, Op2::Divs64, Op2::Divu64);
+            put(steps, env, Instr::Two(op, a, b))
+        }
+        Binary::Rem => {
+            let op = by_type2(left, Op2::Rems32, Op2::Remu32, Op2::Rems64, Op2::Remu64);
+            put(steps, env, Instr::Two(op, a, b))
+        }
+        Binary::Add => {
+            let op = by_type2(left, Op2::Add32, Op2::Add32, Op2::Add64, Op2::Add64);
+            put(steps, env, Instr::Two(op, a, b))
+        }
+        Binary::Sub => {
+            let op = by_type2(left, Op2::Sub32, Op2::Sub32, Op2::Sub64, Op2::Sub64);
+            put(steps, env, Instr::Two(op, a, b))
+        }
+        Binary::Lt => {
+            let op = by_type2(left, Op2::Lts32, Op2::Ltu32, Op2::Lts64, Op2::Ltu64);
+            put(steps, env, Instr::Two(op, a, b))
+        }
+        Binary::Le => {
+            let op = by_type2(left, Op2::Les32, Op2::Leu32, Op2::Les64, Op2::Leu64);
+            put(steps, env, Instr::Two(op, a, b))
+        }
+        Binary::Eq => {
+            let op = by_type2(left, Op2::Eq32, Op2::Eq32, Op2::Eq64, Op2::Eq64);
+            put(steps, env, Instr::Two(op, a, b))
+        }
+        Binary::Ne => {
+            let op = by_type2(left, Op2::Ne32, Op2::Ne32, Op2::Ne64, Op2::Ne64);
+            put(steps, env, Instr::Two(op, a, b))
+        }
+        Binary::And => {
+            let op = by_type2(left, Op2::And32, Op2::And32, Op2::And64, Op2::And64);
+            put(steps, env, Instr::Two(op, a, b))
+        }
+        Binary::Xor => {
+            let op = by_type2(left, Op2::Xor32, Op2::Xor32, Op2::Xor64, Op2::Xor64);
+            put(steps, env, Instr::Two(op, a, b))
+        }
+        Binary::Or => {
+            let op = by_type2(left, Op2::Or32, Op2::Or32, Op2::Or64, Op2::Or64);
+            put(steps, env, Instr::Two(op, a, b))
+        }
+    }
+}
