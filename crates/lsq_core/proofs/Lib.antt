@@ -1,4 +1,7 @@
+pub mod BitLemmas
 pub mod EntryLemmas
+pub mod ExecLemmas
+pub mod IndexLemmas
 pub mod JoinLemmas
 pub mod KeepLemmas
 pub mod MarkLemmas

@@ -1,10 +1,14 @@
 -- Queues after acts, put together from their parts, and the entries of a group, one after another.
-use Rattle.std.proofs.Common.{◌≡◌, ℕ, suc, zero, ◌+◌, ◌<◌, ◌≤◌, Bool, List, [], ◌∷◌, ◌++◌, length, length-append, get_or, take, refl, sym, ap, ◌∙◌, arith}
+use Rattle.std.proofs.Common.{◌≡◌, ℕ, suc, zero, ◌+◌, ◌<◌, ◌≤◌, ◌⊎◌, Bool, List, [], ◌∷◌, ◌++◌, length, length-append, get_or, take, refl, sym, ap, ◌∙◌, inl, inr, arith}
 use Rattle.net_types.specs.declared.net.Port.{Port}
 use Rattle.net_types.specs.declared.net.Port.TheVariants.{Load}
 use Rattle.lsq_core.specs.declared.entry.Entry.{Entry}
 use Rattle.lsq_core.specs.Acts.{fresh, fresh_entry, is_store}
-use Rattle.lsq_core.specs.Views.{QueueView}
+use Rattle.std.specs.List.{All}
+use Rattle.std.proofs.lemmas.Bool.{cases_lt}
+use Rattle.std.proofs.lemmas.List.{get_or_past}
+use Rattle.net_types.specs.Queues.{IsGroup}
+use Rattle.lsq_core.specs.Views.{QueueView, GroupsWithin}
 use Rattle.lsq_core.proofs.KeepLemmas.{length-fresh}
 
 -- a queue of these parts
@@ -46,3 +50,11 @@ fresh_step old xs new n m p i b ports g l is before at store after =
     let y : fresh_entry m p b ≡ fresh_entry (n + i) (get_or g i 0) (is_store (get_or ports (get_or g i 0) Load)) = (λ k. fresh_entry (at k) (is k) (s k)) in
     after ∙ ap (λ z. xs ++ z ∷ []) y ∙ ap (λ z. z ++ fresh_entry (n + i) (get_or g i 0) (is_store (get_or ports (get_or g i 0) Load)) ∷ []) before
     ∙ join-join old (fresh n ports (take i g)) _ ∙ ap (λ z. old ++ z) (sym (fresh_more n ports g i l)) ∙ ap (λ k. old ++ fresh n ports (take k g)) (sym j)
+
+-- the groups of a shape are of its ports
+pub groups_within : (n d : ℕ) (groups : List (List ℕ)) → All (IsGroup d n) groups → GroupsWithin n groups
+groups_within n d groups all g i l = by (cases_lt g (length groups))
+  where
+    by : (g < length groups) ⊎ (length groups ≤ g) → get_or (get_or groups g []) i 0 < n
+    by (inl b) = (all g [] b).named i 0 l
+    by (inr b) = let e = ap length (get_or_past groups g [] b) in absurd (omega arith)

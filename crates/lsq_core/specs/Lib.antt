@@ -4,3 +4,5 @@ pub mod Wants
 pub mod Runs
 pub mod Laws
 pub mod Rows
+pub mod Bits
+pub mod Index

@@ -1,10 +1,11 @@
 //! The entries of a queue, oldest first.
 
-ghost use Rattle.std.specs.Prelude.{◌≡◌, ◌+◌, ◌<◌, ◌≤◌, ◌^◌, ◌==◌, ◌++◌, ◌∷◌, [], None, false, length, IfOk, MatchOption};
+ghost use Rattle.std.specs.Prelude.{◌≡◌, ◌+◌, ◌<◌, ◌≤◌, ◌^◌, ◌==◌, ◌++◌, ◌∷◌, [], None, false, length, set, IfOk, MatchOption};
 ghost use Rattle.std.specs.List.{find, list_all};
 ghost use Rattle.lsq_core.specs.Acts.{first_changed, is_nil, lets, known, waiting, last_such, source_ok, order_ok, executes, rest, fresh_entry};
 ghost use Rattle.lsq_core.specs.Views.{InOrder, InPorts, no_entries, oldest_of, front_of, entry_at};
 ghost use Rattle.lsq_core.specs.Wants.{wanted, changed_by, IsFirst, HasNone};
+ghost use Rattle.lsq_core.specs.declared.entry.Want.TheVariants as want;
 
 use crate::entry::{Entry, Made, Want};
 use circular_buffer::HeapCircularBuffer;
@@ -74,14 +75,68 @@ impl Entries {
         self.len() == 0
     }
 
+    /// Whether loads may have the data of stores that wait.
+    pub(crate) fn forwards(&self) -> bool
+        ensures { result ≡ self.now.queue.forward }
+    {
+        self.forward
+    }
+
+    /// The next serial number.
+    pub(crate) fn next(&self) -> u64
+        ensures { result ≡ self.now.queue.next }
+    {
+        self.next
+    }
+
+    /// How many ports there are.
+    pub(crate) fn ports(&self) -> usize
+        ensures { result ≡ self.now.ports }
+    {
+        self.ports
+    }
+
     /// The entry at a place.
-    fn at(&self, at: usize) -> Entry
+    pub(crate) fn at(&self, at: usize) -> Entry
         requires { at < length self.now.queue.items }
         ensures { result ≡ entry_at self.now.queue.items at }
     {
         match self.items.get(at) {
             Some(entry) => *entry,
             None => Entry::fresh(0, 0, false),
+        }
+    }
+
+    /// The place of the entry of a serial number.
+    pub(crate) fn place_of_serial(&self, serial: u64) -> Option<usize>
+        ensures { MatchOption result (HasNone (wanted (want.Serial serial)) self.now.queue.items)
+            (λ at. IsFirst (wanted (want.Serial serial)) self.now.queue.items at) }
+    {
+        if self.next <= serial {
+            return None;
+        }
+        let back = self.next - serial;
+        let len = self.len();
+        if back <= len as u64 {
+            Some(len - back as usize)
+        } else {
+            None
+        }
+    }
+
+    /// Puts an entry in the place of one of its serial number.
+    pub(crate) fn put(&mut self, at: usize, entry: Entry)
+        requires at { at < length self.old.queue.items }
+        requires serial { entry.serial ≡ (entry_at self.old.queue.items at).serial }
+        requires port { entry.port < self.old.ports }
+        ensures items { self.new.queue.items ≡ set self.old.queue.items at entry }
+        ensures mark { self.new.queue.forward ≡ self.old.queue.forward }
+        ensures next { self.new.queue.next ≡ self.old.queue.next }
+        ensures depth { self.new.depth ≡ self.old.depth }
+        ensures ports { self.new.ports ≡ self.old.ports }
+    {
+        if let Some(old) = self.items.get_mut(at) {
+            *old = entry;
         }
     }
 

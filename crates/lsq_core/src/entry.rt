@@ -1,7 +1,8 @@
 //! Entries of a queue.
 
-ghost use Rattle.std.specs.Prelude.{◌≡◌};
-ghost use Rattle.lsq_core.specs.Acts.{ready, lets, known, waiting, same, spent, fresh_entry};
+ghost use Rattle.std.specs.Prelude.{◌≡◌, not};
+ghost use Rattle.lsq_core.specs.Index.{clear};
+ghost use Rattle.lsq_core.specs.Acts.{ready, lets, known, waiting, same, spent, fresh_entry, or_zero};
 ghost use Rattle.lsq_core.specs.Wants.{wanted, changed_by};
 
 /// An access that was allocated and has not retired.
@@ -109,6 +110,17 @@ impl Entry {
         self.serial < load.serial && self.store && self.has_address_of(load) && !self.done
     }
 
+    /// Whether it is an older entry of a side that has an entry's address and is not executed.
+    pub(crate) fn is_in_way(&self, side: bool, entry: &Entry) -> bool
+        ensures { result ≡ not (clear side entry.now self.now) }
+    {
+        self.serial < entry.serial
+            && self.store == side
+            && self.addr.is_some()
+            && !self.done
+            && self.has_address_of(entry)
+    }
+
     /// Whether both addresses are known and equal.
     fn has_address_of(&self, other: &Entry) -> bool
         ensures { result ≡ same self.now.addr other.now.addr }
@@ -117,6 +129,16 @@ impl Entry {
             (Some(own), Some(addr)) => own == addr,
             (Some(_), None) => false,
             (None, _) => false,
+        }
+    }
+
+    /// Its address, or 0.
+    pub(crate) fn address(&self) -> u64
+        ensures { result ≡ or_zero self.now.addr }
+    {
+        match self.addr {
+            None => 0,
+            Some(addr) => addr,
         }
     }
 

@@ -229,7 +229,7 @@ impl Queue for ListLsq {
 }
 
 /// A number that a number of 32 bits bounds.
-fn number_within(number: usize, bound: u32) -> u32
+pub(crate) fn number_within(number: usize, bound: u32) -> u32
     requires { number ≤ bound }
     ensures { result ≡ number }
 {
@@ -257,7 +257,7 @@ fn datum(entry: &Entry) -> u64
 }
 
 /// Whether the address of an entry lies past the array.
-fn is_stray(array: &[u64], entry: &Entry) -> bool
+pub(crate) fn is_stray(array: &[u64], entry: &Entry) -> bool
     ensures { count_of result ≡ stray_of array.now entry.now }
 {
     address(entry) >= array.len() as u64
@@ -275,7 +275,7 @@ fn element(array: &[u64], at: u64) -> u64
 }
 
 /// What a load reads that has this source; 0 past the array.
-fn load(array: &[u64], entry: &Entry, source: Option<Entry>) -> u64
+pub(crate) fn load(array: &[u64], entry: &Entry, source: Option<Entry>) -> u64
     ensures { result ≡ load_value array.now entry.now source }
 {
     let at = address(entry);
@@ -292,7 +292,7 @@ fn load(array: &[u64], entry: &Entry, source: Option<Entry>) -> u64
 }
 
 /// Writes the element of a store; past the array, and for a load, the array stays.
-fn write(array: &mut List<u64>, entry: &Entry)
+pub(crate) fn write(array: &mut List<u64>, entry: &Entry)
     ensures { array.new ≡ exec_array array.old entry.now }
 {
     let at = address(entry);
@@ -302,7 +302,7 @@ fn write(array: &mut List<u64>, entry: &Entry)
 }
 
 /// Whether a port is a store port.
-fn is_store_at(ports: &[Port], port: u32) -> bool
+pub(crate) fn is_store_at(ports: &[Port], port: u32) -> bool
     ensures { result ≡ is_store (get_or ports.now port Load) }
 {
     let at = port as usize;
@@ -332,7 +332,7 @@ fn add_group(entries: &mut Entries, ports: &[Port], group: &[u32])
 /// # Errors
 ///
 /// [`Memory`] where memory is wanting.
-fn list_of<T: Copy + Drop>(alloc: Global, items: &[T]) -> Result<List<T>, Memory>
+pub(crate) fn list_of<T: Copy + Drop>(alloc: Global, items: &[T]) -> Result<List<T>, Memory>
     ensures { IfOk result (λ list. list ≡ items.now) }
 {
     let mut list = List::new(alloc);
@@ -347,7 +347,7 @@ fn list_of<T: Copy + Drop>(alloc: Global, items: &[T]) -> Result<List<T>, Memory
 /// # Errors
 ///
 /// [`Memory`] where memory is wanting.
-fn lists_of(alloc: Global, items: &[List<u32>]) -> Result<List<List<u32>>, Memory>
+pub(crate) fn lists_of(alloc: Global, items: &[List<u32>]) -> Result<List<List<u32>>, Memory>
     ensures { IfOk result (λ lists. lists ≡ items.now) }
 {
     let mut lists = List::new(alloc);

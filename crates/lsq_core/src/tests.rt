@@ -4,8 +4,8 @@ ghost use Rattle.lsq_core.specs.Views.{shaped};
 ghost use Rattle.lsq_core.specs.Rows.{small};
 
 use crate::{
-    ListLsq, Outcome, Queue, acts_join, acts_keep_a_queue, acts_stay_refused, mark_allows_more,
-    rows_hold, run_acts,
+    ListLsq, Lsq, Outcome, Queue, acts_join, acts_keep_a_queue, acts_stay_refused,
+    mark_allows_more, rows_hold, run_acts,
 };
 use el_base::Log;
 use net_types::{Act, List, Memory, Port};
@@ -82,6 +82,40 @@ fn a_store_hands_its_data_on(rt: HostRuntime) -> Result<(), Fail> {
     let mut none = Log::with_room(rt.alloc(), 1)?;
     assert_eq!(rt; run_acts(&mut queue, loads.as_slice(), &mut none), 1);
     assert_eq!(rt; queue.reply(1), Some(9));
+    Ok(())
+}
+
+/// The same queue with an index.
+fn small_indexed(alloc: Global, forward: bool) -> Result<Lsq, Memory>
+    ensures { IfOk result (λ q. q ≡ small forward) }
+{
+    let mut group = List::new(alloc);
+    group.push(0)?;
+    group.push(1)?;
+    let mut groups = List::new(alloc);
+    groups.push(group)?;
+    Lsq::new(
+        alloc,
+        [10, 11, 12, 13, 14, 15, 16, 17].as_slice(),
+        2,
+        [Port::Store, Port::Load].as_slice(),
+        groups.as_slice(),
+        forward,
+    )
+}
+
+#[test]
+fn an_index_finds_the_entries(rt: HostRuntime) -> Result<(), Fail> {
+    let mut queue = small_indexed(rt.alloc(), true)?;
+    let mut puts = Log::with_room(rt.alloc(), 4)?;
+    let acts = [
+        (Act::Alloc(0), 0),
+        (Act::Addr(1), 5),
+        (Act::Addr(0), 5),
+        (Act::Data(0), 9),
+    ];
+    assert_eq!(rt; run_acts(&mut queue, acts.as_slice(), &mut puts), 4);
+    assert_eq!(rt; queue.oldest(), Some(0));
     Ok(())
 }
 

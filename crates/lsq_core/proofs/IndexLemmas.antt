@@ -1,0 +1,344 @@
+-- Rows of places in a ring, as entries change, are added and are dropped.
+use Rattle.std.proofs.Common.{◌≡◌, ℕ, suc, ◌+◌, ◌-◌, ◌*◌, ◌/◌, ◌%◌, ◌^◌, ◌<◌, ◌≤◌, ◌⊎◌, nat_lt, max, Bool, true, false, Option, Some, None, List, [], ◌∷◌, ◌++◌, length, set, eqb, refl, sym, ap, ◌∙◌, inl, inr, arith}
+use Rattle.std.proofs.Math.Nat.{mul-le-mul_right, mod-lt}
+use Rattle.std.proofs.lemmas.Bool.{cases_eq, cases_lt, lt-ltb, le-ltb, ne_eqb, eq-eqb, false≢true}
+use Rattle.std.proofs.lemmas.List.{get_or-set_same, get_or-set_other, length-set, length_push, get_or_push, get_or_append_left}
+use Rattle.lsq_core.specs.declared.entry.Entry.{Entry}
+use Rattle.lsq_core.specs.declared.marks.Kind.{Kind}
+use Rattle.lsq_core.specs.declared.marks.Kind.TheVariants as kind
+use Rattle.lsq_core.specs.declared.marks.Marks.{Marks}
+use Rattle.lsq_core.specs.Acts.{rest, or_zero}
+use Rattle.lsq_core.specs.Views.{entry_at, front_of, count_of}
+use Rattle.lsq_core.specs.Bits.{has, IsSet, IsNext}
+use Rattle.lsq_core.specs.Index.{bucket, row_of, stands, in_row, wrapped, shown, HasRoom, Shows, KeepsShape, IsMarks, IsNextIn}
+
+-- places of a ring
+pub wrapped_cases : (w h k : ℕ) → ((h + k < w) × (wrapped w h k ≡ h + k)) ⊎ ((w ≤ h + k) × (wrapped w h k + w ≡ h + k))
+wrapped_cases w h k = by (cases_lt (h + k) w)
+  where
+    by : (h + k < w) ⊎ (w ≤ h + k) → ((h + k < w) × (wrapped w h k ≡ h + k)) ⊎ ((w ≤ h + k) × (wrapped w h k + w ≡ h + k))
+    by (inl l) = inl (l, (let e : nat_lt (h + k) w ≡ true = lt-ltb (h + k) w l in rw e refl))
+    by (inr l) = inr (l, (let e : nat_lt (h + k) w ≡ false = le-ltb (h + k) w l in rw e (omega arith)))
+
+pub wrapped_below : (w h k : ℕ) → h < w → k < w → wrapped w h k < w
+wrapped_below w h k hl kl = by (wrapped_cases w h k)
+  where
+    by : ((h + k < w) × (wrapped w h k ≡ h + k)) ⊎ ((w ≤ h + k) × (wrapped w h k + w ≡ h + k)) → wrapped w h k < w
+    by (inl p) = let e = p.1 in let l = p.0 in omega arith
+    by (inr p) = let e = p.1 in omega arith
+
+wrapped_apart : (w h k j : ℕ) → h < w → k < w → j < w → wrapped w h k ≡ wrapped w h j → k ≡ j
+wrapped_apart w h k j hl kl jl e = by (wrapped_cases w h k) (wrapped_cases w h j)
+  where
+    by : ((h + k < w) × (wrapped w h k ≡ h + k)) ⊎ ((w ≤ h + k) × (wrapped w h k + w ≡ h + k)) → ((h + j < w) × (wrapped w h j ≡ h + j)) ⊎ ((w ≤ h + j) × (wrapped w h j + w ≡ h + j)) → k ≡ j
+    by (inl p) (inl q) = let a = p.1 in let b = q.1 in omega arith
+    by (inl p) (inr q) = let a = p.1 in let b = q.1 in omega arith
+    by (inr p) (inl q) = let a = p.1 in let b = q.1 in omega arith
+    by (inr p) (inr q) = let a = p.1 in let b = q.1 in omega arith
+
+-- one row after another
+rows_apart : (w r s p q : ℕ) → p < w → q < w → r * w + p ≡ s * w + q → (r ≡ s) × (p ≡ q)
+rows_apart w r s p q pl ql e = by (cases_lt r s) (cases_lt s r)
+  where
+    by : (r < s) ⊎ (s ≤ r) → (s < r) ⊎ (r ≤ s) → (r ≡ s) × (p ≡ q)
+    by (inl l) b = let m : (r + 1) * w ≤ s * w = mul-le-mul_right w (omega arith) in absurd (omega arith)
+    by (inr l) (inl b) = let m : (s + 1) * w ≤ r * w = mul-le-mul_right w (omega arith) in absurd (omega arith)
+    by (inr l) (inr b) = let same : r ≡ s = omega arith in (same, (let m : r * w ≡ s * w = ap (λ n. n * w) same in omega arith))
+
+-- the place of a number in a row
+abbrev pub slot : ℕ → ℕ → ℕ → ℕ → ℕ
+slot w h r k = r * w + wrapped w h k
+
+slots_apart : (w h r s k j : ℕ) → h < w → k < w → j < w → slot w h r k ≡ slot w h s j → (r ≡ s) × (k ≡ j)
+slots_apart w h r s k j hl kl jl e =
+    let a = rows_apart w r s (wrapped w h k) (wrapped w h j) (wrapped_below w h k hl kl) (wrapped_below w h j hl jl) e in
+    (a.0, wrapped_apart w h k j hl kl jl a.1)
+
+-- what the sets show, by their parts
+abbrev pub Shown : Kind → ℕ → ℕ → List ℕ → ℕ → List Entry → Type 0
+Shown kd rows w bits head items = (r k : ℕ) → r < rows → k < w → has bits (slot w head r k) ≡ shown kd rows r items k
+
+-- outside its row an entry does not show
+other_row : (kd : Kind) (rows r : ℕ) (x : Entry) → (r ≡ row_of kd rows x → ⊥) → in_row kd rows r x ≡ false
+other_row kd rows r x ne = let e : eqb (row_of kd rows x) r ≡ false = ne_eqb (row_of kd rows x) r (λ s. ne (sym s)) in rw e refl
+
+own_row : (kd : Kind) (rows r : ℕ) (x : Entry) → r ≡ row_of kd rows x → in_row kd rows r x ≡ stands kd x
+own_row kd rows r x same = let e : eqb (row_of kd rows x) r ≡ true = eq-eqb (row_of kd rows x) r (sym same) in rw e refl
+
+shown_within : (kd : Kind) (rows r k : ℕ) (items : List Entry) (x : Entry) → k < length items → entry_at items k ≡ x → shown kd rows r items k ≡ in_row kd rows r x
+shown_within kd rows r k items x l is = let e : nat_lt k (length items) ≡ true = lt-ltb k (length items) l in rw (e, is) refl
+
+shown_past : (kd : Kind) (rows r k : ℕ) (items : List Entry) → length items ≤ k → shown kd rows r items k ≡ false
+shown_past kd rows r k items l = let e : nat_lt k (length items) ≡ false = le-ltb k (length items) l in rw e refl
+
+pub change_shown : (kd : Kind) (rows w head at : ℕ) (b0 b1 b2 : List ℕ) (items : List Entry) (x y : Entry) → head < w → at < w → at < length items → length items ≤ w
+    → entry_at items at ≡ x → Shown kd rows w b0 head items
+    → IsSet (slot w head (row_of kd rows x) at) false b0 b1 → IsSet (slot w head (row_of kd rows y) at) (stands kd y) b1 b2
+    → Shown kd rows w b2 head (set items at y)
+change_shown kd rows w head at b0 b1 b2 items x y hl al l most is h s t r k rl kl = by (cases_eq k at)
+  where
+    after : shown kd rows r (set items at y) at ≡ in_row kd rows r y
+    after = shown_within kd rows r at (set items at y) y (rw (length-set items at y) l) (get_or-set_same items at y _ l)
+
+    here : (k ≡ at) → (r ≡ row_of kd rows y) ⊎ (r ≡ row_of kd rows y → ⊥) → (r ≡ row_of kd rows x) ⊎ (r ≡ row_of kd rows x → ⊥) → has b2 (slot w head r at) ≡ shown kd rows r (set items at y) at
+    here e (inl own) other = ap (λ q. has b2 (slot w head q at)) own ∙ t.here ∙ sym (after ∙ own_row kd rows r y own)
+    here e (inr out) (inl own) =
+        t.other (slot w head r at) (λ q. out (slots_apart w head r (row_of kd rows y) at at hl al al q).0) ∙ ap (λ q. has b1 (slot w head q at)) own ∙ s.here ∙ sym (after ∙ other_row kd rows r y out)
+    here e (inr out) (inr nor) =
+        t.other (slot w head r at) (λ q. out (slots_apart w head r (row_of kd rows y) at at hl al al q).0)
+        ∙ s.other (slot w head r at) (λ q. nor (slots_apart w head r (row_of kd rows x) at at hl al al q).0)
+        ∙ h r at rl al ∙ shown_within kd rows r at items x l is ∙ other_row kd rows r x nor ∙ sym (after ∙ other_row kd rows r y out)
+
+    by : (k ≡ at) ⊎ (k ≡ at → ⊥) → has b2 (slot w head r k) ≡ shown kd rows r (set items at y) k
+    by (inl e) = rw e (here e (cases_eq r (row_of kd rows y)) (cases_eq r (row_of kd rows x)))
+    by (inr ne) =
+        let a = t.other (slot w head r k) (λ q. ne (slots_apart w head r (row_of kd rows y) k at hl kl al q).1) in
+        let b = s.other (slot w head r k) (λ q. ne (slots_apart w head r (row_of kd rows x) k at hl kl al q).1) in
+        let c : shown kd rows r (set items at y) k ≡ shown kd rows r items k = rw (length-set items at y, get_or-set_other items at k y _ ne) refl in
+        a ∙ b ∙ h r k rl kl ∙ sym c
+
+pub add_shown : (kd : Kind) (rows w head at : ℕ) (b0 b1 : List ℕ) (items : List Entry) (y : Entry) → head < w → at < w → length items ≡ at
+    → Shown kd rows w b0 head items → IsSet (slot w head (row_of kd rows y) at) (stands kd y) b0 b1 → Shown kd rows w b1 head (items ++ y ∷ [])
+add_shown kd rows w head at b0 b1 items y hl al l h t r k rl kl = by (cases_eq k at) (cases_lt k at)
+  where
+    more : length (items ++ y ∷ []) ≡ at + 1
+    more = length_push items y ∙ ap (λ n. n + 1) l
+
+    after : shown kd rows r (items ++ y ∷ []) at ≡ in_row kd rows r y
+    after = shown_within kd rows r at (items ++ y ∷ []) y (rw more (omega arith)) (get_or_push items y _ at l)
+
+    here : (r ≡ row_of kd rows y) ⊎ (r ≡ row_of kd rows y → ⊥) → has b1 (slot w head r at) ≡ shown kd rows r (items ++ y ∷ []) at
+    here (inl own) = ap (λ q. has b1 (slot w head q at)) own ∙ t.here ∙ sym (after ∙ own_row kd rows r y own)
+    here (inr out) =
+        t.other (slot w head r at) (λ q. out (slots_apart w head r (row_of kd rows y) at at hl al al q).0)
+        ∙ h r at rl al ∙ shown_past kd rows r at items (omega arith) ∙ sym (after ∙ other_row kd rows r y out)
+
+    by : (k ≡ at) ⊎ (k ≡ at → ⊥) → (k < at) ⊎ (at ≤ k) → has b1 (slot w head r k) ≡ shown kd rows r (items ++ y ∷ []) k
+    by (inl e) o = rw e (here (cases_eq r (row_of kd rows y)))
+    by (inr ne) (inl b) =
+        let m : k < length items = omega arith in
+        t.other (slot w head r k) (λ q. ne (slots_apart w head r (row_of kd rows y) k at hl kl al q).1)
+        ∙ h r k rl kl ∙ shown_within kd rows r k items (entry_at items k) m refl
+        ∙ sym (shown_within kd rows r k (items ++ y ∷ []) (entry_at items k) (rw more (omega arith)) (get_or_append_left items (y ∷ []) _ k m))
+    by (inr ne) (inr b) =
+        t.other (slot w head r k) (λ q. ne (slots_apart w head r (row_of kd rows y) k at hl kl al q).1)
+        ∙ h r k rl kl ∙ shown_past kd rows r k items (omega arith) ∙ sym (shown_past kd rows r k (items ++ y ∷ []) (rw more (omega arith)))
+
+-- a ring whose head moves on by one
+abbrev Turns : ℕ → ℕ → ℕ → Type 0
+Turns w h k = ((h + k < w) × (wrapped w h k ≡ h + k)) ⊎ ((w ≤ h + k) × (wrapped w h k + w ≡ h + k))
+
+turned_more : (w h k : ℕ) → h < w → suc k < w → wrapped w (wrapped w h 1) k ≡ wrapped w h (suc k)
+turned_more w h k hl kl = by (wrapped_cases w h 1) (wrapped_cases w (wrapped w h 1) k) (wrapped_cases w h (suc k))
+  where
+    by : Turns w h 1 → Turns w (wrapped w h 1) k → Turns w h (suc k) → wrapped w (wrapped w h 1) k ≡ wrapped w h (suc k)
+    by (inl p) (inl q) (inl r) = let a = p.1 in let b = q.1 in let d = r.1 in omega arith
+    by (inl p) (inl q) (inr r) = let a = p.1 in let b = q.1 in let d = r.1 in let e = q.0 in let f = r.0 in omega arith
+    by (inl p) (inr q) (inl r) = let a = p.1 in let b = q.1 in let d = r.1 in let e = q.0 in let f = r.0 in omega arith
+    by (inl p) (inr q) (inr r) = let a = p.1 in let b = q.1 in let d = r.1 in omega arith
+    by (inr p) (inl q) (inl r) = let a = p.1 in let b = q.1 in let d = r.1 in let f = r.0 in omega arith
+    by (inr p) (inl q) (inr r) = let a = p.1 in let b = q.1 in let d = r.1 in omega arith
+    by (inr p) (inr q) (inl r) = let a = p.1 in let b = q.1 in let d = r.1 in let e = q.0 in omega arith
+    by (inr p) (inr q) (inr r) = let a = p.1 in let b = q.1 in let d = r.1 in let e = q.0 in omega arith
+
+turned_last : (w h k : ℕ) → h < w → suc k ≡ w → wrapped w (wrapped w h 1) k ≡ wrapped w h 0
+turned_last w h k hl kl = by (wrapped_cases w h 1) (wrapped_cases w (wrapped w h 1) k) (wrapped_cases w h 0)
+  where
+    by : Turns w h 1 → Turns w (wrapped w h 1) k → Turns w h 0 → wrapped w (wrapped w h 1) k ≡ wrapped w h 0
+    by p q (inr r) = absurd (let f = r.0 in omega arith)
+    by (inl p) (inl q) (inl r) = let a = p.1 in let b = q.1 in let d = r.1 in let e = q.0 in omega arith
+    by (inl p) (inr q) (inl r) = let a = p.1 in let b = q.1 in let d = r.1 in omega arith
+    by (inr p) (inl q) (inl r) = let a = p.1 in let b = q.1 in let d = r.1 in let e = p.0 in omega arith
+    by (inr p) (inr q) (inl r) = let a = p.1 in let b = q.1 in let d = r.1 in let e = q.0 in omega arith
+
+pub retire_shown : (kd : Kind) (rows w head : ℕ) (b0 b1 : List ℕ) (z : Entry) (zs : List Entry) → head < w → suc (length zs) ≤ w
+    → Shown kd rows w b0 head (z ∷ zs) → IsSet (slot w head (row_of kd rows z) 0) false b0 b1 → Shown kd rows w b1 (wrapped w head 1) zs
+retire_shown kd rows w head b0 b1 z zs hl most h t r k rl kl = by (cases_lt (suc k) w)
+  where
+    next : (k < length zs) ⊎ (length zs ≤ k) → shown kd rows r (z ∷ zs) (suc k) ≡ shown kd rows r zs k
+    next (inl l) =
+        let m : suc k < length (z ∷ zs) = omega arith in
+        shown_within kd rows r (suc k) (z ∷ zs) (entry_at zs k) m refl ∙ sym (shown_within kd rows r k zs (entry_at zs k) l refl)
+    next (inr l) = let m : length (z ∷ zs) ≤ suc k = omega arith in shown_past kd rows r (suc k) (z ∷ zs) m ∙ sym (shown_past kd rows r k zs l)
+
+    last : (r ≡ row_of kd rows z) ⊎ (r ≡ row_of kd rows z → ⊥) → has b1 (slot w head r 0) ≡ false
+    last (inl own) = ap (λ q. has b1 (slot w head q 0)) own ∙ t.here
+    last (inr out) =
+        let some : 0 < length (z ∷ zs) = omega arith in
+        t.other (slot w head r 0) (λ q. out (slots_apart w head r (row_of kd rows z) 0 0 hl (omega arith) (omega arith) q).0)
+        ∙ h r 0 rl (omega arith) ∙ shown_within kd rows r 0 (z ∷ zs) z some refl ∙ other_row kd rows r z out
+
+    by : (suc k < w) ⊎ (w ≤ suc k) → has b1 (slot w (wrapped w head 1) r k) ≡ shown kd rows r zs k
+    by (inl l) =
+        ap (λ p. has b1 (r * w + p)) (turned_more w head k hl l)
+        ∙ t.other (slot w head r (suc k)) (λ q. let e = (slots_apart w head r (row_of kd rows z) (suc k) 0 hl l (omega arith) q).1 in omega arith)
+        ∙ h r (suc k) rl l ∙ next (cases_lt k (length zs))
+    by (inr l) =
+        ap (λ p. has b1 (r * w + p)) (turned_last w head k hl (omega arith))
+        ∙ last (cases_eq r (row_of kd rows z)) ∙ sym (shown_past kd rows r k zs (omega arith))
+
+-- the sets of the code
+shows_after : (m n : Marks) (head head' : ℕ) (items : List Entry) → n.kind ≡ m.kind → n.rows ≡ m.rows → n.width ≡ m.width → length n.bits ≡ length m.bits
+    → HasRoom m → head' < m.width → length items ≤ m.width → Shown m.kind m.rows m.width n.bits head' items
+    → ((k : ℕ) → k < length items → row_of m.kind m.rows (entry_at items k) < m.rows) → Shows n head' items
+shows_after m n head head' items k r w len room hl most shown within = record {
+  room = record { bits = rw (r, w, len) room.bits; small = rw (r, w) room.small };
+  within = rw w hl;
+  most = rw w most;
+  shows = λ a b al bl. rw (k, r, w) (shown a b (rw (← r) al) (rw (← w) bl));
+  rows = λ a al. rw (k, r) (within a al);
+}
+
+pub changed : (m n o : Marks) (head at r s : ℕ) (b : Bool) (items : List Entry) (x y : Entry) → at < m.width → row_of m.kind m.rows y < m.rows
+    → r ≡ row_of m.kind m.rows x → KeepsShape m n → IsSet (slot m.width head r at) false m.bits n.bits
+    → s ≡ row_of n.kind n.rows y → b ≡ stands n.kind y → KeepsShape n o → IsSet (slot n.width head s at) b n.bits o.bits
+    → at < length items → entry_at items at ≡ x → Shows m head items → Shows o head (set items at y)
+changed m n o head at r s b items x y al yl re mn p se be nn q l is h =
+    let re' : s ≡ row_of m.kind m.rows y = se ∙ (λ i. row_of (mn.kind i) (mn.rows i) y) in
+    let be' : b ≡ stands m.kind y = be ∙ ap (λ k. stands k y) mn.kind in
+    let p' : IsSet (slot m.width head (row_of m.kind m.rows x) at) false m.bits n.bits = rw (← re) p in
+    let q' : IsSet (slot m.width head (row_of m.kind m.rows y) at) (stands m.kind y) n.bits o.bits = rw (← re', ← be', ← mn.width) q in
+    shows_after m o head head (set items at y) (nn.kind ∙ mn.kind) (nn.rows ∙ mn.rows) (nn.width ∙ mn.width) (q.size ∙ p.size) h.room h.within (rw (length-set items at y) h.most)
+    (change_shown m.kind m.rows m.width head at m.bits n.bits o.bits items x y h.within al l h.most is h.shows p' q')
+    (λ k kl. row k (rw (← length-set items at y) kl) (cases_eq k at))
+  where
+    row : (k : ℕ) → k < length items → (k ≡ at) ⊎ (k ≡ at → ⊥) → row_of m.kind m.rows (entry_at (set items at y) k) < m.rows
+    row k kl (inl e) = rw (e, get_or-set_same items at y _ l) yl
+    row k kl (inr ne) = rw (get_or-set_other items at k y _ ne) (h.rows k kl)
+
+pub added : (m n : Marks) (head at r : ℕ) (b : Bool) (items : List Entry) (y : Entry) → at < m.width → row_of m.kind m.rows y < m.rows
+    → r ≡ row_of m.kind m.rows y → b ≡ stands m.kind y → KeepsShape m n → IsSet (slot m.width head r at) b m.bits n.bits
+    → length items ≡ at → Shows m head items → Shows n head (items ++ y ∷ [])
+added m n head at r b items y al yl re be mn p l h =
+    let p' : IsSet (slot m.width head (row_of m.kind m.rows y) at) (stands m.kind y) m.bits n.bits = rw (← re, ← be) p in
+    let len = length_push items y in
+    shows_after m n head head (items ++ y ∷ []) mn.kind mn.rows mn.width p.size h.room h.within (omega arith)
+    (add_shown m.kind m.rows m.width head at m.bits n.bits items y h.within al l h.shows p')
+    (λ k kl. row k (cases_lt k (length items)) kl)
+  where
+    row : (k : ℕ) → (k < length items) ⊎ (length items ≤ k) → k < length (items ++ y ∷ []) → row_of m.kind m.rows (entry_at (items ++ y ∷ []) k) < m.rows
+    row k (inl i) kl = rw (get_or_append_left items (y ∷ []) _ k i) (h.rows k i)
+    row k (inr i) kl = let len = length_push items y in let e : length items ≡ k = omega arith in rw (get_or_push items y _ k e) yl
+
+pub retired : (m n : Marks) (head r : ℕ) (items : List Entry) (x : Entry) → r ≡ row_of m.kind m.rows x → KeepsShape m n → IsSet (slot m.width head r 0) false m.bits n.bits
+    → front_of items ≡ Some x → Shows m head items → Shows n (wrapped m.width head 1) (rest items)
+retired m n head r [] x re mn p is h = absurd (is_some_none is)
+  where
+    is_some_none : None ≡ Some x → ⊥
+    is_some_none e = cc
+retired m n head r (z ∷ zs) x re mn p is h =
+    let p' : IsSet (slot m.width head (row_of m.kind m.rows z) 0) false m.bits n.bits = rw (own, ← re) p in
+    let w : wrapped m.width head 1 < m.width = below (wrapped_cases m.width head 1) in
+    let most : suc (length zs) ≤ m.width = h.most in
+    shows_after m n head (wrapped m.width head 1) zs mn.kind mn.rows mn.width p.size h.room w (omega arith)
+    (retire_shown m.kind m.rows m.width head m.bits n.bits z zs h.within most h.shows p')
+    (λ k kl. h.rows (suc k) (let l : suc k < suc (length zs) = omega arith in l))
+  where
+    own : z ≡ x
+    own = ap (first_or z) is
+      where
+        first_or : Entry → Option Entry → Entry
+        first_or d None = d
+        first_or d (Some y) = y
+
+    below : Turns m.width head 1 → wrapped m.width head 1 < m.width
+    below (inl t) = let a = t.1 in let b = t.0 in omega arith
+    below (inr t) = let a = t.1 in let b = h.within in omega arith
+
+-- what a set shows of a number
+shown_yes : (kd : Kind) (rows r k : ℕ) (items : List Entry) → shown kd rows r items k ≡ true → (k < length items) × (in_row kd rows r (entry_at items k) ≡ true)
+shown_yes kd rows r k items e = by (cases_lt k (length items))
+  where
+    by : (k < length items) ⊎ (length items ≤ k) → (k < length items) × (in_row kd rows r (entry_at items k) ≡ true)
+    by (inl l) = (l, sym (shown_within kd rows r k items (entry_at items k) l refl) ∙ e)
+    by (inr l) = absurd (false≢true (sym (shown_past kd rows r k items l) ∙ e))
+
+shown_out : (kd : Kind) (rows r k : ℕ) (items : List Entry) → k < length items → shown kd rows r items k ≡ false → in_row kd rows r (entry_at items k) ≡ false
+shown_out kd rows r k items l e = sym (shown_within kd rows r k items (entry_at items k) l refl) ∙ e
+
+-- the search in two parts of a ring
+high : (w h k : ℕ) → h + k < w → wrapped w h k ≡ h + k
+high w h k l = let e : nat_lt (h + k) w ≡ true = lt-ltb (h + k) w l in rw e refl
+
+low : (w h k : ℕ) → w ≤ h + k → wrapped w h k ≡ h + k - w
+low w h k l = let e : nat_lt (h + k) w ≡ false = le-ltb (h + k) w l in rw e refl
+
+at_high : (m : Marks) (head row k : ℕ) (items : List Entry) → Shows m head items → row < m.rows → head + k < m.width → has m.bits (row * m.width + head + k) ≡ shown m.kind m.rows row items k
+at_high m head row k items h rl l =
+    let e : row * m.width + head + k ≡ row * m.width + wrapped m.width head k = rw (high m.width head k l) (omega arith) in
+    ap (has m.bits) e ∙ h.shows row k rl (omega arith)
+
+at_low : (m : Marks) (head row k : ℕ) (items : List Entry) → Shows m head items → row < m.rows → k < m.width → m.width ≤ head + k → has m.bits (row * m.width + head + k - m.width) ≡ shown m.kind m.rows row items k
+at_low m head row k items h rl kl l =
+    let e : row * m.width + head + k - m.width ≡ row * m.width + wrapped m.width head k = rw (low m.width head k l) (omega arith) in
+    ap (has m.bits) e ∙ h.shows row k rl kl
+
+pub next_high : (m : Marks) (head row from at : ℕ) (items : List Entry) → row < m.rows → head + from < m.width
+    → IsNext m.bits (row * m.width + head + from) (row * m.width + m.width) at → at < row * m.width + m.width
+    → Shows m head items → IsNextIn m row from (at - row * m.width - head) items
+next_high m head row from at items rl fl n l h =
+    let a = n.from_on in
+    let e : row * m.width + head + (at - row * m.width - head) ≡ at = omega arith in
+    let kl : head + (at - row * m.width - head) < m.width = omega arith in
+    let y = shown_yes m.kind m.rows row (at - row * m.width - head) items (sym (at_high m head row (at - row * m.width - head) items h rl kl) ∙ ap (has m.bits) e ∙ n.here l) in
+    record {
+      from_on = omega arith;
+      within = y.0;
+      here = y.1;
+      before = λ k g b.
+          (let o : has m.bits (row * m.width + head + k) ≡ false = n.before (row * m.width + head + k) (omega arith) (omega arith) in
+          let yl = y.0 in
+          let kk : head + k < m.width = omega arith in
+          let len : k < length items = omega arith in
+          shown_out m.kind m.rows row k items len (sym (at_high m head row k items h rl kk) ∙ o));
+    }
+
+pub next_low : (m : Marks) (head row from lo at : ℕ) (items : List Entry) → row < m.rows → from < m.width → head < m.width
+    → ((k : ℕ) → from ≤ k → head + k < m.width → has m.bits (row * m.width + head + k) ≡ false)
+    → row * m.width ≤ lo → row * m.width + head + from ≤ lo + m.width → ((k : ℕ) → from ≤ k → m.width ≤ head + k → lo + m.width ≤ row * m.width + head + k)
+    → IsNext m.bits lo (row * m.width + head) at → at < row * m.width + head
+    → Shows m head items → IsNextIn m row from (at - row * m.width + m.width - head) items
+next_low m head row from lo at items rl fl hl none b f g n l h =
+    let a = n.from_on in
+    let e : row * m.width + head + (at - row * m.width + m.width - head) - m.width ≡ at = omega arith in
+    let kl : at - row * m.width + m.width - head < m.width = omega arith in
+    let wl : m.width ≤ head + (at - row * m.width + m.width - head) = omega arith in
+    let y = shown_yes m.kind m.rows row (at - row * m.width + m.width - head) items (sym (at_low m head row (at - row * m.width + m.width - head) items h rl kl wl) ∙ ap (has m.bits) e ∙ n.here l) in
+    record {
+      from_on = omega arith;
+      within = y.0;
+      here = y.1;
+      before = λ k fk b. before y.0 k fk b (cases_lt (head + k) m.width);
+    }
+  where
+    before : at - row * m.width + m.width - head < length items → (k : ℕ) → from ≤ k → k < at - row * m.width + m.width - head → (head + k < m.width) ⊎ (m.width ≤ head + k) → in_row m.kind m.rows row (entry_at items k) ≡ false
+    before yl k fk b (inl kk) =
+        let len : k < length items = omega arith in
+        shown_out m.kind m.rows row k items len (sym (at_high m head row k items h rl kk) ∙ none k fk kk)
+    before yl k fk b (inr kk) =
+        let len : k < length items = omega arith in
+        let a = n.from_on in
+        let kw : k < m.width = omega arith in
+        let gk = g k fk kk in
+        let o : has m.bits (row * m.width + head + k - m.width) ≡ false = n.before (row * m.width + head + k - m.width) (omega arith) (omega arith) in
+        shown_out m.kind m.rows row k items len (sym (at_low m head row k items h rl kw kk) ∙ o)
+
+-- an entry of a port has a row in each set
+side_below : (b : Bool) → count_of b < 2
+side_below true = omega arith
+side_below false = omega arith
+
+bucket_below : (n a : ℕ) → 0 < n → bucket n a < n
+unfolding bucket
+bucket_below n a l = mod-lt (a * 11400714819323198485 % 2 ^ 64 / 2 ^ 32) l
+
+pub pending_below : (w : ℕ) (x : Entry) → 0 < w → row_of kind.Pending (2 * w) x < 2 * w
+pending_below w x l =
+    let m : max 1 (2 * w / 2) ≡ w = omega arith in
+    let b : bucket (max 1 (2 * w / 2)) (or_zero x.addr) < w = rw m (bucket_below w (or_zero x.addr) l) in
+    let s = side_below x.store in
+    omega arith
+
+-- the row of an entry within sets of this kind and size
+pub row_within : (kd : Kind) (rows w : ℕ) (m : Marks) (x : Entry) → IsMarks kd rows w m → row_of kd rows x < rows → row_of m.kind m.rows x < m.rows
+row_within kd rows w m x i l = rw (i.kind, i.rows) l

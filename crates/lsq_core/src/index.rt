@@ -1,0 +1,119 @@
+//! The sets of places of all kinds, kept as entries change.
+
+ghost use Rattle.std.specs.Prelude.{◌≡◌, ℕ, ◌+◌, ◌*◌, ◌^◌, ◌<◌, ◌≤◌, ◌++◌, ◌∷◌, [], Some, List, length, set, IfOk};
+ghost use Rattle.lsq_core.specs.declared.entry.Entry.{Entry};
+ghost use Rattle.lsq_core.specs.Acts.{rest};
+ghost use Rattle.lsq_core.specs.Views.{entry_at, front_of};
+ghost use Rattle.lsq_core.specs.Index.{row_of, wrapped, IsIndex, Indexes};
+ghost use Rattle.lsq_core.specs.declared.marks.Kind.TheVariants as kind;
+
+use crate::entry::Entry;
+use crate::marks::{Kind, Marks};
+use net_types::Memory;
+use std::alloc::Global;
+
+/// Where the entries stand that wait for something, by port and by address.
+#[derive(Drop)]
+pub(crate) struct Index {
+    pub(crate) addr: Marks,
+    pub(crate) data: Marks,
+    pub(crate) reply: Marks,
+    pub(crate) blank: Marks,
+    pub(crate) ready: Marks,
+    pub(crate) pending: Marks,
+}
+
+impl Index {
+    /// The sets of no entries, for so many ports and 64 times so many places.
+    ///
+    /// # Errors
+    ///
+    /// [`Memory`] where memory is wanting.
+    pub(crate) fn new(alloc: Global, ports: usize, blocks: usize) -> Result<Index, Memory>
+        requires some { 0 < blocks }
+        requires small { blocks ≤ 2 ^ 32 }
+        ensures shape { IfOk result (λ i. IsIndex ports (64 * blocks) i) }
+        ensures shows { IfOk result (λ i. Indexes i 0 []) }
+    {
+        Ok(Index {
+            addr: Marks::new(alloc, Kind::Addr, ports, blocks)?,
+            data: Marks::new(alloc, Kind::Data, ports, blocks)?,
+            reply: Marks::new(alloc, Kind::Reply, ports, blocks)?,
+            blank: Marks::new(alloc, Kind::Blank, 2, blocks)?,
+            ready: Marks::new(alloc, Kind::Ready, 2, blocks)?,
+            pending: Marks::new(alloc, Kind::Pending, 128 * blocks, blocks)?,
+        })
+    }
+
+    /// Notes that the entry of a number becomes another.
+    pub(crate) fn change(&mut self, head: usize, at: usize, old: &Entry, new: &Entry)
+        ghost shape: { ℕ × ℕ }
+        requires index { IsIndex shape.0 shape.1 self.old }
+        requires head { head < shape.1 }
+        requires at { at < shape.1 }
+        requires old { old.now.port < shape.0 }
+        requires new { new.now.port < shape.0 }
+        ensures index { IsIndex shape.0 shape.1 self.new }
+        ensures shows { (items : List Entry) → at < length items → entry_at items at ≡ old.now
+            → Indexes self.old head items → Indexes self.new head (set items at new.now) }
+    {
+        self.addr.change(head, at, old, new);
+        self.data.change(head, at, old, new);
+        self.reply.change(head, at, old, new);
+        self.blank.change(head, at, old, new);
+        self.ready.change(head, at, old, new);
+        self.pending.change(head, at, old, new);
+    }
+
+    /// Notes that an entry is added after so many.
+    pub(crate) fn add(&mut self, head: usize, len: usize, new: &Entry)
+        ghost shape: { ℕ × ℕ }
+        requires index { IsIndex shape.0 shape.1 self.old }
+        requires head { head < shape.1 }
+        requires len { len < shape.1 }
+        requires new { new.now.port < shape.0 }
+        ensures index { IsIndex shape.0 shape.1 self.new }
+        ensures shows { (items : List Entry) → length items ≡ len
+            → Indexes self.old head items → Indexes self.new head (items ++ new.now ∷ []) }
+    {
+        self.addr.add(head, len, new);
+        self.data.add(head, len, new);
+        self.reply.add(head, len, new);
+        self.blank.add(head, len, new);
+        self.ready.add(head, len, new);
+        self.pending.add(head, len, new);
+    }
+
+    /// Notes that the first entry is dropped.
+    pub(crate) fn retire(&mut self, head: usize, old: &Entry)
+        ghost shape: { ℕ × ℕ }
+        requires index { IsIndex shape.0 shape.1 self.old }
+        requires head { head < shape.1 }
+        requires old { old.now.port < shape.0 }
+        ensures index { IsIndex shape.0 shape.1 self.new }
+        ensures shows { (items : List Entry) → front_of items ≡ Some old.now
+            → Indexes self.old head items
+            → Indexes self.new (wrapped shape.1 head 1) (rest items) }
+    {
+        self.addr.retire(head, old);
+        self.data.retire(head, old);
+        self.reply.retire(head, old);
+        self.blank.retire(head, old);
+        self.ready.retire(head, old);
+        self.pending.retire(head, old);
+    }
+
+    /// The row of the entries of a side that wait with the address of an entry.
+    pub(crate) fn address_row(&self, side: bool, entry: &Entry) -> usize
+        requires kind { self.now.pending.kind ≡ kind.Pending }
+        requires rows { self.now.pending.rows ≤ 2 ^ 60 }
+        ensures { result
+            ≡ row_of kind.Pending self.now.pending.rows (record entry.now { store = side }) }
+    {
+        let beside = Entry {
+            store: side,
+            ..*entry
+        };
+        self.pending.row(&beside)
+    }
+}

@@ -1,0 +1,392 @@
+//! The entries of a queue with an index.
+
+ghost use Rattle.std.specs.Prelude.{◌≡◌, ◌+◌, ◌<◌, ◌≤◌, ◌^◌, ◌==◌, ◌++◌, ◌∷◌, [], None, Some, cond, true, length, IfOk, MatchOption};
+ghost use Rattle.std.specs.List.{find, list_all};
+ghost use Rattle.lsq_core.specs.Acts.{first_changed, is_nil, executes, last_such, waiting, lets, source_ok, order_ok, rest, fresh_entry};
+ghost use Rattle.lsq_core.specs.Views.{InOrder, InPorts, no_entries, oldest_of, front_of, entry_at, count_of};
+ghost use Rattle.lsq_core.specs.Wants.{wanted, changed_by, IsFirst, HasNone};
+ghost use Rattle.lsq_core.specs.Index.{filled, clear, reached, runs, wrapped};
+ghost use Rattle.lsq_core.specs.declared.entry.Want.TheVariants as want;
+
+use crate::entries::Entries;
+use crate::entry::{Entry, Made, Want};
+use crate::index::Index;
+use net_types::Memory;
+use std::alloc::Global;
+use std::marker::Model;
+
+/// The entries of a queue, and where those stand that wait for something.
+///
+/// The entry of a number has the place `head` and this number, in a ring of `width`.
+#[derive(Drop)]
+pub(crate) struct Indexed {
+    entries: Entries,
+    head: usize,
+    width: usize,
+    index: Index,
+}
+
+impl Model for Indexed {
+    ghost use Rattle.std.specs.Prelude.{◌<◌};
+    ghost use Rattle.lsq_core.specs.Views.{EntriesView, entries_code};
+    ghost use Rattle.lsq_core.specs.Index.{IsIndex, Indexes};
+
+    ghost Value = { EntriesView };
+
+    ghost coded = { entries_code };
+
+    ghost view = { λ e. e.entries };
+
+    ghost invariant = { λ e. record {
+      index : IsIndex e.entries.ports e.width e.index;
+      shows : Indexes e.index e.head e.entries.queue.items;
+      head : e.head < e.width;
+      room : e.entries.depth < e.width;
+    } };
+}
+
+impl Indexed {
+    /// No entries, and room for so many.
+    ///
+    /// # Errors
+    ///
+    /// [`Memory`] where memory is wanting.
+    pub(crate) fn new(
+        alloc: Global,
+        depth: u32,
+        ports: usize,
+        forward: bool,
+    ) -> Result<Indexed, Memory>
+        ensures { IfOk result (λ e. e ≡ no_entries depth ports forward) }
+    {
+        let blocks = depth as usize / 64 + 1;
+        let entries = Entries::new(alloc, depth, ports, forward)?;
+        let index = Index::new(alloc, ports, blocks)?;
+        Ok(Indexed {
+            entries,
+            head: 0,
+            width: 64 * blocks,
+            index,
+        })
+    }
+
+    /// How many entries there are.
+    pub(crate) fn len(&self) -> usize
+        ensures len { result ≡ length self.now.queue.items }
+        ensures within { result ≤ self.now.depth }
+        ensures order { InOrder self.now.queue }
+        ensures ports { InPorts self.now.ports self.now.queue.items }
+    {
+        self.entries.len()
+    }
+
+    pub(crate) fn is_empty(&self) -> bool
+        ensures { result ≡ is_nil self.now.queue.items }
+    {
+        self.entries.is_empty()
+    }
+
+    /// The entry at a place.
+    fn at(&self, at: usize) -> Entry
+        requires { at < length self.now.queue.items }
+        ensures value { result ≡ entry_at self.now.queue.items at }
+        ensures order { InOrder self.now.queue }
+    {
+        let _ = self.len();
+        self.entries.at(at)
+    }
+
+    /// The place of the first entry that an act asks for.
+    fn place_of(&self, want: Want) -> Option<usize>
+        ensures { MatchOption result (HasNone (wanted want) self.now.queue.items)
+            (λ at. IsFirst (wanted want) self.now.queue.items at) }
+    {
+        match want {
+            Want::Addr(port) => self.place_of_addr(port),
+            Want::Data(port) => self.place_of_data(port),
+            Want::Reply(port) => self.place_of_reply(port),
+            Want::Serial(serial) => self.entries.place_of_serial(serial),
+        }
+    }
+
+    fn place_of_addr(&self, port: u32) -> Option<usize>
+        ensures { MatchOption result (HasNone (wanted (want.Addr port)) self.now.queue.items)
+            (λ at. IsFirst (wanted (want.Addr port)) self.now.queue.items at) }
+    {
+        if port as usize >= self.entries.ports() {
+            return None;
+        }
+        self.index.addr.next(self.head, port as usize, 0)
+    }
+
+    fn place_of_data(&self, port: u32) -> Option<usize>
+        ensures { MatchOption result (HasNone (wanted (want.Data port)) self.now.queue.items)
+            (λ at. IsFirst (wanted (want.Data port)) self.now.queue.items at) }
+    {
+        if port as usize >= self.entries.ports() {
+            return None;
+        }
+        self.index.data.next(self.head, port as usize, 0)
+    }
+
+    fn place_of_reply(&self, port: u32) -> Option<usize>
+        ensures { MatchOption result (HasNone (wanted (want.Reply port)) self.now.queue.items)
+            (λ at. IsFirst (wanted (want.Reply port)) self.now.queue.items at) }
+    {
+        if port as usize >= self.entries.ports() {
+            return None;
+        }
+        self.index.reply.next(self.head, port as usize, 0)
+    }
+
+    /// The first entry that an act asks for.
+    pub(crate) fn first(&self, want: Want) -> Option<Entry>
+        ensures { result ≡ find (wanted want) self.now.queue.items }
+    {
+        match self.place_of(want) {
+            None => None,
+            Some(at) => Some(self.at(at)),
+        }
+    }
+
+    /// Changes the first entry that an act asks for, and no other.
+    pub(crate) fn change(&mut self, want: Want, made: Made)
+        ensures items { self.new.queue.items
+            ≡ first_changed (wanted want) (changed_by made) self.old.queue.items }
+        ensures mark { self.new.queue.forward ≡ self.old.queue.forward }
+        ensures next { self.new.queue.next ≡ self.old.queue.next }
+        ensures depth { self.new.depth ≡ self.old.depth }
+        ensures ports { self.new.ports ≡ self.old.ports }
+    {
+        if let Some(at) = self.place_of(want) {
+            let old = self.at(at);
+            let new = old.with(made);
+            self.index.change(self.head, at, &old, &new);
+            self.entries.put(at, new);
+        }
+    }
+
+    /// The oldest entry.
+    pub(crate) fn front(&self) -> Option<Entry>
+        ensures { result ≡ front_of self.now.queue.items }
+    {
+        self.entries.front()
+    }
+
+    /// The serial number of the entry at a place.
+    fn serial_at(&self, at: usize) -> u64
+        requires { at < length self.now.queue.items }
+        ensures value { result ≡ (entry_at self.now.queue.items at).serial }
+        ensures order { InOrder self.now.queue }
+    {
+        let from_end = self.len() - at;
+        self.entries.next() - from_end as u64
+    }
+
+    /// Whether no older entry of a side has an address that is not known.
+    fn is_filled(&self, side: bool, entry: &Entry) -> bool
+        ensures { result ≡ list_all (filled side entry.now) self.now.queue.items }
+    {
+        match self.index.blank.next(self.head, row_of_side(side), 0) {
+            None => true,
+            Some(at) => {
+                if self.serial_at(at) < entry.serial {
+                    return false;
+                }
+                true
+            }
+        }
+    }
+
+    /// Whether no older entry of a side has the address of an entry and is not executed.
+    fn is_clear(&self, side: bool, entry: &Entry) -> bool
+        ensures { result ≡ list_all (clear side entry.now) self.now.queue.items }
+    {
+        let row = self.index.address_row(side, entry);
+        let mut from = 0;
+        while let Some(at) = self.index.pending.next(self.head, row, from) {
+            if self.at(at).is_in_way(side, entry) {
+                return false;
+            }
+            from = at + 1;
+        }
+        true
+    }
+
+    /// The youngest store before a load that has the load's address and is not executed.
+    pub(crate) fn source(&self, load: &Entry) -> Option<Entry>
+        ensures { result ≡ last_such (waiting load.now) self.now.queue.items }
+    {
+        let row = self.index.address_row(true, load);
+        let mut found = None;
+        let mut from = 0;
+        while let Some(at) = self.index.pending.next(self.head, row, from) {
+            found = younger(found, self.at(at), load);
+            from = at + 1;
+        }
+        found
+    }
+
+    /// Whether a load may have its value from its source: it has none, or the queue forwards and the source has
+    /// its data.
+    fn has_source(&self, load: &Entry) -> bool
+        ensures { result
+            ≡ source_ok self.now.queue.forward (last_such (waiting load.now) self.now.queue.items) }
+    {
+        match self.source(load) {
+            None => true,
+            Some(store) => self.entries.forwards() && store.datum.is_some(),
+        }
+    }
+
+    /// Whether the older entries let a store execute.
+    #[tactic(auto, using(crate::proofs::ExecLemmas::lets_all))]
+    fn let_execute(&self, store: &Entry) -> bool
+        requires { store.now.store ≡ true }
+        ensures { result ≡ list_all (lets store.now) self.now.queue.items }
+    {
+        self.is_filled(false, store)
+            && self.is_filled(true, store)
+            && self.is_clear(false, store)
+            && self.is_clear(true, store)
+    }
+
+    /// Whether the older entries let an entry execute.
+    #[tactic(auto, using(crate::proofs::ExecLemmas::known_all))]
+    fn are_ordered(&self, entry: &Entry) -> bool
+        ensures { result ≡ order_ok self.now.queue.forward self.now.queue.items entry.now }
+    {
+        if entry.store {
+            self.let_execute(entry)
+        } else {
+            self.is_filled(true, entry) && self.has_source(entry)
+        }
+    }
+
+    /// Whether an entry may execute.
+    pub(crate) fn executes(&self, entry: &Entry) -> bool
+        ensures { result ≡ executes self.now.queue.forward self.now.queue.items entry.now }
+    {
+        entry.is_ready() && self.are_ordered(entry)
+    }
+
+    /// The serial number of the oldest entry that may execute.
+    pub(crate) fn oldest(&self) -> Option<u64>
+        ensures { result ≡ oldest_of self.now.queue }
+    {
+        match self.first_that_executes() {
+            None => None,
+            Some(at) => Some(self.serial_at(at)),
+        }
+    }
+
+    /// Whether the addresses before an entry of a side are known, so far as it waits for them.
+    fn is_reached(&self, side: bool, entry: &Entry) -> bool
+        ensures { result ≡ reached side self.now.queue.items entry.now }
+    {
+        (!side || self.is_filled(false, entry)) && self.is_filled(true, entry)
+    }
+
+    /// The place of the first entry of a side that may execute.
+    fn first_of(&self, side: bool) -> Option<usize>
+        ensures { MatchOption result
+            (HasNone (runs side self.now.queue.forward self.now.queue.items) self.now.queue.items)
+            (λ at. IsFirst (runs side self.now.queue.forward self.now.queue.items)
+            self.now.queue.items at) }
+    {
+        let row = row_of_side(side);
+        let mut from = 0;
+        while let Some(at) = self.index.ready.next(self.head, row, from) {
+            let entry = self.at(at);
+            if self.executes(&entry) {
+                return Some(at);
+            }
+            if !self.is_reached(side, &entry) {
+                return None;
+            }
+            from = at + 1;
+        }
+        None
+    }
+
+    /// The place of the first entry that may execute.
+    fn first_that_executes(&self) -> Option<usize>
+        ensures { MatchOption result
+            (HasNone (executes self.now.queue.forward self.now.queue.items) self.now.queue.items)
+            (λ at. IsFirst (executes self.now.queue.forward self.now.queue.items)
+            self.now.queue.items at) }
+    {
+        match self.first_of(false) {
+            None => match self.first_of(true) {
+                None => None,
+                Some(store) => Some(store),
+            },
+            Some(load) => match self.first_of(true) {
+                None => Some(load),
+                Some(store) => Some(load.min(store)),
+            },
+        }
+    }
+
+    /// Drops the oldest entry.
+    pub(crate) fn retire(&mut self)
+        ensures items { self.new.queue.items ≡ rest self.old.queue.items }
+        ensures mark { self.new.queue.forward ≡ self.old.queue.forward }
+        ensures next { self.new.queue.next ≡ self.old.queue.next }
+        ensures depth { self.new.depth ≡ self.old.depth }
+        ensures ports { self.new.ports ≡ self.old.ports }
+    {
+        if let Some(entry) = self.entries.front() {
+            self.index.retire(self.head, &entry);
+            self.entries.retire();
+            self.head = after(self.head, self.width);
+        }
+    }
+
+    /// Adds an entry of a port.
+    pub(crate) fn add(&mut self, port: u32, store: bool)
+        requires room { length self.old.queue.items < self.old.depth }
+        requires serial { self.old.queue.next < 2 ^ 63 }
+        requires port { port < self.old.ports }
+        ensures items { self.new.queue.items
+            ≡ self.old.queue.items ++ fresh_entry self.old.queue.next port store ∷ [] }
+        ensures mark { self.new.queue.forward ≡ self.old.queue.forward }
+        ensures next { self.new.queue.next ≡ self.old.queue.next + 1 }
+        ensures depth { self.new.depth ≡ self.old.depth }
+        ensures ports { self.new.ports ≡ self.old.ports }
+    {
+        let entry = Entry::fresh(self.entries.next(), port, store);
+        self.index.add(self.head, self.entries.len(), &entry);
+        self.entries.add(port, store);
+    }
+}
+
+/// The place after another in a ring.
+fn after(at: usize, width: usize) -> usize
+    requires { at < width }
+    ensures { result ≡ wrapped width at 1 }
+{
+    if at + 1 < width {
+        at + 1
+    } else {
+        at + 1 - width
+    }
+}
+
+/// The row of a side: loads, or stores.
+fn row_of_side(side: bool) -> usize
+    ensures value { result ≡ count_of side }
+    ensures within { result < 2 }
+{
+    if side { 1 } else { 0 }
+}
+
+/// The entry where it is an older store of a load's address that is not executed, else what was found before.
+fn younger(found: Option<Entry>, entry: Entry, load: &Entry) -> Option<Entry>
+    ensures { result ≡ cond (waiting load.now entry) (Some entry) found }
+{
+    if entry.waits_before(load) {
+        return Some(entry);
+    }
+    found
+}
