@@ -1,0 +1,13 @@
+pub mod Machine
+pub mod Fire
+pub mod Runs
+pub mod Control
+pub mod Uses
+pub mod Worked
+pub mod Laws
+pub mod Unchecked
+pub mod Held
+pub mod Plans
+pub mod States
+pub mod Finds
+pub mod private

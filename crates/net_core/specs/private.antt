@@ -1,0 +1,5 @@
+-- Private: what only contracts of this crate cite.
+pub mod Sents
+pub mod Moves
+pub mod Openings
+pub mod Searches

@@ -1,0 +1,29 @@
+//! States of circuits, what firings do, and the laws of runs.
+//!
+//! `specs/` has the definitions: a state and the table of firings (`Fire`), runs, rest and what an exit took (`Runs`), and
+//! the count of control tokens (`Control`).
+#![tactic(auto)]
+
+mod cell;
+mod find;
+mod inputs;
+mod laws;
+mod opening;
+mod plan;
+mod sent;
+mod state;
+mod steps;
+#[cfg(test)]
+mod tests;
+mod tokens;
+
+pub use cell::{Cell, UnitQueue};
+pub use inputs::inputs_fit;
+pub use laws::{
+    completion, either_order, laws_need_rules, limit_decides, more_slots, one_token, rows_use_only,
+    settled, spent_is_at_rest, worked_nets_run,
+};
+pub use plan::{Change, Heads, Plan, Put, Takes, plan_firing};
+pub use sent::Sent;
+pub use state::State;
+pub use tokens::Tokens;

@@ -1,0 +1,372 @@
+//! What a firing does, from the unit's own state and the heads at its places.
+
+ghost use Rattle.std.specs.Prelude.{◌≡◌, ◌+◌, ℕ, Option, Some, None, true, length, IfSome};
+ghost use Rattle.net_core.specs.declared.cell.Cell.TheVariants as cells;
+ghost use Rattle.net_types.specs.declared.firing.Act.TheVariants as acts;
+ghost use Rattle.lsq_core.specs.Acts.{in_place, out_place};
+ghost use Rattle.lsq_core.specs.Views.{given};
+ghost use Rattle.net_core.specs.Plans.{IsQueuePlan, IsSendPlan, IsShaped, IsUnitPlan, admits, apart, keeps, putting, queue_admits, setting_of};
+
+use crate::cell::{Cell, UnitQueue};
+use crate::sent::Sent;
+use lsq_core::Queue;
+use net_types::{Act, List, Unit};
+use word_ops::{apply1, apply2};
+
+/// The heads at the input places of one unit.
+pub trait Heads {
+    ghost heads: { Self → ℕ → Option ℕ };
+
+    /// The oldest token at an input place.
+    fn head(&self, place: u64) -> Option<u64>
+        ensures { result ≡ heads self.now place };
+}
+
+/// A token that a firing puts.
+#[derive(Clone, Copy, Debug)]
+pub struct Put {
+    pub place: u64,
+    pub value: u64,
+}
+
+/// The places that a firing takes from.
+#[derive(Clone, Copy, Debug)]
+pub enum Takes {
+    None,
+    One(u64),
+    Two(u64, u64),
+    Three(u64, u64, u64),
+}
+
+/// What a firing does to the unit's own state.
+#[derive(Clone, Copy, Debug)]
+pub enum Change {
+    Keep,
+    Fire,
+    Finish(u64),
+    Send(u32),
+    Stray,
+    /// A queue makes an act, with the token that it takes.
+    Act { act: Act, token: u64 },
+}
+
+/// What a firing does.
+#[derive(Clone, Copy, Debug)]
+pub struct Plan {
+    pub takes: Takes,
+    pub put: Option<Put>,
+    pub change: Change,
+}
+
+fn puts(takes: Takes, place: u64, value: u64) -> Option<Plan>
+    ensures { result ≡ Some (putting takes place value) }
+{
+    Some(Plan {
+        takes,
+        put: Some(Put { place, value }),
+        change: Change::Keep,
+    })
+}
+
+/// What a fork's sending does.
+#[tactic(auto, unfolding(crate::specs::Fire::row))]
+fn plan_send<H: Heads>(heads: &H, outs: u32, out: u32, sent: &Sent, array: &[u64]) -> Option<Plan>
+    ensures apart { IfSome result (λ p. apart p.takes ≡ true) }
+    ensures admits { IfSome result (λ p. admits (cells.Fork sent.now) p.change ≡ true) }
+    ensures effect { IsSendPlan outs out sent.now array.now (H.heads heads.now) result }
+{
+    if out >= outs || sent.is_set(out) {
+        return None;
+    }
+    let value = heads.head(0)?;
+    let put = Some(Put {
+        place: out as u64,
+        value,
+    });
+    let takes = if sent.is_last() {
+        Takes::One(0)
+    } else {
+        Takes::None
+    };
+    Some(Plan {
+        takes,
+        put,
+        change: Change::Send(out),
+    })
+}
+
+/// What the firing of a unit that only goes does.
+#[tactic(auto, unfolding(crate::specs::Fire::row))]
+fn plan_go<H: Heads>(
+    heads: &H,
+    unit: &Unit,
+    cell: &Cell,
+    array: &[u64],
+    scalars: &[u64],
+    valued: bool,
+) -> Option<Plan>
+    requires { keeps unit.now cell.now ≡ true }
+    ensures apart { IfSome result (λ p. apart p.takes ≡ true) }
+    ensures admits { IfSome result (λ p. admits cell.now p.change ≡ true) }
+    ensures effect { IsUnitPlan unit.now acts.Go cell.now array.now
+        (setting_of scalars.now valued) (H.heads heads.now) result }
+{
+    match unit {
+        Unit::Entry => match cell {
+            Cell::Start { fired: false } => Some(Plan {
+                takes: Takes::None,
+                put: Some(Put { place: 0, value: 0 }),
+                change: Change::Fire,
+            }),
+            _ => None,
+        },
+        Unit::Param(scalar) => match cell {
+            Cell::Start { fired: false } => {
+                let value = if (*scalar as usize) < scalars.len() {
+                    scalars[*scalar as usize]
+                } else {
+                    0
+                };
+                Some(Plan {
+                    takes: Takes::None,
+                    put: Some(Put { place: 0, value }),
+                    change: Change::Fire,
+                })
+            }
+            _ => None,
+        },
+        Unit::Const { value, .. } => {
+            heads.head(0)?;
+            puts(Takes::One(0), 0, *value)
+        }
+        Unit::Op1(op) => {
+            let a = heads.head(0)?;
+            puts(Takes::One(0), 0, apply1(*op, a))
+        }
+        Unit::Op2(op) => {
+            let a = heads.head(0)?;
+            let b = heads.head(1)?;
+            puts(Takes::Two(0, 1), 0, apply2(*op, a, b))
+        }
+        Unit::Select { .. } => {
+            let which = heads.head(0)?;
+            let yes = heads.head(1)?;
+            let no = heads.head(2)?;
+            puts(Takes::Three(0, 1, 2), 0, if which == 0 { no } else { yes })
+        }
+        Unit::Mux { ins, .. } => {
+            let which = heads.head(0)?;
+            let last = if *ins == 0 { 0 } else { *ins as u64 - 1 };
+            let place = if which < last { which + 1 } else { last + 1 };
+            let value = heads.head(place)?;
+            puts(Takes::Two(0, place), 0, value)
+        }
+        Unit::Branch { .. } => {
+            let which = heads.head(0)?;
+            let value = heads.head(1)?;
+            puts(Takes::Two(0, 1), if which == 0 { 1 } else { 0 }, value)
+        }
+        Unit::Sink { .. } => {
+            heads.head(0)?;
+            Some(Plan {
+                takes: Takes::One(0),
+                put: None,
+                change: Change::Keep,
+            })
+        }
+        Unit::Read(_) => {
+            let at = heads.head(0)?;
+            if at < array.len() as u64 {
+                Some(Plan {
+                    takes: Takes::One(0),
+                    put: Some(Put {
+                        place: 0,
+                        value: array[at as usize],
+                    }),
+                    change: Change::Keep,
+                })
+            } else {
+                Some(Plan {
+                    takes: Takes::One(0),
+                    put: Some(Put { place: 0, value: 0 }),
+                    change: Change::Stray,
+                })
+            }
+        }
+        Unit::Exit => match cell {
+            Cell::Exit { fired: false, .. } => {
+                heads.head(0)?;
+                if valued {
+                    let value = heads.head(1)?;
+                    Some(Plan {
+                        takes: Takes::Two(0, 1),
+                        put: None,
+                        change: Change::Finish(value),
+                    })
+                } else {
+                    Some(Plan {
+                        takes: Takes::One(0),
+                        put: None,
+                        change: Change::Fire,
+                    })
+                }
+            }
+            _ => None,
+        },
+        Unit::Fork { .. } => None,
+        Unit::Cmerge { .. } => None,
+        Unit::Lsq { .. } => None,
+    }
+}
+
+/// What a queue does that passes a control token from an input to the output of the same number.
+fn pass<H: Heads>(heads: &H, queue: &UnitQueue, act: Act, place: u64) -> Option<Plan>
+    requires puts { (v : ℕ) → (given queue.now act v).put ≡ Some v }
+    requires ins { in_place queue.now.groups act ≡ Some place }
+    requires outs { out_place queue.now.groups act ≡ Some place }
+    ensures apart { IfSome result (λ p. apart p.takes ≡ true) }
+    ensures admits { IfSome result (λ p. queue_admits queue.now p.change ≡ true) }
+    ensures effect { IsQueuePlan queue.now act (H.heads heads.now) result }
+{
+    if !queue.can(act) {
+        return None;
+    }
+    let token = heads.head(place)?;
+    Some(Plan {
+        takes: Takes::One(place),
+        put: Some(Put {
+            place,
+            value: token,
+        }),
+        change: Change::Act { act, token },
+    })
+}
+
+/// What a queue does that takes a token and puts none.
+fn fill<H: Heads>(heads: &H, queue: &UnitQueue, act: Act, place: u64) -> Option<Plan>
+    requires ins { in_place queue.now.groups act ≡ Some place }
+    requires outs { out_place queue.now.groups act ≡ None }
+    ensures apart { IfSome result (λ p. apart p.takes ≡ true) }
+    ensures admits { IfSome result (λ p. queue_admits queue.now p.change ≡ true) }
+    ensures effect { IsQueuePlan queue.now act (H.heads heads.now) result }
+{
+    if !queue.can(act) {
+        return None;
+    }
+    let token = heads.head(place)?;
+    Some(Plan {
+        takes: Takes::One(place),
+        put: None,
+        change: Change::Act { act, token },
+    })
+}
+
+/// What a queue does that takes and puts no token.
+fn alone<H: Heads>(heads: &H, queue: &UnitQueue, act: Act) -> Option<Plan>
+    requires ins { in_place queue.now.groups act ≡ None }
+    requires outs { out_place queue.now.groups act ≡ None }
+    ensures apart { IfSome result (λ p. apart p.takes ≡ true) }
+    ensures admits { IfSome result (λ p. queue_admits queue.now p.change ≡ true) }
+    ensures effect { IsQueuePlan queue.now act (H.heads heads.now) result }
+{
+    let _ = heads;
+    if !queue.can(act) {
+        return None;
+    }
+    Some(Plan {
+        takes: Takes::None,
+        put: None,
+        change: Change::Act { act, token: 0 },
+    })
+}
+
+/// What the reply of a queue at a port does.
+fn answer<H: Heads>(heads: &H, queue: &UnitQueue, port: u32, place: u64) -> Option<Plan>
+    requires outs { place ≡ length queue.now.groups + 1 + port }
+    ensures apart { IfSome result (λ p. apart p.takes ≡ true) }
+    ensures admits { IfSome result (λ p. queue_admits queue.now p.change ≡ true) }
+    ensures effect { IsQueuePlan queue.now (acts.Reply port) (H.heads heads.now) result }
+{
+    let _ = heads;
+    let value = queue.reply(port)?;
+    Some(Plan {
+        takes: Takes::None,
+        put: Some(Put { place, value }),
+        change: Change::Act {
+            act: Act::Reply(port),
+            token: 0,
+        },
+    })
+}
+
+/// What an act of a queue does.
+fn plan_queue<H: Heads>(
+    heads: &H,
+    groups: &[List<u32>],
+    queue: &UnitQueue,
+    act: Act,
+) -> Option<Plan>
+    requires groups { groups.now ≡ queue.now.groups }
+    ensures apart { IfSome result (λ p. apart p.takes ≡ true) }
+    ensures admits { IfSome result (λ p. queue_admits queue.now p.change ≡ true) }
+    ensures effect { IsQueuePlan queue.now act (H.heads heads.now) result }
+{
+    let end = groups.len() as u64;
+    match act {
+        Act::Alloc(group) => pass(heads, queue, act, group as u64),
+        Act::End => pass(heads, queue, act, end),
+        Act::Addr(port) => fill(heads, queue, act, end + 1 + 2 * port as u64),
+        Act::Data(port) => fill(heads, queue, act, end + 2 + 2 * port as u64),
+        Act::Exec(_) => alone(heads, queue, act),
+        Act::Retire => alone(heads, queue, act),
+        Act::Reply(port) => answer(heads, queue, port, end + 1 + port as u64),
+        Act::Go => None,
+        Act::From(_) => None,
+        Act::Send(_) => None,
+    }
+}
+
+/// What a firing does; `None` where its heads or its own state hold it back.
+#[tactic(auto, unfolding(crate::specs::Fire::row))]
+pub fn plan_firing<H: Heads>(
+    heads: &H,
+    unit: &Unit,
+    act: Act,
+    cell: &Cell,
+    array: &[u64],
+    scalars: &[u64],
+    valued: bool,
+) -> Option<Plan>
+    requires keeps { keeps unit.now cell.now ≡ true }
+    requires shape { IsShaped unit.now cell.now array.now }
+    ensures apart { IfSome result (λ p. apart p.takes ≡ true) }
+    ensures admits { IfSome result (λ p. admits cell.now p.change ≡ true) }
+    ensures effect { IsUnitPlan unit.now act cell.now array.now
+        (setting_of scalars.now valued) (H.heads heads.now) result }
+{
+    match act {
+        Act::Go => plan_go(heads, unit, cell, array, scalars, valued),
+        Act::From(which) => match unit {
+            Unit::Cmerge { ins } => {
+                if which >= *ins {
+                    return None;
+                }
+                heads.head(which as u64)?;
+                puts(Takes::One(which as u64), 0, which as u64)
+            }
+            _ => None,
+        },
+        Act::Send(out) => match (unit, cell) {
+            (Unit::Fork { outs, .. }, Cell::Fork(sent)) => plan_send(
+                heads, *outs, out, sent, array,
+            ),
+            _ => None,
+        },
+        _ => match (unit, cell) {
+            (Unit::Lsq { groups, .. }, Cell::Queue(queue)) => {
+                plan_queue(heads, groups.as_slice(), queue, act)
+            }
+            _ => None,
+        },
+    }
+}

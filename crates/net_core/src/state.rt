@@ -1,0 +1,315 @@
+//! The state of a circuit.
+
+ghost use Rattle.std.specs.Prelude.{◌≡◌, ◌<◌, ◌≤◌, ◌↔◌, ◌^◌, [], Some, get_or, length, true, IsTrue, IfOk, IfSome, MatchOption, false};
+ghost use Rattle.el_base.specs.Limits.{max_depth};
+ghost use Rattle.net_types.specs.declared.net.Net.{Net};
+ghost use Rattle.net_types.specs.Inputs.{InputsFit};
+ghost use Rattle.net_types.specs.Nets.{kind_of, uses};
+ghost use Rattle.net_check.specs.Ends.{is_lsq};
+ghost use Rattle.net_core.specs.declared.cell.Cell.TheVariants.{Plain};
+ghost use Rattle.net_core.specs.Fire.{first, enabled, after, at_array, has_room, tokens_at};
+ghost use Rattle.net_core.specs.Plans.{apart, admits};
+ghost use Rattle.net_core.specs.Runs.{HasExited, opening};
+ghost use Rattle.net_core.specs.States.{CountsRise, CountsWithin, IsOf, IsPlanOf, IsQueueAt, TookAtExit, after_where, arrays_of, cell_at, elements_at, queue_array, state_of, strays_at};
+
+use crate::cell::{Cell, UnitQueue};
+use crate::opening::{Home, exit_of, fresh_cells, homes, owners};
+use crate::plan::{Heads, Plan, Put, plan_firing};
+use crate::steps::{change_cell, count_strays, move_tokens};
+use crate::tokens::Tokens;
+use lsq_core::Queue;
+use net_check::Checked;
+use net_types::{Firing, Inputs, List, Memory, Unit};
+use std::alloc::Global;
+
+/// A state of a circuit: the tokens of its channels, what its units keep, its arrays and its counts of strays.
+///
+/// It holds all memory that its firings take.
+#[derive(Drop)]
+pub struct State {
+    scalars: List<u64>,
+    tokens: Tokens,
+    cells: Vec<Cell>,
+    homes: Vec<Home>,
+    strays: Vec<u64>,
+    exit: u32,
+}
+
+/// The heads at the input places of one unit.
+#[derive(Drop)]
+struct UnitHeads<'a> {
+    net: &'a Checked,
+    tokens: &'a Tokens,
+    unit: u32,
+}
+
+impl Heads for UnitHeads<'_> {
+    ghost use Rattle.std.specs.Prelude.{[], get_or};
+    ghost use Rattle.net_types.specs.Nets.{into};
+    ghost use Rattle.net_core.specs.Fire.{first};
+
+    ghost heads = { λ h p. first (get_or h.tokens.now.tokens (into h.unit p h.net.now.chans) []) };
+
+    fn head(&self, place: u64) -> Option<u64> {
+        self.tokens.head(self.net.into_place(self.unit, place))
+    }
+}
+
+/// The elements of the array of a queue; none where the unit has no queue.
+fn queue_elements(cells: &Vec<Cell>, unit: u32) -> &[u64]
+    ensures { result.now ≡ queue_array (get_or cells.now.items unit Plain) }
+{
+    let at = unit as usize;
+    if at < cells.len() {
+        match &cells[at] {
+            Cell::Queue(queue) => queue.array(),
+            _ => &[],
+        }
+    } else {
+        &[]
+    }
+}
+
+impl State {
+    /// The opening state of a net on inputs. It takes all memory of a run.
+    ///
+    /// # Errors
+    ///
+    /// [`Memory`] where memory is wanting.
+    pub fn new(alloc: Global, net: &Checked, inputs: &Inputs) -> Result<State, Memory>
+        requires { InputsFit net.now inputs.now }
+        ensures of { IfOk result (λ s. IsOf net.now s) }
+        ensures state { IfOk result (λ s. state_of s ≡ opening net.now inputs.now) }
+        ensures counts { IfOk result (λ s. CountsWithin 0 (state_of s)) }
+    {
+        let units = net.net().units.as_slice();
+        let arrays = inputs.arrays.as_slice();
+        let tokens = Tokens::new(alloc, net.net().chans.as_slice())?;
+        let cells = fresh_cells(alloc, units, arrays)?;
+        let owners = owners(alloc, units, arrays.len())?;
+        let homes = homes(alloc, owners.as_slice(), arrays)?;
+        let strays = vec![in alloc; 0; arrays.len()]?;
+        let scalars = inputs.scalars.copy()?;
+        let exit = exit_of(units);
+        Ok(State {
+            scalars,
+            tokens,
+            cells,
+            homes,
+            strays,
+            exit,
+        })
+    }
+
+    /// The elements of an array; none of an array that is not there.
+    fn elements(&self, array: u32) -> &[u64]
+        ensures { result.now ≡ get_or (arrays_of self.now) array [] }
+    {
+        let at = array as usize;
+        if at < self.homes.len() {
+            match &self.homes[at] {
+                Home::Here(list) => list.as_slice(),
+                Home::Queue(unit) => queue_elements(&self.cells, *unit),
+            }
+        } else {
+            &[]
+        }
+    }
+
+    /// The elements of the array that a unit works on.
+    fn used(&self, unit: &Unit) -> &[u64]
+        ensures { result.now ≡ at_array (arrays_of self.now) (uses unit.now) }
+    {
+        match unit {
+            Unit::Read(array) => self.elements(*array),
+            Unit::Lsq { array, .. } => self.elements(*array),
+            _ => &[],
+        }
+    }
+
+    /// The elements of an array of the header, as the firings so far left them.
+    pub fn arrays(&self, net: &Checked, array: u32) -> &[u64]
+        requires of { IsOf net.now self.now }
+        requires within { array < length net.now.arrays }
+        ensures { result.now ≡ elements_at (state_of self.now) array }
+    {
+        let _ = net;
+        self.elements(array)
+    }
+
+    /// How many addresses lay past an array of the header. It costs one step.
+    pub fn strays(&self, array: u32) -> u64
+        ensures { result ≡ strays_at (state_of self.now) array }
+    {
+        let at = array as usize;
+        if at < self.strays.len() {
+            self.strays[at]
+        } else {
+            0
+        }
+    }
+
+    /// The oldest token of a channel, where it has one.
+    pub fn head(&self, net: &Checked, chan: u32) -> Option<u64>
+        requires { IsOf net.now self.now }
+        ensures { result ≡ first (tokens_at (state_of self.now) chan) }
+    {
+        let _ = net;
+        self.tokens.head(chan)
+    }
+
+    /// How many tokens a channel of the net has.
+    pub fn held(&self, net: &Checked, chan: u32) -> u32
+        requires of { IsOf net.now self.now }
+        requires within { chan < length net.now.chans }
+        ensures { result ≡ length (tokens_at (state_of self.now) chan) }
+    {
+        let _ = net.net();
+        self.tokens.held(chan)
+    }
+
+    /// The queue of a unit of the net, where it has one.
+    pub fn queue(&self, net: &Checked, unit: u32) -> Option<&UnitQueue>
+        requires of { IsOf net.now self.now }
+        requires within { unit < length net.now.units }
+        ensures { MatchOption result (is_lsq (kind_of net.now unit) ≡ false)
+            (λ q. IsQueueAt net.now self.now unit q.now) }
+    {
+        let _ = net;
+        match &self.cells[unit as usize] {
+            Cell::Queue(queue) => Some(queue),
+            _ => None,
+        }
+    }
+
+    /// Whether the exit has fired. It costs one step.
+    pub fn exited(&self) -> bool
+        ensures { (net : Net) → IsOf net self.now
+            → (IsTrue result ↔ HasExited net (state_of self.now)) }
+    {
+        let at = self.exit as usize;
+        if at < self.cells.len() {
+            self.cells[at].fired()
+        } else {
+            false
+        }
+    }
+
+    /// The result that the exit took, where it took one. It costs one step.
+    pub fn value(&self) -> Option<u64>
+        ensures { (net : Net) → IsOf net self.now → TookAtExit net (state_of self.now) result }
+    {
+        let at = self.exit as usize;
+        if at < self.cells.len() {
+            self.cells[at].value()
+        } else {
+            None
+        }
+    }
+
+    /// What a firing does; `None` where the unit's heads or its own state hold it back.
+    ///
+    /// It is enabled where there is a plan and [`State::has_room`] for what the plan puts.
+    pub fn plan(&self, net: &Checked, firing: Firing) -> Option<Plan>
+        requires { IsOf net.now self.now }
+        ensures apart { IfSome result (λ p. apart p.takes ≡ true) }
+        ensures admits { IfSome result
+            (λ p. admits (cell_at self.now firing.unit) p.change ≡ true) }
+        ensures effect { IsPlanOf net.now self.now firing result }
+    {
+        let heads = UnitHeads {
+            net,
+            tokens: &self.tokens,
+            unit: firing.unit,
+        };
+        let at = firing.unit as usize;
+        let units = net.net().units.as_slice();
+        let valued = net.net().result.is_some();
+        let scalars = self.scalars.as_slice();
+        let act = firing.act;
+        if at < units.len() {
+            let unit = &units[at];
+            let array = self.used(unit);
+            plan_firing(&heads, unit, act, &self.cells[at], array, scalars, valued)
+        } else {
+            let none = Unit::Sink { width: 0 };
+            plan_firing(&heads, &none, act, &Cell::Plain, &[], scalars, valued)
+        }
+    }
+
+    /// Whether a unit has room where it puts a token.
+    pub fn has_room(&self, net: &Checked, unit: u32, put: Option<Put>) -> bool
+        requires { IsOf net.now self.now }
+        ensures { IsTrue result ↔ has_room net.now (state_of self.now) unit put }
+    {
+        match put {
+            None => true,
+            Some(put) => self.tokens.has_room(net.out_of_place(unit, put.place)),
+        }
+    }
+
+    /// Whether a firing is enabled.
+    pub fn enabled(&self, net: &Checked, firing: Firing) -> bool
+        requires { IsOf net.now self.now }
+        ensures { IsTrue result ↔ enabled net.now (state_of self.now) firing }
+    {
+        match self.plan(net, firing) {
+            None => false,
+            Some(plan) => self.has_room(net, firing.unit, plan.put),
+        }
+    }
+
+    /// Makes a planned firing that has room.
+    pub fn make(&mut self, net: &Checked, firing: Firing, plan: Plan)
+        requires of { IsOf net.now self.old }
+        requires effect { IsPlanOf net.now self.old firing (Some plan) }
+        requires apart { apart plan.takes ≡ true }
+        requires admits { admits (cell_at self.old firing.unit) plan.change ≡ true }
+        requires room { has_room net.now (state_of self.old) firing.unit plan.put }
+        requires counts { CountsWithin (2 ^ 62) (state_of self.old) }
+        ensures of { IsOf net.now self.new }
+        ensures state { state_of self.new ≡ after net.now (state_of self.old) firing }
+        ensures counts { CountsRise max_depth (state_of self.old) (state_of self.new) }
+    {
+        move_tokens(&mut self.tokens, net, firing.unit, plan.takes, plan.put);
+        let stray = change_cell(&mut self.cells, firing.unit, plan.change);
+        count_strays(&mut self.strays, net, firing.unit, stray);
+        let _ = net.net();
+    }
+
+    /// Makes a firing. It takes no memory.
+    pub fn fire(&mut self, net: &Checked, firing: Firing)
+        requires of { IsOf net.now self.old }
+        requires enabled { enabled net.now (state_of self.old) firing }
+        requires counts { CountsWithin (2 ^ 62) (state_of self.old) }
+        ensures of { IsOf net.now self.new }
+        ensures state { state_of self.new ≡ after net.now (state_of self.old) firing }
+        ensures counts { CountsRise max_depth (state_of self.old) (state_of self.new) }
+    {
+        if let Some(plan) = self.plan(net, firing) {
+            self.make(net, firing, plan);
+        }
+    }
+
+    /// Makes a firing where it is enabled, and tells whether it was. It takes no memory.
+    pub fn try_fire(&mut self, net: &Checked, firing: Firing) -> bool
+        requires of { IsOf net.now self.old }
+        requires counts { CountsWithin (2 ^ 62) (state_of self.old) }
+        ensures fired { IsTrue result ↔ enabled net.now (state_of self.old) firing }
+        ensures of { IsOf net.now self.new }
+        ensures state { state_of self.new
+            ≡ after_where result net.now (state_of self.old) firing }
+        ensures counts { CountsRise max_depth (state_of self.old) (state_of self.new) }
+    {
+        match self.plan(net, firing) {
+            None => false,
+            Some(plan) => {
+                if !self.has_room(net, firing.unit, plan.put) {
+                    return false;
+                }
+                self.make(net, firing, plan);
+                true
+            }
+        }
+    }
+}
