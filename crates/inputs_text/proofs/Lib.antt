@@ -1,0 +1,10 @@
+pub mod LineLemmas
+pub mod NumeralLemmas
+pub mod FoundLemmas
+pub mod JudgeLemmas
+pub mod RunLemmas
+pub mod HeaderLemmas
+pub mod MissingLemmas
+pub mod WholeLemmas
+pub mod OnlyLemmas
+pub mod ResultLemmas

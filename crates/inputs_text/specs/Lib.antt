@@ -1,0 +1,7 @@
+pub mod Lines
+pub mod Measures
+pub mod Readings
+pub mod Refusals
+pub mod Rules
+pub mod Results
+pub mod Texts

@@ -1,0 +1,64 @@
+ghost use Rattle.std.specs.Prelude.{◌≡◌, ◌++◌, All, OnOk, IfOk};
+ghost use Rattle.net_types.specs.Inputs.{IsPatternOf};
+ghost use Rattle.inputs_text.specs.Results.{AreResults, ResultText, numbers_line, written};
+
+use el_base::{Array, List, Memory, Ty, number, put_i64, put_u64};
+use std::alloc::Global;
+
+/// The text of the arrays' elements and the result, where there is one: a line for each array in order, and `return = n`.
+///
+/// # Errors
+///
+/// [`Memory`] where memory is wanting.
+pub fn print_results_of(
+    alloc: Global,
+    arrays: &[Array],
+    ret: Option<Ty>,
+    values: &[List<u64>],
+    value: Option<u64>,
+) -> Result<Vec<u8>, Memory>
+    requires { AreResults arrays.now ret values.now value }
+    ensures { IfOk result (λ text. ResultText arrays.now ret values.now value text.items) }
+{
+    let mut text = Vec::new(alloc);
+    for (i, array) in arrays.iter().enumerate() {
+        put_line(
+            &mut text,
+            array.name.as_slice(),
+            array.ty,
+            values[i].as_slice(),
+        )?;
+    }
+    if let (Some(ty), Some(value)) = (ret, value) {
+        put_line(&mut text, b"return", ty, &[value])?;
+    }
+    Ok(text)
+}
+
+/// Appends a line of a name and the numbers of patterns.
+fn put_line(text: &mut Vec<u8>, name: &[u8], ty: Ty, patterns: &[u64]) -> Result<(), Memory>
+    requires { All (IsPatternOf ty) patterns.now }
+    ensures { OnOk result
+        (text.new.items ≡ text.old.items ++ numbers_line name.now ty patterns.now) }
+{
+    text.extend_from_slice(name)?;
+    text.extend_from_slice(b" =")?;
+    for pattern in patterns {
+        text.push(b' ')?;
+        put_number(text, ty, *pattern)?;
+    }
+    text.push(b'\n')?;
+    Ok(())
+}
+
+/// Appends the number of a pattern.
+fn put_number(text: &mut Vec<u8>, ty: Ty, pattern: u64) -> Result<(), Memory>
+    requires { IsPatternOf ty pattern }
+    ensures { OnOk result (text.new.items ≡ text.old.items ++ written ty pattern) }
+{
+    if ty.signed() {
+        put_i64(text, number(ty, pattern) as i64)
+    } else {
+        put_u64(text, pattern)
+    }
+}
