@@ -42,6 +42,22 @@ FILES = {
     "marked.tsv": (0, CHECKED, NET),
     "edited.tsv": (0, CHECKED, NET),
     "operations.tsv": (-1, "the result", "an operation, its first operand, its second or nothing"),
+    "links.tsv": (
+        -1,
+        "what each call answers, a word each",
+        "the slots of a link; calls on its ends in one thread: ready, put=VALUE@STAMP where ready gives a stamp, peek, flush, "
+        "take@STAMP with a repay of at least that stamp",
+    ),
+    "queues.tsv": (
+        -1,
+        "how many acts are made, what they put, the array, how many entries are left, the oldest that may execute or -",
+        "the elements of an array, a queue as in the text of a net, acts with ; between two",
+    ),
+    "inputs.tsv": (
+        0,
+        "what reading the inputs answers: ok and each line printed anew with a slash after it, or NUMBER WORD and a line or name",
+        "a net text and the text of its inputs, with \\n \\t \\r \\\\ \\xHH escaped",
+    ),
 }
 
 

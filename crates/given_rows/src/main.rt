@@ -1,13 +1,16 @@
-//! Answers given rows: kernel texts, net texts and operations, one a line of the files of its folder.
+//! Answers given rows: kernel texts, net texts, operations, acts of queues and inputs, one a line of the files of its folder.
 //!
 //! With no word it answers all files in turn, each below its name. With the path of a file it answers that one.
 #![tactic(auto)]
 
 mod field;
+mod inputs;
 mod kernels;
+mod links;
 mod nets;
 mod operations;
 mod pairs;
+mod queues;
 mod refusals;
 mod repeats;
 mod rows;

@@ -1,9 +1,12 @@
 //! The files of rows and what their lines are.
 use crate::field::unescaped;
+use crate::inputs::put_reading;
 use crate::kernels::read;
+use crate::links::put_answers;
 use crate::nets::verdict_on;
 use crate::operations::result_of;
 use crate::pairs::whole_of;
+use crate::queues::put_run;
 use crate::repeats::text_of;
 use crate::trees::put_returned;
 use crate::words::put_words;
@@ -28,10 +31,16 @@ pub enum Rows {
     Nets,
     /// An operation's name, its first operand, and its second or nothing.
     Operations,
+    /// The slots of a link, and calls on its two ends in one thread.
+    Links,
+    /// An array, a queue and a list of acts.
+    Queues,
+    /// A net text and the text of its inputs.
+    Inputs,
 }
 
 /// The files, in the order in which they are answered.
-pub const FILES: [(&str, Rows); 14] = [
+pub const FILES: [(&str, Rows); 17] = [
     ("kernels.tsv", Rows::Kernels),
     ("guide.tsv", Rows::Kernels),
     ("lexer.tsv", Rows::Kernels),
@@ -46,6 +55,9 @@ pub const FILES: [(&str, Rows); 14] = [
     ("marked.tsv", Rows::Nets),
     ("edited.tsv", Rows::Nets),
     ("operations.tsv", Rows::Operations),
+    ("links.tsv", Rows::Links),
+    ("queues.tsv", Rows::Queues),
+    ("inputs.tsv", Rows::Inputs),
 ];
 
 /// What the lines of the file of this name are.
@@ -102,6 +114,9 @@ impl Rows {
                 let result = result_of(alloc, line)?;
                 write!(out, "{result}")?;
             }
+            Rows::Links => put_answers(alloc, line, out)?,
+            Rows::Queues => put_run(alloc, line, out)?,
+            Rows::Inputs => put_reading(alloc, line, out)?,
         }
         Ok(())
     }

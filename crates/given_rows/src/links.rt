@@ -1,0 +1,115 @@
+//! What the two ends of a link answer, both in one thread.
+ghost use Rattle.std.specs.Prelude.{◌≡◌, ◌≤◌};
+ghost use Rattle.elastic_link.specs.Ends.{credits_repaid, repaid_stamp};
+
+use anyhow::{Context, Result, bail};
+use elastic_link::{PutEnd, TakeEnd, Token, link};
+use std::alloc::Global;
+use std::io::Write;
+
+/// Stamps and numbers of credits stay below it.
+const BOUND: u64 = 1 << 62;
+
+/// Both ends of a link, the greatest stamp of a credit so far, and how many were repaid.
+#[derive(Drop)]
+struct Ends {
+    put: PutEnd,
+    take: TakeEnd,
+    last: u64,
+    repaid: u64,
+    ghost last_stamp: { repaid_stamp take ≤ last },
+    ghost repaid_is: { credits_repaid take ≡ repaid },
+}
+
+impl Ends {
+    /// Puts a token where a credit is in hand and the ring has a free slot, and says whether it did.
+    fn put(&mut self, token: Token) -> bool {
+        if token.stamp >= BOUND || self.put.ready().is_none() {
+            return false;
+        }
+        self.put.put(token).is_ok()
+    }
+
+    /// Takes the next token, where there is one, and repays its credit with a stamp that is not below the last one.
+    fn take(&mut self, stamp: u64) -> Option<Token> {
+        let now = stamp.max(self.last);
+        if now >= BOUND || self.repaid >= BOUND || self.take.peek().is_none() {
+            return None;
+        }
+        let token = self.take.take();
+        self.take.repay(now);
+        self.last = now;
+        self.repaid += 1;
+        Some(token)
+    }
+}
+
+/// Writes what each call of a line answers: the slots of a link, and then calls with a space between two.
+pub fn put_answers<W: Write>(alloc: Global, line: &str, out: &mut W) -> Result<()> {
+    let (slots, calls) = line.split_once('\t').context("a line is slots and calls")?;
+    let slots: u32 = slots.parse()?;
+    if slots == 0 || slots > 1_024 {
+        bail!("a link has 1 to 1,024 slots");
+    }
+    let Ok((put, take)) = link(alloc, slots) else {
+        bail!("want of memory");
+    };
+    let mut ends = Ends {
+        put,
+        take,
+        last: 0,
+        repaid: 0,
+    };
+    let mut gap = "";
+    for call in calls.split(' ') {
+        write!(out, "{gap}")?;
+        put_answer(&mut ends, call, out)?;
+        gap = " ";
+    }
+    Ok(())
+}
+
+/// Makes one call and writes its answer.
+fn put_answer<W: Write>(ends: &mut Ends, call: &str, out: &mut W) -> Result<()> {
+    if call == "ready" {
+        return put_stamp(ends.put.ready(), out);
+    }
+    if call == "peek" {
+        return put_token(ends.take.peek(), out);
+    }
+    if call == "flush" {
+        ends.take.flush();
+        write!(out, ".")?;
+        return Ok(());
+    }
+    if let Some(stamp) = call.strip_prefix("take@") {
+        return put_token(ends.take(stamp.parse()?), out);
+    }
+    let token = call.strip_prefix("put=").context("no such call")?;
+    let (value, stamp) = token.split_once('@').context("a token is VALUE@STAMP")?;
+    let token = Token {
+        value: value.parse()?,
+        stamp: stamp.parse()?,
+    };
+    let word = if ends.put(token) { "ok" } else { "no" };
+    write!(out, "{word}")?;
+    Ok(())
+}
+
+/// Writes a stamp.
+fn put_stamp<W: Write>(stamp: Option<u64>, out: &mut W) -> Result<()> {
+    match stamp {
+        Some(stamp) => write!(out, "{stamp}")?,
+        None => write!(out, "none")?,
+    }
+    Ok(())
+}
+
+/// Writes a token.
+fn put_token<W: Write>(token: Option<Token>, out: &mut W) -> Result<()> {
+    match token {
+        Some(Token { value, stamp }) => write!(out, "{value}@{stamp}")?,
+        None => write!(out, "none")?,
+    }
+    Ok(())
+}
