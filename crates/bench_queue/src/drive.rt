@@ -7,7 +7,7 @@ use lsq_core::Queue;
 use net_types::Act;
 
 /// How many acts are tried for one that is made, at most.
-const TRIES: u32 = 64;
+const TRIES: u32 = 8192;
 
 /// A source of random numbers.
 #[derive(Clone, Copy, Debug)]
