@@ -60,11 +60,13 @@ pub fn put_answers<W: Write>(alloc: Global, line: &str, out: &mut W) -> Result<(
         last: 0,
         repaid: 0,
     };
-    let mut gap = "";
+    let mut is_first = true;
     for call in calls.split(' ') {
-        write!(out, "{gap}")?;
+        if !is_first {
+            write!(out, " ")?;
+        }
         put_answer(&mut ends, call, out)?;
-        gap = " ";
+        is_first = false;
     }
     Ok(())
 }
