@@ -1,6 +1,6 @@
 -- The greatest sizes that are accepted, and how many items a `u32` can number.
 use Rattle.std.specs.Prelude.{ℕ, ◌<◌, ◌^◌}
-use Rattle.el_base.specs.declared.limits.TheConstants.{MAX_NODES, MAX_NESTING, MAX_DIMENSIONS, MAX_ELEMENTS, MAX_KERNEL_BYTES, MAX_INPUTS_BYTES, MAX_NETLIST_BYTES, MAX_SCHEDULE_BYTES, MAX_SLOTS, MAX_DELAY, MAX_SUM_OF_SLOTS, MAX_WAYS, MAX_DEPTH}
+use Rattle.el_base.specs.declared.limits.TheConstants.{MAX_NODES, MAX_NESTING, MAX_DIMENSIONS, MAX_ELEMENTS, MAX_KERNEL_BYTES, MAX_INPUTS_BYTES, MAX_NETLIST_BYTES, MAX_SCHEDULE_BYTES, MAX_SLOTS, MAX_DELAY, MAX_SUM_OF_SLOTS, MAX_WAYS, MAX_DEPTH, MAX_FIRINGS, MAX_WORKERS}
 
 -- the nodes of a kernel
 abbrev pub max_nodes : ℕ
@@ -49,6 +49,14 @@ max_ways = MAX_WAYS
 -- the entries of a queue
 abbrev pub max_depth : ℕ
 max_depth = MAX_DEPTH
+
+-- the firings of a run
+abbrev pub max_firings : ℕ
+max_firings = MAX_FIRINGS
+
+-- the workers that run a net
+abbrev pub max_workers : ℕ
+max_workers = MAX_WORKERS
 
 -- so many items have each a number that a `u32` holds
 abbrev pub IsNumbered : ℕ → Type 0

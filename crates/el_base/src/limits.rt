@@ -38,3 +38,9 @@ pub const MAX_WAYS: u32 = 65_536;
 
 /// The entries of a queue.
 pub const MAX_DEPTH: u32 = 1_024;
+
+/// The firings of a run, the greatest number that a caller may ask.
+pub const MAX_FIRINGS: u64 = 400_000_000;
+
+/// The workers that run a net.
+pub const MAX_WORKERS: u32 = 64;

@@ -1,92 +1,93 @@
 -- The plain runner, one firing after another.
-use Rattle.std.proofs.Common.{◌≡◌, ℕ, ◌+◌, ◌*◌, ◌^◌, ◌<◌, ◌≤◌, ◌∙◌, Bool, true, false, cond, List, [], ◌∷◌, ◌++◌, length, refl, sym, ap, arith, length-append, append_assoc}
+use Rattle.std.proofs.Common.{◌≡◌, ℕ, ◌+◌, ◌*◌, ◌^◌, ◌<◌, ◌≤◌, ◌∙◌, Bool, true, false, cond, List, [], ◌∷◌, ◌++◌, length, refl, sym, ap, subst, arith, length-append, append_assoc}
 use Rattle.std.proofs.lemmas.List.{append-nil}
-use Rattle.el_base.specs.Limits.{max_depth}
+use Rattle.el_base.specs.Limits.{max_depth, max_firings}
 use Rattle.el_base.specs.Logs.{Logged}
 use Rattle.net_types.specs.declared.net.Net.{Net}
 use Rattle.net_types.specs.declared.firing.Firing.{Firing}
-use Rattle.net_core.specs.declared.state.State.{State as Stored}
 use Rattle.net_core.specs.Fire.{State, enabled, after}
 use Rattle.net_core.specs.Runs.{Leads, AtRest}
-use Rattle.net_core.specs.States.{CountsWithin, CountsRise, IsOf, state_of}
+use Rattle.net_core.specs.States.{CountsWithin, CountsRise}
 use Rattle.net_replay.specs.declared.runner.Ended.TheVariants.{Rest, Limit}
-use Rattle.net_replay.specs.Finishes.{Finished, IsLogged, max_firings}
-use Rattle.net_replay.proofs.PathLemmas.{leads_more, counts_less, counts_more}
-
--- some firings are made, and are in the log where they are kept
-pub record IsOnTheWay (net : Net) (start : State) (made limit : ℕ) (keep : Bool) (old : Logged Firing) (s : Stored) (count : ℕ) (log : Logged Firing) : Type 0 where
-  pub of : IsOf net s
-  pub firings : List Firing
-  pub leads : Leads net start firings (state_of s)
-  pub counted : count ≡ made + length firings
-  pub within : count ≤ limit
-  pub counts : CountsWithin (2 ^ 60 + length firings * max_depth) (state_of s)
-  pub logged : IsLogged keep firings old log
+use Rattle.net_replay.specs.Finishes.{Finished, IsLogged}
+use Rattle.net_replay.specs.private.Advances.{Advances, MayAdvance}
+use Rattle.net_replay.proofs.PathLemmas.{leads_on, counts_less, counts_more}
 
 logged_none : (keep : Bool) (log : Logged Firing) → IsLogged keep [] log log
 logged_none true log = record { items = sym (append-nil log.items); room = omega arith }
 logged_none false log = record { items = sym (append-nil log.items); room = omega arith }
 
-logged_more : (keep : Bool) (fs : List Firing) (f : Firing) (old mid new : Logged Firing) → IsLogged keep fs old mid → IsLogged keep (f ∷ []) mid new
-    → IsLogged keep (fs ++ f ∷ []) old new
-logged_more true fs f old mid new a b = record {
-  items = b.items ∙ ap (λ x. x ++ f ∷ []) a.items ∙ append_assoc old.items fs (f ∷ []);
-  room = omega (arith, a.room, b.room, length-append fs (f ∷ []));
+logged_then : (keep : Bool) (fs gs : List Firing) (old mid new : Logged Firing) → IsLogged keep fs old mid → IsLogged keep gs mid new → IsLogged keep (fs ++ gs) old new
+logged_then true fs gs old mid new a b = record {
+  items = b.items ∙ ap (λ x. x ++ gs) a.items ∙ append_assoc old.items fs gs;
+  room = omega (arith, a.room, b.room, length-append fs gs);
 }
-logged_more false fs f old mid new a b = record {
+logged_then false fs gs old mid new a b = record {
   items = b.items ∙ append-nil mid.items ∙ a.items;
   room = omega (arith, a.room, b.room);
 }
 
-pub way_start : (net : Net) (made limit : ℕ) (keep : Bool) (s : Stored) (log : Logged Firing) → IsOf net s → made ≤ limit → CountsWithin (2 ^ 60) (state_of s)
-    → IsOnTheWay net (state_of s) made limit keep log s made log
-way_start net made limit keep s log of l h = record {
-  of = of;
-  firings = [];
-  leads = refl;
-  counted = omega arith;
+pub may_start : (s : State) (limit : ℕ) (keep : Bool) (made : ℕ) (log : Logged Firing) → made ≤ limit → limit ≤ max_firings → CountsWithin (2 ^ 60) s
+    → (keep ≡ true → limit ≤ made + log.room) → MayAdvance s limit keep made log
+may_start s limit keep made log l few h room = record {
   within = l;
-  counts = counts_less (2 ^ 60) (2 ^ 60 + 0 * max_depth) (state_of s) (omega arith) h;
-  logged = logged_none keep log;
+  few = few;
+  counts = counts_less (2 ^ 60) (2 ^ 60 + made * max_depth) s (omega arith) h;
+  room = room;
 }
 
-module _ (net : Net) (start : State) (made limit : ℕ) (keep : Bool) (old : Logged Firing) where
-  pub way_counts : (s : Stored) (count : ℕ) (log : Logged Firing) → limit ≤ max_firings → IsOnTheWay net start made limit keep old s count log
-      → CountsWithin (2 ^ 62) (state_of s)
-  way_counts s count log few h = counts_less (2 ^ 60 + length h.firings * max_depth) (2 ^ 62) (state_of s) (omega (arith, h.counted, h.within)) h.counts
+pub may_counts : (s : State) (limit : ℕ) (keep : Bool) (count : ℕ) (log : Logged Firing) → MayAdvance s limit keep count log → CountsWithin (2 ^ 62) s
+may_counts s limit keep count log h = counts_less (2 ^ 60 + count * max_depth) (2 ^ 62) s (omega (arith, h.within, h.few)) h.counts
 
-  pub way_room : (s : Stored) (count : ℕ) (log : Logged Firing) → (keep ≡ true → limit ≤ made + old.room) → count < limit
-      → IsOnTheWay net start made limit keep old s count log → keep ≡ true → 0 < log.room
-  way_room s count log room l h is =
-      let kept : cond keep h.firings [] ≡ h.firings = ap (λ b. cond b h.firings []) is in
-      omega (arith, room is, h.counted, h.logged.room, ap length kept)
+pub may_room : (s : State) (limit : ℕ) (keep : Bool) (count : ℕ) (log : Logged Firing) → MayAdvance s limit keep count log → count < limit → keep ≡ true → 0 < log.room
+may_room s limit keep count log h l is = omega (arith, h.room is)
 
-  pub way_more : (s t : Stored) (count : ℕ) (log new : Logged Firing) (f : Firing) → IsOnTheWay net start made limit keep old s count log → count < limit
-      → enabled net (state_of s) f → IsOf net t → state_of t ≡ after net (state_of s) f → CountsRise max_depth (state_of s) (state_of t)
-      → IsLogged keep (f ∷ []) log new → IsOnTheWay net start made limit keep old t (count + 1) new
-  way_more s t count log new f h l e of is rise logged = record {
-    of = of;
-    firings = h.firings ++ f ∷ [];
-    leads = leads_more net start h.firings (state_of s) f (state_of t) h.leads e is;
-    counted = omega (arith, h.counted, length-append h.firings (f ∷ []));
+pub way_none : (net : Net) (s : State) (limit : ℕ) (keep : Bool) (count : ℕ) (log : Logged Firing) → MayAdvance s limit keep count log
+    → Advances net s s limit keep count count log log
+way_none net s limit keep count log h = record { firings = []; leads = refl; counted = omega arith; logged = logged_none keep log; may = h }
+
+room_one : (limit : ℕ) (keep : Bool) (count : ℕ) (f : Firing) (log new : Logged Firing) → IsLogged keep (f ∷ []) log new → (keep ≡ true → limit ≤ count + log.room)
+    → keep ≡ true → limit ≤ (count + 1) + new.room
+room_one limit true count f log new logged room is = omega (arith, room is, logged.room)
+room_one limit false count f log new logged room is = cc
+
+pub way_one : (net : Net) (s t : State) (limit : ℕ) (keep : Bool) (count : ℕ) (f : Firing) (log new : Logged Firing) → MayAdvance s limit keep count log → count < limit
+    → enabled net s f → t ≡ after net s f → CountsRise max_depth s t → IsLogged keep (f ∷ []) log new → Advances net s t limit keep count (count + 1) log new
+way_one net s t limit keep count f log new h l e is rise logged = record {
+  firings = f ∷ [];
+  leads = (e, sym is);
+  counted = omega arith;
+  logged = logged;
+  may = record {
     within = omega arith;
-    counts = counts_more (2 ^ 60 + length h.firings * max_depth) (2 ^ 60 + length (h.firings ++ f ∷ []) * max_depth) max_depth (state_of s) (state_of t)
-        (omega (arith, length-append h.firings (f ∷ []))) h.counts rise;
-    logged = logged_more keep h.firings f old log new h.logged logged;
-  }
+    few = h.few;
+    counts = counts_more (2 ^ 60 + count * max_depth) (2 ^ 60 + (count + 1) * max_depth) max_depth s t (omega arith) h.counts rise;
+    room = room_one limit keep count f log new logged h.room;
+  };
+}
 
-  pub way_rests : (s : Stored) (count : ℕ) (log : Logged Firing) → IsOnTheWay net start made limit keep old s count log → AtRest net (state_of s)
-      → Finished net start (state_of s) made limit keep old log (Rest count)
-  way_rests s count log h rest = record {
-    firings = h.firings;
-    finishes = record { leads = h.leads; ends = record { rest = rest; counted = h.counted; within = h.within } };
-    logged = h.logged;
-  }
+pub way_then : (net : Net) (s t u : State) (limit : ℕ) (keep : Bool) (a b c : ℕ) (old mid new : Logged Firing) → Advances net s t limit keep a b old mid
+    → Advances net t u limit keep b c mid new → Advances net s u limit keep a c old new
+way_then net s t u limit keep a b c old mid new h k = record {
+  firings = h.firings ++ k.firings;
+  leads = leads_on net s h.firings k.firings t u h.leads k.leads;
+  counted = omega (arith, h.counted, k.counted, length-append h.firings k.firings);
+  logged = logged_then keep h.firings k.firings old mid new h.logged k.logged;
+  may = k.may;
+}
 
-  pub way_limited : (s : Stored) (count : ℕ) (log : Logged Firing) (f : Firing) → IsOnTheWay net start made limit keep old s count log → count ≡ limit
-      → enabled net (state_of s) f → Finished net start (state_of s) made limit keep old log Limit
-  way_limited s count log f h is e = record {
-    firings = h.firings;
-    finishes = record { leads = h.leads; ends = record { reached = sym h.counted ∙ is; next = f; goes = e } };
-    logged = h.logged;
-  }
+pub way_rests : (net : Net) (s t : State) (made limit : ℕ) (keep : Bool) (count : ℕ) (old log : Logged Firing) → Advances net s t limit keep made count old log → AtRest net t
+    → Finished net s t made limit keep old log (Rest count)
+way_rests net s t made limit keep count old log h rest = record {
+  firings = h.firings;
+  finishes = record { leads = h.leads; ends = record { rest = rest; counted = h.counted; within = h.may.within } };
+  logged = h.logged;
+}
+
+pub way_limited : (net : Net) (s t : State) (made limit : ℕ) (keep : Bool) (count : ℕ) (old log : Logged Firing) (f : Firing) → Advances net s t limit keep made count old log
+    → count ≡ limit → enabled net t f → Finished net s t made limit keep old log Limit
+way_limited net s t made limit keep count old log f h is e = record {
+  firings = h.firings;
+  finishes = record { leads = h.leads; ends = record { reached = sym h.counted ∙ is; next = f; goes = e } };
+  logged = h.logged;
+}

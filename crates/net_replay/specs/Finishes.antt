@@ -5,13 +5,8 @@ use Rattle.net_types.specs.declared.net.Net.{Net}
 use Rattle.net_types.specs.declared.firing.Firing.{Firing}
 use Rattle.net_core.specs.Fire.{State, enabled}
 use Rattle.net_core.specs.Runs.{Leads, AtRest}
-use Rattle.net_replay.specs.declared.runner.TheConstants.{MAX_FIRINGS}
 use Rattle.net_replay.specs.declared.runner.Ended.{Ended}
 use Rattle.net_replay.specs.declared.runner.Ended.TheVariants as ended
-
--- the greatest limit
-abbrev pub max_firings : ℕ
-max_firings = MAX_FIRINGS
 
 -- no firing is enabled in a state that was come to by so many firings in all, which the limit allows
 pub record IsRested (net : Net) (to : State) (count limit made : ℕ) : Type 0 where

@@ -6,3 +6,4 @@ pub mod Laws
 pub mod Schedules
 pub mod Readings
 pub mod Words
+pub mod private

@@ -7,6 +7,7 @@
 mod fault;
 mod judging;
 mod laws;
+mod marks;
 mod outcome;
 mod replayer;
 mod runner;
@@ -16,13 +17,14 @@ mod schedule_refusal;
 mod schedule_words;
 #[cfg(test)]
 mod tests;
+mod visits;
 
 pub use fault::{ReplayFault, RunFault};
 pub use judging::judge;
 pub use laws::{one_answer, one_end, one_schedule};
 pub use outcome::Replay;
 pub use replayer::replay;
-pub use runner::{Ended, MAX_FIRINGS, finish};
+pub use runner::{Ended, finish};
 pub use schedule_printer::print_schedule;
 pub use schedule_reader::read_schedule;
 pub use schedule_refusal::ScheduleRefusal;

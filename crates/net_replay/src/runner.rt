@@ -1,17 +1,14 @@
-ghost use Rattle.std.specs.Prelude.{◌≡◌, ◌+◌, ◌<◌, ◌≤◌, ◌^◌, true, [], ◌∷◌, MatchOption};
-ghost use Rattle.el_base.specs.Limits.{max_depth};
+ghost use Rattle.std.specs.Prelude.{◌≡◌, ◌+◌, ◌<◌, ◌≤◌, ◌^◌, true, [], ◌∷◌};
+ghost use Rattle.el_base.specs.Limits.{max_depth, max_firings};
 ghost use Rattle.net_core.specs.Fire.{after, enabled};
-ghost use Rattle.net_core.specs.Runs.{AtRest};
 ghost use Rattle.net_core.specs.States.{CountsRise, CountsWithin, IsOf, state_of};
-ghost use Rattle.net_replay.specs.Finishes.{Finished, IsLogged, max_firings};
+ghost use Rattle.net_replay.specs.Finishes.{Finished, IsLogged};
 
+use crate::visits::{Bounds, advance, note};
 use el_base::Log;
 use net_check::Checked;
 use net_core::State;
-use net_types::{Act, Firing};
-
-/// The greatest limit of a number of firings.
-pub const MAX_FIRINGS: u64 = 400_000_000;
+use net_types::Firing;
 
 /// How a run of firings ended.
 #[derive(Clone, Copy, Debug, PartialEq, Eq)]
@@ -25,7 +22,7 @@ pub enum Ended {
 /// Makes enabled firings, one after another, until none is enabled or `limit` are made, of which `made` are made before the
 /// call. Where `keep` is true it adds them to the log, in their order.
 ///
-/// It takes no memory. It goes on from where it fired last.
+/// It takes no memory. It looks first where a firing has changed something, and at all units before it rests.
 pub fn finish(
     net: &Checked,
     state: &mut State,
@@ -43,32 +40,16 @@ pub fn finish(
     ensures finished { Finished net.now (state_of state.old) (state_of state.new) made limit
         keep log.old log.new result }
 {
-    let mut count = made;
-    let mut place = Firing {
-        unit: 0,
-        act: Act::Go,
-    };
-    'firings: while let Some(firing) = next_firing(net, state, place) {
+    let bounds = Bounds { limit, keep };
+    let mut count = advance(net, state, log, bounds, made);
+    'firings: while let Some(firing) = state.find(net) {
         if count == limit {
             return Ended::Limit;
         }
         make(net, state, firing, keep, log);
-        count += 1;
-        place = firing;
+        count = advance(net, state, log, bounds, count + 1);
     }
     Ended::Rest { made: count }
-}
-
-/// An enabled firing, the first one that is not before a place, else the first one of all.
-fn next_firing(net: &Checked, state: &State, place: Firing) -> Option<Firing>
-    requires { IsOf net.now state.now }
-    ensures { MatchOption result (AtRest net.now (state_of state.now))
-        (λ f. enabled net.now (state_of state.now) f) }
-{
-    match state.find_from(net, place) {
-        Some(firing) => Some(firing),
-        None => state.find(net),
-    }
 }
 
 /// Makes a firing, and adds it to the log where it is kept.
@@ -83,7 +64,5 @@ fn make(net: &Checked, state: &mut State, firing: Firing, keep: bool, log: &mut 
     ensures logged { IsLogged keep (firing ∷ []) log.old log.new }
 {
     state.fire(net, firing);
-    if keep {
-        log.add(firing);
-    }
+    note(log, keep, firing);
 }

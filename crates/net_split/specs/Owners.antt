@@ -1,11 +1,6 @@
 -- Which worker owns which unit.
 use Rattle.std.specs.Prelude.{◌≡◌, ℕ, ◌*◌, ◌/◌, List, map}
 use Rattle.std.specs.List.{range_with_len}
-use Rattle.net_split.specs.declared.TheConstants.{MAX_WORKERS}
-
--- the most workers
-abbrev pub max_workers : ℕ
-max_workers = MAX_WORKERS
 
 -- of n units the unit u, over w workers
 abbrev pub owner : ℕ → ℕ → ℕ → ℕ

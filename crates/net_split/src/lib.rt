@@ -2,7 +2,8 @@
 #![tactic(auto)]
 
 ghost use Rattle.std.specs.Prelude.{◌≡◌, ◌<◌, ◌≤◌, ◌^◌, All, IfOk, length};
-ghost use Rattle.net_split.specs.Owners.{max_workers, owner, owners_of};
+ghost use Rattle.el_base.specs.Limits.{max_workers};
+ghost use Rattle.net_split.specs.Owners.{owner, owners_of};
 
 #[cfg(test)]
 mod tests;
@@ -10,9 +11,6 @@ mod tests;
 use net_check::Checked;
 use net_types::{List, Memory};
 use std::alloc::Global;
-
-/// The most workers that a net is split over.
-pub const MAX_WORKERS: u32 = 64;
 
 /// The owner of each unit, in the order of the units: unit u of n is owned by worker `u * workers / n`, rounded down. So
 /// each worker owns units that stand side by side, and two workers own equally many, or one of them one more.

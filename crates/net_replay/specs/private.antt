@@ -1,0 +1,2 @@
+-- Private: what only contracts of this crate cite.
+pub mod Advances

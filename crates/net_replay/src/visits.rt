@@ -1,0 +1,190 @@
+//! Firings that are tried, one after another, where marks stand.
+
+ghost use Rattle.std.specs.Prelude.{◌≡◌, ◌<◌, ◌∷◌, [], true, length};
+ghost use Rattle.net_core.specs.States.{IsOf, state_of};
+ghost use Rattle.net_replay.specs.Finishes.{IsLogged};
+ghost use Rattle.net_replay.specs.private.Advances.{Advances, MayAdvance};
+
+use crate::marks::Marks;
+use el_base::Log;
+use lsq_core::Queue;
+use net_check::Checked;
+use net_core::{State, UnitQueue};
+use net_types::{Act, Firing, Unit};
+
+/// How many firings there may be in all, and whether they are kept in the log.
+#[derive(Clone, Copy, Debug)]
+pub(crate) struct Bounds {
+    pub limit: u64,
+    pub keep: bool,
+}
+
+/// Makes enabled firings until it finds none or as many are made as the limit allows, and gives how many are made then.
+/// It looks where a firing before has changed something, and so may leave enabled firings unmade.
+pub(crate) fn advance(
+    net: &Checked,
+    state: &mut State,
+    log: &mut Log<Firing>,
+    bounds: Bounds,
+    made: u64,
+) -> u64
+    requires of { IsOf net.now state.old }
+    requires may { MayAdvance (state_of state.old) bounds.limit bounds.keep made log.old }
+    ensures of { IsOf net.now state.new }
+    ensures made { Advances net.now (state_of state.old) (state_of state.new)
+        bounds.limit bounds.keep made result log.old log.new }
+{
+    let mut marks = Marks::new(net);
+    let mut count = made;
+    for _ in 0..u64::MAX {
+        if count == bounds.limit {
+            return count;
+        }
+        let Some(mark) = marks.take() else {
+            return count;
+        };
+        count = visit_mark(net, state, &mut marks, log, bounds, count, mark);
+    }
+    count
+}
+
+/// Tries the firings of the units of a mark.
+fn visit_mark(
+    net: &Checked,
+    state: &mut State,
+    marks: &mut Marks,
+    log: &mut Log<Firing>,
+    bounds: Bounds,
+    made: u64,
+    mark: usize,
+) -> u64
+    requires of { IsOf net.now state.old }
+    requires may { MayAdvance (state_of state.old) bounds.limit bounds.keep made log.old }
+    ensures of { IsOf net.now state.new }
+    ensures made { Advances net.now (state_of state.old) (state_of state.new)
+        bounds.limit bounds.keep made result log.old log.new }
+{
+    let first = marks.first(mark);
+    let end = first
+        .saturating_add(marks.width())
+        .min(net.net().units.as_slice().len());
+    let mut count = made;
+    for at in first..end {
+        count = visit(net, state, marks, log, bounds, count, at as u32);
+    }
+    count
+}
+
+/// Tries the firings of a unit.
+fn visit(
+    net: &Checked,
+    state: &mut State,
+    marks: &mut Marks,
+    log: &mut Log<Firing>,
+    bounds: Bounds,
+    made: u64,
+    unit: u32,
+) -> u64
+    requires of { IsOf net.now state.old }
+    requires within { unit < length net.now.units }
+    requires may { MayAdvance (state_of state.old) bounds.limit bounds.keep made log.old }
+    ensures of { IsOf net.now state.new }
+    ensures made { Advances net.now (state_of state.old) (state_of state.new)
+        bounds.limit bounds.keep made result log.old log.new }
+{
+    let mut count = made;
+    for number in 0..u32::MAX {
+        let Some(act) = act_of(net, state, unit, number) else {
+            return count;
+        };
+        count = try_act(net, state, marks, log, bounds, count, Firing { unit, act });
+    }
+    count
+}
+
+/// Makes a firing where it is enabled and the limit allows one more.
+fn try_act(
+    net: &Checked,
+    state: &mut State,
+    marks: &mut Marks,
+    log: &mut Log<Firing>,
+    bounds: Bounds,
+    made: u64,
+    firing: Firing,
+) -> u64
+    requires of { IsOf net.now state.old }
+    requires may { MayAdvance (state_of state.old) bounds.limit bounds.keep made log.old }
+    ensures of { IsOf net.now state.new }
+    ensures made { Advances net.now (state_of state.old) (state_of state.new)
+        bounds.limit bounds.keep made result log.old log.new }
+{
+    if made == bounds.limit {
+        return made;
+    }
+    let Some(plan) = state.plan(net, firing) else {
+        return made;
+    };
+    if !state.has_room(net, firing.unit, plan.put) {
+        return made;
+    }
+    state.make(net, firing, plan);
+    note(log, bounds.keep, firing);
+    marks.wake(net, firing.unit, plan);
+    made + 1
+}
+
+/// Adds a firing to the log where it is kept.
+pub(crate) fn note(log: &mut Log<Firing>, keep: bool, firing: Firing)
+    requires { keep ≡ true → 0 < log.old.room }
+    ensures { IsLogged keep (firing ∷ []) log.old log.new }
+{
+    if keep {
+        log.add(firing);
+    }
+}
+
+/// The acts of a unit, by numbers from 0 on; `None` past the last.
+fn act_of(net: &Checked, state: &State, unit: u32, number: u32) -> Option<Act>
+    requires of { IsOf net.now state.now }
+    requires within { unit < length net.now.units }
+{
+    match &net.net().units.as_slice()[unit as usize] {
+        Unit::Fork { outs, .. } => (number < *outs).then_some(Act::Send(number)),
+        Unit::Cmerge { ins } => (number < *ins).then_some(Act::From(number)),
+        Unit::Lsq { ports, groups, .. } => {
+            let ports = u32::try_from(ports.as_slice().len()).ok()?;
+            let groups = u32::try_from(groups.as_slice().len()).ok()?;
+            queue_act(state.queue(net, unit)?, ports, groups, number)
+        }
+        _ => (number == 0).then_some(Act::Go),
+    }
+}
+
+/// The acts of a queue in their order, by numbers from 0 on. Of its executions only that of the oldest entry that may
+/// execute is there; where there is none, a retirement stands in its place.
+fn queue_act(queue: &UnitQueue, ports: u32, groups: u32, number: u32) -> Option<Act> {
+    if number < groups {
+        return Some(Act::Alloc(number));
+    }
+    let number = number - groups;
+    if number < ports {
+        return Some(Act::Addr(number));
+    }
+    let number = number - ports;
+    if number < ports {
+        return Some(Act::Data(number));
+    }
+    let number = number - ports;
+    if number == 0 {
+        return Some(queue.oldest().map_or(Act::Retire, Act::Exec));
+    }
+    let number = number - 1;
+    if number < ports {
+        return Some(Act::Reply(number));
+    }
+    match number - ports {
+        0 => Some(Act::Retire),
+        1 => Some(Act::End),
+        _ => None,
+    }
+}
