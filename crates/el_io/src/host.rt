@@ -1,7 +1,7 @@
 //! The adapters over the real files and streams. They tell nothing of content.
 ghost use Rattle.std.specs.Prelude.{◌≡◌, ◌≢◌, ◌<◌, ◌≤◌, [], IfOk, IsOk, Ok, length};
 ghost use Rattle.std.specs.Io.KnownBytes.{Consumes, IsAtEnd, WriteAppends};
-ghost use Rattle.el_io.specs.Hosts.{Passes};
+ghost use Rattle.el_io.specs.Hosts.{Passes, host_counts, host_counts_after};
 ghost use Rattle.el_io.specs.declared.files.Got.TheVariants as got;
 
 use crate::files::{FileFail, Files, Got};
@@ -32,6 +32,49 @@ impl<R: std::rt::Files> HostFiles<R> {
             long: 0,
         }
     }
+
+    // Reads an opened file where it has at most `max` bytes, and else nothing, and counts how that ended.
+    fn read_opened<F: Read>(
+        &mut self,
+        file: &mut F,
+        max: u64,
+        into: &mut Vec<u8>,
+    ) -> Result<Got, FileFail>
+        requires { into.old.items ≡ [] }
+        ensures bound { result ≡ Ok got.Whole → length into.new.items ≤ max }
+        ensures bytes { result ≡ Ok got.Whole
+            → Consumes (F.remaining file.old) (F.remaining file.new) into.new.items }
+        ensures end { result ≡ Ok got.Whole → IsAtEnd (F.remaining file.new) }
+        ensures longer { result ≡ Ok got.Longer
+            → Passes (F.remaining file.old) (F.remaining file.new) max }
+        ensures nothing { result ≢ Ok got.Whole → into.new.items ≡ [] }
+        ensures counts { host_counts self.new
+            ≡ host_counts_after (host_counts self.old) max result }
+        ensures faults { (host_counts self.old).faults ≤ (host_counts self.new).faults }
+        ensures longs { (host_counts self.old).longs ≤ (host_counts self.new).longs }
+    {
+        let ended = read_whole(file, max, into);
+        self.count(ended, max)
+    }
+
+    // Counts how a read of at most `max` bytes ended.
+    fn count(&mut self, ended: Result<Got, FileFail>, max: u64) -> Result<Got, FileFail>
+        ensures same { result ≡ ended }
+        ensures counts { host_counts self.new
+            ≡ host_counts_after (host_counts self.old) max result }
+        ensures faults { (host_counts self.old).faults ≤ (host_counts self.new).faults }
+        ensures longs { (host_counts self.old).longs ≤ (host_counts self.new).longs }
+    {
+        match ended {
+            Ok(Got::Whole) | Err(FileFail::Memory) => {}
+            Ok(Got::Longer) => {
+                self.longs = self.longs.saturating_add(1);
+                self.long = max;
+            }
+            Err(FileFail::Failed) => self.faults = self.faults.saturating_add(1),
+        }
+        ended
+    }
 }
 
 impl<R: std::rt::Files> Files for HostFiles<R> {
@@ -48,19 +91,10 @@ impl<R: std::rt::Files> Files for HostFiles<R> {
     ghost steady = { λ s. ⊥ };
 
     fn read(&mut self, name: &str, max: u64, into: &mut Vec<u8>) -> Result<Got, FileFail> {
-        let ended = match fs::open(&self.rt, name) {
-            Ok(mut file) => read_whole(&mut file, max, into),
-            Err(_) => Err(FileFail::Failed),
-        };
-        match ended {
-            Ok(Got::Whole) | Err(FileFail::Memory) => {}
-            Ok(Got::Longer) => {
-                self.longs = self.longs.saturating_add(1);
-                self.long = max;
-            }
-            Err(FileFail::Failed) => self.faults = self.faults.saturating_add(1),
+        match fs::open(&self.rt, name) {
+            Ok(mut file) => self.read_opened(&mut file, max, into),
+            Err(_) => self.count(Err(FileFail::Failed), max),
         }
-        ended
     }
 }
 

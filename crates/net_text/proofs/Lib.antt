@@ -1,4 +1,5 @@
 pub mod CompleteLines
+pub mod Counts
 pub mod Cuts
 pub mod Drafts
 pub mod GroupTexts

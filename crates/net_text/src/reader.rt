@@ -1,5 +1,6 @@
-ghost use Rattle.std.specs.Prelude.{◌∷◌, ◌++◌, ◌+◌, length};
+ghost use Rattle.std.specs.Prelude.{◌∷◌, ◌++◌, ◌+◌, length, IfOk};
 ghost use Rattle.el_base.specs.Limits.{IsNumbered};
+ghost use Rattle.net_types.specs.Numbered.{AreNumbered};
 ghost use Rattle.net_text.specs.Fits.{NameFits};
 ghost use Rattle.net_text.specs.Bodies.{first_text};
 ghost use Rattle.net_text.specs.Reads.{kernel_text};
@@ -13,7 +14,8 @@ use crate::version::Version;
 use net_types::{List, Name, Net};
 use std::alloc::Global;
 
-/// The net of a text of version 1 or 2, of fewer than 2^32 bytes; in version 1 no queue is marked.
+/// The net of a text of version 1 or 2, of fewer than 2^32 bytes; in version 1 no queue is marked. Its units and channels
+/// are fewer than 2^32 each.
 ///
 /// # Errors
 ///
@@ -24,6 +26,7 @@ pub fn read(alloc: Global, bytes: &[u8]) -> Result<Net, TextRefusal>
     requires { IsNumbered (length bytes.now) }
     ensures says { Says bytes.now result }
     ensures only { IsOnly bytes.now result }
+    ensures numbered { IfOk result AreNumbered }
 {
     read_text(alloc, bytes)
 }
