@@ -23,3 +23,5 @@ pub mod BoundLemmas
 pub mod ClosedWalks
 pub mod KeepLemmas
 pub mod LawLemmas
+pub mod TimeLemmas
+pub mod ChangeLemmas

@@ -3,11 +3,18 @@ use Rattle.std.specs.Prelude.{◌≡◌, ◌↔◌, ℕ, List}
 use Rattle.std.specs.List.{All}
 use Rattle.net_types.specs.declared.net.Net.{Net}
 use Rattle.net_types.specs.Numbered.{AreNumbered}
+use Rattle.net_types.specs.Rules.{KeepsC1, KeepsC2}
 use Rattle.net_check.specs.declared.refusal.At.{At}
-use Rattle.net_check.specs.Cycles.{IsClosedWalk, IsEndless}
+use Rattle.net_check.specs.Cycles.{KeepsC4, IsClosedWalk, IsEndless}
 use Rattle.net_check.specs.Keeps.{Keeps, rules_in_order}
 use Rattle.net_check.specs.Refusals.{IsRuleRefusal}
-use Rattle.net_check.specs.Checks.{IsChecked}
+use Rattle.net_check.specs.Checks.{IsChecked, EndsWithin}
+use Rattle.net_check.specs.Headers.{KeepsC8}
+use Rattle.net_check.specs.Shapes.{KeepsC7}
+use Rattle.net_check.specs.Sizes.{KeepsC3}
+use Rattle.net_check.specs.Controls.{KeepsC5}
+use Rattle.net_check.specs.Ends.{KeepsC6}
+use Rattle.net_check.specs.Retimed.{SamePlain}
 
 -- a net of numbered units and channels that keeps the eight rules is a checked one
 abbrev pub AllRulesCheck : Type 0
@@ -35,3 +42,24 @@ OneRefusal = (net : Net) (m n : ℕ) (x y : At) → IsRuleRefusal net m x → Is
 
 abbrev pub CheckedIsNotRefused : Type 0
 CheckedIsNotRefused = (net : Net) (n : ℕ) (x : At) → IsChecked net → IsRuleRefusal net n x → ⊥
+
+-- the rules that read no slots and no delays: what keeps them in one net keeps them in the other
+pub record KeepsUntimed (net net2 : Net) : Type 0 where
+  pub c1 : KeepsC1 net → KeepsC1 net2
+  pub c2 : KeepsC2 net → KeepsC2 net2
+  pub c5 : KeepsC5 net → KeepsC5 net2
+  pub c6 : KeepsC6 net → KeepsC6 net2
+  pub c7 : KeepsC7 net → KeepsC7 net2
+  pub c8 : KeepsC8 net → KeepsC8 net2
+
+-- nets that are equal but for slots and delays keep all rules but C3 and C4 together
+abbrev pub TimesBreakTwoRules : Type 0
+TimesBreakTwoRules = (net net2 : Net) → SamePlain net net2 → KeepsUntimed net net2
+
+-- a checked net with other slots and delays that keeps C3 and C4 is a checked one
+abbrev pub TwoRulesCheckAgain : Type 0
+TwoRulesCheckAgain = (net net2 : Net) → IsChecked net → SamePlain net net2 → KeepsC3 net2 → KeepsC4 net2 → IsChecked net2
+
+-- by C1 the ends of channels are places of units of the net
+abbrev pub EndsAreOfUnits : Type 0
+EndsAreOfUnits = (net : Net) → KeepsC1 net → EndsWithin net

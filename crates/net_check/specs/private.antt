@@ -16,3 +16,4 @@ pub mod Joins
 pub mod Bounds
 pub mod Bases
 pub mod Tabled
+pub mod Times

@@ -3,6 +3,7 @@ ghost use Rattle.net_types.specs.Nets.{into, out_of};
 ghost use Rattle.net_types.specs.Numbered.{AreNumbered};
 ghost use Rattle.net_check.specs.Checks.{IsChecked};
 ghost use Rattle.net_check.specs.Refusals.{RefusalHolds};
+ghost use Rattle.net_check.specs.Retimed.{NameChannels, with_changes};
 ghost use Rattle.net_check.specs.private.Bases.{KeepsBase};
 ghost use Rattle.net_check.specs.private.Broken.{IsRefusalBy};
 ghost use Rattle.net_check.specs.private.Steers.{IsTableOf};
@@ -15,6 +16,7 @@ use crate::headers::check_header;
 use crate::matches::check_widths;
 use crate::places::check_places;
 use crate::refusal::{At, NetRefusal, Rule};
+use crate::retiming::{Change, retime_net};
 use crate::shapes::check_shapes;
 use crate::sizes::check_sizes;
 use crate::wires::{Side, Wires};
@@ -63,6 +65,23 @@ impl Checked {
         let into = Wires::new(alloc, &net, Side::In)?;
         let out_of = Wires::new(alloc, &net, Side::Out)?;
         Ok(Checked { net, into, out_of })
+    }
+
+    /// Gives channels other slots and delays, by changes in their order: of two changes of one channel the later counts.
+    ///
+    /// It costs time in proportion to the changes, the units and the channels, and no copy of the net.
+    ///
+    /// # Errors
+    ///
+    /// As [`check_net`] would answer for the net with the changes, which can break no rule but C3 and C4. The net is then
+    /// what it was.
+    pub fn retime(&mut self, alloc: Global, changes: &[Change]) -> Result<(), NetRefusal>
+        requires { NameChannels changes.now self.old }
+        ensures changed { OnOk result (self.new ≡ with_changes changes.now self.old) }
+        ensures kept { IfErr result (λ e. self.new ≡ self.old) }
+        ensures refused { IfErr result (λ e. RefusalHolds (with_changes changes.now self.old) e) }
+    {
+        retime_net(alloc, &mut self.net, changes)
     }
 
     /// The number of the channel into an input place, or of all channels where there is none. It costs one step.
@@ -152,7 +171,7 @@ fn check_rest(alloc: Global, net: &Net, into: &Wires, out_of: &Wires) -> Result<
 /// # Errors
 ///
 /// The rule, where something was found.
-fn refuse(rule: Rule, found: Option<At>) -> Result<(), NetRefusal>
+pub(crate) fn refuse(rule: Rule, found: Option<At>) -> Result<(), NetRefusal>
     ensures kept { OnOk result (found ≡ None) }
     ensures broken { IfErr result (λ e. IsRefusalBy rule found e) }
 {

@@ -15,6 +15,7 @@ mod marks;
 mod matches;
 mod places;
 mod refusal;
+mod retiming;
 mod shapes;
 mod sizes;
 #[cfg(test)]
@@ -24,8 +25,12 @@ mod wires;
 
 pub use checked::{Checked, check_net};
 pub use headers::check_header;
-pub use laws::{a_net_has_one_refusal, all_rules_make_a_checked_net, cycles_are_endless_walks};
+pub use laws::{
+    a_net_has_one_refusal, all_rules_make_a_checked_net, channels_end_at_units,
+    cycles_are_endless_walks, slots_and_delays_break_two_rules,
+};
 pub use matches::check_widths;
 pub use refusal::{At, NetRefusal};
+pub use retiming::Change;
 pub use shapes::check_shapes;
 pub use sizes::check_sizes;

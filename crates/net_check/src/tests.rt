@@ -1,4 +1,6 @@
-use crate::{At, NetRefusal, check_header, check_net, check_shapes, check_sizes, check_widths};
+use crate::{
+    At, Change, NetRefusal, check_header, check_net, check_shapes, check_sizes, check_widths,
+};
 use net_types::{Chan, List, Name, Net, Op2, Place, Scalar, Ty, Unit};
 use std::alloc::Global;
 use std::test::Fail;
@@ -123,5 +125,33 @@ fn rules_are_checked_apart(rt: HostRuntime) -> Result<(), Fail> {
     assert_eq!(rt; check_shapes(rt.alloc(), &net)?, None);
     assert_eq!(rt; check_widths(&net), None);
     assert_eq!(rt; check_sizes(&net), None);
+    Ok(())
+}
+
+#[test]
+fn changes_give_other_delays(rt: HostRuntime) -> Result<(), Fail> {
+    let net = square(rt.alloc())?;
+    if !net.is_numbered() {
+        return Err("too many units or channels".into());
+    }
+    let mut checked = match check_net(rt.alloc(), net) {
+        Ok(checked) => checked,
+        Err(_) => return Err("refused".into()),
+    };
+    let change = Change {
+        chan: 0,
+        slots: 3,
+        delay: 5,
+    };
+    if checked.net().chans.as_slice().is_empty() {
+        return Err("no channels".into());
+    }
+    if checked.retime(rt.alloc(), &[change]).is_err() {
+        return Err("refused".into());
+    }
+    let Some(chan) = checked.net().chans.as_slice().first() else {
+        return Err("no channels".into());
+    };
+    assert_eq!(rt; (chan.slots, chan.delay), (3, 5));
     Ok(())
 }
