@@ -1,0 +1,39 @@
+-- Slots and delays of the channels of a net, by a timing.
+use Rattle.std.specs.Prelude.{◌≡◌, ◌⊎◌, ℕ, ◌+◌, ◌*◌, ◌<◌, ◌≤◌, List, ◌∷◌, map, length}
+use Rattle.std.specs.List.{All}
+use Rattle.el_base.specs.Limits.{max_sum_of_slots}
+use Rattle.net_types.specs.declared.net.Chan.{Chan}
+use Rattle.net_types.specs.declared.net.Net.{Net}
+use Rattle.net_types.specs.Nets.{kind_of, chan_at}
+use Rattle.net_check.specs.Cycles.{IsClosedWalk}
+use Rattle.net_check.specs.Retimed.{SamePlain}
+use Rattle.buffer_place.specs.declared.timing.Timing.{Timing}
+use Rattle.buffer_place.specs.Timings.{class_of, class_delay}
+
+-- the delay of the class of the unit that a channel comes from
+abbrev pub source_delay : Timing → Net → Chan → ℕ
+source_delay t net c = class_delay t (class_of (kind_of net c.from.unit))
+
+-- the net with the delays of the classes alone
+abbrev pub classed : Timing → Net → Net
+classed t net = record net { chans = map (λ (c : Chan). record c { delay = source_delay t net c }) net.chans }
+
+-- a cycle of channels of delay 0 goes through the channel c
+abbrev pub LiesOnCycle : Net → ℕ → Type 0
+LiesOnCycle net c = (cs : List ℕ) × IsClosedWalk net (c ∷ cs)
+
+-- as many slots for each of n channels as are wanted, or as many as there may be
+pub record AreMostSlots (wanted n slots : ℕ) : Type 0 where
+  pub few : slots ≤ wanted
+  pub together : n * slots ≤ max_sum_of_slots
+  pub most : (slots ≡ wanted) ⊎ (max_sum_of_slots < n * (slots + 1))
+
+-- slots and delays alone are changed. A channel has the delay of the class of its unit; but where this is 0 and a cycle of
+-- channels whose classes have delay 0 goes through it, it has delay 1
+pub record IsPlaced (t : Timing) (old new : Net) : Type 0 where
+  pub same : SamePlain old new
+  pub on_cycle : (c : ℕ) → LiesOnCycle (classed t old) c → (chan_at new c).delay ≡ 1
+  pub off_cycle : (c : ℕ) → c < length old.chans → (LiesOnCycle (classed t old) c → ⊥) → (chan_at new c).delay ≡ source_delay t old (chan_at old c)
+  pub slots : ℕ
+  pub most : AreMostSlots t.slots (length old.chans) slots
+  pub each : All (λ (c : Chan). c.slots ≡ slots) new.chans
