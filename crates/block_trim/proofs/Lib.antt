@@ -1,0 +1,11 @@
+pub mod Written
+pub mod Uses
+pub mod Passages
+pub mod Fits
+pub mod Runs
+pub mod Sizes
+pub mod Exact
+pub mod Notes
+pub mod Marking
+pub mod Blocks
+pub mod SampleGraphs

@@ -1,0 +1,5 @@
+pub mod Trimming
+pub mod Shares
+pub mod Laws
+pub mod Code
+pub mod Sample
