@@ -1,19 +1,15 @@
 -- Assignments are imitated, with an operator or without.
-use Rattle.std.proofs.Common.{◌≡◌, ℕ, zero, suc, ◌+◌, ◌*◌, ◌<◌, ◌≤◌, List, [], ◌∷◌, ◌++◌, map, length, get_or, Option, Some, None, refl, sym, ◌∙◌, ap, subst, arith, append_assoc, length-append}
-use Rattle.std.specs.Prelude.{Bool, true, false, ℤ, pos, sum_by, All, slice_get}
-use Rattle.std.proofs.lemmas.List.{length-map}
+use Rattle.std.proofs.Common.{◌≡◌, ℕ, ◌+◌, ◌*◌, ◌<◌, ◌≤◌, List, [], ◌∷◌, ◌++◌, map, length, get_or, Option, Some, None, refl, sym, ◌∙◌, ap, subst, arith}
+use Rattle.std.specs.Prelude.{Bool, ℤ, All}
 use Rattle.el_base.specs.declared.span.Span.{Span}
 use Rattle.el_base.specs.declared.ty.Ty.{Ty}
 use Rattle.el_base.specs.declared.ty.Ty.TheVariants.{I32}
 use Rattle.c_ast.specs.Casts.{of_type}
-use Rattle.c_ast.specs.Nodes.{typed_expr_nodes, typed_exprs_nodes, act_nodes}
-use Rattle.c_ast.specs.ResultTypes.{joint_type}
+use Rattle.c_ast.specs.Nodes.{act_nodes}
 use Rattle.c_ast.specs.declared.tree.Binary.{Binary}
 use Rattle.c_ast.specs.declared.typed.Object.{Object}
-use Rattle.c_ast.specs.declared.typed.Object.TheVariants as object
 use Rattle.c_ast.specs.declared.typed.TypedTarget.{TypedTarget}
 use Rattle.c_ast.specs.declared.typed.TypedExpr.{TypedExpr}
-use Rattle.c_ast.specs.declared.typed.TypedExprKind.TheVariants as expr
 use Rattle.c_ast.specs.declared.typed.TypedStmtKind.{TypedStmtKind}
 use Rattle.c_ast.specs.declared.typed.TypedStmtKind as tree
 use Rattle.c_ast.specs.declared.normal.NormalStmt.{NormalStmt}
@@ -21,26 +17,24 @@ use Rattle.c_ast.specs.declared.normal.NormalStmtKind.TheVariants as normal
 use Rattle.c_ast.specs.declared.normal.NormalStmtKind.TheOpen as part_of
 use Rattle.c_meaning.specs.Types.{conv}
 use Rattle.c_meaning.specs.Stores.{Store, Objects, IsFitting}
-use Rattle.c_meaning.specs.Expressions.{Val, undefined_value, value, values, Meaning, meaning, kind_meaning, all_values, always, on_one, after_turns}
-use Rattle.c_meaning.specs.Runs.{How, normally, Run, ends, turn}
-use Rattle.c_meaning.specs.Statements.{Act, Place, Placed, no_place, placed, MeantTarget, meant_target, in_order, assigned, assigned_to, updated, updated_at, joined_in, joined_with, object_place, object_type, target_place, read_place, write_place, step_operator, kind_act, an_assignment}
-use Rattle.c_meaning.specs.Counts.{Tally, tally, Counting, only, counting_after, Counted, counted, run_of, acts_of, counts_in_order, expr_price, assignment_price, target_price}
+use Rattle.c_meaning.specs.Expressions.{Val, undefined_value, value, values, Meaning, meaning, all_values, after_turns}
+use Rattle.c_meaning.specs.Runs.{normally, Run, turn}
+use Rattle.c_meaning.specs.Statements.{Act, Place, Placed, no_place, placed, meant_target, in_order, assigned, assigned_to, updated_at, joined_in, joined_with, object_place, object_type, target_place, read_place, write_place, kind_act, an_assignment}
+use Rattle.c_meaning.specs.Counts.{tally, only, Counted, counted, run_of, acts_of, counts_in_order, expr_price, assignment_price}
 use Rattle.c_meaning.specs.Lawful.{LawfulExpr, LawfulStmt, IsObject}
 use Rattle.c_meaning.specs.Ranges.{ValuesFit, StatementsFit}
-use Rattle.c_norm.specs.Expand.{Out, Outs, whole, decided_by, expand_expr, rest_of, expand_all, set_all}
-use Rattle.c_norm.specs.Forms.{Made, normal_at, made, object_kind, new_value, target_with, compound, assignment_form, step_form, form_of}
+use Rattle.c_norm.specs.Expand.{Out, decided_by, expand_expr, rest_of, expand_all, set_all}
+use Rattle.c_norm.specs.Forms.{normal_at, object_kind, new_value, target_with, compound, assignment_form}
 use Rattle.c_norm.proofs.Takes.{Takes, takes_turn}
-use Rattle.c_norm.proofs.Stores.{Matches}
-use Rattle.c_norm.proofs.Expands.{Expands, Has, whole_expands, value_one}
-use Rattle.c_norm.proofs.Rows.{HasAll, ExpandsAll}
+use Rattle.c_norm.proofs.Expands.{Expands, Has, value_one}
 use Rattle.c_norm.proofs.Built.{counted_all, counted_kind, built, assign_built, declared_by, Silent, declared_append, silent_append, counted_append}
-use Rattle.c_norm.proofs.Costs.{kind_cost}
 use Rattle.c_norm.proofs.Meanings.{wide, Room, room_left, room_right}
-use Rattle.c_norm.proofs.Expanded.{Expansion, RowExpansion, expanded}
-use Rattle.c_norm.proofs.Targets.{costs, expr_bounded, costs_bounded, target_price_is, all_expanded, SetExpansion, set_expanded, old_has, new_has, new_price, no_logical}
-use Rattle.c_norm.proofs.Leaves.{conv_twice, Linked, Final, written, assign_leaf, assigned_takes}
+use Rattle.c_norm.proofs.Expanded.{expanded}
+use Rattle.c_norm.proofs.Targets.{costs, expr_bounded, costs_bounded, target_price_is, all_expanded, set_expanded, old_has, new_has, new_price, no_logical}
+use Rattle.c_norm.proofs.Leaves.{conv_twice, written, assign_leaf, assigned_takes}
 use Rattle.c_norm.proofs.Imitates.{Sim}
-use Rattle.c_norm.proofs.Trees.{FewDimensions, Imitated, stays, none_more, type_kept}
+use Rattle.c_norm.proofs.Dimensions.{FewDimensions}
+use Rattle.c_norm.proofs.Trees.{Imitated, stays, none_more, type_kept}
 
 -- the value that an operator joins, and the old one
 pub record Joined (at : Span) (f : ℤ → ℤ → Option ℤ) (o : Option ℤ) (v : Val) (z : ℤ) (w : ℕ) : Type 0 where
@@ -166,7 +160,7 @@ module _ (k : Objects) (ws : List Ty) (fit : ValuesFit) (stay : StatementsFit) (
       let c = built k2 (an_assignment (meant_target k2 to) None new.ty (meaning k2 new)) (part_of.Assign to new) in
       let q = assignment_price to new in
       let sum : x.most + pe + q ≤ price =
-      let a = x.cheap in let tp = target_price_is i.exprs in let p = x.price in let np = new_price k ws fit op (decided_by op) t j target.to i.exprs (length target.indices) target.at (rest_of o e) place refl x.price in omega arith in
+      let a = x.cheap in let tp = target_price_is i.exprs in let p = x.price in let np = new_price op (decided_by op) t j target.to i.exprs (length target.indices) target.at (rest_of o e) place refl x.price in omega arith in
       let body = λ (s : Store) (n : ℕ). join_written op j t target.to target.at ms m (target_place k mt s) s n in
       let body2 = λ (s : Store) (n : ℕ). updated_at t target.at (joined_in k.profile op j) (target_place k mt s) m s n in
       let runs : body ≡ body2 = λ i s n. join_is op j t target.to target.at ms m (target_place k mt s) s n i in

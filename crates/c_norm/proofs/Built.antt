@@ -1,6 +1,6 @@
 -- How the statements that are built run and count, by those of their parts.
-use Rattle.std.proofs.Common.{◌≡◌, ℕ, zero, suc, ◌+◌, ◌*◌, ◌<◌, ◌≤◌, List, [], ◌∷◌, ◌++◌, map, length, get_or, Option, Some, None, refl, sym, ◌∙◌, ap, subst, arith}
-use Rattle.std.specs.Prelude.{Bool, true, false, ℤ, pos, flat_map, option_map}
+use Rattle.std.proofs.Common.{◌≡◌, ℕ, ◌+◌, List, [], ◌∷◌, ◌++◌, map, get_or, Option, Some, None, refl, sym, ◌∙◌, ap, subst, arith}
+use Rattle.std.specs.Prelude.{Bool, true, false, ℤ, flat_map, option_map}
 use Rattle.std.proofs.lemmas.List.{map-append}
 use Rattle.std.proofs.lemmas.Grind.{flat_map-append}
 use Rattle.el_base.specs.declared.span.Span.{Span}
@@ -17,12 +17,12 @@ use Rattle.c_ast.specs.declared.normal.NormalStmtKind.TheOpen.{NormalStmtKind-F}
 use Rattle.c_meaning.specs.Types.{conv}
 use Rattle.c_meaning.specs.Operators.{is_zero}
 use Rattle.c_meaning.specs.Stores.{Store, Objects, set_var, unset_vars}
-use Rattle.c_meaning.specs.Expressions.{Val, undefined_value, value, Meaning, meaning, later}
+use Rattle.c_meaning.specs.Expressions.{value, Meaning, meaning}
 use Rattle.c_meaning.specs.Runs.{How, normally, Run, ends, turn, taking, with_val, branch, loop, looped, both_runs}
 use Rattle.c_meaning.specs.Runs as runs
-use Rattle.c_meaning.specs.Statements.{Act, Meant, MeantTarget, meant_target, meant_if_any, in_order, block, entering, part, run_if_any, nothing, condition, of_var, storing, stored, assigned, declared_run, returned, stmt_step, plain, a_block, a_declaration, an_assignment, an_if, a_while, a_do, a_for, a_break, a_continue, a_return, an_empty}
+use Rattle.c_meaning.specs.Statements.{Act, Meant, meant_target, meant_if_any, in_order, block, part, of_var, storing, stored, assigned, stmt_step, a_block, a_declaration, an_assignment, an_if, a_while, a_do, a_for, a_break, a_continue, a_return, an_empty}
 use Rattle.c_meaning.specs.Normals.{normal_kind_act, normal_act}
-use Rattle.c_meaning.specs.Counts.{Tally, tally, Counting, counting, only, counting_after, Counted, counted, kind_counts, counts_step, run_of, acts_of, counts_in_order, counts_both, counts_branch, counts_of, counts_entering, counts_part, counts_if_any, counts_loop, counts_looped, expr_price, option_price, assignment_price}
+use Rattle.c_meaning.specs.Counts.{tally, only, Counted, counted, kind_counts, counts_step, run_of, acts_of, counts_in_order, counts_branch, counts_of, counts_entering, counts_part, expr_price}
 use Rattle.c_meaning.proofs.TreeEquations.{normal_block, normal_declare, normal_assign, normal_if, normal_while, normal_do_while, normal_for, normal_break, normal_continue, normal_return, normal_empty}
 use Rattle.c_meaning.proofs.PartsOfNumbers.{counts_block, counts_declaration, counts_assignment, counts_choice, counts_while_loop, counts_do_loop, counts_for_loop, counts_leaving, counts_continuing, counts_returning, counts_empty}
 use Rattle.c_norm.specs.Expand.{setting, side, choice}

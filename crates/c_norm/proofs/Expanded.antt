@@ -1,5 +1,5 @@
 -- Each lawful expression of the kernel by its expansion: what is set before it runs first, and what is left has its value.
-use Rattle.std.proofs.Common.{◌≡◌, ℕ, zero, suc, ◌+◌, ◌*◌, ◌<◌, ◌≤◌, List, [], ◌∷◌, ◌++◌, map, length, get_or, Option, Some, None, refl, sym, ◌∙◌, ap, subst, arith, length-append}
+use Rattle.std.proofs.Common.{◌≡◌, ℕ, ◌+◌, ◌≤◌, List, [], ◌∷◌, ◌++◌, map, length, Option, Some, None, refl, sym, ◌∙◌, ap, subst, arith, length-append}
 use Rattle.std.specs.Prelude.{Bool, true, false, not, ℤ, pos, sum_by, ◌==◌}
 use Rattle.std.proofs.lemmas.List.Sums.{sum_by-cons}
 use mathlib.Core.Former.{Count}
@@ -16,20 +16,20 @@ use Rattle.c_ast.specs.declared.normal.NormalStmt.{NormalStmt}
 use Rattle.c_meaning.specs.Types.{conv}
 use Rattle.c_meaning.specs.Operators.{is_zero, unary_value, binary_value}
 use Rattle.c_meaning.specs.Stores.{Store, Objects}
-use Rattle.c_meaning.specs.Expressions.{Val, value, Meaning, meaning, kind_meaning, row_meanings, on_one, on_two, chosen, as_truth, always, binary_meaning, element, all_values}
-use Rattle.c_meaning.specs.Counts.{Counted, counted, kind_price, expr_price, operator_price}
+use Rattle.c_meaning.specs.Expressions.{value, Meaning, meaning, kind_meaning, row_meanings, on_one, on_two, chosen, as_truth, always, binary_meaning, element, all_values}
+use Rattle.c_meaning.specs.Counts.{counted, kind_price, expr_price}
 use Rattle.c_meaning.specs.Lawful.{LawfulKind, LawfulRow}
 use Rattle.c_meaning.specs.Ranges.{ValuesFit}
 use Rattle.c_meaning.specs.Sizes.{reads}
 use Rattle.c_meaning.proofs.TreeEquations.{expr_number, expr_var, expr_element, expr_unary, expr_cast, expr_binary, expr_choose}
 use Rattle.c_meaning.proofs.PartsOfNumbers.{price_number, price_variable, price_element, price_unary, price_cast, price_binary, price_choice}
-use Rattle.c_norm.specs.Expand.{Out, Outs, whole, setting, constant, truth_of, side, choice, decided_by, logical, joined_out, logical_out, binary_out, choose_out, expand, expand_row}
-use Rattle.c_norm.proofs.Expands.{Expands, Fills, Same, Sets, Chooses, var_of, value_one, whole_expands, one_expands, two_expand, choose_expands, set_fills, choice_expands}
+use Rattle.c_norm.specs.Expand.{Out, Outs, whole, setting, constant, truth_of, side, choice, decided_by, joined_out, logical_out, binary_out, choose_out, expand, expand_row}
+use Rattle.c_norm.proofs.Expands.{Expands, Fills, Same, value_one, whole_expands, one_expands, two_expand, choose_expands, set_fills, choice_expands}
 use Rattle.c_norm.proofs.Stores.{Matches}
 use Rattle.c_norm.proofs.Rows.{ExpandsAll, none_expand, more_expand, element_expands}
 use Rattle.c_norm.proofs.Built.{counted_all, Silent, silent_append, silent_one, counted_append, setting_sets, choice_silent, choice_chooses}
 use Rattle.c_norm.proofs.Costs.{operator_cost, operator_kept, kind_cost, row_cost, kind_kept}
-use Rattle.c_norm.proofs.Meanings.{wide, whole_same, value_kept, joins, yes_side, no_side, Logical, decides, truth_kept, Truth, truth_from, truth_expands, Room, room_left, room_right}
+use Rattle.c_norm.proofs.Meanings.{wide, whole_same, value_kept, joins, yes_side, no_side, decides, truth_kept, truth_from, truth_expands, Room, room_left, room_right}
 
 module _ (k : Objects) (ws : List Ty) (fit : ValuesFit) where
   abbrev k2 : Objects

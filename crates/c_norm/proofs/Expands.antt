@@ -1,15 +1,14 @@
 -- Expansions of expressions, over meanings and runs: what is set first, and what is left, which keeps its value while the variables that were set stay.
-use Rattle.std.proofs.Common.{◌≡◌, ℕ, zero, suc, ◌+◌, ◌*◌, ◌<◌, ◌≤◌, List, [], ◌∷◌, ◌++◌, map, length, get_or, Option, Some, None, refl, sym, ◌∙◌, ap, subst, arith}
-use Rattle.std.specs.Prelude.{Bool, true, false, ℤ, pos}
+use Rattle.std.proofs.Common.{◌≡◌, ℕ, ◌+◌, ◌*◌, ◌<◌, ◌≤◌, List, [], ◌∷◌, ◌++◌, length, Option, Some, None, refl, sym, ◌∙◌, ap, arith}
+use Rattle.std.specs.Prelude.{Bool, true, false, ℤ}
 use Rattle.el_base.specs.declared.span.Span.{Span}
 use Rattle.el_base.specs.declared.ty.Ty.{Ty}
 use Rattle.c_meaning.specs.Types.{conv}
 use Rattle.c_meaning.specs.Operators.{is_zero}
 use Rattle.c_meaning.specs.Stores.{Store, Objects, set_var, read_var}
 use Rattle.c_meaning.specs.Expressions.{Val, undefined_value, value, Meaning, after_turns, on_one, on_two, chosen, one_of, later}
-use Rattle.c_meaning.specs.Runs.{How, normally}
-use Rattle.c_meaning.specs.Statements.{in_order}
-use Rattle.c_meaning.specs.Counts.{Counted, run_of, acts_of, counts_in_order}
+use Rattle.c_meaning.specs.Runs.{normally}
+use Rattle.c_meaning.specs.Counts.{Counted, run_of}
 use Rattle.c_norm.proofs.Takes.{Takes, TakesAll, takes_none, takes_one, takes_append}
 use Rattle.c_norm.proofs.Stores.{Below, Matches, same_below, below_then, set_below, read_set, matches_below}
 

@@ -1,17 +1,17 @@
 -- Runs of the kernel are imitated by those of its normal form, with jumps and price against the turns that are used; imitations are put together as runs are.
-use Rattle.std.proofs.Common.{◌≡◌, ℕ, zero, suc, ◌+◌, ◌-◌, ◌*◌, ◌<◌, ◌≤◌, List, [], ◌∷◌, ◌++◌, map, length, Option, Some, None, refl, sym, ◌∙◌, ap, subst, arith}
-use Rattle.std.specs.Prelude.{Bool, true, false, ℤ}
+use Rattle.std.proofs.Common.{◌≡◌, ℕ, zero, suc, ◌+◌, ◌-◌, ◌*◌, ◌≤◌, List, [], ◌∷◌, ◌++◌, length, Option, refl, sym, ◌∙◌, ap, subst, arith}
+use Rattle.std.specs.Prelude.{Bool, true, false}
 use Rattle.c_meaning.specs.Operators.{is_zero}
 use Rattle.c_meaning.specs.Stores.{Store, Objects, unset_vars}
 use Rattle.c_meaning.specs.Expressions.{Val, undefined_value, value, Meaning}
 use Rattle.c_meaning.specs.Profiles.{IsDefined}
 use Rattle.c_meaning.specs.Runs.{How, normally, by_break, by_continue, by_return, undefined, out_of_turns, Ended, Run, ends, taking, turn, go_on, both_runs, with_val, with_value, branch, after_body, looped, rounds, loop}
 use Rattle.c_meaning.specs.Runs as runs
-use Rattle.c_meaning.specs.Statements.{Act, in_order, nothing, part}
-use Rattle.c_meaning.specs.Counts.{Tally, tally, both_tallies, Counting, counting, only, counting_after, Counted, run_of, where_normal, counts_both, counts_in_order, acts_of, with_counts, counts_of, counts_branch, where_looped, counts_part, counts_looped, step_run, step_counts, counts_rounds, counts_loop}
-use Rattle.c_norm.proofs.Takes.{Takes, TakesAll, Stops, taken, counted_after, takes_end, takes_turn, takes_more, takes_both, takes_stop, takes_branch, takes_one, takes_append, run_append, counts_append}
-use Rattle.c_norm.proofs.Stores.{Below, Matches, same_below, unset_matches, matches_below}
-use Rattle.c_norm.proofs.Expands.{Expands, Done, Has}
+use Rattle.c_meaning.specs.Statements.{in_order, nothing, part}
+use Rattle.c_meaning.specs.Counts.{Tally, tally, both_tallies, Counting, counting, only, counting_after, Counted, run_of, counts_both, counts_in_order, acts_of, counts_of, counts_branch, where_looped, counts_part, counts_looped, step_run, step_counts, counts_rounds, counts_loop}
+use Rattle.c_norm.proofs.Takes.{Takes, takes_end, takes_turn, takes_more, takes_both, takes_stop, takes_branch, takes_one, run_append, counts_append}
+use Rattle.c_norm.proofs.Stores.{Matches, same_below, unset_matches, matches_below}
+use Rattle.c_norm.proofs.Expands.{Expands}
 
 -- ---- loops: what goes on after a body
 

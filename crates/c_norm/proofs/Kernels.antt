@@ -1,34 +1,29 @@
 -- The normal form of a lawful kernel ends as the kernel does.
-use Rattle.std.proofs.Common.{◌≡◌, ℕ, zero, suc, ◌+◌, ◌-◌, ◌*◌, ◌<◌, ◌≤◌, List, [], ◌∷◌, ◌++◌, map, length, get_or, take, Option, Some, None, refl, sym, ◌∙◌, ap, subst, arith, length-append, append_assoc}
-use Rattle.std.specs.Prelude.{Bool, true, false, ℤ, All, slice_get, replicate, flat_map}
+use Rattle.std.proofs.Common.{◌≡◌, ℕ, zero, suc, ◌+◌, ◌-◌, ◌*◌, ◌<◌, ◌≤◌, List, [], ◌∷◌, ◌++◌, map, length, get_or, Option, Some, None, refl, sym, ◌∙◌, ap, subst, arith, length-append, append_assoc}
+use Rattle.std.specs.Prelude.{ℤ, replicate}
 use Rattle.std.proofs.lemmas.List.{get_or_append_left, length-map, length-replicate}
-use Rattle.std.proofs.lemmas.List.Elements.{All-head, All-tail, All-append, All-cons, All-nil}
 use Rattle.el_base.specs.declared.span.Span.{Span}
 use Rattle.el_base.specs.declared.ty.Ty.{Ty}
 use Rattle.el_base.specs.declared.ty.Ty.TheVariants.{I32}
 use Rattle.c_ast.specs.Nodes.{typed_nodes}
-use Rattle.c_ast.specs.Casts.{Parameters, with_param, with_params}
-use Rattle.c_ast.specs.declared.tree.Param.{Param}
-use Rattle.c_ast.specs.declared.typed.ArrayOf.{ArrayOf}
 use Rattle.c_ast.specs.declared.typed.Typed.{Typed}
-use Rattle.c_ast.specs.declared.normal.NormalStmt.{NormalStmt}
 use Rattle.c_meaning.specs.declared.profile.Profile.{Profile}
 use Rattle.c_meaning.specs.declared.profile.Profile.TheVariants.{Plain}
 use Rattle.c_meaning.specs.Bounds.{IsOver}
 use Rattle.c_meaning.specs.Profiles.{IsDefined}
-use Rattle.c_meaning.specs.Stores.{Store, Objects, Inputs, AreFitting, opening}
-use Rattle.c_meaning.specs.Runs.{How, normally, by_break, by_continue, by_return, undefined, out_of_turns, Ended, Run, turn}
-use Rattle.c_meaning.specs.Statements.{Act, act, block, in_order, entering, objects, body_run, kernel_run, kernel_end, with_kernel_end, IsResult, Ends}
-use Rattle.c_meaning.specs.Normals.{normal_act, normal_objects, normal_body_run, normal_run}
-use Rattle.c_meaning.specs.Counts.{Tally, tally, counted, counting_after, counts_entering, counts_in_order, acts_of, normal_tally}
-use Rattle.c_meaning.specs.Lawful.{Lawful, LawfulHeader, AreDimensions}
+use Rattle.c_meaning.specs.Stores.{Inputs, AreFitting, opening}
+use Rattle.c_meaning.specs.Runs.{How, normally, by_break, by_continue, by_return, undefined, out_of_turns, Ended, turn}
+use Rattle.c_meaning.specs.Statements.{Act, act, block, in_order, objects, body_run, kernel_end, with_kernel_end, IsResult}
+use Rattle.c_meaning.specs.Normals.{normal_body_run, normal_run}
+use Rattle.c_meaning.specs.Counts.{Tally, counts_entering, counts_in_order, acts_of}
+use Rattle.c_meaning.specs.Lawful.{Lawful}
 use Rattle.c_meaning.specs.Ranges.{ValuesFit, StatementsFit, OpeningFits}
 use Rattle.c_norm.specs.Kernels.{body_form, normal_form}
-use Rattle.c_norm.specs.Shares.{NormalRun, EndsAlike}
+use Rattle.c_norm.specs.Shares.{EndsAlike}
 use Rattle.c_norm.proofs.Stores.{Matches, as_many}
 use Rattle.c_norm.proofs.Built.{counted_all, acts_are}
 use Rattle.c_norm.proofs.Meanings.{wide, TypesAt, Room}
-use Rattle.c_norm.proofs.Trees.{FewDimensions}
+use Rattle.c_norm.proofs.Dimensions.{few_dimensions}
 use Rattle.c_norm.proofs.Whole as trees
 
 -- ---- the variables that are made
@@ -45,32 +40,8 @@ types_at xs (t ∷ ts) =
     let there : TypesAt (xs ++ t ∷ ts) (length xs + 1) ts = subst (λ n. TypesAt (xs ++ t ∷ ts) n ts) l (subst (λ ws. TypesAt ws (length (xs ++ t ∷ [])) ts) e (types_at (xs ++ t ∷ []) ts)) in
     (first_type xs t ts, there)
 
--- ---- the dimensions of arrays
-
-abbrev IsFlat : ArrayOf → Type 0
-IsFlat x = AreDimensions x.dims
-
-with_param_flat : (p : Param) (ds : List ℕ) (q : Parameters) → AreDimensions p.dims → All IsFlat q.arrays → All IsFlat (with_param p ds q).arrays
-with_param_flat p [] q a h = h
-with_param_flat p (d ∷ ds) q a h =
-    let x : ArrayOf = record { name = p.name; ty = p.ty; dims = p.dims } in
-    All-append IsFlat q.arrays (x ∷ []) h (All-cons IsFlat x [] a (All-nil IsFlat))
-
-with_params_flat : (ps : List Param) (q : Parameters) → All (λ p. AreDimensions p.dims) ps → All IsFlat q.arrays → All IsFlat (with_params ps q).arrays
-with_params_flat [] q d h = h
-with_params_flat (p ∷ ps) q d h = with_params_flat ps (with_param p p.dims q) (All-tail (λ p. AreDimensions p.dims) p ps d) (with_param_flat p p.dims q (All-head (λ p. AreDimensions p.dims) p ps d) h)
-
-some_is : {A : Type 0} (a b : A) → Some a ≡ Some b → a ≡ b
-some_is a b e = cc
-
-flat_at : (xs : List ArrayOf) (a : ℕ) (x : ArrayOf) → All IsFlat xs → slice_get xs a ≡ Some x → length x.dims ≤ 3
-flat_at [] a x h e = absurd (cc)
-flat_at (y ∷ ys) zero x h e = let i : y ≡ x = some_is y x e in subst (λ z. length z.dims ≤ 3) i (All-head IsFlat y ys h).0
-flat_at (y ∷ ys) (suc a) x h e = flat_at ys a x (All-tail IsFlat y ys h) e
-
-few_dimensions : (ps : List Param) (k : Objects) → LawfulHeader ps k → FewDimensions k
-few_dimensions ps k h a x e =
-    flat_at k.arrays a x (subst (All IsFlat) (sym h.arrays_are) (with_params_flat ps (record { scope = []; types = []; arrays = [] }) h.dimensions (All-nil IsFlat))) e
+pub made_room : (xs ts : List Ty) → Room (xs ++ ts) (length xs) ts
+made_room xs ts = record { types = types_at xs ts; within = let l = length-append xs ts in omega arith }
 
 -- ---- the opening store
 
@@ -137,7 +108,7 @@ forms_end_alike fit stay opens k lawful p z out r t fits ends =
     let price = 13 * typed_nodes k in
     let own : (v : ℕ) → v < length k.vars → get_or ws v I32 ≡ get_or k.vars v I32 = λ v lt. get_or_append_left k.vars types I32 v lt in
     let flat = few_dimensions k.params o (lawful.header p) in
-    let room : Room ws (length k.vars) types = record { types = types_at k.vars types; within = omega arith } in
+    let room = made_room k.vars types in
     let row = trees.all_imitated o ws fit stay k.result price le own flat Plain k.body (length k.vars) (omega arith) (lawful.statements p) (omega arith) room in
     let parts = counted_all (wide o ws) f.body in
     let acts = map (act o) k.body in

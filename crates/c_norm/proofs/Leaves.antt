@@ -1,26 +1,24 @@
 -- Statements without parts: what is set for their expressions runs first, and then one statement that ends as the kernel's does.
-use Rattle.std.proofs.Common.{◌≡◌, ℕ, zero, suc, ◌+◌, ◌*◌, ◌<◌, ◌≤◌, List, [], ◌∷◌, ◌++◌, map, length, get_or, Option, Some, None, refl, sym, ◌∙◌, ap, subst, arith, append_assoc}
-use Rattle.std.specs.Prelude.{Bool, true, false, ℤ, pos, set}
+use Rattle.std.proofs.Common.{◌≡◌, ℕ, zero, suc, ◌+◌, ◌*◌, ◌<◌, ◌≤◌, List, [], ◌∷◌, ◌++◌, length, get_or, Option, Some, None, refl, sym, ◌∙◌, ap, subst, arith}
+use Rattle.std.specs.Prelude.{ℤ, set}
 use Rattle.el_base.specs.declared.span.Span.{Span}
 use Rattle.el_base.specs.declared.ty.Ty.{Ty}
 use Rattle.el_base.proofs.PatternLemmas.{pattern-number, pattern-lt}
 use Rattle.el_base.specs.Numbers.{pattern, number}
-use Rattle.c_ast.specs.declared.typed.ArrayOf.{ArrayOf}
 use Rattle.c_ast.specs.declared.typed.Object.{Object}
-use Rattle.c_ast.specs.declared.typed.Object.TheVariants as object
 use Rattle.c_meaning.specs.Types.{conv}
-use Rattle.c_meaning.specs.Stores.{Store, Objects, IsFitting, set_var, set_element, read_var, read_element}
-use Rattle.c_meaning.specs.Expressions.{Val, undefined_value, value, Vals, undefined_values, values, Meaning, all_values, later, on_one, after_turns}
+use Rattle.c_meaning.specs.Stores.{Store, Objects, IsFitting, read_element}
+use Rattle.c_meaning.specs.Expressions.{Val, undefined_value, value, Vals, undefined_values, values, Meaning, all_values}
 use Rattle.c_meaning.specs.Profiles.{IsDefined}
-use Rattle.c_meaning.specs.Runs.{How, normally, undefined, Ended, Run, ends, taking, turn, with_val, with_value}
-use Rattle.c_meaning.specs.Statements.{Place, of_var, of_element, Placed, no_place, placed, placed_after, place_by, object_place, element_place, MeantTarget, target_place, read_place, write_place, storing, stored, assigned_to, assigned, joined_with, updated_at, object_type}
+use Rattle.c_meaning.specs.Runs.{How, normally, undefined, Ended, Run, ends, turn, with_val, with_value}
+use Rattle.c_meaning.specs.Statements.{Place, of_var, of_element, Placed, no_place, placed, placed_after, place_by, object_place, MeantTarget, read_place, write_place, storing, stored, assigned_to, assigned, object_type}
 use Rattle.c_meaning.specs.Counts.{Counted, run_of, counts_in_order, acts_of, only, tally}
 use Rattle.c_meaning.specs.Statements.{in_order}
 use Rattle.c_norm.proofs.Takes.{Takes, TakesAll, taken, takes_one, takes_append}
-use Rattle.c_norm.proofs.Stores.{Below, Matches, same_below, below_then, set_matches, matches_below}
-use Rattle.c_norm.proofs.Expands.{Expands, Done, Has, value_one}
-use Rattle.c_norm.proofs.Rows.{ExpandsAll, DoneAll, HasAll}
-use Rattle.c_norm.proofs.Imitates.{Imitates, Sims, Sim, Had, had}
+use Rattle.c_norm.proofs.Stores.{Matches, same_below, set_matches, matches_below}
+use Rattle.c_norm.proofs.Expands.{Expands, Has}
+use Rattle.c_norm.proofs.Rows.{ExpandsAll, HasAll}
+use Rattle.c_norm.proofs.Imitates.{Imitates, Sim, had}
 
 -- a number that was converted is its own conversion
 pub conv_twice : (t : Ty) (z : ℤ) → conv t (conv t z) ≡ conv t z

@@ -1,5 +1,5 @@
 -- An expression of the kernel means the same over the objects of the normal form, and in stores that match; operators that evaluate both operands, and those that do not.
-use Rattle.std.proofs.Common.{◌≡◌, ℕ, zero, suc, ◌+◌, ◌<◌, ◌≤◌, List, [], ◌∷◌, ◌++◌, length, get_or, Option, Some, None, refl, sym, ◌∙◌, ap, subst, arith, length-append}
+use Rattle.std.proofs.Common.{◌≡◌, ℕ, ◌+◌, ◌≤◌, List, [], ◌∷◌, ◌++◌, length, get_or, Some, None, refl, sym, ◌∙◌, ap, subst, arith, length-append}
 use Rattle.std.specs.Prelude.{Bool, true, false, not, ℤ, pos}
 use mathlib.Core.Former.{Count}
 use Rattle.el_base.specs.declared.span.Span.{Span}
@@ -17,12 +17,12 @@ use Rattle.c_meaning.specs.declared.profile.Profile.{Profile}
 use Rattle.c_meaning.specs.Types.{conv}
 use Rattle.c_meaning.specs.Operators.{is_zero, truth, binary_value}
 use Rattle.c_meaning.specs.Stores.{Store, Objects}
-use Rattle.c_meaning.specs.Expressions.{Val, undefined_value, value, Meaning, meaning, kind_meaning, row_meanings, val_step, binary_meaning, on_two, chosen, as_truth, always, later, one_of}
+use Rattle.c_meaning.specs.Expressions.{Val, undefined_value, value, Meaning, kind_meaning, row_meanings, val_step, binary_meaning, on_two, chosen, as_truth, always, later, one_of}
 use Rattle.c_meaning.specs.Lawful.{LawfulKind}
 use Rattle.c_meaning.specs.Ranges.{ValuesFit}
 use Rattle.c_meaning.proofs.ReadLemmas.{agreeing, listed}
 use Rattle.c_norm.specs.Expand.{decided_by}
-use Rattle.c_norm.proofs.Stores.{Matches, matches_below}
+use Rattle.c_norm.proofs.Stores.{Matches}
 use Rattle.c_norm.proofs.Expands.{Expands, Same, value_one, value_two}
 use Rattle.c_norm.proofs.Costs.{operator_cost}
 

@@ -1,17 +1,16 @@
 -- Expansions of several expressions, from left to right.
-use Rattle.std.proofs.Common.{◌≡◌, ℕ, zero, suc, ◌+◌, ◌*◌, ◌<◌, ◌≤◌, List, [], ◌∷◌, ◌++◌, map, length, get_or, Option, Some, None, refl, sym, ◌∙◌, ap, subst, arith, append_assoc}
-use Rattle.std.specs.Prelude.{Bool, true, false, ℤ, pos}
+use Rattle.std.proofs.Common.{◌≡◌, ℕ, ◌+◌, ◌*◌, ◌<◌, ◌≤◌, List, [], ◌∷◌, ◌++◌, length, Option, Some, None, refl, sym, ◌∙◌, ap, subst, arith, append_assoc}
+use Rattle.std.specs.Prelude.{ℤ}
 use Rattle.el_base.specs.declared.span.Span.{Span}
 use Rattle.el_base.specs.declared.ty.Ty.{Ty}
-use Rattle.c_ast.specs.declared.typed.ArrayOf.{ArrayOf}
 use Rattle.c_meaning.specs.Types.{conv}
-use Rattle.c_meaning.specs.Stores.{Store, Objects, set_var, read_var, place, read_element}
+use Rattle.c_meaning.specs.Stores.{Store, Objects, place, read_element}
 use Rattle.c_meaning.specs.Expressions.{Val, undefined_value, value, Vals, undefined_values, values, Meaning, after_turns, with_first, all_values, element, element_at}
-use Rattle.c_meaning.specs.Runs.{How, normally}
-use Rattle.c_meaning.specs.Counts.{Counted, run_of}
-use Rattle.c_norm.proofs.Takes.{Takes, TakesAll, takes_none, takes_one, takes_append}
-use Rattle.c_norm.proofs.Stores.{Below, Matches, same_below, below_then, set_below, read_set, matches_below}
-use Rattle.c_norm.proofs.Expands.{Has, Done, Sets, var_of, Expands, Fills, value_one, value_two, set_fills}
+use Rattle.c_meaning.specs.Runs.{normally}
+use Rattle.c_meaning.specs.Counts.{Counted}
+use Rattle.c_norm.proofs.Takes.{TakesAll, takes_none, takes_append}
+use Rattle.c_norm.proofs.Stores.{Below, Matches, same_below, below_then, matches_below}
+use Rattle.c_norm.proofs.Expands.{Sets, var_of, Expands, value_one, value_two, set_fills}
 
 -- expressions have values, in whatever turns
 pub record HasAll (ms : List Meaning) (s : Store) (xs : List ℤ) : Type 0 where

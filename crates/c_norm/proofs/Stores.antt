@@ -1,14 +1,10 @@
 -- Stores of a kernel and of its normal form, which has more variables.
-use Rattle.std.proofs.Common.{◌≡◌, ℕ, zero, suc, ◌+◌, ◌<◌, ◌≤◌, List, [], ◌∷◌, length, get_or, Option, Some, None, refl, sym, ◌∙◌, ap, subst, arith}
-use Rattle.std.specs.Prelude.{ℤ, set, Contains}
+use Rattle.std.proofs.Common.{◌≡◌, ℕ, ◌<◌, ◌≤◌, List, [], ◌∷◌, length, get_or, Option, Some, None, refl, sym, ◌∙◌, arith}
+use Rattle.std.specs.Prelude.{ℤ, set}
 use Rattle.std.proofs.lemmas.Bool.{cases_eq}
 use Rattle.std.proofs.lemmas.List.{length-set, get_or-set_same, get_or-set_other}
 use Rattle.el_base.specs.declared.ty.Ty.{Ty}
-use Rattle.c_ast.specs.declared.typed.TypedExpr.{TypedExpr}
-use Rattle.c_meaning.specs.Stores.{Store, Objects, IsSetIn, AreSetIn, IsFitting, set_var, unset_var, unset_vars, read_var}
-use Rattle.c_meaning.specs.Expressions.{value, val}
-use Rattle.c_meaning.specs.Lawful.{LawfulExpr}
-use Rattle.c_meaning.specs.Reads.{AgreeOn, expr_vars}
+use Rattle.c_meaning.specs.Stores.{Store, Objects, AreSetIn, IsFitting, set_var, unset_var, unset_vars, read_var}
 use Rattle.c_meaning.proofs.RangeStores.{unset_fits}
 
 -- the variables below n are the same, and the arrays, and the number of variables

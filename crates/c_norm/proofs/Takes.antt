@@ -1,12 +1,12 @@
 -- Runs that take exact turns whatever is left, and what they count: one after another, by a turn, by a value, by a choice.
-use Rattle.std.proofs.Common.{◌≡◌, ℕ, zero, suc, ◌+◌, ◌*◌, ◌<◌, ◌≤◌, List, [], ◌∷◌, ◌++◌, map, length, Option, Some, None, refl, sym, ◌∙◌, ap, subst, arith}
-use Rattle.std.specs.Prelude.{Bool, true, false, ℤ}
+use Rattle.std.proofs.Common.{◌≡◌, ℕ, zero, suc, ◌+◌, List, [], ◌∷◌, ◌++◌, refl, ◌∙◌, ap, subst, arith}
+use Rattle.std.specs.Prelude.{ℤ}
 use Rattle.c_meaning.specs.Operators.{is_zero}
 use Rattle.c_meaning.specs.Stores.{Store}
-use Rattle.c_meaning.specs.Expressions.{Val, undefined_value, value, Meaning}
+use Rattle.c_meaning.specs.Expressions.{value, Meaning}
 use Rattle.c_meaning.specs.Runs.{How, normally, by_break, by_continue, by_return, undefined, out_of_turns, Ended, Run, ends, taking, turn, go_on, both_runs, sequence, with_val, with_value, branch}
 use Rattle.c_meaning.specs.Runs as runs
-use Rattle.c_meaning.specs.Statements.{Act, in_order}
+use Rattle.c_meaning.specs.Statements.{in_order}
 use Rattle.c_meaning.specs.Counts.{Tally, tally, both_tallies, Counting, counting, only, counting_after, Counted, run_of, where_normal, counts_both, counts_in_order, acts_of, with_counts, counts_of, counts_branch}
 
 -- with so many turns and any number more, all of which are left

@@ -1,12 +1,11 @@
 -- Targets and values of assignments: the expansions of indices, and the new value of an object.
-use Rattle.std.proofs.Common.{◌≡◌, ℕ, zero, suc, ◌+◌, ◌*◌, ◌<◌, ◌≤◌, List, [], ◌∷◌, ◌++◌, map, length, get_or, Option, Some, None, refl, sym, ◌∙◌, ap, subst, arith, append_assoc, length-append}
-use Rattle.std.specs.Prelude.{Bool, true, false, ℤ, pos, sum_by, All, slice_get}
+use Rattle.std.proofs.Common.{◌≡◌, ℕ, ◌+◌, ◌*◌, ◌≤◌, List, [], ◌∷◌, ◌++◌, map, length, Option, Some, None, refl, sym, ◌∙◌, ap, subst, arith, length-append}
+use Rattle.std.specs.Prelude.{Bool, false, ℤ, sum_by, All}
 use Rattle.std.proofs.lemmas.List.Sums.{sum_by-cons}
 use Rattle.std.proofs.lemmas.List.Elements.{All-head, All-tail}
 use Rattle.std.proofs.lemmas.Option.{slice_get_within}
 use Rattle.el_base.specs.declared.span.Span.{Span}
 use Rattle.el_base.specs.declared.ty.Ty.{Ty}
-use Rattle.el_base.specs.declared.ty.Ty.TheVariants.{I32}
 use Rattle.c_ast.specs.Casts.{of_type}
 use Rattle.c_ast.specs.Nodes.{typed_expr_nodes, typed_exprs_nodes}
 use Rattle.c_ast.specs.ResultTypes.{result_type}
@@ -20,22 +19,22 @@ use Rattle.c_meaning.specs.declared.profile.Profile.{Profile}
 use Rattle.c_meaning.specs.Types.{conv}
 use Rattle.c_meaning.specs.Operators.{binary_value}
 use Rattle.c_meaning.specs.Stores.{Store, Objects, read_var, place}
-use Rattle.c_meaning.specs.Expressions.{Val, value, values, Meaning, meaning, kind_meaning, all_values, after_turns, element_at, element, on_one, on_two, binary_meaning}
-use Rattle.c_meaning.specs.Counts.{Counted, counted, kind_price, expr_price, target_price, operator_price}
+use Rattle.c_meaning.specs.Expressions.{value, values, Meaning, meaning, kind_meaning, all_values, after_turns, element_at, element, on_one, on_two}
+use Rattle.c_meaning.specs.Counts.{counted, kind_price, expr_price, target_price, operator_price}
 use Rattle.c_meaning.specs.Lawful.{LawfulExpr, IsObject, is_implied}
 use Rattle.c_meaning.specs.Ranges.{ValuesFit}
 use Rattle.c_meaning.specs.Statements.{Place, of_var, of_element, object_place, element_place, read_place, joined_in}
 use Rattle.c_meaning.proofs.TreeEquations.{expr_var, expr_element, expr_cast, expr_binary}
 use Rattle.c_meaning.proofs.PartsOfNumbers.{price_number, price_variable, price_element, price_cast, price_binary}
-use Rattle.c_norm.specs.Expand.{Out, Outs, setting, decided_by, expand_expr, rest_of, expand_all, set_all}
+use Rattle.c_norm.specs.Expand.{Outs, setting, decided_by, expand_expr, rest_of, expand_all, set_all}
 use Rattle.c_norm.specs.Forms.{object_kind, cast_to, new_value}
 use Rattle.c_norm.proofs.Stores.{Matches}
-use Rattle.c_norm.proofs.Expands.{Expands, Has}
-use Rattle.c_norm.proofs.Rows.{HasAll, ExpandsAll, none_expand, set_more, element_same}
+use Rattle.c_norm.proofs.Expands.{Has}
+use Rattle.c_norm.proofs.Rows.{ExpandsAll, none_expand, set_more, element_same}
 use Rattle.c_norm.proofs.Built.{counted_all, Silent, silent_append, silent_one, counted_append, setting_sets, setting_silent}
 use Rattle.c_norm.proofs.Costs.{kind_cost, kind_bounded, root_at_most}
 use Rattle.c_norm.proofs.Meanings.{wide, value_kept, joins, Room, room_left, room_right}
-use Rattle.c_norm.proofs.Expanded.{Expansion, RowExpansion, expanded, no_row, more_law}
+use Rattle.c_norm.proofs.Expanded.{RowExpansion, expanded, no_row, more_law}
 
 abbrev pub costs : List TypedExpr → ℕ
 costs [] = 0
@@ -53,6 +52,46 @@ costs_bounded k (e ∷ es) h =
 pub target_price_is : (es : List TypedExpr) → target_price es ≡ 1 + sum_by (λ e. 4 + expr_price e) es
 target_price_is [] = refl
 target_price_is (e ∷ es) = let i = target_price_is es in let q = sum_by-cons (λ e. 4 + expr_price e) e es in omega arith
+
+-- ---- the price of a new value
+
+plain_price : (op : Binary) → decided_by op ≡ None → operator_price op ≤ 1
+plain_price Mul e = omega arith
+plain_price Div e = omega arith
+plain_price Rem e = omega arith
+plain_price Add e = omega arith
+plain_price Sub e = omega arith
+plain_price Shl e = omega arith
+plain_price Shr e = omega arith
+plain_price Lt e = omega arith
+plain_price Gt e = omega arith
+plain_price Le e = omega arith
+plain_price Ge e = omega arith
+plain_price Eq e = omega arith
+plain_price Ne e = omega arith
+plain_price And e = omega arith
+plain_price Xor e = omega arith
+plain_price Or e = omega arith
+plain_price Both e = absurd (cc)
+plain_price Either e = absurd (cc)
+
+object_price : (to : Object) (exprs : List TypedExpr) (n : ℕ) → sum_by (λ e. 4 + expr_price e) exprs ≡ 5 * n → kind_price (object_kind to exprs) ≤ 1 + 5 * n
+object_price (object.Var v) exprs n h = let p = price_variable v in omega arith
+object_price (object.Array a) exprs n h = let p = price_element a exprs in omega arith
+
+pub new_price : (op : Binary) (d : Option Bool) (t j : Ty) (to : Object) (exprs : List TypedExpr) (n : ℕ) (at : Span) (e : TypedExpr) (s : Span) → decided_by op ≡ d → sum_by (λ e. 4 + expr_price e) exprs ≡ 5 * n
+    → expr_price (new_value d op t j (of_type (object_kind to exprs) t at) e s) ≤ 5 + 5 * n + expr_price e
+new_price op None t j to exprs n at e s d h =
+    let old = of_type (object_kind to exprs) t at in
+    let a = price_cast false (of_type (expr.Binary op (cast_to j old) e) (result_type op j) s) in
+    let b = price_binary op (cast_to j old) e in
+    let c = price_cast false old in
+    let o = object_price to exprs n h in
+    let q = plain_price op d in
+    omega arith
+new_price op (Some x) t j to exprs n at e s d h = let p = price_number 0 in omega arith
+
+-- ---- expansions
 
 module _ (k : Objects) (ws : List Ty) (fit : ValuesFit) where
   abbrev k2 : Objects
@@ -180,39 +219,3 @@ module _ (k : Objects) (ws : List Ty) (fit : ValuesFit) where
       ∙ ap (λ v. on_two s (binary_value k.profile op (result_type op j)) v (meaning k2 e r)) ci ∙ ap (λ v. on_two s (binary_value k.profile op (result_type op j)) (value (conv j x) a.turns) v) b.is
       ∙ ap (after_turns s turns) (joint_value k.profile op j (conv j x) y ∙ i) in
       record { turns = turns; is = ap (λ f. f r) (expr_cast false w k2 t s) ∙ ap (on_one s (λ x. Some (conv t x))) wi }
-
-  plain_price : (op : Binary) → decided_by op ≡ None → operator_price op ≤ 1
-  plain_price Mul e = omega arith
-  plain_price Div e = omega arith
-  plain_price Rem e = omega arith
-  plain_price Add e = omega arith
-  plain_price Sub e = omega arith
-  plain_price Shl e = omega arith
-  plain_price Shr e = omega arith
-  plain_price Lt e = omega arith
-  plain_price Gt e = omega arith
-  plain_price Le e = omega arith
-  plain_price Ge e = omega arith
-  plain_price Eq e = omega arith
-  plain_price Ne e = omega arith
-  plain_price And e = omega arith
-  plain_price Xor e = omega arith
-  plain_price Or e = omega arith
-  plain_price Both e = absurd (cc)
-  plain_price Either e = absurd (cc)
-
-  object_price : (to : Object) (exprs : List TypedExpr) (n : ℕ) → sum_by (λ e. 4 + expr_price e) exprs ≡ 5 * n → kind_price (object_kind to exprs) ≤ 1 + 5 * n
-  object_price (object.Var v) exprs n h = let p = price_variable v in omega arith
-  object_price (object.Array a) exprs n h = let p = price_element a exprs in omega arith
-
-  pub new_price : (op : Binary) (d : Option Bool) (t j : Ty) (to : Object) (exprs : List TypedExpr) (n : ℕ) (at : Span) (e : TypedExpr) (s : Span) → decided_by op ≡ d → sum_by (λ e. 4 + expr_price e) exprs ≡ 5 * n
-      → expr_price (new_value d op t j (of_type (object_kind to exprs) t at) e s) ≤ 5 + 5 * n + expr_price e
-  new_price op None t j to exprs n at e s d h =
-      let old = of_type (object_kind to exprs) t at in
-      let a = price_cast false (of_type (expr.Binary op (cast_to j old) e) (result_type op j) s) in
-      let b = price_binary op (cast_to j old) e in
-      let c = price_cast false old in
-      let o = object_price to exprs n h in
-      let q = plain_price op d in
-      omega arith
-  new_price op (Some x) t j to exprs n at e s d h = let p = price_number 0 in omega arith

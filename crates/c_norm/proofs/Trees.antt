@@ -1,22 +1,14 @@
 -- Each lawful statement of the kernel is imitated by the statements that it is made of.
-use Rattle.std.proofs.Common.{◌≡◌, ℕ, zero, suc, ◌+◌, ◌*◌, ◌<◌, ◌≤◌, List, [], ◌∷◌, ◌++◌, map, length, get_or, Option, Some, None, refl, sym, ◌∙◌, ap, subst, arith, append_assoc, length-append}
-use Rattle.std.specs.Prelude.{Bool, true, false, ℤ, pos, sum_by, All, slice_get, flat_map, option_map}
+use Rattle.std.proofs.Common.{◌≡◌, ℕ, zero, suc, ◌+◌, ◌*◌, ◌<◌, ◌≤◌, List, [], ◌∷◌, ◌++◌, length, get_or, Option, Some, None, refl, sym, ◌∙◌, ap, subst, arith}
+use Rattle.std.specs.Prelude.{Bool, ℤ}
 use Rattle.std.proofs.lemmas.Option.{slice_get_within}
-use mathlib.Core.Former.{Count}
 use Rattle.el_base.specs.declared.span.Span.{Span}
 use Rattle.el_base.specs.declared.ty.Ty.{Ty}
 use Rattle.el_base.specs.declared.ty.Ty.TheVariants.{I32}
 use Rattle.c_ast.specs.Casts.{of_type}
-use Rattle.c_ast.specs.Nodes.{typed_expr_nodes, typed_exprs_nodes, act_nodes, held_act_nodes, acts_nodes}
-use Rattle.c_ast.specs.ResultTypes.{joint_type}
-use Rattle.c_ast.specs.declared.tree.Binary.{Binary}
-use Rattle.c_ast.specs.declared.typed.ArrayOf.{ArrayOf}
 use Rattle.c_ast.specs.declared.typed.Object.{Object}
 use Rattle.c_ast.specs.declared.typed.Object.TheVariants as object
-use Rattle.c_ast.specs.declared.typed.TypedTarget.{TypedTarget}
 use Rattle.c_ast.specs.declared.typed.TypedExpr.{TypedExpr}
-use Rattle.c_ast.specs.declared.typed.TypedExprKind.TheVariants as expr
-use Rattle.c_ast.specs.declared.typed.TypedStmt.{TypedStmt}
 use Rattle.c_ast.specs.declared.typed.TypedStmtKind.{TypedStmtKind, Row_of-TypedStmt, end_of-TypedStmt, more_of-TypedStmt, Held-TypedStmtKind-If-2}
 use Rattle.c_ast.specs.declared.typed.TypedStmtKind as tree
 use Rattle.c_ast.specs.declared.normal.NormalStmt.{NormalStmt}
@@ -24,31 +16,24 @@ use Rattle.c_ast.specs.declared.normal.NormalStmtKind.{NormalStmtKind}
 use Rattle.c_ast.specs.declared.normal.NormalStmtKind.TheVariants as normal
 use Rattle.c_ast.specs.declared.normal.NormalStmtKind.TheOpen as part_of
 use Rattle.c_meaning.specs.Types.{conv}
-use Rattle.c_meaning.specs.Stores.{Store, Objects, IsFitting, set_var, unset_vars}
-use Rattle.c_meaning.specs.Expressions.{Val, value, values, Meaning, meaning, kind_meaning, all_values, always}
-use Rattle.c_meaning.specs.Runs.{How, normally, by_break, by_continue, by_return, Ended, Run, ends, turn, with_val, with_value, both_runs, branch, loop, looped}
-use Rattle.c_meaning.specs.Statements.{Act, Place, of_var, Placed, no_place, placed, MeantTarget, meant_target, meant_if_any, in_order, block, entering, part, run_if_any, nothing, condition, storing, assigned, assigned_to, updated, updated_at, joined_in, joined_with, object_place, object_type, target_place, read_place, step_operator, kind_act, act_if_any, row_acts, declared_run, returned, a_return, a_declaration}
-use Rattle.c_meaning.specs.Normals.{normal_kind_act}
-use Rattle.c_meaning.specs.Counts.{Tally, tally, Counting, counting, only, counting_after, Counted, counted, run_of, acts_of, counts_in_order, counts_both, counts_branch, counts_part, counts_if_any, counts_loop, counts_looped, counts_entering, step_run, step_counts, expr_price, option_price, assignment_price, target_price}
-use Rattle.c_meaning.specs.Lawful.{LawfulExpr, LawfulStmt, LawfulStmtHeld, LawfulStmts, LawfulOption, IsObject, IsVar, IsElement}
+use Rattle.c_meaning.specs.Stores.{Store, Objects, IsFitting, set_var}
+use Rattle.c_meaning.specs.Expressions.{value, Meaning, meaning, kind_meaning}
+use Rattle.c_meaning.specs.Runs.{How, normally, by_return, Run, ends, turn, with_val, with_value, loop}
+use Rattle.c_meaning.specs.Statements.{Act, meant_if_any, in_order, nothing, object_type, kind_act, declared_run, a_return, a_declaration}
+use Rattle.c_meaning.specs.Counts.{tally, Counting, only, counting_after, Counted, run_of, acts_of, counts_in_order, expr_price}
+use Rattle.c_meaning.specs.Lawful.{LawfulExpr, LawfulStmt, IsObject}
 use Rattle.c_meaning.specs.Ranges.{ValuesFit, StatementsFit}
-use Rattle.c_norm.specs.Expand.{Out, Outs, whole, setting, decided_by, expand_expr, rest_of, expand_all, set_all}
-use Rattle.c_norm.specs.Forms.{Made, normal_at, made, block_of, optional, rest_if_any, object_kind, new_value, target_with, compound, assignment_form, step_form, MadeIfAny, form_of, held_form, row_form}
-use Rattle.c_norm.proofs.Takes.{Takes, TakesAll, takes_turn, takes_end, taken}
-use Rattle.c_norm.proofs.Stores.{Matches, set_matches, unset_matches}
-use Rattle.c_norm.proofs.Expands.{Expands, Has, whole_expands, value_one, value_two}
-use Rattle.c_norm.proofs.Rows.{HasAll, ExpandsAll}
-use Rattle.c_norm.proofs.Built.{counted_all, counted_kind, built, a_block_of, an_if_of, a_while_of, a_do_of, a_for_of, act_if_held, block_built, if_built, while_built, do_built, for_built, assign_built, declare_built, break_built, continue_built, return_built, empty_built, declared_by, Silent, declared_append, silent_append, counted_append}
+use Rattle.c_norm.specs.Expand.{Out, expand_expr, rest_of}
+use Rattle.c_norm.specs.Forms.{normal_at, form_of}
+use Rattle.c_norm.proofs.Takes.{Takes, takes_turn, takes_end, taken}
+use Rattle.c_norm.proofs.Stores.{Matches, set_matches}
+use Rattle.c_norm.proofs.Built.{counted_all, counted_kind, built, declare_built, return_built, declared_by, declared_append, counted_append}
 use Rattle.c_norm.proofs.Costs.{kind_cost}
-use Rattle.c_norm.proofs.Meanings.{wide, Room, room_left, room_right}
-use Rattle.c_norm.proofs.Expanded.{Expansion, RowExpansion, expanded}
-use Rattle.c_norm.proofs.Targets.{costs, expr_bounded, costs_bounded, target_price_is, all_expanded, SetExpansion, set_expanded, old_has, new_has, new_price, no_logical}
-use Rattle.c_norm.proofs.Leaves.{conv_twice, value_leaf, Linked, Final, written, assign_leaf, assigned_takes}
-use Rattle.c_norm.proofs.Imitates.{Imitates, Sims, Sim, Condition, weaker, both_sims, kernel_turn, form_turn, unset_sim, jump_sim, nothing_sim, one_sim, append_sim, branch_sims, looped_sims, loop_sim}
-
--- no array has more than three dimensions
-abbrev pub FewDimensions : Objects → Type 0
-FewDimensions k = (a : ℕ) (x : ArrayOf) → slice_get k.arrays a ≡ Some x → length x.dims ≤ 3
+use Rattle.c_norm.proofs.Dimensions.{FewDimensions}
+use Rattle.c_norm.proofs.Meanings.{wide, Room}
+use Rattle.c_norm.proofs.Expanded.{Expansion, expanded}
+use Rattle.c_norm.proofs.Leaves.{value_leaf}
+use Rattle.c_norm.proofs.Imitates.{Sim, weaker, kernel_turn, form_turn, unset_sim, nothing_sim, one_sim}
 
 module _ (k : Objects) (ws : List Ty) (fit : ValuesFit) (stay : StatementsFit) (result : Option Ty) (price : ℕ) (le : length k.vars ≤ length ws) (own : (v : ℕ) → v < length k.vars → get_or ws v I32 ≡ get_or k.vars v I32) (flat : FewDimensions k) where
   abbrev k2 : Objects

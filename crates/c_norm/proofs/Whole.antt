@@ -1,6 +1,6 @@
 -- Each lawful statement of the kernel is imitated by the statements that it is made of: all kinds.
-use Rattle.std.proofs.Common.{◌≡◌, ℕ, zero, suc, ◌+◌, ◌*◌, ◌<◌, ◌≤◌, List, [], ◌∷◌, ◌++◌, map, length, get_or, Option, Some, None, refl, sym, ◌∙◌, ap, subst, arith, length-append}
-use Rattle.std.specs.Prelude.{Bool, true, false, ℤ, pos, All, slice_get, flat_map, option_map}
+use Rattle.std.proofs.Common.{◌≡◌, ℕ, ◌+◌, ◌*◌, ◌<◌, ◌≤◌, List, [], ◌∷◌, ◌++◌, map, length, get_or, Option, Some, None, refl, sym, ◌∙◌, ap, subst, arith}
+use Rattle.std.specs.Prelude.{Bool, true, false, pos, All, flat_map, option_map}
 use Rattle.std.proofs.lemmas.List.Sums.{sum_by-cons}
 use Rattle.std.proofs.lemmas.List.Elements.{All-head, All-tail}
 use mathlib.Core.Former.{Count}
@@ -23,28 +23,26 @@ use Rattle.c_ast.specs.declared.normal.NormalStmt.{NormalStmt}
 use Rattle.c_ast.specs.declared.normal.NormalStmtKind.TheVariants as normal
 use Rattle.c_ast.specs.declared.normal.NormalStmtKind.TheOpen as part_of
 use Rattle.c_meaning.specs.declared.profile.Profile.{Profile}
-use Rattle.c_meaning.specs.Stores.{Store, Objects, unset_vars}
-use Rattle.c_meaning.specs.Expressions.{Meaning, meaning, always, value}
-use Rattle.c_meaning.specs.Runs.{How, normally, by_break, by_continue, by_return, Run, ends, turn, both_runs, branch, loop, looped}
-use Rattle.c_meaning.specs.Statements.{Act, meant_target, meant_if_any, in_order, block, entering, part, run_if_any, nothing, condition, joined_in, object_type, step_operator, kind_act, act_if_any, row_acts, act, declared_run, returned, a_break, a_continue, a_return, a_declaration, an_empty}
-use Rattle.c_meaning.specs.Counts.{Tally, tally, Counting, counting, only, counting_after, Counted, counted, run_of, acts_of, counts_in_order, counts_branch, counts_part, counts_if_any, counts_loop, counts_looped, counts_entering, counts_both, step_run, step_counts, expr_price, option_price}
-use Rattle.c_meaning.specs.Lawful.{LawfulExpr, LawfulStmt, LawfulStmtHeld, LawfulStmts, LawfulOption, LawfulReturn, IsObject}
+use Rattle.c_meaning.specs.Stores.{Objects}
+use Rattle.c_meaning.specs.Expressions.{Meaning, meaning, always}
+use Rattle.c_meaning.specs.Runs.{normally, by_break, by_continue, by_return, Run, turn, both_runs, branch, loop, looped}
+use Rattle.c_meaning.specs.Statements.{Act, meant_if_any, in_order, block, entering, part, run_if_any, nothing, condition, object_type, step_operator, kind_act, act_if_any, row_acts, act, a_break, a_continue, a_return, a_declaration, an_empty}
+use Rattle.c_meaning.specs.Counts.{tally, Counting, counting, counting_after, Counted, counted, run_of, acts_of, counts_in_order, counts_branch, counts_part, counts_if_any, counts_loop, counts_looped, counts_entering, counts_both, step_run, step_counts, expr_price, option_price}
+use Rattle.c_meaning.specs.Lawful.{LawfulExpr, LawfulStmt, LawfulStmtHeld, LawfulStmts, LawfulOption, LawfulReturn}
 use Rattle.c_meaning.specs.Ranges.{ValuesFit, StatementsFit}
 use Rattle.c_meaning.proofs.TreeEquations.{expr_number}
 use Rattle.c_meaning.proofs.PartsOfNumbers.{price_number}
-use Rattle.c_norm.specs.Expand.{Out, Outs, whole, expand_expr, rest_of, expand_all, set_all}
-use Rattle.c_norm.specs.Forms.{Made, normal_at, block_of, optional, rest_if_any, compound, assignment_form, step_form, MadeIfAny, form_of, held_form, row_form, all_forms}
-use Rattle.c_norm.proofs.Takes.{Takes}
-use Rattle.c_norm.proofs.Stores.{Matches}
+use Rattle.c_norm.specs.Expand.{whole, expand_expr, rest_of, set_all}
+use Rattle.c_norm.specs.Forms.{Made, normal_at, block_of, optional, rest_if_any, compound, assignment_form, step_form, form_of, held_form, row_form, all_forms}
 use Rattle.c_norm.proofs.Expands.{Expands, whole_expands}
 use Rattle.c_norm.proofs.Built.{counted_all, counted_kind, built, a_block_of, an_if_of, a_while_of, a_do_of, a_for_of, act_if_held, block_built, if_built, while_built, do_built, for_built, break_built, continue_built, return_built, declare_built, empty_built, declared_by, declared_append, counted_append}
-use Rattle.c_norm.proofs.Costs.{kind_cost}
+use Rattle.c_norm.proofs.Dimensions.{FewDimensions, at_most_three}
 use Rattle.c_norm.proofs.Meanings.{wide, Room, room_left, room_right}
-use Rattle.c_norm.proofs.Expanded.{Expansion, expanded}
+use Rattle.c_norm.proofs.Expanded.{expanded}
 use Rattle.c_norm.proofs.Targets.{costs, expr_bounded, costs_bounded}
-use Rattle.c_norm.proofs.Imitates.{Sims, Sim, Condition, weaker, both_sims, kernel_turn, form_turn, unset_sim, jump_sim, nothing_sim, append_sim, branch_sims, looped_sims, loop_sim}
+use Rattle.c_norm.proofs.Imitates.{Sim, Condition, weaker, both_sims, kernel_turn, form_turn, unset_sim, jump_sim, nothing_sim, append_sim, branch_sims, looped_sims, loop_sim}
 use Rattle.c_norm.proofs.Trees as trees
-use Rattle.c_norm.proofs.Trees.{FewDimensions, Imitated}
+use Rattle.c_norm.proofs.Trees.{Imitated}
 use Rattle.c_norm.proofs.Assigns as assigns
 
 returned_lawful : (k : Objects) (r : Option Ty) (e : TypedExpr) → LawfulReturn (LawfulExpr k) r (Some e) → LawfulExpr k e
@@ -197,10 +195,6 @@ module _ (k : Objects) (ws : List Ty) (fit : ValuesFit) (stay : StatementsFit) (
   type_same (object.Var v) = refl
   type_same (object.Array a) = refl
 
-  at_most_three : (to : Object) (n : ℕ) (ty : Ty) → IsObject k to n ty → n ≤ 3
-  at_most_three (object.Var v) n ty h = let e = h.1 in omega arith
-  at_most_three (object.Array a) n ty h = let e = h.3 in let q = flat a h.0 h.1 in omega arith
-
   assign_is : (loop : Bool) (f : ℕ) (target : TypedTarget) (op : Option Binary) (e : TypedExpr) (s : Span) → length k.vars ≤ f → LawfulStmt k result loop (tree.Assign target op e) → 13 * act_nodes (tree.Assign target op e) ≤ price → Room ws f (assignment_form k0 f target op e s).types
       → Is (kind_act k (tree.Assign target op e)) (assignment_form k0 f target op e s).stmts
   assign_is loop f target None e s n h total room = assigns.plain_imitated k ws fit stay result price le own flat loop f target e s h.0 n h h.1.0 h.1.1 h.3 total room
@@ -211,7 +205,7 @@ module _ (k : Objects) (ws : List Ty) (fit : ValuesFit) (stay : StatementsFit) (
       let j = joint_type op (object_type k target.to) e.ty in
       let x = expanded k ws fit e.kind e.ty e.at g (omega arith) h.3 (room_right ws f i.types o.types room) in
       let sum : 12 * length target.indices + costs target.indices + 7 + (x.most + expr_price (rest_of o e)) ≤ price =
-      let c = x.cheap in let b = expr_bounded k e h.3 in let cb = costs_bounded k target.indices h.1.1 in let t3 = at_most_three target.to (length target.indices) h.0 h.1.0 in omega arith in
+      let c = x.cheap in let b = expr_bounded k e h.3 in let cb = costs_bounded k target.indices h.1.1 in let t3 = at_most_three k flat target.to (length target.indices) h.0 h.1.0 in omega arith in
       subst (λ t. Is (kind_act k (tree.Assign target (Some op) e)) (compound i target op t (joint_type op t e.ty) o e s).stmts) (sym (type_same target.to))
       (assigns.compound_imitated k ws fit stay result price le own flat (tree.Assign target (Some op) e) loop f (g + length o.types) x.most target op j (meaning k e) o e s h.0 n h h.1.0 h.1.1 refl refl x.does x.silent sum (room_left ws f i.types o.types room))
 
@@ -227,7 +221,7 @@ module _ (k : Objects) (ws : List Ty) (fit : ValuesFit) (stay : StatementsFit) (
       let o = whole (expr.Number 1) in
       let ex = subst (λ l. Expands k all g g (always (pos 1)) [] l 0) (sym (expr_number 1 k2 (joint_type op t0 I32) s)) (whole_expands k all g (always (pos 1)) (always (pos 1)) (omega arith) (λ s r m. refl)) in
       let sum : 12 * length target.indices + costs target.indices + 7 + (0 + expr_price (rest_of o e)) ≤ price =
-      let p = price_number 1 in let cb = costs_bounded k target.indices h.1.1 in let t3 = at_most_three target.to (length target.indices) h.0 h.1.0 in omega arith in
+      let p = price_number 1 in let cb = costs_bounded k target.indices h.1.1 in let t3 = at_most_three k flat target.to (length target.indices) h.0 h.1.0 in omega arith in
       subst (λ t. Is (kind_act k (tree.Step target up)) (compound i target op t (joint_type op t I32) o (one_of_type t) s).stmts) (sym (type_same target.to))
       (assigns.compound_imitated k ws fit stay result price le own flat (tree.Step target up) loop f g 0 target op (joint_type op t0 I32) (always (pos 1)) o e s h.0 n h h.1.0 h.1.1 refl refl ex refl sum (room_left ws f i.types [] room))
 

@@ -1,3 +1,4 @@
+pub mod Code
 pub mod Expand
 pub mod Forms
 pub mod Kernels

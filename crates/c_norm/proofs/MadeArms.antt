@@ -1,0 +1,304 @@
+-- Statements, call by call: what each call made joins to what the whole makes.
+use Rattle.std.proofs.Common.{◌≡◌, ℕ, zero, suc, ◌+◌, ◌≤◌, ◌<◌, List, [], ◌∷◌, ◌++◌, length, get_or, drop, Option, Some, None, refl, sym, ◌∙◌, ap, subst, arith, append_assoc, append-nil}
+use Rattle.std.specs.Prelude.{Bool, slice_get, ◌^◌}
+use Rattle.std.proofs.lemmas.List.Sums.{sum_by-cons}
+use Rattle.std.proofs.lemmas.Option.{none-some}
+use Rattle.el_base.specs.declared.span.Span.{Span}
+use Rattle.el_base.specs.declared.ty.Ty.{Ty}
+use Rattle.el_base.specs.declared.ty.Ty.TheVariants.{I32}
+use Rattle.c_ast.specs.declared.tree.Binary.{Binary}
+use Rattle.c_ast.specs.declared.typed.ArrayOf.{ArrayOf}
+use Rattle.c_ast.specs.declared.typed.Typed.{Typed}
+use Rattle.c_ast.specs.declared.typed.TypedTarget.{TypedTarget}
+use Rattle.c_ast.specs.declared.typed.TypedExpr.{TypedExpr}
+use Rattle.c_ast.specs.declared.typed.TypedExprKind.TheVariants as expr
+use Rattle.c_ast.specs.declared.typed.TypedStmt.{TypedStmt}
+use Rattle.c_ast.specs.declared.typed.TypedStmtKind.TheVariants as act
+use Rattle.c_ast.specs.declared.tree.Param.{Param}
+use Rattle.c_ast.specs.declared.normal.Normal.{Normal}
+use Rattle.c_ast.specs.declared.normal.NormalStmt.{NormalStmt}
+use Rattle.c_ast.specs.declared.normal.NormalStmtKind.{NormalStmtKind}
+use Rattle.c_ast.specs.declared.normal.NormalStmtKind.TheVariants as normal
+use Rattle.c_ast.specs.Casts.{of_type}
+use Rattle.c_ast.specs.ResultTypes.{joint_type}
+use Rattle.c_ast.specs.Nodes.{typed_opt_nodes, typed_stmt_nodes, typed_stmts_nodes, typed_held_nodes, typed_nodes}
+use Rattle.c_meaning.specs.Lawful.{Lawful}
+use Rattle.c_meaning.proofs.FewVars.{few_vars}
+use Rattle.c_norm.specs.Kernels.{body_form, normal_form}
+use Rattle.c_meaning.specs.declared.profile.Profile.TheVariants.{Plain}
+use Rattle.c_meaning.specs.Statements.{objects, array_type, object_type, step_operator}
+use Rattle.c_norm.specs.Expand.{expand_expr, rest_of, set_all, expand_all}
+use Rattle.c_norm.specs.Forms.{Made, normal_at, made, block_of, optional, rest_if_any, assignment_form, step_form, target_with}
+use Rattle.c_norm.specs.Code.{HasRoom, IsOut, AreOut, IsExpanded, stmt_form, stmts_form, held_stmt, IsMade, IsOptional, IsBlock, IsHeld, StmtsGoOn, plain_form, update_of}
+use Rattle.c_norm.proofs.Coded.{behind, longer, past, from_place}
+use Rattle.c_norm.proofs.MadeParts.{form_block, form_declare, form_assign, form_step, if_form, form_if, while_form, form_while, do_form, form_do, for_form, form_for, form_return, few_optional, few_form, few_forms, few_held_stmt}
+
+as_made : (m m2 : Made) (b : List NormalStmt) (v : List Ty) (b2 : List NormalStmt) (v2 : List Ty) → m ≡ m2 → IsMade m2 b v b2 v2 → IsMade m b v b2 v2
+as_made m m2 b v b2 v2 e p = subst (λ z. IsMade z b v b2 v2) (sym e) p
+
+-- what is set first, and one statement
+one_made : (before : List NormalStmt) (types : List Ty) (kind kind2 : NormalStmtKind) (s : Span) (b0 : List NormalStmt) (v0 : List Ty) (b1 b2 : List NormalStmt) (v1 : List Ty) → b1 ≡ b0 ++ before → v1 ≡ v0 ++ types → kind2 ≡ kind → b2 ≡ b1 ++ normal_at kind2 s ∷ [] → IsMade (made before kind s types) b0 v0 b2 v1
+one_made before types kind kind2 s b0 v0 b1 b2 v1 p q e h = record {
+  set = behind b0 b1 b2 before (normal_at kind s ∷ []) p (h ∙ ap (λ c. b1 ++ normal_at c s ∷ []) e);
+  made = q;
+}
+
+-- one statement alone
+alone : (types : List Ty) (kind kind2 : NormalStmtKind) (s : Span) (b0 : List NormalStmt) (v0 : List Ty) (b2 : List NormalStmt) (v1 : List Ty) → v1 ≡ v0 ++ types → kind2 ≡ kind → b2 ≡ b0 ++ normal_at kind2 s ∷ [] → IsMade (record { stmts = normal_at kind s ∷ []; types = types }) b0 v0 b2 v1
+alone types kind kind2 s b0 v0 b2 v1 q e h = record { set = h ∙ ap (λ c. b0 ++ normal_at c s ∷ []) e; made = q }
+
+pub left_alone : (k : Typed) (x : TypedStmt) (kind : NormalStmtKind) (b0 : List NormalStmt) (v0 : List Ty) (b2 : List NormalStmt) → stmt_form k (length v0) x ≡ made [] kind x.at [] → b2 ≡ b0 ++ normal_at kind x.at ∷ [] → IsMade (stmt_form k (length v0) x) b0 v0 b2 v0
+left_alone k x kind b0 v0 b2 e h = as_made (stmt_form k (length v0) x) (made [] kind x.at []) b0 v0 b2 v0 e (alone [] kind kind x.at b0 v0 b2 v0 (sym (append-nil v0)) refl h)
+
+-- ---- how many variables
+
+pub few_optional_made : (e : Option TypedExpr) (b : List NormalStmt) (v : List Ty) (b2 : List NormalStmt) (v2 : List Ty) (r : Option TypedExpr) → IsOptional e b v b2 v2 r → length v2 ≤ length v + typed_opt_nodes e
+few_optional_made e b v b2 v2 r h = omega (arith, longer v v2 (optional (length v) e).types h.made, few_optional (length v) e)
+
+pub few_stmt : (k : Typed) (x : TypedStmt) (b : List NormalStmt) (v : List Ty) (b2 : List NormalStmt) (v2 : List Ty) → IsMade (stmt_form k (length v) x) b v b2 v2 → length v2 ≤ length v + typed_stmt_nodes x
+few_stmt k x b v b2 v2 h = omega (arith, longer v v2 (stmt_form k (length v) x).types h.made, few_form k (length v) x)
+
+pub few_stmts : (k : Typed) (xs : List TypedStmt) (b : List NormalStmt) (v : List Ty) (b2 : List NormalStmt) (v2 : List Ty) → IsMade (stmts_form k (length v) xs) b v b2 v2 → length v2 ≤ length v + typed_stmts_nodes xs
+few_stmts k xs b v b2 v2 h = omega (arith, longer v v2 (stmts_form k (length v) xs).types h.made, few_forms k (length v) xs)
+
+pub few_block : (k : Typed) (x : TypedStmt) (v v2 : List Ty) (r : NormalStmt) → IsBlock k x v v2 r → length v2 ≤ length v + typed_stmt_nodes x
+few_block k x v v2 r h = omega (arith, longer v v2 (stmt_form k (length v) x).types h.made, few_form k (length v) x)
+
+pub few_held_made : (k : Typed) (o : Option TypedStmt) (v v2 : List Ty) (r : Option NormalStmt) → IsHeld k o v v2 r → length v2 ≤ length v + typed_held_nodes o
+few_held_made k o v v2 r h = omega (arith, longer v v2 (held_stmt k (length v) o).types h.made, few_held_stmt k (length v) o)
+
+-- ---- what may be absent, and what is inside
+
+pub optional_none : (e r : Option TypedExpr) (b : List NormalStmt) (v : List Ty) → e ≡ None → r ≡ None → IsOptional e b v b v r
+optional_none None r b v e h = record { rest = h; set = sym (append-nil b); made = sym (append-nil v) }
+optional_none (Some x) r b v e h = absurd (cc)
+
+pub optional_some : (e : Option TypedExpr) (x : TypedExpr) (r : Option TypedExpr) (b : List NormalStmt) (v : List Ty) (b2 : List NormalStmt) (v2 : List Ty) (y : TypedExpr) (p : Bool) → e ≡ Some x → IsExpanded x b v b2 v2 y p → r ≡ Some y → IsOptional e b v b2 v2 r
+optional_some e x r b v b2 v2 y p is h re =
+    subst (λ o. IsOptional o b v b2 v2 r) (sym is) (record { rest = re ∙ ap Some h.out.rest; set = h.out.set; made = h.out.made })
+
+pub block_made : (k : Typed) (x : TypedStmt) (b b2 : List NormalStmt) (v v2 : List Ty) (r : NormalStmt) → b ≡ [] → IsMade (stmt_form k (length v) x) b v b2 v2 → r ≡ normal_at (normal.Block b2) x.at → IsBlock k x v v2 r
+block_made k x b b2 v v2 r e h re = record { rest = re ∙ ap (λ l. normal_at (normal.Block l) x.at) (h.set ∙ ap (λ l. l ++ (stmt_form k (length v) x).stmts) e); made = h.made }
+
+pub held_none : (k : Typed) (o : Option TypedStmt) (r : Option NormalStmt) (v : List Ty) → o ≡ None → r ≡ None → IsHeld k o v v r
+held_none k None r v e h = record { rest = h; made = sym (append-nil v) }
+held_none k (Some x) r v e h = absurd (cc)
+
+pub held_some : (k : Typed) (o : Option TypedStmt) (x z : TypedStmt) (r : Option NormalStmt) (v v2 : List Ty) (y : NormalStmt) → o ≡ Some x → z ≡ x → IsBlock k z v v2 y → r ≡ Some y → IsHeld k o v v2 r
+held_some k o x z r v v2 y is e h re = subst (λ z. IsHeld k z v v2 r) (ap Some e ∙ sym is) (record { rest = re ∙ ap Some h.rest; made = h.made })
+
+-- what is numbered behind types that were made
+optional_at : (ts : List Ty) (e : Option TypedExpr) (b : List NormalStmt) (v v1 : List Ty) (b2 : List NormalStmt) (v2 : List Ty) (r : Option TypedExpr) (n : ℕ) → length v1 ≡ n → IsOptional e b v1 b2 v2 r
+    → (r ≡ rest_if_any (optional n e) e) × (b2 ≡ b ++ (optional n e).before) × (v2 ≡ v1 ++ (optional n e).types)
+optional_at ts e b v v1 b2 v2 r n h p =
+    (p.rest ∙ ap (λ i. rest_if_any (optional i e) e) h, p.set ∙ ap (λ i. b ++ (optional i e).before) h, p.made ∙ ap (λ i. v1 ++ (optional i e).types) h)
+
+block_at : (k : Typed) (x : TypedStmt) (v1 v2 : List Ty) (r : NormalStmt) (n : ℕ) → length v1 ≡ n → IsBlock k x v1 v2 r → (r ≡ block_of (stmt_form k n x) x.at) × (v2 ≡ v1 ++ (stmt_form k n x).types)
+block_at k x v1 v2 r n h p = (p.rest ∙ ap (λ i. block_of (stmt_form k i x) x.at) h, p.made ∙ ap (λ i. v1 ++ (stmt_form k i x).types) h)
+
+held_at : (k : Typed) (o : Option TypedStmt) (v1 v2 : List Ty) (r : Option NormalStmt) (n : ℕ) → length v1 ≡ n → IsHeld k o v1 v2 r → (r ≡ (held_stmt k n o).stmt) × (v2 ≡ v1 ++ (held_stmt k n o).types)
+held_at k o v1 v2 r n h p = (p.rest ∙ ap (λ i. (held_stmt k i o).stmt) h, p.made ∙ ap (λ i. v1 ++ (held_stmt k i o).types) h)
+
+out_at : (e : TypedExpr) (b : List NormalStmt) (v1 : List Ty) (b2 : List NormalStmt) (v2 : List Ty) (y : TypedExpr) (p : Bool) (n : ℕ) → length v1 ≡ n → IsExpanded e b v1 b2 v2 y p → IsOut (expand_expr n e) e.ty e.at b v1 b2 v2 y
+out_at e b v1 b2 v2 y p n h q = subst (λ i. IsOut (expand_expr i e) e.ty e.at b v1 b2 v2 y) h q.out
+
+-- ---- statements
+
+pub block_arm : (k : Typed) (x : TypedStmt) (xs : List TypedStmt) (b : List NormalStmt) (v : List Ty) (i0 i1 : List NormalStmt) (v2 : List Ty) (b2 : List NormalStmt) → x.kind ≡ act.Block xs → i0 ≡ [] → IsMade (stmts_form k (length v) xs) i0 v i1 v2 → b2 ≡ b ++ normal_at (normal.Block i1) x.at ∷ []
+    → IsMade (stmt_form k (length v) x) b v b2 v2
+block_arm k x xs b v i0 i1 v2 b2 is ie h e =
+    let m = stmts_form k (length v) xs in
+    as_made (stmt_form k (length v) x) (record { stmts = normal_at (normal.Block m.stmts) x.at ∷ []; types = m.types }) b v b2 v2 (form_block k (length v) x xs is)
+    (alone m.types (normal.Block m.stmts) (normal.Block i1) x.at b v b2 v2 h.made (ap normal.Block (h.set ∙ ap (λ l. l ++ m.stmts) ie)) e)
+
+pub declare_arm : (k : Typed) (x : TypedStmt) (w : ℕ) (e : Option TypedExpr) (b : List NormalStmt) (v : List Ty) (b1 : List NormalStmt) (v1 : List Ty) (b2 : List NormalStmt) (r : Option TypedExpr) → x.kind ≡ act.Declare w e → IsOptional e b v b1 v1 r → b2 ≡ b1 ++ normal_at (normal.Declare w r) x.at ∷ []
+    → IsMade (stmt_form k (length v) x) b v b2 v1
+declare_arm k x w e b v b1 v1 b2 r is h q =
+    let o = optional (length v) e in
+    as_made (stmt_form k (length v) x) (made o.before (normal.Declare w (rest_if_any o e)) x.at o.types) b v b2 v1 (form_declare k (length v) x w e is)
+    (one_made o.before o.types (normal.Declare w (rest_if_any o e)) (normal.Declare w r) x.at b v b1 b2 v1 h.set h.made (ap (normal.Declare w) h.rest) q)
+
+pub return_arm : (k : Typed) (x : TypedStmt) (e : Option TypedExpr) (b : List NormalStmt) (v : List Ty) (b1 : List NormalStmt) (v1 : List Ty) (b2 : List NormalStmt) (r : Option TypedExpr) → x.kind ≡ act.Return e → IsOptional e b v b1 v1 r → b2 ≡ b1 ++ normal_at (normal.Return r) x.at ∷ []
+    → IsMade (stmt_form k (length v) x) b v b2 v1
+return_arm k x e b v b1 v1 b2 r is h q =
+    let o = optional (length v) e in
+    as_made (stmt_form k (length v) x) (made o.before (normal.Return (rest_if_any o e)) x.at o.types) b v b2 v1 (form_return k (length v) x e is)
+    (one_made o.before o.types (normal.Return (rest_if_any o e)) (normal.Return r) x.at b v b1 b2 v1 h.set h.made (ap normal.Return h.rest) q)
+
+pub if_arm : (k : Typed) (x : TypedStmt) (e : TypedExpr) (y : TypedStmt) (o : Option TypedStmt) (b : List NormalStmt) (v : List Ty) (i0 i1 : List NormalStmt) (v1 v2 v3 : List Ty) (c : TypedExpr) (p : Bool) (r : NormalStmt) (n : Option NormalStmt) (b2 : List NormalStmt)
+    → x.kind ≡ act.If e y o → i0 ≡ [] → IsExpanded e i0 v i1 v1 c p → IsBlock k y v1 v2 r → IsHeld k o v2 v3 n → b2 ≡ b ++ normal_at (normal.If i1 c r n) x.at ∷ [] → IsMade (stmt_form k (length v) x) b v b2 v3
+if_arm k x e y o b v i0 i1 v1 v2 v3 c p r n b2 is ie h i j q =
+    let f = length v in
+    let z = expand_expr f e in
+    let m = stmt_form k (f + length z.types) y in
+    let a = longer v v1 z.types h.out.made in
+    let yb = block_at k y v1 v2 r (f + length z.types) a i in
+    let t = held_stmt k (f + length z.types + length m.types) o in
+    let hb = held_at k o v2 v3 n (f + length z.types + length m.types) (longer v1 v2 m.types yb.1 ∙ ap (λ l. l + length m.types) a) j in
+    let w = if_form k f e y o x.at in
+    let kind : normal.If i1 c r n ≡ normal.If z.before (rest_of z e) (block_of m y.at) t.stmt =
+    ap (λ l. normal.If l c r n) (h.out.set ∙ ap (λ l. l ++ z.before) ie) ∙ ap (λ u. normal.If z.before u r n) h.out.rest ∙ ap (λ u. normal.If z.before (rest_of z e) u n) yb.0 ∙ ap (λ u. normal.If z.before (rest_of z e) (block_of m y.at) u) hb.0 in
+    as_made (stmt_form k f x) w b v b2 v3 (form_if k f x e y o is)
+    (alone (z.types ++ (m.types ++ t.types)) (normal.If z.before (rest_of z e) (block_of m y.at) t.stmt) (normal.If i1 c r n) x.at b v b2 v3 (behind v v1 v3 z.types (m.types ++ t.types) h.out.made (behind v1 v2 v3 m.types t.types yb.1 hb.1)) kind q)
+
+pub while_arm : (k : Typed) (x : TypedStmt) (e : TypedExpr) (y : TypedStmt) (b : List NormalStmt) (v : List Ty) (i0 i1 : List NormalStmt) (v1 v2 : List Ty) (c : TypedExpr) (p : Bool) (r : NormalStmt) (b2 : List NormalStmt)
+    → x.kind ≡ act.While e y → i0 ≡ [] → IsExpanded e i0 v i1 v1 c p → IsBlock k y v1 v2 r → b2 ≡ b ++ normal_at (normal.While i1 c r) x.at ∷ [] → IsMade (stmt_form k (length v) x) b v b2 v2
+while_arm k x e y b v i0 i1 v1 v2 c p r b2 is ie h i q =
+    let f = length v in
+    let z = expand_expr f e in
+    let m = stmt_form k (f + length z.types) y in
+    let yb = block_at k y v1 v2 r (f + length z.types) (longer v v1 z.types h.out.made) i in
+    let kind : normal.While i1 c r ≡ normal.While z.before (rest_of z e) (block_of m y.at) =
+    ap (λ l. normal.While l c r) (h.out.set ∙ ap (λ l. l ++ z.before) ie) ∙ ap (λ u. normal.While z.before u r) h.out.rest ∙ ap (λ u. normal.While z.before (rest_of z e) u) yb.0 in
+    as_made (stmt_form k f x) (while_form k f e y x.at) b v b2 v2 (form_while k f x e y is)
+    (alone (z.types ++ m.types) (normal.While z.before (rest_of z e) (block_of m y.at)) (normal.While i1 c r) x.at b v b2 v2 (behind v v1 v2 z.types m.types h.out.made yb.1) kind q)
+
+pub do_arm : (k : Typed) (x : TypedStmt) (y : TypedStmt) (e : TypedExpr) (b : List NormalStmt) (v : List Ty) (i0 i1 : List NormalStmt) (v1 v2 : List Ty) (c : TypedExpr) (p : Bool) (r : NormalStmt) (b2 : List NormalStmt)
+    → x.kind ≡ act.DoWhile y e → IsBlock k y v v1 r → i0 ≡ [] → IsExpanded e i0 v1 i1 v2 c p → b2 ≡ b ++ normal_at (normal.DoWhile r i1 c) x.at ∷ [] → IsMade (stmt_form k (length v) x) b v b2 v2
+do_arm k x y e b v i0 i1 v1 v2 c p r b2 is i ie h q =
+    let f = length v in
+    let m = stmt_form k f y in
+    let z = expand_expr (f + length m.types) e in
+    let o = out_at e i0 v1 i1 v2 c p (f + length m.types) (longer v v1 m.types i.made) h in
+    let kind : normal.DoWhile r i1 c ≡ normal.DoWhile (block_of m y.at) z.before (rest_of z e) =
+    ap (λ u. normal.DoWhile u i1 c) i.rest ∙ ap (λ l. normal.DoWhile (block_of m y.at) l c) (o.set ∙ ap (λ l. l ++ z.before) ie) ∙ ap (λ u. normal.DoWhile (block_of m y.at) z.before u) o.rest in
+    as_made (stmt_form k f x) (do_form k f y e x.at) b v b2 v2 (form_do k f x y e is)
+    (alone (m.types ++ z.types) (normal.DoWhile (block_of m y.at) z.before (rest_of z e)) (normal.DoWhile r i1 c) x.at b v b2 v2 (behind v v1 v2 m.types z.types i.made o.made) kind q)
+
+pub for_arm : (k : Typed) (x : TypedStmt) (first : List TypedStmt) (e : Option TypedExpr) (o : Option TypedStmt) (y : TypedStmt) (b : List NormalStmt) (v : List Ty) (a0 a1 : List NormalStmt) (v1 : List Ty) (i0 i1 : List NormalStmt) (v2 v3 v4 : List Ty) (c : Option TypedExpr) (n : Option NormalStmt) (r : NormalStmt) (b2 : List NormalStmt)
+    → x.kind ≡ act.For first e o y → a0 ≡ [] → IsMade (stmts_form k (length v) first) a0 v a1 v1 → i0 ≡ [] → IsOptional e i0 v1 i1 v2 c → IsHeld k o v2 v3 n → IsBlock k y v3 v4 r → b2 ≡ b ++ normal_at (normal.For a1 i1 c n r) x.at ∷ [] → IsMade (stmt_form k (length v) x) b v b2 v4
+for_arm k x first e o y b v a0 a1 v1 i0 i1 v2 v3 v4 c n r b2 is ae h ie i j l q =
+    let f = length v in
+    let a = stmts_form k f first in
+    let g = f + length a.types in
+    let z = optional g e in
+    let ni = g + length z.types in
+    let t = held_stmt k ni o in
+    let nj = ni + length t.types in
+    let m = stmt_form k nj y in
+    let e1 = longer v v1 a.types h.made in
+    let zb = optional_at a.types e i0 v v1 i1 v2 c g e1 i in
+    let e2 = longer v1 v2 z.types zb.2 ∙ ap (λ w. w + length z.types) e1 in
+    let tb = held_at k o v2 v3 n ni e2 j in
+    let e3 = longer v2 v3 t.types tb.1 ∙ ap (λ w. w + length t.types) e2 in
+    let mb = block_at k y v3 v4 r nj e3 l in
+    let kind : normal.For a1 i1 c n r ≡ normal.For a.stmts z.before (rest_if_any z e) t.stmt (block_of m y.at) =
+    ap (λ u. normal.For u i1 c n r) (h.set ∙ ap (λ u. u ++ a.stmts) ae) ∙ ap (λ u. normal.For a.stmts u c n r) (zb.1 ∙ ap (λ u. u ++ z.before) ie) ∙ ap (λ u. normal.For a.stmts z.before u n r) zb.0 ∙ ap (λ u. normal.For a.stmts z.before (rest_if_any z e) u r) tb.0
+    ∙ ap (λ u. normal.For a.stmts z.before (rest_if_any z e) t.stmt u) mb.0 in
+    as_made (stmt_form k f x) (for_form k f first e o y x.at) b v b2 v4 (form_for k f x first e o y is)
+    (alone (a.types ++ (z.types ++ (t.types ++ m.types))) (normal.For a.stmts z.before (rest_if_any z e) t.stmt (block_of m y.at)) (normal.For a1 i1 c n r) x.at b v b2 v4
+    (behind v v1 v4 a.types (z.types ++ (t.types ++ m.types)) h.made (behind v1 v2 v4 z.types (t.types ++ m.types) zb.2 (behind v2 v3 v4 t.types m.types tb.1 mb.1))) kind q)
+
+-- ---- assignments
+
+pub plain_assignment_arm : (t t2 : TypedTarget) (es : List TypedExpr) (e : TypedExpr) (s : Span) (b : List NormalStmt) (v : List Ty) (b1 : List NormalStmt) (v1 : List Ty) (b2 : List NormalStmt) (v2 : List Ty) (b3 : List NormalStmt) (xs : List TypedExpr) (y : TypedExpr) (p : Bool)
+    → es ≡ t.indices → AreOut (expand_all (length v) es) b v b1 v1 xs → IsExpanded e b1 v1 b2 v2 y p → t2 ≡ target_with t xs → b3 ≡ b2 ++ normal_at (normal.Assign t2 y) s ∷ [] → IsMade (plain_form (length v) t e s) b v b3 v2
+plain_assignment_arm t t2 es e s b v b1 v1 b2 v2 b3 xs y p ese h0 i te q =
+    let h = subst (λ l. AreOut (expand_all (length v) l) b v b1 v1 xs) ese h0 in
+    let a = expand_all (length v) t.indices in
+    let g = length v + length a.types in
+    let z = expand_expr g e in
+    let o = out_at e b1 v1 b2 v2 y p g (longer v v1 a.types h.made) i in
+    let kind : normal.Assign t2 y ≡ normal.Assign (target_with t a.exprs) (rest_of z e) = ap (λ u. normal.Assign u y) (te ∙ ap (target_with t) h.rest) ∙ ap (λ u. normal.Assign (target_with t a.exprs) u) o.rest in
+    one_made (a.before ++ z.before) (a.types ++ z.types) (normal.Assign (target_with t a.exprs) (rest_of z e)) (normal.Assign t2 y) s b v b2 b3 v2 (behind b b1 b2 a.before z.before h.set o.set) (behind v v1 v2 a.types z.types h.made o.made) kind q
+
+pub compound_arm : (k : Typed) (t t2 : TypedTarget) (es : List TypedExpr) (op : Binary) (e : TypedExpr) (s : Span) (b : List NormalStmt) (v : List Ty) (b1 : List NormalStmt) (v1 : List Ty) (b2 : List NormalStmt) (v2 : List Ty) (b3 : List NormalStmt) (xs : List TypedExpr) (y : TypedExpr) (p : Bool) (ty j : Ty) (kind : NormalStmtKind)
+    → es ≡ t.indices → AreOut (set_all (length v) es) b v b1 v1 xs → IsExpanded e b1 v1 b2 v2 y p → t2 ≡ target_with t xs → ty ≡ object_type (objects Plain k) t.to → j ≡ joint_type op ty e.ty → kind ≡ update_of t2 op ty j y s → b3 ≡ b2 ++ normal_at kind s ∷ []
+    → IsMade (assignment_form (objects Plain k) (length v) t (Some op) e s) b v b3 v2
+compound_arm k t t2 es op e s b v b1 v1 b2 v2 b3 xs y p ty j kind ese h0 i te tye je ke q =
+    let h = subst (λ l. AreOut (set_all (length v) l) b v b1 v1 xs) ese h0 in
+    let a = set_all (length v) t.indices in
+    let g = length v + length a.types in
+    let z = expand_expr g e in
+    let o = out_at e b1 v1 b2 v2 y p g (longer v v1 a.types h.made) i in
+    let u = object_type (objects Plain k) t.to in
+    let w = joint_type op u e.ty in
+    let same : kind ≡ update_of (target_with t a.exprs) op u w (rest_of z e) s =
+    ke ∙ ap (λ l. update_of l op ty j y s) (te ∙ ap (target_with t) h.rest) ∙ ap (λ l. update_of (target_with t a.exprs) op l j y s) tye ∙ ap (λ l. update_of (target_with t a.exprs) op u l y s) (je ∙ ap (λ l. joint_type op l e.ty) tye) ∙ ap (λ l. update_of (target_with t a.exprs) op u w l s) o.rest in
+    one_made (a.before ++ z.before) (a.types ++ z.types) (update_of (target_with t a.exprs) op u w (rest_of z e) s) kind s b v b2 b3 v2 (behind b b1 b2 a.before z.before h.set o.set) (behind v v1 v2 a.types z.types h.made o.made) same q
+
+pub step_made : (k : Typed) (t t2 : TypedTarget) (es : List TypedExpr) (op : Binary) (s : Span) (b : List NormalStmt) (v : List Ty) (b1 : List NormalStmt) (v1 : List Ty) (b2 : List NormalStmt) (xs : List TypedExpr) (y : TypedExpr) (ty j : Ty) (kind : NormalStmtKind)
+    → es ≡ t.indices → AreOut (set_all (length v) es) b v b1 v1 xs → t2 ≡ target_with t xs → ty ≡ object_type (objects Plain k) t.to → j ≡ joint_type op ty I32 → y ≡ of_type (expr.Number 1) j s → kind ≡ update_of t2 op ty j y s → b2 ≡ b1 ++ normal_at kind s ∷ [] → IsMade (step_form (objects Plain k) (length v) t op s) b v b2 v1
+step_made k t t2 es op s b v b1 v1 b2 xs y ty j kind ese h0 te tye je ye ke q =
+    let h = subst (λ l. AreOut (set_all (length v) l) b v b1 v1 xs) ese h0 in
+    let a = set_all (length v) t.indices in
+    let u = object_type (objects Plain k) t.to in
+    let w = joint_type op u I32 in
+    let same : kind ≡ update_of (target_with t a.exprs) op u w (of_type (expr.Number 1) w s) s =
+    ke ∙ ap (λ l. update_of l op ty j y s) (te ∙ ap (target_with t) h.rest) ∙ ap (λ l. update_of (target_with t a.exprs) op ty j l s) ye ∙ ap (λ l. update_of (target_with t a.exprs) op l j (of_type (expr.Number 1) j s) s) tye
+    ∙ ap (λ l. update_of (target_with t a.exprs) op u l (of_type (expr.Number 1) l s) s) (je ∙ ap (λ l. joint_type op l I32) tye) in
+    one_made (a.before ++ []) (a.types ++ []) (update_of (target_with t a.exprs) op u w (of_type (expr.Number 1) w s) s) kind s b v b1 b2 v1 (h.set ∙ ap (λ l. b ++ l) (sym (append-nil a.before))) (h.made ∙ ap (λ l. v ++ l) (sym (append-nil a.types))) same q
+
+pub plain_as : (k : Typed) (op : Option Binary) (f : ℕ) (t : TypedTarget) (e : TypedExpr) (s : Span) (b : List NormalStmt) (v : List Ty) (b2 : List NormalStmt) (v2 : List Ty) → op ≡ None → IsMade (plain_form f t e s) b v b2 v2 → IsMade (assignment_form (objects Plain k) f t op e s) b v b2 v2
+plain_as k op f t e s b v b2 v2 is h = subst (λ o. IsMade (assignment_form (objects Plain k) f t o e s) b v b2 v2) (sym is) h
+
+pub some_as : (k : Typed) (op : Option Binary) (o : Binary) (f : ℕ) (t : TypedTarget) (e : TypedExpr) (s : Span) (b : List NormalStmt) (v : List Ty) (b2 : List NormalStmt) (v2 : List Ty) → op ≡ Some o → IsMade (assignment_form (objects Plain k) f t (Some o) e s) b v b2 v2 → IsMade (assignment_form (objects Plain k) f t op e s) b v b2 v2
+some_as k op o f t e s b v b2 v2 is h = subst (λ z. IsMade (assignment_form (objects Plain k) f t z e s) b v b2 v2) (sym is) h
+
+pub assign_arm : (k : Typed) (x : TypedStmt) (t : TypedTarget) (op : Option Binary) (e : TypedExpr) (b : List NormalStmt) (v : List Ty) (b2 : List NormalStmt) (v2 : List Ty) → x.kind ≡ act.Assign t op e → IsMade (assignment_form (objects Plain k) (length v) t op e x.at) b v b2 v2 → IsMade (stmt_form k (length v) x) b v b2 v2
+assign_arm k x t op e b v b2 v2 is h = as_made (stmt_form k (length v) x) (assignment_form (objects Plain k) (length v) t op e x.at) b v b2 v2 (form_assign k (length v) x t op e is) h
+
+pub step_arm : (k : Typed) (x : TypedStmt) (t : TypedTarget) (up : Bool) (op : Binary) (b : List NormalStmt) (v : List Ty) (b2 : List NormalStmt) (v2 : List Ty) → x.kind ≡ act.Step t up → op ≡ step_operator up → IsMade (step_form (objects Plain k) (length v) t op x.at) b v b2 v2 → IsMade (stmt_form k (length v) x) b v b2 v2
+step_arm k x t up op b v b2 v2 is oe h =
+    as_made (stmt_form k (length v) x) (step_form (objects Plain k) (length v) t (step_operator up) x.at) b v b2 v2 (form_step k (length v) x t up is) (subst (λ o. IsMade (step_form (objects Plain k) (length v) t o x.at) b v b2 v2) oe h)
+
+pub array_some : (xs : List ArrayOf) (a : ℕ) (x : ArrayOf) → slice_get xs a ≡ Some x → x.ty ≡ array_type xs a
+array_some [] a x e = absurd (none-some x e)
+array_some (y ∷ ys) zero x e = let same : y ≡ x = cc in ap (λ (q : ArrayOf). q.ty) (sym same)
+array_some (y ∷ ys) (suc a) x e = array_some ys a x e
+
+pub array_none : (xs : List ArrayOf) (a : ℕ) → slice_get xs a ≡ None → I32 ≡ array_type xs a
+array_none [] a e = refl
+array_none (y ∷ ys) zero e = absurd (none-some y (sym e))
+array_none (y ∷ ys) (suc a) e = array_none ys a e
+
+-- ---- several statements, one by one
+
+pub stmts_first : (all : Made) (b : List NormalStmt) (v : List Ty) → StmtsGoOn all all b v b v
+stmts_first all b v = record { set = refl; made = refl }
+
+nodes_from : (xs : List TypedStmt) (i : ℕ) (x : TypedStmt) → i < length xs → x ≡ get_or xs i x → typed_stmts_nodes (drop i xs) ≡ typed_stmt_nodes x + typed_stmts_nodes (drop (i + 1) xs)
+nodes_from xs i x h is = ap typed_stmts_nodes (from_place xs i x h is) ∙ sum_by-cons typed_stmt_nodes x (drop (i + 1) xs)
+
+pub stmt_room : (xs : List TypedStmt) (i : ℕ) (x : TypedStmt) (v0 v : List Ty) → i < length xs → x ≡ get_or xs i x → length v + typed_stmts_nodes (drop i xs) ≤ length v0 + typed_stmts_nodes xs → HasRoom v0 (typed_stmts_nodes xs) → HasRoom v (typed_stmt_nodes x)
+stmt_room xs i x v0 v h is r room = omega (arith, nodes_from xs i x h is)
+
+pub stmts_room : (xs : List TypedStmt) (i : ℕ) (x : TypedStmt) (v0 v v2 : List Ty) → i < length xs → x ≡ get_or xs i x → length v + typed_stmts_nodes (drop i xs) ≤ length v0 + typed_stmts_nodes xs → length v2 ≤ length v + typed_stmt_nodes x
+    → length v2 + typed_stmts_nodes (drop (i + 1) xs) ≤ length v0 + typed_stmts_nodes xs
+stmts_room xs i x v0 v v2 h is r few = omega (arith, nodes_from xs i x h is)
+
+pub stmts_next : (k : Typed) (xs : List TypedStmt) (i : ℕ) (x : TypedStmt) (all : Made) (b0 : List NormalStmt) (v0 : List Ty) (b : List NormalStmt) (v : List Ty) (b2 : List NormalStmt) (v2 : List Ty)
+    → i < length xs → x ≡ get_or xs i x → StmtsGoOn (stmts_form k (length v) (drop i xs)) all b0 v0 b v → IsMade (stmt_form k (length v) x) b v b2 v2 → StmtsGoOn (stmts_form k (length v2) (drop (i + 1) xs)) all b0 v0 b2 v2
+stmts_next k xs i x all b0 v0 b v b2 v2 h is g p =
+    let m = stmt_form k (length v) x in
+    let r = stmts_form k (length v + length m.types) (drop (i + 1) xs) in
+    let now = subst (λ l. StmtsGoOn (stmts_form k (length v) l) all b0 v0 b v) (from_place xs i x h is) g in
+    subst (λ n. StmtsGoOn (stmts_form k n (drop (i + 1) xs)) all b0 v0 b2 v2) (sym (longer v v2 m.types p.made)) (record {
+      set = ap (λ l. l ++ r.stmts) p.set ∙ append_assoc b m.stmts r.stmts ∙ now.set;
+      made = ap (λ l. l ++ r.types) p.made ∙ append_assoc v m.types r.types ∙ now.made;
+    })
+
+pub stmts_end : (k : Typed) (xs : List TypedStmt) (i n : ℕ) (all : Made) (b0 : List NormalStmt) (v0 : List Ty) (b : List NormalStmt) (v : List Ty) → length xs ≤ i → StmtsGoOn (stmts_form k n (drop i xs)) all b0 v0 b v → IsMade all b0 v0 b v
+stmts_end k xs i n all b0 v0 b v h g =
+    let none : stmts_form k n (drop i xs) ≡ record { stmts = []; types = [] } = ap (stmts_form k n) (past xs i h) in
+    record {
+      set = sym (append-nil b) ∙ ap (λ (m : Made). b ++ m.stmts) (sym none) ∙ g.set;
+      made = sym (append-nil v) ∙ ap (λ (m : Made). v ++ m.types) (sym none) ∙ g.made;
+    }
+
+-- ---- whole kernels
+
+pub all_room : (k : Typed) (v : List Ty) (xs : List TypedStmt) → Lawful k → typed_nodes k < 2 ^ 30 → v ≡ k.vars → xs ≡ k.body → HasRoom v (typed_stmts_nodes xs)
+all_room k v xs lawful few ve xe = omega (arith, few_vars k lawful, ap length ve, ap typed_stmts_nodes xe)
+
+abbrev pub a_form : Typed → List ℕ → List Param → List Ty → List ArrayOf → List NormalStmt → Normal
+a_form k name params vars arrays body = record { name = name; at = k.at; result = k.result; params = params; vars = vars; arrays = arrays; body = body }
+
+pub form_made : (k : Typed) (v : List Ty) (xs : List TypedStmt) (b0 b1 : List NormalStmt) (v1 : List Ty) (name : List ℕ) (params : List Param) (arrays : List ArrayOf) → b0 ≡ [] → v ≡ k.vars → xs ≡ k.body → IsMade (stmts_form k (length v) xs) b0 v b1 v1 → name ≡ k.name → params ≡ k.params → arrays ≡ k.arrays
+    → a_form k name params v1 arrays b1 ≡ normal_form k
+form_made k v xs b0 b1 v1 name params arrays be ve xe h ne pe ae =
+    let m = body_form k in
+    let same : stmts_form k (length v) xs ≡ m = ap (λ l. stmts_form k (length l) xs) ve ∙ ap (λ l. stmts_form k (length k.vars) l) xe in
+    let body : b1 ≡ m.stmts = h.set ∙ ap (λ l. l ++ (stmts_form k (length v) xs).stmts) be ∙ ap (λ (z : Made). z.stmts) same in
+    let vars : v1 ≡ k.vars ++ m.types = h.made ∙ ap (λ l. l ++ (stmts_form k (length v) xs).types) ve ∙ ap (λ (z : Made). k.vars ++ z.types) same in
+    ap (λ z. a_form k z params v1 arrays b1) ne ∙ ap (λ z. a_form k k.name z v1 arrays b1) pe ∙ ap (λ z. a_form k k.name k.params z arrays b1) vars ∙ ap (λ z. a_form k k.name k.params (k.vars ++ m.types) z b1) ae ∙ ap (a_form k k.name k.params (k.vars ++ m.types) k.arrays) body

@@ -1,0 +1,58 @@
+use Rattle.std.proofs.Common.{length, arith, rules, refl}
+use Rattle.c_ast.specs.declared.typed.TypedStmtKind.TheViews.{the_lemmas}
+use Rattle.c_norm.specs.Code.{stmts_form}
+use Rattle.c_norm.proofs.MadeArms.{few_stmt, few_stmts, block_made, held_none, held_some, block_arm, if_arm, while_arm, do_arm, for_arm, stmts_first, stmt_room, stmts_room, stmts_next, stmts_end}
+use Rattle.c_norm.proofs.forms.+form.Goals as goal
+
+pub form-returns-clause-few : goal.form-returns-clause-few
+form-returns-clause-few t c = few_stmt c.args.typed.now c.args.stmt.now c.args.out.now c.args.vars.now _ _ c.in_ok-kind.ensures
+
+pub forms-loop-stmt-init : goal.forms-loop-stmt-init
+forms-loop-stmt-init t c = record { goes = stmts_first (stmts_form c.args.typed.now (length c.args.vars.now) c.args.stmts.now) c.args.out.now c.args.vars.now; room = omega arith }
+
+pub forms-form-requires : goal.forms-form-requires
+forms-form-requires t c = (
+  search (rules, the_lemmas),
+  stmt_room c.args.stmts.now c.loop-stmt.stmt-index c.stmt-item.result c.args.vars.now c.loop-stmt.vars c.loop-stmt-test.true c.stmt-item.is c.loop-stmt.invariant.room c.requires,
+)
+
+pub forms-loop-stmt-preserved : goal.forms-loop-stmt-preserved
+forms-loop-stmt-preserved t c = record {
+  goes = stmts_next c.args.typed.now c.args.stmts.now c.loop-stmt.stmt-index c.stmt-item.result _ _ _ _ c.loop-stmt.vars _ _ c.loop-stmt-test.true c.stmt-item.is c.loop-stmt.invariant.goes c.in_ok-form.ensures.made;
+  room = stmts_room c.args.stmts.now c.loop-stmt.stmt-index c.stmt-item.result c.args.vars.now c.loop-stmt.vars _ c.loop-stmt-test.true c.stmt-item.is c.loop-stmt.invariant.room c.in_ok-form.ensures.few;
+}
+
+pub forms-returns-clause-made : goal.forms-returns-clause-made
+forms-returns-clause-made t c = stmts_end c.args.typed.now c.args.stmts.now c.loop-stmt.stmt-index _ _ _ _ _ _ (omega (arith, c.loop-stmt-test.false)) c.loop-stmt.invariant.goes
+
+pub forms-returns-clause-few : goal.forms-returns-clause-few
+forms-returns-clause-few t c = few_stmts c.args.typed.now c.args.stmts.now c.args.out.now c.args.vars.now _ _ (forms-returns-clause-made t c)
+
+pub inside-returns-clause-made : goal.inside-returns-clause-made
+inside-returns-clause-made t c = block_made c.args.typed.now c.args.stmt.now _ _ c.args.vars.now _ _ c.new-stmts.ensures c.in_ok-form.ensures.made c.in_ok-boxed.ensures
+
+pub held-returns-in-None-clause-made : goal.held-returns-in-None-clause-made
+held-returns-in-None-clause-made t c = held_none c.args.typed.now _ _ c.args.vars.now c.in-None.is refl
+
+pub held-returns-in_ok-block-in-Some-clause-made : goal.held-returns-in_ok-block-in-Some-clause-made
+held-returns-in_ok-block-in-Some-clause-made t c = held_some c.args.typed.now _ _ _ _ c.args.vars.now _ _ c.in-Some.is c.get.ensures c.in_ok-block-in-Some.ensures.made refl
+
+pub block-returns : goal.block-returns
+block-returns t c = block_arm c.args.typed.now c.args.stmt.now c.args.stmts.now c.args.out.now c.args.vars.now _ _ _ _ c.requires.is c.new-made.ensures c.in_ok-forms.ensures.made c.in_ok-put.ensures
+
+pub choice-returns : goal.choice-returns
+choice-returns t c =
+    if_arm c.args.typed.now c.args.stmt.now c.args.cond.now c.args.then.now c.args.other.now c.args.out.now c.args.vars.now _ _ _ _ _ _ _ _ _ _ c.requires.is c.new-before.ensures c.in_ok-test.ensures.expanded c.in_ok-then.ensures.made c.in_ok-other.ensures.made c.in_ok-put.ensures
+
+pub while_loop-returns : goal.while_loop-returns
+while_loop-returns t c =
+    while_arm c.args.typed.now c.args.stmt.now c.args.cond.now c.args.body.now c.args.out.now c.args.vars.now _ _ _ _ _ _ _ _ c.requires.is c.new-before.ensures c.in_ok-test.ensures.expanded c.in_ok-body.ensures.made c.in_ok-put.ensures
+
+pub do_loop-returns : goal.do_loop-returns
+do_loop-returns t c =
+    do_arm c.args.typed.now c.args.stmt.now c.args.body.now c.args.cond.now c.args.out.now c.args.vars.now _ _ _ _ _ _ _ _ c.requires.is c.in_ok-body.ensures.made c.new-before.ensures c.in_ok-test.ensures.expanded c.in_ok-put.ensures
+
+pub for_loop-returns : goal.for_loop-returns
+for_loop-returns t c =
+    for_arm c.args.typed.now c.args.stmt.now c.args.first.now c.args.cond.now c.args.step.now c.args.body.now c.args.out.now c.args.vars.now _ _ _ _ _ _ _ _ _ _ _ _ c.requires.is c.new-opening.ensures c.in_ok-forms.ensures.made c.new-before.ensures c.in_ok-cond.ensures.expanded
+    c.in_ok-step.ensures.made c.in_ok-body.ensures.made c.in_ok-put.ensures
