@@ -24,3 +24,7 @@ pub mod PlaceCode
 pub mod Formed
 pub mod OpCases
 pub mod Sized
+pub mod Rows
+pub mod Grows
+pub mod Worked
+pub mod Trimmed

@@ -81,7 +81,7 @@ module _ (c : List Instr → ℕ) (t : TreeCost c) (arrays : List ArrayOf) where
   more_same : (d : Draft) (n : ℕ) → More d d n
   more_same d n = record { by = omega arith }
 
-  more_close : (j : CfgJump) (d : Draft) → More d (close j d) 0
+  pub more_close : (j : CfgJump) (d : Draft) → More d (close j d) 0
   more_close j d =
       let f : CfgBlock → ℕ = λ b. c b.steps in
       let a = sum_by-append f d.blocks (closed j d ∷ []) in
@@ -248,7 +248,7 @@ module _ (c : List Instr → ℕ) (t : TreeCost c) (arrays : List ArrayOf) where
       let b2 : of_blocks e.blocks + c e.steps ≤ of_blocks d.blocks + c d.steps + n = b.by in
       omega arith
 
-steps_cost : TreeCost length
+unfoldable pub steps_cost : TreeCost length
 steps_cost = record {
   adding = steps_adding;
   kind = steps;

@@ -1,9 +1,11 @@
 -- Words that the contracts of private functions cite, and no other.
-use Rattle.std.specs.Prelude.{◌≡◌, ℕ, zero, suc, ◌+◌, ◌≤◌, ◌^◌, ◌⊎◌, List, ◌++◌, length, map, drop, Bool, true, false}
+use Rattle.std.specs.Prelude.{◌≡◌, ℕ, zero, suc, ◌+◌, ◌*◌, ◌<◌, ◌≤◌, ◌^◌, ◌⊎◌, List, ◌++◌, length, map, drop, sum_by, Bool, true, false}
 use Rattle.c_ast.specs.declared.typed.ArrayOf.{ArrayOf}
 use Rattle.c_ast.specs.declared.typed.TypedExpr.{TypedExpr}
 use Rattle.c_meaning.specs.Counts.{target_price}
 use Rattle.ir.specs.declared.instr.Instr.{Instr}
+use Rattle.struct_cfg.specs.declared.draft.Draft.{Draft}
+use Rattle.struct_cfg.specs.Drafts.{here}
 use Rattle.struct_cfg.specs.Exprs.{piece}
 use Rattle.struct_cfg.specs.Layings.{Laying, Piece}
 use Rattle.struct_cfg.specs.Operators.{index_laid, next_place, further_places, place_laid}
@@ -32,3 +34,17 @@ pub record GoesOn (arrays : List ArrayOf) (env dims : List ℕ) (indices : List 
   pub left : (new : List Instr) (u : ℕ) → IsLaid (left_places k at dims (map (piece arrays env) indices)) env now new u → IsLaid (place_laid dims (map (piece arrays env) indices)) env old new u
   pub few : length now + target_price (drop k indices) ≤ length old + target_price indices
   pub counted : (counter ≡ k) ⊎ ((length dims ≤ counter) × (length dims ≤ k))
+
+-- ---- drafts
+
+-- the variables of a draft, its closed blocks, and the steps of all its blocks
+abbrev pub draft_size : Draft → ℕ
+draft_size d = length d.env + here d + (sum_by (λ b. length b.steps) d.blocks + length d.steps)
+
+-- so many blocks and steps more may be numbered
+abbrev pub HasSpace : Draft → ℕ → ℕ → Type 0
+HasSpace d blocks steps = draft_size d + blocks + 2 * steps < 2 ^ 32
+
+-- a draft has grown by so many blocks and steps, or less
+abbrev pub HasGrown : Draft → Draft → ℕ → ℕ → Type 0
+HasGrown d e blocks steps = draft_size e ≤ draft_size d + blocks + steps

@@ -1,11 +1,12 @@
 -- The blocks of a whole normal form.
-use Rattle.std.specs.Prelude.{ℕ, List, [], ◌∷◌, map, length, Option, Some, None}
+use Rattle.std.specs.Prelude.{ℕ, ◌+◌, ◌<◌, ◌^◌, List, [], ◌∷◌, map, length, Option, Some, None}
 use Rattle.el_base.specs.declared.ty.Ty.{Ty}
 use Rattle.el_base.specs.Widths.{ty_width}
 use Rattle.c_ast.specs.declared.typed.ArrayOf.{ArrayOf}
 use Rattle.c_ast.specs.declared.normal.Normal.{Normal}
 use Rattle.c_ast.specs.declared.normal.NormalStmt.{NormalStmt}
 use Rattle.ir.specs.Variables.{VarGraph}
+use Rattle.c_meaning.specs.Sizes.{form_sizes}
 use Rattle.c_meaning.specs.Headers.{scalars_of, flat}
 use Rattle.ir.specs.declared.instr.Instr.TheVariants.{Const}
 use Rattle.ir.specs.declared.cfg.CfgJump.TheVariants.{Return}
@@ -35,3 +36,7 @@ form_graph f = record {
   vars = map ty_width f.vars;
   blocks = (kernel_draft f.arrays f.result (length f.vars) f.body).blocks;
 }
+
+-- its variables, the blocks of its graph and the steps that are written in it can be numbered
+abbrev pub IsSmallForm : Normal → Type 0
+IsSmallForm f = length f.vars + (form_sizes f).blocks + (form_sizes f).steps < 2 ^ 30

@@ -12,3 +12,4 @@ pub mod Kernels
 pub mod Runs
 pub mod Laws
 pub mod Places
+pub mod Worked

@@ -1,20 +1,24 @@
 -- What the graph of a normal form is made to keep: its runs, its variables and its sizes.
-use Rattle.std.specs.Prelude.{◌≡◌, ℕ, ◌+◌, ◌≤◌, List, [], ◌∷◌, length, get_or, sum_by, All, ℤ, Option, Some, None}
+use Rattle.std.specs.Prelude.{◌≡◌, ℕ, ◌+◌, ◌≤◌, List, [], ◌∷◌, length, map, get_or, sum_by, All, ℤ, Option, Some, None}
 use Rattle.el_base.specs.declared.ty.Ty.{Ty}
 use Rattle.el_base.specs.declared.ty.Ty.TheVariants.{I32}
 use Rattle.el_base.specs.Numbers.{pattern}
+use Rattle.el_base.specs.Widths.{ty_width}
 use Rattle.c_ast.specs.declared.normal.Normal.{Normal}
 use Rattle.c_meaning.specs.declared.profile.Profile.{Profile}
 use Rattle.c_meaning.specs.Stores.{Store, Inputs, AreFitting, scalar_types}
+use Rattle.c_meaning.specs.Headers.{normal_header}
 use Rattle.c_meaning.specs.KernelPatterns.{scalar_patterns, array_patterns, result_pattern}
 use Rattle.c_meaning.specs.Normals.{normal_run, NormalEnds}
 use Rattle.c_meaning.specs.Counts.{NormalCosts}
 use Rattle.c_meaning.specs.Sizes.{Sizes}
 use Rattle.ir.specs.Accesses.{accesses_in}
-use Rattle.ir.specs.Steps.{value_at, through, beginning}
+pub use Rattle.block_trim.specs.Shares.{variables_after}
+use Rattle.ir.specs.Steps.{value_at}
 use Rattle.ir.specs.Visits.{Visit, Finishes}
-use Rattle.ir.specs.Variables.{VarGraph, var_block_at, read_values, written, var_passage, var_first_visit, steps_made}
+use Rattle.ir.specs.Variables.{VarGraph, var_passage, var_first_visit, steps_made}
 use Rattle.ir.specs.Finished.{Finished}
+use Rattle.ir.specs.Headers.{var_graph_header}
 
 -- the first visit of the graph of a form on inputs
 abbrev pub first_on : Normal → VarGraph → Inputs → Visit
@@ -27,12 +31,6 @@ RunsFollow f g = (p : Profile) (z : Inputs) (out : List (List ℤ)) (r : Option 
     → Finished (var_passage g) (first_on f g z) (result_pattern f.result r) (array_patterns f.arrays out) (steps_made g) jumps (price + length f.vars)
 
 -- ---- variables
-
--- what the variables are after the writes of a visit
-abbrev pub variables_after : VarGraph → Visit → List ℕ
-variables_after g v =
-    let b = var_block_at g v.block in
-    written (through b.steps (beginning (read_values v.given b) v.arrays)).values b.writes v.given
 
 -- each variable that is set in a store has the pattern of its number; of an unset one nothing is said
 pub record ShowsVariables (ts : List Ty) (s : Store) (vs : List ℕ) : Type 0 where
@@ -47,6 +45,14 @@ abbrev pub VariablesFollow : Normal → VarGraph → Type 0
 VariablesFollow f g = (p : Profile) (z : Inputs) (out : List (List ℤ)) (r : Option ℤ) (t : ℕ) → AreFitting f.params f.arrays z → (e : NormalEnds f p z out r t)
     → (rest : List Visit) (q : Option ℕ) (arrays : List (List ℕ)) → Finishes (var_passage g) (first_on f g z) rest q arrays
     → ShowsVariables f.vars (normal_run f p z e.bound).store (variables_after g (last_of (first_on f g z) rest))
+
+-- ---- all that the graph keeps of the form
+
+pub record CfgShare (f : Normal) (g : VarGraph) : Type 0 where
+  pub header : var_graph_header g ≡ normal_header f
+  pub vars : g.vars ≡ map ty_width f.vars
+  pub runs : RunsFollow f g
+  pub variables : VariablesFollow f g
 
 -- ---- sizes
 

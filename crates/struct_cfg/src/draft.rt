@@ -1,4 +1,6 @@
 ghost use Rattle.std.specs.Prelude.{◌≡◌, ◌+◌, ◌<◌, ◌≤◌, ◌^◌, [], ◌∷◌, ◌++◌, length, set, IfOk, OnOk};
+ghost use Rattle.struct_cfg.specs.Code.{HasGrown};
+ghost use Rattle.struct_cfg.specs.Kernels.{empty};
 ghost use Rattle.struct_cfg.specs.Drafts.{own_values, writes_from, with_steps, with_value, close, here, next_value};
 
 use el_base::{List, Memory};
@@ -42,6 +44,18 @@ fn writes(alloc: Global, env: &[u32]) -> Result<List<Write>, Memory>
 }
 
 impl Draft {
+    /// Nothing is laid yet, and each of `n` variables is its own value.
+    pub(crate) fn new(alloc: Global, n: usize) -> Result<Draft, Memory>
+        requires { n ≤ 2 ^ 32 }
+        ensures { IfOk result (λ d. d ≡ empty n) }
+    {
+        Ok(Draft {
+            blocks: List::new(alloc),
+            steps: List::new(alloc),
+            env: own_values(alloc, n)?,
+        })
+    }
+
     /// The number of the open block.
     pub(crate) fn here(&self) -> u32
         requires { here self.now < 2 ^ 32 }
@@ -50,18 +64,21 @@ impl Draft {
         self.blocks.len() as u32
     }
 
-    /// A variable gets a value.
+    /// A variable gets a value; nothing is changed where there is no such variable.
+    #[tactic(auto, using(crate::proofs::Grows::value_beyond))]
     pub(crate) fn set(&mut self, var: u32, value: u32)
-        requires { var < length self.old.env }
         ensures { self.new ≡ with_value var value self.old }
     {
-        self.env.set(var as usize, value);
+        if (var as usize) < self.env.len() {
+            self.env.set(var as usize, value);
+        }
     }
 
     /// The open block is closed by a jump, and the next one is open.
     pub(crate) fn close(&mut self, alloc: Global, jump: CfgJump) -> Result<(), Memory>
         requires { length self.old.env ≤ 2 ^ 32 }
-        ensures { OnOk result (self.new ≡ close jump self.old) }
+        ensures made { OnOk result (self.new ≡ close jump self.old) }
+        ensures few { OnOk result (HasGrown self.old self.new 1 0) }
     {
         let reads = own_values(alloc, self.env.len())?;
         let env = own_values(alloc, self.env.len())?;

@@ -1,0 +1,90 @@
+//! How many blocks statements close.
+ghost use Rattle.std.specs.Prelude.{◌≡◌, ◌<◌, ◌^◌};
+ghost use Rattle.c_meaning.specs.Sizes.{closes};
+ghost use Rattle.struct_cfg.specs.Lists.{closes_all, closes_any, closes_any_step};
+
+use c_ast::{NormalStmt, NormalStmtKind};
+use el_base::Boxed;
+
+/// How many blocks a statement closes.
+///
+/// It walks the statement and its parts. Each `if` and loop asks it of its parts, so that a statement is walked once for
+/// each `if` and loop that it stands in.
+#[cycle(closes)]
+#[tactic(auto, using(crate::proofs::Rows::closes_block, crate::proofs::Rows::closes_if, crate::proofs::Rows::closes_while, crate::proofs::Rows::closes_do, crate::proofs::Rows::closes_for))]
+pub(crate) fn closes(stmt: &NormalStmt) -> u32
+    requires { closes stmt.now.kind < 2 ^ 32 }
+    ensures { result ≡ closes stmt.now.kind }
+{
+    match &stmt.kind {
+        NormalStmtKind::Block(stmts) => closes_all(stmts.as_slice()),
+        NormalStmtKind::If {
+            before,
+            cond: _,
+            then,
+            other,
+        } => closes_all(before.as_slice()) + closes(then.get()) + closes_any(other) + 3,
+        NormalStmtKind::While {
+            before,
+            cond: _,
+            body,
+        } => closes_all(before.as_slice()) + closes(body.get()) + 3,
+        NormalStmtKind::DoWhile {
+            body,
+            before,
+            cond: _,
+        } => closes(body.get()) + closes_all(before.as_slice()) + 3,
+        NormalStmtKind::For {
+            first,
+            before,
+            cond: _,
+            step,
+            body,
+        } => {
+            let outside = closes_all(first.as_slice()) + closes_all(before.as_slice());
+            outside + closes(body.get()) + closes_any_step(step) + 3
+        }
+        NormalStmtKind::Break | NormalStmtKind::Continue | NormalStmtKind::Return(_) => 1,
+        NormalStmtKind::Declare { var: _, init: _ }
+        | NormalStmtKind::Assign {
+            target: _,
+            value: _,
+        }
+        | NormalStmtKind::Empty => 0,
+    }
+}
+
+#[cycle(closes)]
+pub(crate) fn closes_all(stmts: &[NormalStmt]) -> u32
+    requires { closes_all stmts.now < 2 ^ 32 }
+    ensures { result ≡ closes_all stmts.now }
+{
+    let mut total = 0;
+    for stmt in stmts {
+        total += closes(stmt);
+    }
+    total
+}
+
+#[cycle(closes)]
+pub(crate) fn closes_any(stmt: &Option<Boxed<NormalStmt>>) -> u32
+    requires { closes_any stmt.now < 2 ^ 32 }
+    ensures { result ≡ closes_any stmt.now }
+{
+    match stmt {
+        None => 0,
+        Some(stmt) => closes(stmt.get()),
+    }
+}
+
+/// How many blocks the step of a `for` closes, with the way to it.
+#[cycle(closes)]
+pub(crate) fn closes_any_step(step: &Option<Boxed<NormalStmt>>) -> u32
+    requires { closes_any_step step.now < 2 ^ 32 }
+    ensures { result ≡ closes_any_step step.now }
+{
+    match step {
+        None => 0,
+        Some(step) => closes(step.get()) + 1,
+    }
+}
