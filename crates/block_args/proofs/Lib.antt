@@ -6,3 +6,8 @@ pub mod Lives
 pub mod Sizes
 pub mod Fits
 pub mod Whole
+pub mod Walking
+pub mod Listing
+pub mod Numbering
+pub mod Making
+pub mod Samples

@@ -44,7 +44,7 @@ module _ (g : VarGraph) (fine : IsVarGraph g) where
   read_below : (b : ℕ) (x : CfgBlock) → slice_get g.blocks b ≡ Some x → (v : ℕ) → Contains x.reads v → v < length g.vars
   read_below b x there v (k, lt, is) = subst (λ n. n < length g.vars) is ((fine_block g fine b x there).reads k v lt)
 
-  live_below : (b v : ℕ) → Live g b v → v < length g.vars
+  pub live_below : (b v : ℕ) → Live g b v → v < length g.vars
   live_below b v (Live.read_here c w x there reads) = read_below b x there v reads
   live_below b v (Live.read_later c d w x there to never rest) = live_below d v rest
 

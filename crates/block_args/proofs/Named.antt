@@ -107,7 +107,7 @@ module _ (g : VarGraph) (fine : IsVarGraph g) (n : ℕ) (b : CfgBlock) (is_there
 
 -- ---- how many variables a block lists
 
-few_from : (xs : List ℕ) (low high : ℕ) → AreAscending xs → AllByRecursion (λ x. low ≤ x) xs → AllByRecursion (λ x. x < high) xs → low ≤ high → length xs + low ≤ high
+pub few_from : (xs : List ℕ) (low high : ℕ) → AreAscending xs → AllByRecursion (λ x. low ≤ x) xs → AllByRecursion (λ x. x < high) xs → low ≤ high → length xs + low ≤ high
 few_from [] low high up least most h = omega arith
 few_from (x ∷ xs) low high up least most h =
     let rest = few_from xs (suc x) high up.1 (weaker xs up.0) most.1 (let lt = most.0 in omega arith) in
@@ -117,7 +117,7 @@ few_from (x ∷ xs) low high up least most h =
     weaker [] k = tt
     weaker (y ∷ ys) k = (let lt = k.0 in omega arith, weaker ys k.1)
 
-all_from_zero : (xs : List ℕ) → AllByRecursion (λ x. 0 ≤ x) xs
+pub all_from_zero : (xs : List ℕ) → AllByRecursion (λ x. 0 ≤ x) xs
 all_from_zero [] = tt
 all_from_zero (x ∷ xs) = (omega arith, all_from_zero xs)
 

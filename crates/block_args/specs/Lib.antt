@@ -3,3 +3,8 @@ pub mod Tables
 pub mod Arguments
 pub mod Shares
 pub mod Laws
+pub mod Walks
+pub mod Indexes
+pub mod Numbers
+pub mod Made
+pub mod Sample

@@ -2,8 +2,18 @@
 //! that a table lists for it: definitions, and laws of them.
 #![tactic(auto)]
 
+mod block;
+mod graph;
 mod laws;
+mod live;
+mod numbers;
+mod tables;
+#[cfg(test)]
+mod tests;
+mod walk;
 
+pub use graph::arguments;
 pub use laws::{
     live_variables_serve, served_graphs_are_well_formed, served_graphs_run_the_same, sizes_are_kept,
 };
+pub use live::live_variables;

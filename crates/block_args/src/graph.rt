@@ -1,0 +1,81 @@
+//! The graph over block arguments of a graph over variables.
+ghost use Rattle.std.specs.Prelude.{◌≡◌, length, IfOk};
+ghost use Rattle.el_base.specs.Limits.{IsNumbered};
+ghost use Rattle.block_args.specs.Tables.{ListsLive};
+ghost use Rattle.block_args.specs.Arguments.{new_blocks};
+ghost use Rattle.block_args.specs.Shares.{ArgsShare, ArgsSizes};
+ghost use Rattle.block_args.specs.Made.{parts, IsArgued, HasLiveArgs};
+
+use crate::block::new_block;
+use crate::live::live_variables;
+use ir::{Array, Block, Cfg, Ir, List, Memory, Scalar};
+use std::alloc::Global;
+
+/// The graph whose blocks get as arguments the variables that are live at them, and block 0 the scalars.
+///
+/// It asks that the variables, the blocks and the steps of the graph together are fewer than 2^32. The time is that of
+/// [`live_variables`], and of the new graph.
+///
+/// # Errors
+///
+/// [`Memory`] where memory is wanting.
+pub fn arguments(alloc: Global, cfg: &Cfg) -> Result<Ir, Memory>
+    requires { IsNumbered (parts cfg.now) }
+    ensures made { IfOk result (IsArgued cfg.now) }
+    ensures live { IfOk result (HasLiveArgs cfg.now) }
+    ensures share { IfOk result (ArgsShare cfg.now) }
+    ensures sizes { IfOk result (ArgsSizes cfg.now) }
+{
+    let _blocks = cfg.look();
+    let table = live_variables(alloc, cfg)?;
+    let blocks = new_blocks(alloc, cfg, table.as_slice())?;
+    let name = cfg.name.copy()?;
+    let scalars = copy_scalars(alloc, cfg.scalars.as_slice())?;
+    let arrays = copy_arrays(alloc, cfg.arrays.as_slice())?;
+    Ok(Ir {
+        name,
+        scalars,
+        arrays,
+        result: cfg.result,
+        blocks,
+    })
+}
+
+/// The blocks that get the variables that a table lists.
+fn new_blocks(alloc: Global, cfg: &Cfg, table: &[List<u32>]) -> Result<List<Block>, Memory>
+    requires few { IsNumbered (parts cfg.now) }
+    requires lists { ListsLive cfg.now table.now }
+    ensures { IfOk result (λ bs. bs ≡ new_blocks
+        (length cfg.now.scalars) cfg.now.vars table.now 0 cfg.now.blocks) }
+{
+    let blocks = cfg.look();
+    let scalars = cfg.scalars.len();
+    let vars = cfg.vars.as_slice();
+    let mut made = List::new(alloc);
+    let mut number = 0;
+    for block in blocks {
+        made.push(new_block(alloc, scalars, vars, table, number, block)?)?;
+        number += 1;
+    }
+    Ok(made)
+}
+
+fn copy_scalars(alloc: Global, scalars: &[Scalar]) -> Result<List<Scalar>, Memory>
+    ensures { IfOk result (λ copies. copies ≡ scalars.now) }
+{
+    let mut copies = List::new(alloc);
+    for scalar in scalars {
+        copies.push(scalar.copy()?)?;
+    }
+    Ok(copies)
+}
+
+fn copy_arrays(alloc: Global, arrays: &[Array]) -> Result<List<Array>, Memory>
+    ensures { IfOk result (λ copies. copies ≡ arrays.now) }
+{
+    let mut copies = List::new(alloc);
+    for array in arrays {
+        copies.push(array.copy()?)?;
+    }
+    Ok(copies)
+}
