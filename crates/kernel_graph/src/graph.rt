@@ -1,0 +1,31 @@
+ghost use Rattle.std.specs.Prelude.{◌≤◌, IfOk};
+ghost use Rattle.el_base.specs.Limits.{max_nodes};
+ghost use Rattle.c_ast.specs.Nodes.{typed_nodes};
+ghost use Rattle.c_meaning.specs.Lawful.{Lawful};
+ghost use Rattle.kernel_graph.specs.Shares.{GraphShare};
+
+use block_args::arguments;
+use c_ast::Typed;
+use c_norm::laws::small_forms_can_be_built;
+use c_norm::normal;
+use el_base::Memory;
+use ir::Ir;
+use std::alloc::Global;
+use struct_cfg::cfg;
+
+/// The block graph of a kernel: where the kernel ends, under either profile, the graph's run returns with the same arrays
+/// and result, within bounds that a circuit keeps. It has at most 32,768 blocks and a size of at most 8,000,000.
+///
+/// # Errors
+///
+/// [`Memory`] where memory is wanting.
+pub fn block_graph(alloc: Global, typed: &Typed) -> Result<Ir, Memory>
+    requires lawful { Lawful typed.now }
+    requires few { typed_nodes typed.now ≤ max_nodes }
+    ensures { IfOk result (GraphShare typed.now) }
+{
+    small_forms_can_be_built();
+    let form = normal(alloc, typed)?;
+    let graph = cfg(alloc, &form)?;
+    arguments(alloc, &graph)
+}
