@@ -1,0 +1,5 @@
+mod Keeps
+mod Once
+mod Plain
+mod Tables
+mod Ways

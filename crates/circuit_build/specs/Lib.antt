@@ -1,0 +1,9 @@
+pub mod Blocks
+pub mod Built
+pub mod Drafts
+pub mod Edges
+pub mod Endings
+pub mod Fronts
+pub mod Jumps
+pub mod Laws
+pub mod Steps

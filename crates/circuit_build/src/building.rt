@@ -1,0 +1,76 @@
+//! The net of a block graph.
+ghost use Rattle.std.specs.Prelude.{◌≡◌, IfOk};
+ghost use Rattle.circuit_build.specs.Built.{whole_draft, built};
+
+use crate::blocks::ins_of;
+use crate::draft::{Draft, number};
+use crate::edges::{count_at, edge_counts};
+use crate::fronts::start;
+use el_base::{Array, List, Memory, Scalar};
+use ir::{Groups, Ir};
+use net_types::Net;
+use std::alloc::Global;
+
+fn copy_scalars(alloc: Global, scalars: &[Scalar]) -> Result<List<Scalar>, Memory>
+    ensures { IfOk result (λ ss. ss ≡ scalars.now) }
+{
+    let mut copies = List::new(alloc);
+    for scalar in scalars {
+        copies.push(scalar.copy()?)?;
+    }
+    Ok(copies)
+}
+
+fn copy_arrays(alloc: Global, arrays: &[Array]) -> Result<List<Array>, Memory>
+    ensures { IfOk result (λ xs. xs ≡ arrays.now) }
+{
+    let mut copies = List::new(alloc);
+    for array in arrays {
+        copies.push(array.copy()?)?;
+    }
+    Ok(copies)
+}
+
+// All units and channels.
+fn lay_all(alloc: Global, graph: &Ir, groups: &Groups) -> Result<Draft, Memory>
+    ensures { IfOk result (λ d. d ≡ whole_draft graph.now groups.now) }
+{
+    let blocks = graph.blocks.as_slice();
+    let arrays = graph.arrays.as_slice();
+    let accesses = groups.of.as_slice();
+    let join = number(blocks.len());
+    let counts = edge_counts(alloc, blocks)?;
+    let counts = counts.as_slice();
+    let mut draft = start(alloc)?;
+    draft.enter(alloc, graph.scalars.as_slice())?;
+    draft.lay_queues(alloc, blocks, accesses, arrays)?;
+    draft.lay_blocks(alloc, arrays, join, counts, blocks, accesses)?;
+    draft.lay_join(alloc, ins_of(counts, join), graph.result)?;
+    draft.lay_feeders(alloc, counts, blocks)?;
+    draft.lay_last_feeder(alloc, count_at(counts, join), join, graph.result)?;
+    draft.connect(alloc, blocks.len() + 1)?;
+    Ok(draft)
+}
+
+/// The net of a block graph, with the accesses of its blocks in order.
+///
+/// Each channel has one slot and delay 1. An array that some access names has a queue, and of another each load is a
+/// unit of its own that reads it. Where a number passes 32 bits the greatest stands for it; no graph of a kernel comes
+/// to that.
+///
+/// # Errors
+///
+/// [`Memory`] where memory is wanting.
+pub fn build(alloc: Global, graph: &Ir, groups: &Groups) -> Result<Net, Memory>
+    ensures net { IfOk result (λ net. net ≡ built graph.now groups.now) }
+{
+    let draft = lay_all(alloc, graph, groups)?;
+    Ok(Net {
+        name: graph.name.copy()?,
+        scalars: copy_scalars(alloc, graph.scalars.as_slice())?,
+        arrays: copy_arrays(alloc, graph.arrays.as_slice())?,
+        result: graph.result,
+        units: draft.units,
+        chans: draft.chans,
+    })
+}
