@@ -1,0 +1,11 @@
+pub mod Aims
+pub mod ByParts
+pub mod Exprs
+pub mod Fine
+pub mod Moves
+pub mod Patterns
+pub mod Places
+pub mod Running
+pub mod Values
+pub mod Whole
+pub mod Written

@@ -1,0 +1,11 @@
+pub mod Answers
+pub mod Cells
+pub mod Evaluations
+pub mod Kernels
+pub mod Laws
+pub mod Machines
+pub mod Operators
+pub mod Outcomes
+pub mod Parts
+pub mod Statements
+pub mod Targets

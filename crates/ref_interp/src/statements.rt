@@ -1,0 +1,298 @@
+//! Statements, run on a machine.
+ghost use Rattle.std.specs.Prelude.{◌≡◌, ◌∷◌, []};
+ghost use Rattle.c_meaning.specs.Stores.{Objects};
+ghost use Rattle.c_meaning.specs.Statements.{objects};
+ghost use Rattle.ref_interp.specs.Machines.{goes_on, left_loop, is_normal};
+ghost use Rattle.ref_interp.specs.Statements.{ExecGives, PartGives, AllGive, EnterGives, TestGives, RoundsGive, ForGives, DeclareGives, ReturnGives};
+
+use crate::expressions::eval;
+use crate::machine::{Ending, Machine, Test, put_var};
+use crate::targets::{assign, step, store, update};
+use c_ast::{Object, Typed, TypedExpr, TypedStmt, TypedStmtKind};
+use c_meaning::Profile;
+
+impl Ending {
+    /// Whether a loop goes on whose body ended so.
+    fn goes_on(self) -> bool
+        ensures { result ≡ goes_on self }
+    {
+        match self {
+            Ending::Normally | Ending::Continue => true,
+            Ending::Break | Ending::Return | Ending::Undefined | Ending::OutOfTurns => false,
+        }
+    }
+
+    /// How a loop ends whose body ended so.
+    fn left_loop(self) -> Ending
+        ensures { result ≡ left_loop self }
+    {
+        match self {
+            Ending::Break => Ending::Normally,
+            other => other,
+        }
+    }
+
+    fn is_normal(self) -> bool
+        ensures { result ≡ is_normal self }
+    {
+        match self {
+            Ending::Normally => true,
+            Ending::Break
+            | Ending::Continue
+            | Ending::Return
+            | Ending::Undefined
+            | Ending::OutOfTurns => false,
+        }
+    }
+}
+
+/// Runs a statement.
+#[cycle(exec)]
+fn exec(typed: &Typed, profile: Profile, m: &mut Machine, s: &TypedStmt) -> Ending
+    ensures { ExecGives (objects profile typed.now) typed.now.result s.now m.old result m.new }
+{
+    if !m.take(1) {
+        return Ending::OutOfTurns;
+    }
+    match &s.kind {
+        TypedStmtKind::Block(body) => {
+            enter(m, body.as_slice());
+            exec_all(typed, profile, m, body.as_slice())
+        }
+        TypedStmtKind::Declare { var, init } => declare(typed, profile, m, *var, init),
+        TypedStmtKind::Assign { target, op, value } => match op {
+            None => assign(typed, profile, m, target, value),
+            Some(op) => update(typed, profile, m, target, *op, value),
+        },
+        TypedStmtKind::Step { target, up } => step(typed, profile, m, target, *up),
+        TypedStmtKind::If { cond, then, other } => match tested(typed, profile, m, cond) {
+            Test::Holds => part(typed, profile, m, then.get()),
+            Test::Fails => match other {
+                None => Ending::Normally,
+                Some(other) => part(typed, profile, m, other.get()),
+            },
+            Test::Undefined => Ending::Undefined,
+            Test::OutOfTurns => Ending::OutOfTurns,
+        },
+        TypedStmtKind::While { cond, body } => rounds(typed, profile, m, body.get(), cond),
+        TypedStmtKind::DoWhile { body, cond } => {
+            let ending = part(typed, profile, m, body.get());
+            if !ending.goes_on() {
+                return ending.left_loop();
+            }
+            rounds(typed, profile, m, body.get(), cond)
+        }
+        TypedStmtKind::For {
+            first,
+            cond: _,
+            step: _,
+            body: _,
+        } => {
+            enter(m, first.as_slice());
+            let ending = exec_all(typed, profile, m, first.as_slice());
+            if !ending.is_normal() {
+                return ending;
+            }
+            for_rounds(typed, profile, m, s)
+        }
+        TypedStmtKind::Break => Ending::Break,
+        TypedStmtKind::Continue => Ending::Continue,
+        TypedStmtKind::Return(value) => give(typed, profile, m, value),
+        TypedStmtKind::Empty => Ending::Normally,
+    }
+}
+
+/// Runs statements in order.
+#[cycle(exec)]
+pub(crate) fn exec_all(
+    typed: &Typed,
+    profile: Profile,
+    m: &mut Machine,
+    stmts: &[TypedStmt],
+) -> Ending
+    ensures { AllGive (objects profile typed.now) typed.now.result stmts.now m.old result m.new }
+{
+    for stmt in stmts {
+        let ending = exec(typed, profile, m, stmt);
+        if !ending.is_normal() {
+            return ending;
+        }
+    }
+    Ending::Normally
+}
+
+/// Runs a part of an `if`, the body of a loop or the step of a `for`, which is a block.
+#[cycle(exec)]
+fn part(typed: &Typed, profile: Profile, m: &mut Machine, s: &TypedStmt) -> Ending
+    ensures { PartGives (objects profile typed.now) typed.now.result s.now m.old result m.new }
+{
+    enter_one(m, s);
+    exec(typed, profile, m, s)
+}
+
+/// A loop without a step, from its condition on.
+#[cycle(exec)]
+fn rounds(
+    typed: &Typed,
+    profile: Profile,
+    m: &mut Machine,
+    body: &TypedStmt,
+    cond: &TypedExpr,
+) -> Ending
+    ensures { RoundsGive (objects profile typed.now) typed.now.result body.now cond.now m.old
+        result m.new }
+{
+    let most_rounds = m.left.saturating_add(1);
+    for i in 0..most_rounds {
+        match tested(typed, profile, m, cond) {
+            Test::Holds => {}
+            Test::Fails => return Ending::Normally,
+            Test::Undefined => return Ending::Undefined,
+            Test::OutOfTurns => return Ending::OutOfTurns,
+        }
+        let ending = part(typed, profile, m, body);
+        if !ending.goes_on() {
+            return ending.left_loop();
+        }
+    }
+    Ending::OutOfTurns
+}
+
+/// A `for`, from its condition on.
+#[cycle(exec)]
+fn for_rounds(typed: &Typed, profile: Profile, m: &mut Machine, s: &TypedStmt) -> Ending
+    ensures { ForGives (objects profile typed.now) typed.now.result s.now m.old result m.new }
+{
+    let TypedStmtKind::For {
+        first: _,
+        cond,
+        step,
+        body,
+    } = &s.kind
+    else {
+        return Ending::Normally;
+    };
+    let most_rounds = m.left.saturating_add(1);
+    for i in 0..most_rounds {
+        match tested_if_any(typed, profile, m, cond) {
+            Test::Holds => {}
+            Test::Fails => return Ending::Normally,
+            Test::Undefined => return Ending::Undefined,
+            Test::OutOfTurns => return Ending::OutOfTurns,
+        }
+        let ending = part(typed, profile, m, body.get());
+        if !ending.goes_on() {
+            return ending.left_loop();
+        }
+        if let Some(step) = step {
+            let ending = part(typed, profile, m, step.get());
+            if !ending.is_normal() {
+                return ending;
+            }
+        }
+    }
+    Ending::OutOfTurns
+}
+
+/// Makes the variables that statements declare themselves new objects without a value.
+pub(crate) fn enter(m: &mut Machine, stmts: &[TypedStmt])
+    ensures { (k : Objects) → EnterGives k stmts.now m.old m.new }
+{
+    for stmt in stmts {
+        enter_one(m, stmt);
+    }
+}
+
+/// The same of one statement.
+fn enter_one(m: &mut Machine, stmt: &TypedStmt)
+    ensures { (k : Objects) → EnterGives k (stmt.now ∷ []) m.old m.new }
+{
+    match &stmt.kind {
+        TypedStmtKind::Declare { var, init: _ } => put_var(&mut m.cells.vars, *var, None),
+        _ => {}
+    }
+}
+
+/// A condition with its turn.
+fn tested(typed: &Typed, profile: Profile, m: &mut Machine, cond: &TypedExpr) -> Test
+    ensures { TestGives (objects profile typed.now) typed.now.result (Some cond.now) m.old
+        result m.new }
+{
+    if !m.take(1) {
+        return Test::OutOfTurns;
+    }
+    m.trace.start();
+    let x = eval(typed, profile, &m.cells, &mut m.trace, cond);
+    if m.trace.failed {
+        return Test::Undefined;
+    }
+    if !m.take(m.trace.turns) {
+        return Test::OutOfTurns;
+    }
+    if x == 0 { Test::Fails } else { Test::Holds }
+}
+
+/// The same of a condition that may be absent, and then holds.
+fn tested_if_any(typed: &Typed, profile: Profile, m: &mut Machine, cond: &Option<TypedExpr>) -> Test
+    ensures { TestGives (objects profile typed.now) typed.now.result cond.now m.old result m.new }
+{
+    match cond {
+        Some(cond) => tested(typed, profile, m, cond),
+        None => {
+            if m.take(1) {
+                Test::Holds
+            } else {
+                Test::OutOfTurns
+            }
+        }
+    }
+}
+
+/// The declaration of a variable.
+fn declare(
+    typed: &Typed,
+    profile: Profile,
+    m: &mut Machine,
+    var: u32,
+    init: &Option<TypedExpr>,
+) -> Ending
+    ensures { DeclareGives (objects profile typed.now) typed.now.result var init.now m.old
+        result m.new }
+{
+    match init {
+        None => {
+            put_var(&mut m.cells.vars, var, None);
+            Ending::Normally
+        }
+        Some(value) => {
+            m.trace.start();
+            let x = eval(typed, profile, &m.cells, &mut m.trace, value);
+            store(typed, m, Object::Var(var), 0, value.ty, x)
+        }
+    }
+}
+
+/// `return`, with a value or without.
+fn give(typed: &Typed, profile: Profile, m: &mut Machine, value: &Option<TypedExpr>) -> Ending
+    ensures { ReturnGives (objects profile typed.now) typed.now.result value.now m.old result
+        m.new }
+{
+    match value {
+        None => {
+            m.value = None;
+            Ending::Return
+        }
+        Some(value) => {
+            m.trace.start();
+            let x = eval(typed, profile, &m.cells, &mut m.trace, value);
+            if m.trace.failed {
+                return Ending::Undefined;
+            }
+            if !m.take(m.trace.turns) {
+                return Ending::OutOfTurns;
+            }
+            m.value = Some(x);
+            Ending::Return
+        }
+    }
+}
