@@ -1,0 +1,23 @@
+-- How many cycles a run takes.
+use Rattle.std.specs.Prelude.{◌≢◌, ℕ, ◌+◌, ◌*◌, ◌≤◌, List, [], ◌∷◌, length}
+use Rattle.net_types.specs.declared.net.Net.{Net}
+use Rattle.net_types.specs.declared.firing.Firing.{Firing}
+use Rattle.net_types.specs.declared.firing.Inputs.{Inputs}
+use Rattle.net_types.specs.Nets.{chan_at}
+use Rattle.cycle_engine.specs.Cycles.{Dated, Cycles, dated_opening}
+
+-- how many firings the cycles have together
+abbrev pub firing_count : List (List Firing) → ℕ
+firing_count [] = 0
+firing_count (fs ∷ fss) = length fs + firing_count fss
+
+-- the last cycle has a firing
+abbrev pub EndsFiring : List (List Firing) → Type 0
+EndsFiring [] = Unit {0}
+EndsFiring (fs ∷ []) = fs ≢ []
+EndsFiring (fs ∷ gs ∷ fss) = EndsFiring (gs ∷ fss)
+
+-- cycles that end with a firing are at most the firings, each times one more than the greatest delay
+abbrev pub CyclesBound : Type 0
+CyclesBound = (net : Net) (inputs : Inputs) (fss : List (List Firing)) (t : Dated) (most : ℕ)
+    → ((d : ℕ) → (chan_at net d).delay ≤ most) → Cycles net 0 (dated_opening net inputs) fss t → EndsFiring fss → length fss ≤ firing_count fss * (most + 1)

@@ -1,0 +1,4 @@
+pub mod Cycles
+pub mod Rousing
+pub mod Bounds
+pub mod Worked

@@ -1,0 +1,12 @@
+use crate::{
+    cycles_are_few, firings_rouse, firings_rouse_their_unit, next_cycles_rouse, worked_net_cycles,
+};
+
+#[test]
+fn laws_are_called() {
+    firings_rouse();
+    firings_rouse_their_unit();
+    next_cycles_rouse();
+    cycles_are_few();
+    worked_net_cycles();
+}
