@@ -1,0 +1,4 @@
+pub mod CommandLemmas
+pub mod Fronts
+pub mod ItemLemmas
+pub mod Moves

@@ -1,0 +1,5 @@
+pub mod Commands
+pub mod Items
+pub mod Steps
+pub mod Tables
+pub mod Values

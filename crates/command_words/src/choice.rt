@@ -1,0 +1,158 @@
+//! The options.
+ghost use Rattle.std.specs.Prelude.{◌≡◌, ℕ, List, ◌++◌, ◌∷◌, Some, IfSome, IsNone};
+ghost use Rattle.command_words.specs.declared.choice.Choice.{Choice};
+ghost use Rattle.command_words.specs.Tables.{choice_word, kind_of, choices_of, built_choices, is_in, is_own};
+
+use crate::verb::Verb;
+use el_base::{MAX_FIRINGS, MAX_SLOTS, MAX_WORKERS};
+
+/// An option.
+#[derive(Clone, Copy, Debug, PartialEq, Eq)]
+pub enum Choice {
+    Delay,
+    Slots,
+    Workers,
+    Limit,
+    Turns,
+    At,
+    Count,
+    Cycles,
+    Log,
+    Forward,
+    Wrap,
+}
+
+/// What the value of an option is.
+#[derive(Clone, Copy, Debug, PartialEq, Eq)]
+pub enum ValueKind {
+    /// There is none.
+    Flag,
+    /// A number from the first to the second.
+    Number(u64, u64),
+    /// A list of delays.
+    Delays,
+}
+
+/// A class of units that have a delay.
+#[derive(Clone, Copy, Debug, PartialEq, Eq)]
+pub enum Class {
+    Logic,
+    Mul,
+    Div,
+    Read,
+    Lsq,
+}
+
+/// The delay of a class, in cycles.
+#[derive(Clone, Copy, Debug, PartialEq, Eq)]
+pub struct ClassDelay {
+    pub class: Class,
+    pub cycles: u64,
+}
+
+/// The greatest limit of a run by workers or with a log, in firings.
+pub const MAX_SHARED_FIRINGS: u64 = 16_000_000;
+
+/// All options.
+pub const CHOICES: [Choice; 11] = [
+    Choice::Delay,
+    Choice::Slots,
+    Choice::Workers,
+    Choice::Limit,
+    Choice::Turns,
+    Choice::At,
+    Choice::Count,
+    Choice::Cycles,
+    Choice::Log,
+    Choice::Forward,
+    Choice::Wrap,
+];
+
+impl Choice {
+    /// The word of the option.
+    pub fn word(self) -> &'static str
+        ensures { result.now ≡ choice_word self }
+    {
+        match self {
+            Choice::Delay => "--delay",
+            Choice::Slots => "--slots",
+            Choice::Workers => "--workers",
+            Choice::Limit => "--limit",
+            Choice::Turns => "--turns",
+            Choice::At => "--at",
+            Choice::Count => "--count",
+            Choice::Cycles => "--cycles",
+            Choice::Log => "--log",
+            Choice::Forward => "--forward",
+            Choice::Wrap => "--wrap",
+        }
+    }
+
+    /// What its value is.
+    pub fn kind(self) -> ValueKind
+        ensures { result ≡ kind_of self }
+    {
+        match self {
+            Choice::Delay => ValueKind::Delays,
+            Choice::Slots => ValueKind::Number(1, u64::from(MAX_SLOTS)),
+            Choice::Workers => ValueKind::Number(1, u64::from(MAX_WORKERS)),
+            Choice::Limit | Choice::Turns => ValueKind::Number(1, MAX_FIRINGS),
+            Choice::At => ValueKind::Number(0, MAX_FIRINGS),
+            Choice::Count | Choice::Cycles | Choice::Log => ValueKind::Flag,
+            Choice::Forward | Choice::Wrap => ValueKind::Flag,
+        }
+    }
+
+    /// Whether it is an option of the command that is built.
+    pub fn is_own(self, verb: Verb) -> bool
+        ensures { result ≡ is_own verb self }
+    {
+        self.is_in(choices(verb)) && self.is_in(built_choices(verb))
+    }
+
+    fn is_in(self, choices: &[Choice]) -> bool
+        ensures { result ≡ is_in self choices.now }
+    {
+        choices.iter().any(|choice| self.word() == choice.word())
+    }
+}
+
+/// The options of a command.
+pub fn choices(verb: Verb) -> &'static [Choice]
+    ensures { result.now ≡ choices_of verb }
+{
+    match verb {
+        Verb::Compile => &[Choice::Delay, Choice::Slots, Choice::Forward, Choice::Wrap],
+        Verb::Go => &[
+            Choice::Delay,
+            Choice::Slots,
+            Choice::Workers,
+            Choice::Limit,
+            Choice::Count,
+            Choice::Cycles,
+            Choice::Forward,
+            Choice::Wrap,
+        ],
+        Verb::Run => &[
+            Choice::Workers,
+            Choice::Limit,
+            Choice::Count,
+            Choice::Cycles,
+            Choice::Log,
+        ],
+        Verb::Replay | Verb::Bench | Verb::Upgrade => &[],
+        Verb::Ref => &[Choice::Wrap, Choice::Turns, Choice::Count],
+        Verb::Save => &[Choice::At],
+        Verb::Resume => &[Choice::Limit, Choice::Count],
+    }
+}
+
+/// Those of its options that are built.
+pub fn built_choices(verb: Verb) -> &'static [Choice]
+    ensures { result.now ≡ built_choices verb }
+{
+    match verb {
+        Verb::Compile | Verb::Go | Verb::Run | Verb::Replay | Verb::Bench => &[],
+        Verb::Upgrade | Verb::Ref | Verb::Save | Verb::Resume => &[],
+    }
+}

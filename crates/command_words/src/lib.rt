@@ -1,0 +1,20 @@
+//! The words of a command line: what they spell, as one definition for every command and option, and its reading.
+#![tactic(auto)]
+
+mod choice;
+mod command;
+mod items;
+mod laws;
+mod reading;
+#[cfg(test)]
+mod tests;
+mod values;
+mod verb;
+
+pub use choice::{
+    CHOICES, Choice, Class, ClassDelay, MAX_SHARED_FIRINGS, ValueKind, built_choices, choices,
+};
+pub use command::{Chosen, Command};
+pub use laws::words_spell_one_command;
+pub use reading::read_words;
+pub use verb::{PlainKind, VERBS, Verb};
