@@ -1,4 +1,6 @@
+pub mod AnswerLemmas
+pub mod CallLemmas
 pub mod Cuts
-pub mod FaultLemmas
-pub mod Three
-pub mod straight_path
+pub mod PieceLemmas
+pub mod PlanLemmas
+pub mod ReadingLemmas

@@ -1,120 +1,73 @@
--- What is known of the files and of the text where a call of `go` ends.
-use Rattle.std.specs.Prelude.{◌≡◌, ◌≢◌, ◌≤◌, ℕ, List, Option, Result, Ok, Err}
-use Rattle.el_io.specs.Outside.{Told, Rose, IsHeld, IsWhole, MayPass, IsCut}
-use Rattle.std.specs.Io.KnownBytes.{append_known}
+-- Why a call ended as it did.
+use Rattle.std.specs.Prelude.{◌≡◌, ◌≢◌, ◌≤◌, ℕ, List, [], ◌∷◌, length, Result, Ok, Err}
+use Rattle.std.specs.List.{concat}
+use Rattle.el_io.specs.Outside.{Told, IsHeld}
+use Rattle.command_words.specs.Tables.{Text}
+use Rattle.command_words.specs.Commands.{Asked}
+use Rattle.elastic_top.specs.Files.{Wanted, files_of}
+use Rattle.elastic_top.specs.Reading.{AreHeld, IsUnread, IsTooLong}
+use Rattle.elastic_top.specs.Answers.{Answers}
+use Rattle.elastic_top.specs.Faults.{refusal_code, refusal_parts, unread_parts, long_parts}
 use Rattle.elastic_top.specs.declared.fault.Fault.{Fault}
-use Rattle.elastic_top.specs.declared.fault.Fault.TheVariants.{Usage, Read, Write, Kernel, Inputs, Memory, TooLong}
-use Rattle.elastic_top.specs.Faults.{fault_code, fault_line, IsTold}
-use Rattle.elastic_top.specs.straight.Answers.{IsAnswer, SpellsNothing, SpellsNoInputs}
-use Rattle.el_base.specs.Limits.{max_kernel_bytes, max_inputs_bytes}
+use Rattle.elastic_top.specs.declared.fault.Refusal.{Refusal}
+use Rattle.elastic_top.specs.declared.fault.Fault.TheVariants as fault
 
--- the status of a part: 0, or that of its fault
-abbrev pub code_of : {A : Type 0} → Result A Fault → ℕ
-code_of (Ok x) = 0
-code_of (Err f) = fault_code f
+-- the command's files hold contents for which it answers a text, and that text was written so
+pub record Writes (holds : Text → Told) (c : Asked) (Written : Text → Type 0) : Type 0 where
+  pub contents : List Text
+  pub held : AreHeld holds (files_of c) contents
+  pub text : Text
+  pub answer : Answers c contents (Ok text)
+  pub written : Written text
 
--- a text is what `go` prints for the bytes of the two files, which hold them where they tell
-pub record Prints (kernel inputs : Told) (text : List ℕ) : Type 0 where
-  pub kernel_bytes : List ℕ
-  pub input_bytes : List ℕ
-  pub kernel_held : IsWhole kernel max_kernel_bytes kernel_bytes
-  pub inputs_held : IsWhole inputs max_inputs_bytes input_bytes
-  pub answer : IsAnswer kernel_bytes input_bytes text
+-- a file that is reached could not be read; the line names it
+pub record Unread (holds : Text → Told) (steady : Type 0) (c : Asked) (Tells : Text → Type 0) : Type 0 where
+  pub name : Text
+  pub cause : IsUnread holds steady (files_of c) name
+  pub told : Tells (concat (unread_parts name))
 
--- the kernel file's bytes spell no kernel
-pub record RefusesKernel (kernel : Told) : Type 0 where
-  pub kernel_bytes : List ℕ
-  pub kernel_held : IsWhole kernel max_kernel_bytes kernel_bytes
-  pub none : SpellsNothing kernel_bytes
+-- a file that is reached is longer than its limit; the line names it
+pub record TooLong (holds : Text → Told) (long : ℕ) (c : Asked) (Tells : Text → Type 0) : Type 0 where
+  pub name : Text
+  pub cause : IsTooLong holds long (files_of c) name
+  pub told : Tells (concat (long_parts name))
 
--- the kernel file's bytes spell a kernel, and the inputs file's bytes are not its inputs
-pub record RefusesInputs (kernel inputs : Told) : Type 0 where
-  pub kernel_bytes : List ℕ
-  pub input_bytes : List ℕ
-  pub kernel_held : IsWhole kernel max_kernel_bytes kernel_bytes
-  pub inputs_held : IsWhole inputs max_inputs_bytes input_bytes
-  pub none : SpellsNoInputs kernel_bytes input_bytes
+-- the command's files hold contents that it refuses so
+pub record IsRefused (holds : Text → Told) (c : Asked) (refusal : Refusal) : Type 0 where
+  pub contents : List Text
+  pub held : AreHeld holds (files_of c) contents
+  pub answer : Answers c contents (Err refusal)
 
--- the output has grown by the whole text that `go` prints for the files
-pub record Written (kernel inputs : Told) (before now : Option (List ℕ)) : Type 0 where
-  pub text : List ℕ
-  pub prints : Prints kernel inputs text
-  pub grown : now ≡ append_known before text
+-- a refusal of the command has this status; its line was told
+pub record RefusesWith (holds : Text → Told) (c : Asked) (code : ℕ) (Tells : Text → Type 0) : Type 0 where
+  pub refusal : Refusal
+  pub cause : IsRefused holds c refusal
+  pub status : code ≡ refusal_code refusal
+  pub told : Tells (concat (refusal_parts refusal))
 
--- the output has grown by a proper prefix of it
-pub record Cut (kernel inputs : Told) (before now : Option (List ℕ)) : Type 0 where
-  pub text : List ℕ
-  pub prints : Prints kernel inputs text
-  pub cut : IsCut before now text
+-- why a call of the command ends with this fault
+abbrev pub IsCauseOf : (Text → Told) → Type 0 → ℕ → (Text → Type 0) → Asked → Fault → Type 0
+IsCauseOf holds steady long Cut c fault.Usage = ⊥
+IsCauseOf holds steady long Cut c (fault.Read name) = IsUnread holds steady (files_of c) name.now
+IsCauseOf holds steady long Cut c (fault.TooLong name) = IsTooLong holds long (files_of c) name.now
+IsCauseOf holds steady long Cut c fault.Write = Writes holds c Cut
+IsCauseOf holds steady long Cut c fault.Memory = Unit {0}
+IsCauseOf holds steady long Cut c (fault.Refused refusal) = IsRefused holds c refusal
 
--- what a status tells of the counts of the files, which never fall: at 2 a read failed, and at 12 alone a file was too long
-pub record Counts (code faults faults' longs longs' : ℕ) : Type 0 where
-  pub read : code ≡ 2 → Rose faults faults'
-  pub long : code ≡ 12 → Rose longs longs'
-  pub others : code ≢ 12 → longs' ≡ longs
-  pub later : faults ≤ faults'
-  pub longs_later : longs ≤ longs'
+-- a status that no words, no device and no want of memory give
+abbrev pub IsOwn : ℕ → Type 0
+IsOwn code = (code ≢ 0) × (code ≢ 1) × (code ≢ 2) × (code ≢ 3) × (code ≢ 11) × (code ≢ 12)
 
--- a status where reading the files ends: neither that of the output nor that of a refused text
-pub record IsOfReading (code : ℕ) : Type 0 where
-  pub no_write : code ≢ 3
-  pub no_kernel : code ≢ 4
-  pub no_inputs : code ≢ 6
+-- it is told that the files hold these contents, within their limits
+abbrev pub AreKept : (Text → Told) → List Wanted → List Text → Type 0
+AreKept holds [] [] = Unit {0}
+AreKept holds [] (bytes ∷ contents) = ⊥
+AreKept holds (file ∷ files) [] = ⊥
+AreKept holds (file ∷ files) (bytes ∷ contents) = IsHeld (holds file.name) bytes × (length bytes ≤ file.limit) × AreKept holds files contents
 
--- no bytes are told to be held
-abbrev pub IsUnheld : Told → Type 0
-IsUnheld file = (bytes : List ℕ) → IsHeld file bytes → ⊥
-
--- a file was read whole
-pub record IsRead (file : Told) (limit : ℕ) : Type 0 where
-  pub bytes : List ℕ
-  pub whole : IsWhole file limit bytes
-
--- What is known of the files k and i of `go`, where `holds` is what stands under a name.
-module _ (holds : List ℕ → Told) (k i : List ℕ) where
-  -- the file that was not read, which is not held where held files are read without fail; the kernel is read first
-  pub data IsUnread (steady : Type 0) : List ℕ → Type 0 where
-    kernel_unread : (steady → IsUnheld (holds k)) → IsUnread steady k
-    inputs_unread : IsRead (holds k) max_kernel_bytes → (steady → IsUnheld (holds i)) → IsUnread steady i
-
-  -- the file that passes its limit, with the limit as it was noted; the kernel is read first
-  pub data IsTooLong : ℕ → List ℕ → Type 0 where
-    kernel_passes : MayPass (holds k) max_kernel_bytes → IsTooLong max_kernel_bytes k
-    inputs_pass : IsRead (holds k) max_kernel_bytes → MayPass (holds i) max_inputs_bytes → IsTooLong max_inputs_bytes i
-
-  -- a fault of `go`: it names the right file
-  abbrev pub IsGoFault : Type 0 → ℕ → Fault → Type 0
-  IsGoFault steady long Usage = ⊥
-  IsGoFault steady long (Read file) = IsUnread steady file.now
-  IsGoFault steady long Write = Unit {0}
-  IsGoFault steady long (Kernel file) = file.now ≡ k
-  IsGoFault steady long (Inputs file) = file.now ≡ i
-  IsGoFault steady long Memory = Unit {0}
-  IsGoFault steady long (TooLong file) = IsTooLong long file.now
-
--- a fault of reading the file of this name, which holds `file`
-abbrev pub IsReadFault : Told → List ℕ → ℕ → Type 0 → ℕ → Fault → Type 0
-IsReadFault file name limit steady long Usage = ⊥
-IsReadFault file name limit steady long (Read named) = (named.now ≡ name) × (steady → IsUnheld file)
-IsReadFault file name limit steady long Write = ⊥
-IsReadFault file name limit steady long (Kernel named) = ⊥
-IsReadFault file name limit steady long (Inputs named) = ⊥
-IsReadFault file name limit steady long Memory = Unit {0}
-IsReadFault file name limit steady long (TooLong named) = (named.now ≡ name) × MayPass file limit × (long ≡ limit)
-
--- a fault of making the text
-abbrev pub IsTextFault : List ℕ → List ℕ → Fault → Type 0
-IsTextFault kernel inputs Usage = ⊥
-IsTextFault kernel inputs (Read file) = ⊥
-IsTextFault kernel inputs Write = ⊥
-IsTextFault kernel inputs (Kernel file) = file.now ≡ kernel
-IsTextFault kernel inputs (Inputs file) = file.now ≡ inputs
-IsTextFault kernel inputs Memory = Unit {0}
-IsTextFault kernel inputs (TooLong file) = ⊥
-
--- the error output has been told the line of a fault with this status and this cause
-pub record TellsLine (code : ℕ) (IsCause : Fault → Type 0) (before now : Option (List ℕ)) (faults faults' : ℕ) : Type 0 where
-  pub fault : Fault
-  pub cause : IsCause fault
-  pub status : code ≡ fault_code fault
-  pub told : IsTold before now faults faults' (fault_line fault)
+-- the files are steady and hold contents for which the command has no refusal
+pub record AreSound (holds : Text → Told) (steady : Type 0) (c : Asked) : Type 0 where
+  pub steady_files : steady
+  pub contents : List Text
+  pub kept : AreKept holds (files_of c) contents
+  pub none : (refusal : Refusal) → Answers c contents (Err refusal) → ⊥

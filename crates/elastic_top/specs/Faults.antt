@@ -1,33 +1,86 @@
 -- What a call that printed nothing says: its status and its line on the error output.
-use Rattle.std.specs.Prelude.{◌≡◌, ◌⊎◌, ℕ, List, [], ◌∷◌, ◌++◌, Option, codes}
+use Rattle.std.specs.Prelude.{◌≡◌, ◌⊎◌, ℕ, List, [], ◌∷◌, Option, Some, None, codes, decimal}
+use Rattle.std.specs.List.{concat}
 use Rattle.std.specs.Io.KnownBytes.{append_known}
 use Rattle.el_io.specs.Outside.{Rose, IsCut}
+use Rattle.net_text.specs.Refusals.{refusal_text as text_label, refusal_line as text_line}
+use Rattle.net_check.specs.Refusals.{refusal_text as rule_label, refusal_at as rule_at}
+use Rattle.net_check.specs.declared.refusal.At.{At}
+use Rattle.net_check.specs.declared.refusal.At.TheVariants as at
 use Rattle.elastic_top.specs.declared.fault.Fault.{Fault}
-use Rattle.elastic_top.specs.declared.fault.Fault.TheVariants.{Usage, Read, Write, Kernel, Inputs, Memory, TooLong}
+use Rattle.elastic_top.specs.declared.fault.Fault.TheVariants.{Usage, Read, Write, Memory, TooLong, Refused}
+use Rattle.elastic_top.specs.declared.fault.Refusal.{Refusal}
+use Rattle.elastic_top.specs.declared.fault.Refusal.TheVariants.{StraightKernel, StraightInputs, NetText, NetRule}
+
+-- ---- refusals
+
+-- the status of a refusal
+abbrev pub refusal_code : Refusal → ℕ
+refusal_code (StraightKernel file) = 4
+refusal_code (StraightInputs file) = 6
+refusal_code (NetText file r) = 5
+refusal_code (NetRule file r) = 5
+
+-- a line that names a file, the number and the word of a refusal, and where there is one the number of a line
+abbrev pub line_parts : List ℕ → List ℕ → Option ℕ → List (List ℕ)
+line_parts file label None = file ∷ codes ": " ∷ label ∷ codes "\n" ∷ []
+line_parts file label (Some n) = file ∷ codes ": " ∷ label ∷ codes " " ∷ decimal n ∷ codes "\n" ∷ []
+
+-- and a line that names a unit, a channel or the net
+abbrev pub part_parts : List ℕ → List ℕ → List ℕ → ℕ → List (List ℕ)
+part_parts file label part n = file ∷ codes ": " ∷ label ∷ part ∷ decimal n ∷ codes "\n" ∷ []
+
+abbrev pub place_parts : List ℕ → List ℕ → Option At → List (List ℕ)
+place_parts file label None = file ∷ codes ": " ∷ label ∷ codes "\n" ∷ []
+place_parts file label (Some (at.Unit u)) = part_parts file label (codes " unit ") u
+place_parts file label (Some (at.Chan c)) = part_parts file label (codes " chan ") c
+place_parts file label (Some at.Net) = file ∷ codes ": " ∷ label ∷ codes " net\n" ∷ []
+
+-- the line of a refusal in parts, with the line feed; a file is named by the word that named it
+abbrev pub refusal_parts : Refusal → List (List ℕ)
+refusal_parts (StraightKernel file) = file.now ∷ codes ": 19 NotYet\n" ∷ []
+refusal_parts (StraightInputs file) = file.now ∷ codes ": 59 NotYet\n" ∷ []
+refusal_parts (NetText file r) = line_parts file.now (text_label r) (text_line r)
+refusal_parts (NetRule file r) = place_parts file.now (rule_label r) (rule_at r)
+
+-- ---- faults
 
 -- the status of a fault
 abbrev pub fault_code : Fault → ℕ
 fault_code Usage = 1
 fault_code (Read file) = 2
 fault_code Write = 3
-fault_code (Kernel file) = 4
-fault_code (Inputs file) = 6
 fault_code Memory = 11
 fault_code (TooLong file) = 12
+fault_code (Refused refusal) = refusal_code refusal
 
--- the statuses of all calls: that of a call that is done, and those of faults
-abbrev pub statuses : List ℕ
-statuses = 0 ∷ (1 ∷ (2 ∷ (3 ∷ (4 ∷ (6 ∷ (11 ∷ (12 ∷ [])))))))
+-- the lines of the outside
+abbrev pub unread_parts : List ℕ → List (List ℕ)
+unread_parts name = codes "elastic: cannot read " ∷ name ∷ codes "\n" ∷ []
 
--- its line, with the line feed; a file is named by the word that named it
+abbrev pub long_parts : List ℕ → List (List ℕ)
+long_parts name = codes "elastic: " ∷ name ∷ codes " is too long\n" ∷ []
+
+abbrev pub usage_line : List ℕ
+usage_line = codes "elastic: the words are no command\n"
+
+abbrev pub write_line : List ℕ
+write_line = codes "elastic: cannot write\n"
+
+abbrev pub memory_line : List ℕ
+memory_line = codes "elastic: want of memory\n"
+
+-- the line of a fault, in parts
+abbrev pub fault_parts : Fault → List (List ℕ)
+fault_parts Usage = usage_line ∷ []
+fault_parts (Read file) = unread_parts file.now
+fault_parts Write = write_line ∷ []
+fault_parts Memory = memory_line ∷ []
+fault_parts (TooLong file) = long_parts file.now
+fault_parts (Refused refusal) = refusal_parts refusal
+
 abbrev pub fault_line : Fault → List ℕ
-fault_line Usage = codes "elastic: the words are no command" ++ 10 ∷ []
-fault_line (Read file) = codes "elastic: cannot read " ++ file.now ++ 10 ∷ []
-fault_line Write = codes "elastic: cannot write" ++ 10 ∷ []
-fault_line (Kernel file) = file.now ++ (codes ": 19 NotYet" ++ 10 ∷ [])
-fault_line (Inputs file) = file.now ++ (codes ": 59 NotYet" ++ 10 ∷ [])
-fault_line Memory = codes "elastic: want of memory" ++ 10 ∷ []
-fault_line (TooLong file) = codes "elastic: " ++ file.now ++ (codes " is too long" ++ 10 ∷ [])
+fault_line fault = concat (fault_parts fault)
 
 -- a sink has grown by exactly the line, or by a proper prefix of it, which comes only where its count of faults rose
 abbrev pub IsTold : Option (List ℕ) → Option (List ℕ) → ℕ → ℕ → List ℕ → Type 0

@@ -1,4 +1,7 @@
+pub mod Answers
 pub mod Causes
 pub mod Faults
-pub mod Words
-pub mod straight
+pub mod Files
+pub mod Lines
+pub mod Reading
+pub mod Statuses

@@ -1,10 +1,41 @@
-ghost use Rattle.std.specs.Prelude.{◌≡◌, ◌++◌, ◌∷◌, [], ◌≤◌, OnOk, OnErr};
-ghost use Rattle.std.specs.Io.KnownBytes.{append_known};
-ghost use Rattle.el_io.specs.Outside.{Rose, IsCut};
-ghost use Rattle.elastic_top.specs.Faults.{fault_code, fault_line, IsTold};
+//! Why a call printed nothing, or not all.
+ghost use Rattle.std.specs.Prelude.{◌≡◌};
+ghost use Rattle.std.specs.List.{concat};
+ghost use Rattle.el_base.specs.Labels.{printed};
+ghost use Rattle.net_text.specs.Refusals.{refusal_text as text_label};
+ghost use Rattle.net_check.specs.Refusals.{refusal_text as rule_label};
+ghost use Rattle.elastic_top.specs.Faults.{fault_code, fault_line, refusal_code, refusal_parts, line_parts, part_parts, place_parts, IsTold};
 
-use crate::status::Status;
-use el_io::{Sink, WriteFault, write_all};
+use crate::line::{Piece, write_line};
+use el_base::Label;
+use el_io::Sink;
+use net_check::{At, NetRefusal};
+use net_text::TextRefusal;
+
+/// Why a command has no text for the contents of its files; a file is named by its word.
+#[derive(Clone, Copy, Debug, PartialEq, Eq)]
+pub enum Refusal<'a> {
+    /// The bytes of this file have not the form of a straight kernel.
+    StraightKernel(&'a str),
+    /// The bytes of this file have not the form of the straight kernel's inputs.
+    StraightInputs(&'a str),
+    /// The bytes of this file are no net text.
+    NetText(&'a str, TextRefusal),
+    /// The net of this file breaks a rule.
+    NetRule(&'a str, NetRefusal),
+}
+
+impl<'a> Refusal<'a> {
+    fn code(self) -> u8
+        ensures { result ≡ refusal_code self.entry }
+    {
+        match self {
+            Refusal::StraightKernel(_) => 4,
+            Refusal::StraightInputs(_) => 6,
+            Refusal::NetText(_, _) | Refusal::NetRule(_, _) => 5,
+        }
+    }
+}
 
 /// Why a call printed nothing, or not all; a file is named by its word.
 #[derive(Clone, Copy, Debug, PartialEq, Eq)]
@@ -15,79 +46,162 @@ pub enum Fault<'a> {
     Read(&'a str),
     /// The output did not take all bytes.
     Write,
-    /// The bytes of this file have not the form of a straight kernel.
-    Kernel(&'a str),
-    /// The bytes of this file have not the form of the kernel's inputs.
-    Inputs(&'a str),
     /// Memory ran out.
     Memory,
     /// This file has more bytes than its limit.
     TooLong(&'a str),
+    /// The command refuses the contents of its files.
+    Refused(Refusal<'a>),
 }
 
 impl<'a> Fault<'a> {
-    fn code(self) -> u8
+    /// The status.
+    pub fn code(self) -> u8
         ensures { result ≡ fault_code self.entry }
     {
         match self {
             Fault::Usage => 1,
             Fault::Read(_) => 2,
             Fault::Write => 3,
-            Fault::Kernel(_) => 4,
-            Fault::Inputs(_) => 6,
             Fault::Memory => 11,
             Fault::TooLong(_) => 12,
-        }
-    }
-
-    fn line(self) -> Line<'a>
-        ensures { result.front.now ++ result.file.now ++ result.back.now ≡ fault_line self.entry }
-    {
-        match self {
-            Fault::Usage => pieces("elastic: the words are no command\n", "", ""),
-            Fault::Read(file) => pieces("elastic: cannot read ", file, "\n"),
-            Fault::Write => pieces("elastic: cannot write\n", "", ""),
-            Fault::Kernel(file) => pieces("", file, ": 19 NotYet\n"),
-            Fault::Inputs(file) => pieces("", file, ": 59 NotYet\n"),
-            Fault::Memory => pieces("elastic: want of memory\n", "", ""),
-            Fault::TooLong(file) => pieces("elastic: ", file, " is too long\n"),
+            Fault::Refused(refusal) => refusal.code(),
         }
     }
 }
 
-// A line in three pieces: a file's name with what stands around it.
-#[derive(Clone, Copy)]
-struct Line<'a> {
-    front: &'static str,
-    file: &'a str,
-    back: &'static str,
+/// Writes the fault's line; a fault of the sink is no matter.
+pub fn tell<E: Sink>(err: &mut E, fault: Fault<'_>)
+    ensures { IsTold (E.written err.old) (E.written err.new) (E.faults err.old) (E.faults err.new)
+        (fault_line fault.entry) }
+{
+    match fault {
+        Fault::Usage => write_line(err, &[Piece::Text("elastic: the words are no command\n")]),
+        Fault::Read(file) => write_line(
+            err,
+            &[
+                Piece::Text("elastic: cannot read "),
+                Piece::Text(file),
+                Piece::Text("\n"),
+            ],
+        ),
+        Fault::Write => write_line(err, &[Piece::Text("elastic: cannot write\n")]),
+        Fault::Memory => write_line(err, &[Piece::Text("elastic: want of memory\n")]),
+        Fault::TooLong(file) => write_line(
+            err,
+            &[
+                Piece::Text("elastic: "),
+                Piece::Text(file),
+                Piece::Text(" is too long\n"),
+            ],
+        ),
+        Fault::Refused(refusal) => tell_refusal(err, refusal),
+    }
 }
 
-fn pieces<'a>(front: &'static str, file: &'a str, back: &'static str) -> Line<'a>
-    ensures { result.front.now ++ result.file.now ++ result.back.now
-        ≡ front.now ++ file.now ++ back.now }
+fn tell_refusal<E: Sink>(err: &mut E, refusal: Refusal<'_>)
+    ensures { IsTold (E.written err.old) (E.written err.new) (E.faults err.old) (E.faults err.new)
+        (concat (refusal_parts refusal.entry)) }
 {
-    Line { front, file, back }
+    match refusal {
+        Refusal::StraightKernel(file) => write_line(
+            err,
+            &[Piece::Text(file), Piece::Text(": 19 NotYet\n")],
+        ),
+        Refusal::StraightInputs(file) => write_line(
+            err,
+            &[Piece::Text(file), Piece::Text(": 59 NotYet\n")],
+        ),
+        Refusal::NetText(file, refused) => {
+            tell_line(err, file, text_label(refused), refused.line());
+        }
+        Refusal::NetRule(file, refused) => {
+            tell_place(err, file, rule_label(refused), refused.at());
+        }
+    }
 }
 
-// Writes the fault's line and gives its status. A fault of the sink changes no status.
-pub fn tell<E: Sink>(err: &mut E, fault: Fault<'_>) -> Status
-    ensures code { result.code ≡ fault_code fault.entry }
-    ensures told { IsTold (E.written err.old) (E.written err.new)
-        (E.faults err.old) (E.faults err.new) (fault_line fault.entry) }
+fn text_label(refused: TextRefusal) -> Label
+    ensures { printed result.number result.word.now ≡ text_label refused }
 {
-    let _ = write_line(err, fault.line());
-    Status { code: fault.code() }
+    Label {
+        number: refused.number(),
+        word: refused.word(),
+    }
 }
 
-fn write_line<E: Sink>(err: &mut E, line: Line<'_>) -> Result<(), WriteFault>
-    ensures ok { OnOk result (E.written err.new ≡ append_known (E.written err.old)
-        (line.entry.front.now ++ line.entry.file.now ++ line.entry.back.now)) }
-    ensures failed { OnErr result (Rose (E.faults err.old) (E.faults err.new)) }
-    ensures cut { OnErr result (IsCut (E.written err.old) (E.written err.new)
-        (line.entry.front.now ++ line.entry.file.now ++ line.entry.back.now)) }
+fn rule_label(refused: NetRefusal) -> Label
+    ensures { printed result.number result.word.now ≡ rule_label refused }
 {
-    write_all(err, line.front.as_bytes())?;
-    write_all(err, line.file.as_bytes())?;
-    write_all(err, line.back.as_bytes())
+    Label {
+        number: refused.number(),
+        word: refused.word(),
+    }
+}
+
+// The line of a refusal that may name a line of its file.
+fn tell_line<E: Sink>(err: &mut E, file: &str, label: Label, line: Option<u32>)
+    ensures { IsTold (E.written err.old) (E.written err.new) (E.faults err.old) (E.faults err.new)
+        (concat (line_parts file.now (printed label.number label.word.now) line)) }
+{
+    match line {
+        Some(number) => write_line(
+            err,
+            &[
+                Piece::Text(file),
+                Piece::Text(": "),
+                Piece::Labelled(label),
+                Piece::Text(" "),
+                Piece::Number(u64::from(number)),
+                Piece::Text("\n"),
+            ],
+        ),
+        None => write_line(
+            err,
+            &[
+                Piece::Text(file),
+                Piece::Text(": "),
+                Piece::Labelled(label),
+                Piece::Text("\n"),
+            ],
+        ),
+    }
+}
+
+// The line of a refusal that may name a part of a net.
+fn tell_place<E: Sink>(err: &mut E, file: &str, label: Label, place: Option<At>)
+    ensures { IsTold (E.written err.old) (E.written err.new) (E.faults err.old) (E.faults err.new)
+        (concat (place_parts file.now (printed label.number label.word.now) place)) }
+{
+    match place {
+        Some(At::Unit(unit)) => tell_part(err, file, label, " unit ", unit),
+        Some(At::Chan(chan)) => tell_part(err, file, label, " chan ", chan),
+        Some(At::Net) => write_line(
+            err,
+            &[
+                Piece::Text(file),
+                Piece::Text(": "),
+                Piece::Labelled(label),
+                Piece::Text(" net\n"),
+            ],
+        ),
+        None => tell_line(err, file, label, None),
+    }
+}
+
+fn tell_part<'a, E: Sink>(err: &mut E, file: &'a str, label: Label, part: &'a str, number: u32)
+    ensures { IsTold (E.written err.old) (E.written err.new) (E.faults err.old) (E.faults err.new)
+        (concat (part_parts file.now (printed label.number label.word.now) part.now number)) }
+{
+    write_line(
+        err,
+        &[
+            Piece::Text(file),
+            Piece::Text(": "),
+            Piece::Labelled(label),
+            Piece::Text(part),
+            Piece::Number(u64::from(number)),
+            Piece::Text("\n"),
+        ],
+    );
 }

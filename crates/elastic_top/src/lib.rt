@@ -1,17 +1,17 @@
-//! The top call: words, files and sinks to a status; and the path of straight kernels.
+//! The top call: words, files and sinks to a status.
 #![tactic(auto)]
 
+mod answer;
 mod call;
 mod fault;
-mod go;
+mod line;
 mod program;
+mod reading;
 mod status;
-mod straight;
-mod words;
+#[cfg(test)]
+mod tests;
+mod upgrade;
 
 pub use call::top;
 pub use program::run;
 pub use status::Status;
-
-#[cfg(test)]
-mod tests;

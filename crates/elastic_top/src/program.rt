@@ -1,7 +1,7 @@
 //! The body of the program: the words of the command line, the real files and streams.
 ghost use Rattle.std.specs.Prelude.{◌≡◌, Contains};
 ghost use Rattle.std.specs.Process.{exit_status};
-ghost use Rattle.elastic_top.specs.Faults.{statuses};
+ghost use Rattle.elastic_top.specs.Statuses.{statuses};
 
 use crate::call::top;
 use crate::fault::{Fault, tell};
@@ -38,7 +38,10 @@ where
             let mut files = HostFiles::new(rt);
             top(rt, rt.alloc(), &words, &mut files, out, err, &Open)
         }
-        Err(fault) => tell(err, fault),
+        Err(fault) => {
+            tell(err, fault);
+            Status { code: fault.code() }
+        }
     }
 }
 

@@ -1,4 +1,4 @@
-/// How a call ended: 0 done, 1 usage, 2 read fault, 3 write fault, 4 kernel refused, 6 inputs refused,
+/// How a call ended: 0 done, 1 usage, 2 read fault, 3 write fault, 4 kernel refused, 5 net refused, 6 inputs refused,
 /// 11 want of memory, 12 file too long.
 #[derive(Clone, Copy, Debug, PartialEq, Eq)]
 pub struct Status {

@@ -1,6 +1,5 @@
 //! The top call on files and sinks in memory.
 
-use crate::straight::reader::one_kernel_per_text;
 use crate::top;
 use el_io::{MemFiles, MemSink, Open};
 use std::alloc::Global;
@@ -64,7 +63,6 @@ fn prints_a_net_and_the_result(rt: HostRuntime) -> Result<(), Fail> {
     assert!(rt; outcome.err.is_empty());
     assert!(rt; outcome.out.as_str().starts_with("elastic 2\nkernel f\n"));
     assert!(rt; outcome.out.as_str().ends_with("\nend\n%%\nreturn = -15\n"));
-    one_kernel_per_text();
     Ok(())
 }
 

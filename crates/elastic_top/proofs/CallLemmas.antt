@@ -1,0 +1,194 @@
+-- From the fault of a call to its status, its cause and its line.
+use Rattle.std.proofs.Common.{◌≡◌, ◌≢◌, ◌≤◌, ◌<◌, ℕ, List, [], ◌∷◌, ◌++◌, length, refl, sym, ◌∙◌, ap, subst, arith, Contains, Option, Some, None}
+use Rattle.std.specs.Prelude.{Result, Ok, Err, IsTrue, true, false}
+use Rattle.std.proofs.lemmas.Bool.{false≢true}
+use Rattle.el_io.specs.Outside.{Told, IsHeld, IsWhole, MayPass, MayHold}
+use Rattle.command_words.specs.declared.verb.Verb.{Verb}
+use Rattle.command_words.specs.declared.verb.Verb.TheVariants.{Compile, Go, Run, Replay, Bench, Upgrade, Ref, Save, Resume}
+use Rattle.command_words.specs.Tables.{Text, is_built}
+use Rattle.command_words.specs.Commands.{Asked}
+use Rattle.elastic_top.specs.Files.{Wanted, files_of}
+use Rattle.elastic_top.specs.Reading.{AreHeld, IsReached, IsUnread, IsTooLong}
+use Rattle.elastic_top.specs.Answers.{Answers, AnswersBy}
+use Rattle.elastic_top.specs.Faults.{refusal_code, fault_code, fault_line, unread_parts, write_line, memory_line}
+use Rattle.elastic_top.specs.Statuses.{statuses, statuses_of}
+use Rattle.elastic_top.specs.Causes.{IsCauseOf, IsOwn, Unread, Writes, RefusesWith, AreKept, AreSound, TooLong as TooLongOf}
+use Rattle.elastic_top.specs.declared.fault.Fault.{Fault}
+use Rattle.elastic_top.specs.declared.fault.Fault.TheVariants.{Usage, Read, Write, Memory, TooLong, Refused}
+use Rattle.elastic_top.specs.declared.fault.Refusal.{Refusal}
+use Rattle.elastic_top.specs.declared.fault.Refusal.TheVariants.{StraightKernel, StraightInputs, NetText, NetRule}
+
+-- a command's own refusals have its statuses
+own : (v : Verb) (plain contents : List Text) (r : Refusal) → AnswersBy v plain contents (Err r) → Contains (statuses_of v) (refusal_code r)
+own Compile plain contents r a = absurd a
+own Go plain contents (StraightKernel f) a = (3, omega arith, refl)
+own Go plain contents (StraightInputs f) a = (4, omega arith, refl)
+own Go plain contents (NetText f x) a = absurd a
+own Go plain contents (NetRule f x) a = absurd a
+own Run plain contents r a = absurd a
+own Replay plain contents r a = absurd a
+own Bench plain contents r a = absurd a
+own Upgrade plain contents (StraightKernel f) a = absurd a
+own Upgrade plain contents (StraightInputs f) a = absurd a
+own Upgrade plain contents (NetText f x) a = (3, omega arith, refl)
+own Upgrade plain contents (NetRule f x) a = (3, omega arith, refl)
+own Ref plain contents r a = absurd a
+own Save plain contents r a = absurd a
+own Resume plain contents r a = absurd a
+
+-- each fault has one of the statuses
+refusal_status : (r : Refusal) → Contains statuses (refusal_code r)
+refusal_status (StraightKernel f) = (4, omega arith, refl)
+refusal_status (StraightInputs f) = (6, omega arith, refl)
+refusal_status (NetText f x) = (5, omega arith, refl)
+refusal_status (NetRule f x) = (5, omega arith, refl)
+
+pub any_status : (f : Fault) → Contains statuses (fault_code f)
+any_status Usage = (1, omega arith, refl)
+any_status (Read x) = (2, omega arith, refl)
+any_status Write = (3, omega arith, refl)
+any_status Memory = (7, omega arith, refl)
+any_status (TooLong x) = (8, omega arith, refl)
+any_status (Refused r) = refusal_status r
+
+-- a refusal has no status of words, of the outside or of memory
+record IsInside (code : ℕ) : Type 0 where
+  pub spelled : code ≢ 1
+  pub unread : code ≢ 2
+  pub unwritten : code ≢ 3
+  pub memory : code ≢ 11
+  pub long : code ≢ 12
+
+inside : (r : Refusal) → IsInside (refusal_code r)
+inside (StraightKernel f) = record { spelled = λ e. absurd (omega (arith, e)); unread = λ e. absurd (omega (arith, e)); unwritten = λ e. absurd (omega (arith, e)); memory = λ e. absurd (omega (arith, e)); long = λ e. absurd (omega (arith, e)) }
+inside (StraightInputs f) = record { spelled = λ e. absurd (omega (arith, e)); unread = λ e. absurd (omega (arith, e)); unwritten = λ e. absurd (omega (arith, e)); memory = λ e. absurd (omega (arith, e)); long = λ e. absurd (omega (arith, e)) }
+inside (NetText f x) = record { spelled = λ e. absurd (omega (arith, e)); unread = λ e. absurd (omega (arith, e)); unwritten = λ e. absurd (omega (arith, e)); memory = λ e. absurd (omega (arith, e)); long = λ e. absurd (omega (arith, e)) }
+inside (NetRule f x) = record { spelled = λ e. absurd (omega (arith, e)); unread = λ e. absurd (omega (arith, e)); unwritten = λ e. absurd (omega (arith, e)); memory = λ e. absurd (omega (arith, e)); long = λ e. absurd (omega (arith, e)) }
+
+-- those of the outside stand in the list of each command that is built
+pub record HasOutside (list : List ℕ) : Type 0 where
+  pub done : Contains list 0
+  pub unread : Contains list 2
+  pub unwritten : Contains list 3
+  pub memory : Contains list 11
+  pub long : Contains list 12
+
+pub outside : (v : Verb) → IsTrue (is_built v) → HasOutside (statuses_of v)
+outside Compile b = absurd (false≢true b)
+outside Go b = record { done = (0, omega arith, refl); unread = (1, omega arith, refl); unwritten = (2, omega arith, refl); memory = (5, omega arith, refl); long = (6, omega arith, refl) }
+outside Run b = absurd (false≢true b)
+outside Replay b = absurd (false≢true b)
+outside Bench b = absurd (false≢true b)
+outside Upgrade b = record { done = (0, omega arith, refl); unread = (1, omega arith, refl); unwritten = (2, omega arith, refl); memory = (4, omega arith, refl); long = (5, omega arith, refl) }
+outside Ref b = absurd (false≢true b)
+outside Save b = absurd (false≢true b)
+outside Resume b = absurd (false≢true b)
+
+module _ (holds : Text → Told) (steady : Type 0) (long : ℕ) (Cut : Text → Type 0) where
+  pub status_of : (c : Asked) (f : Fault) → IsTrue (is_built c.verb) → IsCauseOf holds steady long Cut c f → Contains (statuses_of c.verb) (fault_code f)
+  status_of c Usage b is = absurd is
+  status_of c (Read x) b is = (outside c.verb b).unread
+  status_of c Write b is = (outside c.verb b).unwritten
+  status_of c Memory b is = (outside c.verb b).memory
+  status_of c (TooLong x) b is = (outside c.verb b).long
+  status_of c (Refused r) b is = own c.verb c.plain is.contents r is.answer
+
+  pub spelled_of : (c : Asked) (f : Fault) → IsCauseOf holds steady long Cut c f → fault_code f ≢ 1
+  spelled_of c Usage is = absurd is
+  spelled_of c (Read x) is = λ e. absurd (omega (arith, e))
+  spelled_of c Write is = λ e. absurd (omega (arith, e))
+  spelled_of c Memory is = λ e. absurd (omega (arith, e))
+  spelled_of c (TooLong x) is = λ e. absurd (omega (arith, e))
+  spelled_of c (Refused r) is = (inside r).spelled
+
+  pub unread_of : (c : Asked) (f : Fault) (Tells : Text → Type 0) → IsCauseOf holds steady long Cut c f → fault_code f ≡ 2 → Tells (fault_line f) → Unread holds steady c Tells
+  unread_of c (Read x) Tells is e told = record { name = x.now; cause = is; told = told }
+  unread_of c Usage Tells is e told = absurd is
+  unread_of c Write Tells is e told = absurd (omega (arith, e))
+  unread_of c Memory Tells is e told = absurd (omega (arith, e))
+  unread_of c (TooLong x) Tells is e told = absurd (omega (arith, e))
+  unread_of c (Refused r) Tells is e told = absurd ((inside r).unread e)
+
+  pub long_of : (c : Asked) (f : Fault) (Tells : Text → Type 0) → IsCauseOf holds steady long Cut c f → fault_code f ≡ 12 → Tells (fault_line f) → TooLongOf holds long c Tells
+  long_of c (TooLong x) Tells is e told = record { name = x.now; cause = is; told = told }
+  long_of c Usage Tells is e told = absurd is
+  long_of c (Read x) Tells is e told = absurd (omega (arith, e))
+  long_of c Write Tells is e told = absurd (omega (arith, e))
+  long_of c Memory Tells is e told = absurd (omega (arith, e))
+  long_of c (Refused r) Tells is e told = absurd ((inside r).long e)
+
+  pub cut_of : (c : Asked) (f : Fault) → IsCauseOf holds steady long Cut c f → fault_code f ≡ 3 → Writes holds c Cut
+  cut_of c Write is e = is
+  cut_of c Usage is e = absurd is
+  cut_of c (Read x) is e = absurd (omega (arith, e))
+  cut_of c Memory is e = absurd (omega (arith, e))
+  cut_of c (TooLong x) is e = absurd (omega (arith, e))
+  cut_of c (Refused r) is e = absurd ((inside r).unwritten e)
+
+  pub refused_of : (c : Asked) (f : Fault) (Tells : Text → Type 0) → IsCauseOf holds steady long Cut c f → IsOwn (fault_code f) → Tells (fault_line f)
+      → RefusesWith holds c (fault_code f) Tells
+  refused_of c (Refused r) Tells is o told = record { refusal = r; cause = is; status = refl; told = told }
+  refused_of c Usage Tells is o told = absurd is
+  refused_of c (Read x) Tells is o told = absurd (o.2 refl)
+  refused_of c Write Tells is o told = absurd (o.3 refl)
+  refused_of c Memory Tells is o told = absurd (o.4 refl)
+  refused_of c (TooLong x) Tells is o told = absurd (o.5 refl)
+
+  pub unwritten_of : (c : Asked) (f : Fault) → IsCauseOf holds steady long Cut c f → fault_code f ≡ 3 → fault_line f ≡ write_line
+  unwritten_of c Write is e = refl
+  unwritten_of c Usage is e = absurd is
+  unwritten_of c (Read x) is e = absurd (omega (arith, e))
+  unwritten_of c Memory is e = absurd (omega (arith, e))
+  unwritten_of c (TooLong x) is e = absurd (omega (arith, e))
+  unwritten_of c (Refused r) is e = absurd ((inside r).unwritten e)
+
+  pub memory_of : (c : Asked) (f : Fault) → IsCauseOf holds steady long Cut c f → fault_code f ≡ 11 → fault_line f ≡ memory_line
+  memory_of c Memory is e = refl
+  memory_of c Usage is e = absurd is
+  memory_of c (Read x) is e = absurd (omega (arith, e))
+  memory_of c Write is e = absurd (omega (arith, e))
+  memory_of c (TooLong x) is e = absurd (omega (arith, e))
+  memory_of c (Refused r) is e = absurd ((inside r).memory e)
+
+record KeptFile (holds : Text → Told) (file : Wanted) : Type 0 where
+  pub bytes : Text
+  pub held : IsHeld (holds file.name) bytes
+  pub bound : length bytes ≤ file.limit
+
+kept_file : (holds : Text → Told) (before after : List Wanted) (file : Wanted) (contents : List Text) → AreKept holds (before ++ file ∷ after) contents → KeptFile holds file
+kept_file holds [] after file [] k = absurd k
+kept_file holds [] after file (b ∷ bs) k = record { bytes = b; held = k.0; bound = k.1 }
+kept_file holds (g ∷ before) after file [] k = absurd k
+kept_file holds (g ∷ before) after file (b ∷ bs) k = kept_file holds before after file bs k.2
+
+one_content : (told : Told) (max : ℕ) (a b : Text) → IsWhole told max a → IsHeld told b → a ≡ b
+one_content told max a b whole held = sym (subst (λ t. MayHold t a) held whole.bytes)
+
+same_contents : (holds : Text → Told) (files : List Wanted) (xs ys : List Text) → AreHeld holds files xs → AreKept holds files ys → xs ≡ ys
+same_contents holds [] [] [] h k = refl
+same_contents holds [] [] (y ∷ ys) h k = absurd k
+same_contents holds [] (x ∷ xs) ys h k = absurd h
+same_contents holds (f ∷ fs) [] ys h k = absurd h
+same_contents holds (f ∷ fs) (x ∷ xs) [] h k = absurd k
+same_contents holds (f ∷ fs) (x ∷ xs) (y ∷ ys) h k =
+    let e : x ≡ y = one_content (holds f.name) f.limit x y h.0 k.0 in
+    let t : xs ≡ ys = same_contents holds fs xs ys h.1 k.2 in
+    rw (e, t) refl
+
+not_longer : (told : Told) (limit : ℕ) (bytes : Text) → IsHeld told bytes → length bytes ≤ limit → MayPass told limit → ⊥
+not_longer told limit bytes held bound more = let m : limit < length bytes = subst (λ t. MayPass t limit) held more in absurd (omega (arith, m, bound))
+
+module _ (holds : Text → Told) (steady : Type 0) (long : ℕ) (Cut : Text → Type 0) where
+  pub sound_status : (c : Asked) (f : Fault) → IsCauseOf holds steady long Cut c f → AreSound holds steady c → (fault_code f ≡ 3 → ⊥)
+      → Contains (0 ∷ 11 ∷ []) (fault_code f)
+  sound_status c Usage is sound wrote = absurd is
+  sound_status c (Read x) is sound wrote =
+      let kept = kept_file holds is.reached.before is.reached.after is.file sound.contents (subst (λ fs. AreKept holds fs sound.contents) is.reached.split sound.kept) in
+      absurd (is.unsteady sound.steady_files kept.bytes (ap holds is.named ∙ kept.held))
+  sound_status c Write is sound wrote = absurd (wrote refl)
+  sound_status c Memory is sound wrote = (1, omega arith, refl)
+  sound_status c (TooLong x) is sound wrote =
+      let kept = kept_file holds is.reached.before is.reached.after is.file sound.contents (subst (λ fs. AreKept holds fs sound.contents) is.reached.split sound.kept) in
+      absurd (not_longer (holds x.now) is.file.limit kept.bytes (ap holds is.named ∙ kept.held) kept.bound is.more)
+  sound_status c (Refused r) is sound wrote =
+      absurd (sound.none r (subst (λ bs. Answers c bs (Err r)) (same_contents holds _ _ _ is.held sound.kept) is.answer))

@@ -1,0 +1,68 @@
+//! What each command answers, without an outside.
+ghost use Rattle.std.specs.Prelude.{◌≡◌, ◌≤◌, IsTrue, length, Ok, IfOk, IfErr};
+ghost use Rattle.command_words.specs.Tables.{is_built, plain_of};
+ghost use Rattle.command_words.specs.Commands.{asked};
+ghost use Rattle.elastic_top.specs.Answers.{Answers, Goes, Refuses};
+ghost use Rattle.elastic_top.specs.Files.{limits_of, AreWithin};
+ghost use Rattle.elastic_top.specs.Reading.{contents_of};
+
+use crate::fault::{Fault, Refusal};
+use crate::upgrade::upgraded;
+use command_words::{Command, Verb};
+use std::alloc::Global;
+use straight_path::answer::{Refusal as StraightRefusal, answer as straight_answer};
+
+/// The text that the command writes for the contents of its files, or why there is none.
+pub fn answer<'a>(
+    alloc: Global,
+    command: &Command<'a>,
+    contents: &[Vec<u8>],
+) -> Result<Vec<u8>, Fault<'a>>
+    requires built { IsTrue (is_built command.now.verb) }
+    requires plain { length command.now.plain.items ≡ length (plain_of command.now.verb) }
+    requires count { length contents.now ≡ length (limits_of (plain_of command.now.verb)) }
+    requires within { AreWithin (limits_of (plain_of command.now.verb)) (contents_of contents.now) }
+    ensures ok { IfOk result (λ text.
+        Answers (asked command.now) (contents_of contents.now) (Ok text.items)) }
+    ensures err { IfErr result (Refuses
+        (Answers (asked command.now) (contents_of contents.now))) }
+{
+    let words = command.plain.as_slice();
+    match command.verb {
+        Verb::Go => go(
+            alloc,
+            words[0],
+            words[1],
+            contents[0].as_slice(),
+            contents[1].as_slice(),
+        ),
+        Verb::Upgrade => upgraded(alloc, words[0], contents[0].as_slice()),
+        Verb::Compile => unreachable!(),
+        Verb::Run => unreachable!(),
+        Verb::Replay => unreachable!(),
+        Verb::Bench => unreachable!(),
+        Verb::Ref => unreachable!(),
+        Verb::Save => unreachable!(),
+        Verb::Resume => unreachable!(),
+    }
+}
+
+fn go<'a>(
+    alloc: Global,
+    kernel: &'a str,
+    inputs: &'a str,
+    kernel_bytes: &[u8],
+    input_bytes: &[u8],
+) -> Result<Vec<u8>, Fault<'a>>
+    ensures ok { IfOk result (λ text. Goes kernel.entry.now inputs.entry.now
+        kernel_bytes.now input_bytes.now (Ok text.items)) }
+    ensures err { IfErr result (Refuses (Goes kernel.entry.now inputs.entry.now
+        kernel_bytes.now input_bytes.now)) }
+{
+    match straight_answer(alloc, kernel_bytes, input_bytes) {
+        Ok(text) => Ok(text),
+        Err(StraightRefusal::Kernel) => Err(Fault::Refused(Refusal::StraightKernel(kernel))),
+        Err(StraightRefusal::Inputs) => Err(Fault::Refused(Refusal::StraightInputs(inputs))),
+        Err(StraightRefusal::Memory) => Err(Fault::Memory),
+    }
+}
