@@ -4,7 +4,8 @@
 #   most of the gate's time (docs/PROVED.md); what an earlier run proved on this machine is not proved again.
 # test: the gate: every proof, wrong body, test and program.
 # bench: times the proved programs: `go` on a kernel of 1,024 nodes, reading texts of 65,536 bytes, a million acts
-#   on queues of depths 16, 128 and 1,024, and reading and printing inputs of 2^20 elements.
+#   on queues of depths 16, 128 and 1,024, buffer placement on nets of up to a million channels, reading and printing
+#   inputs of 2^20 elements, and live variables and block arguments of 32,768 blocks and 1,000 variables.
 #   With BEFORE=PROGRAM another bench_front is timed beside this one.
 # stack: reads long and deep kernel texts with a stack of 1 MiB.
 # fail-alloc: makes each allocation of a run fail in turn.
@@ -38,8 +39,10 @@ bench: build
 	@cd crates/bench_front && rt run -- ../../examples/sum/kernel.c 1
 	@sh tools/bench_front.sh crates/bench_front/out/bench_front $(BEFORE)
 	@cd crates/bench_queue && rt run -- 1000000
+	@cd crates/bench_place && rt run -- 1000000
 	@cd crates/bench_inputs && mkdir -p out && echo 'a = 1' > out/inputs.txt && rt run -- out/inputs.txt 1 1
 	@sh tools/bench_inputs.sh crates/bench_inputs/out/bench_inputs
+	@cd crates/bench_args && rt run -- 32768 1000
 
 stack:
 	@cd crates/given_rows && rt run -- data/repeats.tsv > /dev/null
