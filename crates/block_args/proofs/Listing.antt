@@ -1,6 +1,8 @@
 -- The table of live variables: each variable is added at the blocks that it is live at.
-use Rattle.std.proofs.Common.{◌≡◌, ◌⊎◌, inl, inr, ℕ, zero, suc, ◌+◌, ◌<◌, ◌≤◌, Bool, true, false, cond, List, [], ◌∷◌, ◌++◌, length, get_or, set, replicate, refl, sym, ◌∙◌, ap, subst, arith, length-set, get_or-set_same, get_or-set_other}
+use Rattle.std.proofs.Common.{◌≡◌, ◌⊎◌, inl, inr, ℕ, zero, suc, ◌+◌, ◌<◌, ◌≤◌, Bool, true, false, cond, List, [], ◌∷◌, ◌++◌, length, get_or, set, replicate, refl, sym, ◌∙◌, zero-add, ap, subst, arith, length-set, get_or-set_same, get_or-set_other}
 use Rattle.std.specs.Prelude.{slice_get, map, Some}
+use Rattle.std.specs.declared.vec.Vec.{Vec}
+use Rattle.std.specs.declared.alloc.Global.{Global}
 use Rattle.std.specs.List.{Contains, AllByRecursion}
 use Rattle.std.proofs.lemmas.Bool.{cases_eq, cases_lt}
 use Rattle.std.proofs.lemmas.Option.{same_Some, slice_get_within}
@@ -13,59 +15,66 @@ use Rattle.block_args.specs.declared.live.Index.{Index}
 use Rattle.block_args.specs.Live.{IsWritten, Live}
 use Rattle.block_args.specs.Tables.{listed_at, AreAscending, ListsLive}
 use Rattle.block_args.specs.Walks.{read_vars, written_vars, target_blocks, put_at, put_at_all, with_blocks, marked, Reached, AreReached}
-use Rattle.block_args.specs.Indexes.{IsIndexOf, AreLiveAt, IsPushed}
+use Rattle.block_args.specs.Indexes.{IsIndexOf, AreLiveAt, AreLiveFrom, ArePushed, with_found}
 use Rattle.block_args.proofs.Lives.{live_below}
 use Rattle.block_args.proofs.Named.{target}
 
--- ---- one variable more
+-- ---- some variables more
 
--- the marks of the first n blocks were looked at
-pub record PushedTo (marks : List Bool) (v : ℕ) (table : List (List ℕ)) (n : ℕ) (after : List (List ℕ)) : Type 0 where
+-- the first n blocks were gone over
+pub record PushedTo (found : List (Vec Bool Global)) (v : ℕ) (table : List (List ℕ)) (n : ℕ) (after : List (List ℕ)) : Type 0 where
   pub many : length after ≡ length table
-  pub each : (b : ℕ) → b < n → b < length table → listed_at after b ≡ cond (get_or marks b false) (listed_at table b ++ v ∷ []) (listed_at table b)
+  pub each : (b : ℕ) → b < n → b < length table → listed_at after b ≡ with_found found v b (listed_at table b)
   pub rest : (b : ℕ) → n ≤ b → listed_at after b ≡ listed_at table b
 
-pub pushed_none : (marks : List Bool) (v : ℕ) (table : List (List ℕ)) → PushedTo marks v table 0 table
-pushed_none marks v table = record { many = refl; each = λ b h lt. absurd (omega arith); rest = λ b h. refl }
+pub pushed_none : (found : List (Vec Bool Global)) (v : ℕ) (table : List (List ℕ)) → PushedTo found v table 0 table
+pushed_none found v table = record { many = refl; each = λ b h lt. absurd (omega arith); rest = λ b h. refl }
 
-pub pushed_more : (marks : List Bool) (v : ℕ) (table : List (List ℕ)) (n : ℕ) (now after : List (List ℕ)) → PushedTo marks v table n now
-    → after ≡ cond (get_or marks n false) (put_at now n v) now → PushedTo marks v table (n + 1) after
-pushed_more marks v table n now after p e = by (get_or marks n false) refl
-  where
-    by : (m : Bool) → get_or marks n false ≡ m → PushedTo marks v table (n + 1) after
-    by true f =
-        let is : after ≡ put_at now n v = e ∙ ap (λ (x : Bool). cond x (put_at now n v) now) f in
-        subst (PushedTo marks v table (n + 1)) (sym is) (record {
-          many = length-set now n (listed_at now n ++ v ∷ []) ∙ p.many;
-          each = λ b h lt. elim (cases_eq b n) [
-            | inl same ↦
-                ap (listed_at (put_at now n v)) same ∙ get_or-set_same now n (listed_at now n ++ v ∷ []) [] (let m = p.many in omega arith)
-                ∙ ap (λ xs. xs ++ v ∷ []) (p.rest n (omega arith))
-                ∙ ap (λ k. listed_at table k ++ v ∷ []) (sym same)
-                ∙ sym (ap (λ (x : Bool). cond x (listed_at table b ++ v ∷ []) (listed_at table b)) (ap (λ k. get_or marks k false) same ∙ f))
-            | inr other ↦ get_or-set_other now n b (listed_at now n ++ v ∷ []) [] other ∙ p.each b (omega arith) lt
-          ];
-          rest = λ b h. get_or-set_other now n b (listed_at now n ++ v ∷ []) [] (λ same. absurd (omega arith)) ∙ p.rest b (omega arith);
-        })
-    by false f =
-        let is : after ≡ now = e ∙ ap (λ (x : Bool). cond x (put_at now n v) now) f in
-        subst (PushedTo marks v table (n + 1)) (sym is) (record {
-          many = p.many;
-          each = λ b h lt. elim (cases_eq b n) [
-            | inl same ↦ p.rest b (omega arith) ∙ sym (ap (λ (x : Bool). cond x (listed_at table b ++ v ∷ []) (listed_at table b)) (ap (λ k. get_or marks k false) same ∙ f))
-            | inr other ↦ p.each b (omega arith) lt
-          ];
-          rest = λ b h. p.rest b (omega arith);
-        })
-
-pub pushed_all : (marks : List Bool) (v : ℕ) (table : List (List ℕ)) (n : ℕ) (after : List (List ℕ)) → PushedTo marks v table n after → length marks ≤ n → IsPushed marks v table after
-pushed_all marks v table n after p h = record {
-  many = p.many;
-  each = λ b lt. elim (cases_lt b n) [
-    | inl below ↦ p.each b below lt
-    | inr past ↦ p.rest b past ∙ sym (ap (λ (x : Bool). cond x (listed_at table b ++ v ∷ []) (listed_at table b)) (get_or_past marks b false (omega arith)))
+pub pushed_more : (found : List (Vec Bool Global)) (v : ℕ) (table : List (List ℕ)) (n : ℕ) (now after : List (List ℕ)) → PushedTo found v table n now
+    → n < length now → after ≡ set now n (with_found found v n (listed_at now n)) → PushedTo found v table (n + 1) after
+pushed_more found v table n now after p lt e = subst (PushedTo found v table (n + 1)) (sym e) (record {
+  many = length-set now n (with_found found v n (listed_at now n)) ∙ p.many;
+  each = λ b h l. elim (cases_eq b n) [
+    | inl same ↦
+        ap (listed_at (set now n (with_found found v n (listed_at now n)))) same ∙ get_or-set_same now n (with_found found v n (listed_at now n)) [] lt
+        ∙ ap (with_found found v n) (p.rest n (omega arith))
+        ∙ ap (λ k. with_found found v k (listed_at table k)) (sym same)
+    | inr other ↦ get_or-set_other now n b (with_found found v n (listed_at now n)) [] other ∙ p.each b (omega arith) l
   ];
-}
+  rest = λ b h. get_or-set_other now n b (with_found found v n (listed_at now n)) [] (λ same. absurd (omega arith)) ∙ p.rest b (omega arith);
+})
+
+pub pushed_all : (found : List (Vec Bool Global)) (v : ℕ) (table : List (List ℕ)) (n : ℕ) (after : List (List ℕ)) → PushedTo found v table n after → length table ≤ n
+    → ArePushed found v table after
+pushed_all found v table n after p h = record { many = p.many; each = λ b lt. p.each b (omega arith) lt }
+
+-- one more variable, at the blocks that are marked
+record IsPushed (marks : List Bool) (v : ℕ) (table after : List (List ℕ)) : Type 0 where
+  many : length after ≡ length table
+  each : (b : ℕ) → b < length table → listed_at after b ≡ cond (get_or marks b false) (listed_at table b ++ v ∷ []) (listed_at table b)
+
+-- the table with a variable more, from block b on
+abbrev pushed : List Bool → ℕ → ℕ → List (List ℕ) → List (List ℕ)
+pushed marks v b [] = []
+pushed marks v b (xs ∷ table) = cond (get_or marks b false) (xs ++ v ∷ []) xs ∷ pushed marks v (suc b) table
+
+is_pushed : (marks : List Bool) (v : ℕ) (table : List (List ℕ)) → IsPushed marks v table (pushed marks v 0 table)
+is_pushed marks v table = record { many = many 0 table; each = λ b lt. each 0 table b lt ∙ ap (λ k. cond (get_or marks k false) (listed_at table b ++ v ∷ []) (listed_at table b)) (zero-add b) }
+  where
+    many : (n : ℕ) (t : List (List ℕ)) → length (pushed marks v n t) ≡ length t
+    many n [] = refl
+    many n (xs ∷ t) = ap suc (many (suc n) t)
+
+    each : (n : ℕ) (t : List (List ℕ)) (b : ℕ) → b < length t → listed_at (pushed marks v n t) b ≡ cond (get_or marks (n + b) false) (listed_at t b ++ v ∷ []) (listed_at t b)
+    each n [] b lt = absurd (omega arith)
+    each n (xs ∷ t) zero lt = ap (λ k. cond (get_or marks k false) (xs ++ v ∷ []) xs) (let e : n ≡ n + 0 = omega arith in e)
+    each n (xs ∷ t) (suc b) lt =
+        each (suc n) t b (omega arith) ∙ ap (λ k. cond (get_or marks k false) (listed_at t b ++ v ∷ []) (listed_at t b)) (let e : suc n + b ≡ n + suc b = omega arith in e)
+
+pub live_push : (g : VarGraph) (v : ℕ) (found : List (Vec Bool Global)) (m : Vec Bool Global) → AreLiveFrom g v found → AreLiveAt g (v + length found) m.items → AreLiveFrom g v (found ++ m ∷ [])
+live_push g v [] m all last = (subst (λ k. AreLiveAt g k m.items) (let e : v + 0 ≡ v = omega arith in e) last, tt)
+live_push g v (x ∷ xs) m all last =
+    (all.0, live_push g (suc v) xs m all.1 (subst (λ k. AreLiveAt g k m.items) (let e : v + suc (length xs) ≡ suc v + length xs = omega arith in e) last))
 
 -- ---- all variables
 
@@ -102,7 +111,7 @@ live_there : (g : VarGraph) (b v : ℕ) → Live g b v → b < length g.blocks
 live_there g b v (Live.read_here c w x there reads) = slice_get_within g.blocks b x there
 live_there g b v (Live.read_later c d w x there to never rest) = slice_get_within g.blocks b x there
 
-pub lists_more : (g : VarGraph) (n : ℕ) (table after : List (List ℕ)) (marks : List Bool) → ListsBelow g n table → AreLiveAt g n marks → IsPushed marks n table after → ListsBelow g (n + 1) after
+lists_more : (g : VarGraph) (n : ℕ) (table after : List (List ℕ)) (marks : List Bool) → ListsBelow g n table → AreLiveAt g n marks → IsPushed marks n table after → ListsBelow g (n + 1) after
 lists_more g n table after marks l m p = record {
   many = p.many ∙ l.many;
   ascending = λ b. elim (cases_lt b (length table)) [
@@ -144,6 +153,32 @@ lists_more g n table after marks l m p = record {
         older : (x : Bool) → Contains (cond x (listed_at table b ++ n ∷ []) (listed_at table b)) v
         older true = Contains-append_left (listed_at table b) (n ∷ []) v there
         older false = there
+
+-- so many variables more
+pub lists_found : (g : VarGraph) (found : List (Vec Bool Global)) (n : ℕ) (table after : List (List ℕ)) → ListsBelow g n table → AreLiveFrom g n found → ArePushed found n table after
+    → ListsBelow g (n + length found) after
+lists_found g [] n table after l all p = record {
+  many = p.many ∙ l.many;
+  ascending = λ b. subst AreAscending (sym (same b)) (l.ascending b);
+  live = λ b v h. let old = l.live b v (subst (λ xs. Contains xs v) (same b) h) in (let q = old.0 in omega arith, old.1);
+  all = λ b v h k. subst (λ xs. Contains xs v) (sym (same b)) (l.all b v (omega arith) k);
+}
+  where
+    same : (b : ℕ) → listed_at after b ≡ listed_at table b
+    same b = elim (cases_lt b (length table)) [
+      | inl lt ↦ p.each b lt
+      | inr ge ↦ get_or_past after b [] (let q = p.many in omega arith) ∙ sym (get_or_past table b [] ge)
+    ]
+lists_found g (m ∷ ms) n table after l all p =
+    let one : IsPushed m.items n table (pushed m.items n 0 table) = is_pushed m.items n table in
+    let up : suc n ≡ n + 1 = omega arith in
+    subst (λ k. ListsBelow g k after) (let e : n + 1 + length ms ≡ n + suc (length ms) = omega arith in e)
+    (lists_found g ms (n + 1) (pushed m.items n 0 table) after (lists_more g n table (pushed m.items n 0 table) m.items l all.0 one) (subst (λ k. AreLiveFrom g k ms) up all.1) (record {
+      many = p.many ∙ sym one.many;
+      each = λ b lt.
+          let below : b < length table = let q = one.many in omega arith in
+          p.each b below ∙ ap (with_found ms (suc n) b) (sym (one.each b below)) ∙ ap (λ k. with_found ms k b (listed_at (pushed m.items n 0 table) b)) up;
+    }))
 
 pub lists_all : (g : VarGraph) (n : ℕ) (table : List (List ℕ)) → IsVarGraph g → ListsBelow g n table → length g.vars ≤ n → ListsLive g table
 lists_all g n table fine l h = record {

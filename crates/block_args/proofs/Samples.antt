@@ -3,7 +3,6 @@ use Rattle.std.proofs.Common.{◌≡◌, ◌<◌, ℕ, List, [], ◌∷◌, refl
 use Rattle.std.specs.List.{All, AllByRecursion}
 use Rattle.std.proofs.lemmas.List.Elements.{All-from_recursion}
 use Rattle.el_base.specs.declared.ty.Ty.TheVariants.{U32}
-use Rattle.ir.specs.declared.cfg.Write.{Write}
 use Rattle.ir.specs.Shapes.{IsWidth, IsArray, shape_after}
 use Rattle.ir.specs.Variables.{VarGraph, IsVarGraph, IsVarBlock, IsWrite, read_shape}
 use Rattle.block_args.specs.Sample.{entry_block, head_block, body_block, end_block, sample_cfg}

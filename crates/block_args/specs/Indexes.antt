@@ -1,5 +1,7 @@
 -- Private: only contracts of private functions cite it. What the search for live variables makes on its way.
-use Rattle.std.specs.Prelude.{◌≡◌, ◌<◌, ℕ, Bool, true, false, cond, replicate, List, [], ◌∷◌, ◌++◌, length, get_or}
+use Rattle.std.specs.Prelude.{◌≡◌, ◌<◌, ℕ, suc, Bool, true, false, cond, replicate, List, [], ◌∷◌, ◌++◌, length, get_or}
+use Rattle.std.specs.declared.vec.Vec.{Vec}
+use Rattle.std.specs.declared.alloc.Global.{Global}
 use Rattle.ir.specs.Variables.{VarGraph}
 use Rattle.block_args.specs.declared.live.Index.{Index}
 use Rattle.block_args.specs.Live.{Live}
@@ -17,7 +19,17 @@ pub record AreLiveAt (g : VarGraph) (v : ℕ) (marks : List Bool) : Type 0 where
   pub live : (b : ℕ) → get_or marks b false ≡ true → Live g b v
   pub all : (b : ℕ) → Live g b v → get_or marks b false ≡ true
 
--- one more variable, at the blocks that are marked
-pub record IsPushed (marks : List Bool) (v : ℕ) (table after : List (List ℕ)) : Type 0 where
+-- the marks of the variables from v on, each as above
+abbrev pub AreLiveFrom : VarGraph → ℕ → List (Vec Bool Global) → Type 0
+AreLiveFrom g v [] = Unit {0}
+AreLiveFrom g v (m ∷ ms) = AreLiveAt g v m.items × AreLiveFrom g (suc v) ms
+
+-- a list with those of the variables from v on whose marks have the block b
+abbrev pub with_found : List (Vec Bool Global) → ℕ → ℕ → List ℕ → List ℕ
+with_found [] v b xs = xs
+with_found (m ∷ ms) v b xs = with_found ms (suc v) b (cond (get_or m.items b false) (xs ++ v ∷ []) xs)
+
+-- the variables from v on, each at the blocks that its marks have
+pub record ArePushed (found : List (Vec Bool Global)) (v : ℕ) (table after : List (List ℕ)) : Type 0 where
   pub many : length after ≡ length table
-  pub each : (b : ℕ) → b < length table → listed_at after b ≡ cond (get_or marks b false) (listed_at table b ++ v ∷ []) (listed_at table b)
+  pub each : (b : ℕ) → b < length table → listed_at after b ≡ with_found found v b (listed_at table b)

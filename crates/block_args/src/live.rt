@@ -1,13 +1,16 @@
 //! Which variables are live at each block.
-ghost use Rattle.std.specs.Prelude.{◌≡◌, ◌<◌, length, IfOk, OnOk};
+ghost use Rattle.std.specs.Prelude.{◌≡◌, ◌+◌, ◌≤◌, ◌<◌, ◌^◌, length, set, IfOk, OnOk};
 ghost use Rattle.el_base.specs.Limits.{IsNumbered};
 ghost use Rattle.block_args.specs.Tables.{ListsLive, listed_at};
-ghost use Rattle.block_args.specs.Indexes.{AreLiveAt, IsPushed, IsIndexOf};
+ghost use Rattle.block_args.specs.Indexes.{AreLiveAt, AreLiveFrom, ArePushed, IsIndexOf, with_found};
 
-use crate::tables::{blocks_before, empty_lists, put_at, readers, writers};
+use crate::tables::{blocks_before, empty_lists, readers, writers};
 use crate::walk::{marks, reached};
 use ir::{Cfg, List, Memory};
 use std::alloc::Global;
+
+/// For so many variables at once the blocks are found: so each block's list is come to once for all of them.
+const AT_ONCE: u32 = 64;
 
 /// The blocks of a graph by the variables that they read, by those that they write, and by the blocks that they jump to.
 #[derive(Debug, Drop)]
@@ -20,7 +23,7 @@ struct Index {
 /// The variables that are live at each block, in order: a table with a list for each block.
 ///
 /// For each variable the jumps are gone back from the blocks that read it, once from each block, so the time is that of
-/// the blocks times the variables, and of the graph.
+/// the blocks times the variables, and of the graph. Beside the table it takes 64 bytes for each block.
 ///
 /// # Errors
 ///
@@ -33,9 +36,13 @@ pub fn live_variables(alloc: Global, cfg: &Cfg) -> Result<List<List<u32>>, Memor
     let blocks = cfg.look();
     let index = make_index(alloc, cfg)?;
     let mut table = empty_lists(alloc, blocks.len())?;
-    for variable in 0..cfg.vars.len() as u32 {
-        let live = live_at(alloc, cfg, &index, variable)?;
-        push_at(&mut table, live.as_slice(), variable)?;
+    let count = cfg.vars.len() as u32;
+    let mut first = 0;
+    while first < count {
+        let end = first + AT_ONCE.min(count - first);
+        let found = live_between(alloc, cfg, &index, first, end)?;
+        push_all(&mut table, found.as_slice(), first)?;
+        first = end;
     }
     Ok(table)
 }
@@ -53,6 +60,27 @@ fn make_index(alloc: Global, cfg: &Cfg) -> Result<Index, Memory>
         writers,
         before,
     })
+}
+
+/// For each variable from the first one up to the end the marks of the blocks that it is live at.
+fn live_between(
+    alloc: Global,
+    cfg: &Cfg,
+    index: &Index,
+    first: u32,
+    end: u32,
+) -> Result<Vec<Vec<bool>>, Memory>
+    requires index { IsIndexOf cfg.now index.now }
+    requires order { first ≤ end }
+    requires within { end ≤ length cfg.now.vars }
+    ensures live { IfOk result (λ found. AreLiveFrom cfg.now first found.items) }
+    ensures many { IfOk result (λ found. first + length found.items ≡ end) }
+{
+    let mut found = Vec::new(alloc);
+    for variable in first..end {
+        found.push(live_at(alloc, cfg, index, variable)?)?;
+    }
+    Ok(found)
 }
 
 /// The marks of the blocks that a variable is live at.
@@ -79,14 +107,33 @@ pub(crate) fn listed_at(table: &[List<u32>], number: u32) -> &[u32]
     }
 }
 
-/// Adds a variable at each block that is marked.
-fn push_at(table: &mut List<List<u32>>, marks: &[bool], variable: u32) -> Result<(), Memory>
-    ensures { OnOk result (IsPushed marks.now variable table.old table.new) }
+/// Adds at each block the variables, numbered from the first one on, whose marks have it.
+fn push_all(table: &mut List<List<u32>>, found: &[Vec<bool>], first: u32) -> Result<(), Memory>
+    requires { first + length found.now < 2 ^ 32 }
+    ensures { OnOk result (ArePushed found.now first table.old table.new) }
 {
-    for (block, mark) in marks.iter().enumerate() {
-        if *mark {
-            put_at(table, block, variable)?;
+    for block in 0..table.len() {
+        push_found(&mut table.as_mut_slice()[block], found, first, block)?;
+    }
+    Ok(())
+}
+
+/// Adds the variables, numbered from the first one on, whose marks have the block.
+fn push_found(
+    list: &mut List<u32>,
+    found: &[Vec<bool>],
+    first: u32,
+    block: usize,
+) -> Result<(), Memory>
+    requires { first + length found.now < 2 ^ 32 }
+    ensures { OnOk result (list.new ≡ with_found found.now first block list.old) }
+{
+    let mut variable = first;
+    for marks in found {
+        if marks.get(block).copied().unwrap_or(false) {
+            list.push(variable)?;
         }
+        variable += 1;
     }
     Ok(())
 }

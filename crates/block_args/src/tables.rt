@@ -118,7 +118,7 @@ fn put_at_targets(table: &mut List<List<u32>>, jump: CfgJump, block: u32) -> Res
 
 /// Adds a number to the list at a place, where the table has it.
 #[tactic(auto, using(std::proofs::lemmas::List::set_past))]
-pub(crate) fn put_at(table: &mut List<List<u32>>, place: usize, number: u32) -> Result<(), Memory>
+fn put_at(table: &mut List<List<u32>>, place: usize, number: u32) -> Result<(), Memory>
     ensures { OnOk result (table.new ≡ put_at table.old place number) }
 {
     if place < table.len() {

@@ -1,5 +1,9 @@
+use Rattle.std.proofs.Common.{◌≤◌, ◌-◌}
 use Rattle.block_args.proofs.Listing.{ListsBelow}
 use Rattle.block_args.proofs.live.live_variables.Given as goal
 
-abbrev pub invariant-loop-variable : goal.invariant-loop-variable
-invariant-loop-variable l = ListsBelow l.cfg l.variable l.table
+abbrev pub invariant-loop-first : goal.invariant-loop-first
+invariant-loop-first l = (l.first ≤ l.count) × ListsBelow l.cfg l.first l.table
+
+abbrev pub decreases-loop-first : goal.decreases-loop-first
+decreases-loop-first l = l.count - l.first
