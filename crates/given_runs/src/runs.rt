@@ -8,6 +8,7 @@ ghost use Rattle.net_core.specs.States.{IsOf, state_of};
 use anyhow::{Context, Result, bail, ensure};
 use el_base::{Array, Log, number};
 use inputs_text::{InputRefusal, read_inputs};
+use lsq_core::Queue;
 use net_check::{Checked, check_net};
 use net_core::State;
 use net_replay::{
@@ -33,7 +34,8 @@ pub fn put_net_run<W: Write>(alloc: Global, line: &str, out: &mut W) -> Result<(
     }
 }
 
-/// The text of a field, in which `|` stands for a line feed, `^` for a carriage return and `~` for a tab.
+/// The text of a field, in which `|` stands for a line feed, `^` for a carriage return, `~` for a tab, `@` for a byte 0 and
+/// `%` for a byte 255.
 fn text_of(alloc: Global, field: &str) -> Result<Vec<u8>>
     ensures { IfOk result (λ text. IsNumbered (length text.items)) }
 {
@@ -43,6 +45,8 @@ fn text_of(alloc: Global, field: &str) -> Result<Vec<u8>>
             b'|' => b'\n',
             b'^' => b'\r',
             b'~' => b'\t',
+            b'@' => 0,
+            b'%' => 255,
             _ => byte,
         })?;
     }
@@ -90,7 +94,7 @@ fn put_end<W: Write>(alloc: Global, net: &Checked, inputs: &Inputs, out: &mut W)
 }
 
 /// Writes what a line's net on the line's inputs comes to by the line's schedule: what it ends with where it is at rest,
-/// the least enabled firing where it goes on, or why it is no run.
+/// the least enabled firing and what is held where it goes on, or why it is no run.
 pub fn put_replay<W: Write>(alloc: Global, line: &str, out: &mut W) -> Result<()> {
     let fields: Vec<&str> = line.split('\t').collect(alloc)?;
     let [net, inputs, schedule] = fields.as_slice() else {
@@ -128,13 +132,13 @@ fn put_replayed<W: Write>(
     );
     match replay(alloc, net, inputs, firings) {
         Ok(Replay::AtRest(state)) => put_rest(net, &state, firings.len() as u64, out),
-        Ok(Replay::Goes { state: _, next }) => {
+        Ok(Replay::Goes { state, next }) => {
             let Ok(text) = print_schedule(alloc, &[next]) else {
                 bail!("want of memory");
             };
             write!(out, "0 next ")?;
             out.write_all(text.as_slice().trim_ascii_end())?;
-            Ok(())
+            put_held(net, &state, out)
         }
         Err(ReplayFault::NotEnabled { index }) => {
             write!(out, "7 61 NotEnabled {index}")?;
@@ -142,6 +146,22 @@ fn put_replayed<W: Write>(
         }
         Err(ReplayFault::Memory) => bail!("want of memory"),
     }
+}
+
+/// Writes how many tokens each channel holds, and how many entries each queue.
+fn put_held<W: Write>(net: &Checked, state: &State, out: &mut W) -> Result<()>
+    requires { IsOf net.now state.now }
+{
+    write!(out, " / held")?;
+    for at in 0..net.net().chans.as_slice().len() {
+        write!(out, " {}", state.held(net, at as u32))?;
+    }
+    for at in 0..net.net().units.as_slice().len() {
+        if let Some(queue) = state.queue(net, at as u32) {
+            write!(out, " / entries {}", queue.len())?;
+        }
+    }
+    Ok(())
 }
 
 /// Writes what a run at rest ends with.

@@ -1,9 +1,10 @@
 //! Where firings may be enabled.
 
 ghost use Rattle.std.specs.Prelude.{◌+◌, ◌*◌, ◌<◌, IfSome};
+ghost use Rattle.net_core.specs.States.{IsOf};
 
 use net_check::Checked;
-use net_core::{Plan, Takes};
+use net_core::{Change, Plan, State, Takes};
 
 /// How many words of marks there are, of 64 marks each.
 const WORDS: usize = 1024;
@@ -48,42 +49,59 @@ impl Marks {
         self.tops[word / 64] |= 1 << (word % 64);
     }
 
-    /// Marks a unit that makes a planned firing, and the units at the other ends of the channels on which tokens move.
-    pub(crate) fn wake(&mut self, net: &Checked, unit: u32, plan: Plan) {
-        self.mark(unit);
+    /// Marks where a firing that was made by this plan can have let another one be enabled: at its unit where that has a
+    /// queue or a token is left where one was taken, at the source of a channel that was full, and at the target of one
+    /// that was empty.
+    pub(crate) fn wake(&mut self, net: &Checked, state: &State, unit: u32, plan: Plan)
+        requires { IsOf net.now state.now }
+    {
+        if let Change::Act { .. } = plan.change {
+            self.mark(unit);
+        }
         match plan.takes {
             Takes::None => {}
-            Takes::One(p) => self.mark_source(net, unit, p),
+            Takes::One(p) => self.wake_by_take(net, state, unit, p),
             Takes::Two(p, q) => {
-                self.mark_source(net, unit, p);
-                self.mark_source(net, unit, q);
+                self.wake_by_take(net, state, unit, p);
+                self.wake_by_take(net, state, unit, q);
             }
             Takes::Three(p, q, r) => {
-                self.mark_source(net, unit, p);
-                self.mark_source(net, unit, q);
-                self.mark_source(net, unit, r);
+                self.wake_by_take(net, state, unit, p);
+                self.wake_by_take(net, state, unit, q);
+                self.wake_by_take(net, state, unit, r);
             }
         }
         if let Some(put) = plan.put {
-            self.mark_target(net, unit, put.place);
+            self.wake_by_put(net, state, unit, put.place);
         }
     }
 
-    /// Marks the unit from which the channel into a place comes.
-    fn mark_source(&mut self, net: &Checked, unit: u32, place: u64) {
+    /// Marks the unit where the channel into a place still has a token, and the channel's source where it was full.
+    fn wake_by_take(&mut self, net: &Checked, state: &State, unit: u32, place: u64)
+        requires { IsOf net.now state.now }
+    {
         let chans = net.net().chans.as_slice();
-        let chan = net.into_place(unit, place) as usize;
-        if chan < chans.len() {
-            self.mark(chans[chan].from.unit);
+        let number = net.into_place(unit, place);
+        if (number as usize) < chans.len() {
+            let chan = &chans[number as usize];
+            let held = state.held(net, number);
+            if held > 0 {
+                self.mark(unit);
+            }
+            if held.saturating_add(1) >= chan.slots {
+                self.mark(chan.from.unit);
+            }
         }
     }
 
-    /// Marks the unit to which the channel out of a place goes.
-    fn mark_target(&mut self, net: &Checked, unit: u32, place: u64) {
+    /// Marks the target of the channel out of a place where the channel was empty.
+    fn wake_by_put(&mut self, net: &Checked, state: &State, unit: u32, place: u64)
+        requires { IsOf net.now state.now }
+    {
         let chans = net.net().chans.as_slice();
-        let chan = net.out_of_place(unit, place) as usize;
-        if chan < chans.len() {
-            self.mark(chans[chan].to.unit);
+        let number = net.out_of_place(unit, place);
+        if (number as usize) < chans.len() && state.held(net, number) <= 1 {
+            self.mark(chans[number as usize].to.unit);
         }
     }
 

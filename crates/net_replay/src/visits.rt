@@ -129,7 +129,7 @@ fn try_act(
     }
     state.make(net, firing, plan);
     note(log, bounds.keep, firing);
-    marks.wake(net, firing.unit, plan);
+    marks.wake(net, state, firing.unit, plan);
     made + 1
 }
 
