@@ -2,10 +2,14 @@ pub mod Aims
 pub mod ByParts
 pub mod Exprs
 pub mod Fine
+pub mod Headers
 pub mod Moves
+pub mod Params
 pub mod Patterns
 pub mod Places
 pub mod Running
+pub mod Spare
+pub mod Turns
 pub mod Values
 pub mod Whole
 pub mod Written

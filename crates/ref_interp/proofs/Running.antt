@@ -61,6 +61,12 @@ pub kind_goes : (k : Objects) (r : Option Ty) (x y : TypedStmtKind) (a : Act) (r
 kind_goes k r x y a run m m1 m2 e is by t l c h =
     subst (λ (w : Run). Ran k r w m e m2) (sym (ap (λ x. (kind_act k x).run) is ∙ ap (λ (a : Act). a.run) by ∙ t)) (turn_goes k r run m m1 m2 e l c h)
 
+-- what is told of it after its turn, by the same run
+pub after_turn : (k : Objects) (r : Option Ty) (x y : TypedStmtKind) (a : Act) (run w : Run) (m m2 : Machine) (e : Ending) → x ≡ y → kind_act k y ≡ a → a.run ≡ turn run → (kind_act k x).run ≡ turn w → Ran k r run m e m2 → Ran k r w m e m2
+after_turn k r x y a run w m m2 e is by t u h =
+    let same : turn w ≡ turn run = sym u ∙ ap (λ x. (kind_act k x).run) is ∙ ap (λ (a : Act). a.run) by ∙ t in
+    record { is = ap (λ (f : Run). f (store_of k m.cells) (suc m.left)) same ∙ h.is; cells = h.cells; few = h.few; given = h.given }
+
 starts_with_turn : (k : Objects) (x : TypedStmtKind) (s : Store) → (kind_act k x).run s 0 ≡ ends out_of_turns s 0
 starts_with_turn k (tree.Block' n row) s = refl
 starts_with_turn k (tree.Declare v init) s = refl

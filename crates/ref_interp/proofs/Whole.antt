@@ -10,7 +10,8 @@ use Rattle.el_base.specs.declared.ty.Ty.{Ty}
 use Rattle.el_base.specs.Numbers.{number, pattern}
 use Rattle.el_base.specs.Widths.{ty_width}
 use Rattle.net_types.specs.declared.firing.Inputs.{Inputs as Patterns}
-use Rattle.net_types.specs.Inputs.{IsPatternOf}
+use Rattle.net_types.specs.Inputs.{IsPatternOf, AreElementsOf}
+use Rattle.c_meaning.specs.Headers.{flat}
 use Rattle.c_ast.specs.declared.typed.ArrayOf.{ArrayOf}
 use Rattle.c_ast.specs.declared.typed.Typed.{Typed}
 use Rattle.c_ast.specs.declared.typed.TypedStmt.{TypedStmt}
@@ -19,7 +20,7 @@ use Rattle.c_meaning.specs.Stores.{Objects, Inputs, opening, scalar_types}
 use Rattle.c_meaning.specs.KernelPatterns.{array_patterns, result_pattern}
 use Rattle.c_meaning.specs.Runs.{How, normally, by_break, by_continue, by_return, undefined, out_of_turns, Ended, ends}
 use Rattle.c_meaning.specs.Statements.{objects, act, in_order, block, body_run, kernel_end, with_kernel_end, kernel_run, first, first_of, IsResult}
-use Rattle.c_meaning.specs.Bounds.{EndsIsOne}
+use Rattle.c_meaning.specs.Bounds.{EndsIsOne, KernelsKeepEnds}
 use Rattle.c_meaning.specs.Lawful.{Lawful}
 use Rattle.ref_interp.specs.declared.cells.Cells.{Cells}
 use Rattle.ref_interp.specs.declared.machine.Ending.{Ending}
@@ -30,9 +31,12 @@ use Rattle.ref_interp.specs.declared.kernel.Outcome.TheVariants as outcome
 use Rattle.ref_interp.specs.Cells.{AreCells, AreVarCells, AreArrayCells, var_numbers, array_numbers, store_of}
 use Rattle.ref_interp.specs.Kernels.{Opens, IsRound, opened}
 use Rattle.ref_interp.specs.Machines.{ended, returned_number, IsGiven, Given, Ran}
-use Rattle.ref_interp.specs.Outcomes.{InputsFit, AreElementsOf, scalar_numbers, EndsSo, Says}
+use Rattle.ref_interp.specs.Outcomes.{InputsFit, scalar_numbers, EndsSo, Says}
+use Rattle.ref_interp.specs.Turns.{KernelsNeedNoMore}
 use Rattle.ref_interp.specs.Statements.{Enters}
 use Rattle.ref_interp.proofs.Fine.{FineEnd, body_fine}
+use Rattle.ref_interp.proofs.Headers.{scalars_fit}
+use Rattle.ref_interp.proofs.Turns.{ends_at_bound}
 use Rattle.ref_interp.proofs.Running.{taking_all, turn_goes}
 use Rattle.ref_interp.proofs.ByParts.{entered_run}
 
@@ -79,7 +83,7 @@ first_set (t ∷ ts) (s ∷ st) (p ∷ ps) e all =
       (subst (λ t. p < 2 ^ ty_width t) (sym same) all.0, h.1),
     )
 
-arrays_set : (xs : List ArrayOf) (pss : List (List ℕ)) → AllZip AreElementsOf xs pss → AreArrayCells xs pss
+arrays_set : (xs : List ArrayOf) (pss : List (List ℕ)) → AllZip AreElementsOf (map flat xs) pss → AreArrayCells xs pss
 arrays_set [] [] h = tt
 arrays_set [] (ps ∷ pss) h = absurd h
 arrays_set (x ∷ xs) [] h = absurd h
@@ -87,7 +91,7 @@ arrays_set (x ∷ xs) (ps ∷ pss) h = (h.0.patterns, arrays_set xs pss h.1)
 
 pub opens : (k : Typed) (p : Profile) (i : Patterns) (c : Cells) → Lawful k → InputsFit k i → c.vars ≡ opened k.vars i.scalars → c.arrays ≡ i.arrays → Opens k p i c
 opens k p i c law fit vs as_of =
-    let h = first_set k.vars (scalar_types k.params) i.scalars (law.header p).first_vars fit.scalars in
+    let h = first_set k.vars (scalar_types k.params) i.scalars (law.header p).first_vars (scalars_fit k i fit) in
     record {
       is = ap (λ (vs : List (Option ℕ)). record { vars = var_numbers k.vars vs; arrays = array_numbers k.arrays c.arrays }) vs
           ∙ ap (λ (pss : List (List ℕ)). record { vars = var_numbers k.vars (opened k.vars i.scalars); arrays = array_numbers k.arrays pss }) as_of
@@ -149,7 +153,6 @@ ends_at k p i n e r arrays value turns is less t res as_of val = record {
     arrays = ap (λ (e : Ended). e.store.arrays) (sym is);
     result = subst (λ (e : Ended). IsResult k.result e.how r) (sym is) res;
   };
-  here = refl;
   within = omega (arith, t);
   arrays_are = as_of;
   value_is = val;
@@ -202,8 +205,9 @@ never_continues k p i n m law h = none (fine_body k p i n ending.Continue m law 
 
 -- ---- it is one outcome
 
-ended_how : (k : Typed) (p : Profile) (i : Inputs) (n : ℕ) (arrays : List (List ℕ)) (value : Option ℕ) (turns : ℕ) (e : EndsSo k p i n arrays value turns) → IsResult k.result (kernel_run k p i n).how e.r
-ended_how k p i n arrays value turns e = subst (λ b. IsResult k.result (kernel_run k p i b).how e.r) e.here e.ends.result
+-- what ends within n turns ends with a bound of n
+ended_how : (k : Typed) (p : Profile) (i : Inputs) (n : ℕ) (arrays : List (List ℕ)) (value : Option ℕ) (turns : ℕ) → KernelsKeepEnds → KernelsNeedNoMore → (e : EndsSo k p i n arrays value turns) → IsResult k.result (kernel_run k p i n).how e.r
+ended_how k p i n arrays value turns keeps needs e = (ends_at_bound k.result (kernel_run k p i) e.out e.r turns n (keeps k p i) (needs k p i) e.within e.ends).result
 
 not_first : (t : Option Ty) (w : How) (r : Option ℤ) (at : Span) → IsResult t w r → first_of w ≡ Some at → ⊥
 not_first None normally r at h e = cc
@@ -232,17 +236,17 @@ first_none k p i n at f e = never at (sym (ap first_of e) ∙ f)
 one_span : (at q : Span) → Some at ≡ Some q → at ≡ q
 one_span at q e = cc
 
-pub says_one : (k : Typed) (p : Profile) (i : Inputs) (n : ℕ) (o u : Outcome) → EndsIsOne → Says k p i n o → Says k p i n u → u ≡ o
-says_one k p i n (outcome.Ends a v t) (outcome.Ends b w s) one x y =
+pub says_one : (k : Typed) (p : Profile) (i : Inputs) (n : ℕ) (o u : Outcome) → EndsIsOne → KernelsKeepEnds → KernelsNeedNoMore → Says k p i n o → Says k p i n u → u ≡ o
+says_one k p i n (outcome.Ends a v t) (outcome.Ends b w s) one keeps needs x y =
     let h = one k p i y.out x.out y.r x.r s t y.ends x.ends in
     let as_of : b ≡ a = y.arrays_are ∙ ap (array_patterns k.arrays) h.0 ∙ sym x.arrays_are in
     let vs : w ≡ v = y.value_is ∙ ap (result_pattern k.result) h.1 ∙ sym x.value_is in
     ap (λ b. outcome.Ends b w s) as_of ∙ ap (λ w. outcome.Ends a w s) vs ∙ ap (outcome.Ends a v) h.2
-says_one k p i n (outcome.Ends a v t) (outcome.Undefined at) one x y = absurd (not_first k.result (kernel_run k p i n).how x.r at (ended_how k p i n a v t x) y)
-says_one k p i n (outcome.Ends a v t) outcome.OutOfTurns one x y = absurd (not_starved k.result (kernel_run k p i n).how x.r (ended_how k p i n a v t x) y)
-says_one k p i n (outcome.Undefined at) (outcome.Ends b w s) one x y = absurd (not_first k.result (kernel_run k p i n).how y.r at (ended_how k p i n b w s y) x)
-says_one k p i n (outcome.Undefined at) (outcome.Undefined q) one x y = ap outcome.Undefined (one_span q at (sym y ∙ x))
-says_one k p i n (outcome.Undefined at) outcome.OutOfTurns one x y = absurd (first_none k p i n at x y)
-says_one k p i n outcome.OutOfTurns (outcome.Ends b w s) one x y = absurd (not_starved k.result (kernel_run k p i n).how y.r (ended_how k p i n b w s y) x)
-says_one k p i n outcome.OutOfTurns (outcome.Undefined q) one x y = absurd (first_none k p i n q y x)
-says_one k p i n outcome.OutOfTurns outcome.OutOfTurns one x y = refl
+says_one k p i n (outcome.Ends a v t) (outcome.Undefined at) one keeps needs x y = absurd (not_first k.result (kernel_run k p i n).how x.r at (ended_how k p i n a v t keeps needs x) y)
+says_one k p i n (outcome.Ends a v t) outcome.OutOfTurns one keeps needs x y = absurd (not_starved k.result (kernel_run k p i n).how x.r (ended_how k p i n a v t keeps needs x) y)
+says_one k p i n (outcome.Undefined at) (outcome.Ends b w s) one keeps needs x y = absurd (not_first k.result (kernel_run k p i n).how y.r at (ended_how k p i n b w s keeps needs y) x)
+says_one k p i n (outcome.Undefined at) (outcome.Undefined q) one keeps needs x y = ap outcome.Undefined (one_span q at (sym y ∙ x))
+says_one k p i n (outcome.Undefined at) outcome.OutOfTurns one keeps needs x y = absurd (first_none k p i n at x y)
+says_one k p i n outcome.OutOfTurns (outcome.Ends b w s) one keeps needs x y = absurd (not_starved k.result (kernel_run k p i n).how y.r (ended_how k p i n b w s keeps needs y) x)
+says_one k p i n outcome.OutOfTurns (outcome.Undefined q) one keeps needs x y = absurd (first_none k p i n q y x)
+says_one k p i n outcome.OutOfTurns outcome.OutOfTurns one keeps needs x y = refl

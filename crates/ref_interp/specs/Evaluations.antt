@@ -10,6 +10,7 @@ use Rattle.c_ast.specs.ResultTypes.{promoted, result_type, unary_type}
 use Rattle.c_ast.specs.declared.typed.ArrayOf.{ArrayOf}
 use Rattle.c_ast.specs.declared.typed.Object.TheVariants as object
 use Rattle.c_ast.specs.declared.typed.TypedExpr.{TypedExpr}
+use Rattle.c_ast.specs.declared.typed.TypedExprKind.TheVariants as expr
 use Rattle.c_meaning.specs.declared.profile.Profile.{Profile}
 use Rattle.c_meaning.specs.Operators.{unary_value, binary_value}
 use Rattle.c_meaning.specs.Stores.{Objects, place_from, dims_of, read_var, read_element}
@@ -33,6 +34,13 @@ pub record IsReady (k : Objects) (c : Cells) (t : Trace) : Type 0 where
 
 abbrev pub EvalGives : Objects → Cells → TypedExpr → Trace → Trace → ℕ → Type 0
 EvalGives k c e old new p = LawfulExpr k e → IsReady k c old → Answers e.ty (meaning k e (store_of k c)) old new p
+
+-- of two operands, and of ?:
+abbrev pub BinaryGives : Objects → Cells → TypedExpr → Trace → Trace → ℕ → Type 0
+BinaryGives k c e old new p = (op : Binary) (a b : TypedExpr) → e.kind ≡ expr.Binary op a b → EvalGives k c e old new p
+
+abbrev pub ChoiceGives : Objects → Cells → TypedExpr → Trace → Trace → ℕ → Type 0
+ChoiceGives k c e old new p = (d a b : TypedExpr) → e.kind ≡ expr.Choose d a b → EvalGives k c e old new p
 
 abbrev pub ReadGives : ℕ → Span → Cells → Trace → Trace → ℕ → Type 0
 ReadGives v at c old new p = (k : Objects) (t : Ty) → IsVar k v t → IsReady k c old → Answers t (after_turns at 0 (read_var (store_of k c) v)) old new p

@@ -7,7 +7,7 @@ use Rattle.net_types.specs.declared.firing.Inputs.{Inputs as Patterns}
 use Rattle.c_ast.specs.declared.typed.Typed.{Typed}
 use Rattle.c_meaning.specs.declared.profile.Profile.{Profile}
 use Rattle.c_meaning.specs.Stores.{Inputs, opening}
-use Rattle.c_meaning.specs.Bounds.{EndsIsOne}
+use Rattle.c_meaning.specs.Bounds.{EndsIsOne, KernelsKeepEnds}
 use Rattle.c_meaning.specs.Lawful.{Lawful}
 use Rattle.c_meaning.specs.Statements.{objects, body_run}
 use Rattle.ref_interp.specs.declared.cells.Cells.{Cells}
@@ -18,6 +18,7 @@ use Rattle.ref_interp.specs.Cells.{AreCells, store_of}
 use Rattle.ref_interp.specs.Laws.{PatternLaws}
 use Rattle.ref_interp.specs.Parts.{PartLaws}
 use Rattle.ref_interp.specs.Machines.{Ran, Given, ended}
+use Rattle.ref_interp.specs.Turns.{KernelsNeedNoMore}
 use Rattle.ref_interp.specs.Outcomes.{InputsFit, input_numbers, Says, IsOnly}
 
 -- the cells of variables of these types, of which the first ones are set
@@ -43,5 +44,5 @@ IsRound = (t : Ty) (p : ℕ) → p < 2 ^ ty_width t → pattern t (number t p) �
 -- the block ended so, in a machine, on whole-number inputs with n turns
 abbrev pub OutcomeGives : Typed → Machine → Ending → ℕ → Outcome → Type 0
 OutcomeGives k m e n o =
-    (p : Profile) (i : Inputs) → let ko = objects p k in EndsIsOne → IsRound → Lawful k → body_run ko k.body (opening ko i) n ≡ ended ko k.result e m → AreCells ko m.cells → Given k.result e m
+    (p : Profile) (i : Inputs) → let ko = objects p k in EndsIsOne → KernelsKeepEnds → KernelsNeedNoMore → IsRound → Lawful k → body_run ko k.body (opening ko i) n ≡ ended ko k.result e m → AreCells ko m.cells → Given k.result e m
     → Says k p i n o × IsOnly k p i n o

@@ -4,8 +4,10 @@ pub mod Evaluations
 pub mod Kernels
 pub mod Laws
 pub mod Machines
+pub mod Names
 pub mod Operators
 pub mod Outcomes
 pub mod Parts
 pub mod Statements
 pub mod Targets
+pub mod Turns

@@ -11,7 +11,7 @@ use Rattle.c_ast.specs.declared.typed.TypedStmtKind as tree
 use Rattle.c_ast.specs.declared.typed.TypedStmtKind.TheVariants as stmt
 use Rattle.c_meaning.specs.Stores.{Objects, unset_vars}
 use Rattle.c_meaning.specs.Expressions.{meaning, always}
-use Rattle.c_meaning.specs.Runs.{Run, rounds}
+use Rattle.c_meaning.specs.Runs.{Run, turn, rounds}
 use Rattle.c_meaning.specs.Statements.{act, kind_act, act_if_any, does, part, in_order, nothing, condition, run_if_any, assigned, updated, declared_run, returned, meant_target, meant_if_any, step_operator}
 use Rattle.c_meaning.specs.Lawful.{LawfulExpr, LawfulAssignment, LawfulStep, LawfulDeclaration, LawfulOption, LawfulReturn}
 use Rattle.c_meaning.specs.PartLaws.{LawfulAt}
@@ -67,6 +67,17 @@ abbrev pub ForGives : Objects → Option Ty → TypedStmt → Machine → Ending
 ForGives k r s old e new =
     (f : List TypedStmt) (c : Option TypedExpr) (o : Option TypedStmt) (b : TypedStmt) (l : Bool) → s.kind ≡ stmt.For f c o b → LawfulAt k r l s → CanRun k old
     → Ran k r (for_loop k s.kind (old.left + 1)) old e new
+
+-- what a statement does after its turn
+abbrev pub AfterTurn : Objects → Option Ty → TypedStmt → Machine → Ending → Machine → Type 0
+AfterTurn k r s old e new = (run : Run) → (act k s).run ≡ turn run → Ran k r run old e new
+
+abbrev pub IfGives : Objects → Option Ty → TypedStmt → Machine → Ending → Machine → Type 0
+IfGives k r s old e new = (c : TypedExpr) (a : TypedStmt) (o : Option TypedStmt) (l : Bool) → s.kind ≡ stmt.If c a o → LawfulAt k r l s → CanRun k old → AfterTurn k r s old e new
+
+abbrev pub LoopGives : Objects → Option Ty → TypedStmt → Machine → Ending → Machine → Type 0
+LoopGives k r s old e new =
+    (f : List TypedStmt) (c : Option TypedExpr) (o : Option TypedStmt) (b : TypedStmt) (l : Bool) → s.kind ≡ stmt.For f c o b → LawfulAt k r l s → CanRun k old → AfterTurn k r s old e new
 
 abbrev pub DeclareGives : Objects → Option Ty → ℕ → Option TypedExpr → Machine → Ending → Machine → Type 0
 DeclareGives k r v e old w new = LawfulDeclaration k (LawfulExpr k) v e → CanRun k old → Ran k r (declared_run k v (meant_if_any k e)) old w new

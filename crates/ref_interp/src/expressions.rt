@@ -1,7 +1,7 @@
 //! Expressions, evaluated on cells: an evaluation gives a pattern, and leaves what was undefined and the turns in a trace.
 ghost use Rattle.std.specs.Prelude.{◌≡◌, ◌==◌, if◌then◌else◌};
 ghost use Rattle.c_meaning.specs.Statements.{objects};
-ghost use Rattle.ref_interp.specs.Evaluations.{EvalGives, ReadGives, UnaryGives, StrictGives, Enters, PlaceGives, ElementGives};
+ghost use Rattle.ref_interp.specs.Evaluations.{EvalGives, BinaryGives, ChoiceGives, ReadGives, UnaryGives, StrictGives, Enters, PlaceGives, ElementGives};
 
 use crate::cells::{Cells, Trace};
 use crate::operators::{converted, is_defined, is_defined_on, is_within, joined, made};
@@ -37,46 +37,65 @@ pub(crate) fn eval(
             let x = eval(typed, profile, cells, trace, arg);
             converted(arg.ty, e.ty, x)
         }
-        TypedExprKind::Binary(op, a, b) => {
-            let a = a.get();
-            let b = b.get();
-            let x = eval(typed, profile, cells, trace, a);
-            if trace.failed {
-                return 0;
-            }
-            match op {
-                Binary::Both => {
-                    trace.add_turn();
-                    if x == 0 {
-                        return 0;
-                    }
-                    truth(eval(typed, profile, cells, trace, b))
-                }
-                Binary::Either => {
-                    trace.add_turn();
-                    if x != 0 {
-                        return 1;
-                    }
-                    truth(eval(typed, profile, cells, trace, b))
-                }
-                _ => {
-                    let y = eval(typed, profile, cells, trace, b);
-                    strict(profile, trace, *op, a.ty, b.ty, x, y, e.at)
-                }
-            }
-        }
-        TypedExprKind::Choose(c, a, b) => {
-            let x = eval(typed, profile, cells, trace, c.get());
-            if trace.failed {
-                return 0;
-            }
+        TypedExprKind::Binary(_, _, _) => binary(typed, profile, cells, trace, e),
+        TypedExprKind::Choose(_, _, _) => choice(typed, profile, cells, trace, e),
+    }
+}
+
+/// The pattern of an expression of two operands: of `&&` and `||` the right one is evaluated where the left one does not
+/// decide.
+#[cycle(eval)]
+fn binary(typed: &Typed, profile: Profile, cells: &Cells, trace: &mut Trace, e: &TypedExpr) -> u64
+    ensures { BinaryGives (objects profile typed.now) cells.now e.now trace.old trace.new result }
+{
+    let TypedExprKind::Binary(op, a, b) = &e.kind else {
+        return 0;
+    };
+    let a = a.get();
+    let b = b.get();
+    let x = eval(typed, profile, cells, trace, a);
+    if trace.failed {
+        return 0;
+    }
+    match op {
+        Binary::Both => {
             trace.add_turn();
             if x == 0 {
-                eval(typed, profile, cells, trace, b.get())
-            } else {
-                eval(typed, profile, cells, trace, a.get())
+                return 0;
             }
+            truth(eval(typed, profile, cells, trace, b))
         }
+        Binary::Either => {
+            trace.add_turn();
+            if x != 0 {
+                return 1;
+            }
+            truth(eval(typed, profile, cells, trace, b))
+        }
+        _ => {
+            let y = eval(typed, profile, cells, trace, b);
+            strict(profile, trace, *op, a.ty, b.ty, x, y, e.at)
+        }
+    }
+}
+
+/// The pattern of a `?:`: of its second and third part one is evaluated.
+#[cycle(eval)]
+fn choice(typed: &Typed, profile: Profile, cells: &Cells, trace: &mut Trace, e: &TypedExpr) -> u64
+    ensures { ChoiceGives (objects profile typed.now) cells.now e.now trace.old trace.new result }
+{
+    let TypedExprKind::Choose(c, a, b) = &e.kind else {
+        return 0;
+    };
+    let x = eval(typed, profile, cells, trace, c.get());
+    if trace.failed {
+        return 0;
+    }
+    trace.add_turn();
+    if x == 0 {
+        eval(typed, profile, cells, trace, b.get())
+    } else {
+        eval(typed, profile, cells, trace, a.get())
     }
 }
 

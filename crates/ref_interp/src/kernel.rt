@@ -3,17 +3,22 @@ ghost use Rattle.std.specs.Prelude.{◌≡◌, List, length, slice_get, IfOk};
 ghost use Rattle.el_base.specs.declared.ty.Ty.{Ty};
 ghost use Rattle.c_meaning.specs.Lawful.{Lawful};
 ghost use Rattle.c_meaning.specs.Statements.{objects};
-ghost use Rattle.ref_interp.specs.Outcomes.{InputsFit, input_numbers, Says, IsOnly};
+ghost use Rattle.ref_interp.specs.Outcomes.{InputsFit, input_numbers, Says, IsOnly, HasResults};
 ghost use Rattle.ref_interp.specs.Kernels.{BodyGives, IsOpening, OutcomeGives, opened};
 
 use crate::cells::{Cells, Trace};
 use crate::laws::{parts_are_known, patterns_follow_numbers};
 use crate::machine::{Ending, Machine};
 use crate::statements::{enter, exec_all};
+use crate::turn_laws::ends_need_only_their_turns;
 use c_ast::Typed;
 use c_meaning::Profile;
-use c_meaning::laws::ends_are_one;
-use el_base::{List, Memory, Span, patterns_are_those_of_their_numbers};
+use c_meaning::laws::{ends_are_one, larger_bounds_keep_ends};
+use c_meaning::range_laws::numbers_stay_in_range;
+use el_base::{
+    List, Memory, Span, patterns_are_those_of_their_numbers, patterns_have_their_width,
+    patterns_stand_for_numbers_in_range,
+};
 use net_types::Inputs;
 use std::alloc::Global;
 
@@ -52,11 +57,17 @@ pub fn interpret(
         (Says typed.now profile (input_numbers typed.now inputs.now) turns) }
     ensures only { IfOk result
         (IsOnly typed.now profile (input_numbers typed.now inputs.now) turns) }
+    ensures results { IfOk result (HasResults typed.now) }
 {
     patterns_follow_numbers();
     parts_are_known();
     ends_are_one();
+    larger_bounds_keep_ends();
+    ends_need_only_their_turns();
     patterns_are_those_of_their_numbers();
+    patterns_have_their_width();
+    patterns_stand_for_numbers_in_range();
+    numbers_stay_in_range();
     let cells = opening(alloc, typed, inputs)?;
     let trace = Trace {
         failed: false,

@@ -3,11 +3,15 @@
 
 mod cells;
 mod expressions;
+mod header;
 mod kernel;
 mod laws;
 mod machine;
 mod operators;
 mod statements;
 mod targets;
+mod turn_laws;
 
+pub use header::{flat_arrays, names_of_parameters_differ, scalars};
 pub use kernel::{Outcome, interpret};
+pub use turn_laws::ends_need_only_their_turns;

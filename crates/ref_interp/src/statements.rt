@@ -3,7 +3,7 @@ ghost use Rattle.std.specs.Prelude.{◌≡◌, ◌∷◌, []};
 ghost use Rattle.c_meaning.specs.Stores.{Objects};
 ghost use Rattle.c_meaning.specs.Statements.{objects};
 ghost use Rattle.ref_interp.specs.Machines.{goes_on, left_loop, is_normal};
-ghost use Rattle.ref_interp.specs.Statements.{ExecGives, PartGives, AllGive, EnterGives, TestGives, RoundsGive, ForGives, DeclareGives, ReturnGives};
+ghost use Rattle.ref_interp.specs.Statements.{ExecGives, PartGives, AllGive, EnterGives, TestGives, RoundsGive, ForGives, IfGives, LoopGives, DeclareGives, ReturnGives};
 
 use crate::expressions::eval;
 use crate::machine::{Ending, Machine, Test, put_var};
@@ -65,15 +65,11 @@ fn exec(typed: &Typed, profile: Profile, m: &mut Machine, s: &TypedStmt) -> Endi
             Some(op) => update(typed, profile, m, target, *op, value),
         },
         TypedStmtKind::Step { target, up } => step(typed, profile, m, target, *up),
-        TypedStmtKind::If { cond, then, other } => match tested(typed, profile, m, cond) {
-            Test::Holds => part(typed, profile, m, then.get()),
-            Test::Fails => match other {
-                None => Ending::Normally,
-                Some(other) => part(typed, profile, m, other.get()),
-            },
-            Test::Undefined => Ending::Undefined,
-            Test::OutOfTurns => Ending::OutOfTurns,
-        },
+        TypedStmtKind::If {
+            cond: _,
+            then: _,
+            other: _,
+        } => if_else(typed, profile, m, s),
         TypedStmtKind::While { cond, body } => rounds(typed, profile, m, body.get(), cond),
         TypedStmtKind::DoWhile { body, cond } => {
             let ending = part(typed, profile, m, body.get());
@@ -83,23 +79,57 @@ fn exec(typed: &Typed, profile: Profile, m: &mut Machine, s: &TypedStmt) -> Endi
             rounds(typed, profile, m, body.get(), cond)
         }
         TypedStmtKind::For {
-            first,
+            first: _,
             cond: _,
             step: _,
             body: _,
-        } => {
-            enter(m, first.as_slice());
-            let ending = exec_all(typed, profile, m, first.as_slice());
-            if !ending.is_normal() {
-                return ending;
-            }
-            for_rounds(typed, profile, m, s)
-        }
+        } => for_loop(typed, profile, m, s),
         TypedStmtKind::Break => Ending::Break,
         TypedStmtKind::Continue => Ending::Continue,
         TypedStmtKind::Return(value) => give(typed, profile, m, value),
         TypedStmtKind::Empty => Ending::Normally,
     }
+}
+
+/// Runs an `if`, after its turn.
+#[cycle(exec)]
+fn if_else(typed: &Typed, profile: Profile, m: &mut Machine, s: &TypedStmt) -> Ending
+    ensures { IfGives (objects profile typed.now) typed.now.result s.now m.old result m.new }
+{
+    let TypedStmtKind::If { cond, then, other } = &s.kind else {
+        return Ending::Normally;
+    };
+    match tested(typed, profile, m, cond) {
+        Test::Holds => part(typed, profile, m, then.get()),
+        Test::Fails => match other {
+            None => Ending::Normally,
+            Some(other) => part(typed, profile, m, other.get()),
+        },
+        Test::Undefined => Ending::Undefined,
+        Test::OutOfTurns => Ending::OutOfTurns,
+    }
+}
+
+/// Runs a `for`, after its turn.
+#[cycle(exec)]
+fn for_loop(typed: &Typed, profile: Profile, m: &mut Machine, s: &TypedStmt) -> Ending
+    ensures { LoopGives (objects profile typed.now) typed.now.result s.now m.old result m.new }
+{
+    let TypedStmtKind::For {
+        first,
+        cond: _,
+        step: _,
+        body: _,
+    } = &s.kind
+    else {
+        return Ending::Normally;
+    };
+    enter(m, first.as_slice());
+    let ending = exec_all(typed, profile, m, first.as_slice());
+    if !ending.is_normal() {
+        return ending;
+    }
+    for_rounds(typed, profile, m, s)
 }
 
 /// Runs statements in order.
@@ -172,8 +202,8 @@ fn for_rounds(typed: &Typed, profile: Profile, m: &mut Machine, s: &TypedStmt) -
     else {
         return Ending::Normally;
     };
-    let most_rounds = m.left.saturating_add(1);
-    for i in 0..most_rounds {
+    let limit = m.left.saturating_add(1);
+    for i in 0..limit {
         match tested_if_any(typed, profile, m, cond) {
             Test::Holds => {}
             Test::Fails => return Ending::Normally,

@@ -225,11 +225,11 @@ pub(crate) fn step(
     if m.trace.failed {
         return Ending::Undefined;
     }
-    let old = old_of(&m.cells, &mut m.trace, target.to, place, target.at);
+    let start = old_of(&m.cells, &mut m.trace, target.to, place, target.at);
     if m.trace.failed {
         return Ending::Undefined;
     }
     let joint = usual(type_of(typed, target.to), Ty::I32);
     let op = if up { Binary::Add } else { Binary::Sub };
-    join_into(typed, profile, m, target, place, old, op, joint, joint, 1)
+    join_into(typed, profile, m, target, place, start, op, joint, joint, 1)
 }

@@ -38,68 +38,74 @@ eval-returns-in-Cast t c h q =
     cast_answers k c.args.cells.now e.kind e.ty e.at _ c.in-Cast.arg c.get-arg-in-Cast.result.now c.args.trace.now c.eval-x-in-Cast.new.trace c.eval-x-in-Cast.result c.converted.result
     c.in-Cast.is c.get-arg-in-Cast.ensures h q c.eval-x-in-Cast.ensures c.converted.ensures
 
-pub eval-returns-then-trace : goal.eval-returns-then-trace
-eval-returns-then-trace t c h q =
-    let k = objects c.args.profile c.args.typed.now in
-    let e = c.args.e.now in
-    binary_fails k c.args.cells.now e.kind e.ty e.at c.in-Binary.op c.in-Binary.a c.in-Binary.b c.get-a.result.now c.args.trace.now c.eval-x-in-Binary.new.trace c.eval-x-in-Binary.result 0
-    c.in-Binary.is c.get-a.ensures h q c.eval-x-in-Binary.ensures c.if-trace.true
+pub eval-returns-in-Binary : goal.eval-returns-in-Binary
+eval-returns-in-Binary t c h q = c.binary.ensures _ _ _ c.in-Binary.is h q
 
-pub eval-returns-then-x-eq0 : goal.eval-returns-then-x-eq0
-eval-returns-then-x-eq0 t c h q =
-    let k = objects c.args.profile c.args.typed.now in
-    let e = c.args.e.now in
-    both_decided k c.args.cells.now e.kind e.ty e.at c.in-Binary.op c.in-Binary.a c.in-Binary.b c.get-a.result.now c.get-b.result.now c.args.trace.now c.eval-x-in-Binary.new.trace c.add_turn.new.self c.eval-x-in-Binary.result
-    c.in-Binary.is c.in-Both.is c.get-a.ensures c.get-b.ensures h q c.eval-x-in-Binary.ensures c.if-trace.false c.add_turn.ensures.turns c.add_turn.ensures.same c.if-x-eq0.true
+pub eval-returns-in-Choose : goal.eval-returns-in-Choose
+eval-returns-in-Choose t c h q = c.choice.ensures _ _ _ c.in-Choose.is h q
 
-pub eval-returns-else-x-eq0 : goal.eval-returns-else-x-eq0
-eval-returns-else-x-eq0 t c h q =
+pub binary-returns-then-trace : goal.binary-returns-then-trace
+binary-returns-then-trace t c op a b is h q =
     let k = objects c.args.profile c.args.typed.now in
     let e = c.args.e.now in
-    both_answers k c.args.cells.now e.kind e.ty e.at c.in-Binary.op c.in-Binary.a c.in-Binary.b c.get-a.result.now c.get-b.result.now c.args.trace.now c.eval-x-in-Binary.new.trace c.add_turn.new.self c.eval.new.trace c.eval-x-in-Binary.result c.eval.result c.truth.result
-    c.in-Binary.is c.in-Both.is c.get-a.ensures c.get-b.ensures h q c.eval-x-in-Binary.ensures c.if-trace.false c.add_turn.ensures.turns c.add_turn.ensures.same c.if-x-eq0.false c.eval.ensures c.truth.ensures
+    binary_fails k c.args.cells.now e.kind e.ty e.at c.in-Binary.op c.in-Binary.a c.in-Binary.b c.get-a.result.now c.args.trace.now c.eval-x.new.trace c.eval-x.result 0
+    c.in-Binary.is c.get-a.ensures h q c.eval-x.ensures c.if-trace.true
 
-pub eval-returns-then-x-ne0 : goal.eval-returns-then-x-ne0
-eval-returns-then-x-ne0 t c h q =
+pub binary-returns-then-x-eq0 : goal.binary-returns-then-x-eq0
+binary-returns-then-x-eq0 t c op a b is h q =
     let k = objects c.args.profile c.args.typed.now in
     let e = c.args.e.now in
-    either_decided k c.args.cells.now e.kind e.ty e.at c.in-Binary.op c.in-Binary.a c.in-Binary.b c.get-a.result.now c.get-b.result.now c.args.trace.now c.eval-x-in-Binary.new.trace c.add_turn-in-Either.new.self c.eval-x-in-Binary.result
-    c.in-Binary.is c.in-Either.is c.get-a.ensures c.get-b.ensures h q c.eval-x-in-Binary.ensures c.if-trace.false c.add_turn-in-Either.ensures.turns c.add_turn-in-Either.ensures.same c.if-x-ne0.true
+    both_decided k c.args.cells.now e.kind e.ty e.at c.in-Binary.op c.in-Binary.a c.in-Binary.b c.get-a.result.now c.get-b.result.now c.args.trace.now c.eval-x.new.trace c.add_turn.new.self c.eval-x.result
+    c.in-Binary.is c.in-Both.is c.get-a.ensures c.get-b.ensures h q c.eval-x.ensures c.if-trace.false c.add_turn.ensures.turns c.add_turn.ensures.same c.if-x-eq0.true
 
-pub eval-returns-else-x-ne0 : goal.eval-returns-else-x-ne0
-eval-returns-else-x-ne0 t c h q =
+pub binary-returns-else-x-eq0 : goal.binary-returns-else-x-eq0
+binary-returns-else-x-eq0 t c op a b is h q =
     let k = objects c.args.profile c.args.typed.now in
     let e = c.args.e.now in
-    either_answers k c.args.cells.now e.kind e.ty e.at c.in-Binary.op c.in-Binary.a c.in-Binary.b c.get-a.result.now c.get-b.result.now c.args.trace.now c.eval-x-in-Binary.new.trace c.add_turn-in-Either.new.self c.eval-in-Either.new.trace c.eval-x-in-Binary.result c.eval-in-Either.result c.truth-in-Either.result
-    c.in-Binary.is c.in-Either.is c.get-a.ensures c.get-b.ensures h q c.eval-x-in-Binary.ensures c.if-trace.false c.add_turn-in-Either.ensures.turns c.add_turn-in-Either.ensures.same c.if-x-ne0.false c.eval-in-Either.ensures c.truth-in-Either.ensures
+    both_answers k c.args.cells.now e.kind e.ty e.at c.in-Binary.op c.in-Binary.a c.in-Binary.b c.get-a.result.now c.get-b.result.now c.args.trace.now c.eval-x.new.trace c.add_turn.new.self c.eval.new.trace c.eval-x.result c.eval.result c.truth.result
+    c.in-Binary.is c.in-Both.is c.get-a.ensures c.get-b.ensures h q c.eval-x.ensures c.if-trace.false c.add_turn.ensures.turns c.add_turn.ensures.same c.if-x-eq0.false c.eval.ensures c.truth.ensures
 
-pub eval-returns-in_default : goal.eval-returns-in_default
-eval-returns-in_default t c h q =
+pub binary-returns-then-x-ne0 : goal.binary-returns-then-x-ne0
+binary-returns-then-x-ne0 t c op a b is h q =
     let k = objects c.args.profile c.args.typed.now in
     let e = c.args.e.now in
-    strict_answers k c.args.cells.now e.kind e.ty e.at c.in-Binary.op c.in-Binary.a c.in-Binary.b c.get-a.result.now c.get-b.result.now c.args.trace.now c.eval-x-in-Binary.new.trace c.eval-y.new.trace c.strict.new.trace c.eval-x-in-Binary.result c.eval-y.result c.strict.result
-    c.in-Binary.is c.get-a.ensures c.get-b.ensures c.in_default.not-Both c.in_default.not-Either h q c.eval-x-in-Binary.ensures c.if-trace.false c.eval-y.ensures c.strict.ensures
+    either_decided k c.args.cells.now e.kind e.ty e.at c.in-Binary.op c.in-Binary.a c.in-Binary.b c.get-a.result.now c.get-b.result.now c.args.trace.now c.eval-x.new.trace c.add_turn-in-Either.new.self c.eval-x.result
+    c.in-Binary.is c.in-Either.is c.get-a.ensures c.get-b.ensures h q c.eval-x.ensures c.if-trace.false c.add_turn-in-Either.ensures.turns c.add_turn-in-Either.ensures.same c.if-x-ne0.true
 
-pub eval-returns-then-trace-2 : goal.eval-returns-then-trace-2
-eval-returns-then-trace-2 t c h q =
+pub binary-returns-else-x-ne0 : goal.binary-returns-else-x-ne0
+binary-returns-else-x-ne0 t c op a b is h q =
     let k = objects c.args.profile c.args.typed.now in
     let e = c.args.e.now in
-    choice_fails k c.args.cells.now e.kind e.ty e.at c.in-Choose.c c.in-Choose.a c.in-Choose.b c.get.result.now c.args.trace.now c.eval-x-in-Choose.new.trace c.eval-x-in-Choose.result 0
-    c.in-Choose.is c.get.ensures h q c.eval-x-in-Choose.ensures c.if-trace-2.true
+    either_answers k c.args.cells.now e.kind e.ty e.at c.in-Binary.op c.in-Binary.a c.in-Binary.b c.get-a.result.now c.get-b.result.now c.args.trace.now c.eval-x.new.trace c.add_turn-in-Either.new.self c.eval-in-Either.new.trace c.eval-x.result c.eval-in-Either.result c.truth-in-Either.result
+    c.in-Binary.is c.in-Either.is c.get-a.ensures c.get-b.ensures h q c.eval-x.ensures c.if-trace.false c.add_turn-in-Either.ensures.turns c.add_turn-in-Either.ensures.same c.if-x-ne0.false c.eval-in-Either.ensures c.truth-in-Either.ensures
 
-pub eval-returns-then-x-eq0-2 : goal.eval-returns-then-x-eq0-2
-eval-returns-then-x-eq0-2 t c h q =
+pub binary-returns-in_default-op : goal.binary-returns-in_default-op
+binary-returns-in_default-op t c op a b is h q =
     let k = objects c.args.profile c.args.typed.now in
     let e = c.args.e.now in
-    choice_second k c.args.cells.now e.kind e.ty e.at c.in-Choose.c c.in-Choose.a c.in-Choose.b c.get.result.now c.get-then-x-eq0-2.result.now c.args.trace.now c.eval-x-in-Choose.new.trace c.add_turn-in-Choose.new.self c.eval-then-x-eq0-2.new.trace c.eval-x-in-Choose.result c.eval-then-x-eq0-2.result
-    c.in-Choose.is c.get.ensures c.get-then-x-eq0-2.ensures h q c.eval-x-in-Choose.ensures c.if-trace-2.false c.add_turn-in-Choose.ensures.turns c.add_turn-in-Choose.ensures.same c.if-x-eq0-2.true c.eval-then-x-eq0-2.ensures
+    strict_answers k c.args.cells.now e.kind e.ty e.at c.in-Binary.op c.in-Binary.a c.in-Binary.b c.get-a.result.now c.get-b.result.now c.args.trace.now c.eval-x.new.trace c.eval-y.new.trace c.strict.new.trace c.eval-x.result c.eval-y.result c.strict.result
+    c.in-Binary.is c.get-a.ensures c.get-b.ensures c.in_default-op.not-Both c.in_default-op.not-Either h q c.eval-x.ensures c.if-trace.false c.eval-y.ensures c.strict.ensures
 
-pub eval-returns-else-x-eq0-2 : goal.eval-returns-else-x-eq0-2
-eval-returns-else-x-eq0-2 t c h q =
+pub choice-returns-then-trace : goal.choice-returns-then-trace
+choice-returns-then-trace t c d a b is h q =
     let k = objects c.args.profile c.args.typed.now in
     let e = c.args.e.now in
-    choice_first k c.args.cells.now e.kind e.ty e.at c.in-Choose.c c.in-Choose.a c.in-Choose.b c.get.result.now c.get-else-x-eq0-2.result.now c.args.trace.now c.eval-x-in-Choose.new.trace c.add_turn-in-Choose.new.self c.eval-else-x-eq0-2.new.trace c.eval-x-in-Choose.result c.eval-else-x-eq0-2.result
-    c.in-Choose.is c.get.ensures c.get-else-x-eq0-2.ensures h q c.eval-x-in-Choose.ensures c.if-trace-2.false c.add_turn-in-Choose.ensures.turns c.add_turn-in-Choose.ensures.same c.if-x-eq0-2.false c.eval-else-x-eq0-2.ensures
+    choice_fails k c.args.cells.now e.kind e.ty e.at c.in-Choose.c c.in-Choose.a c.in-Choose.b c.get.result.now c.args.trace.now c.eval-x.new.trace c.eval-x.result 0
+    c.in-Choose.is c.get.ensures h q c.eval-x.ensures c.if-trace.true
+
+pub choice-returns-then-x-eq0 : goal.choice-returns-then-x-eq0
+choice-returns-then-x-eq0 t c d a b is h q =
+    let k = objects c.args.profile c.args.typed.now in
+    let e = c.args.e.now in
+    choice_second k c.args.cells.now e.kind e.ty e.at c.in-Choose.c c.in-Choose.a c.in-Choose.b c.get.result.now c.get-then-x-eq0.result.now c.args.trace.now c.eval-x.new.trace c.add_turn.new.self c.eval.new.trace c.eval-x.result c.eval.result
+    c.in-Choose.is c.get.ensures c.get-then-x-eq0.ensures h q c.eval-x.ensures c.if-trace.false c.add_turn.ensures.turns c.add_turn.ensures.same c.if-x-eq0.true c.eval.ensures
+
+pub choice-returns-else-x-eq0 : goal.choice-returns-else-x-eq0
+choice-returns-else-x-eq0 t c d a b is h q =
+    let k = objects c.args.profile c.args.typed.now in
+    let e = c.args.e.now in
+    choice_first k c.args.cells.now e.kind e.ty e.at c.in-Choose.c c.in-Choose.a c.in-Choose.b c.get.result.now c.get-else-x-eq0.result.now c.args.trace.now c.eval-x.new.trace c.add_turn.new.self c.eval-else-x-eq0.new.trace c.eval-x.result c.eval-else-x-eq0.result
+    c.in-Choose.is c.get.ensures c.get-else-x-eq0.ensures h q c.eval-x.ensures c.if-trace.false c.add_turn.ensures.turns c.add_turn.ensures.same c.if-x-eq0.false c.eval-else-x-eq0.ensures
 
 pub place_of-loop-i-init : goal.place_of-loop-i-init
 place_of-loop-i-init t c = λ ty el all ready. walked_start (objects c.args.profile c.args.typed.now) c.args.cells.now c.args.indices.now c.args.array c.args.trace.now ready

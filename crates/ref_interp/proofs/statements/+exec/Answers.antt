@@ -1,16 +1,16 @@
-use Rattle.std.proofs.Common.{◌≡◌, ℕ, ◌+◌, ◌-◌, ◌<◌, [], map, refl, sym, ◌∙◌, subst, arith}
+use Rattle.std.proofs.Common.{◌≡◌, ℕ, ◌+◌, ◌-◌, ◌<◌, [], map, refl, sym, ◌∙◌, ap, subst, arith}
 use Rattle.std.specs.Prelude.{true, false, option_map}
 use Rattle.c_ast.specs.declared.typed.TypedStmt.{TypedStmt}
 use Rattle.c_meaning.specs.Stores.{Objects}
 use Rattle.c_meaning.specs.Expressions.{meaning}
 use Rattle.c_meaning.specs.Runs.{Run, both_runs, branch, looped, rounds, loop}
-use Rattle.c_meaning.specs.Statements.{objects, act, part, in_order, block, entering, nothing, condition, meant_if_any, run_if_any}
+use Rattle.c_meaning.specs.Statements.{Act, kind_act, objects, act, part, in_order, block, entering, nothing, condition, meant_if_any, run_if_any}
 use Rattle.c_meaning.specs.PartLaws.{LawfulAt}
 use Rattle.ref_interp.specs.declared.machine.Ending.TheVariants as ending
 use Rattle.ref_interp.specs.declared.machine.Machine.{Machine}
 use Rattle.ref_interp.specs.Machines.{CanRun, Ran, goes_on}
 use Rattle.ref_interp.specs.Statements.{EnterGives, AllGive}
-use Rattle.ref_interp.proofs.Running.{still_can, then_can, kind_goes, kind_starved, both_stop, both_ran, loop_goes, gone_start, gone_more, gone_stops, gone_all, the_stmt, rounded_start, rounded_fails, rounded_undefined, rounded_starved, rounded_leaves, rounded_stops, rounded_more, rounded_over, no_step, Rounded}
+use Rattle.ref_interp.proofs.Running.{still_can, then_can, kind_goes, after_turn, kind_starved, both_stop, both_ran, loop_goes, gone_start, gone_more, gone_stops, gone_all, the_stmt, rounded_start, rounded_fails, rounded_undefined, rounded_starved, rounded_leaves, rounded_stops, rounded_more, rounded_over, no_step, Rounded}
 use Rattle.ref_interp.proofs.ByParts.{lawful_of, entered_can, entered_run, if_holds, if_fails, if_undefined, if_starved, loop_ran, for_loop_is, some_step, absent_step, some_lawful}
 use Rattle.ref_interp.proofs.statements.+exec.Goals as goal
 use Rattle.ref_interp.proofs.statements.+exec.Goals.{for_rounds-in-Some+else-not-is_normal, for_rounds-in_default-step}
@@ -37,70 +37,71 @@ exec-returns-in-Block t c l h can =
     kind_goes k r c.args.s.now.kind _ _ (block (map (act k) c.in-Block.body)) c.args.m.now m1 c.exec_all.new.m c.exec_all.result c.in-Block.is (can.parts.block c.in-Block.body k) refl left c.take.ensures.cells
     (entered_run k r c.in-Block.body (in_order (map (act k) c.in-Block.body)) m1 c.enter.new.m c.exec_all.new.m c.exec_all.result en ran)
 
-pub exec-returns-in-Holds : goal.exec-returns-in-Holds
-exec-returns-in-Holds t c l h can =
+pub exec-returns-in-If : goal.exec-returns-in-If
+exec-returns-in-If t c l h can =
     let k = objects c.args.profile c.args.typed.now in
     let r = c.args.typed.now.result in
     let m1 = c.take.new.self in
     let left = c.take.ensures.yes c.if-not-take.false in
     let can1 = taken k c.args.m.now m1 can left c.take.ensures.cells in
+    let by = can.parts.choice c.in-If.cond c.in-If.then c.in-If.other k in
+    let ran = c.if_else.ensures c.in-If.cond c.in-If.then c.in-If.other l c.in-If.is h can1 (branch (in_order []) (meaning k c.in-If.cond) (part (act k c.in-If.then)) (run_if_any (option_map (act k) c.in-If.other))) (ap (λ x. (kind_act k x).run) c.in-If.is ∙ ap (λ (a : Act). a.run) by) in
+    kind_goes k r c.args.s.now.kind _ _ (branch (in_order []) (meaning k c.in-If.cond) (part (act k c.in-If.then)) (run_if_any (option_map (act k) c.in-If.other))) c.args.m.now m1 c.if_else.new.m c.if_else.result c.in-If.is (can.parts.choice c.in-If.cond c.in-If.then c.in-If.other k) refl left c.take.ensures.cells ran
+
+pub if_else-returns-in-Holds : goal.if_else-returns-in-Holds
+if_else-returns-in-Holds t c d a o l is h can w0 eq =
+    let k = objects c.args.profile c.args.typed.now in
+    let r = c.args.typed.now.result in
+    let m1 = c.args.m.now in
     let w = (can.parts.lawful_choice c.in-If.cond c.in-If.then c.in-If.other k r l).0 (lawful_of k r l _ _ c.in-If.is h) in
-    let test = c.in-Holds.ensures w.0 can1 in
-    let can2 = still_can k m1 c.tested.new.m can1 test.cells test.fewer in
+    let test = c.in-Holds.ensures w.0 can in
+    let can2 = still_can k m1 c.tested.new.m can test.cells test.fewer in
     let ran = subst (λ (s : TypedStmt). Ran k r (part (act k s)) c.tested.new.m c.part.result c.part.new.m) c.get.ensures (c.part.ensures l (subst (LawfulAt k r l) (sym c.get.ensures) w.1) can2) in
-    kind_goes k r c.args.s.now.kind _ _ (branch (in_order []) (meaning k c.in-If.cond) (part (act k c.in-If.then)) (run_if_any (option_map (act k) c.in-If.other))) c.args.m.now m1 c.part.new.m c.part.result c.in-If.is (can.parts.choice c.in-If.cond c.in-If.then c.in-If.other k) refl left c.take.ensures.cells
+    after_turn k r c.args.s.now.kind _ _ (branch (in_order []) (meaning k c.in-If.cond) (part (act k c.in-If.then)) (run_if_any (option_map (act k) c.in-If.other))) w0 m1 c.part.new.m c.part.result c.in-If.is (can.parts.choice c.in-If.cond c.in-If.then c.in-If.other k) refl eq
     (if_holds k r (meaning k c.in-If.cond) (part (act k c.in-If.then)) (run_if_any (option_map (act k) c.in-If.other)) m1 c.tested.new.m c.part.new.m c.part.result test ran)
 
-pub exec-returns-in-None-other : goal.exec-returns-in-None-other
-exec-returns-in-None-other t c l h can =
+pub if_else-returns-in-None : goal.if_else-returns-in-None
+if_else-returns-in-None t c d a o l is h can w0 eq =
     let k = objects c.args.profile c.args.typed.now in
     let r = c.args.typed.now.result in
-    let m1 = c.take.new.self in
-    let left = c.take.ensures.yes c.if-not-take.false in
-    let can1 = taken k c.args.m.now m1 can left c.take.ensures.cells in
+    let m1 = c.args.m.now in
     let w = (can.parts.lawful_choice c.in-If.cond c.in-If.then c.in-If.other k r l).0 (lawful_of k r l _ _ c.in-If.is h) in
-    let test = c.in-Fails.ensures w.0 can1 in
-    let can2 = still_can k m1 c.tested.new.m can1 test.cells test.fewer in
-    kind_goes k r c.args.s.now.kind _ _ (branch (in_order []) (meaning k c.in-If.cond) (part (act k c.in-If.then)) (run_if_any (option_map (act k) c.in-If.other))) c.args.m.now m1 c.tested.new.m ending.Normally c.in-If.is (can.parts.choice c.in-If.cond c.in-If.then c.in-If.other k) refl left c.take.ensures.cells
-    (if_fails k r (meaning k c.in-If.cond) (part (act k c.in-If.then)) (run_if_any (option_map (act k) c.in-If.other)) m1 c.tested.new.m c.tested.new.m ending.Normally test (absent_step k r c.in-If.other c.tested.new.m c.in-None-other.is can2))
+    let test = c.in-Fails.ensures w.0 can in
+    let can2 = still_can k m1 c.tested.new.m can test.cells test.fewer in
+    after_turn k r c.args.s.now.kind _ _ (branch (in_order []) (meaning k c.in-If.cond) (part (act k c.in-If.then)) (run_if_any (option_map (act k) c.in-If.other))) w0 m1 c.tested.new.m ending.Normally c.in-If.is (can.parts.choice c.in-If.cond c.in-If.then c.in-If.other k) refl eq
+    (if_fails k r (meaning k c.in-If.cond) (part (act k c.in-If.then)) (run_if_any (option_map (act k) c.in-If.other)) m1 c.tested.new.m c.tested.new.m ending.Normally test (absent_step k r c.in-If.other c.tested.new.m c.in-None.is can2))
 
-pub exec-returns-in-Some-other : goal.exec-returns-in-Some-other
-exec-returns-in-Some-other t c l h can =
+pub if_else-returns-in-Some : goal.if_else-returns-in-Some
+if_else-returns-in-Some t c d a o l is h can w0 eq =
     let k = objects c.args.profile c.args.typed.now in
     let r = c.args.typed.now.result in
-    let m1 = c.take.new.self in
-    let left = c.take.ensures.yes c.if-not-take.false in
-    let can1 = taken k c.args.m.now m1 can left c.take.ensures.cells in
+    let m1 = c.args.m.now in
     let w = (can.parts.lawful_choice c.in-If.cond c.in-If.then c.in-If.other k r l).0 (lawful_of k r l _ _ c.in-If.is h) in
-    let test = c.in-Fails.ensures w.0 can1 in
-    let can2 = still_can k m1 c.tested.new.m can1 test.cells test.fewer in
-    let n = c.part-in-Some-other.new.m in
-    let e = c.part-in-Some-other.result in
-    let ran = subst (λ (s : TypedStmt). Ran k r (part (act k s)) c.tested.new.m e n) c.get-in-Some-other.ensures (c.part-in-Some-other.ensures l (subst (LawfulAt k r l) (sym c.get-in-Some-other.ensures) (some_lawful k r l c.in-If.other c.in-Some-other.other c.in-Some-other.is w.2)) can2) in
-    kind_goes k r c.args.s.now.kind _ _ (branch (in_order []) (meaning k c.in-If.cond) (part (act k c.in-If.then)) (run_if_any (option_map (act k) c.in-If.other))) c.args.m.now m1 n e c.in-If.is (can.parts.choice c.in-If.cond c.in-If.then c.in-If.other k) refl left c.take.ensures.cells
-    (if_fails k r (meaning k c.in-If.cond) (part (act k c.in-If.then)) (run_if_any (option_map (act k) c.in-If.other)) m1 c.tested.new.m n e test (some_step k r c.in-If.other c.in-Some-other.other c.tested.new.m n e c.in-Some-other.is ran))
+    let test = c.in-Fails.ensures w.0 can in
+    let can2 = still_can k m1 c.tested.new.m can test.cells test.fewer in
+    let n = c.part-in-Some.new.m in
+    let e = c.part-in-Some.result in
+    let ran = subst (λ (s : TypedStmt). Ran k r (part (act k s)) c.tested.new.m e n) c.get-in-Some.ensures (c.part-in-Some.ensures l (subst (LawfulAt k r l) (sym c.get-in-Some.ensures) (some_lawful k r l c.in-If.other c.in-Some.other c.in-Some.is w.2)) can2) in
+    after_turn k r c.args.s.now.kind _ _ (branch (in_order []) (meaning k c.in-If.cond) (part (act k c.in-If.then)) (run_if_any (option_map (act k) c.in-If.other))) w0 m1 n e c.in-If.is (can.parts.choice c.in-If.cond c.in-If.then c.in-If.other k) refl eq
+    (if_fails k r (meaning k c.in-If.cond) (part (act k c.in-If.then)) (run_if_any (option_map (act k) c.in-If.other)) m1 c.tested.new.m n e test (some_step k r c.in-If.other c.in-Some.other c.tested.new.m n e c.in-Some.is ran))
 
-pub exec-returns-in-Undefined : goal.exec-returns-in-Undefined
-exec-returns-in-Undefined t c l h can =
+pub if_else-returns-in-Undefined : goal.if_else-returns-in-Undefined
+if_else-returns-in-Undefined t c d a o l is h can w0 eq =
     let k = objects c.args.profile c.args.typed.now in
     let r = c.args.typed.now.result in
-    let m1 = c.take.new.self in
-    let left = c.take.ensures.yes c.if-not-take.false in
-    let can1 = taken k c.args.m.now m1 can left c.take.ensures.cells in
+    let m1 = c.args.m.now in
     let w = (can.parts.lawful_choice c.in-If.cond c.in-If.then c.in-If.other k r l).0 (lawful_of k r l _ _ c.in-If.is h) in
-    kind_goes k r c.args.s.now.kind _ _ (branch (in_order []) (meaning k c.in-If.cond) (part (act k c.in-If.then)) (run_if_any (option_map (act k) c.in-If.other))) c.args.m.now m1 c.tested.new.m ending.Undefined c.in-If.is (can.parts.choice c.in-If.cond c.in-If.then c.in-If.other k) refl left c.take.ensures.cells
-    (if_undefined k r (meaning k c.in-If.cond) (part (act k c.in-If.then)) (run_if_any (option_map (act k) c.in-If.other)) m1 c.tested.new.m can1 (c.in-Undefined.ensures w.0 can1))
+    after_turn k r c.args.s.now.kind _ _ (branch (in_order []) (meaning k c.in-If.cond) (part (act k c.in-If.then)) (run_if_any (option_map (act k) c.in-If.other))) w0 m1 c.tested.new.m ending.Undefined c.in-If.is (can.parts.choice c.in-If.cond c.in-If.then c.in-If.other k) refl eq
+    (if_undefined k r (meaning k c.in-If.cond) (part (act k c.in-If.then)) (run_if_any (option_map (act k) c.in-If.other)) m1 c.tested.new.m can (c.in-Undefined.ensures w.0 can))
 
-pub exec-returns-in-OutOfTurns : goal.exec-returns-in-OutOfTurns
-exec-returns-in-OutOfTurns t c l h can =
+pub if_else-returns-in-OutOfTurns : goal.if_else-returns-in-OutOfTurns
+if_else-returns-in-OutOfTurns t c d a o l is h can w0 eq =
     let k = objects c.args.profile c.args.typed.now in
     let r = c.args.typed.now.result in
-    let m1 = c.take.new.self in
-    let left = c.take.ensures.yes c.if-not-take.false in
-    let can1 = taken k c.args.m.now m1 can left c.take.ensures.cells in
+    let m1 = c.args.m.now in
     let w = (can.parts.lawful_choice c.in-If.cond c.in-If.then c.in-If.other k r l).0 (lawful_of k r l _ _ c.in-If.is h) in
-    kind_goes k r c.args.s.now.kind _ _ (branch (in_order []) (meaning k c.in-If.cond) (part (act k c.in-If.then)) (run_if_any (option_map (act k) c.in-If.other))) c.args.m.now m1 c.tested.new.m ending.OutOfTurns c.in-If.is (can.parts.choice c.in-If.cond c.in-If.then c.in-If.other k) refl left c.take.ensures.cells
-    (if_starved k r (meaning k c.in-If.cond) (part (act k c.in-If.then)) (run_if_any (option_map (act k) c.in-If.other)) m1 c.tested.new.m can1 (c.in-OutOfTurns.ensures w.0 can1))
+    after_turn k r c.args.s.now.kind _ _ (branch (in_order []) (meaning k c.in-If.cond) (part (act k c.in-If.then)) (run_if_any (option_map (act k) c.in-If.other))) w0 m1 c.tested.new.m ending.OutOfTurns c.in-If.is (can.parts.choice c.in-If.cond c.in-If.then c.in-If.other k) refl eq
+    (if_starved k r (meaning k c.in-If.cond) (part (act k c.in-If.then)) (run_if_any (option_map (act k) c.in-If.other)) m1 c.tested.new.m can (c.in-OutOfTurns.ensures w.0 can))
 
 pub exec-returns-in-While : goal.exec-returns-in-While
 exec-returns-in-While t c l h can =
@@ -111,7 +112,7 @@ exec-returns-in-While t c l h can =
     let can1 = taken k c.args.m.now m1 can left c.take.ensures.cells in
     let w = (can.parts.lawful_while c.in-While.cond c.in-While.body k r l).0 (lawful_of k r l _ _ c.in-While.is h) in
     let ms = meaning k c.in-While.cond in
-    let ran = subst (λ (s : TypedStmt). Ran k r (rounds (m1.left + 1) nothing ms (part (act k s)) nothing) m1 c.rounds.result c.rounds.new.m) c.get-in-While.ensures (c.rounds.ensures (subst (LawfulAt k r true) (sym c.get-in-While.ensures) w.1) w.0 can1) in
+    let ran = subst (λ (s : TypedStmt). Ran k r (rounds (m1.left + 1) nothing ms (part (act k s)) nothing) m1 c.rounds.result c.rounds.new.m) c.get.ensures (c.rounds.ensures (subst (LawfulAt k r true) (sym c.get.ensures) w.1) w.0 can1) in
     kind_goes k r c.args.s.now.kind _ _ (loop (in_order []) ms (part (act k c.in-While.body)) nothing) c.args.m.now m1 c.rounds.new.m c.rounds.result c.in-While.is (can.parts.while_loop c.in-While.cond c.in-While.body k) refl left c.take.ensures.cells
     (loop_ran k r ms (part (act k c.in-While.body)) nothing m1 c.rounds.new.m c.rounds.result ran)
 
@@ -134,47 +135,54 @@ exec-returns-else-not-goes_on t c l h can =
     kind_goes k r c.args.s.now.kind _ _ (looped body (loop (in_order []) ms body nothing)) c.args.m.now m1 n e c.in-DoWhile.is (can.parts.do_loop c.in-DoWhile.body c.in-DoWhile.cond k) refl left c.take.ensures.cells
     (loop_goes k r body (loop (in_order []) ms body nothing) m1 m2 n c.part-ending.result e first (sym c.goes_on.ensures ∙ c.if-not-goes_on.false) (loop_ran k r ms body nothing m2 n e ran))
 
-pub exec-returns-then-not-is_normal : goal.exec-returns-then-not-is_normal
-exec-returns-then-not-is_normal t c l h can =
+pub exec-returns-in-For : goal.exec-returns-in-For
+exec-returns-in-For t c l h can =
     let k = objects c.args.profile c.args.typed.now in
     let r = c.args.typed.now.result in
     let m1 = c.take.new.self in
     let left = c.take.ensures.yes c.if-not-take.false in
     let can1 = taken k c.args.m.now m1 can left c.take.ensures.cells in
+    let by = can.parts.for_loop c.in-For.first c.in-For.cond c.in-For.step c.in-For.body k in
+    let ran = c.for_loop.ensures c.in-For.first c.in-For.cond c.in-For.step c.in-For.body l c.in-For.is h can1 (entering (map (act k) c.in-For.first) (both_runs (in_order (map (act k) c.in-For.first)) (loop (in_order []) (condition (meant_if_any k c.in-For.cond)) (part (act k c.in-For.body)) (run_if_any (option_map (act k) c.in-For.step))))) (ap (λ x. (kind_act k x).run) c.in-For.is ∙ ap (λ (a : Act). a.run) by) in
+    kind_goes k r c.args.s.now.kind _ _ (entering (map (act k) c.in-For.first) (both_runs (in_order (map (act k) c.in-For.first)) (loop (in_order []) (condition (meant_if_any k c.in-For.cond)) (part (act k c.in-For.body)) (run_if_any (option_map (act k) c.in-For.step))))) c.args.m.now m1 c.for_loop.new.m c.for_loop.result c.in-For.is (can.parts.for_loop c.in-For.first c.in-For.cond c.in-For.step c.in-For.body k) refl left c.take.ensures.cells ran
+
+pub for_loop-returns-then-not-is_normal : goal.for_loop-returns-then-not-is_normal
+for_loop-returns-then-not-is_normal t c f0 c0 o0 b0 l is h can w0 eq =
+    let k = objects c.args.profile c.args.typed.now in
+    let r = c.args.typed.now.result in
+    let m1 = c.args.m.now in
     let first = c.in-For.first in
     let w = (can.parts.lawful_for first c.in-For.cond c.in-For.step c.in-For.body k r l).0 (lawful_of k r l _ _ c.in-For.is h) in
-    let m2 = c.enter-in-For.new.m in
+    let m2 = c.enter.new.m in
     let n = c.exec_all-ending.new.m in
     let e = c.exec_all-ending.result in
-    let en = subst (λ ss. EnterGives k ss m1 m2) c.as_slice-in-For.ensures (c.enter-in-For.ensures k) can1 in
-    let ran = subst (λ ss. AllGive k r ss m2 e n) c.as_slice-in-For-2.ensures c.exec_all-ending.ensures false w.0 (entered_can k first m1 m2 can1 en) in
+    let en = subst (λ ss. EnterGives k ss m1 m2) c.as_slice.ensures (c.enter.ensures k) can in
+    let ran = subst (λ ss. AllGive k r ss m2 e n) c.as_slice-2.ensures c.exec_all-ending.ensures false w.0 (entered_can k first m1 m2 can en) in
     let rest = loop (in_order []) (condition (meant_if_any k c.in-For.cond)) (part (act k c.in-For.body)) (run_if_any (option_map (act k) c.in-For.step)) in
-    kind_goes k r c.args.s.now.kind _ _ (entering (map (act k) first) (both_runs (in_order (map (act k) first)) rest)) c.args.m.now m1 n e c.in-For.is (can.parts.for_loop first c.in-For.cond c.in-For.step c.in-For.body k) refl left c.take.ensures.cells
+    after_turn k r c.args.s.now.kind _ _ (entering (map (act k) c.in-For.first) (both_runs (in_order (map (act k) c.in-For.first)) (loop (in_order []) (condition (meant_if_any k c.in-For.cond)) (part (act k c.in-For.body)) (run_if_any (option_map (act k) c.in-For.step))))) w0 m1 n e c.in-For.is (can.parts.for_loop c.in-For.first c.in-For.cond c.in-For.step c.in-For.body k) refl eq
     (entered_run k r first (both_runs (in_order (map (act k) first)) rest) m1 m2 n e en (both_stop k r (in_order (map (act k) first)) rest m2 n e ran (sym c.is_normal.ensures ∙ c.if-not-is_normal.true)))
 
-pub exec-returns-else-not-is_normal : goal.exec-returns-else-not-is_normal
-exec-returns-else-not-is_normal t c l h can =
+pub for_loop-returns : goal.for_loop-returns
+for_loop-returns t c f0 c0 o0 b0 l is h can w0 eq =
     let k = objects c.args.profile c.args.typed.now in
     let r = c.args.typed.now.result in
-    let m1 = c.take.new.self in
-    let left = c.take.ensures.yes c.if-not-take.false in
-    let can1 = taken k c.args.m.now m1 can left c.take.ensures.cells in
+    let m1 = c.args.m.now in
     let first = c.in-For.first in
     let w = (can.parts.lawful_for first c.in-For.cond c.in-For.step c.in-For.body k r l).0 (lawful_of k r l _ _ c.in-For.is h) in
-    let m2 = c.enter-in-For.new.m in
+    let m2 = c.enter.new.m in
     let m3 = c.exec_all-ending.new.m in
     let n = c.for_rounds.new.m in
     let e = c.for_rounds.result in
-    let en = subst (λ ss. EnterGives k ss m1 m2) c.as_slice-in-For.ensures (c.enter-in-For.ensures k) can1 in
-    let can2 = entered_can k first m1 m2 can1 en in
-    let ran = subst (λ ss. AllGive k r ss m2 c.exec_all-ending.result m3) c.as_slice-in-For-2.ensures c.exec_all-ending.ensures false w.0 can2 in
+    let en = subst (λ ss. EnterGives k ss m1 m2) c.as_slice.ensures (c.enter.ensures k) can in
+    let can2 = entered_can k first m1 m2 can en in
+    let ran = subst (λ ss. AllGive k r ss m2 c.exec_all-ending.result m3) c.as_slice-2.ensures c.exec_all-ending.ensures false w.0 can2 in
     let can3 = then_can k r (in_order (map (act k) first)) m2 m3 c.exec_all-ending.result can2 ran in
     let cond = condition (meant_if_any k c.in-For.cond) in
     let body = part (act k c.in-For.body) in
     let step = run_if_any (option_map (act k) c.in-For.step) in
     let rest = loop (in_order []) cond body step in
     let lp = subst (λ (run : Run). Ran k r run m3 e n) (for_loop_is k c.args.s.now.kind first c.in-For.cond c.in-For.step c.in-For.body (m3.left + 1) c.in-For.is) (c.for_rounds.ensures first c.in-For.cond c.in-For.step c.in-For.body l c.in-For.is h can3) in
-    kind_goes k r c.args.s.now.kind _ _ (entering (map (act k) first) (both_runs (in_order (map (act k) first)) rest)) c.args.m.now m1 n e c.in-For.is (can.parts.for_loop first c.in-For.cond c.in-For.step c.in-For.body k) refl left c.take.ensures.cells
+    after_turn k r c.args.s.now.kind _ _ (entering (map (act k) c.in-For.first) (both_runs (in_order (map (act k) c.in-For.first)) (loop (in_order []) (condition (meant_if_any k c.in-For.cond)) (part (act k c.in-For.body)) (run_if_any (option_map (act k) c.in-For.step))))) w0 m1 n e c.in-For.is (can.parts.for_loop c.in-For.first c.in-For.cond c.in-For.step c.in-For.body k) refl eq
     (entered_run k r first (both_runs (in_order (map (act k) first)) rest) m1 m2 n e en (both_ran k r (in_order (map (act k) first)) rest m2 m3 n c.exec_all-ending.result e ran (sym c.is_normal.ensures ∙ c.if-not-is_normal.false) (loop_ran k r cond body step m3 n e lp)))
 
 -- ---- statements in order
@@ -270,7 +278,7 @@ for_rounds-returns-in-Fails t c f0 c0 o0 b0 l is h can =
     let w = (can.parts.lawful_for c.in-For.first c.in-For.cond c.in-For.step c.in-For.body k r l).0 (lawful_of k r l _ _ c.in-For.is h) in
     let g = c.loop-i.invariant w.1 w.2 w.3 can in
     subst (λ (run : Run). Ran k r run c.args.m.now ending.Normally c.tested_if_any.new.m) (sym (for_loop_is k c.args.s.now.kind c.in-For.first c.in-For.cond c.in-For.step c.in-For.body (c.args.m.now.left + 1) c.in-For.is))
-    (rounded_fails k r (condition (meant_if_any k c.in-For.cond)) (part (act k c.in-For.body)) (run_if_any (option_map (act k) c.in-For.step)) c.args.m.now c.loop-i.m c.tested_if_any.new.m c.loop-i.i (c.args.m.now.left - c.loop-i.i) g (let s = c.saturating_add-most_rounds.ensures in let few = can.few in omega (arith, s, few, c.loop-i-test.true)) (c.in-Fails.ensures w.1 g.can))
+    (rounded_fails k r (condition (meant_if_any k c.in-For.cond)) (part (act k c.in-For.body)) (run_if_any (option_map (act k) c.in-For.step)) c.args.m.now c.loop-i.m c.tested_if_any.new.m c.loop-i.i (c.args.m.now.left - c.loop-i.i) g (let s = c.saturating_add-limit.ensures in let few = can.few in omega (arith, s, few, c.loop-i-test.true)) (c.in-Fails.ensures w.1 g.can))
 
 pub for_rounds-returns-in-Undefined : goal.for_rounds-returns-in-Undefined
 for_rounds-returns-in-Undefined t c f0 c0 o0 b0 l is h can =
@@ -279,7 +287,7 @@ for_rounds-returns-in-Undefined t c f0 c0 o0 b0 l is h can =
     let w = (can.parts.lawful_for c.in-For.first c.in-For.cond c.in-For.step c.in-For.body k r l).0 (lawful_of k r l _ _ c.in-For.is h) in
     let g = c.loop-i.invariant w.1 w.2 w.3 can in
     subst (λ (run : Run). Ran k r run c.args.m.now ending.Undefined c.tested_if_any.new.m) (sym (for_loop_is k c.args.s.now.kind c.in-For.first c.in-For.cond c.in-For.step c.in-For.body (c.args.m.now.left + 1) c.in-For.is))
-    (rounded_undefined k r (condition (meant_if_any k c.in-For.cond)) (part (act k c.in-For.body)) (run_if_any (option_map (act k) c.in-For.step)) c.args.m.now c.loop-i.m c.tested_if_any.new.m c.loop-i.i (c.args.m.now.left - c.loop-i.i) g (let s = c.saturating_add-most_rounds.ensures in let few = can.few in omega (arith, s, few, c.loop-i-test.true)) (c.in-Undefined.ensures w.1 g.can))
+    (rounded_undefined k r (condition (meant_if_any k c.in-For.cond)) (part (act k c.in-For.body)) (run_if_any (option_map (act k) c.in-For.step)) c.args.m.now c.loop-i.m c.tested_if_any.new.m c.loop-i.i (c.args.m.now.left - c.loop-i.i) g (let s = c.saturating_add-limit.ensures in let few = can.few in omega (arith, s, few, c.loop-i-test.true)) (c.in-Undefined.ensures w.1 g.can))
 
 pub for_rounds-returns-in-OutOfTurns : goal.for_rounds-returns-in-OutOfTurns
 for_rounds-returns-in-OutOfTurns t c f0 c0 o0 b0 l is h can =
@@ -288,7 +296,7 @@ for_rounds-returns-in-OutOfTurns t c f0 c0 o0 b0 l is h can =
     let w = (can.parts.lawful_for c.in-For.first c.in-For.cond c.in-For.step c.in-For.body k r l).0 (lawful_of k r l _ _ c.in-For.is h) in
     let g = c.loop-i.invariant w.1 w.2 w.3 can in
     subst (λ (run : Run). Ran k r run c.args.m.now ending.OutOfTurns c.tested_if_any.new.m) (sym (for_loop_is k c.args.s.now.kind c.in-For.first c.in-For.cond c.in-For.step c.in-For.body (c.args.m.now.left + 1) c.in-For.is))
-    (rounded_starved k r (condition (meant_if_any k c.in-For.cond)) (part (act k c.in-For.body)) (run_if_any (option_map (act k) c.in-For.step)) c.args.m.now c.loop-i.m c.tested_if_any.new.m c.loop-i.i (c.args.m.now.left - c.loop-i.i) g (let s = c.saturating_add-most_rounds.ensures in let few = can.few in omega (arith, s, few, c.loop-i-test.true)) (c.in-OutOfTurns.ensures w.1 g.can))
+    (rounded_starved k r (condition (meant_if_any k c.in-For.cond)) (part (act k c.in-For.body)) (run_if_any (option_map (act k) c.in-For.step)) c.args.m.now c.loop-i.m c.tested_if_any.new.m c.loop-i.i (c.args.m.now.left - c.loop-i.i) g (let s = c.saturating_add-limit.ensures in let few = can.few in omega (arith, s, few, c.loop-i-test.true)) (c.in-OutOfTurns.ensures w.1 g.can))
 
 pub for_rounds-returns-then-not-goes_on : goal.for_rounds-returns-then-not-goes_on
 for_rounds-returns-then-not-goes_on t c f0 c0 o0 b0 l is h can =
@@ -301,7 +309,7 @@ for_rounds-returns-then-not-goes_on t c f0 c0 o0 b0 l is h can =
     let ran = subst (λ (s : TypedStmt). Ran k r (part (act k s)) c.tested_if_any.new.m c.part-ending.result c.part-ending.new.m) c.get.ensures (c.part-ending.ensures true (subst (LawfulAt k r true) (sym c.get.ensures) w.3) can2) in
     subst (λ (run : Run). Ran k r run c.args.m.now c.left_loop.result c.part-ending.new.m) (sym (for_loop_is k c.args.s.now.kind c.in-For.first c.in-For.cond c.in-For.step c.in-For.body (c.args.m.now.left + 1) c.in-For.is))
     (subst (λ e. Ran k r (rounds (c.args.m.now.left + 1) nothing (condition (meant_if_any k c.in-For.cond)) (part (act k c.in-For.body)) (run_if_any (option_map (act k) c.in-For.step))) c.args.m.now e c.part-ending.new.m) (sym c.left_loop.ensures)
-    (rounded_leaves k r (condition (meant_if_any k c.in-For.cond)) (part (act k c.in-For.body)) (run_if_any (option_map (act k) c.in-For.step)) c.args.m.now c.loop-i.m c.tested_if_any.new.m c.part-ending.new.m c.loop-i.i (c.args.m.now.left - c.loop-i.i) c.part-ending.result g (let s = c.saturating_add-most_rounds.ensures in let few = can.few in omega (arith, s, few, c.loop-i-test.true)) test ran (sym c.goes_on.ensures ∙ c.if-not-goes_on.true)))
+    (rounded_leaves k r (condition (meant_if_any k c.in-For.cond)) (part (act k c.in-For.body)) (run_if_any (option_map (act k) c.in-For.step)) c.args.m.now c.loop-i.m c.tested_if_any.new.m c.part-ending.new.m c.loop-i.i (c.args.m.now.left - c.loop-i.i) c.part-ending.result g (let s = c.saturating_add-limit.ensures in let few = can.few in omega (arith, s, few, c.loop-i-test.true)) test ran (sym c.goes_on.ensures ∙ c.if-not-goes_on.true)))
 
 pub for_rounds-returns-then-not-is_normal : goal.for_rounds-returns-then-not-is_normal
 for_rounds-returns-then-not-is_normal t c f0 c0 o0 b0 l is h can =
@@ -320,7 +328,7 @@ for_rounds-returns-then-not-is_normal t c f0 c0 o0 b0 l is h can =
     let can3 = then_can k r body m2 m3 c.part-ending.result can2 ran in
     let st = subst (λ (s : TypedStmt). Ran k r (part (act k s)) m3 f n) c.get-in-Some.ensures (c.part-ending-in-Some.ensures false (subst (LawfulAt k r false) (sym c.get-in-Some.ensures) (some_lawful k r false c.in-For.step c.in-Some.step c.in-Some.is w.2)) can3) in
     subst (λ (run : Run). Ran k r run c.args.m.now f n) (sym (for_loop_is k c.args.s.now.kind c.in-For.first c.in-For.cond c.in-For.step c.in-For.body (c.args.m.now.left + 1) c.in-For.is))
-    (rounded_stops k r (condition (meant_if_any k c.in-For.cond)) body (run_if_any (option_map (act k) c.in-For.step)) c.args.m.now c.loop-i.m m2 m3 n c.loop-i.i (c.args.m.now.left - c.loop-i.i) c.part-ending.result f g (let s = c.saturating_add-most_rounds.ensures in let few = can.few in omega (arith, s, few, c.loop-i-test.true)) test ran (sym c.goes_on.ensures ∙ c.if-not-goes_on.false)
+    (rounded_stops k r (condition (meant_if_any k c.in-For.cond)) body (run_if_any (option_map (act k) c.in-For.step)) c.args.m.now c.loop-i.m m2 m3 n c.loop-i.i (c.args.m.now.left - c.loop-i.i) c.part-ending.result f g (let s = c.saturating_add-limit.ensures in let few = can.few in omega (arith, s, few, c.loop-i-test.true)) test ran (sym c.goes_on.ensures ∙ c.if-not-goes_on.false)
     (some_step k r c.in-For.step c.in-Some.step m3 n f c.in-Some.is st) (sym c.is_normal.ensures ∙ c.if-not-is_normal.true))
 
 pub for_rounds-loop-i-preserved : goal.for_rounds-loop-i-preserved
@@ -357,4 +365,4 @@ for_rounds-returns t c f0 c0 o0 b0 l is h can =
     let w = (can.parts.lawful_for c.in-For.first c.in-For.cond c.in-For.step c.in-For.body k r l).0 (lawful_of k r l _ _ c.in-For.is h) in
     let g = c.loop-i.invariant w.1 w.2 w.3 can in
     subst (λ (run : Run). Ran k r run c.args.m.now ending.OutOfTurns c.loop-i.m) (sym (for_loop_is k c.args.s.now.kind c.in-For.first c.in-For.cond c.in-For.step c.in-For.body (c.args.m.now.left + 1) c.in-For.is))
-    (rounded_over k r (condition (meant_if_any k c.in-For.cond)) (part (act k c.in-For.body)) (run_if_any (option_map (act k) c.in-For.step)) c.args.m.now c.loop-i.m c.loop-i.i g (let s = c.saturating_add-most_rounds.ensures in let few = can.few in omega (arith, s, few, c.loop-i.auto.i-end, c.loop-i-test.false)))
+    (rounded_over k r (condition (meant_if_any k c.in-For.cond)) (part (act k c.in-For.body)) (run_if_any (option_map (act k) c.in-For.step)) c.args.m.now c.loop-i.m c.loop-i.i g (let s = c.saturating_add-limit.ensures in let few = can.few in omega (arith, s, few, c.loop-i.auto.i-end, c.loop-i-test.false)))

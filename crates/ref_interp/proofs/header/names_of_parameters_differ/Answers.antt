@@ -1,0 +1,5 @@
+use Rattle.ref_interp.proofs.Params.{names_differ}
+use Rattle.ref_interp.proofs.header.names_of_parameters_differ.Goals as goal
+
+pub returns : goal.returns
+returns c = names_differ
