@@ -45,7 +45,6 @@ pub record Laid (Fits : Kind → Type 0) (Ins : ℕ → Type 0) : Type 0 where
   pub merge : (n : ℕ) → Ins n → Fits (Cmerge n)
   pub branch : (w : ℕ) → Fits (Branch w)
   pub sink : (w : ℕ) → Fits (Sink w)
-  pub read : (a : ℕ) → Fits (Read a)
 
 -- each queue
 abbrev pub Queues : (Kind → Type 0) → Type 0
@@ -62,7 +61,7 @@ module _ (I : Draft → Type 0) (Fits : Kind → Type 0) (Ins : ℕ → Type 0) 
       let e = with_chan d.control (at (next d) 0) 32 true (with_unit (Fork 32 n) d) in
       same e (forked n d) refl refl (chan d.control (at (next d) 0) 32 true (with_unit (Fork 32 n) d) (unit (Fork 32 n) d f h))
 
-  copied_keeps : (v : ℕ) (d : Draft) → I d → I (copied v d)
+  pub copied_keeps : (v : ℕ) (d : Draft) → I d → I (copied v d)
   copied_keeps v d h =
       let x = end_of d.ends v in
       same (fed x (next d) 0 (with_unit (Fork x.width 2) d)) (copied v d) refl refl (fed_keeps x (next d) 0 (with_unit (Fork x.width 2) d) (unit (Fork x.width 2) d (laid.fork2 x.width) h))
@@ -81,19 +80,19 @@ module _ (I : Draft → Type 0) (Fits : Kind → Type 0) (Ins : ℕ → Type 0) 
       let e = through_queue q q.group d in
       same (buffered e) (group_taken a q d) refl refl (forked_keeps 1 (laid.fork1 32) e (through_keeps q q.group d h))
 
-  const_keeps : (w n : ℕ) (d : Draft) → I d → I (const_laid w n d)
+  pub const_keeps : (w n : ℕ) (d : Draft) → I d → I (const_laid w n d)
   const_keeps w n d h =
       let e = triggered d in
       let f = fed (trigger_of d) (next e) 0 (with_unit (Const w n) e) in
       same f (const_laid w n d) refl refl (fed_keeps (trigger_of d) (next e) 0 (with_unit (Const w n) e) (unit (Const w n) e (laid.const w n) (forked_keeps 2 (laid.fork2 32) d h)))
 
-  one_keeps : (op : _) (a : ℕ) (d : Draft) → I d → I (one_laid op a d)
+  pub one_keeps : (op : _) (a : ℕ) (d : Draft) → I d → I (one_laid op a d)
   one_keeps op a d h =
       let e = copied a d in
       let f = fed (copy_of a d) (next e) 0 (with_unit (Op1 op) e) in
       same f (one_laid op a d) refl refl (fed_keeps (copy_of a d) (next e) 0 (with_unit (Op1 op) e) (unit (Op1 op) e (laid.op1 op) (copied_keeps a d h)))
 
-  two_keeps : (op : _) (a b : ℕ) (d : Draft) → I d → I (two_laid op a b d)
+  pub two_keeps : (op : _) (a b : ℕ) (d : Draft) → I d → I (two_laid op a b d)
   two_keeps op a b d h =
       let e = copied a d in
       let f = copied b e in
@@ -102,7 +101,7 @@ module _ (I : Draft → Type 0) (Fits : Kind → Type 0) (Ins : ℕ → Type 0) 
       same (fed (copy_of b e) (next f) 1 x) (two_laid op a b d) refl refl
       (fed_keeps (copy_of b e) (next f) 1 x (fed_keeps (copy_of a d) (next f) 0 g (unit (Op2 op) f (laid.op2 op) (copied_keeps b e (copied_keeps a d h)))))
 
-  select_keeps : (w c a b : ℕ) (d : Draft) → I d → I (select_laid w c a b d)
+  pub select_keeps : (w c a b : ℕ) (d : Draft) → I d → I (select_laid w c a b d)
   select_keeps w c a b d h =
       let e = copied c d in
       let f = copied a e in
@@ -113,17 +112,17 @@ module _ (I : Draft → Type 0) (Fits : Kind → Type 0) (Ins : ℕ → Type 0) 
       same (fed (copy_of b f) (next g) 2 y) (select_laid w c a b d) refl refl
       (fed_keeps (copy_of b f) (next g) 2 y (fed_keeps (copy_of a e) (next g) 1 x (fed_keeps (copy_of c d) (next g) 0 k (unit (Select w) g (laid.select w) (copied_keeps b f (copied_keeps a e (copied_keeps c d h)))))))
 
-  load_keeps : (q : Option Queue) (a w p : ℕ) (d : Draft) → I d → I (load_by q a w p d)
-  load_keeps None a w p d h =
+  pub load_keeps : (q : Option Queue) (a w p : ℕ) → (q ≡ None → Fits (Read a)) → (d : Draft) → I d → I (load_by q a w p d)
+  load_keeps None a w p r d h =
       let e = copied p d in
-      same (fed (copy_of p d) (next e) 0 (with_unit (Read a) e)) (read_laid a w p d) refl refl (fed_keeps (copy_of p d) (next e) 0 (with_unit (Read a) e) (unit (Read a) e (laid.read a) (copied_keeps p d h)))
-  load_keeps (Some q) a w p d h =
+      same (fed (copy_of p d) (next e) 0 (with_unit (Read a) e)) (read_laid a w p d) refl refl (fed_keeps (copy_of p d) (next e) 0 (with_unit (Read a) e) (unit (Read a) e (r refl) (copied_keeps p d h)))
+  load_keeps (Some q) a w p r d h =
       let e = fed (copy_of p d) q.unit (addr_place q) (copied p d) in
       let f = with_unit (Fork w 1) e in
       same (with_chan (at q.unit (value_place q)) (at (next e) 0) w false f) (load_taken q a w p d) refl refl
       (chan (at q.unit (value_place q)) (at (next e) 0) w false f (unit (Fork w 1) e (laid.fork1 w) (fed_keeps (copy_of p d) q.unit (addr_place q) (copied p d) (copied_keeps p d h))))
 
-  store_keeps : (q : Option Queue) (a p v : ℕ) (d : Draft) → I d → I (store_by q a p v d)
+  pub store_keeps : (q : Option Queue) (a p v : ℕ) (d : Draft) → I d → I (store_by q a p v d)
   store_keeps None a p v d h = same d (store_by None a p v d) refl refl h
   store_keeps (Some q) a p v d h =
       let e = copied p d in
@@ -132,17 +131,17 @@ module _ (I : Draft → Type 0) (Fits : Kind → Type 0) (Ins : ℕ → Type 0) 
       same (fed (copy_of v e) q.unit (data_place q) x) (store_taken q a p v d) refl refl
       (fed_keeps (copy_of v e) q.unit (data_place q) x (fed_keeps (copy_of p d) q.unit (addr_place q) f (copied_keeps v e (copied_keeps p d h))))
 
-  step_keeps : (arrays : List Array) (i : Instr) (d : Draft) → I d → I (step_laid arrays i d)
-  step_keeps arrays (step.Const w n) d h = const_keeps w n d h
-  step_keeps arrays (step.One op a) d h = one_keeps op a d h
-  step_keeps arrays (step.Two op a b) d h = two_keeps op a b d h
-  step_keeps arrays (step.Select w c a b) d h = select_keeps w c a b d h
-  step_keeps arrays (step.Load a p) d h = load_keeps (queue_of d a) a (width_at arrays a) p d h
-  step_keeps arrays (step.Store a p v) d h = store_keeps (queue_of d a) a p v d h
+  step_keeps : ((a : ℕ) → Fits (Read a)) → (arrays : List Array) (i : Instr) (d : Draft) → I d → I (step_laid arrays i d)
+  step_keeps r arrays (step.Const w n) d h = const_keeps w n d h
+  step_keeps r arrays (step.One op a) d h = one_keeps op a d h
+  step_keeps r arrays (step.Two op a b) d h = two_keeps op a b d h
+  step_keeps r arrays (step.Select w c a b) d h = select_keeps w c a b d h
+  step_keeps r arrays (step.Load a p) d h = load_keeps (queue_of d a) a (width_at arrays a) p (λ e. r a) d h
+  step_keeps r arrays (step.Store a p v) d h = store_keeps (queue_of d a) a p v d h
 
-  steps_keep : (arrays : List Array) (is : List Instr) (d : Draft) → I d → I (steps_laid arrays is d)
-  steps_keep arrays [] d h = h
-  steps_keep arrays (i ∷ is) d h = steps_keep arrays is (step_laid arrays i d) (step_keeps arrays i d h)
+  steps_keep : ((a : ℕ) → Fits (Read a)) → (arrays : List Array) (is : List Instr) (d : Draft) → I d → I (steps_laid arrays is d)
+  steps_keep r arrays [] d h = h
+  steps_keep r arrays (i ∷ is) d h = steps_keep r arrays is (step_laid arrays i d) (step_keeps r arrays i d h)
 
   -- ---- jumps
 
@@ -180,7 +179,7 @@ module _ (I : Draft → Type 0) (Fits : Kind → Type 0) (Ins : ℕ → Type 0) 
       same (control_branched c f) (parted c a b d) refl refl
       (chan g.control (at (next g) 1) 32 true x (fed_keeps (copy_of c f) (next g) 0 k (unit (Branch 32) g (laid.branch 32) (copied_keeps c f (all_branched_keep 1 0 c b.with e (all_branched_keep 0 1 c a.with d h))))))
 
-  jump_keeps : (join : ℕ) (j : Jump) (d : Draft) → I d → I (jump_laid join j d)
+  pub jump_keeps : (join : ℕ) (j : Jump) (d : Draft) → I d → I (jump_laid join j d)
   jump_keeps join (Go to) d h = gone_keeps to.block to.with d h
   jump_keeps join (Two c a b) d h = parted_keeps c a b d h
   jump_keeps join (Return v) d h = gone_keeps join (result_list v) d h
@@ -190,7 +189,7 @@ module _ (I : Draft → Type 0) (Fits : Kind → Type 0) (Ins : ℕ → Type 0) 
   all_sunk_keep (None ∷ es) d h = all_sunk_keep es d h
   all_sunk_keep (Some e ∷ es) d h = all_sunk_keep es (sunk e d) (sunk_keeps e d h)
 
-  swept_keeps : (d : Draft) → I d → I (swept d)
+  pub swept_keeps : (d : Draft) → I d → I (swept d)
   swept_keeps d h = all_sunk_keep d.ends (record d { ends = [] }) (same d (record d { ends = [] }) refl refl h)
 
   -- ---- blocks
@@ -202,28 +201,28 @@ module _ (I : Draft → Type 0) (Fits : Kind → Type 0) (Ins : ℕ → Type 0) 
       let f = fed (trigger_of d) (next e) 0 (with_unit (Mux w ins) e) in
       args_keep ins i ws (arg_laid ins w d) (same f (arg_laid ins w d) refl refl (fed_keeps (trigger_of d) (next e) 0 (with_unit (Mux w ins) e) (unit (Mux w ins) e (laid.mux w ins i) (forked_keeps 2 (laid.fork2 32) d h))))
 
-  head_keeps : (ins : ℕ) → Ins ins → (ws : List ℕ) (d : Draft) → I d → I (head_laid ins ws d)
+  pub head_keeps : (ins : ℕ) → Ins ins → (ws : List ℕ) (d : Draft) → I d → I (head_laid ins ws d)
   head_keeps ins i ws d h = args_keep ins i ws (opened ins d) (same (with_unit (Cmerge ins) d) (opened ins d) refl refl (unit (Cmerge ins) d (laid.merge ins i) h))
 
   allocations_if : (own : Bool) (b : ℕ) (x : Access) (xs : List Access) (d : Draft) → I d → I (allocations b xs (allocated x.array d)) → I (cond own (allocations b xs (allocated x.array d)) d)
   allocations_if true b x xs d h i = i
   allocations_if false b x xs d h i = h
 
-  allocations_keep : (b : ℕ) (xs : List Access) (d : Draft) → I d → I (allocations b xs d)
+  pub allocations_keep : (b : ℕ) (xs : List Access) (d : Draft) → I d → I (allocations b xs d)
   allocations_keep b [] d h = h
   allocations_keep b (x ∷ xs) d h = allocations_if (x.block == b) b x xs d h (allocations_keep b xs (allocated x.array d) (allocated_keeps x.array (queue_of d x.array) d h))
 
-  block_keeps : (arrays : List Array) (join ins b : ℕ) → Ins ins → (k : Block) (xs : List Access) (d : Draft) → I d → I (block_laid arrays join ins b k xs d)
-  block_keeps arrays join ins b i k xs d h =
+  block_keeps : ((a : ℕ) → Fits (Read a)) → (arrays : List Array) (join ins b : ℕ) → Ins ins → (k : Block) (xs : List Access) (d : Draft) → I d → I (block_laid arrays join ins b k xs d)
+  block_keeps r arrays join ins b i k xs d h =
       let e = head_laid ins k.args d in
       let f = allocations b xs e in
       let g = steps_laid arrays k.steps f in
-      swept_keeps (jump_laid join k.jump g) (jump_keeps join k.jump g (steps_keep arrays k.steps f (allocations_keep b xs e (head_keeps ins i k.args d h))))
+      swept_keeps (jump_laid join k.jump g) (jump_keeps join k.jump g (steps_keep r arrays k.steps f (allocations_keep b xs e (head_keeps ins i k.args d h))))
 
-  blocks_keep : (arrays : List Array) (join : ℕ) (counts : List ℕ) → ((t : ℕ) → Ins (ins_of counts t)) → (b : ℕ) (ks : List Block) (xs : List Access) (d : Draft) → I d → I (blocks_laid arrays join counts b ks xs d)
-  blocks_keep arrays join counts i b [] xs d h = h
-  blocks_keep arrays join counts i b (k ∷ ks) xs d h =
-      blocks_keep arrays join counts i (plus b 1) ks (after_block b xs) (block_laid arrays join (ins_of counts b) b k xs d) (block_keeps arrays join (ins_of counts b) b (i b) k xs d h)
+  blocks_keep : ((a : ℕ) → Fits (Read a)) → (arrays : List Array) (join : ℕ) (counts : List ℕ) → ((t : ℕ) → Ins (ins_of counts t)) → (b : ℕ) (ks : List Block) (xs : List Access) (d : Draft) → I d → I (blocks_laid arrays join counts b ks xs d)
+  blocks_keep r arrays join counts i b [] xs d h = h
+  blocks_keep r arrays join counts i b (k ∷ ks) xs d h =
+      blocks_keep r arrays join counts i (plus b 1) ks (after_block b xs) (block_laid arrays join (ins_of counts b) b k xs d) (block_keeps r arrays join (ins_of counts b) b (i b) k xs d h)
 
   -- ---- edges
 
@@ -259,7 +258,7 @@ module _ (I : Draft → Type 0) (Fits : Kind → Type 0) (Ins : ℕ → Type 0) 
   pub before_exit : (ins : ℕ) → Ins ins → (r : Option Ty) (d : Draft) → I d → (let e = head_laid ins (result_widths r) d in I (all_ended e.queues e))
   before_exit ins i r d h = let e = head_laid ins (result_widths r) d in all_ended_keep e.queues e (head_keeps ins i (result_widths r) d h)
 
-  join_keeps : Fits Exit → (ins : ℕ) → Ins ins → (r : Option Ty) (d : Draft) → I d → I (join_laid ins r d)
+  pub join_keeps : Fits Exit → (ins : ℕ) → Ins ins → (r : Option Ty) (d : Draft) → I d → I (join_laid ins r d)
   join_keeps f ins i r d h = let e = head_laid ins (result_widths r) d in exited_keeps f r (all_ended e.queues e) (before_exit ins i r d h)
 
   zeros_keep : (ws : List ℕ) (d : Draft) → I d → I (zeros_laid ws d)
@@ -293,7 +292,7 @@ module _ (I : Draft → Type 0) (Fits : Kind → Type 0) (Ins : ℕ → Type 0) 
   queue_keeps f a ps [] m d h = same d (queue_if a ps [] m d) refl refl h
   queue_keeps f a ps (g ∷ gs) m d h = same (with_unit (Lsq a m ps (g ∷ gs) false) d) (queue_laid a ps (g ∷ gs) m d) refl refl (unit (Lsq a m ps (g ∷ gs) false) d (f a m ps (g ∷ gs)) h)
 
-  queues_keep : Queues Fits → (ks : List Block) (of : List Access) (a : ℕ) (xs : List Array) (d : Draft) → I d → I (queues_laid ks of a xs d)
+  pub queues_keep : Queues Fits → (ks : List Block) (of : List Access) (a : ℕ) (xs : List Array) (d : Draft) → I d → I (queues_laid ks of a xs d)
   queues_keep f ks of a [] d h = h
   queues_keep f ks of a (x ∷ xs) d h =
       queues_keep f ks of (plus a 1) xs (queue_if a (ports_of a ks of) (groups_from a 0 of) (depth_from a 16 of) d) (queue_keeps f a (ports_of a ks of) (groups_from a 0 of) (depth_from a 16 of) d h)
@@ -301,8 +300,8 @@ module _ (I : Draft → Type 0) (Fits : Kind → Type 0) (Ins : ℕ → Type 0) 
   pub front_keeps : Queues Fits → (g : Graph) (gs : Groups) → I (entered g.scalars started) → I (front_of g gs)
   front_keeps f g gs h = queues_keep f g.blocks gs.of 0 g.arrays (entered g.scalars started) h
 
-  pub blocks_of_keep : (g : Graph) (gs : Groups) → ((t : ℕ) → Ins (ins_of (edge_counts g.blocks) t)) → I (front_of g gs) → I (with_blocks g gs)
-  blocks_of_keep g gs i h = blocks_keep g.arrays (join_of g) (edge_counts g.blocks) i 0 g.blocks gs.of (front_of g gs) h
+  pub blocks_of_keep : ((a : ℕ) → Fits (Read a)) → (g : Graph) (gs : Groups) → ((t : ℕ) → Ins (ins_of (edge_counts g.blocks) t)) → I (front_of g gs) → I (with_blocks g gs)
+  blocks_of_keep r g gs i h = blocks_keep r g.arrays (join_of g) (edge_counts g.blocks) i 0 g.blocks gs.of (front_of g gs) h
 
   -- from the return join to the end
   pub rest_keeps : (g : Graph) (gs : Groups) → I (with_join g gs) → I (whole_draft g gs)
@@ -315,8 +314,8 @@ module _ (I : Draft → Type 0) (Fits : Kind → Type 0) (Ins : ℕ → Type 0) 
       edges_keep (zeros (length g.blocks + 1)) f.edges (record f { edges = [] }) (same f (record f { edges = [] }) refl refl e)
 
   -- from what stands before the blocks to the end
-  pub after_front : Fits Exit → (g : Graph) (gs : Groups) → ((t : ℕ) → Ins (ins_of (edge_counts g.blocks) t)) → I (front_of g gs) → I (whole_draft g gs)
-  after_front x g gs i h = rest_keeps g gs (join_keeps x (ins_of (edge_counts g.blocks) (join_of g)) (i (join_of g)) g.result (with_blocks g gs) (blocks_of_keep g gs i h))
+  pub after_front : ((a : ℕ) → Fits (Read a)) → Fits Exit → (g : Graph) (gs : Groups) → ((t : ℕ) → Ins (ins_of (edge_counts g.blocks) t)) → I (front_of g gs) → I (whole_draft g gs)
+  after_front r x g gs i h = rest_keeps g gs (join_keeps x (ins_of (edge_counts g.blocks) (join_of g)) (i (join_of g)) g.result (with_blocks g gs) (blocks_of_keep r g gs i h))
 
-  pub whole_keeps : ((j : ℕ) → Fits (Param j)) → Queues Fits → Fits Exit → (g : Graph) (gs : Groups) → ((t : ℕ) → Ins (ins_of (edge_counts g.blocks) t)) → I started → I (whole_draft g gs)
-  whole_keeps p q x g gs i h = after_front x g gs i (front_keeps q g gs (entered_keeps p g.scalars started h))
+  pub whole_keeps : ((a : ℕ) → Fits (Read a)) → ((j : ℕ) → Fits (Param j)) → Queues Fits → Fits Exit → (g : Graph) (gs : Groups) → ((t : ℕ) → Ins (ins_of (edge_counts g.blocks) t)) → I started → I (whole_draft g gs)
+  whole_keeps r p q x g gs i h = after_front r x g gs i (front_keeps q g gs (entered_keeps p g.scalars started h))

@@ -28,19 +28,19 @@ use Rattle.circuit_build.proofs.Keeps.{Laid}
 
 -- ---- how many units of a kind a draft has
 
-abbrev how_many : (Kind → Bool) → Draft → ℕ
+abbrev pub how_many : (Kind → Bool) → Draft → ℕ
 how_many q d = count_by q d.units
 
-one_more : (q : Kind → Bool) (xs : List Kind) (k : Kind) → count_by q (xs ++ k ∷ []) ≡ count_by q xs + cond (q k) 1 0
+pub one_more : (q : Kind → Bool) (xs : List Kind) (k : Kind) → count_by q (xs ++ k ∷ []) ≡ count_by q xs + cond (q k) 1 0
 one_more q xs k = sum_by_push (λ x. cond (q x) 1 0) xs k
 
-other_unit : (q : Kind → Bool) (n : ℕ) (k : Kind) (d : Draft) → q k ≡ false → how_many q d ≡ n → how_many q (with_unit k d) ≡ n
+pub other_unit : (q : Kind → Bool) (n : ℕ) (k : Kind) (d : Draft) → q k ≡ false → how_many q d ≡ n → how_many q (with_unit k d) ≡ n
 other_unit q n k d f h = let e : count_by q (d.units ++ k ∷ []) ≡ count_by q d.units + 0 = one_more q d.units k ∙ ap (λ b. count_by q d.units + cond b 1 0) f in omega (arith, e, h)
 
-this_unit : (q : Kind → Bool) (n : ℕ) (k : Kind) (d : Draft) → q k ≡ true → how_many q d ≡ n → how_many q (with_unit k d) ≡ n + 1
+pub this_unit : (q : Kind → Bool) (n : ℕ) (k : Kind) (d : Draft) → q k ≡ true → how_many q d ≡ n → how_many q (with_unit k d) ≡ n + 1
 this_unit q n k d f h = let e : count_by q (d.units ++ k ∷ []) ≡ count_by q d.units + 1 = one_more q d.units k ∙ ap (λ b. count_by q d.units + cond b 1 0) f in omega (arith, e, h)
 
-same_units : (q : Kind → Bool) (n : ℕ) (d e : Draft) → e.units ≡ d.units → e.chans ≡ d.chans → how_many q d ≡ n → how_many q e ≡ n
+pub same_units : (q : Kind → Bool) (n : ℕ) (d e : Draft) → e.units ≡ d.units → e.chans ≡ d.chans → how_many q d ≡ n → how_many q e ≡ n
 same_units q n d e u c h = ap (count_by q) u ∙ h
 
 -- no other unit is of the kind
@@ -48,19 +48,19 @@ abbrev Others : (Kind → Bool) → Type 0
 Others q = Laid (λ k. q k ≡ false) (λ n. Unit {0})
 
 entries : Others is_entry
-entries = record { const = λ w n. refl; op1 = λ op. refl; op2 = λ op. refl; select = λ w. refl; fork1 = λ w. refl; fork2 = λ w. refl; mux = λ w n i. refl; merge = λ n i. refl; branch = λ w. refl; sink = λ w. refl; read = λ a. refl }
+entries = record { const = λ w n. refl; op1 = λ op. refl; op2 = λ op. refl; select = λ w. refl; fork1 = λ w. refl; fork2 = λ w. refl; mux = λ w n i. refl; merge = λ n i. refl; branch = λ w. refl; sink = λ w. refl }
 
 exits : Others is_exit
-exits = record { const = λ w n. refl; op1 = λ op. refl; op2 = λ op. refl; select = λ w. refl; fork1 = λ w. refl; fork2 = λ w. refl; mux = λ w n i. refl; merge = λ n i. refl; branch = λ w. refl; sink = λ w. refl; read = λ a. refl }
+exits = record { const = λ w n. refl; op1 = λ op. refl; op2 = λ op. refl; select = λ w. refl; fork1 = λ w. refl; fork2 = λ w. refl; mux = λ w n i. refl; merge = λ n i. refl; branch = λ w. refl; sink = λ w. refl }
 
 params : (j : ℕ) → Others (is_param j)
-params j = record { const = λ w n. refl; op1 = λ op. refl; op2 = λ op. refl; select = λ w. refl; fork1 = λ w. refl; fork2 = λ w. refl; mux = λ w n i. refl; merge = λ n i. refl; branch = λ w. refl; sink = λ w. refl; read = λ a. refl }
+params j = record { const = λ w n. refl; op1 = λ op. refl; op2 = λ op. refl; select = λ w. refl; fork1 = λ w. refl; fork2 = λ w. refl; mux = λ w n i. refl; merge = λ n i. refl; branch = λ w. refl; sink = λ w. refl }
 
 -- ---- the entry and the exit
 
 pub one_entry : (g : Graph) (gs : Groups) → how_many is_entry (whole_draft g gs) ≡ 1
 one_entry g gs =
-    keeps.whole_keeps (λ d. how_many is_entry d ≡ 1) (λ k. is_entry k ≡ false) (λ n. Unit {0}) entries (other_unit is_entry 1) (λ p q w c d h. h) (same_units is_entry 1) (λ j. refl) (λ a m ps gs. refl) refl g gs (λ t. tt) refl
+    keeps.whole_keeps (λ d. how_many is_entry d ≡ 1) (λ k. is_entry k ≡ false) (λ n. Unit {0}) entries (other_unit is_entry 1) (λ p q w c d h. h) (same_units is_entry 1) (λ a. refl) (λ j. refl) (λ a m ps gs. refl) refl g gs (λ t. tt) refl
 
 exited_once : (r : Option Ty) (d : Draft) → how_many is_exit d ≡ 0 → how_many is_exit (exited r d) ≡ 1
 exited_once None d h = this_unit is_exit 0 Exit d refl h
@@ -73,7 +73,7 @@ one_exit g gs =
     let none : Draft → Type 0 = λ d. how_many is_exit d ≡ 0 in
     let e = keeps.entered_keeps none Fits Ins exits (other_unit is_exit 0) (λ p q w c d h. h) (same_units is_exit 0) (λ j. refl) g.scalars started refl in
     let f = keeps.front_keeps none Fits Ins exits (other_unit is_exit 0) (λ p q w c d h. h) (same_units is_exit 0) (λ a m ps gs. refl) g gs e in
-    let b = keeps.blocks_of_keep none Fits Ins exits (other_unit is_exit 0) (λ p q w c d h. h) (same_units is_exit 0) g gs (λ t. tt) f in
+    let b = keeps.blocks_of_keep none Fits Ins exits (other_unit is_exit 0) (λ p q w c d h. h) (same_units is_exit 0) (λ a. refl) g gs (λ t. tt) f in
     let ins = ins_of (edge_counts g.blocks) (join_of g) in
     let j = keeps.before_exit none Fits Ins exits (other_unit is_exit 0) (λ p q w c d h. h) (same_units is_exit 0) ins tt g.result (with_blocks g gs) b in
     let h = head_laid ins (result_widths g.result) (with_blocks g gs) in
@@ -104,12 +104,12 @@ one_param g gs few j lt =
     let I : Draft → Type 0 = λ d. how_many (is_param j) d ≡ 1 in
     let e : I (entered g.scalars started) = params_once j 0 g.scalars started (omega arith) (omega arith) (omega arith) refl in
     let f = keeps.front_keeps I Fits Ins (params j) (other_unit (is_param j) 1) (λ p q w c d h. h) (same_units (is_param j) 1) (λ a m ps gs. refl) g gs e in
-    keeps.after_front I Fits Ins (params j) (other_unit (is_param j) 1) (λ p q w c d h. h) (same_units (is_param j) 1) refl g gs (λ t. tt) f
+    keeps.after_front I Fits Ins (params j) (other_unit (is_param j) 1) (λ p q w c d h. h) (same_units (is_param j) 1) (λ a. refl) refl g gs (λ t. tt) f
 
 -- ---- queues
 
 queues : (a : ℕ) → Others (is_queue a)
-queues a = record { const = λ w n. refl; op1 = λ op. refl; op2 = λ op. refl; select = λ w. refl; fork1 = λ w. refl; fork2 = λ w. refl; mux = λ w n i. refl; merge = λ n i. refl; branch = λ w. refl; sink = λ w. refl; read = λ a. refl }
+queues a = record { const = λ w n. refl; op1 = λ op. refl; op2 = λ op. refl; select = λ w. refl; fork1 = λ w. refl; fork2 = λ w. refl; mux = λ w n i. refl; merge = λ n i. refl; branch = λ w. refl; sink = λ w. refl }
 
 abbrev At_most_one : ℕ → Draft → Type 0
 At_most_one a d = how_many (is_queue a) d ≤ 1
@@ -154,7 +154,7 @@ one_queue g gs few a =
     let none : Draft → Type 0 = λ d. how_many (is_queue a) d ≡ 0 in
     let e = keeps.entered_keeps none Fits Ins (queues a) (other_unit (is_queue a) 0) (λ p q w c d h. h) (same_units (is_queue a) 0) (λ j. refl) g.scalars started refl in
     let f = queues_most a 0 g.blocks gs.of g.arrays (entered g.scalars started) (omega arith) (omega arith) e in
-    keeps.after_front (At_most_one a) Fits Ins (queues a) (most_other a) (λ p q w c d h. h) (most_same a) refl g gs (λ t. tt) f
+    keeps.after_front (At_most_one a) Fits Ins (queues a) (most_other a) (λ p q w c d h. h) (most_same a) (λ b. refl) refl g gs (λ t. tt) f
 
 pub stand_once : UnitsStandOnce
 stand_once g gs few many = record { one_entry = one_entry g gs; one_exit = one_exit g gs; one_param = one_param g gs few; one_queue = one_queue g gs many }

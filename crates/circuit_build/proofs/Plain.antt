@@ -32,8 +32,7 @@ any = record {
   merge = λ n i. tt;
   branch = λ w. tt;
   sink = λ w. tt;
-  read = λ a. tt;
 }
 
 pub one_slot : ChannelsHaveOneSlot
-one_slot g gs = whole_keeps ArePlain (λ k. Unit {0}) (λ n. Unit {0}) any (λ k d f h. h) more_plain (λ d e u c h. subst (All IsPlain) (sym c) h) (λ j. tt) (λ a m ps gs. tt) tt g gs (λ t. tt) (All-nil IsPlain)
+one_slot g gs = whole_keeps ArePlain (λ k. Unit {0}) (λ n. Unit {0}) any (λ k d f h. h) more_plain (λ d e u c h. subst (All IsPlain) (sym c) h) (λ a. tt) (λ j. tt) (λ a m ps gs. tt) tt g gs (λ t. tt) (All-nil IsPlain)

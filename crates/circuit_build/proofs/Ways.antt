@@ -108,7 +108,6 @@ shaped = record {
   merge = λ n i e. i;
   branch = λ w e. tt;
   sink = λ w e. tt;
-  read = λ a e. tt;
 }
 
 abbrev AreShaped : Draft → Type 0
@@ -119,5 +118,5 @@ more_shaped k d f h = All-append HasShapeUnlessQueue d.units (k ∷ []) h (All-c
 
 pub units_shaped : UnitsHaveShape
 units_shaped g gs fine few =
-    whole_keeps AreShaped HasShapeUnlessQueue IsCount shaped more_shaped (λ p q w c d h. h) (λ d e u c h. subst (All HasShapeUnlessQueue) (sym u) h) (λ j e. tt) (λ a m ps gs e. no_owner a e) (λ e. tt) g gs (heads_fit g fine few)
+    whole_keeps AreShaped HasShapeUnlessQueue IsCount shaped more_shaped (λ p q w c d h. h) (λ d e u c h. subst (All HasShapeUnlessQueue) (sym u) h) (λ a e. tt) (λ j e. tt) (λ a m ps gs e. no_owner a e) (λ e. tt) g gs (heads_fit g fine few)
     (All-cons HasShapeUnlessQueue Entry [] (λ e. tt) (All-nil HasShapeUnlessQueue))

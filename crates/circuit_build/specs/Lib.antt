@@ -1,9 +1,15 @@
+pub mod Asks
 pub mod Blocks
 pub mod Built
+pub mod Counted
 pub mod Drafts
 pub mod Edges
 pub mod Endings
 pub mod Fronts
 pub mod Jumps
+pub mod Kept
 pub mod Laws
+pub mod Ports
+pub mod Shaped
+pub mod Sizes
 pub mod Steps

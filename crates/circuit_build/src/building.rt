@@ -1,6 +1,7 @@
 //! The net of a block graph.
 ghost use Rattle.std.specs.Prelude.{◌≡◌, IfOk};
 ghost use Rattle.circuit_build.specs.Built.{whole_draft, built};
+ghost use Rattle.circuit_build.specs.Kept.{SharesIfAsked};
 
 use crate::blocks::ins_of;
 use crate::draft::{Draft, number};
@@ -56,13 +57,15 @@ fn lay_all(alloc: Global, graph: &Ir, groups: &Groups) -> Result<Draft, Memory>
 ///
 /// Each channel has one slot and delay 1. An array that some access names has a queue, and of another each load is a
 /// unit of its own that reads it. Where a number passes 32 bits the greatest stands for it; no graph of a kernel comes
-/// to that.
+/// to that. The net of a graph that can be built keeps all rules but C3 and C4, and has at most 8 channels for each unit of
+/// the graph's size, each scalar and each array, and 64 more.
 ///
 /// # Errors
 ///
 /// [`Memory`] where memory is wanting.
 pub fn build(alloc: Global, graph: &Ir, groups: &Groups) -> Result<Net, Memory>
     ensures net { IfOk result (λ net. net ≡ built graph.now groups.now) }
+    ensures share { IfOk result (SharesIfAsked graph.now groups.now) }
 {
     let draft = lay_all(alloc, graph, groups)?;
     Ok(Net {

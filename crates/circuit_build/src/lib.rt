@@ -9,6 +9,7 @@ mod endings;
 mod fronts;
 mod jumps;
 mod laws;
+mod port_laws;
 mod queues;
 mod steps;
 #[cfg(test)]
@@ -16,5 +17,9 @@ mod tests;
 
 pub use building::build;
 pub use ir::{Groups, Ir, List, Memory};
-pub use laws::{nets_are_plain, units_have_their_shape, units_stand_once};
+pub use laws::{
+    arrays_are_served, headers_are_met, nets_are_plain, nets_are_small, units_are_shaped,
+    units_have_their_shape, units_stand_once,
+};
 pub use net_types::Net;
+pub use port_laws::{nets_keep_rules, ports_agree};

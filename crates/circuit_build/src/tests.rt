@@ -1,4 +1,7 @@
-use crate::{Groups, Ir, Net, build, nets_are_plain, units_have_their_shape, units_stand_once};
+use crate::{
+    Groups, Ir, Net, arrays_are_served, build, headers_are_met, nets_are_plain, nets_are_small,
+    nets_keep_rules, ports_agree, units_are_shaped, units_have_their_shape, units_stand_once,
+};
 use el_base::{List, Name};
 use ir::{Access, sample};
 use net_check::check_net;
@@ -56,6 +59,12 @@ fn builds_the_worked_graph(rt: HostRuntime) -> Result<(), Fail> {
 #[test]
 fn laws_can_be_called() {
     nets_are_plain();
+    ports_agree();
     units_have_their_shape();
     units_stand_once();
+    nets_are_small();
+    units_are_shaped();
+    headers_are_met();
+    arrays_are_served();
+    nets_keep_rules();
 }

@@ -1,0 +1,17 @@
+use Rattle.std.proofs.Common.{rules}
+use Rattle.circuit_build.proofs.CountAll.{shared}
+use Rattle.circuit_build.proofs.building.build.Goals as goal
+
+-- the net is that of the definition, as the clause before says
+pub returns-clause-share : goal.returns-clause-share
+returns-clause-share c =
+    shared c.args.graph.now c.args.groups.now
+    (record {
+      name = c.in_ok-copy.field-0;
+      scalars = c.in_ok-copy_scalars.field-0;
+      arrays = c.in_ok-copy_arrays.field-0;
+      result = c.graph.inside.result;
+      units = c.in_ok-draft.draft.units;
+      chans = c.in_ok-draft.draft.chans;
+    })
+    (search rules)
