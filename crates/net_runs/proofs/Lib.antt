@@ -1,0 +1,4 @@
+pub mod RunLemmas
+pub mod ReplayLemmas
+pub mod LawLemmas
+pub mod ElementLemmas

@@ -1,0 +1,5 @@
+pub mod Given
+pub mod Results
+pub mod Runs
+pub mod Replays
+pub mod Laws

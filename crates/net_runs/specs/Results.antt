@@ -1,0 +1,68 @@
+-- The text of the results of a state at rest.
+use Rattle.std.specs.Prelude.{◌≡◌, ◌<◌, ℕ, List, [], ◌∷◌, ◌++◌, Bool, true, false, Option, length, get_or, map, codes, decimal}
+use Rattle.el_base.specs.declared.ty.Array.{Array}
+use Rattle.net_types.specs.declared.net.Net.{Net}
+use Rattle.net_types.specs.declared.firing.Firing.{Firing}
+use Rattle.net_core.specs.Fire.{State}
+use Rattle.net_core.specs.Runs.{HasExited, Exited}
+use Rattle.net_core.specs.States.{elements_at, TookAtExit}
+use Rattle.inputs_text.specs.Results.{ResultText}
+use Rattle.net_replay.specs.Judgements.{HasNoStrays, IsFirstStray}
+use Rattle.net_replay.specs.Schedules.{schedule_text}
+use Rattle.net_runs.specs.declared.options.RunOptions.{RunOptions}
+use Rattle.net_runs.specs.declared.refusal.RunRefusal.{RunRefusal}
+use Rattle.net_runs.specs.declared.refusal.RunRefusal.TheVariants as refusal
+
+-- the elements of each array of the header, as they are in the state
+pub record AreElementsIn (net : Net) (s : State) (values : List (List ℕ)) : Type 0 where
+  pub count : length values ≡ length net.arrays
+  pub each : (a : ℕ) → a < length net.arrays → get_or values a [] ≡ elements_at s a
+
+-- the text of the elements and of what the exit took
+pub record IsTextOf (net : Net) (s : State) (text : List ℕ) : Type 0 where
+  pub value : Option ℕ
+  pub took : TookAtExit net s value
+  pub values : List (List ℕ)
+  pub elements : AreElementsIn net s values
+  pub whole : ResultText net.arrays net.result values value text
+
+-- the exit has fired, no address lay past its array, and that is the text of the elements and of the result
+pub record AreResultsOf (net : Net) (s : State) (text : List ℕ) : Type 0 where
+  pub exited : HasExited net s
+  pub clean : HasNoStrays net s
+  pub shown : IsTextOf net s text
+
+-- the exit has fired, and the first array of the header with strays has this name
+pub record IsStrayIn (net : Net) (s : State) (name : List ℕ) : Type 0 where
+  pub exited : HasExited net s
+  pub array : ℕ
+  pub first : IsFirstStray net s array
+  pub named : name ≡ get_or (map (λ (a : Array). a.name) net.arrays) array []
+
+-- why a state at rest has no results, or want of memory
+abbrev pub IsRestFault : Net → State → RunRefusal → Type 0
+IsRestFault net s (refusal.Inputs r) = ⊥
+IsRestFault net s (refusal.Schedule r) = ⊥
+IsRestFault net s (refusal.NotEnabled i) = ⊥
+IsRestFault net s (refusal.Limit n) = ⊥
+IsRestFault net s refusal.Stuck = HasExited net s → ⊥
+IsRestFault net s (refusal.Stray name) = IsStrayIn net s name
+IsRestFault net s refusal.Memory = Unit {0}
+
+-- ---- after the results
+
+-- the number of firings, where it is asked for
+abbrev pub count_line : Bool → ℕ → List ℕ
+count_line true n = codes "# firings " ++ decimal n ++ 10 ∷ []
+count_line false n = []
+
+-- a line `%%` and the firings, where they are asked for
+abbrev pub log_lines : Bool → List Firing → List ℕ
+log_lines true firings = codes "%%\n" ++ schedule_text firings
+log_lines false firings = []
+
+-- the results of a state, the number of firings that led to it, and these firings
+pub record IsRunText (net : Net) (s : State) (o : RunOptions) (made : ℕ) (firings : List Firing) (text : List ℕ) : Type 0 where
+  pub results : List ℕ
+  pub are : AreResultsOf net s results
+  pub whole : text ≡ results ++ count_line o.count made ++ log_lines o.log firings

@@ -1,0 +1,61 @@
+-- What a run of a net on a text of inputs answers.
+use Rattle.std.specs.Prelude.{◌≡◌, ◌≤◌, ℕ, List, length, Result, Ok, Err}
+use Rattle.net_types.specs.declared.net.Net.{Net}
+use Rattle.net_types.specs.declared.firing.Firing.{Firing}
+use Rattle.net_types.specs.declared.firing.Inputs.{Inputs}
+use Rattle.net_core.specs.Fire.{State}
+use Rattle.net_core.specs.Runs.{HasExited, Long}
+use Rattle.net_core.specs.Laws.{CompletesIn}
+use Rattle.net_replay.specs.Replays.{RestsIn}
+use Rattle.net_runs.specs.declared.options.RunOptions.{RunOptions}
+use Rattle.net_runs.specs.declared.refusal.RunRefusal.{RunRefusal}
+use Rattle.net_runs.specs.declared.refusal.RunRefusal.TheVariants as refusal
+use Rattle.net_runs.specs.Given.{Bytes, On, IsNoInputs}
+use Rattle.net_runs.specs.Results.{IsRunText, IsStrayIn}
+
+-- the firings are a run to the one state at rest: every run that ends at rest ends in it, after as many firings, and none is
+-- longer
+pub record IsOneRest (net : Net) (inputs : Inputs) (firings : List Firing) (s : State) : Type 0 where
+  pub run : RestsIn net inputs firings s
+  pub all : CompletesIn net inputs (length firings) s
+
+-- a run within the limit to the one state at rest, of which, with the firings, that holds
+pub record RestsWithin (net : Net) (inputs : Inputs) (limit : ℕ) (Holds : List Firing → State → Type 0) : Type 0 where
+  pub firings : List Firing
+  pub state : State
+  pub one : IsOneRest net inputs firings state
+  pub within : length firings ≤ limit
+  pub holds : Holds firings state
+
+-- the text of the run that is asked for
+abbrev pub RunsTo : Net → RunOptions → Bytes → Inputs → Type 0
+RunsTo net o text inputs = RestsWithin net inputs o.limit (λ firings s. IsRunText net s o (length firings) firings text)
+
+-- the run ends at rest, and the exit has not fired
+abbrev pub Sticks : Net → RunOptions → Inputs → Type 0
+Sticks net o inputs = RestsWithin net inputs o.limit (λ firings s. HasExited net s → ⊥)
+
+-- the run ends at rest, the exit has fired, and the first array of the header with strays has this name
+abbrev pub Strays : Net → RunOptions → Bytes → Inputs → Type 0
+Strays net o name inputs = RestsWithin net inputs o.limit (λ firings s. IsStrayIn net s name)
+
+-- why a run on these inputs has no text, or want of memory
+abbrev pub IsRunFault : Net → Inputs → RunOptions → RunRefusal → Type 0
+IsRunFault net inputs o (refusal.Inputs r) = ⊥
+IsRunFault net inputs o (refusal.Schedule r) = ⊥
+IsRunFault net inputs o (refusal.NotEnabled i) = ⊥
+IsRunFault net inputs o (refusal.Limit n) = (n ≡ o.limit) × Long net inputs n
+IsRunFault net inputs o refusal.Stuck = Sticks net o inputs
+IsRunFault net inputs o (refusal.Stray name) = Strays net o name inputs
+IsRunFault net inputs o refusal.Memory = Unit {0}
+
+-- what a run answers for the bytes of an inputs text; want of memory says nothing
+abbrev pub Runs : Net → Bytes → RunOptions → Result Bytes RunRefusal → Type 0
+Runs net bytes o (Ok text) = On net bytes (RunsTo net o text)
+Runs net bytes o (Err (refusal.Inputs r)) = IsNoInputs net bytes r
+Runs net bytes o (Err (refusal.Schedule r)) = ⊥
+Runs net bytes o (Err (refusal.NotEnabled i)) = ⊥
+Runs net bytes o (Err (refusal.Limit n)) = (n ≡ o.limit) × On net bytes (λ inputs. Long net inputs n)
+Runs net bytes o (Err refusal.Stuck) = On net bytes (Sticks net o)
+Runs net bytes o (Err (refusal.Stray name)) = On net bytes (Strays net o name)
+Runs net bytes o (Err refusal.Memory) = Unit {0}

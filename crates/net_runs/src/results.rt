@@ -1,0 +1,127 @@
+//! The text of the results of a state at rest.
+ghost use Rattle.std.specs.Prelude.{◌≡◌, ◌++◌, ◌<◌, length, IfOk, IfErr, OnOk};
+ghost use Rattle.net_core.specs.Runs.{AtRest, HasExited};
+ghost use Rattle.net_core.specs.States.{IsOf, state_of};
+ghost use Rattle.net_replay.specs.Judgements.{IsFirstStray};
+ghost use Rattle.net_runs.specs.Results.{AreElementsIn, AreResultsOf, IsRestFault, IsRunText, IsTextOf, count_line, log_lines};
+
+use crate::options::RunOptions;
+use crate::printing::{put_arrays, put_return};
+use crate::refusal::RunRefusal;
+use el_base::put_u64;
+use net_check::Checked;
+use net_core::State;
+use net_replay::{RunFault, judge, print_schedule};
+use net_types::{Firing, List, Memory};
+use std::alloc::Global;
+
+/// The results of a state at rest, the number of the firings that led to it and these firings, where they are asked for.
+pub(crate) fn run_text_of(
+    alloc: Global,
+    net: &Checked,
+    state: &State,
+    options: RunOptions,
+    made: u64,
+    firings: &[Firing],
+) -> Result<Vec<u8>, RunRefusal>
+    requires of { IsOf net.now state.now }
+    requires rest { AtRest net.now (state_of state.now) }
+    ensures ok { IfOk result (λ text.
+        IsRunText net.now (state_of state.now) options made firings.now text.items) }
+    ensures err { IfErr result (IsRestFault net.now (state_of state.now)) }
+{
+    let mut text = results_of(alloc, net, state)?;
+    put_count(&mut text, options.count, made)?;
+    put_log(alloc, &mut text, options.log, firings)?;
+    Ok(text)
+}
+
+fn put_count(text: &mut Vec<u8>, asked: bool, made: u64) -> Result<(), Memory>
+    ensures { OnOk result (text.new.items ≡ text.old.items ++ count_line asked made) }
+{
+    if !asked {
+        return Ok(());
+    }
+    text.extend_from_slice(b"# firings ")?;
+    put_u64(text, made)?;
+    text.push(b'\n')?;
+    Ok(())
+}
+
+fn put_log(alloc: Global, text: &mut Vec<u8>, asked: bool, firings: &[Firing]) -> Result<(), Memory>
+    ensures { OnOk result (text.new.items ≡ text.old.items ++ log_lines asked firings.now) }
+{
+    if !asked {
+        return Ok(());
+    }
+    let lines = print_schedule(alloc, firings)?;
+    text.extend_from_slice(b"%%\n")?;
+    text.extend_from_slice(lines.as_slice())?;
+    Ok(())
+}
+
+/// The results of a state at rest.
+pub(crate) fn results_of(alloc: Global, net: &Checked, state: &State) -> Result<Vec<u8>, RunRefusal>
+    requires of { IsOf net.now state.now }
+    requires rest { AtRest net.now (state_of state.now) }
+    ensures ok { IfOk result (λ text. AreResultsOf net.now (state_of state.now) text.items) }
+    ensures err { IfErr result (IsRestFault net.now (state_of state.now)) }
+{
+    match judge(net, state) {
+        Ok(()) => match text_of(alloc, net, state) {
+            Ok(text) => Ok(text),
+            Err(Memory) => Err(RunRefusal::Memory),
+        },
+        Err(RunFault::Stuck) => Err(RunRefusal::Stuck),
+        Err(RunFault::Stray { array }) => Err(stray(net, state, array)),
+        Err(RunFault::Limit { .. }) => unreachable!(),
+        Err(RunFault::Memory) => unreachable!(),
+    }
+}
+
+/// The text of the elements of all arrays and of what the exit took.
+fn text_of(alloc: Global, net: &Checked, state: &State) -> Result<Vec<u8>, Memory>
+    requires { IsOf net.now state.now }
+    ensures { IfOk result (λ text. IsTextOf net.now (state_of state.now) text.items) }
+{
+    let values = elements_of(alloc, net, state)?;
+    let mut text = Vec::new(alloc);
+    put_arrays(&mut text, net.net().arrays.as_slice(), values.as_slice())?;
+    put_return(&mut text, net.net().result, state.value())?;
+    Ok(text)
+}
+
+/// The elements of each array of the header.
+fn elements_of(alloc: Global, net: &Checked, state: &State) -> Result<List<List<u64>>, Memory>
+    requires { IsOf net.now state.now }
+    ensures { IfOk result (AreElementsIn net.now (state_of state.now)) }
+{
+    let mut values = List::new(alloc);
+    for at in 0..net.net().arrays.as_slice().len() {
+        let array = at as u32;
+        values.push(list_of(alloc, state.arrays(net, array))?)?;
+    }
+    Ok(values)
+}
+
+fn list_of(alloc: Global, elements: &[u64]) -> Result<List<u64>, Memory>
+    ensures { IfOk result (λ list. list ≡ elements.now) }
+{
+    let mut list = List::new(alloc);
+    for element in elements {
+        list.push(*element)?;
+    }
+    Ok(list)
+}
+
+/// The refusal by the name of an array.
+fn stray(net: &Checked, state: &State, array: u32) -> RunRefusal
+    requires { (HasExited net.now (state_of state.now)) × IsFirstStray net.now (state_of state.now) array }
+    ensures { IsRestFault net.now (state_of state.now) result }
+{
+    let _ = state;
+    match net.net().arrays.as_slice()[array as usize].name.copy() {
+        Ok(name) => RunRefusal::Stray { name },
+        Err(Memory) => RunRefusal::Memory,
+    }
+}
