@@ -4,3 +4,7 @@ pub mod DateLemmas
 pub mod BoundLemmas
 pub mod WorkedLemmas
 pub mod OwnLemmas
+mod MoveLemmas
+mod UsedLemmas
+mod MakeLemmas
+mod StartLemmas

@@ -2,3 +2,5 @@ pub mod Cycles
 pub mod Rousing
 pub mod Bounds
 pub mod Worked
+pub mod Cuts
+pub mod private

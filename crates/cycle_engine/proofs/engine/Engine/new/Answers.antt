@@ -1,0 +1,39 @@
+use Rattle.std.proofs.Common.{◌≡◌, ◌∙◌, List, [], map, length, ap, refl}
+use Rattle.net_types.specs.declared.net.Chan.{Chan}
+use Rattle.net_types.specs.declared.net.Net.{Net}
+use Rattle.net_types.specs.declared.net.Unit.{Unit as Kind}
+use Rattle.cycle_engine.specs.declared.engine.Engine.{Engine}
+use Rattle.cycle_engine.proofs.StartLemmas.{opened_as, opened_ready, opened_done}
+use Rattle.cycle_engine.proofs.engine.Engine.new.Goals as goal
+
+pub returns-clause-ready : goal.returns-clause-ready
+returns-clause-ready c =
+    let e : Engine = record {
+      state = c.in_ok-state.state;
+      dates = c.in_ok-dates.dates;
+      begun = record { chans = c.in_ok-zeros.field-0; queues = c.in_ok-zeros-2.field-0 };
+      fired = c.new-3.result;
+      made = 0;
+      log = c.in_ok-log.log;
+    } in
+    let chans : c.as_slice-chans.result.now ≡ c.args.net.now.chans = c.as_slice-chans.ensures ∙ ap (λ (n : Net). n.chans) c.net.ensures.net in
+    let units : c.as_slice-units.result.now ≡ c.args.net.now.units = c.as_slice-units.ensures ∙ ap (λ (n : Net). n.units) c.net-2.ensures.net in
+    opened_ready c.args.net.now c.args.inputs.now c.args.bounds e c.in_ok-state.ensures.of (c.in_ok-dates.ensures.slots ∙ ap (map (λ (d : Chan). d.slots)) chans)
+    (opened_as c.args.net.now c.args.inputs.now e c.in_ok-state.ensures.state (c.in_ok-dates.ensures.tokens ∙ ap (map (λ (d : Chan). [])) chans))
+    c.requires.few refl c.new-3.ensures.items c.in_ok-state.ensures.counts (c.in_ok-log.ensures.room ∙ c.log_room.ensures)
+    (c.in_ok-zeros.ensures ∙ ap (λ (xs : List Chan). length xs) chans) (c.in_ok-zeros-2.ensures ∙ ap (λ (xs : List Kind). length xs) units)
+
+pub returns-clause-done : goal.returns-clause-done
+returns-clause-done c =
+    let e : Engine = record {
+      state = c.in_ok-state.state;
+      dates = c.in_ok-dates.dates;
+      begun = record { chans = c.in_ok-zeros.field-0; queues = c.in_ok-zeros-2.field-0 };
+      fired = c.new-3.result;
+      made = 0;
+      log = c.in_ok-log.log;
+    } in
+    let chans : c.as_slice-chans.result.now ≡ c.args.net.now.chans = c.as_slice-chans.ensures ∙ ap (λ (n : Net). n.chans) c.net.ensures.net in
+    opened_done c.args.net.now c.args.inputs.now c.args.bounds e
+    (opened_as c.args.net.now c.args.inputs.now e c.in_ok-state.ensures.state (c.in_ok-dates.ensures.tokens ∙ ap (map (λ (d : Chan). [])) chans))
+    refl c.new-3.ensures.items c.in_ok-log.ensures.items

@@ -1,0 +1,300 @@
+//! One firing is tried.
+
+ghost use Rattle.std.specs.Prelude.{◌≡◌, ◌↔◌, ℕ, ◌+◌, ◌<◌, ◌≤◌, ◌^◌, ◌∷◌, ◌++◌, [], Some, true, false, IsTrue, IfSome, IfOk, IfErr, OnOk, MatchOption, length, get_or};
+ghost use Rattle.el_base.specs.Limits.{max_depth};
+ghost use Rattle.net_types.specs.Nets.{into, kind_of, chan_at};
+ghost use Rattle.net_core.specs.Fire.{has_room};
+ghost use Rattle.net_core.specs.Plans.{apart, admits};
+ghost use Rattle.net_core.specs.States.{IsOf, IsPlanOf, CountsWithin, CountsRise, cell_at, state_of};
+ghost use Rattle.net_replay.specs.Finishes.{IsLogged};
+ghost use Rattle.net_replay.specs.declared.fault.RunFault.TheVariants as fault;
+ghost use Rattle.cycle_engine.specs.Cycles.{Dated, May, IsUnused, place_of, after_in};
+ghost use Rattle.cycle_engine.specs.private.Trials.{dated_of, AllRipe, HadRoom, HadDepth, EntriesFit, Allowed, IsBegun, IsEngine, is_fork, places_used};
+ghost use Rattle.cycle_engine.specs.private.Goings.{Past, IsReady, InCycle, MayFollow, IsTried, IsBroken, IsMore};
+ghost use Rattle.std.specs.Prelude.{MatchResult};
+
+use crate::dates::{are_ripe, is_ripe, move_dates};
+use crate::engine::{Bounds, Engine, Lengths};
+use el_base::Log;
+use net_check::Checked;
+use net_core::{Plan, Put};
+use net_replay::RunFault;
+use net_types::{Act, Firing, List, Unit};
+
+/// Whether a unit is a fork.
+fn forks(net: &Checked, unit: u32) -> bool
+    ensures { result ≡ is_fork (kind_of net.now unit) }
+{
+    let units = net.net().units.as_slice();
+    if (unit as usize) < units.len() {
+        match &units[unit as usize] {
+            Unit::Fork { .. } => true,
+            _ => false,
+        }
+    } else {
+        false
+    }
+}
+
+/// The slots of a channel, 0 past the channels.
+fn slots_of(net: &Checked, chan: u32) -> u32
+    ensures { result ≡ (chan_at net.now chan).slots }
+{
+    let chans = net.net().chans.as_slice();
+    if (chan as usize) < chans.len() {
+        chans[chan as usize].slots
+    } else {
+        0
+    }
+}
+
+/// The length that was noted of a channel or of a queue, 0 past them.
+fn noted(lengths: &[u32], at: u32) -> u32
+    ensures { result ≡ get_or lengths.now at 0 }
+{
+    if (at as usize) < lengths.len() {
+        lengths[at as usize]
+    } else {
+        0
+    }
+}
+
+/// Whether there was room on the channel on which a plan puts.
+fn had_room(begun: &Lengths, net: &Checked, unit: u32, put: Option<Put>) -> bool
+    ensures { IsTrue result ↔ HadRoom net.now begun.now.chans.items unit put }
+{
+    match put {
+        None => true,
+        Some(put) => {
+            let chan = net.out_of_place(unit, put.place);
+            noted(begun.chans.as_slice(), chan) < slots_of(net, chan)
+        }
+    }
+}
+
+/// Whether so many entries leave room for those of a group, where an act allocates one.
+fn entries_fit(depth: u32, groups: &[List<u32>], entries: u32, act: Act) -> bool
+    ensures { IsTrue result ↔ EntriesFit depth groups.now entries act }
+{
+    match act {
+        Act::Go => true,
+        Act::From(_) => true,
+        Act::Send(_) => true,
+        Act::Alloc(group) => entries as u64 + group_size(groups, group) <= depth as u64,
+        Act::Addr(_) => true,
+        Act::Data(_) => true,
+        Act::Exec(_) => true,
+        Act::Reply(_) => true,
+        Act::Retire => true,
+        Act::End => true,
+    }
+}
+
+/// How many entries a group has, 0 past the groups.
+fn group_size(groups: &[List<u32>], group: u32) -> u64
+    ensures size { result ≡ length (get_or groups.now group []) }
+    ensures small { result < 2 ^ 63 }
+{
+    if (group as usize) < groups.len() {
+        groups[group as usize].as_slice().len() as u64
+    } else {
+        0
+    }
+}
+
+/// Whether a queue had free depth for the entries of a group, where the firing allocates one.
+fn had_depth(begun: &Lengths, net: &Checked, firing: Firing) -> bool
+    ensures { IsTrue result ↔ HadDepth (kind_of net.now firing.unit)
+        (get_or begun.now.queues.items firing.unit 0) firing.act }
+{
+    let units = net.net().units.as_slice();
+    let entries = noted(begun.queues.as_slice(), firing.unit);
+    if (firing.unit as usize) < units.len() {
+        match &units[firing.unit as usize] {
+            Unit::Lsq { depth, groups, .. } => {
+                entries_fit(*depth, groups.as_slice(), entries, firing.act)
+            }
+            _ => true,
+        }
+    } else {
+        true
+    }
+}
+
+/// The firing by whose place it is known whether it has fired: all executions of a queue have one place.
+fn place(firing: Firing) -> Firing
+    ensures { result ≡ place_of firing }
+{
+    match firing.act {
+        Act::Exec(_) => Firing {
+            unit: firing.unit,
+            act: Act::Exec(0),
+        },
+        _ => firing,
+    }
+}
+
+/// Adds a firing to those of the cycle.
+///
+/// # Errors
+///
+/// `Memory` where memory is wanting.
+fn note_fired(fired: &mut Vec<Firing>, firing: Firing) -> Result<(), RunFault>
+    ensures fired { OnOk result (fired.new.items ≡ fired.old.items ++ firing ∷ []) }
+    ensures memory { IfErr result (λ e. e ≡ fault.Memory) }
+{
+    match fired.push(firing) {
+        Ok(()) => Ok(()),
+        Err(_) => Err(RunFault::Memory),
+    }
+}
+
+/// Adds a firing to the log where it is kept.
+fn note(log: &mut Log<Firing>, keep: bool, firing: Firing)
+    requires { keep ≡ true → 0 < log.old.room }
+    ensures { IsLogged keep (firing ∷ []) log.old log.new }
+{
+    if keep {
+        log.add(firing);
+    }
+}
+
+impl Engine {
+    /// Whether the place of a firing has fired in the cycle.
+    fn is_used(&self, firing: Firing) -> bool
+        ensures used { result ≡ true → IsUnused self.now.fired.items firing → ⊥ }
+        ensures unused { result ≡ false → IsUnused self.now.fired.items firing }
+    {
+        let fired = self.fired.as_slice();
+        for done in fired {
+            if place(*done) == place(firing) {
+                return true;
+            }
+        }
+        false
+    }
+
+    /// Whether the heads that a plan of a unit uses may be used in the cycle.
+    fn uses_ripe(&self, net: &Checked, unit: u32, plan: &Plan, now: u64) -> bool
+        ensures { IsTrue result ↔ AllRipe net.now now self.now.dates.tokens unit
+            (places_used (is_fork (kind_of net.now unit)) plan.now.takes) }
+    {
+        if forks(net, unit) {
+            is_ripe(&self.dates, net, unit, 0, now)
+        } else {
+            are_ripe(&self.dates, net, unit, plan.takes, now)
+        }
+    }
+
+    /// Whether a planned firing may be made in the cycle.
+    fn allows(&self, net: &Checked, firing: Firing, plan: &Plan, now: u64) -> bool
+        requires { IsOf net.now self.now.state }
+        ensures { IsTrue result ↔ Allowed net.now now self.now firing plan.now }
+    {
+        self.state.has_room(net, firing.unit, plan.put)
+            && had_room(&self.begun, net, firing.unit, plan.put)
+            && had_depth(&self.begun, net, firing)
+            && self.uses_ripe(net, firing.unit, plan, now)
+    }
+
+    /// What a firing does that may be made in the cycle; `None` where it may not.
+    fn may(&self, net: &Checked, firing: Firing, now: u64) -> Option<Plan>
+        requires { IsEngine net.now self.now }
+        ensures apart { IfSome result (λ p. apart p.takes ≡ true) }
+        ensures admits { IfSome result
+            (λ p. admits (cell_at self.now.state firing.unit) p.change ≡ true) }
+        ensures effect { IfSome result (λ p. IsPlanOf net.now self.now.state firing (Some p)) }
+        ensures room { IfSome result
+            (λ p. has_room net.now (state_of self.now.state) firing.unit p.put) }
+        ensures may { (start : Dated) → IsBegun net.now start self.now.begun → MatchOption result
+            (May net.now now start (dated_of self.now) firing → ⊥)
+            (λ p. May net.now now start (dated_of self.now) firing) }
+    {
+        match self.state.plan(net, firing) {
+            None => None,
+            Some(plan) => {
+                if self.allows(net, firing, &plan, now) {
+                    Some(plan)
+                } else {
+                    None
+                }
+            }
+        }
+    }
+
+    /// Makes a planned firing in the cycle.
+    ///
+    /// # Errors
+    ///
+    /// `Memory` where memory is wanting.
+    fn make(
+        &mut self,
+        net: &Checked,
+        firing: Firing,
+        plan: Plan,
+        keep: bool,
+        now: u64,
+    ) -> Result<(), RunFault>
+        requires engine { IsEngine net.now self.old }
+        requires apart { apart plan.takes ≡ true }
+        requires admits { admits (cell_at self.old.state firing.unit) plan.change ≡ true }
+        requires effect { IsPlanOf net.now self.old.state firing (Some plan) }
+        requires room { has_room net.now (state_of self.old.state) firing.unit plan.put }
+        requires counts { CountsWithin (2 ^ 62) (state_of self.old.state) }
+        requires log { keep ≡ true → 0 < self.old.log.room }
+        ensures engine { OnOk result (IsEngine net.now self.new) }
+        ensures after { OnOk result
+            (dated_of self.new ≡ after_in net.now now (dated_of self.old) firing) }
+        ensures counts { OnOk result
+            (CountsRise max_depth (state_of self.old.state) (state_of self.new.state)) }
+        ensures fired { OnOk result
+            (self.new.fired.items ≡ self.old.fired.items ++ firing ∷ []) }
+        ensures begun { OnOk result (self.new.begun ≡ self.old.begun) }
+        ensures made { OnOk result (self.new.made ≡ self.old.made) }
+        ensures log { OnOk result (IsLogged keep (firing ∷ []) self.old.log self.new.log) }
+        ensures memory { IfErr result (λ e. e ≡ fault.Memory) }
+    {
+        note_fired(&mut self.fired, firing)?;
+        self.state.make(net, firing, plan);
+        move_dates(&mut self.dates, net, firing.unit, plan.takes, plan.put, now);
+        note(&mut self.log, keep, firing);
+        Ok(())
+    }
+
+    /// Makes a firing where it may be made in the cycle and its place has not fired, and tells whether it was made.
+    ///
+    /// # Errors
+    ///
+    /// `Limit` where it may be made and as many firings as the limit allows are made. `Memory` where memory is wanting.
+    pub(crate) fn attempt(
+        &mut self,
+        net: &Checked,
+        bounds: Bounds,
+        firing: Firing,
+        now: u64,
+    ) -> Result<bool, RunFault>
+        requires { IsReady net.now bounds self.old }
+        ensures ready { OnOk result (IsReady net.now bounds self.new) }
+        ensures more { IfOk result (IsMore self.old self.new) }
+        ensures tried { (past : Past) (start : Dated)
+            → InCycle net.now past bounds now start self.old
+            → MayFollow net.now self.old firing
+            → MatchResult result
+            (IsTried net.now past bounds now start self.old self.new firing)
+            (IsBroken net.now past.inputs bounds) }
+    {
+        if self.is_used(firing) {
+            return Ok(false);
+        }
+        let Some(plan) = self.may(net, firing, now) else {
+            return Ok(false);
+        };
+        if self.made + self.fired.len() as u64 == bounds.limit {
+            return Err(RunFault::Limit {
+                limit: bounds.limit,
+            });
+        }
+        self.make(net, firing, plan, bounds.keep, now)?;
+        Ok(true)
+    }
+}
