@@ -22,8 +22,8 @@ Text = List ℕ
 abbrev pub is_built : Verb → Bool
 is_built Compile = false
 is_built Go = true
-is_built Run = false
-is_built Replay = false
+is_built Run = true
+is_built Replay = true
 is_built Bench = false
 is_built Upgrade = true
 is_built Ref = false
@@ -33,7 +33,7 @@ is_built Resume = false
 abbrev pub built_choices : Verb → List Choice
 built_choices Compile = []
 built_choices Go = []
-built_choices Run = []
+built_choices Run = Limit ∷ Count ∷ Log ∷ []
 built_choices Replay = []
 built_choices Bench = []
 built_choices Upgrade = []

@@ -152,7 +152,8 @@ pub fn built_choices(verb: Verb) -> &'static [Choice]
     ensures { result.now ≡ built_choices verb }
 {
     match verb {
-        Verb::Compile | Verb::Go | Verb::Run | Verb::Replay | Verb::Bench => &[],
+        Verb::Run => &[Choice::Limit, Choice::Count, Choice::Log],
+        Verb::Compile | Verb::Go | Verb::Replay | Verb::Bench => &[],
         Verb::Upgrade | Verb::Ref | Verb::Save | Verb::Resume => &[],
     }
 }

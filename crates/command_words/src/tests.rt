@@ -41,6 +41,7 @@ fn tells_tables(rt: HostRuntime) -> Result<(), Fail> {
     assert_eq!(rt; Choice::Count.kind(), ValueKind::Flag);
     assert_eq!(rt; Choice::Wrap.word(), "--wrap");
     assert!(rt; !Choice::Count.is_own(Verb::Go));
+    assert!(rt; Choice::Count.is_own(Verb::Run));
     assert_eq!(rt; choices(Verb::Save), [Choice::At].as_slice());
     assert!(rt; built_choices(Verb::Upgrade).is_empty());
     Ok(())

@@ -57,8 +57,8 @@ impl Verb {
         ensures { result ≡ is_built self }
     {
         match self {
-            Verb::Go | Verb::Upgrade => true,
-            Verb::Compile | Verb::Run | Verb::Replay | Verb::Bench => false,
+            Verb::Go | Verb::Run | Verb::Replay | Verb::Upgrade => true,
+            Verb::Compile | Verb::Bench => false,
             Verb::Ref | Verb::Save | Verb::Resume => false,
         }
     }

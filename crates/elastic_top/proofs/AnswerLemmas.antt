@@ -1,16 +1,15 @@
 -- What a fault of making a text is, for the commands and for a call.
-use Rattle.std.proofs.Common.{◌≡◌, subst, arith, List, [], ◌∷◌, length, map, get_or}
-use Rattle.std.specs.Prelude.{ℕ, Result, Ok, Err, IfErr}
+use Rattle.std.proofs.Common.{◌≡◌, ◌<◌, zero, suc, refl, subst, sym, ap, arith, List, [], ◌∷◌, length, map, get_or}
+use Rattle.std.specs.Prelude.{ℕ, Result, Ok, Err}
 use Rattle.std.specs.Borrow.{Bor}
 use Rattle.std.specs.declared.vec.Vec.{Vec}
 use Rattle.std.specs.declared.alloc.Global.{Global}
 use Rattle.el_io.specs.Outside.{Told}
 use Rattle.command_words.specs.Tables.{Text}
-use Rattle.command_words.specs.Commands.{Asked}
+use Rattle.command_words.specs.Commands.{Asked, word_texts}
 use Rattle.elastic_top.specs.Files.{files_of}
-use Rattle.command_words.specs.declared.verb.Verb.TheVariants.{Go}
 use Rattle.elastic_top.specs.Reading.{AreHeld, contents_of}
-use Rattle.elastic_top.specs.Answers.{Answers, AnswersBy, Goes, Refuses}
+use Rattle.elastic_top.specs.Answers.{Answers, Refuses, at}
 use Rattle.elastic_top.specs.Causes.{IsCauseOf}
 use Rattle.elastic_top.specs.declared.fault.Fault.{Fault}
 use Rattle.elastic_top.specs.declared.fault.Fault.TheVariants.{Usage, Read, Write, Memory, TooLong, Refused}
@@ -25,15 +24,70 @@ refused_cause holds steady long Cut c contents Memory held is = tt
 refused_cause holds steady long Cut c contents (TooLong x) held is = absurd is
 refused_cause holds steady long Cut c contents (Refused r) held is = record { contents = contents; held = held; answer = is }
 
--- what `go` refuses is the command's answer for the contents
-pub goes_refused : (words : List (Bor Text)) (contents : List (Vec ℕ Global)) (d e : Bor Text) (f g : Vec ℕ Global) (r : Result (Vec ℕ Global) Fault)
-    → length words ≡ 2 → length contents ≡ 2
-    → IfErr r (Refuses (Goes (get_or words 0 d).now (get_or words 1 e).now (get_or contents 0 f).items (get_or contents 1 g).items))
-    → IfErr r (Refuses (AnswersBy Go (map (λ w. w.now) words) (contents_of contents)))
-goes_refused (a ∷ b ∷ []) (x ∷ y ∷ []) d e f g r m n is = is
-goes_refused [] contents d e f g r m n is = absurd (omega (arith, m))
-goes_refused (a ∷ []) contents d e f g r m n is = absurd (omega (arith, m))
-goes_refused (a ∷ b ∷ c ∷ more) contents d e f g r m n is = absurd (omega (arith, m))
-goes_refused (a ∷ b ∷ []) [] d e f g r m n is = absurd (omega (arith, n))
-goes_refused (a ∷ b ∷ []) (x ∷ []) d e f g r m n is = absurd (omega (arith, n))
-goes_refused (a ∷ b ∷ []) (x ∷ y ∷ z ∷ more) d e f g r m n is = absurd (omega (arith, n))
+-- the word and the bytes at a place
+word_at : (words : List (Bor Text)) (i : ℕ) (d : Bor Text) → i < length words → at (word_texts words) i ≡ (get_or words i d).now
+word_at [] i d within = absurd (omega (arith, within))
+word_at (v ∷ words) zero d within = refl
+word_at (v ∷ words) (suc i) d within = word_at words i d (omega (arith, within))
+
+bytes_at-is : (contents : List (Vec ℕ Global)) (i : ℕ) (b : Vec ℕ Global) → i < length contents → b ≡ get_or contents i b → at (contents_of contents) i ≡ b.items
+bytes_at-is [] i b within is = absurd (omega (arith, within))
+bytes_at-is (v ∷ contents) zero b within is = ap (λ (x : Vec ℕ Global). x.items) (sym is)
+bytes_at-is (v ∷ contents) (suc i) b within is = bytes_at-is contents i b (omega (arith, within)) is
+
+-- what holds of the words and the bytes that are taken holds of those at the places
+pub of_two : (Holds : Text → Text → Text → Text → Type 0) (words : List (Bor Text)) (contents : List (Vec ℕ Global)) (d e : Bor Text) (a b : Vec ℕ Global)
+    → length words ≡ 2 → length contents ≡ 2 → a ≡ get_or contents 0 a → b ≡ get_or contents 1 b
+    → Holds (get_or words 0 d).now (get_or words 1 e).now a.items b.items
+    → Holds (at (word_texts words) 0) (at (word_texts words) 1) (at (contents_of contents) 0) (at (contents_of contents) 1)
+of_two Holds words contents d e a b m n ia ib is =
+    let v = (get_or words 0 d).now in
+    let w = (get_or words 1 e).now in
+    let ev : at (word_texts words) 0 ≡ v = word_at words 0 d (omega (arith, m)) in
+    let ew : at (word_texts words) 1 ≡ w = word_at words 1 e (omega (arith, m)) in
+    let ea : at (contents_of contents) 0 ≡ a.items = bytes_at-is contents 0 a (omega (arith, n)) ia in
+    let eb : at (contents_of contents) 1 ≡ b.items = bytes_at-is contents 1 b (omega (arith, n)) ib in
+    subst (λ t. Holds t (at (word_texts words) 1) (at (contents_of contents) 0) (at (contents_of contents) 1)) (sym ev)
+    (subst (λ t. Holds v t (at (contents_of contents) 0) (at (contents_of contents) 1)) (sym ew)
+    (subst (λ t. Holds v w t (at (contents_of contents) 1)) (sym ea)
+    (subst (λ t. Holds v w a.items t) (sym eb) is)))
+
+pub of_three : (Holds : Text → Text → Text → Text → Text → Text → Type 0) (words : List (Bor Text)) (contents : List (Vec ℕ Global)) (d e f : Bor Text) (a b c : Vec ℕ Global)
+    → length words ≡ 3 → length contents ≡ 3 → a ≡ get_or contents 0 a → b ≡ get_or contents 1 b → c ≡ get_or contents 2 c
+    → Holds (get_or words 0 d).now (get_or words 1 e).now (get_or words 2 f).now a.items b.items c.items
+    → Holds (at (word_texts words) 0) (at (word_texts words) 1) (at (word_texts words) 2) (at (contents_of contents) 0) (at (contents_of contents) 1) (at (contents_of contents) 2)
+of_three Holds words contents d e f a b c m n ia ib ic is =
+    let u = (get_or words 0 d).now in
+    let v = (get_or words 1 e).now in
+    let w = (get_or words 2 f).now in
+    let eu : at (word_texts words) 0 ≡ u = word_at words 0 d (omega (arith, m)) in
+    let ev : at (word_texts words) 1 ≡ v = word_at words 1 e (omega (arith, m)) in
+    let ew : at (word_texts words) 2 ≡ w = word_at words 2 f (omega (arith, m)) in
+    let ea : at (contents_of contents) 0 ≡ a.items = bytes_at-is contents 0 a (omega (arith, n)) ia in
+    let eb : at (contents_of contents) 1 ≡ b.items = bytes_at-is contents 1 b (omega (arith, n)) ib in
+    let ec : at (contents_of contents) 2 ≡ c.items = bytes_at-is contents 2 c (omega (arith, n)) ic in
+    subst (λ t. Holds t (at (word_texts words) 1) (at (word_texts words) 2) (at (contents_of contents) 0) (at (contents_of contents) 1) (at (contents_of contents) 2)) (sym eu)
+    (subst (λ t. Holds u t (at (word_texts words) 2) (at (contents_of contents) 0) (at (contents_of contents) 1) (at (contents_of contents) 2)) (sym ev)
+    (subst (λ t. Holds u v t (at (contents_of contents) 0) (at (contents_of contents) 1) (at (contents_of contents) 2)) (sym ew)
+    (subst (λ t. Holds u v w t (at (contents_of contents) 1) (at (contents_of contents) 2)) (sym ea)
+    (subst (λ t. Holds u v w a.items t (at (contents_of contents) 2)) (sym eb)
+    (subst (λ t. Holds u v w a.items b.items t) (sym ec) is)))))
+
+-- the same of the bytes alone
+pub bytes_of_two : (Holds : Text → Text → Type 0) (contents : List (Vec ℕ Global)) (a b : Vec ℕ Global)
+    → length contents ≡ 2 → a ≡ get_or contents 0 a → b ≡ get_or contents 1 b
+    → Holds a.items b.items → Holds (at (contents_of contents) 0) (at (contents_of contents) 1)
+bytes_of_two Holds contents a b n ia ib is =
+    let ea : at (contents_of contents) 0 ≡ a.items = bytes_at-is contents 0 a (omega (arith, n)) ia in
+    let eb : at (contents_of contents) 1 ≡ b.items = bytes_at-is contents 1 b (omega (arith, n)) ib in
+    subst (λ t. Holds t (at (contents_of contents) 1)) (sym ea) (subst (λ t. Holds a.items t) (sym eb) is)
+
+pub bytes_of_three : (Holds : Text → Text → Text → Type 0) (contents : List (Vec ℕ Global)) (a b c : Vec ℕ Global)
+    → length contents ≡ 3 → a ≡ get_or contents 0 a → b ≡ get_or contents 1 b → c ≡ get_or contents 2 c
+    → Holds a.items b.items c.items → Holds (at (contents_of contents) 0) (at (contents_of contents) 1) (at (contents_of contents) 2)
+bytes_of_three Holds contents a b c n ia ib ic is =
+    let ea : at (contents_of contents) 0 ≡ a.items = bytes_at-is contents 0 a (omega (arith, n)) ia in
+    let eb : at (contents_of contents) 1 ≡ b.items = bytes_at-is contents 1 b (omega (arith, n)) ib in
+    let ec : at (contents_of contents) 2 ≡ c.items = bytes_at-is contents 2 c (omega (arith, n)) ic in
+    subst (λ t. Holds t (at (contents_of contents) 1) (at (contents_of contents) 2)) (sym ea)
+    (subst (λ t. Holds a.items t (at (contents_of contents) 2)) (sym eb) (subst (λ t. Holds a.items b.items t) (sym ec) is))

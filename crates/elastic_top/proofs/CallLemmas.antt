@@ -7,6 +7,7 @@ use Rattle.command_words.specs.declared.verb.Verb.{Verb}
 use Rattle.command_words.specs.declared.verb.Verb.TheVariants.{Compile, Go, Run, Replay, Bench, Upgrade, Ref, Save, Resume}
 use Rattle.command_words.specs.Tables.{Text, is_built}
 use Rattle.command_words.specs.Commands.{Asked}
+use Rattle.command_words.specs.declared.command.Chosen.{Chosen}
 use Rattle.elastic_top.specs.Files.{Wanted, files_of}
 use Rattle.elastic_top.specs.Reading.{AreHeld, IsReached, IsUnread, IsTooLong}
 use Rattle.elastic_top.specs.Answers.{Answers, AnswersBy}
@@ -16,25 +17,55 @@ use Rattle.elastic_top.specs.Causes.{IsCauseOf, IsOwn, Unread, Writes, RefusesWi
 use Rattle.elastic_top.specs.declared.fault.Fault.{Fault}
 use Rattle.elastic_top.specs.declared.fault.Fault.TheVariants.{Usage, Read, Write, Memory, TooLong, Refused}
 use Rattle.elastic_top.specs.declared.fault.Refusal.{Refusal}
-use Rattle.elastic_top.specs.declared.fault.Refusal.TheVariants.{StraightKernel, StraightInputs, NetText, NetRule}
+use Rattle.elastic_top.specs.declared.fault.Refusal.TheVariants.{StraightKernel, StraightInputs, NetText, NetRule, Inputs, Schedule, NotEnabled, Limit, Stuck, Stray}
 
 -- a command's own refusals have its statuses
-own : (v : Verb) (plain contents : List Text) (r : Refusal) → AnswersBy v plain contents (Err r) → Contains (statuses_of v) (refusal_code r)
-own Compile plain contents r a = absurd a
-own Go plain contents (StraightKernel f) a = (3, omega arith, refl)
-own Go plain contents (StraightInputs f) a = (4, omega arith, refl)
-own Go plain contents (NetText f x) a = absurd a
-own Go plain contents (NetRule f x) a = absurd a
-own Run plain contents r a = absurd a
-own Replay plain contents r a = absurd a
-own Bench plain contents r a = absurd a
-own Upgrade plain contents (StraightKernel f) a = absurd a
-own Upgrade plain contents (StraightInputs f) a = absurd a
-own Upgrade plain contents (NetText f x) a = (3, omega arith, refl)
-own Upgrade plain contents (NetRule f x) a = (3, omega arith, refl)
-own Ref plain contents r a = absurd a
-own Save plain contents r a = absurd a
-own Resume plain contents r a = absurd a
+own : (v : Verb) (plain : List Text) (chosen : Chosen) (contents : List Text) (r : Refusal) → AnswersBy v plain chosen contents (Err r) → Contains (statuses_of v) (refusal_code r)
+own Compile plain chosen contents r a = absurd a
+own Go plain chosen contents (StraightKernel f) a = (3, omega arith, refl)
+own Go plain chosen contents (StraightInputs f) a = (4, omega arith, refl)
+own Go plain chosen contents (NetText f x) a = absurd a
+own Go plain chosen contents (NetRule f x) a = absurd a
+own Go plain chosen contents (Inputs f x) a = absurd a
+own Go plain chosen contents (Schedule f x) a = absurd a
+own Go plain chosen contents (NotEnabled f i) a = absurd a
+own Go plain chosen contents (Limit n) a = absurd a
+own Go plain chosen contents Stuck a = absurd a
+own Go plain chosen contents (Stray name) a = absurd a
+own Run plain chosen contents (StraightKernel f) a = absurd a
+own Run plain chosen contents (StraightInputs f) a = absurd a
+own Run plain chosen contents (NetText f x) a = (3, omega arith, refl)
+own Run plain chosen contents (NetRule f x) a = (3, omega arith, refl)
+own Run plain chosen contents (Inputs f x) a = (4, omega arith, refl)
+own Run plain chosen contents (Schedule f x) a = absurd a
+own Run plain chosen contents (NotEnabled f i) a = absurd a
+own Run plain chosen contents (Limit n) a = (5, omega arith, refl)
+own Run plain chosen contents Stuck a = (6, omega arith, refl)
+own Run plain chosen contents (Stray name) a = (7, omega arith, refl)
+own Replay plain chosen contents (StraightKernel f) a = absurd a
+own Replay plain chosen contents (StraightInputs f) a = absurd a
+own Replay plain chosen contents (NetText f x) a = (3, omega arith, refl)
+own Replay plain chosen contents (NetRule f x) a = (3, omega arith, refl)
+own Replay plain chosen contents (Inputs f x) a = (4, omega arith, refl)
+own Replay plain chosen contents (Schedule f x) a = (5, omega arith, refl)
+own Replay plain chosen contents (NotEnabled f i) a = (5, omega arith, refl)
+own Replay plain chosen contents (Limit n) a = absurd a
+own Replay plain chosen contents Stuck a = (6, omega arith, refl)
+own Replay plain chosen contents (Stray name) a = (7, omega arith, refl)
+own Bench plain chosen contents r a = absurd a
+own Upgrade plain chosen contents (StraightKernel f) a = absurd a
+own Upgrade plain chosen contents (StraightInputs f) a = absurd a
+own Upgrade plain chosen contents (NetText f x) a = (3, omega arith, refl)
+own Upgrade plain chosen contents (NetRule f x) a = (3, omega arith, refl)
+own Upgrade plain chosen contents (Inputs f x) a = absurd a
+own Upgrade plain chosen contents (Schedule f x) a = absurd a
+own Upgrade plain chosen contents (NotEnabled f i) a = absurd a
+own Upgrade plain chosen contents (Limit n) a = absurd a
+own Upgrade plain chosen contents Stuck a = absurd a
+own Upgrade plain chosen contents (Stray name) a = absurd a
+own Ref plain chosen contents r a = absurd a
+own Save plain chosen contents r a = absurd a
+own Resume plain chosen contents r a = absurd a
 
 -- each fault has one of the statuses
 refusal_status : (r : Refusal) → Contains statuses (refusal_code r)
@@ -42,13 +73,19 @@ refusal_status (StraightKernel f) = (4, omega arith, refl)
 refusal_status (StraightInputs f) = (6, omega arith, refl)
 refusal_status (NetText f x) = (5, omega arith, refl)
 refusal_status (NetRule f x) = (5, omega arith, refl)
+refusal_status (Inputs f x) = (6, omega arith, refl)
+refusal_status (Schedule f x) = (7, omega arith, refl)
+refusal_status (NotEnabled f i) = (7, omega arith, refl)
+refusal_status (Limit n) = (8, omega arith, refl)
+refusal_status Stuck = (9, omega arith, refl)
+refusal_status (Stray name) = (10, omega arith, refl)
 
 pub any_status : (f : Fault) → Contains statuses (fault_code f)
 any_status Usage = (1, omega arith, refl)
 any_status (Read x) = (2, omega arith, refl)
 any_status Write = (3, omega arith, refl)
-any_status Memory = (7, omega arith, refl)
-any_status (TooLong x) = (8, omega arith, refl)
+any_status Memory = (11, omega arith, refl)
+any_status (TooLong x) = (12, omega arith, refl)
 any_status (Refused r) = refusal_status r
 
 -- a refusal has no status of words, of the outside or of memory
@@ -64,6 +101,12 @@ inside (StraightKernel f) = record { spelled = λ e. absurd (omega (arith, e)); 
 inside (StraightInputs f) = record { spelled = λ e. absurd (omega (arith, e)); unread = λ e. absurd (omega (arith, e)); unwritten = λ e. absurd (omega (arith, e)); memory = λ e. absurd (omega (arith, e)); long = λ e. absurd (omega (arith, e)) }
 inside (NetText f x) = record { spelled = λ e. absurd (omega (arith, e)); unread = λ e. absurd (omega (arith, e)); unwritten = λ e. absurd (omega (arith, e)); memory = λ e. absurd (omega (arith, e)); long = λ e. absurd (omega (arith, e)) }
 inside (NetRule f x) = record { spelled = λ e. absurd (omega (arith, e)); unread = λ e. absurd (omega (arith, e)); unwritten = λ e. absurd (omega (arith, e)); memory = λ e. absurd (omega (arith, e)); long = λ e. absurd (omega (arith, e)) }
+inside (Inputs f x) = record { spelled = λ e. absurd (omega (arith, e)); unread = λ e. absurd (omega (arith, e)); unwritten = λ e. absurd (omega (arith, e)); memory = λ e. absurd (omega (arith, e)); long = λ e. absurd (omega (arith, e)) }
+inside (Schedule f x) = record { spelled = λ e. absurd (omega (arith, e)); unread = λ e. absurd (omega (arith, e)); unwritten = λ e. absurd (omega (arith, e)); memory = λ e. absurd (omega (arith, e)); long = λ e. absurd (omega (arith, e)) }
+inside (NotEnabled f i) = record { spelled = λ e. absurd (omega (arith, e)); unread = λ e. absurd (omega (arith, e)); unwritten = λ e. absurd (omega (arith, e)); memory = λ e. absurd (omega (arith, e)); long = λ e. absurd (omega (arith, e)) }
+inside (Limit n) = record { spelled = λ e. absurd (omega (arith, e)); unread = λ e. absurd (omega (arith, e)); unwritten = λ e. absurd (omega (arith, e)); memory = λ e. absurd (omega (arith, e)); long = λ e. absurd (omega (arith, e)) }
+inside Stuck = record { spelled = λ e. absurd (omega (arith, e)); unread = λ e. absurd (omega (arith, e)); unwritten = λ e. absurd (omega (arith, e)); memory = λ e. absurd (omega (arith, e)); long = λ e. absurd (omega (arith, e)) }
+inside (Stray name) = record { spelled = λ e. absurd (omega (arith, e)); unread = λ e. absurd (omega (arith, e)); unwritten = λ e. absurd (omega (arith, e)); memory = λ e. absurd (omega (arith, e)); long = λ e. absurd (omega (arith, e)) }
 
 -- those of the outside stand in the list of each command that is built
 pub record HasOutside (list : List ℕ) : Type 0 where
@@ -76,8 +119,8 @@ pub record HasOutside (list : List ℕ) : Type 0 where
 pub outside : (v : Verb) → IsTrue (is_built v) → HasOutside (statuses_of v)
 outside Compile b = absurd (false≢true b)
 outside Go b = record { done = (0, omega arith, refl); unread = (1, omega arith, refl); unwritten = (2, omega arith, refl); memory = (5, omega arith, refl); long = (6, omega arith, refl) }
-outside Run b = absurd (false≢true b)
-outside Replay b = absurd (false≢true b)
+outside Run b = record { done = (0, omega arith, refl); unread = (1, omega arith, refl); unwritten = (2, omega arith, refl); memory = (8, omega arith, refl); long = (9, omega arith, refl) }
+outside Replay b = record { done = (0, omega arith, refl); unread = (1, omega arith, refl); unwritten = (2, omega arith, refl); memory = (8, omega arith, refl); long = (9, omega arith, refl) }
 outside Bench b = absurd (false≢true b)
 outside Upgrade b = record { done = (0, omega arith, refl); unread = (1, omega arith, refl); unwritten = (2, omega arith, refl); memory = (4, omega arith, refl); long = (5, omega arith, refl) }
 outside Ref b = absurd (false≢true b)
@@ -91,7 +134,7 @@ module _ (holds : Text → Told) (steady : Type 0) (long : ℕ) (Cut : Text → 
   status_of c Write b is = (outside c.verb b).unwritten
   status_of c Memory b is = (outside c.verb b).memory
   status_of c (TooLong x) b is = (outside c.verb b).long
-  status_of c (Refused r) b is = own c.verb c.plain is.contents r is.answer
+  status_of c (Refused r) b is = own c.verb c.plain c.chosen is.contents r is.answer
 
   pub spelled_of : (c : Asked) (f : Fault) → IsCauseOf holds steady long Cut c f → fault_code f ≢ 1
   spelled_of c Usage is = absurd is

@@ -4,3 +4,4 @@ pub mod Cuts
 pub mod PieceLemmas
 pub mod PlanLemmas
 pub mod ReadingLemmas
+pub mod LimitLemmas

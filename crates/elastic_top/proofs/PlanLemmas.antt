@@ -24,7 +24,7 @@ texts_more : (i : ℕ) (ws : List (Bor (List ℕ))) (w : Bor (List ℕ)) → i <
 texts_more i ws w within is =
     ap word_texts (take_more ws i w within ∙ ap (λ x. take i ws ++ x ∷ []) (sym is)) ∙ map-append (λ x. x.now) (take i ws) (w ∷ [])
 
-length-texts : (ws : List (Bor (List ℕ))) → length (word_texts ws) ≡ length ws
+pub length-texts : (ws : List (Bor (List ℕ))) → length (word_texts ws) ≡ length ws
 length-texts [] = refl
 length-texts (w ∷ ws) = omega (arith, length-texts ws)
 

@@ -1,5 +1,5 @@
 -- What each command answers for the contents of its files.
-use Rattle.std.specs.Prelude.{◌≡◌, ◌≢◌, ℕ, List, [], get_or, Result, Ok, Err}
+use Rattle.std.specs.Prelude.{◌≡◌, ◌≢◌, ◌≤◌, ℕ, List, [], get_or, Option, Some, None, Result, Ok, Err}
 use Rattle.net_types.specs.declared.net.Net.{Net}
 use Rattle.net_text.specs.declared.refusal.TextRefusal.{TextRefusal}
 use Rattle.net_text.specs.declared.refusal.TextRefusal.TheVariants as text
@@ -14,10 +14,17 @@ use Rattle.command_words.specs.declared.verb.Verb.{Verb}
 use Rattle.command_words.specs.declared.verb.Verb.TheVariants.{Compile, Go, Run, Replay, Bench, Upgrade, Ref, Save, Resume}
 use Rattle.command_words.specs.Tables.{Text}
 use Rattle.command_words.specs.Commands.{Asked}
+use Rattle.command_words.specs.declared.command.Chosen.{Chosen}
+use Rattle.el_base.specs.Limits.{max_firings}
+use Rattle.net_runs.specs.declared.options.RunOptions.{RunOptions}
+use Rattle.net_runs.specs.declared.options.TheConstants.{DEFAULT_FIRINGS}
+use Rattle.net_runs.specs.declared.refusal.RunRefusal.TheVariants as run
+use Rattle.net_runs.specs.Runs.{Runs}
+use Rattle.net_runs.specs.Replays.{Replays}
 use Rattle.elastic_top.specs.declared.fault.Fault.{Fault}
 use Rattle.elastic_top.specs.declared.fault.Fault.TheVariants.{Usage, Read, Write, Memory, TooLong, Refused}
 use Rattle.elastic_top.specs.declared.fault.Refusal.{Refusal}
-use Rattle.elastic_top.specs.declared.fault.Refusal.TheVariants.{StraightKernel, StraightInputs, NetText, NetRule}
+use Rattle.elastic_top.specs.declared.fault.Refusal.TheVariants.{StraightKernel, StraightInputs, NetText, NetRule, Inputs, Schedule, NotEnabled, Limit, Stuck, Stray}
 
 -- ---- go: the net of the kernel, the line `%%` and the result
 
@@ -27,6 +34,12 @@ Goes kernel inputs kernel_bytes input_bytes (Err (StraightKernel file)) = (file.
 Goes kernel inputs kernel_bytes input_bytes (Err (StraightInputs file)) = (file.now ≡ inputs) × SpellsNoInputs kernel_bytes input_bytes
 Goes kernel inputs kernel_bytes input_bytes (Err (NetText file r)) = ⊥
 Goes kernel inputs kernel_bytes input_bytes (Err (NetRule file r)) = ⊥
+Goes kernel inputs kernel_bytes input_bytes (Err (Inputs f r)) = ⊥
+Goes kernel inputs kernel_bytes input_bytes (Err (Schedule f r)) = ⊥
+Goes kernel inputs kernel_bytes input_bytes (Err (NotEnabled f i)) = ⊥
+Goes kernel inputs kernel_bytes input_bytes (Err (Limit n)) = ⊥
+Goes kernel inputs kernel_bytes input_bytes (Err Stuck) = ⊥
+Goes kernel inputs kernel_bytes input_bytes (Err (Stray name)) = ⊥
 
 -- ---- upgrade: the text in version 2 of a checked net
 
@@ -57,6 +70,12 @@ IsNetFault file bytes (Refused (StraightKernel f)) = ⊥
 IsNetFault file bytes (Refused (StraightInputs f)) = ⊥
 IsNetFault file bytes (Refused (NetText f r)) = (f.now ≡ file) × IsNoNet bytes r
 IsNetFault file bytes (Refused (NetRule f r)) = (f.now ≡ file) × IsUnchecked bytes r
+IsNetFault file bytes (Refused (Inputs f r)) = ⊥
+IsNetFault file bytes (Refused (Schedule f r)) = ⊥
+IsNetFault file bytes (Refused (NotEnabled f i)) = ⊥
+IsNetFault file bytes (Refused (Limit n)) = ⊥
+IsNetFault file bytes (Refused Stuck) = ⊥
+IsNetFault file bytes (Refused (Stray name)) = ⊥
 
 -- the bytes are the text of a checked net, and the text is its text in version 2
 pub record IsUpgraded (bytes upgraded : Text) : Type 0 where
@@ -71,6 +90,59 @@ Upgrades file bytes (Err (StraightKernel f)) = ⊥
 Upgrades file bytes (Err (StraightInputs f)) = ⊥
 Upgrades file bytes (Err (NetText f r)) = (f.now ≡ file) × IsNoNet bytes r
 Upgrades file bytes (Err (NetRule f r)) = (f.now ≡ file) × IsUnchecked bytes r
+Upgrades file bytes (Err (Inputs f r)) = ⊥
+Upgrades file bytes (Err (Schedule f r)) = ⊥
+Upgrades file bytes (Err (NotEnabled f i)) = ⊥
+Upgrades file bytes (Err (Limit n)) = ⊥
+Upgrades file bytes (Err Stuck) = ⊥
+Upgrades file bytes (Err (Stray name)) = ⊥
+
+-- ---- run and replay: the answers for a checked net
+
+-- the bytes are the text of a checked net, of which that holds
+pub record OfNet (bytes : Text) (Holds : Net → Type 0) : Type 0 where
+  pub net : Net
+  pub read : ReadsNet bytes net
+  pub checked : IsChecked net
+  pub holds : Holds net
+
+-- the limit that is asked for, or the usual one
+abbrev pub limit_or : Option ℕ → ℕ
+limit_or None = DEFAULT_FIRINGS
+limit_or (Some n) = n
+
+abbrev pub options_of : Chosen → RunOptions
+options_of c = record { limit = limit_or c.limit; count = c.count; log = c.log }
+
+-- a limit that a run may have
+abbrev pub HasLimit : Chosen → Type 0
+HasLimit c = limit_or c.limit ≤ max_firings
+
+abbrev pub RunsNet : Text → Text → RunOptions → Text → Text → Result Text Refusal → Type 0
+RunsNet netlist inputs o net_bytes input_bytes (Ok text) = OfNet net_bytes (λ net. Runs net input_bytes o (Ok text))
+RunsNet netlist inputs o net_bytes input_bytes (Err (StraightKernel f)) = ⊥
+RunsNet netlist inputs o net_bytes input_bytes (Err (StraightInputs f)) = ⊥
+RunsNet netlist inputs o net_bytes input_bytes (Err (NetText f r)) = (f.now ≡ netlist) × IsNoNet net_bytes r
+RunsNet netlist inputs o net_bytes input_bytes (Err (NetRule f r)) = (f.now ≡ netlist) × IsUnchecked net_bytes r
+RunsNet netlist inputs o net_bytes input_bytes (Err (Inputs f r)) = (f.now ≡ inputs) × OfNet net_bytes (λ net. Runs net input_bytes o (Err (run.Inputs r)))
+RunsNet netlist inputs o net_bytes input_bytes (Err (Schedule f r)) = ⊥
+RunsNet netlist inputs o net_bytes input_bytes (Err (NotEnabled f i)) = ⊥
+RunsNet netlist inputs o net_bytes input_bytes (Err (Limit n)) = OfNet net_bytes (λ net. Runs net input_bytes o (Err (run.Limit n)))
+RunsNet netlist inputs o net_bytes input_bytes (Err Stuck) = OfNet net_bytes (λ net. Runs net input_bytes o (Err run.Stuck))
+RunsNet netlist inputs o net_bytes input_bytes (Err (Stray name)) = OfNet net_bytes (λ net. Runs net input_bytes o (Err (run.Stray name)))
+
+abbrev pub ReplaysNet : Text → Text → Text → Text → Text → Text → Result Text Refusal → Type 0
+ReplaysNet netlist inputs schedule net_bytes input_bytes bytes (Ok text) = OfNet net_bytes (λ net. Replays net input_bytes bytes (Ok text))
+ReplaysNet netlist inputs schedule net_bytes input_bytes bytes (Err (StraightKernel f)) = ⊥
+ReplaysNet netlist inputs schedule net_bytes input_bytes bytes (Err (StraightInputs f)) = ⊥
+ReplaysNet netlist inputs schedule net_bytes input_bytes bytes (Err (NetText f r)) = (f.now ≡ netlist) × IsNoNet net_bytes r
+ReplaysNet netlist inputs schedule net_bytes input_bytes bytes (Err (NetRule f r)) = (f.now ≡ netlist) × IsUnchecked net_bytes r
+ReplaysNet netlist inputs schedule net_bytes input_bytes bytes (Err (Inputs f r)) = (f.now ≡ inputs) × OfNet net_bytes (λ net. Replays net input_bytes bytes (Err (run.Inputs r)))
+ReplaysNet netlist inputs schedule net_bytes input_bytes bytes (Err (Schedule f r)) = (f.now ≡ schedule) × OfNet net_bytes (λ net. Replays net input_bytes bytes (Err (run.Schedule r)))
+ReplaysNet netlist inputs schedule net_bytes input_bytes bytes (Err (NotEnabled f i)) = (f.now ≡ schedule) × OfNet net_bytes (λ net. Replays net input_bytes bytes (Err (run.NotEnabled i)))
+ReplaysNet netlist inputs schedule net_bytes input_bytes bytes (Err (Limit n)) = ⊥
+ReplaysNet netlist inputs schedule net_bytes input_bytes bytes (Err Stuck) = OfNet net_bytes (λ net. Replays net input_bytes bytes (Err run.Stuck))
+ReplaysNet netlist inputs schedule net_bytes input_bytes bytes (Err (Stray name)) = OfNet net_bytes (λ net. Replays net input_bytes bytes (Err (run.Stray name)))
 
 -- ---- all commands
 
@@ -79,19 +151,19 @@ abbrev pub at : List Text → ℕ → Text
 at texts i = get_or texts i []
 
 -- what a command answers for the contents of its files: one line a command
-abbrev pub AnswersBy : Verb → List Text → List Text → Result Text Refusal → Type 0
-AnswersBy Compile plain contents answer = ⊥
-AnswersBy Go plain contents answer = Goes (at plain 0) (at plain 1) (at contents 0) (at contents 1) answer
-AnswersBy Run plain contents answer = ⊥
-AnswersBy Replay plain contents answer = ⊥
-AnswersBy Bench plain contents answer = ⊥
-AnswersBy Upgrade plain contents answer = Upgrades (at plain 0) (at contents 0) answer
-AnswersBy Ref plain contents answer = ⊥
-AnswersBy Save plain contents answer = ⊥
-AnswersBy Resume plain contents answer = ⊥
+abbrev pub AnswersBy : Verb → List Text → Chosen → List Text → Result Text Refusal → Type 0
+AnswersBy Compile plain chosen contents answer = ⊥
+AnswersBy Go plain chosen contents answer = Goes (at plain 0) (at plain 1) (at contents 0) (at contents 1) answer
+AnswersBy Run plain chosen contents answer = RunsNet (at plain 0) (at plain 1) (options_of chosen) (at contents 0) (at contents 1) answer
+AnswersBy Replay plain chosen contents answer = ReplaysNet (at plain 0) (at plain 1) (at plain 2) (at contents 0) (at contents 1) (at contents 2) answer
+AnswersBy Bench plain chosen contents answer = ⊥
+AnswersBy Upgrade plain chosen contents answer = Upgrades (at plain 0) (at contents 0) answer
+AnswersBy Ref plain chosen contents answer = ⊥
+AnswersBy Save plain chosen contents answer = ⊥
+AnswersBy Resume plain chosen contents answer = ⊥
 
 abbrev pub Answers : Asked → List Text → Result Text Refusal → Type 0
-Answers c contents answer = AnswersBy c.verb c.plain contents answer
+Answers c contents answer = AnswersBy c.verb c.plain c.chosen contents answer
 
 -- a fault of making the text: a refusal that is the answer, or want of memory
 abbrev pub Refuses : (Result Text Refusal → Type 0) → Fault → Type 0

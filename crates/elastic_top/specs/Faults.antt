@@ -5,12 +5,15 @@ use Rattle.std.specs.Io.KnownBytes.{append_known}
 use Rattle.el_io.specs.Outside.{Rose, IsCut}
 use Rattle.net_text.specs.Refusals.{refusal_text as text_label, refusal_line as text_line}
 use Rattle.net_check.specs.Refusals.{refusal_text as rule_label, refusal_at as rule_at}
+use Rattle.inputs_text.specs.declared.refusal.InputRefusal.{InputRefusal}
+use Rattle.inputs_text.specs.Refusals.{refusal_text as input_label, refusal_line as input_line, refusal_name as input_name}
+use Rattle.net_replay.specs.Readings.{refusal_text as schedule_label, refusal_line as schedule_line}
 use Rattle.net_check.specs.declared.refusal.At.{At}
 use Rattle.net_check.specs.declared.refusal.At.TheVariants as at
 use Rattle.elastic_top.specs.declared.fault.Fault.{Fault}
 use Rattle.elastic_top.specs.declared.fault.Fault.TheVariants.{Usage, Read, Write, Memory, TooLong, Refused}
 use Rattle.elastic_top.specs.declared.fault.Refusal.{Refusal}
-use Rattle.elastic_top.specs.declared.fault.Refusal.TheVariants.{StraightKernel, StraightInputs, NetText, NetRule}
+use Rattle.elastic_top.specs.declared.fault.Refusal.TheVariants.{StraightKernel, StraightInputs, NetText, NetRule, Inputs, Schedule, NotEnabled, Limit, Stuck, Stray}
 
 -- ---- refusals
 
@@ -20,11 +23,25 @@ refusal_code (StraightKernel file) = 4
 refusal_code (StraightInputs file) = 6
 refusal_code (NetText file r) = 5
 refusal_code (NetRule file r) = 5
+refusal_code (Inputs file r) = 6
+refusal_code (Schedule file r) = 7
+refusal_code (NotEnabled file i) = 7
+refusal_code (Limit n) = 8
+refusal_code Stuck = 9
+refusal_code (Stray name) = 10
 
 -- a line that names a file, the number and the word of a refusal, and where there is one the number of a line
 abbrev pub line_parts : List ℕ → List ℕ → Option ℕ → List (List ℕ)
 line_parts file label None = file ∷ codes ": " ∷ label ∷ codes "\n" ∷ []
 line_parts file label (Some n) = file ∷ codes ": " ∷ label ∷ codes " " ∷ decimal n ∷ codes "\n" ∷ []
+
+-- and a line that names a name, where there is one
+abbrev pub named_parts : List ℕ → List ℕ → Option ℕ → Option (List ℕ) → List (List ℕ)
+named_parts file label line None = line_parts file label line
+named_parts file label line (Some name) = file ∷ codes ": " ∷ label ∷ codes " " ∷ name ∷ codes "\n" ∷ []
+
+abbrev pub input_parts : List ℕ → InputRefusal → List (List ℕ)
+input_parts file r = named_parts file (input_label r) (input_line r) (input_name r)
 
 -- and a line that names a unit, a channel or the net
 abbrev pub part_parts : List ℕ → List ℕ → List ℕ → ℕ → List (List ℕ)
@@ -42,6 +59,12 @@ refusal_parts (StraightKernel file) = file.now ∷ codes ": 19 NotYet\n" ∷ []
 refusal_parts (StraightInputs file) = file.now ∷ codes ": 59 NotYet\n" ∷ []
 refusal_parts (NetText file r) = line_parts file.now (text_label r) (text_line r)
 refusal_parts (NetRule file r) = place_parts file.now (rule_label r) (rule_at r)
+refusal_parts (Inputs file r) = input_parts file.now r
+refusal_parts (Schedule file r) = line_parts file.now (schedule_label r) (schedule_line r)
+refusal_parts (NotEnabled file i) = file.now ∷ codes ": 61 NotEnabled " ∷ decimal i ∷ codes "\n" ∷ []
+refusal_parts (Limit n) = codes "elastic: 70 Limit " ∷ decimal n ∷ codes "\n" ∷ []
+refusal_parts Stuck = codes "elastic: 71 Stuck\n" ∷ []
+refusal_parts (Stray name) = codes "elastic: 72 Stray " ∷ name ∷ codes "\n" ∷ []
 
 -- ---- faults
 

@@ -2,13 +2,15 @@
 ghost use Rattle.std.specs.Prelude.{◌≡◌, ◌≤◌, IsTrue, length, Ok, IfOk, IfErr};
 ghost use Rattle.command_words.specs.Tables.{is_built, plain_of};
 ghost use Rattle.command_words.specs.Commands.{asked};
-ghost use Rattle.elastic_top.specs.Answers.{Answers, Goes, Refuses};
+ghost use Rattle.elastic_top.specs.Answers.{Answers, Goes, HasLimit, Refuses, limit_or, options_of};
 ghost use Rattle.elastic_top.specs.Files.{limits_of, AreWithin};
 ghost use Rattle.elastic_top.specs.Reading.{contents_of};
 
 use crate::fault::{Fault, Refusal};
+use crate::runs::{replay, run};
 use crate::upgrade::upgraded;
-use command_words::{Command, Verb};
+use command_words::{Chosen, Command, Verb};
+use net_runs::{DEFAULT_FIRINGS, RunOptions};
 use std::alloc::Global;
 use straight_path::answer::{Refusal as StraightRefusal, answer as straight_answer};
 
@@ -20,6 +22,7 @@ pub fn answer<'a>(
 ) -> Result<Vec<u8>, Fault<'a>>
     requires built { IsTrue (is_built command.now.verb) }
     requires plain { length command.now.plain.items ≡ length (plain_of command.now.verb) }
+    requires limit { HasLimit command.now.chosen }
     requires count { length contents.now ≡ length (limits_of (plain_of command.now.verb)) }
     requires within { AreWithin (limits_of (plain_of command.now.verb)) (contents_of contents.now) }
     ensures ok { IfOk result (λ text.
@@ -36,10 +39,25 @@ pub fn answer<'a>(
             contents[0].as_slice(),
             contents[1].as_slice(),
         ),
+        Verb::Run => run(
+            alloc,
+            words[0],
+            words[1],
+            contents[0].as_slice(),
+            contents[1].as_slice(),
+            options_of(&command.chosen),
+        ),
+        Verb::Replay => replay(
+            alloc,
+            words[0],
+            words[1],
+            words[2],
+            contents[0].as_slice(),
+            contents[1].as_slice(),
+            contents[2].as_slice(),
+        ),
         Verb::Upgrade => upgraded(alloc, words[0], contents[0].as_slice()),
         Verb::Compile => unreachable!(),
-        Verb::Run => unreachable!(),
-        Verb::Replay => unreachable!(),
         Verb::Bench => unreachable!(),
         Verb::Ref => unreachable!(),
         Verb::Save => unreachable!(),
@@ -64,5 +82,24 @@ fn go<'a>(
         Err(StraightRefusal::Kernel) => Err(Fault::Refused(Refusal::StraightKernel(kernel))),
         Err(StraightRefusal::Inputs) => Err(Fault::Refused(Refusal::StraightInputs(inputs))),
         Err(StraightRefusal::Memory) => Err(Fault::Memory),
+    }
+}
+
+fn options_of(chosen: &Chosen) -> RunOptions
+    ensures { result ≡ options_of chosen.now }
+{
+    RunOptions {
+        limit: limit_or(chosen.limit),
+        count: chosen.count,
+        log: chosen.log,
+    }
+}
+
+fn limit_or(asked: Option<u64>) -> u64
+    ensures { result ≡ limit_or asked }
+{
+    match asked {
+        Some(limit) => limit,
+        None => DEFAULT_FIRINGS,
     }
 }

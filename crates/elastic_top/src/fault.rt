@@ -4,16 +4,20 @@ ghost use Rattle.std.specs.List.{concat};
 ghost use Rattle.el_base.specs.Labels.{printed};
 ghost use Rattle.net_text.specs.Refusals.{refusal_text as text_label};
 ghost use Rattle.net_check.specs.Refusals.{refusal_text as rule_label};
-ghost use Rattle.elastic_top.specs.Faults.{fault_code, fault_line, refusal_code, refusal_parts, line_parts, part_parts, place_parts, IsTold};
+ghost use Rattle.inputs_text.specs.Refusals.{refusal_text as input_label};
+ghost use Rattle.net_replay.specs.Readings.{refusal_text as schedule_label};
+ghost use Rattle.elastic_top.specs.Faults.{fault_code, fault_line, refusal_code, refusal_parts, line_parts, input_parts, part_parts, place_parts, IsTold};
 
 use crate::line::{Piece, write_line};
-use el_base::Label;
+use el_base::{Label, Name};
 use el_io::Sink;
+use inputs_text::InputRefusal;
 use net_check::{At, NetRefusal};
+use net_replay::ScheduleRefusal;
 use net_text::TextRefusal;
 
 /// Why a command has no text for the contents of its files; a file is named by its word.
-#[derive(Clone, Copy, Debug, PartialEq, Eq)]
+#[derive(Debug, Drop)]
 pub enum Refusal<'a> {
     /// The bytes of this file have not the form of a straight kernel.
     StraightKernel(&'a str),
@@ -23,22 +27,38 @@ pub enum Refusal<'a> {
     NetText(&'a str, TextRefusal),
     /// The net of this file breaks a rule.
     NetRule(&'a str, NetRefusal),
+    /// The bytes of this file are no text of the inputs.
+    Inputs(&'a str, InputRefusal),
+    /// The bytes of this file are no schedule.
+    Schedule(&'a str, ScheduleRefusal),
+    /// The firing of this number, from 0, of this file's schedule is not enabled after those before it.
+    NotEnabled(&'a str, u64),
+    /// There are runs of more firings than this limit.
+    Limit(u64),
+    /// At rest the exit has not fired.
+    Stuck,
+    /// At rest an address lay past the array of this name.
+    Stray(Name),
 }
 
 impl<'a> Refusal<'a> {
-    fn code(self) -> u8
-        ensures { result ≡ refusal_code self.entry }
+    fn code(&self) -> u8
+        ensures { result ≡ refusal_code self.now }
     {
         match self {
             Refusal::StraightKernel(_) => 4,
-            Refusal::StraightInputs(_) => 6,
             Refusal::NetText(_, _) | Refusal::NetRule(_, _) => 5,
+            Refusal::StraightInputs(_) | Refusal::Inputs(_, _) => 6,
+            Refusal::Schedule(_, _) | Refusal::NotEnabled(_, _) => 7,
+            Refusal::Limit(_) => 8,
+            Refusal::Stuck => 9,
+            Refusal::Stray(_) => 10,
         }
     }
 }
 
 /// Why a call printed nothing, or not all; a file is named by its word.
-#[derive(Clone, Copy, Debug, PartialEq, Eq)]
+#[derive(Debug, Drop)]
 pub enum Fault<'a> {
     /// The words are no command.
     Usage,
@@ -56,8 +76,8 @@ pub enum Fault<'a> {
 
 impl<'a> Fault<'a> {
     /// The status.
-    pub fn code(self) -> u8
-        ensures { result ≡ fault_code self.entry }
+    pub fn code(&self) -> u8
+        ensures { result ≡ fault_code self.now }
     {
         match self {
             Fault::Usage => 1,
@@ -71,9 +91,9 @@ impl<'a> Fault<'a> {
 }
 
 /// Writes the fault's line; a fault of the sink is no matter.
-pub fn tell<E: Sink>(err: &mut E, fault: Fault<'_>)
+pub fn tell<E: Sink>(err: &mut E, fault: &Fault<'_>)
     ensures { IsTold (E.written err.old) (E.written err.new) (E.faults err.old) (E.faults err.new)
-        (fault_line fault.entry) }
+        (fault_line fault.now) }
 {
     match fault {
         Fault::Usage => write_line(err, &[Piece::Text("elastic: the words are no command\n")]),
@@ -81,7 +101,7 @@ pub fn tell<E: Sink>(err: &mut E, fault: Fault<'_>)
             err,
             &[
                 Piece::Text("elastic: cannot read "),
-                Piece::Text(file),
+                Piece::Text(*file),
                 Piece::Text("\n"),
             ],
         ),
@@ -91,7 +111,7 @@ pub fn tell<E: Sink>(err: &mut E, fault: Fault<'_>)
             err,
             &[
                 Piece::Text("elastic: "),
-                Piece::Text(file),
+                Piece::Text(*file),
                 Piece::Text(" is too long\n"),
             ],
         ),
@@ -99,25 +119,55 @@ pub fn tell<E: Sink>(err: &mut E, fault: Fault<'_>)
     }
 }
 
-fn tell_refusal<E: Sink>(err: &mut E, refusal: Refusal<'_>)
+fn tell_refusal<E: Sink>(err: &mut E, refusal: &Refusal<'_>)
     ensures { IsTold (E.written err.old) (E.written err.new) (E.faults err.old) (E.faults err.new)
-        (concat (refusal_parts refusal.entry)) }
+        (concat (refusal_parts refusal.now)) }
 {
     match refusal {
         Refusal::StraightKernel(file) => write_line(
             err,
-            &[Piece::Text(file), Piece::Text(": 19 NotYet\n")],
+            &[Piece::Text(*file), Piece::Text(": 19 NotYet\n")],
         ),
         Refusal::StraightInputs(file) => write_line(
             err,
-            &[Piece::Text(file), Piece::Text(": 59 NotYet\n")],
+            &[Piece::Text(*file), Piece::Text(": 59 NotYet\n")],
         ),
         Refusal::NetText(file, refused) => {
-            tell_line(err, file, text_label(refused), refused.line());
+            tell_line(err, *file, text_label(*refused), refused.line());
         }
         Refusal::NetRule(file, refused) => {
-            tell_place(err, file, rule_label(refused), refused.at());
+            tell_place(err, *file, rule_label(*refused), refused.at());
         }
+        Refusal::Inputs(file, refused) => tell_inputs(err, *file, refused),
+        Refusal::Schedule(file, refused) => {
+            tell_line(err, *file, schedule_label(*refused), refused.line());
+        }
+        Refusal::NotEnabled(file, index) => write_line(
+            err,
+            &[
+                Piece::Text(*file),
+                Piece::Text(": 61 NotEnabled "),
+                Piece::Number(*index),
+                Piece::Text("\n"),
+            ],
+        ),
+        Refusal::Limit(limit) => write_line(
+            err,
+            &[
+                Piece::Text("elastic: 70 Limit "),
+                Piece::Number(*limit),
+                Piece::Text("\n"),
+            ],
+        ),
+        Refusal::Stuck => write_line(err, &[Piece::Text("elastic: 71 Stuck\n")]),
+        Refusal::Stray(name) => write_line(
+            err,
+            &[
+                Piece::Text("elastic: 72 Stray "),
+                Piece::Bytes(name.as_slice()),
+                Piece::Text("\n"),
+            ],
+        ),
     }
 }
 
@@ -136,6 +186,45 @@ fn rule_label(refused: NetRefusal) -> Label
     Label {
         number: refused.number(),
         word: refused.word(),
+    }
+}
+
+fn input_label(refused: &InputRefusal) -> Label
+    ensures { printed result.number result.word.now ≡ input_label refused.now }
+{
+    Label {
+        number: refused.number(),
+        word: refused.word(),
+    }
+}
+
+fn schedule_label(refused: ScheduleRefusal) -> Label
+    ensures { printed result.number result.word.now ≡ schedule_label refused }
+{
+    Label {
+        number: refused.number(),
+        word: refused.word(),
+    }
+}
+
+// The line of a refusal of inputs, which names a line of its file, or a name.
+fn tell_inputs<'a, E: Sink>(err: &mut E, file: &'a str, refused: &'a InputRefusal)
+    ensures { IsTold (E.written err.old) (E.written err.new) (E.faults err.old) (E.faults err.new)
+        (concat (input_parts file.now refused.now)) }
+{
+    match refused.name() {
+        Some(name) => write_line(
+            err,
+            &[
+                Piece::Text(file),
+                Piece::Text(": "),
+                Piece::Labelled(input_label(refused)),
+                Piece::Text(" "),
+                Piece::Bytes(name.as_slice()),
+                Piece::Text("\n"),
+            ],
+        ),
+        None => tell_line(err, file, input_label(refused), refused.line()),
     }
 }
 

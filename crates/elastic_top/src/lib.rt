@@ -7,6 +7,7 @@ mod fault;
 mod line;
 mod program;
 mod reading;
+mod runs;
 mod status;
 #[cfg(test)]
 mod tests;

@@ -10,10 +10,11 @@ use el_base::Label;
 use el_io::{Sink, WriteFault, write_all};
 use itoa::Buffer;
 
-/// A part of a line: a text, a number in decimal digits, or the number and the word of a refusal.
+/// A part of a line: a text, bytes, a number in decimal digits, or the number and the word of a refusal.
 #[derive(Clone, Copy)]
 pub enum Piece<'a> {
     Text(&'a str),
+    Bytes(&'a [u8]),
     Number(u64),
     Labelled(Label),
 }
@@ -56,6 +57,7 @@ fn write_piece<E: Sink>(err: &mut E, piece: Piece<'_>) -> Result<(), WriteFault>
 {
     match piece {
         Piece::Text(text) => write_all(err, text.as_bytes()),
+        Piece::Bytes(bytes) => write_all(err, bytes),
         Piece::Number(number) => {
             let mut buffer = Buffer::new();
             write_all(err, buffer.format(number).as_bytes())

@@ -39,7 +39,7 @@ where
             top(rt, rt.alloc(), &words, &mut files, out, err, &Open)
         }
         Err(fault) => {
-            tell(err, fault);
+            tell(err, &fault);
             Status { code: fault.code() }
         }
     }

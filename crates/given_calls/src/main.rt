@@ -1,8 +1,11 @@
-//! Answers given calls of the program on files in memory, one a line of the file of its folder: the status, what was
+//! Answers given calls of the program on files in memory, one a line of the files of its folder: the status, what was
 //! written to the output, and what to the error output.
 #![tactic(auto)]
 
-use anyhow::{Context, Result, bail};
+mod field;
+
+use crate::field::unescaped;
+use anyhow::{Context, Result, bail, ensure};
 use el_io::{MemFiles, MemSink, Open};
 use elastic_top::top;
 use std::alloc::Global;
@@ -13,19 +16,60 @@ use std::{fs, io};
 /// How many bytes an output takes.
 const ROOM: u64 = 100_000;
 
+/// The files of rows on sound devices.
+const SOUND: [&str; 4] = ["calls.tsv", "schedules.tsv", "runs.tsv", "nets.tsv"];
+
+/// Which calls of the devices fail, by their numbers from 0, and how many bytes the output takes at once.
+#[derive(Clone, Copy)]
+struct Failing {
+    read: Option<u64>,
+    piece: u64,
+    put: Option<u64>,
+    told: Option<u64>,
+}
+
 fn main(rt: HostRuntime) -> Result<()> {
     let mut out = BufWriter::new(rt.alloc(), io::writer(&rt))?;
-    let calls = fs::read_to_string(&rt, "calls.tsv")?;
+    for name in SOUND {
+        let calls = fs::read_to_string(&rt, name)?;
+        for line in calls.as_str().lines().skip(1) {
+            let sound = Failing {
+                read: None,
+                piece: ROOM,
+                put: None,
+                told: None,
+            };
+            put_answer(&rt, rt.alloc(), &sound, line, &mut out)?;
+            writeln!(out)?;
+        }
+    }
+    let calls = fs::read_to_string(&rt, "faults.tsv")?;
     for line in calls.as_str().lines().skip(1) {
-        put_answer(&rt, rt.alloc(), line, &mut out)?;
+        let (failing, line) = failing_of(line)?;
+        put_answer(&rt, rt.alloc(), &failing, line, &mut out)?;
         writeln!(out)?;
     }
     out.flush()?;
     Ok(())
 }
 
+/// The failing calls that a line begins with, and the rest of it.
+fn failing_of(line: &str) -> Result<(Failing, &str)> {
+    let (read, rest) = line.split_once('\t').context("a line has a read")?;
+    let (piece, rest) = rest.split_once('\t').context("a line has a piece")?;
+    let (put, rest) = rest.split_once('\t').context("a line has a write")?;
+    let (told, rest) = rest.split_once('\t').context("a line has a told line")?;
+    let failing = Failing {
+        read: read.parse().ok(),
+        piece: piece.parse().ok().context("a piece is a number")?,
+        put: put.parse().ok(),
+        told: told.parse().ok(),
+    };
+    Ok((failing, rest))
+}
+
 /// Writes what the call of a line answers.
-fn put_answer<R, W>(rt: &R, alloc: Global, line: &str, out: &mut W) -> Result<()>
+fn put_answer<R, W>(rt: &R, alloc: Global, failing: &Failing, line: &str, out: &mut W) -> Result<()>
 where
     R: Threads + Sync,
     W: Write,
@@ -35,13 +79,18 @@ where
     let mut files = MemFiles::new(alloc);
     for field in fields {
         let (name, content) = field.split_once(':').context("a file is NAME:CONTENT")?;
-        let content = text_of(alloc, content)?;
+        let content = unescaped(alloc, content)?;
         if files.add(name, content.as_slice()).is_err() {
             bail!("want of memory");
         }
     }
-    let mut text = sink(alloc)?;
-    let mut told = sink(alloc)?;
+    if let Some(call) = failing.read {
+        if files.fail_at(call).is_err() {
+            bail!("want of memory");
+        }
+    }
+    let mut text = sink(alloc, failing.piece, failing.put)?;
+    let mut told = sink(alloc, ROOM, failing.told)?;
     let status = top(
         rt,
         alloc,
@@ -68,36 +117,31 @@ fn words_of(alloc: Global, field: &str) -> Result<Vec<String>> {
     Ok(words)
 }
 
-fn sink(alloc: Global) -> Result<MemSink> {
-    let mut sink = MemSink::new(alloc, ROOM);
+/// An output that takes so many bytes at once, and fails at a call.
+fn sink(alloc: Global, piece: u64, failing: Option<u64>) -> Result<MemSink> {
+    ensure!(piece > 0, "a piece has bytes");
+    let mut sink = MemSink::new(alloc, piece);
     if sink.reserve(ROOM).is_err() {
         bail!("want of memory");
+    }
+    if let Some(call) = failing {
+        if sink.fail_at(call).is_err() {
+            bail!("want of memory");
+        }
     }
     Ok(sink)
 }
 
-/// The text of a field, in which `|` stands for a line feed and `^` for a carriage return.
-fn text_of(alloc: Global, field: &str) -> Result<Vec<u8>> {
-    let mut text = Vec::new(alloc);
-    for byte in field.bytes() {
-        text.push(match byte {
-            b'|' => b'\n',
-            b'^' => b'\r',
-            _ => byte,
-        })?;
-    }
-    Ok(text)
-}
-
-/// Writes a text with `|` for each line feed and `^` for each carriage return.
+/// Writes a text with its line feeds, carriage returns, tabs and backslashes escaped.
 fn put_text<W: Write>(text: &[u8], out: &mut W) -> Result<()> {
     for byte in text {
-        let shown = match *byte {
-            b'\n' => b'|',
-            b'\r' => b'^',
-            other => other,
-        };
-        out.write_all(&[shown])?;
+        match *byte {
+            b'\n' => out.write_all(b"\\n")?,
+            b'\r' => out.write_all(b"\\r")?,
+            b'\t' => out.write_all(b"\\t")?,
+            b'\\' => out.write_all(b"\\\\")?,
+            other => out.write_all(&[other])?,
+        }
     }
     Ok(())
 }

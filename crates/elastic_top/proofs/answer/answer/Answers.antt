@@ -1,10 +1,47 @@
-use Rattle.std.proofs.Common.{refl}
-use Rattle.elastic_top.proofs.AnswerLemmas.{goes_refused}
+use Rattle.std.proofs.Common.{subst}
+use Rattle.std.specs.Prelude.{IfOk, IfErr, Ok}
+use Rattle.net_runs.specs.Runs.{Runs}
+use Rattle.net_runs.specs.Replays.{Replays}
+use Rattle.elastic_top.specs.Answers.{Goes, OfNet, Refuses, ReplaysNet, RunsNet, options_of}
+use Rattle.elastic_top.proofs.AnswerLemmas.{bytes_of_two, bytes_of_three, of_two, of_three}
 use Rattle.elastic_top.proofs.answer.answer.Goals as goal
 
 pub returns-in-Go-clause-err : goal.returns-in-Go-clause-err
 returns-in-Go-clause-err c =
     rw c.in-Go.is
-    (goes_refused c.args.command.now.plain.items c.args.contents.now _ _ _ _ c.go.result
-    (rw c.in-Go.is at c.requires.plain) (rw c.in-Go.is at c.requires.count)
-    (rw (c.as_slice-words.ensures.value, c.as_slice.ensures.value, c.as_slice-in-Go.ensures.value, c.index-contents-0.is, c.index-contents-1.is) at c.go.ensures.err))
+    (of_two (λ v w a b. IfErr c.go.result (Refuses (Goes v w a b))) c.args.command.now.plain.items c.args.contents.now _ _ _ _
+    (rw c.in-Go.is at c.requires.plain) (rw c.in-Go.is at c.requires.count) c.index-contents-0.is c.index-contents-1.is
+    (rw (c.as_slice-words.ensures.value, c.as_slice.ensures.value, c.as_slice-in-Go.ensures.value) at c.go.ensures.err))
+
+pub returns-in-Run-clause-err : goal.returns-in-Run-clause-err
+returns-in-Run-clause-err c =
+    rw c.in-Run.is
+    (of_two (λ v w a b. IfErr c.run.result (Refuses (RunsNet v w (options_of c.args.command.now.chosen) a b))) c.args.command.now.plain.items c.args.contents.now _ _ _ _
+    (rw c.in-Run.is at c.requires.plain) (rw c.in-Run.is at c.requires.count) c.index-contents-0-in-Run.is c.index-contents-1-in-Run.is
+    (rw (c.as_slice-words.ensures.value, c.as_slice-in-Run.ensures.value, c.as_slice-in-Run-2.ensures.value, c.options_of.ensures) at c.run.ensures.err))
+
+pub returns-in-Run-clause-ok : goal.returns-in-Run-clause-ok
+returns-in-Run-clause-ok c =
+    rw c.in-Run.is
+    (bytes_of_two (λ a b. IfOk c.run.result (λ text. OfNet a (λ net. Runs net b (options_of c.args.command.now.chosen) (Ok text.items)))) c.args.contents.now _ _
+    (rw c.in-Run.is at c.requires.count) c.index-contents-0-in-Run.is c.index-contents-1-in-Run.is
+    (subst (λ o. IfOk c.run.result (λ text. OfNet c.index-contents-0-in-Run.result.items (λ net. Runs net c.index-contents-1-in-Run.result.items o (Ok text.items)))) c.options_of.ensures
+    (subst (λ x. IfOk c.run.result (λ text. OfNet x (λ net. Runs net c.index-contents-1-in-Run.result.items c.options_of.result (Ok text.items)))) c.as_slice-in-Run.ensures.value
+    (subst (λ y. IfOk c.run.result (λ text. OfNet c.as_slice-in-Run.result.now (λ net. Runs net y c.options_of.result (Ok text.items)))) c.as_slice-in-Run-2.ensures.value c.run.ensures.ok))))
+
+pub returns-in-Replay-clause-ok : goal.returns-in-Replay-clause-ok
+returns-in-Replay-clause-ok c =
+    rw c.in-Replay.is
+    (bytes_of_three (λ a b d. IfOk c.replay.result (λ text. OfNet a (λ net. Replays net b d (Ok text.items)))) c.args.contents.now _ _ _
+    (rw c.in-Replay.is at c.requires.count) c.index-contents-0-in-Replay.is c.index-contents-1-in-Replay.is c.index-contents-2.is
+    (subst (λ x. IfOk c.replay.result (λ text. OfNet x (λ net. Replays net c.index-contents-1-in-Replay.result.items c.index-contents-2.result.items (Ok text.items)))) c.as_slice-in-Replay.ensures.value
+    (subst (λ y. IfOk c.replay.result (λ text. OfNet c.as_slice-in-Replay.result.now (λ net. Replays net y c.index-contents-2.result.items (Ok text.items)))) c.as_slice-in-Replay-2.ensures.value
+    (subst (λ z. IfOk c.replay.result (λ text. OfNet c.as_slice-in-Replay.result.now (λ net. Replays net c.as_slice-in-Replay-2.result.now z (Ok text.items)))) c.as_slice-in-Replay-3.ensures.value
+    c.replay.ensures.ok))))
+
+pub returns-in-Replay-clause-err : goal.returns-in-Replay-clause-err
+returns-in-Replay-clause-err c =
+    rw c.in-Replay.is
+    (of_three (λ u v w a b d. IfErr c.replay.result (Refuses (ReplaysNet u v w a b d))) c.args.command.now.plain.items c.args.contents.now _ _ _ _ _ _
+    (rw c.in-Replay.is at c.requires.plain) (rw c.in-Replay.is at c.requires.count) c.index-contents-0-in-Replay.is c.index-contents-1-in-Replay.is c.index-contents-2.is
+    (rw (c.as_slice-words.ensures.value, c.as_slice-in-Replay.ensures.value, c.as_slice-in-Replay-2.ensures.value, c.as_slice-in-Replay-3.ensures.value) at c.replay.ensures.err))

@@ -7,7 +7,13 @@ use Rattle.elastic_top.specs.Faults.{IsTold, fault_code}
 use Rattle.elastic_top.specs.Statuses.{statuses_of}
 use Rattle.elastic_top.specs.Causes.{AreSound, Unread, TooLong, Writes, RefusesWith}
 use Rattle.elastic_top.proofs.CallLemmas.{outside, status_of, any_status, unread_of, long_of, cut_of, refused_of, unwritten_of, memory_of, sound_status}
+use Rattle.elastic_top.proofs.LimitLemmas.{has_limit}
 use Rattle.elastic_top.proofs.call.top.Goals as goal
+
+pub run_command-requires-clause-limit : goal.run_command-requires-clause-limit
+run_command-requires-clause-limit g c =
+    let spells : Command (texts c.args.words.now) (asked c.in-Ok-Some.command) = rw c.in-Ok-Some.field-0-is at c.in-Ok-Some.ensures.some in
+    has_limit (texts c.args.words.now) (asked c.in-Ok-Some.command) spells
 
 pub returns-in-Ok-None-clause-usage : goal.returns-in-Ok-None-clause-usage
 returns-in-Ok-None-clause-usage g c = λ is. c.in-Ok-None.ensures.none (ap is_some c.in-Ok-None.field-0-is)
@@ -22,7 +28,7 @@ pub returns-in-Err-clause-statuses : goal.returns-in-Err-clause-statuses
 returns-in-Err-clause-statuses g c = λ d spelled. (outside d.verb spelled.built).memory
 
 pub returns-in-Err-clause-codes : goal.returns-in-Err-clause-codes
-returns-in-Err-clause-codes g c = (7, omega arith, refl)
+returns-in-Err-clause-codes g c = (11, omega arith, refl)
 
 pub returns-in-Ok-clause-statuses : goal.returns-in-Ok-clause-statuses
 returns-in-Ok-clause-statuses g c = λ d spelled. (outside d.verb spelled.built).done

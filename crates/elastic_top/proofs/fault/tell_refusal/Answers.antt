@@ -11,3 +11,21 @@ returns-in-StraightKernel g c = rw c.in-StraightKernel.is c.write_line.ensures
 
 pub returns-in-StraightInputs : goal.returns-in-StraightInputs
 returns-in-StraightInputs g c = rw c.in-StraightInputs.is c.write_line-in-StraightInputs.ensures
+
+pub returns-in-Inputs : goal.returns-in-Inputs
+returns-in-Inputs g c = rw c.in-Inputs.is c.tell_inputs.ensures
+
+pub returns-in-Schedule : goal.returns-in-Schedule
+returns-in-Schedule g c = rw (c.in-Schedule.is, ← c.schedule_label.ensures, ← c.line-in-Schedule.ensures) c.tell_line-in-Schedule.ensures
+
+pub returns-in-NotEnabled : goal.returns-in-NotEnabled
+returns-in-NotEnabled g c = rw c.in-NotEnabled.is c.write_line-in-NotEnabled.ensures
+
+pub returns-in-Limit : goal.returns-in-Limit
+returns-in-Limit g c = rw c.in-Limit.is c.write_line-in-Limit.ensures
+
+pub returns-in-Stuck : goal.returns-in-Stuck
+returns-in-Stuck g c = rw c.in-Stuck.is c.write_line-in-Stuck.ensures
+
+pub returns-in-Stray : goal.returns-in-Stray
+returns-in-Stray g c = rw (c.in-Stray.is, ← c.as_slice.ensures.bytes) c.write_line-in-Stray.ensures

@@ -1,0 +1,80 @@
+//! Runs and replays of the net that a file spells.
+ghost use Rattle.std.specs.Prelude.{◌≤◌, Ok, length, IfOk, IfErr};
+ghost use Rattle.el_base.specs.Limits.{max_firings, max_inputs_bytes, max_netlist_bytes, max_schedule_bytes};
+ghost use Rattle.elastic_top.specs.Answers.{ReplaysNet, Refuses, RunsNet};
+
+use crate::fault::{Fault, Refusal};
+use crate::upgrade::checked_net;
+use net_runs::{RunOptions, RunRefusal, replay_text, run_text};
+use std::alloc::Global;
+
+/// The text of a run of the net of one file on the inputs of another.
+pub fn run<'a>(
+    alloc: Global,
+    netlist: &'a str,
+    inputs: &'a str,
+    net_bytes: &[u8],
+    input_bytes: &[u8],
+    options: RunOptions,
+) -> Result<Vec<u8>, Fault<'a>>
+    requires net { length net_bytes.now ≤ max_netlist_bytes }
+    requires inputs { length input_bytes.now ≤ max_inputs_bytes }
+    requires limit { options.limit ≤ max_firings }
+    ensures ok { IfOk result (λ text. RunsNet netlist.entry.now inputs.entry.now options
+        net_bytes.now input_bytes.now (Ok text.items)) }
+    ensures err { IfErr result (Refuses (RunsNet netlist.entry.now inputs.entry.now options
+        net_bytes.now input_bytes.now)) }
+{
+    let net = match checked_net(alloc, netlist, net_bytes) {
+        Ok(net) => net,
+        Err(fault) => return Err(fault),
+    };
+    match run_text(alloc, &net, input_bytes, options) {
+        Ok(text) => Ok(text),
+        Err(RunRefusal::Inputs(refused)) => Err(Fault::Refused(Refusal::Inputs(inputs, refused))),
+        Err(RunRefusal::Limit { limit }) => Err(Fault::Refused(Refusal::Limit(limit))),
+        Err(RunRefusal::Stuck) => Err(Fault::Refused(Refusal::Stuck)),
+        Err(RunRefusal::Stray { name }) => Err(Fault::Refused(Refusal::Stray(name))),
+        Err(RunRefusal::Memory) => Err(Fault::Memory),
+        Err(RunRefusal::Schedule(_)) => unreachable!(),
+        Err(RunRefusal::NotEnabled { .. }) => unreachable!(),
+    }
+}
+
+/// The text of a replay, on the net of one file and the inputs of another, of the schedule of a third.
+pub fn replay<'a>(
+    alloc: Global,
+    netlist: &'a str,
+    inputs: &'a str,
+    schedule: &'a str,
+    net_bytes: &[u8],
+    input_bytes: &[u8],
+    bytes: &[u8],
+) -> Result<Vec<u8>, Fault<'a>>
+    requires net { length net_bytes.now ≤ max_netlist_bytes }
+    requires inputs { length input_bytes.now ≤ max_inputs_bytes }
+    requires schedule { length bytes.now ≤ max_schedule_bytes }
+    ensures ok { IfOk result (λ text. ReplaysNet netlist.entry.now inputs.entry.now
+        schedule.entry.now net_bytes.now input_bytes.now bytes.now (Ok text.items)) }
+    ensures err { IfErr result (Refuses (ReplaysNet netlist.entry.now inputs.entry.now
+        schedule.entry.now net_bytes.now input_bytes.now bytes.now)) }
+{
+    let net = match checked_net(alloc, netlist, net_bytes) {
+        Ok(net) => net,
+        Err(fault) => return Err(fault),
+    };
+    match replay_text(alloc, &net, input_bytes, bytes) {
+        Ok(text) => Ok(text),
+        Err(RunRefusal::Inputs(refused)) => Err(Fault::Refused(Refusal::Inputs(inputs, refused))),
+        Err(RunRefusal::Schedule(refused)) => {
+            Err(Fault::Refused(Refusal::Schedule(schedule, refused)))
+        }
+        Err(RunRefusal::NotEnabled { index }) => {
+            Err(Fault::Refused(Refusal::NotEnabled(schedule, index)))
+        }
+        Err(RunRefusal::Stuck) => Err(Fault::Refused(Refusal::Stuck)),
+        Err(RunRefusal::Stray { name }) => Err(Fault::Refused(Refusal::Stray(name))),
+        Err(RunRefusal::Memory) => Err(Fault::Memory),
+        Err(RunRefusal::Limit { .. }) => unreachable!(),
+    }
+}
