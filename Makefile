@@ -1,19 +1,22 @@
 # demo: the main job in about a minute on a fresh machine, without the proofs.
 # go: your own kernel and inputs, without the proofs: make go KERNEL=my.c INPUTS=my.txt
+# run: a netlist and inputs of your own, without the proofs: make run NETLIST=my.net INPUTS=my.txt
 # build: proves the program and all below it, and leaves it as crates/elastic/out/elastic. From nothing this takes
 #   most of the gate's time (docs/PROVED.md); what an earlier run proved on this machine is not proved again.
 # test: the gate: every proof, wrong body, test and program.
 # bench: times the proved programs: `go` on a kernel of 1,024 nodes, reading texts of 65,536 bytes, a million acts
 #   on queues of depths 16, 128 and 1,024, buffer placement on nets of up to a million channels, reading and printing
-#   inputs of 2^20 elements, and live variables and block arguments of 32,768 blocks and 1,000 variables.
+#   inputs of 2^20 elements, live variables and block arguments of 32,768 blocks and 1,000 variables,
+#   and the plain interpreter on a loop of 120 million turns, beside the same kernel by `cc -O0`.
 #   With BEFORE=PROGRAM another bench_front is timed beside this one.
 # stack: reads long and deep kernel texts with a stack of 1 MiB.
 # fail-alloc: makes each allocation of a run fail in turn.
 
-.PHONY: demo go build test bench stack fail-alloc
+.PHONY: demo go run build test bench stack fail-alloc
 
 KERNEL = examples/sum/kernel.c
 INPUTS = examples/sum/inputs.txt
+NETLIST = examples/net/net.txt
 BEFORE =
 
 UNPROVED = 'This build is not the proved one: it runs the program before its proofs.'
@@ -26,6 +29,10 @@ demo:
 go:
 	@echo $(UNPROVED)
 	@cd crates/elastic && rt try --data $(notdir $(KERNEL))=$(abspath $(KERNEL)) --data $(notdir $(INPUTS))=$(abspath $(INPUTS)) -- go $(notdir $(KERNEL)) $(notdir $(INPUTS))
+
+run:
+	@echo $(UNPROVED)
+	@cd crates/elastic && rt try --data $(notdir $(NETLIST))=$(abspath $(NETLIST)) --data $(notdir $(INPUTS))=$(abspath $(INPUTS)) -- run $(notdir $(NETLIST)) $(notdir $(INPUTS)) --count
 
 build:
 	cd crates/elastic && rt run -- go ../../examples/sum/kernel.c ../../examples/sum/inputs.txt
@@ -43,6 +50,8 @@ bench: build
 	@cd crates/bench_inputs && mkdir -p out && echo 'a = 1' > out/inputs.txt && rt run -- out/inputs.txt 1 1
 	@sh tools/bench_inputs.sh crates/bench_inputs/out/bench_inputs
 	@cd crates/bench_args && rt run -- 32768 1000
+	@cd crates/bench_ref && mkdir -p out && printf 'void f(void) { }' > out/k.c && : > out/i && rt run -- out/k.c out/i 1
+	@sh tools/bench_ref.sh crates/bench_ref/out/bench_ref
 
 stack:
 	@cd crates/given_rows && rt run -- data/repeats.tsv > /dev/null

@@ -1,0 +1,34 @@
+#!/bin/sh
+# Times the plain interpreter on a loop of three statements, 20 million rounds and 120,000,006 turns: millions of turns a
+# second of the proved program bench_ref; beside it the same kernel run natively, by `cc -O0`. Both print the result.
+set -eu
+program=$1
+folder=$(mktemp -d)
+trap 'rm -rf "$folder"' EXIT
+cat > "$folder/k.c" <<'K'
+uint32_t f(uint32_t n, uint32_t a[64]) {
+  uint32_t s = 0;
+  for (uint32_t i = 0; i < n; i++) {
+    s = s * 5 + i;
+    a[i & 63] += s;
+    s ^= a[s & 63];
+  }
+  return s;
+}
+K
+{
+  echo 'n = 20000000'
+  awk 'BEGIN { printf "a ="; for (i = 0; i < 64; i++) printf " 0"; print "" }'
+} > "$folder/i"
+"$program" "$folder/k.c" "$folder/i" 400000000
+if command -v cc > /dev/null; then
+  {
+    echo '#include <stdint.h>'
+    echo '#include <stdio.h>'
+    cat "$folder/k.c"
+    echo 'int main(void) { static uint32_t a[64]; printf("result %u\n", (unsigned)f(20000000, a)); return 0; }'
+  } > "$folder/main.c"
+  cc -O0 -o "$folder/native" "$folder/main.c"
+  echo 'cc -O0, the same kernel:'
+  time "$folder/native"
+fi
