@@ -1,10 +1,15 @@
 #!/bin/sh
 # Times the plain interpreter on a loop of three statements, 20 million rounds and 120,000,006 turns: millions of turns a
-# second of the proved program bench_ref; beside it the same kernel run natively, by `cc -O0`. Both print the result.
+# second of the proved program bench_ref, and its time; beside it the same kernel run natively, by `cc -O0`. Both print
+# the result. On a machine with other work the user time is what tells.
 set -eu
 program=$1
 folder=$(mktemp -d)
 trap 'rm -rf "$folder"' EXIT
+# Runs a program, and tells its user time where that can be taken.
+timed() {
+  if [ -x /usr/bin/time ]; then /usr/bin/time -f '%U s of user time' "$@"; else "$@"; fi
+}
 cat > "$folder/k.c" <<'K'
 uint32_t f(uint32_t n, uint32_t a[64]) {
   uint32_t s = 0;
@@ -20,15 +25,21 @@ K
   echo 'n = 20000000'
   awk 'BEGIN { printf "a ="; for (i = 0; i < 64; i++) printf " 0"; print "" }'
 } > "$folder/i"
-"$program" "$folder/k.c" "$folder/i" 400000000
+timed "$program" "$folder/k.c" "$folder/i" 400000000
 if command -v cc > /dev/null; then
   {
     echo '#include <stdint.h>'
     echo '#include <stdio.h>'
     cat "$folder/k.c"
-    echo 'int main(void) { static uint32_t a[64]; printf("result %u\n", (unsigned)f(20000000, a)); return 0; }'
+    cat << 'M'
+int main(void) {
+  static uint32_t a[64];
+  printf("result %lu\n", (unsigned long)f(20000000, a));
+  return 0;
+}
+M
   } > "$folder/main.c"
   cc -O0 -o "$folder/native" "$folder/main.c"
   echo 'cc -O0, the same kernel:'
-  time "$folder/native"
+  timed "$folder/native"
 fi
