@@ -13,10 +13,10 @@ use Rattle.circuit_build.proofs.Growth.{firsts}
 
 -- ---- the accesses of a block
 
-if_own : {X : Type 0} → (n : ℕ) (x y : X) → cond (n == n) x y ≡ x
+pub if_own : {X : Type 0} → (n : ℕ) (x y : X) → cond (n == n) x y ≡ x
 if_own n x y = ap (λ t. cond t x y) (eq-eqb n n refl)
 
-if_other : {X : Type 0} → (m n : ℕ) (x y : X) → n < m → cond (m == n) x y ≡ y
+pub if_other : {X : Type 0} → (m n : ℕ) (x y : X) → n < m → cond (m == n) x y ≡ y
 if_other m n x y lt = ap (λ t. cond t x y) (ne_eqb m n (λ e. absurd (omega (arith, e, lt))))
 
 access_first : (n a : ℕ) (ps : List ℕ) (ys : List Access) → firsts n (access_if n a ps ++ ys) ≡ length (access_if n a ps) + firsts n ys
@@ -172,7 +172,7 @@ access_many : (n a : ℕ) (ps : List ℕ) → length (access_if n a ps) ≤ leng
 access_many n a [] = omega arith
 access_many n a (p ∷ ps) = omega arith
 
-block_many : (n a : ℕ) (ss : List Instr) (rs : List Bool) → length (block_accesses n ss a rs) ≤ all_ons rs a ss
+pub block_many : (n a : ℕ) (ss : List Instr) (rs : List Bool) → length (block_accesses n ss a rs) ≤ all_ons rs a ss
 block_many n a ss [] = omega arith
 block_many n a ss (true ∷ rs) = let h = block_many n (suc a) ss rs in omega (arith, h)
 block_many n a ss (false ∷ rs) =

@@ -61,7 +61,7 @@ ports_places a i st (s ∷ ss) h = by s (ports_places a (suc i) st ss (λ k. ap 
     by (step.Load b x) r p = on (b == a) Load r (ap port_of p)
     by (step.Store b x v) r p = on (b == a) Store r (ap port_of p)
 
-steps_more : (a : ℕ) (ss : List Instr) (t : List Port) → steps_ports a ss t ≡ steps_ports a ss [] ++ t
+pub steps_more : (a : ℕ) (ss : List Instr) (t : List Port) → steps_ports a ss t ≡ steps_ports a ss [] ++ t
 steps_more a [] t = refl
 steps_more a (s ∷ ss) t = by s (steps_more a ss t)
   where

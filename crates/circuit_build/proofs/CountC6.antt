@@ -82,7 +82,7 @@ record Stands (i : ℕ) (k : Kind) (us : List Kind) : Type 0 where
 stands_more : (i : ℕ) (k j : Kind) (us : List Kind) → Stands i k us → Stands i k (us ++ j ∷ [])
 stands_more i k j us h = record { within = let l = length-append us (j ∷ []) in let w = h.within in omega (arith, l, w); kind = get_before us j i h.within ∙ h.kind }
 
-exited_units : (t : Option Ty) (d : Draft) → (exited t d).units ≡ d.units ++ Exit ∷ []
+pub exited_units : (t : Option Ty) (d : Draft) → (exited t d).units ≡ d.units ++ Exit ∷ []
 exited_units None d = refl
 exited_units (Some t) d = refl
 

@@ -32,15 +32,15 @@ pub has_last : (c : Chan) (cs : List Chan) → Has c (cs ++ c ∷ [])
 has_last c [] = inl refl
 has_last c (x ∷ cs) = inr (has_last c cs)
 
-at_own : (p : Place) (u v : ℕ) → p ≡ at u v → is_at p u v ≡ true
+pub at_own : (p : Place) (u v : ℕ) → p ≡ at u v → is_at p u v ≡ true
 at_own p u v e = ap (λ (q : Place). is_at q u v) e ∙ rw (eq-eqb u u refl, eq-eqb v v refl) refl
 
-counts_to : (c : Chan) (u v : ℕ) (cs : List Chan) → c.to ≡ at u v → Has c cs → 1 ≤ tos (at_place u v) cs
+pub counts_to : (c : Chan) (u v : ℕ) (cs : List Chan) → c.to ≡ at u v → Has c cs → 1 ≤ tos (at_place u v) cs
 counts_to c u v [] e h = absurd h
 counts_to c u v (x ∷ cs) e (inl z) = let a : at_place u v x.to x.width x.ctl ≡ 1 = ap (λ b. cond b 1 0) (at_own x.to u v (ap (λ (d : Chan). d.to) z ∙ e)) in omega (arith, a)
 counts_to c u v (x ∷ cs) e (inr h) = let i = counts_to c u v cs e h in omega (arith, i)
 
-counts_from : (c : Chan) (u v : ℕ) (cs : List Chan) → c.from ≡ at u v → Has c cs → 1 ≤ froms (at_place u v) cs
+pub counts_from : (c : Chan) (u v : ℕ) (cs : List Chan) → c.from ≡ at u v → Has c cs → 1 ≤ froms (at_place u v) cs
 counts_from c u v [] e h = absurd h
 counts_from c u v (x ∷ cs) e (inl z) = let a : at_place u v x.from x.width x.ctl ≡ 1 = ap (λ b. cond b 1 0) (at_own x.from u v (ap (λ (d : Chan). d.from) z ∙ e)) in omega (arith, a)
 counts_from c u v (x ∷ cs) e (inr h) = let i = counts_from c u v cs e h in omega (arith, i)
@@ -54,7 +54,7 @@ found_to c u v (x ∷ cs) e l (inr h) = by (is_at x.to u v) refl (counts_to c u 
     by true s o i = let a : at_place u v x.to x.width x.ctl ≡ 1 = ap (λ b. cond b 1 0) s in absurd (omega (arith, a, o, l))
     by false s o i = let a : at_place u v x.to x.width x.ctl ≡ 0 = ap (λ b. cond b 1 0) s in ap (λ b. get_or (x ∷ cs) (cond b 0 (suc (into u v cs))) nowhere) s ∙ i (omega (arith, a, l)) h
 
-found_from : (c : Chan) (u v : ℕ) (cs : List Chan) → c.from ≡ at u v → froms (at_place u v) cs ≤ 1 → Has c cs → get_or cs (out_of u v cs) nowhere ≡ c
+pub found_from : (c : Chan) (u v : ℕ) (cs : List Chan) → c.from ≡ at u v → froms (at_place u v) cs ≤ 1 → Has c cs → get_or cs (out_of u v cs) nowhere ≡ c
 found_from c u v [] e l h = absurd h
 found_from c u v (x ∷ cs) e l (inl z) = ap (λ b. get_or (x ∷ cs) (cond b 0 (suc (out_of u v cs))) nowhere) (at_own x.from u v (ap (λ (d : Chan). d.from) z ∙ e)) ∙ z
 found_from c u v (x ∷ cs) e l (inr h) = by (is_at x.from u v) refl (counts_from c u v cs e h) (found_from c u v cs e)

@@ -58,7 +58,7 @@ data_books m p (e ∷ es) d o h o' h' b s t =
     let x = fed_books e m p e.width (λ f. data_tos f (plus m 2) p (widths es) + o' f) (λ f. carried f es + h' f) b refl (λ f. let y = s f in omega (arith, y)) (λ f. let y = t f in omega (arith, y)) in
     data_books (plus m 2) p es (fed e m p d) (λ f. data_tos f (plus m 2) p (widths es) + o' f) (λ f. carried f es + h' f) o' h' x (λ f. refl) (λ f. refl)
 
-data_heads : (m p : ℕ) (es : List End) (d : Draft) → (data_laid m p es d).heads ≡ d.heads
+pub data_heads : (m p : ℕ) (es : List End) (d : Draft) → (data_laid m p es d).heads ≡ d.heads
 data_heads m p [] d = refl
 data_heads m p (e ∷ es) d = data_heads (plus m 2) p es (fed e m p d)
 

@@ -55,7 +55,7 @@ ends_set f (Some y ∷ es) zero e x h = let z : y ≡ e = cc in let p = ap (λ (
 ends_set f (None ∷ es) (suc v) e x h = ends_set f es v e x h
 ends_set f (Some y ∷ es) (suc v) e x h = let i = ends_set f es v e x h in omega (arith, i)
 
-widths_set : (es : List (Option End)) (v : ℕ) (e x : End) → slice_get es v ≡ Some (Some e) → x.width ≡ e.width → widths_of (set es v (Some x)) ≡ widths_of es
+pub widths_set : (es : List (Option End)) (v : ℕ) (e x : End) → slice_get es v ≡ Some (Some e) → x.width ≡ e.width → widths_of (set es v (Some x)) ≡ widths_of es
 widths_set [] v e x h w = refl
 widths_set (None ∷ es) zero e x h w = absurd (cc)
 widths_set (Some y ∷ es) zero e x h w = let z : y ≡ e = cc in ap (λ n. Some n ∷ widths_of es) (w ∙ ap (λ (r : End). r.width) (sym z))
@@ -72,7 +72,7 @@ ends_none f [] = refl
 ends_none f (None ∷ es) = ends_none f es
 ends_none f (Some y ∷ es) = let i = ends_none f es in omega (arith, i)
 
-widths_more : (es : List (Option End)) (x : Option End) → widths_of (es ++ x ∷ []) ≡ widths_of es ++ widths_of (x ∷ [])
+pub widths_more : (es : List (Option End)) (x : Option End) → widths_of (es ++ x ∷ []) ≡ widths_of es ++ widths_of (x ∷ [])
 widths_more [] x = refl
 widths_more (None ∷ es) x = ap (λ l. None ∷ l) (widths_more es x)
 widths_more (Some y ∷ es) x = ap (λ l. Some y.width ∷ l) (widths_more es x)

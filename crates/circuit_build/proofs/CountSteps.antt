@@ -122,12 +122,12 @@ width_same (x ∷ xs) zero = refl
 width_same (x ∷ xs) (suc a) = width_same xs a
 
 -- of an array that stands in the list
-record Element (xs : List Array) (a w : ℕ) (p : ℕ) : Type 0 where
-  width : width_at xs a ≡ w
-  step : step_width xs (step.Load a p) ≡ Some (width_at xs a)
-  wide : IsTrue (is_width (width_at xs a))
+pub record Element (xs : List Array) (a w : ℕ) (p : ℕ) : Type 0 where
+  pub width : width_at xs a ≡ w
+  pub step : step_width xs (step.Load a p) ≡ Some (width_at xs a)
+  pub wide : IsTrue (is_width (width_at xs a))
 
-element : (xs : List Array) (a w p : ℕ) → IsArray xs a w → Element xs a w p
+pub element : (xs : List Array) (a w p : ℕ) → IsArray xs a w → Element xs a w p
 element [] a w p (x, e, v) = absurd (cc)
 element (y ∷ xs) zero w p (x, e, v) = let z : y ≡ x = cc in record { width = ap (λ (r : Array). ty_width r.ty) z ∙ v; step = refl; wide = wide_ty y.ty }
 element (y ∷ xs) (suc a) w p (x, e, v) = let i = element xs a w p (x, e, v) in record { width = i.width; step = i.step; wide = i.wide }

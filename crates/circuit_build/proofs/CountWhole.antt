@@ -42,20 +42,20 @@ use Rattle.circuit_build.proofs.CountEdges.{hsum_same, one_own, one_other, edges
 
 -- ---- counts of edges
 
-one_most : (t u : ℕ) → one_if t u ≤ 1
+pub one_most : (t u : ℕ) → one_if t u ≤ 1
 one_most t u = by (t == u)
   where
     by : (b : Bool) → cond b 1 0 ≤ 1
     by true = omega arith
     by false = omega arith
 
-raised_is : (u t : ℕ) (table : List ℕ) → t < length table → get_or table t 0 + 1 < 2 ^ 32 → get_or (raised u table) t 0 ≡ get_or table t 0 + one_if u t
+pub raised_is : (u t : ℕ) (table : List ℕ) → t < length table → get_or table t 0 + 1 < 2 ^ 32 → get_or (raised u table) t 0 ≡ get_or table t 0 + one_if u t
 raised_is u t table l few = elim (cases_eq t u) [
   | inl e ↦ (let x = get_or-set_same table t (plus (get_or table t 0) 1) 0 l in let y = ap (λ n. get_or (raised n table) t 0) e in let z = ap (λ n. one_if n t) e in let o = one_own t in omega (arith, x, y, z, o, few))
   | inr n ↦ (let x = get_or-set_other table u t (plus (get_or table u 0) 1) 0 n in let o = one_other u t n in omega (arith, x, o))
 ]
 
-raised_length : (u : ℕ) (table : List ℕ) → length (raised u table) ≡ length table
+pub raised_length : (u : ℕ) (table : List ℕ) → length (raised u table) ≡ length table
 raised_length u table = length-set table u (plus (get_or table u 0) 1)
 
 sides_are : (join : ℕ) (j : Jump) (t : ℕ) (table : List ℕ) → t < length table → get_or table t 0 + 2 < 2 ^ 32 → get_or (sides_counted join j table) t 0 ≡ get_or table t 0 + jump_edges join j t
@@ -89,7 +89,7 @@ jumps_are join (k ∷ ks) t table l few =
     let y = jumps_are join ks t (sides_counted join k.jump table) (let z = sides_length join k.jump table in omega (arith, z, l)) (omega (arith, x, m, few)) in
     omega (arith, x, y)
 
-zeros_length : (n : ℕ) → length (zeros n) ≡ n
+pub zeros_length : (n : ℕ) → length (zeros n) ≡ n
 zeros_length zero = refl
 zeros_length (suc n) = let x = length-append (zeros n) (0 ∷ []) in let y = zeros_length n in omega (arith, x, y)
 
@@ -99,7 +99,7 @@ zero_more [] (suc u) = refl
 zero_more (x ∷ xs) zero = refl
 zero_more (x ∷ xs) (suc u) = zero_more xs u
 
-zeros_at : (n u : ℕ) → get_or (zeros n) u 0 ≡ 0
+pub zeros_at : (n u : ℕ) → get_or (zeros n) u 0 ≡ 0
 zeros_at zero u = refl
 zeros_at (suc n) u = zero_more (zeros n) u ∙ zeros_at n u
 
@@ -311,6 +311,30 @@ module _ (g : Graph) (gs : Groups) (fine : IsGraph g) (share : GroupsShare g gs)
         | inl i ↦ (let y = feeders_at counts g.blocks 0 t t (omega arith) i (omega (arith, m)) in let z = fed_other (get_or counts (join_of g) 0) (join_of g) t (λ e. absurd (omega (arith, e, i, j))) in omega (arith, c, x, y, z))
         | inr i ↦ (let e : join_of g ≡ t = omega (arith, i, l, j) in let y = feeders_after counts g.blocks 0 t (omega (arith, i)) (omega (arith, m)) in let z = ap (λ u. fed_one (get_or counts u 0) u t) e in omega (arith, c, x, y, z))
       ]
+
+  -- the edges: how many lead to each target, and that each fits the arguments there
+  pub edges_count : (t : ℕ) → t < suc (length g.blocks) → occurs t (with_feeders g gs).edges ≡ ins_of (edge_counts g.blocks) t
+  edges_count t l = fed.kept.count t ∙ totals t l
+
+  pub edges_few : (t : ℕ) → occurs t (with_feeders g gs).edges + 1 < 2 ^ 32
+  edges_few t =
+      let m = blocks_few in
+      let counts = edge_counts g.blocks in
+      let b = fed.kept.count t in
+      let c = one_most 0 t in
+      let e = edges_most (join_of g) g.blocks t in
+      let f = feeders_most counts g.blocks 0 t in
+      let h = fed_most (get_or counts (join_of g) 0) (join_of g) t in
+      omega (arith, b, c, e, f, h, m)
+
+  pub edges_fit : All (λ (e : Edge). slice_get (tops_of g) e.to ≡ Some (widths e.with)) (with_feeders g gs).edges
+  edges_fit = fed.kept.fit
+
+  pub heads_many : length (with_feeders g gs).heads ≡ suc (length g.blocks)
+  heads_many = fed.kept.heads
+
+  pub tops_many : length (tops_of g) ≡ suc (length g.blocks)
+  tops_many = let a = length-append (map (λ (b : Block). b.args) g.blocks) (result_widths g.result ∷ []) in let b = length-map g.blocks (λ (b : Block). b.args) in omega (arith, a, b)
 
   whole : Books (heading g) (whole_draft g gs).units (whole_draft g gs).chans (λ f. 0) (λ f. 0)
   whole =

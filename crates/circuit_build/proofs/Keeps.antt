@@ -53,10 +53,10 @@ Queues Fits = (a m : ℕ) (ps : List Port) (gs : List (List ℕ)) → Fits (Lsq 
 -- it speaks of units and channels alone
 module _ (I : Draft → Type 0) (Fits : Kind → Type 0) (Ins : ℕ → Type 0) (laid : Laid Fits Ins) (unit : (k : Kind) (d : Draft) → Fits k → I d → I (with_unit k d)) (chan : (p q : Place) (w : ℕ) (c : Bool) (d : Draft) → I d → I (with_chan p q w c d))
     (same : (d e : Draft) → e.units ≡ d.units → e.chans ≡ d.chans → I d → I e) where
-  fed_keeps : (x : End) (u p : ℕ) (d : Draft) → I d → I (fed x u p d)
+  pub fed_keeps : (x : End) (u p : ℕ) (d : Draft) → I d → I (fed x u p d)
   fed_keeps x u p d h = chan x.place (at u p) x.width false d h
 
-  forked_keeps : (n : ℕ) → Fits (Fork 32 n) → (d : Draft) → I d → I (forked n d)
+  pub forked_keeps : (n : ℕ) → Fits (Fork 32 n) → (d : Draft) → I d → I (forked n d)
   forked_keeps n f d h =
       let e = with_chan d.control (at (next d) 0) 32 true (with_unit (Fork 32 n) d) in
       same e (forked n d) refl refl (chan d.control (at (next d) 0) 32 true (with_unit (Fork 32 n) d) (unit (Fork 32 n) d f h))
@@ -66,15 +66,15 @@ module _ (I : Draft → Type 0) (Fits : Kind → Type 0) (Ins : ℕ → Type 0) 
       let x = end_of d.ends v in
       same (fed x (next d) 0 (with_unit (Fork x.width 2) d)) (copied v d) refl refl (fed_keeps x (next d) 0 (with_unit (Fork x.width 2) d) (unit (Fork x.width 2) d (laid.fork2 x.width) h))
 
-  sunk_keeps : (x : End) (d : Draft) → I d → I (sunk x d)
+  pub sunk_keeps : (x : End) (d : Draft) → I d → I (sunk x d)
   sunk_keeps x d h = fed_keeps x (next d) 0 (with_unit (Sink x.width) d) (unit (Sink x.width) d (laid.sink x.width) h)
 
   -- ---- steps
 
-  through_keeps : (q : Queue) (p : ℕ) (d : Draft) → I d → I (through_queue q p d)
+  pub through_keeps : (q : Queue) (p : ℕ) (d : Draft) → I d → I (through_queue q p d)
   through_keeps q p d h = same (with_chan d.control (at q.unit p) 32 true d) (through_queue q p d) refl refl (chan d.control (at q.unit p) 32 true d h)
 
-  allocated_keeps : (a : ℕ) (q : Option Queue) (d : Draft) → I d → I (allocated_by a q d)
+  pub allocated_keeps : (a : ℕ) (q : Option Queue) (d : Draft) → I d → I (allocated_by a q d)
   allocated_keeps a None d h = h
   allocated_keeps a (Some q) d h =
       let e = through_queue q q.group d in
@@ -131,7 +131,7 @@ module _ (I : Draft → Type 0) (Fits : Kind → Type 0) (Ins : ℕ → Type 0) 
       same (fed (copy_of v e) q.unit (data_place q) x) (store_taken q a p v d) refl refl
       (fed_keeps (copy_of v e) q.unit (data_place q) x (fed_keeps (copy_of p d) q.unit (addr_place q) f (copied_keeps v e (copied_keeps p d h))))
 
-  step_keeps : ((a : ℕ) → Fits (Read a)) → (arrays : List Array) (i : Instr) (d : Draft) → I d → I (step_laid arrays i d)
+  pub step_keeps : ((a : ℕ) → Fits (Read a)) → (arrays : List Array) (i : Instr) (d : Draft) → I d → I (step_laid arrays i d)
   step_keeps r arrays (step.Const w n) d h = const_keeps w n d h
   step_keeps r arrays (step.One op a) d h = one_keeps op a d h
   step_keeps r arrays (step.Two op a b) d h = two_keeps op a b d h
@@ -139,7 +139,7 @@ module _ (I : Draft → Type 0) (Fits : Kind → Type 0) (Ins : ℕ → Type 0) 
   step_keeps r arrays (step.Load a p) d h = load_keeps (queue_of d a) a (width_at arrays a) p (λ e. r a) d h
   step_keeps r arrays (step.Store a p v) d h = store_keeps (queue_of d a) a p v d h
 
-  steps_keep : ((a : ℕ) → Fits (Read a)) → (arrays : List Array) (is : List Instr) (d : Draft) → I d → I (steps_laid arrays is d)
+  pub steps_keep : ((a : ℕ) → Fits (Read a)) → (arrays : List Array) (is : List Instr) (d : Draft) → I d → I (steps_laid arrays is d)
   steps_keep r arrays [] d h = h
   steps_keep r arrays (i ∷ is) d h = steps_keep r arrays is (step_laid arrays i d) (step_keeps r arrays i d h)
 
@@ -148,14 +148,14 @@ module _ (I : Draft → Type 0) (Fits : Kind → Type 0) (Ins : ℕ → Type 0) 
   edge_keeps : (to : ℕ) (p : Place) (xs : List End) (d : Draft) → I d → I (with_edge to p xs d)
   edge_keeps to p xs d h = same d (with_edge to p xs d) refl refl h
 
-  all_copied_keep : (vs : List ℕ) (d : Draft) → I d → I (all_copied vs d)
+  pub all_copied_keep : (vs : List ℕ) (d : Draft) → I d → I (all_copied vs d)
   all_copied_keep [] d h = h
   all_copied_keep (v ∷ vs) d h = all_copied_keep vs (copied v d) (copied_keeps v d h)
 
-  gone_keeps : (to : ℕ) (vs : List ℕ) (d : Draft) → I d → I (gone to vs d)
+  pub gone_keeps : (to : ℕ) (vs : List ℕ) (d : Draft) → I d → I (gone to vs d)
   gone_keeps to vs d h = same (buffered (all_copied vs d)) (gone to vs d) refl refl (forked_keeps 1 (laid.fork1 32) (all_copied vs d) (all_copied_keep vs d h))
 
-  branched_keeps : (kept dropped c v : ℕ) (d : Draft) → I d → I (branched kept dropped c v d)
+  pub branched_keeps : (kept dropped c v : ℕ) (d : Draft) → I d → I (branched kept dropped c v d)
   branched_keeps kept dropped c v d h =
       let e = copied c d in
       let f = copied v e in
@@ -165,11 +165,11 @@ module _ (I : Draft → Type 0) (Fits : Kind → Type 0) (Ins : ℕ → Type 0) 
       sunk_keeps (record { place = at (next f) dropped; width = w }) (fed (copy_of v e) (next f) 1 x)
       (fed_keeps (copy_of v e) (next f) 1 x (fed_keeps (copy_of c d) (next f) 0 g (unit (Branch w) f (laid.branch w) (copied_keeps v e (copied_keeps c d h)))))
 
-  all_branched_keep : (kept dropped c : ℕ) (vs : List ℕ) (d : Draft) → I d → I (all_branched kept dropped c vs d)
+  pub all_branched_keep : (kept dropped c : ℕ) (vs : List ℕ) (d : Draft) → I d → I (all_branched kept dropped c vs d)
   all_branched_keep kept dropped c [] d h = h
   all_branched_keep kept dropped c (v ∷ vs) d h = all_branched_keep kept dropped c vs (branched kept dropped c v d) (branched_keeps kept dropped c v d h)
 
-  parted_keeps : (c : ℕ) (a b : To) (d : Draft) → I d → I (parted c a b d)
+  pub parted_keeps : (c : ℕ) (a b : To) (d : Draft) → I d → I (parted c a b d)
   parted_keeps c a b d h =
       let e = all_branched 0 1 c a.with d in
       let f = all_branched 1 0 c b.with e in
@@ -184,7 +184,7 @@ module _ (I : Draft → Type 0) (Fits : Kind → Type 0) (Ins : ℕ → Type 0) 
   jump_keeps join (Two c a b) d h = parted_keeps c a b d h
   jump_keeps join (Return v) d h = gone_keeps join (result_list v) d h
 
-  all_sunk_keep : (es : List (Option End)) (d : Draft) → I d → I (all_sunk es d)
+  pub all_sunk_keep : (es : List (Option End)) (d : Draft) → I d → I (all_sunk es d)
   all_sunk_keep [] d h = h
   all_sunk_keep (None ∷ es) d h = all_sunk_keep es d h
   all_sunk_keep (Some e ∷ es) d h = all_sunk_keep es (sunk e d) (sunk_keeps e d h)
@@ -194,7 +194,7 @@ module _ (I : Draft → Type 0) (Fits : Kind → Type 0) (Ins : ℕ → Type 0) 
 
   -- ---- blocks
 
-  args_keep : (ins : ℕ) → Ins ins → (ws : List ℕ) (d : Draft) → I d → I (args_laid ins ws d)
+  pub args_keep : (ins : ℕ) → Ins ins → (ws : List ℕ) (d : Draft) → I d → I (args_laid ins ws d)
   args_keep ins i [] d h = h
   args_keep ins i (w ∷ ws) d h =
       let e = triggered d in
@@ -212,21 +212,21 @@ module _ (I : Draft → Type 0) (Fits : Kind → Type 0) (Ins : ℕ → Type 0) 
   allocations_keep b [] d h = h
   allocations_keep b (x ∷ xs) d h = allocations_if (x.block == b) b x xs d h (allocations_keep b xs (allocated x.array d) (allocated_keeps x.array (queue_of d x.array) d h))
 
-  block_keeps : ((a : ℕ) → Fits (Read a)) → (arrays : List Array) (join ins b : ℕ) → Ins ins → (k : Block) (xs : List Access) (d : Draft) → I d → I (block_laid arrays join ins b k xs d)
+  pub block_keeps : ((a : ℕ) → Fits (Read a)) → (arrays : List Array) (join ins b : ℕ) → Ins ins → (k : Block) (xs : List Access) (d : Draft) → I d → I (block_laid arrays join ins b k xs d)
   block_keeps r arrays join ins b i k xs d h =
       let e = head_laid ins k.args d in
       let f = allocations b xs e in
       let g = steps_laid arrays k.steps f in
       swept_keeps (jump_laid join k.jump g) (jump_keeps join k.jump g (steps_keep r arrays k.steps f (allocations_keep b xs e (head_keeps ins i k.args d h))))
 
-  blocks_keep : ((a : ℕ) → Fits (Read a)) → (arrays : List Array) (join : ℕ) (counts : List ℕ) → ((t : ℕ) → Ins (ins_of counts t)) → (b : ℕ) (ks : List Block) (xs : List Access) (d : Draft) → I d → I (blocks_laid arrays join counts b ks xs d)
+  pub blocks_keep : ((a : ℕ) → Fits (Read a)) → (arrays : List Array) (join : ℕ) (counts : List ℕ) → ((t : ℕ) → Ins (ins_of counts t)) → (b : ℕ) (ks : List Block) (xs : List Access) (d : Draft) → I d → I (blocks_laid arrays join counts b ks xs d)
   blocks_keep r arrays join counts i b [] xs d h = h
   blocks_keep r arrays join counts i b (k ∷ ks) xs d h =
       blocks_keep r arrays join counts i (plus b 1) ks (after_block b xs) (block_laid arrays join (ins_of counts b) b k xs d) (block_keeps r arrays join (ins_of counts b) b (i b) k xs d h)
 
   -- ---- edges
 
-  data_keeps : (mux place : ℕ) (es : List End) (d : Draft) → I d → I (data_laid mux place es d)
+  pub data_keeps : (mux place : ℕ) (es : List End) (d : Draft) → I d → I (data_laid mux place es d)
   data_keeps mux place [] d h = h
   data_keeps mux place (e ∷ es) d h = data_keeps (plus mux 2) place es (fed e mux place d) (fed_keeps e mux place d h)
 
@@ -235,7 +235,7 @@ module _ (I : Draft → Type 0) (Fits : Kind → Type 0) (Ins : ℕ → Type 0) 
       let u = get_or d.heads e.to 0 in
       data_keeps (plus u 2) (plus j 1) e.with (with_chan e.control (at u j) 32 true d) (chan e.control (at u j) 32 true d h)
 
-  edges_keep : (seen : List ℕ) (es : List Edge) (d : Draft) → I d → I (edges_laid seen es d)
+  pub edges_keep : (seen : List ℕ) (es : List Edge) (d : Draft) → I d → I (edges_laid seen es d)
   edges_keep seen [] d h = h
   edges_keep seen (e ∷ es) d h = edges_keep (raised e.to seen) es (edge_laid (get_or seen e.to 0) e d) (edge_laid_keeps (get_or seen e.to 0) e d h)
 
@@ -245,7 +245,7 @@ module _ (I : Draft → Type 0) (Fits : Kind → Type 0) (Ins : ℕ → Type 0) 
   ended_keeps None d h = h
   ended_keeps (Some q) d h = through_keeps q q.groups d h
 
-  all_ended_keep : (qs : List (Option Queue)) (d : Draft) → I d → I (all_ended qs d)
+  pub all_ended_keep : (qs : List (Option Queue)) (d : Draft) → I d → I (all_ended qs d)
   all_ended_keep [] d h = h
   all_ended_keep (q ∷ qs) d h = all_ended_keep qs (ended_by q d) (ended_keeps q d h)
 
@@ -281,7 +281,7 @@ module _ (I : Draft → Type 0) (Fits : Kind → Type 0) (Ins : ℕ → Type 0) 
   feeders_keep counts b [] d h = h
   feeders_keep counts b (k ∷ ks) d h = feeders_keep counts (plus b 1) ks (feeder_if (get_or counts b 0) b k.args d) (feeder_keeps (get_or counts b 0) b k.args d h)
 
-  params_keep : ((j : ℕ) → Fits (Param j)) → (j : ℕ) (ss : List Scalar) (d : Draft) → I d → I (params_laid j ss d)
+  pub params_keep : ((j : ℕ) → Fits (Param j)) → (j : ℕ) (ss : List Scalar) (d : Draft) → I d → I (params_laid j ss d)
   params_keep f j [] d h = h
   params_keep f j (s ∷ ss) d h = params_keep f (plus j 1) ss (with_unit (Param j) d) (unit (Param j) d (f j) h)
 

@@ -343,7 +343,7 @@ all_queued blocks of n (x ∷ xs) d few h =
 queuers : (a : ℕ) → Laid (λ k. is_queue a k ≡ false) (λ n. Unit {0})
 queuers a = record { const = λ w n. refl; op1 = λ op. refl; op2 = λ op. refl; select = λ w. refl; fork1 = λ w. refl; fork2 = λ w. refl; mux = λ w n i. refl; merge = λ n i. refl; branch = λ w. refl; sink = λ w. refl }
 
-params_queues : (j : ℕ) (ss : List Scalar) (d : Draft) → (params_laid j ss d).queues ≡ d.queues
+pub params_queues : (j : ℕ) (ss : List Scalar) (d : Draft) → (params_laid j ss d).queues ≡ d.queues
 params_queues j [] d = refl
 params_queues j (s ∷ ss) d = params_queues (plus j 1) ss (with_unit (Param j) d)
 

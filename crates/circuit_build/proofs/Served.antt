@@ -38,10 +38,10 @@ use Rattle.circuit_build.proofs.Small.{scalars_few, arrays_few}
 
 -- ---- how few scalars and arrays
 
-scalars_bound : (g : Graph) (gs : Groups) → IsAsked g gs → length g.scalars < 2 ^ 32
+pub scalars_bound : (g : Graph) (gs : Groups) → IsAsked g gs → length g.scalars < 2 ^ 32
 scalars_bound g gs ask = let s = scalars_few g ask.graph in let b = ask.small.bounded in omega (arith, s, b)
 
-arrays_bound : (g : Graph) (gs : Groups) → IsAsked g gs → length g.arrays < 2 ^ 32
+pub arrays_bound : (g : Graph) (gs : Groups) → IsAsked g gs → length g.arrays < 2 ^ 32
 arrays_bound g gs ask = let a = arrays_few g.arrays ask.sound.arrays.some in let t = ask.sound.arrays.together in omega (arith, a, t)
 
 -- ---- loads name arrays
@@ -180,11 +180,11 @@ headers_met g gs ask =
 
 -- ---- an array that is only read has no group
 
-access_skipped : (a p n i : ℕ) (ps : List ℕ) (ys : List Access) → ¬ (i ≡ a) → groups_from a p (access_if n i ps ++ ys) ≡ groups_from a p ys
+pub access_skipped : (a p n i : ℕ) (ps : List ℕ) (ys : List Access) → ¬ (i ≡ a) → groups_from a p (access_if n i ps ++ ys) ≡ groups_from a p ys
 access_skipped a p n i [] ys ne = refl
 access_skipped a p n i (x ∷ ps) ys ne = ap (λ t. cond t (numbers_from p (x ∷ ps) ∷ groups_from a (number_after p (x ∷ ps)) ys) (groups_from a p ys)) (ne_eqb i a ne)
 
-block_skipped : (a p n : ℕ) (ss : List Instr) (i : ℕ) (rs : List Bool) (ys : List Access) → ((j : ℕ) → i + j ≡ a → slice_get rs j ≡ Some false → ⊥) → groups_from a p (block_accesses n ss i rs ++ ys) ≡ groups_from a p ys
+pub block_skipped : (a p n : ℕ) (ss : List Instr) (i : ℕ) (rs : List Bool) (ys : List Access) → ((j : ℕ) → i + j ≡ a → slice_get rs j ≡ Some false → ⊥) → groups_from a p (block_accesses n ss i rs ++ ys) ≡ groups_from a p ys
 block_skipped a p n ss i [] ys h = refl
 block_skipped a p n ss i (true ∷ rs) ys h = block_skipped a p n ss (suc i) rs ys (λ j e. h (suc j) (omega (arith, e)))
 block_skipped a p n ss i (false ∷ rs) ys h =
@@ -192,7 +192,7 @@ block_skipped a p n ss i (false ∷ rs) ys h =
     let zs = block_accesses n ss (suc i) rs in
     ap (groups_from a p) (append_assoc xs zs ys) ∙ access_skipped a p n i (places_from i 0 ss) (zs ++ ys) (λ e. h 0 (omega (arith, e)) refl) ∙ block_skipped a p n ss (suc i) rs ys (λ j e. h (suc j) (omega (arith, e)))
 
-all_skipped : (a p : ℕ) (rs : List Bool) (n : ℕ) (bs : List Block) → slice_get rs a ≡ Some true → groups_from a p (accesses_from rs n bs) ≡ []
+pub all_skipped : (a p : ℕ) (rs : List Bool) (n : ℕ) (bs : List Block) → slice_get rs a ≡ Some true → groups_from a p (accesses_from rs n bs) ≡ []
 all_skipped a p rs n [] h = refl
 all_skipped a p rs n (b ∷ bs) h =
     block_skipped a p n b.steps 0 rs (accesses_from rs (suc n) bs) (λ j e f. apart j e f) ∙ all_skipped a p rs (suc n) bs h
@@ -259,7 +259,7 @@ ons_stored a p v (s ∷ ss) (suc k) e = let r = ons_stored a p v ss k e in omega
 
 -- ---- which units serve an array
 
-read_only_lacks : (g : Graph) (gs : Groups) → IsAsked g gs → (a : ℕ) → slice_get gs.read_only a ≡ Some true → lacks (front_keys g gs) a ≡ true
+pub read_only_lacks : (g : Graph) (gs : Groups) → IsAsked g gs → (a : ℕ) → slice_get gs.read_only a ≡ Some true → lacks (front_keys g gs) a ≡ true
 read_only_lacks g gs ask a h =
     let lt = slice_get_within gs.read_only a true h in
     let few = ask.share.as_many in
@@ -267,7 +267,7 @@ read_only_lacks g gs ask a h =
     let none : groups_from a 0 gs.of ≡ [] = subst (λ xs. groups_from a 0 xs ≡ []) (sym ask.share.accesses) (all_skipped a 0 gs.read_only 0 g.blocks h) in
     q.each a (omega (arith, lt, few)) ∙ ap is_empty none
 
-stored_some : (g : Graph) (gs : Groups) → IsAsked g gs → (a : ℕ) → slice_get gs.read_only a ≡ Some false → is_empty (groups_from a 0 gs.of) ≡ false
+pub stored_some : (g : Graph) (gs : Groups) → IsAsked g gs → (a : ℕ) → slice_get gs.read_only a ≡ Some false → is_empty (groups_from a 0 gs.of) ≡ false
 stored_some g gs ask a h =
     let s = ask.share.stored_to a h in
     let one = ons_stored a s.addr s.value s.block.steps s.place s.is_step in
@@ -282,7 +282,7 @@ stored_some g gs ask a h =
 within_arrays : (g : Graph) (gs : Groups) → IsAsked g gs → (a : ℕ) (t : Bool) → slice_get gs.read_only a ≡ Some t → a < length g.arrays
 within_arrays g gs ask a t h = let lt = slice_get_within gs.read_only a t h in let few = ask.share.as_many in omega (arith, lt, few)
 
-stored_owns : (g : Graph) (gs : Groups) → IsAsked g gs → (a : ℕ) → slice_get gs.read_only a ≡ Some false → lacks (front_keys g gs) a ≡ false
+pub stored_owns : (g : Graph) (gs : Groups) → IsAsked g gs → (a : ℕ) → slice_get gs.read_only a ≡ Some false → lacks (front_keys g gs) a ≡ false
 stored_owns g gs ask a h = (front_queued g gs (arrays_bound g gs ask)).each a (within_arrays g gs ask a false h) ∙ stored_some g gs ask a h
 
 pub arrays_served : ArraysAreServed

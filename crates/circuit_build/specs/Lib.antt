@@ -5,6 +5,7 @@ pub mod Counted
 pub mod Drafts
 pub mod Edges
 pub mod Endings
+pub mod Follows
 pub mod Fronts
 pub mod Jumps
 pub mod Kept
@@ -12,4 +13,5 @@ pub mod Laws
 pub mod Ports
 pub mod Shaped
 pub mod Sizes
+pub mod Sorting
 pub mod Steps

@@ -1,6 +1,7 @@
 //! The net of a block graph.
 ghost use Rattle.std.specs.Prelude.{◌≡◌, IfOk};
 ghost use Rattle.circuit_build.specs.Built.{whole_draft, built};
+ghost use Rattle.circuit_build.specs.Follows.{CompletesIfAsked, FollowsIfAsked};
 ghost use Rattle.circuit_build.specs.Kept.{SharesIfAsked};
 
 use crate::blocks::ins_of;
@@ -9,6 +10,7 @@ use crate::edges::{count_at, edge_counts};
 use crate::fronts::start;
 use el_base::{Array, List, Memory, Scalar};
 use ir::{Groups, Ir};
+use net_core::spent_is_at_rest;
 use net_types::Net;
 use std::alloc::Global;
 
@@ -58,7 +60,8 @@ fn lay_all(alloc: Global, graph: &Ir, groups: &Groups) -> Result<Draft, Memory>
 /// Each channel has one slot and delay 1. An array that some access names has a queue, and of another each load is a
 /// unit of its own that reads it. Where a number passes 32 bits the greatest stands for it; no graph of a kernel comes
 /// to that. The net of a graph that can be built keeps all rules but C3 and C4, and has at most 8 channels for each unit of
-/// the graph's size, each scalar and each array, and 64 more.
+/// the graph's size, each scalar and each array, and 64 more. It follows the visits of the graph, and where these return it
+/// comes to rest with the graph's arrays and result.
 ///
 /// # Errors
 ///
@@ -66,7 +69,10 @@ fn lay_all(alloc: Global, graph: &Ir, groups: &Groups) -> Result<Draft, Memory>
 pub fn build(alloc: Global, graph: &Ir, groups: &Groups) -> Result<Net, Memory>
     ensures net { IfOk result (λ net. net ≡ built graph.now groups.now) }
     ensures share { IfOk result (SharesIfAsked graph.now groups.now) }
+    ensures follows { IfOk result (FollowsIfAsked graph.now groups.now) }
+    ensures completes { IfOk result (CompletesIfAsked graph.now groups.now) }
 {
+    spent_is_at_rest();
     let draft = lay_all(alloc, graph, groups)?;
     Ok(Net {
         name: graph.name.copy()?,

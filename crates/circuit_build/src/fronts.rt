@@ -1,5 +1,5 @@
 //! What stands before the blocks: the entry, the scalars and the queues.
-ghost use Rattle.std.specs.Prelude.{◌≡◌, ◌++◌, Some, slice_get, IfOk, OnOk};
+ghost use Rattle.std.specs.Prelude.{◌≡◌, ◌++◌, Some, [], replicate, slice_get, IfOk, OnOk};
 ghost use Rattle.circuit_build.specs.Fronts.{
   started,
   params_laid,
@@ -7,16 +7,23 @@ ghost use Rattle.circuit_build.specs.Fronts.{
   entered,
   port_of,
   ports_at,
-  access_ports,
-  ports_of,
   numbers_from,
   number_after,
-  groups_from,
-  depth_from,
   queue_laid,
   without_queue,
   queue_if,
   queues_laid,
+};
+ghost use Rattle.circuit_build.specs.Sorting.{
+  picked,
+  own,
+  ports_for,
+  all_ports,
+  all_groups,
+  greatest_depth,
+  own_queue,
+  put_at,
+  ArePlaces,
 };
 
 use crate::draft::{Draft, End, Queue, number};
@@ -84,36 +91,30 @@ fn add_ports(ports: &mut List<Port>, steps: &[Instr], places: &[u32]) -> Result<
     Ok(())
 }
 
-// Adds the ports for an access, where it is of the array.
-fn add_access(
-    ports: &mut List<Port>,
-    array: u32,
-    blocks: &[Block],
-    access: &Access,
-) -> Result<(), Memory>
-    ensures { OnOk result (ports.new ≡ ports.old ++ access_ports array blocks.now access.now) }
+// Adds the ports for an access.
+fn add_access(ports: &mut List<Port>, blocks: &[Block], access: &Access) -> Result<(), Memory>
+    ensures { OnOk result (ports.new ≡ ports.old ++ ports_for blocks.now access.now) }
 {
-    if access.array != array {
-        return Ok(());
-    }
     match blocks.get(access.block as usize) {
         Some(block) => add_ports(ports, block.steps.as_slice(), access.steps.as_slice()),
         None => add_ports(ports, &[], access.steps.as_slice()),
     }
 }
 
-// The ports of an array's queue.
+// The ports of a queue for the accesses at some places.
 fn ports_of(
     alloc: Global,
-    array: u32,
     blocks: &[Block],
     accesses: &[Access],
+    places: &[usize],
 ) -> Result<List<Port>, Memory>
-    ensures { IfOk result (λ ps. ps ≡ ports_of array blocks.now accesses.now) }
+    ensures { IfOk result (λ ps. ps ≡ all_ports blocks.now (picked accesses.now places.now)) }
 {
     let mut ports = List::new(alloc);
-    for access in accesses {
-        add_access(&mut ports, array, blocks, access)?;
+    for place in places {
+        if let Some(access) = accesses.get(*place) {
+            add_access(&mut ports, blocks, access)?;
+        }
     }
     Ok(ports)
 }
@@ -144,14 +145,18 @@ fn port_after(first: u32, steps: &[u32]) -> u32
     port
 }
 
-// The groups of an array's queue.
-fn groups_of(alloc: Global, array: u32, accesses: &[Access]) -> Result<List<List<u32>>, Memory>
-    ensures { IfOk result (λ gs. gs ≡ groups_from array 0 accesses.now) }
+// The groups of a queue for the accesses at some places.
+fn groups_of(
+    alloc: Global,
+    accesses: &[Access],
+    places: &[usize],
+) -> Result<List<List<u32>>, Memory>
+    ensures { IfOk result (λ gs. gs ≡ all_groups 0 (picked accesses.now places.now)) }
 {
     let mut groups = List::new(alloc);
     let mut port: u32 = 0;
-    for access in accesses {
-        if access.array == array {
+    for place in places {
+        if let Some(access) = accesses.get(*place) {
             let group = group_from(alloc, port, access.steps.as_slice())?;
             groups.push(group)?;
             port = port_after(port, access.steps.as_slice());
@@ -160,17 +165,57 @@ fn groups_of(alloc: Global, array: u32, accesses: &[Access]) -> Result<List<List
     Ok(groups)
 }
 
-// The depth of an array's queue: that of the greatest group, and 16 at least.
-fn depth_of(array: u32, accesses: &[Access]) -> u32
-    ensures { result ≡ depth_from array 16 accesses.now }
+// The depth of a queue for the accesses at some places: that of the greatest group, and 16 at least.
+fn depth_of(accesses: &[Access], places: &[usize]) -> u32
+    ensures { result ≡ greatest_depth 16 (picked accesses.now places.now) }
 {
     let mut depth: u32 = 16;
-    for access in accesses {
-        if access.array == array {
+    for place in places {
+        if let Some(access) = accesses.get(*place) {
             depth = depth.max(number(access.steps.len()));
         }
     }
     depth
+}
+
+// For each of so many arrays the places of its accesses.
+#[tactic(auto, using(crate::proofs::Sorting::one_put, crate::proofs::Sorting::none_put, crate::proofs::Sorting::all_put))]
+fn places_by_array(
+    alloc: Global,
+    count: usize,
+    accesses: &[Access],
+) -> Result<List<List<usize>>, Memory>
+    ensures { IfOk result (ArePlaces count accesses.now) }
+{
+    let mut table = empty_lists(alloc, count)?;
+    let mut place: usize = 0;
+    for access in accesses {
+        put_at(&mut table, access.array as usize, place)?;
+        place += 1;
+    }
+    Ok(table)
+}
+
+// So many empty lists.
+fn empty_lists(alloc: Global, count: usize) -> Result<List<List<usize>>, Memory>
+    ensures { IfOk result (λ table. table ≡ replicate count []) }
+{
+    let mut table = List::new(alloc);
+    for _ in 0..count {
+        table.push(List::new(alloc))?;
+    }
+    Ok(table)
+}
+
+// Adds a place to the list of an array, where the table has it.
+#[tactic(auto, using(std::proofs::lemmas::List::set_past))]
+fn put_at(table: &mut List<List<usize>>, array: usize, place: usize) -> Result<(), Memory>
+    ensures { OnOk result (table.new ≡ put_at table.old array place) }
+{
+    if array < table.len() {
+        table.as_mut_slice()[array].push(place)?;
+    }
+    Ok(())
 }
 
 impl Draft {
@@ -243,6 +288,24 @@ impl Draft {
         }
     }
 
+    // The queue of an array, whose accesses stand at these places.
+    #[tactic(auto, using(crate::proofs::Sorting::queue_of_own))]
+    fn lay_own_queue(
+        &mut self,
+        alloc: Global,
+        array: u32,
+        blocks: &[Block],
+        accesses: &[Access],
+        places: &[usize],
+    ) -> Result<(), Memory>
+        requires { picked accesses.now places.now ≡ own array accesses.now }
+        ensures { OnOk result (self.new ≡ own_queue blocks.now accesses.now array self.old) }
+    {
+        let ports = ports_of(alloc, blocks, accesses, places)?;
+        let groups = groups_of(alloc, accesses, places)?;
+        self.lay_queue(array, ports, groups, depth_of(accesses, places))
+    }
+
     /// The queues of all arrays, in order.
     pub(crate) fn lay_queues(
         &mut self,
@@ -254,12 +317,12 @@ impl Draft {
         ensures { OnOk result (self.new
             ≡ queues_laid blocks.now accesses.now 0 arrays.now self.old) }
     {
+        let table = places_by_array(alloc, arrays.len(), accesses)?;
+        let table = table.as_slice();
         let mut number: u32 = 0;
         for array in arrays {
-            let ports = ports_of(alloc, number, blocks, accesses)?;
-            let groups = groups_of(alloc, number, accesses)?;
-            let depth = depth_of(number, accesses);
-            self.lay_queue(number, ports, groups, depth)?;
+            let places = table[number as usize].as_slice();
+            self.lay_own_queue(alloc, number, blocks, accesses, places)?;
             number = number.saturating_add(1);
         }
         Ok(())

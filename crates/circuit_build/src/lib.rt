@@ -6,6 +6,7 @@ mod building;
 mod draft;
 mod edges;
 mod endings;
+mod follow_laws;
 mod fronts;
 mod jumps;
 mod laws;
@@ -16,6 +17,7 @@ mod steps;
 mod tests;
 
 pub use building::build;
+pub use follow_laws::circuits_follow;
 pub use ir::{Groups, Ir, List, Memory};
 pub use laws::{
     arrays_are_served, headers_are_met, nets_are_plain, nets_are_small, units_are_shaped,

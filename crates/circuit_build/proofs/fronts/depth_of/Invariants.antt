@@ -1,6 +1,6 @@
 use Rattle.std.proofs.Common.{◌≡◌, drop}
-use Rattle.circuit_build.specs.Fronts.{depth_from}
+use Rattle.circuit_build.specs.Sorting.{greatest_depth, picked}
 use Rattle.circuit_build.proofs.fronts.depth_of.Given as goal
 
-abbrev pub invariant-loop-access : goal.invariant-loop-access
-invariant-loop-access l = depth_from l.array l.depth (drop l.access-index l.accesses) ≡ depth_from l.array 16 l.accesses
+abbrev pub invariant-loop-place : goal.invariant-loop-place
+invariant-loop-place l = greatest_depth l.depth (picked l.accesses (drop l.place-index l.places)) ≡ greatest_depth 16 (picked l.accesses l.places)

@@ -1,6 +1,6 @@
 use Rattle.std.proofs.Common.{◌≡◌, ◌++◌, drop}
-use Rattle.circuit_build.specs.Fronts.{groups_from}
+use Rattle.circuit_build.specs.Sorting.{all_groups, picked}
 use Rattle.circuit_build.proofs.fronts.groups_of.Given as goal
 
-abbrev pub invariant-loop-access : goal.invariant-loop-access
-invariant-loop-access l = l.groups ++ groups_from l.array l.port (drop l.access-index l.accesses) ≡ groups_from l.array 0 l.accesses
+abbrev pub invariant-loop-place : goal.invariant-loop-place
+invariant-loop-place l = l.groups ++ all_groups l.port (picked l.accesses (drop l.place-index l.places)) ≡ all_groups 0 (picked l.accesses l.places)

@@ -1,6 +1,6 @@
 use Rattle.std.proofs.Common.{◌≡◌, ◌++◌, drop}
-use Rattle.circuit_build.specs.Fronts.{ports_of}
+use Rattle.circuit_build.specs.Sorting.{all_ports, picked}
 use Rattle.circuit_build.proofs.fronts.ports_of.Given as goal
 
-abbrev pub invariant-loop-access : goal.invariant-loop-access
-invariant-loop-access l = l.ports ++ ports_of l.array l.blocks (drop l.access-index l.accesses) ≡ ports_of l.array l.blocks l.accesses
+abbrev pub invariant-loop-place : goal.invariant-loop-place
+invariant-loop-place l = l.ports ++ all_ports l.blocks (picked l.accesses (drop l.place-index l.places)) ≡ all_ports l.blocks (picked l.accesses l.places)
