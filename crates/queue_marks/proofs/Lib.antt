@@ -1,0 +1,2 @@
+mod MarkedRules
+mod MarkedRuns
