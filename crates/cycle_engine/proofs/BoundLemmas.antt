@@ -16,7 +16,7 @@ abbrev pub RipeFrom : ℕ → ℕ → Dated → Type 0
 RipeFrom most m s = (d : ℕ) → AllByRecursion (λ x. x + most ≤ m) (get_or s.dates d [])
 
 -- an empty cycle in which every token is ripe starts at rest
-empty_rests : (net : Net) (c most : ℕ) (s t : Dated) → ((d : ℕ) → (chan_at net d).delay ≤ most) → AreDated net s → RipeFrom most c s → Cycle net c s [] t → (f : Firing) → enabled net s.state f → ⊥
+pub empty_rests : (net : Net) (c most : ℕ) (s t : Dated) → ((d : ℕ) → (chan_at net d).delay ≤ most) → AreDated net s → RipeFrom most c s → Cycle net c s [] t → (f : Firing) → enabled net s.state f → ⊥
 empty_rests net c most s t l k r y f n =
     let P : Dated → Type 0 = λ x. (g : Firing) → Unit {0} → Rattle.cycle_engine.specs.Cycles.May net c s x g → ⊥ in
     subst P (sym y.makes) y.full f tt (ripe_may net c most s f k l r n)

@@ -100,7 +100,7 @@ by_after net c s v e h d = at (cases_lt d (length s.dates))
         let l' : length s.dates ≤ d = l in
         subst P (sym (get_or_past (after_of net c s v e).dates d [] (omega arith))) tt
 
-some_effect : (o : Option Effect) (Q : Effect → Type 0) → IsSomeAnd o Q → (e : Effect) × (o ≡ Some e) × Q e
+pub some_effect : (o : Option Effect) (Q : Effect → Type 0) → IsSomeAnd o Q → (e : Effect) × (o ≡ Some e) × Q e
 some_effect None Q i = absurd i
 some_effect (Some e) Q i = (e, refl, i)
 

@@ -1,22 +1,21 @@
 -- A firing made by the engine.
 use Rattle.std.proofs.Common.{◌≡◌, ℕ, suc, zero, ◌+◌, ◌*◌, ◌<◌, ◌≤◌, ◌≢◌, Bool, true, false, cond, Option, Some, None, List, [], ◌∷◌, ◌++◌, length, map, get_or, refl, sym, ap, subst, ◌∙◌, arith, IfSome, length-append, append_assoc}
 use Rattle.std.specs.List.{AllByRecursion}
-use Rattle.el_base.specs.Limits.{max_depth, max_firings}
+use Rattle.el_base.specs.Limits.{max_depth}
 use Rattle.net_types.specs.declared.net.Chan.{Chan}
 use Rattle.net_types.specs.declared.net.Net.{Net}
 use Rattle.net_types.specs.declared.firing.Firing.{Firing}
-use Rattle.net_types.specs.declared.firing.Inputs.{Inputs}
-use Rattle.net_types.specs.Nets.{into, out_of, nowhere, chan_at, kind_of}
-use Rattle.net_core.specs.Fire.{Effect, State, idle, effect, has_room, after, after_effect, moved, applied, changed_from}
+use Rattle.net_types.specs.Nets.{out_of, nowhere, chan_at, kind_of}
+use Rattle.net_core.specs.Fire.{Effect, State, has_room, after, after_effect, applied}
 use Rattle.net_core.specs.declared.plan.Put.{Put}
 use Rattle.net_core.specs.declared.plan.Plan.{Plan}
-use Rattle.net_core.specs.Plans.{places_of, effect_by, planned}
+use Rattle.net_core.specs.Plans.{places_of, effect_by}
 use Rattle.net_core.specs.States.{state_of, IsOf, own_at, array_at, IsPlanOf, CountsWithin, CountsRise}
 use Rattle.net_core.proofs.StateLemmas.{plan_within}
 use Rattle.net_replay.specs.Finishes.{IsLogged}
 use Rattle.cycle_engine.specs.declared.engine.Engine.{Engine}
 use Rattle.cycle_engine.specs.declared.engine.Bounds.{Bounds}
-use Rattle.cycle_engine.specs.Cycles.{Dated, dated, after_by, after_in, AreDated, May, Makes, Once, InOrder, IsUnused, IsOldest, phase, place_of}
+use Rattle.cycle_engine.specs.Cycles.{Dated, after_by, after_in, AreDated, May, Makes, Once, InOrder, IsUnused, IsOldest, phase, place_of}
 use Rattle.cycle_engine.specs.Cuts.{joined}
 use Rattle.cycle_engine.specs.private.Trials.{dated_of, IsEngine, IsBegun, AreWithin, HasDateRoom, dates_after}
 use Rattle.cycle_engine.specs.private.Goings.{Past, IsReady, InCycle, MayFollow, IsMade, all_made}

@@ -1,7 +1,6 @@
 -- Dates are moved as tokens are.
-use Rattle.std.proofs.Common.{◌≡◌, ℕ, ◌<◌, ◌≤◌, true, Option, Some, None, List, [], ◌∷◌, length, map, get_or, refl, sym, ap, subst, ◌∙◌, arith}
+use Rattle.std.proofs.Common.{◌≡◌, ℕ, ◌<◌, true, Option, Some, None, List, [], ◌∷◌, length, map, get_or, refl, ap, subst, ◌∙◌, arith}
 use Rattle.net_types.specs.declared.net.Net.{Net}
-use Rattle.net_types.specs.declared.net.Unit.TheVariants.{Sink}
 use Rattle.net_types.specs.Nets.{into, out_of}
 use Rattle.net_core.specs.declared.plan.Put.{Put}
 use Rattle.net_core.specs.declared.plan.Takes.{Takes}
@@ -10,7 +9,7 @@ use Rattle.net_core.specs.declared.plan.Plan.{Plan}
 use Rattle.net_core.specs.Plans.{places_of, apart}
 use Rattle.net_core.specs.Held.{take_at, put_at_end}
 use Rattle.net_core.specs.private.Moves.{AllWithin, taken_all, taken_chans}
-use Rattle.net_core.proofs.MoveLemmas.{distinct_of, moved_none, moved_some, length-taken_all, shorter}
+use Rattle.net_core.proofs.MoveLemmas.{distinct_of, moved_none, moved_some, shorter}
 use Rattle.cycle_engine.specs.Cycles.{dated}
 use Rattle.cycle_engine.specs.private.Trials.{dates_without, AreWithin, dates_after, HasDateRoom}
 

@@ -54,7 +54,7 @@ late_or net v u e = by e.put refl
             let P : ℕ → Type 0 = λ d. 0 < (chan_at net d).delay in subst P (sym i) (positive (chan_at net (out_of v w.place net.chans)).delay z)))
 
 -- room at a channel from which v does not take was there before
-room_before : (net : Net) (c : ℕ) (s : Dated) (v u : ℕ) (e : Effect) (w : Put) → u ≢ v → AreDated net s → takes_from net v e (out_of u w.place net.chans) ≡ false
+pub room_before : (net : Net) (c : ℕ) (s : Dated) (v u : ℕ) (e : Effect) (w : Put) → u ≢ v → AreDated net s → takes_from net v e (out_of u w.place net.chans) ≡ false
     → has_room net (after_of net c s v e).state u (Some w) → has_room net s.state u (Some w)
 room_before net c s v u e w ne ok free h =
     let d : ℕ = out_of u w.place net.chans in

@@ -1,13 +1,12 @@
 -- The places that a plan uses, and when the engine may make it.
-use Rattle.std.proofs.Common.{◌≡◌, ℕ, suc, zero, ◌+◌, ◌≤◌, ◌<◌, ◌≢◌, ◌&&◌, not, nat_lt, Bool, true, false, Option, Some, None, List, [], ◌∷◌, length, get_or, refl, sym, ap, subst, ◌∙◌, arith, IsSomeAnd}
-use Rattle.std.specs.List.{list_all}
+use Rattle.std.proofs.Common.{◌≡◌, ℕ, suc, ◌<◌, ◌≢◌, not, nat_lt, Bool, true, false, Option, Some, None, List, [], ◌∷◌, length, get_or, refl, sym, ap, subst, ◌∙◌, arith, IsSomeAnd}
 use Rattle.net_types.specs.declared.net.Net.{Net}
 use Rattle.net_types.specs.declared.net.Unit.{Unit as Kind}
 use Rattle.net_types.specs.declared.net.Unit.TheVariants.{Entry, Param, Const, Op1, Op2, Select, Fork, Mux, Cmerge, Branch, Sink, Read, Lsq, Exit}
 use Rattle.net_types.specs.declared.firing.Act.{Act}
 use Rattle.net_types.specs.declared.firing.Act.TheVariants.{Go, From, Send, Alloc, Addr, Data, Exec, Reply, Retire, End}
 use Rattle.net_types.specs.declared.firing.Firing.{Firing}
-use Rattle.net_types.specs.Nets.{into, out_of, kind_of, uses, firing}
+use Rattle.net_types.specs.Nets.{out_of, kind_of, uses, firing}
 use Rattle.net_check.specs.Ends.{is_lsq}
 use Rattle.lsq_core.specs.Acts.{can, in_place}
 use Rattle.net_core.specs.Fire.{State, Own, Row, Stop, Look, Take, Fires, Effect, Setting, effect_of, with_head, taking, on_go, when, gate, idle, row, fork_row, exit_fires, queue_fires, setting, at_array, head_at, tokens_at, effect, has_room}
@@ -20,7 +19,7 @@ use Rattle.net_core.specs.Uses.{used_by, then_used}
 use Rattle.net_core.proofs.ForkLemmas.{send_inv}
 use Rattle.cycle_engine.specs.declared.engine.Engine.{Engine}
 use Rattle.cycle_engine.specs.Cycles.{Dated, used, HasDepth, AllocHasDepth, May, IsUnused, place_of}
-use Rattle.cycle_engine.specs.private.Trials.{dated_of, AllRipe, RipeAt, is_fork, places_used, HadRoom, HadDepth, EntriesFit, Allowed, IsBegun}
+use Rattle.cycle_engine.specs.private.Trials.{dated_of, AllRipe, is_fork, places_used, HadRoom, HadDepth, EntriesFit, Allowed, IsBegun}
 use Rattle.cycle_engine.proofs.OwnLemmas.{fork_act, fork_effect, fork_uses, send_does}
 
 -- a row that looks at nothing it doesn't take

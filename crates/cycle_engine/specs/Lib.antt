@@ -3,4 +3,5 @@ pub mod Rousing
 pub mod Bounds
 pub mod Worked
 pub mod Cuts
+pub mod Timings
 pub mod private

@@ -1,3 +1,4 @@
 -- Private: what only contracts of this crate cite.
 pub mod Trials
 pub mod Goings
+pub mod Places

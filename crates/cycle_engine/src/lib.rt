@@ -1,14 +1,19 @@
-//! Runs of nets by cycles: what a cycle is, laws of cycles, and one firing tried and made in a cycle. No code makes
-//! whole cycles yet.
+//! Runs of nets by cycles: what a cycle is, laws of cycles, and the engine that runs a net by them.
+//!
+//! [`run_cycles`] runs a net to rest or to a limit, and counts the cycles.
 #![tactic(auto)]
 
 mod dates;
 mod engine;
 mod laws;
+mod places;
+mod runs;
 #[cfg(test)]
 mod tests;
 mod trial;
+mod turns;
 
 pub use laws::{
     cycles_are_few, firings_rouse, firings_rouse_their_unit, next_cycles_rouse, worked_net_cycles,
 };
+pub use runs::{Timed, run_cycles};

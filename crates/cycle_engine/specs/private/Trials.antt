@@ -8,7 +8,7 @@ use Rattle.net_types.specs.declared.net.Unit.TheVariants.{Entry, Param, Const, O
 use Rattle.net_types.specs.declared.firing.Act.{Act}
 use Rattle.net_types.specs.declared.firing.Act.TheVariants.{Go, From, Send, Alloc, Addr, Data, Exec, Reply, Retire, End}
 use Rattle.net_types.specs.declared.firing.Firing.{Firing}
-use Rattle.net_types.specs.Nets.{into, out_of, kind_of, chan_at, uses}
+use Rattle.net_types.specs.Nets.{into, out_of, kind_of, chan_at}
 use Rattle.net_check.specs.Ends.{is_lsq}
 use Rattle.net_core.specs.declared.plan.Put.{Put}
 use Rattle.net_core.specs.declared.plan.Takes.{Takes}
@@ -20,7 +20,7 @@ use Rattle.net_core.specs.Plans.{places_of, effect_by}
 use Rattle.net_core.specs.States.{state_of, IsOf}
 use Rattle.cycle_engine.specs.declared.engine.Engine.{Engine}
 use Rattle.cycle_engine.specs.declared.engine.Lengths.{Lengths}
-use Rattle.cycle_engine.specs.Cycles.{Dated, AreDated, dated, act_place}
+use Rattle.cycle_engine.specs.Cycles.{Dated, AreDated, dated}
 
 -- the state of the engine with the dates of its tokens
 abbrev pub dated_of : Engine → Dated

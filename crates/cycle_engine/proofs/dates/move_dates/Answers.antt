@@ -1,4 +1,4 @@
-use Rattle.cycle_engine.proofs.MoveLemmas.{dates_none, dates_some, date_room}
+use Rattle.cycle_engine.proofs.MoveLemmas.{dates_none, dates_some}
 use Rattle.cycle_engine.proofs.dates.move_dates.Goals as goal
 
 pub returns-in-None-clause-tokens : goal.returns-in-None-clause-tokens

@@ -1,4 +1,4 @@
-use Rattle.std.proofs.Common.{◌<◌, ◌≤◌, ◌^◌, ◌∙◌, ap, length, arith}
+use Rattle.std.proofs.Common.{◌<◌, ◌^◌, ◌∙◌, ap, length, arith}
 use Rattle.net_types.specs.declared.net.Net.{Net}
 use Rattle.cycle_engine.proofs.engine.note_chans.Goals as goal
 

@@ -1,6 +1,5 @@
-use Rattle.std.proofs.Common.{◌≡◌, ◌+◌, length, refl, arith}
+use Rattle.std.proofs.Common.{◌≡◌, ◌+◌, refl, arith}
 use Rattle.cycle_engine.specs.declared.engine.Engine.{Engine}
-use Rattle.cycle_engine.specs.private.Trials.{dated_of, IsBegun, IsEngine}
 use Rattle.cycle_engine.specs.private.Goings.{all_made}
 use Rattle.cycle_engine.proofs.StartLemmas.{begun_ready, begun_going}
 use Rattle.cycle_engine.proofs.engine.Engine.begin.Goals as goal

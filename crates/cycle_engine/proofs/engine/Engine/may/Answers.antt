@@ -1,4 +1,4 @@
-use Rattle.std.proofs.Common.{◌≡◌, ◌∙◌, Some, true, false, sym, ap, refl}
+use Rattle.std.proofs.Common.{◌∙◌, Some, sym, ap, refl}
 use Rattle.std.proofs.lemmas.Bool.{false≢true}
 use Rattle.net_core.specs.Plans.{planned}
 use Rattle.net_core.specs.States.{own_at, array_at, IsPlanOf}
