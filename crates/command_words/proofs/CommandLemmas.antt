@@ -1,6 +1,6 @@
 -- Words spell one command at most.
-use Rattle.std.proofs.Common.{◌≡◌, ◌≤◌, ℕ, List, [], ◌∷◌, refl, sym, ◌∙◌, ap, subst}
-use Rattle.std.specs.Prelude.{Bool, true, false, Option, Some, None, find}
+use Rattle.std.proofs.Common.{◌≡◌, ℕ, List, [], ◌∷◌, refl, sym, ◌∙◌, ap, subst}
+use Rattle.std.specs.Prelude.{Bool, Option, Some, None, find}
 use Rattle.std.specs.Str.{bytes_eq}
 use Rattle.command_words.specs.declared.verb.Verb.{Verb}
 use Rattle.command_words.specs.declared.verb.Verb.TheVariants.{Compile, Go, Run, Replay, Bench, Upgrade, Ref, Save, Resume}
@@ -9,11 +9,11 @@ use Rattle.command_words.specs.declared.choice.ValueKind.{ValueKind}
 use Rattle.command_words.specs.declared.choice.ValueKind.TheVariants.{Flag, Number, Delays}
 use Rattle.command_words.specs.declared.command.Chosen.{Chosen}
 use Rattle.command_words.specs.Tables.{Text, verb_word, kind_of}
-use Rattle.command_words.specs.Values.{IsNumeral, IsNumber, AreDelays}
+use Rattle.command_words.specs.Values.{IsNumber, AreDelays}
 use Rattle.command_words.specs.Items.{Item, AreWritten, given}
 use Rattle.command_words.specs.Commands.{Asked, IsValue, IsFlag, AreChosen, ItemsSpell, Command}
 use Rattle.command_words.proofs.Fronts.{written_once}
-use Rattle.command_words.proofs.ItemLemmas.{no_delays}
+use Rattle.command_words.proofs.DelayLemmas.{delays_once}
 
 abbrev verb_named : Text → Option Verb
 verb_named w = find (λ v. bytes_eq (verb_word v) w) (Compile ∷ Go ∷ Run ∷ Replay ∷ Bench ∷ Upgrade ∷ Ref ∷ Save ∷ Resume ∷ [])
@@ -47,12 +47,6 @@ value_once Reads one (t ∷ []) (Some v) None x y = absurd y
 value_once Reads one (t ∷ []) (Some v) (Some w) x y = ap Some (one t v w x y)
 value_once Reads one (t ∷ u ∷ ts) a b x y = absurd x
 
--- an option that is not used has no value
-unused : {V : Type 0} (Reads : Text → V → Type 0) → (ts : List Text) (a : Option V) → ts ≡ [] → IsValue Reads ts a → a ≡ None
-unused Reads [] None e x = refl
-unused Reads [] (Some v) e x = absurd x
-unused Reads (t ∷ ts) a e x = cc
-
 flag_once : (ts : List Text) (a b : Bool) → IsFlag ts a → IsFlag ts b → a ≡ b
 flag_once [] a b x y = x ∙ sym y
 flag_once (t ∷ []) a b x y = x ∙ sym y
@@ -74,9 +68,9 @@ same_chosen a b delay slots workers limit turns at count cycles log forward wrap
     ∙ ap (λ x. record b { forward = x; wrap = a.wrap }) forward
     ∙ ap (λ x. record b { wrap = x }) wrap
 
-pub chosen_once : (is : List Item) (a b : Chosen) → given Delay is ≡ [] → AreChosen is a → AreChosen is b → a ≡ b
-chosen_once is a b none x y =
-    let delay : a.delay ≡ b.delay = unused AreDelays (given Delay is) a.delay none x.delay ∙ sym (unused AreDelays (given Delay is) b.delay none y.delay) in
+pub chosen_once : (is : List Item) (a b : Chosen) → AreChosen is a → AreChosen is b → a ≡ b
+chosen_once is a b x y =
+    let delay : a.delay ≡ b.delay = value_once AreDelays delays_once (given Delay is) a.delay b.delay x.delay y.delay in
     let slots : a.slots ≡ b.slots = value_once _ (number_once (kind_of Slots)) (given Slots is) a.slots b.slots x.slots y.slots in
     let workers : a.workers ≡ b.workers = value_once _ (number_once (kind_of Workers)) (given Workers is) a.workers b.workers x.workers y.workers in
     let limit : a.limit ≡ b.limit = value_once _ (number_once (kind_of Limit)) (given Limit is) a.limit b.limit x.limit y.limit in
@@ -111,5 +105,5 @@ pub command_once : (ws : List Text) (c d : Asked) → Command ws c → Command w
 command_once ws c d x y =
     let read = read_of ws y.rest (verb_word d.verb) d.verb y.items c y.first (λ v e. one_verb v d.verb e) y.written x in
     let plain : c.plain ≡ d.plain = sym read.spelled.words ∙ y.spelled.words in
-    let chosen : c.chosen ≡ d.chosen = chosen_once y.items c.chosen d.chosen (no_delays d.verb y.items y.rest y.written) read.spelled.chosen y.spelled.chosen in
+    let chosen : c.chosen ≡ d.chosen = chosen_once y.items c.chosen d.chosen read.spelled.chosen y.spelled.chosen in
     same_asked c d read.same plain chosen

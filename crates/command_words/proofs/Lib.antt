@@ -1,4 +1,5 @@
 pub mod CommandLemmas
+pub mod DelayLemmas
 pub mod Fronts
 pub mod ItemLemmas
 pub mod Moves

@@ -1,5 +1,5 @@
 -- The words after a command: plain words and uses of its options.
-use Rattle.std.specs.Prelude.{◌≡◌, ◌≢◌, ◌⊎◌, ℕ, List, [], ◌∷◌, ◌++◌, map, IsTrue, if◌then◌else◌}
+use Rattle.std.specs.Prelude.{◌≡◌, ◌≢◌, ◌⊎◌, List, [], ◌∷◌, ◌++◌, map, IsTrue, if◌then◌else◌}
 use Rattle.command_words.specs.declared.verb.Verb.{Verb}
 use Rattle.command_words.specs.declared.choice.Choice.{Choice}
 use Rattle.command_words.specs.declared.choice.ValueKind.TheVariants.{Flag}

@@ -1,8 +1,10 @@
 -- How words are read one by one. Only private contracts cite these.
-use Rattle.std.specs.Prelude.{◌≡◌, ◌≢◌, ◌≤◌, ℕ, List, [], ◌∷◌, ◌++◌, map, length, Option, Some, None, IsTrue}
+use Rattle.std.specs.Prelude.{◌≡◌, ◌≢◌, ◌≤◌, ◌==◌, List, [], ◌∷◌, ◌++◌, map, length, Option, Some, None}
+use Rattle.std.specs.List.{AllZip, slice_split}
+use Rattle.el_base.specs.Limits.{max_delay}
 use Rattle.command_words.specs.declared.verb.Verb.{Verb}
 use Rattle.command_words.specs.declared.choice.Choice.{Choice}
-use Rattle.command_words.specs.declared.choice.ValueKind.TheVariants.{Flag}
+use Rattle.command_words.specs.declared.command.Chosen.{Chosen}
 use Rattle.command_words.specs.declared.items.Written.{Written}
 use Rattle.command_words.specs.declared.items.WordSort.{WordSort}
 use Rattle.command_words.specs.declared.items.WordSort.TheVariants as sort
@@ -10,7 +12,9 @@ use Rattle.command_words.specs.declared.items.State.{State}
 use Rattle.command_words.specs.declared.items.State.TheVariants as state
 use Rattle.command_words.specs.declared.values.Given.{Given}
 use Rattle.command_words.specs.declared.values.Given.TheVariants as given
-use Rattle.command_words.specs.Tables.{Text, choice_word, kind_of, is_own}
+use Rattle.command_words.specs.declared.choice.ClassDelay.{ClassDelay}
+use Rattle.command_words.specs.Tables.{Text, choice_word, class_word, least_delay}
+use Rattle.command_words.specs.Values.{IsNumeral, AreApart}
 use Rattle.command_words.specs.Items.{Item, plain, option, IsPlain, end_word, AreWritten, item_of}
 
 -- a word that is no use of this option
@@ -73,3 +77,29 @@ abbrev pub IsGiven : List Text → Given → Type 0
 IsGiven texts given.Nothing = texts ≡ []
 IsGiven texts (given.Once v) = texts ≡ v.now ∷ []
 IsGiven texts given.Again = 2 ≤ length texts
+
+-- ---- the delays of a LIST
+
+-- the texts between the commas (44)
+abbrev pub parts : Text → List Text
+parts text = slice_split (λ b. b == 44) text
+
+-- one delay, with its number in its range
+pub record IsDelay (part : Text) (d : ClassDelay) : Type 0 where
+  pub digits : Text
+  pub number : IsNumeral digits d.cycles
+  pub spelled : part ≡ class_word d.class ++ (61 ∷ digits)
+  pub least : least_delay d.class ≤ d.cycles
+  pub most : d.cycles ≤ max_delay
+
+-- a delay for each text
+abbrev pub AreEach : List Text → List ClassDelay → Type 0
+AreEach texts ds = AllZip IsDelay texts ds
+
+-- no two are of one class
+abbrev pub AreOfApart : List ClassDelay → Type 0
+AreOfApart ds = AreApart (map (λ (d : ClassDelay). d.class) ds)
+
+-- the same values with these delays
+abbrev pub with_delay : Option (List ClassDelay) → Chosen → Chosen
+with_delay delay c = record c { delay = delay }

@@ -2,7 +2,7 @@
 use Rattle.std.specs.Prelude.{ℕ, Bool, true, false, ◌&&◌, List, [], ◌∷◌, codes}
 use Rattle.std.specs.List.{list_any}
 use Rattle.std.specs.Str.{bytes_eq}
-use Rattle.el_base.specs.Limits.{max_kernel_bytes, max_inputs_bytes, max_netlist_bytes, max_schedule_bytes, max_delay, max_slots, max_workers, max_firings}
+use Rattle.el_base.specs.Limits.{max_kernel_bytes, max_inputs_bytes, max_netlist_bytes, max_schedule_bytes, max_slots, max_workers, max_firings}
 use Rattle.command_words.specs.declared.verb.Verb.{Verb}
 use Rattle.command_words.specs.declared.verb.Verb.TheVariants.{Compile, Go, Run, Replay, Bench, Upgrade, Ref, Save, Resume}
 use Rattle.command_words.specs.declared.verb.PlainKind.{PlainKind}
@@ -26,7 +26,7 @@ is_built Run = true
 is_built Replay = true
 is_built Bench = false
 is_built Upgrade = true
-is_built Ref = false
+is_built Ref = true
 is_built Save = false
 is_built Resume = false
 
@@ -37,7 +37,7 @@ built_choices Run = Limit ∷ Count ∷ Log ∷ []
 built_choices Replay = []
 built_choices Bench = []
 built_choices Upgrade = []
-built_choices Ref = []
+built_choices Ref = Wrap ∷ Turns ∷ Count ∷ []
 built_choices Save = []
 built_choices Resume = []
 

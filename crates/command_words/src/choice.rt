@@ -1,7 +1,7 @@
 //! The options.
 ghost use Rattle.std.specs.Prelude.{◌≡◌, ℕ, List, ◌++◌, ◌∷◌, Some, IfSome, IsNone};
 ghost use Rattle.command_words.specs.declared.choice.Choice.{Choice};
-ghost use Rattle.command_words.specs.Tables.{choice_word, kind_of, choices_of, built_choices, is_in, is_own};
+ghost use Rattle.command_words.specs.Tables.{choice_word, kind_of, choices_of, built_choices, is_in, is_own, class_word, least_delay};
 
 use crate::verb::Verb;
 use el_base::{MAX_FIRINGS, MAX_SLOTS, MAX_WORKERS};
@@ -41,6 +41,40 @@ pub enum Class {
     Div,
     Read,
     Lsq,
+}
+
+/// All classes.
+pub const CLASSES: [Class; 5] = [
+    Class::Logic,
+    Class::Mul,
+    Class::Div,
+    Class::Read,
+    Class::Lsq,
+];
+
+impl Class {
+    /// The word of the class.
+    pub fn word(self) -> &'static str
+        ensures { result.now ≡ class_word self }
+    {
+        match self {
+            Class::Logic => "logic",
+            Class::Mul => "mul",
+            Class::Div => "div",
+            Class::Read => "read",
+            Class::Lsq => "lsq",
+        }
+    }
+
+    /// The least delay that it may have, in cycles.
+    pub fn least_delay(self) -> u64
+        ensures { result ≡ least_delay self }
+    {
+        match self {
+            Class::Logic | Class::Mul | Class::Div | Class::Read => 0,
+            Class::Lsq => 1,
+        }
+    }
 }
 
 /// The delay of a class, in cycles.
@@ -153,7 +187,8 @@ pub fn built_choices(verb: Verb) -> &'static [Choice]
 {
     match verb {
         Verb::Run => &[Choice::Limit, Choice::Count, Choice::Log],
+        Verb::Ref => &[Choice::Wrap, Choice::Turns, Choice::Count],
         Verb::Compile | Verb::Go | Verb::Replay | Verb::Bench => &[],
-        Verb::Upgrade | Verb::Ref | Verb::Save | Verb::Resume => &[],
+        Verb::Upgrade | Verb::Save | Verb::Resume => &[],
     }
 }

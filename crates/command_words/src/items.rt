@@ -208,8 +208,8 @@ fn use_of(word: &str, choice: Choice) -> Option<WordSort<'_>>
     }
 }
 
-// The value of `--x=v`, where the word is this option with a value.
-fn value_after<'a>(word: &'a str, name: &str) -> Option<&'a str>
+/// The value of `--x=v`, where the word is this option with a value.
+pub(crate) fn value_after<'a>(word: &'a str, name: &str) -> Option<&'a str>
     ensures some { IfSome result (λ v. word.entry.now ≡ name.now ++ (61 ∷ v.now)) }
     ensures none { IsNone result → (v : Text) → word.entry.now ≡ name.now ++ (61 ∷ v) → ⊥ }
 {

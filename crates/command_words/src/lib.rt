@@ -3,6 +3,7 @@
 
 mod choice;
 mod command;
+mod delays;
 mod items;
 mod laws;
 mod reading;
@@ -12,7 +13,8 @@ mod values;
 mod verb;
 
 pub use choice::{
-    CHOICES, Choice, Class, ClassDelay, MAX_SHARED_FIRINGS, ValueKind, built_choices, choices,
+    CHOICES, CLASSES, Choice, Class, ClassDelay, MAX_SHARED_FIRINGS, ValueKind, built_choices,
+    choices,
 };
 pub use command::{Chosen, Command};
 pub use laws::words_spell_one_command;

@@ -1,15 +1,18 @@
 //! Reading the words as a command.
-ghost use Rattle.std.specs.Prelude.{◌≡◌, ◌++◌, ◌∷◌, [], List, IfOk, IfSome, IsNone, IsTrue, OnOk};
+ghost use Rattle.std.specs.Prelude.{◌≡◌, ◌++◌, ◌∷◌, [], List, Option, IfOk, IfSome, IsNone, IsTrue, OnOk};
 ghost use Rattle.command_words.specs.Items.{given, items_of, item_of, plain_words};
-ghost use Rattle.command_words.specs.Commands.{Asked, AreChosen, ArePlain, GoTogether, IsPlainWord, ItemsSpell, asked, texts, word_texts};
+ghost use Rattle.command_words.specs.Commands.{Asked, AreChosen, ArePlain, GoTogether, IsPlainWord, IsValue, ItemsSpell, asked, texts, word_texts};
 ghost use Rattle.command_words.specs.Commands as commands;
 ghost use Rattle.command_words.specs.declared.command.Chosen.{Chosen};
 ghost use Rattle.command_words.specs.declared.choice.Choice.TheVariants.{Delay};
+ghost use Rattle.command_words.specs.declared.choice.ClassDelay.{ClassDelay};
+ghost use Rattle.command_words.specs.Values.{AreDelays};
+ghost use Rattle.command_words.specs.Steps.{with_delay};
 
 use crate::choice::{Choice, MAX_SHARED_FIRINGS};
 use crate::command::{Chosen, Command};
 use crate::items::{Written, item_at, read_items};
-use crate::values::{flag, number, numeral};
+use crate::values::{delays, flag, number, numeral};
 use crate::verb::{PlainKind, Verb};
 use el_base::Memory;
 use std::alloc::Global;
@@ -42,7 +45,6 @@ fn command_of<'a>(
     verb: Verb,
     items: &[Written<'a>],
 ) -> Result<Option<Command<'a>>, Memory>
-    requires { given Delay (items_of items.now) ≡ [] }
     ensures some { IfOk result (λ r. IfSome r (λ c.
         (c.verb ≡ verb) × ItemsSpell (items_of items.now) (asked c))) }
     ensures none { IfOk result (λ r. IsNone r → (c : Asked) → c.verb ≡ verb
@@ -52,7 +54,7 @@ fn command_of<'a>(
     if !are_plain(verb.plain(), plain.as_slice()) {
         return Ok(None);
     }
-    let Some(chosen) = values(items) else {
+    let Some(chosen) = values(alloc, items)? else {
         return Ok(None);
     };
     if !go_together(&chosen) {
@@ -115,9 +117,25 @@ fn is_plain_word(kind: PlainKind, word: &str) -> bool
 }
 
 // The values of the options; `None` where an option is used twice, or its value is none that it takes.
-fn values(items: &[Written<'_>]) -> Option<Chosen>
-    requires { given Delay (items_of items.now) ≡ [] }
-    ensures some { IfSome result (AreChosen (items_of items.now)) }
+fn values(alloc: Global, items: &[Written<'_>]) -> Result<Option<Chosen>, Memory>
+    ensures some { IfOk result (λ r. IfSome r (AreChosen (items_of items.now))) }
+    ensures none { IfOk result (λ r. IsNone r → (c : Chosen)
+        → AreChosen (items_of items.now) c → ⊥) }
+{
+    let Some(delay) = delays(alloc, items)? else {
+        return Ok(None);
+    };
+    let Some(chosen) = others(items) else {
+        return Ok(None);
+    };
+    Ok(Some(Chosen { delay, ..chosen }))
+}
+
+// The same of the options but `--delay`, which has no value in the answer.
+fn others(items: &[Written<'_>]) -> Option<Chosen>
+    ensures some { IfSome result (λ c. (d : Option (List ClassDelay))
+        → IsValue AreDelays (given Delay (items_of items.now)) d
+        → AreChosen (items_of items.now) (with_delay d c)) }
     ensures none { IsNone result → (c : Chosen) → AreChosen (items_of items.now) c → ⊥ }
 {
     let slots = number(items, Choice::Slots)?;

@@ -1,13 +1,18 @@
 //! The values of options among items.
-ghost use Rattle.std.specs.Prelude.{◌≡◌, ◌<◌, ◌≤◌, ◌^◌, ◌++◌, ◌∷◌, [], ℕ, Bool, List, Option, IfSome, IsNone};
+ghost use Rattle.std.specs.Prelude.{◌≡◌, ◌<◌, ◌≤◌, ◌^◌, ◌++◌, ◌∷◌, [], ℕ, Bool, List, Option, IfOk, IfSome, IsNone};
+ghost use Rattle.command_words.specs.declared.choice.ClassDelay.{ClassDelay};
+ghost use Rattle.command_words.specs.declared.choice.Choice.TheVariants.{Delay};
 ghost use Rattle.command_words.specs.Tables.{Text, is_choice, kind_of};
-ghost use Rattle.command_words.specs.Values.{IsNumeral, IsNumber};
+ghost use Rattle.command_words.specs.Values.{IsNumeral, IsNumber, AreDelays};
 ghost use Rattle.command_words.specs.Items.{given, item_of, items_of};
 ghost use Rattle.command_words.specs.Steps.{IsGiven};
 ghost use Rattle.command_words.specs.Commands.{IsValue, IsFlag};
 
-use crate::choice::{Choice, ValueKind};
+use crate::choice::{Choice, ClassDelay, ValueKind};
+use crate::delays::read_delays;
 use crate::items::{Written, item_at};
+use el_base::{List, Memory};
+use std::alloc::Global;
 
 // How often a value is given to an option.
 #[derive(Clone, Copy)]
@@ -32,6 +37,27 @@ pub(crate) fn number(items: &[Written<'_>], choice: Choice) -> Option<Option<u64
             None => None,
         },
         Given::Again => None,
+    }
+}
+
+/// The delays of `--delay`, `None` inside where it is not used; `None` where it is used twice or its value is no list of
+/// delays.
+pub(crate) fn delays(
+    alloc: Global,
+    items: &[Written<'_>],
+) -> Result<Option<Option<List<ClassDelay>>>, Memory>
+    ensures some { IfOk result (λ r. IfSome r
+        (IsValue AreDelays (given Delay (items_of items.now)))) }
+    ensures none { IfOk result (λ r. IsNone r → (value : Option (List ClassDelay))
+        → IsValue AreDelays (given Delay (items_of items.now)) value → ⊥) }
+{
+    match values_of(items, Choice::Delay) {
+        Given::Nothing => Ok(Some(None)),
+        Given::Once(text) => match read_delays(alloc, text)? {
+            Some(delays) => Ok(Some(Some(delays))),
+            None => Ok(None),
+        },
+        Given::Again => Ok(None),
     }
 }
 
@@ -88,7 +114,8 @@ fn number_of(kind: ValueKind, text: &str) -> Option<u64>
     }
 }
 
-fn number_within(low: u64, high: u64, text: &str) -> Option<u64>
+/// The number from `low` to `high` that the text spells.
+pub(crate) fn number_within(low: u64, high: u64, text: &str) -> Option<u64>
     ensures some { IfSome result (λ n. IsNumeral text.now n × (low ≤ n) × (n ≤ high)) }
     ensures none { IsNone result → (n : ℕ) → IsNumeral text.now n → low ≤ n → n ≤ high → ⊥ }
 {

@@ -17,13 +17,14 @@ use Rattle.elastic_top.specs.Causes.{IsCauseOf, IsOwn, Unread, Writes, RefusesWi
 use Rattle.elastic_top.specs.declared.fault.Fault.{Fault}
 use Rattle.elastic_top.specs.declared.fault.Fault.TheVariants.{Usage, Read, Write, Memory, TooLong, Refused}
 use Rattle.elastic_top.specs.declared.fault.Refusal.{Refusal}
-use Rattle.elastic_top.specs.declared.fault.Refusal.TheVariants.{StraightKernel, StraightInputs, NetText, NetRule, Inputs, Schedule, NotEnabled, Limit, Stuck, Stray}
+use Rattle.elastic_top.specs.declared.fault.Refusal.TheVariants.{StraightKernel, StraightInputs, Kernel, NetText, NetRule, Inputs, Schedule, NotEnabled, Limit, Stuck, Stray, Undefined, OutOfTurns}
 
 -- a command's own refusals have its statuses
 own : (v : Verb) (plain : List Text) (chosen : Chosen) (contents : List Text) (r : Refusal) → AnswersBy v plain chosen contents (Err r) → Contains (statuses_of v) (refusal_code r)
 own Compile plain chosen contents r a = absurd a
 own Go plain chosen contents (StraightKernel f) a = (3, omega arith, refl)
 own Go plain chosen contents (StraightInputs f) a = (4, omega arith, refl)
+own Go plain chosen contents (Kernel f x) a = absurd a
 own Go plain chosen contents (NetText f x) a = absurd a
 own Go plain chosen contents (NetRule f x) a = absurd a
 own Go plain chosen contents (Inputs f x) a = absurd a
@@ -32,8 +33,11 @@ own Go plain chosen contents (NotEnabled f i) a = absurd a
 own Go plain chosen contents (Limit n) a = absurd a
 own Go plain chosen contents Stuck a = absurd a
 own Go plain chosen contents (Stray name) a = absurd a
+own Go plain chosen contents (Undefined f place) a = absurd a
+own Go plain chosen contents (OutOfTurns n) a = absurd a
 own Run plain chosen contents (StraightKernel f) a = absurd a
 own Run plain chosen contents (StraightInputs f) a = absurd a
+own Run plain chosen contents (Kernel f x) a = absurd a
 own Run plain chosen contents (NetText f x) a = (3, omega arith, refl)
 own Run plain chosen contents (NetRule f x) a = (3, omega arith, refl)
 own Run plain chosen contents (Inputs f x) a = (4, omega arith, refl)
@@ -42,8 +46,11 @@ own Run plain chosen contents (NotEnabled f i) a = absurd a
 own Run plain chosen contents (Limit n) a = (5, omega arith, refl)
 own Run plain chosen contents Stuck a = (6, omega arith, refl)
 own Run plain chosen contents (Stray name) a = (7, omega arith, refl)
+own Run plain chosen contents (Undefined f place) a = absurd a
+own Run plain chosen contents (OutOfTurns n) a = absurd a
 own Replay plain chosen contents (StraightKernel f) a = absurd a
 own Replay plain chosen contents (StraightInputs f) a = absurd a
+own Replay plain chosen contents (Kernel f x) a = absurd a
 own Replay plain chosen contents (NetText f x) a = (3, omega arith, refl)
 own Replay plain chosen contents (NetRule f x) a = (3, omega arith, refl)
 own Replay plain chosen contents (Inputs f x) a = (4, omega arith, refl)
@@ -52,9 +59,12 @@ own Replay plain chosen contents (NotEnabled f i) a = (5, omega arith, refl)
 own Replay plain chosen contents (Limit n) a = absurd a
 own Replay plain chosen contents Stuck a = (6, omega arith, refl)
 own Replay plain chosen contents (Stray name) a = (7, omega arith, refl)
+own Replay plain chosen contents (Undefined f place) a = absurd a
+own Replay plain chosen contents (OutOfTurns n) a = absurd a
 own Bench plain chosen contents r a = absurd a
 own Upgrade plain chosen contents (StraightKernel f) a = absurd a
 own Upgrade plain chosen contents (StraightInputs f) a = absurd a
+own Upgrade plain chosen contents (Kernel f x) a = absurd a
 own Upgrade plain chosen contents (NetText f x) a = (3, omega arith, refl)
 own Upgrade plain chosen contents (NetRule f x) a = (3, omega arith, refl)
 own Upgrade plain chosen contents (Inputs f x) a = absurd a
@@ -63,7 +73,21 @@ own Upgrade plain chosen contents (NotEnabled f i) a = absurd a
 own Upgrade plain chosen contents (Limit n) a = absurd a
 own Upgrade plain chosen contents Stuck a = absurd a
 own Upgrade plain chosen contents (Stray name) a = absurd a
-own Ref plain chosen contents r a = absurd a
+own Upgrade plain chosen contents (Undefined f place) a = absurd a
+own Upgrade plain chosen contents (OutOfTurns n) a = absurd a
+own Ref plain chosen contents (StraightKernel f) a = absurd a
+own Ref plain chosen contents (StraightInputs f) a = absurd a
+own Ref plain chosen contents (Kernel f x) a = (3, omega arith, refl)
+own Ref plain chosen contents (NetText f x) a = absurd a
+own Ref plain chosen contents (NetRule f x) a = absurd a
+own Ref plain chosen contents (Inputs f x) a = (4, omega arith, refl)
+own Ref plain chosen contents (Schedule f x) a = absurd a
+own Ref plain chosen contents (NotEnabled f i) a = absurd a
+own Ref plain chosen contents (Limit n) a = absurd a
+own Ref plain chosen contents Stuck a = absurd a
+own Ref plain chosen contents (Stray name) a = absurd a
+own Ref plain chosen contents (Undefined f place) a = (7, omega arith, refl)
+own Ref plain chosen contents (OutOfTurns n) a = (8, omega arith, refl)
 own Save plain chosen contents r a = absurd a
 own Resume plain chosen contents r a = absurd a
 
@@ -71,6 +95,7 @@ own Resume plain chosen contents r a = absurd a
 refusal_status : (r : Refusal) → Contains statuses (refusal_code r)
 refusal_status (StraightKernel f) = (4, omega arith, refl)
 refusal_status (StraightInputs f) = (6, omega arith, refl)
+refusal_status (Kernel f x) = (4, omega arith, refl)
 refusal_status (NetText f x) = (5, omega arith, refl)
 refusal_status (NetRule f x) = (5, omega arith, refl)
 refusal_status (Inputs f x) = (6, omega arith, refl)
@@ -79,6 +104,8 @@ refusal_status (NotEnabled f i) = (7, omega arith, refl)
 refusal_status (Limit n) = (8, omega arith, refl)
 refusal_status Stuck = (9, omega arith, refl)
 refusal_status (Stray name) = (10, omega arith, refl)
+refusal_status (Undefined f place) = (13, omega arith, refl)
+refusal_status (OutOfTurns n) = (14, omega arith, refl)
 
 pub any_status : (f : Fault) → Contains statuses (fault_code f)
 any_status Usage = (1, omega arith, refl)
@@ -99,6 +126,7 @@ record IsInside (code : ℕ) : Type 0 where
 inside : (r : Refusal) → IsInside (refusal_code r)
 inside (StraightKernel f) = record { spelled = λ e. absurd (omega (arith, e)); unread = λ e. absurd (omega (arith, e)); unwritten = λ e. absurd (omega (arith, e)); memory = λ e. absurd (omega (arith, e)); long = λ e. absurd (omega (arith, e)) }
 inside (StraightInputs f) = record { spelled = λ e. absurd (omega (arith, e)); unread = λ e. absurd (omega (arith, e)); unwritten = λ e. absurd (omega (arith, e)); memory = λ e. absurd (omega (arith, e)); long = λ e. absurd (omega (arith, e)) }
+inside (Kernel f x) = record { spelled = λ e. absurd (omega (arith, e)); unread = λ e. absurd (omega (arith, e)); unwritten = λ e. absurd (omega (arith, e)); memory = λ e. absurd (omega (arith, e)); long = λ e. absurd (omega (arith, e)) }
 inside (NetText f x) = record { spelled = λ e. absurd (omega (arith, e)); unread = λ e. absurd (omega (arith, e)); unwritten = λ e. absurd (omega (arith, e)); memory = λ e. absurd (omega (arith, e)); long = λ e. absurd (omega (arith, e)) }
 inside (NetRule f x) = record { spelled = λ e. absurd (omega (arith, e)); unread = λ e. absurd (omega (arith, e)); unwritten = λ e. absurd (omega (arith, e)); memory = λ e. absurd (omega (arith, e)); long = λ e. absurd (omega (arith, e)) }
 inside (Inputs f x) = record { spelled = λ e. absurd (omega (arith, e)); unread = λ e. absurd (omega (arith, e)); unwritten = λ e. absurd (omega (arith, e)); memory = λ e. absurd (omega (arith, e)); long = λ e. absurd (omega (arith, e)) }
@@ -107,6 +135,8 @@ inside (NotEnabled f i) = record { spelled = λ e. absurd (omega (arith, e)); un
 inside (Limit n) = record { spelled = λ e. absurd (omega (arith, e)); unread = λ e. absurd (omega (arith, e)); unwritten = λ e. absurd (omega (arith, e)); memory = λ e. absurd (omega (arith, e)); long = λ e. absurd (omega (arith, e)) }
 inside Stuck = record { spelled = λ e. absurd (omega (arith, e)); unread = λ e. absurd (omega (arith, e)); unwritten = λ e. absurd (omega (arith, e)); memory = λ e. absurd (omega (arith, e)); long = λ e. absurd (omega (arith, e)) }
 inside (Stray name) = record { spelled = λ e. absurd (omega (arith, e)); unread = λ e. absurd (omega (arith, e)); unwritten = λ e. absurd (omega (arith, e)); memory = λ e. absurd (omega (arith, e)); long = λ e. absurd (omega (arith, e)) }
+inside (Undefined f place) = record { spelled = λ e. absurd (omega (arith, e)); unread = λ e. absurd (omega (arith, e)); unwritten = λ e. absurd (omega (arith, e)); memory = λ e. absurd (omega (arith, e)); long = λ e. absurd (omega (arith, e)) }
+inside (OutOfTurns n) = record { spelled = λ e. absurd (omega (arith, e)); unread = λ e. absurd (omega (arith, e)); unwritten = λ e. absurd (omega (arith, e)); memory = λ e. absurd (omega (arith, e)); long = λ e. absurd (omega (arith, e)) }
 
 -- those of the outside stand in the list of each command that is built
 pub record HasOutside (list : List ℕ) : Type 0 where
@@ -123,7 +153,7 @@ outside Run b = record { done = (0, omega arith, refl); unread = (1, omega arith
 outside Replay b = record { done = (0, omega arith, refl); unread = (1, omega arith, refl); unwritten = (2, omega arith, refl); memory = (8, omega arith, refl); long = (9, omega arith, refl) }
 outside Bench b = absurd (false≢true b)
 outside Upgrade b = record { done = (0, omega arith, refl); unread = (1, omega arith, refl); unwritten = (2, omega arith, refl); memory = (4, omega arith, refl); long = (5, omega arith, refl) }
-outside Ref b = absurd (false≢true b)
+outside Ref b = record { done = (0, omega arith, refl); unread = (1, omega arith, refl); unwritten = (2, omega arith, refl); memory = (5, omega arith, refl); long = (6, omega arith, refl) }
 outside Save b = absurd (false≢true b)
 outside Resume b = absurd (false≢true b)
 

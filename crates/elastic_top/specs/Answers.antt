@@ -1,5 +1,5 @@
 -- What each command answers for the contents of its files.
-use Rattle.std.specs.Prelude.{◌≡◌, ◌≢◌, ◌≤◌, ℕ, List, [], get_or, Option, Some, None, Result, Ok, Err}
+use Rattle.std.specs.Prelude.{◌≡◌, ◌≢◌, ◌≤◌, ℕ, List, [], get_or, Bool, true, false, Option, Some, None, Result, Ok, Err}
 use Rattle.net_types.specs.declared.net.Net.{Net}
 use Rattle.net_text.specs.declared.refusal.TextRefusal.{TextRefusal}
 use Rattle.net_text.specs.declared.refusal.TextRefusal.TheVariants as text
@@ -21,10 +21,21 @@ use Rattle.net_runs.specs.declared.options.TheConstants.{DEFAULT_FIRINGS}
 use Rattle.net_runs.specs.declared.refusal.RunRefusal.TheVariants as run
 use Rattle.net_runs.specs.Runs.{Runs}
 use Rattle.net_runs.specs.Replays.{Replays}
+use Rattle.c_ast.specs.declared.typed.Typed.{Typed}
+use Rattle.c_meaning.specs.declared.profile.Profile.{Profile}
+use Rattle.c_meaning.specs.declared.profile.Profile.TheVariants.{Plain, Wrap}
+use Rattle.kernel_front.specs.declared.reading.Kernel.{Kernel as ReadKernel}
+use Rattle.kernel_front.specs.declared.refusal.KernelRefusal.{KernelRefusal}
+use Rattle.kernel_front.specs.declared.refusal.KernelRefusal.TheVariants as front
+use Rattle.kernel_front.specs.Answers.{IsKernel, IsLexed, IsParsed, IsTyped}
+use Rattle.kernel_ref.specs.declared.options.InterpretOptions.{InterpretOptions}
+use Rattle.kernel_ref.specs.declared.options.TheConstants.{DEFAULT_TURNS}
+use Rattle.kernel_ref.specs.declared.refusal.InterpretRefusal.TheVariants as interpret
+use Rattle.kernel_ref.specs.Answers.{Interprets}
 use Rattle.elastic_top.specs.declared.fault.Fault.{Fault}
 use Rattle.elastic_top.specs.declared.fault.Fault.TheVariants.{Usage, Read, Write, Memory, TooLong, Refused}
 use Rattle.elastic_top.specs.declared.fault.Refusal.{Refusal}
-use Rattle.elastic_top.specs.declared.fault.Refusal.TheVariants.{StraightKernel, StraightInputs, NetText, NetRule, Inputs, Schedule, NotEnabled, Limit, Stuck, Stray}
+use Rattle.elastic_top.specs.declared.fault.Refusal.TheVariants.{StraightKernel, StraightInputs, Kernel, NetText, NetRule, Inputs, Schedule, NotEnabled, Limit, Stuck, Stray, Undefined, OutOfTurns}
 
 -- ---- go: the net of the kernel, the line `%%` and the result
 
@@ -32,6 +43,7 @@ abbrev pub Goes : Text → Text → Text → Text → Result Text Refusal → Ty
 Goes kernel inputs kernel_bytes input_bytes (Ok text) = IsAnswer kernel_bytes input_bytes text
 Goes kernel inputs kernel_bytes input_bytes (Err (StraightKernel file)) = (file.now ≡ kernel) × SpellsNothing kernel_bytes
 Goes kernel inputs kernel_bytes input_bytes (Err (StraightInputs file)) = (file.now ≡ inputs) × SpellsNoInputs kernel_bytes input_bytes
+Goes kernel inputs kernel_bytes input_bytes (Err (Kernel f r)) = ⊥
 Goes kernel inputs kernel_bytes input_bytes (Err (NetText file r)) = ⊥
 Goes kernel inputs kernel_bytes input_bytes (Err (NetRule file r)) = ⊥
 Goes kernel inputs kernel_bytes input_bytes (Err (Inputs f r)) = ⊥
@@ -40,6 +52,8 @@ Goes kernel inputs kernel_bytes input_bytes (Err (NotEnabled f i)) = ⊥
 Goes kernel inputs kernel_bytes input_bytes (Err (Limit n)) = ⊥
 Goes kernel inputs kernel_bytes input_bytes (Err Stuck) = ⊥
 Goes kernel inputs kernel_bytes input_bytes (Err (Stray name)) = ⊥
+Goes kernel inputs kernel_bytes input_bytes (Err (Undefined f place)) = ⊥
+Goes kernel inputs kernel_bytes input_bytes (Err (OutOfTurns n)) = ⊥
 
 -- ---- upgrade: the text in version 2 of a checked net
 
@@ -68,6 +82,7 @@ IsNetFault file bytes Memory = Unit {0}
 IsNetFault file bytes (TooLong name) = ⊥
 IsNetFault file bytes (Refused (StraightKernel f)) = ⊥
 IsNetFault file bytes (Refused (StraightInputs f)) = ⊥
+IsNetFault file bytes (Refused (Kernel f r)) = ⊥
 IsNetFault file bytes (Refused (NetText f r)) = (f.now ≡ file) × IsNoNet bytes r
 IsNetFault file bytes (Refused (NetRule f r)) = (f.now ≡ file) × IsUnchecked bytes r
 IsNetFault file bytes (Refused (Inputs f r)) = ⊥
@@ -76,6 +91,8 @@ IsNetFault file bytes (Refused (NotEnabled f i)) = ⊥
 IsNetFault file bytes (Refused (Limit n)) = ⊥
 IsNetFault file bytes (Refused Stuck) = ⊥
 IsNetFault file bytes (Refused (Stray name)) = ⊥
+IsNetFault file bytes (Refused (Undefined f place)) = ⊥
+IsNetFault file bytes (Refused (OutOfTurns n)) = ⊥
 
 -- the bytes are the text of a checked net, and the text is its text in version 2
 pub record IsUpgraded (bytes upgraded : Text) : Type 0 where
@@ -88,6 +105,7 @@ abbrev pub Upgrades : Text → Text → Result Text Refusal → Type 0
 Upgrades file bytes (Ok text) = IsUpgraded bytes text
 Upgrades file bytes (Err (StraightKernel f)) = ⊥
 Upgrades file bytes (Err (StraightInputs f)) = ⊥
+Upgrades file bytes (Err (Kernel f r)) = ⊥
 Upgrades file bytes (Err (NetText f r)) = (f.now ≡ file) × IsNoNet bytes r
 Upgrades file bytes (Err (NetRule f r)) = (f.now ≡ file) × IsUnchecked bytes r
 Upgrades file bytes (Err (Inputs f r)) = ⊥
@@ -96,6 +114,8 @@ Upgrades file bytes (Err (NotEnabled f i)) = ⊥
 Upgrades file bytes (Err (Limit n)) = ⊥
 Upgrades file bytes (Err Stuck) = ⊥
 Upgrades file bytes (Err (Stray name)) = ⊥
+Upgrades file bytes (Err (Undefined f place)) = ⊥
+Upgrades file bytes (Err (OutOfTurns n)) = ⊥
 
 -- ---- run and replay: the answers for a checked net
 
@@ -122,6 +142,7 @@ abbrev pub RunsNet : Text → Text → RunOptions → Text → Text → Result T
 RunsNet netlist inputs o net_bytes input_bytes (Ok text) = OfNet net_bytes (λ net. Runs net input_bytes o (Ok text))
 RunsNet netlist inputs o net_bytes input_bytes (Err (StraightKernel f)) = ⊥
 RunsNet netlist inputs o net_bytes input_bytes (Err (StraightInputs f)) = ⊥
+RunsNet netlist inputs o net_bytes input_bytes (Err (Kernel f r)) = ⊥
 RunsNet netlist inputs o net_bytes input_bytes (Err (NetText f r)) = (f.now ≡ netlist) × IsNoNet net_bytes r
 RunsNet netlist inputs o net_bytes input_bytes (Err (NetRule f r)) = (f.now ≡ netlist) × IsUnchecked net_bytes r
 RunsNet netlist inputs o net_bytes input_bytes (Err (Inputs f r)) = (f.now ≡ inputs) × OfNet net_bytes (λ net. Runs net input_bytes o (Err (run.Inputs r)))
@@ -130,11 +151,14 @@ RunsNet netlist inputs o net_bytes input_bytes (Err (NotEnabled f i)) = ⊥
 RunsNet netlist inputs o net_bytes input_bytes (Err (Limit n)) = OfNet net_bytes (λ net. Runs net input_bytes o (Err (run.Limit n)))
 RunsNet netlist inputs o net_bytes input_bytes (Err Stuck) = OfNet net_bytes (λ net. Runs net input_bytes o (Err run.Stuck))
 RunsNet netlist inputs o net_bytes input_bytes (Err (Stray name)) = OfNet net_bytes (λ net. Runs net input_bytes o (Err (run.Stray name)))
+RunsNet netlist inputs o net_bytes input_bytes (Err (Undefined f place)) = ⊥
+RunsNet netlist inputs o net_bytes input_bytes (Err (OutOfTurns n)) = ⊥
 
 abbrev pub ReplaysNet : Text → Text → Text → Text → Text → Text → Result Text Refusal → Type 0
 ReplaysNet netlist inputs schedule net_bytes input_bytes bytes (Ok text) = OfNet net_bytes (λ net. Replays net input_bytes bytes (Ok text))
 ReplaysNet netlist inputs schedule net_bytes input_bytes bytes (Err (StraightKernel f)) = ⊥
 ReplaysNet netlist inputs schedule net_bytes input_bytes bytes (Err (StraightInputs f)) = ⊥
+ReplaysNet netlist inputs schedule net_bytes input_bytes bytes (Err (Kernel f r)) = ⊥
 ReplaysNet netlist inputs schedule net_bytes input_bytes bytes (Err (NetText f r)) = (f.now ≡ netlist) × IsNoNet net_bytes r
 ReplaysNet netlist inputs schedule net_bytes input_bytes bytes (Err (NetRule f r)) = (f.now ≡ netlist) × IsUnchecked net_bytes r
 ReplaysNet netlist inputs schedule net_bytes input_bytes bytes (Err (Inputs f r)) = (f.now ≡ inputs) × OfNet net_bytes (λ net. Replays net input_bytes bytes (Err (run.Inputs r)))
@@ -143,6 +167,72 @@ ReplaysNet netlist inputs schedule net_bytes input_bytes bytes (Err (NotEnabled 
 ReplaysNet netlist inputs schedule net_bytes input_bytes bytes (Err (Limit n)) = ⊥
 ReplaysNet netlist inputs schedule net_bytes input_bytes bytes (Err Stuck) = OfNet net_bytes (λ net. Replays net input_bytes bytes (Err run.Stuck))
 ReplaysNet netlist inputs schedule net_bytes input_bytes bytes (Err (Stray name)) = OfNet net_bytes (λ net. Replays net input_bytes bytes (Err (run.Stray name)))
+ReplaysNet netlist inputs schedule net_bytes input_bytes bytes (Err (Undefined f place)) = ⊥
+ReplaysNet netlist inputs schedule net_bytes input_bytes bytes (Err (OutOfTurns n)) = ⊥
+
+-- ---- ref: the results of the kernel, run by the plain interpreter
+
+abbrev pub profile_of : Bool → Profile
+profile_of true = Wrap
+profile_of false = Plain
+
+-- the number of turns that is asked for, or the usual one
+abbrev pub turns_or : Option ℕ → ℕ
+turns_or None = DEFAULT_TURNS
+turns_or (Some n) = n
+
+abbrev pub interpretation_of : Chosen → InterpretOptions
+interpretation_of c = record { profile = profile_of c.wrap; turns = turns_or c.turns; count = c.count }
+
+-- the bytes are a kernel, of whose typed tree that holds
+pub record OfKernel (bytes : Text) (Holds : Typed → Type 0) : Type 0 where
+  pub kernel : ReadKernel
+  pub read : IsKernel bytes kernel
+  pub holds : Holds kernel.typed
+
+-- the bytes are no kernel, as the refusal says
+abbrev pub IsNoKernel : Text → KernelRefusal → Type 0
+IsNoKernel bytes (front.Lex r) = IsLexed bytes r
+IsNoKernel bytes (front.Parse r) = IsParsed bytes r
+IsNoKernel bytes (front.Types r) = IsTyped bytes r
+IsNoKernel bytes front.Memory = ⊥
+
+-- a refusal of a kernel file, or want of memory
+abbrev pub IsKernelFault : Text → Text → Fault → Type 0
+IsKernelFault file bytes Usage = ⊥
+IsKernelFault file bytes (Read name) = ⊥
+IsKernelFault file bytes Write = ⊥
+IsKernelFault file bytes Memory = Unit {0}
+IsKernelFault file bytes (TooLong name) = ⊥
+IsKernelFault file bytes (Refused (StraightKernel f)) = ⊥
+IsKernelFault file bytes (Refused (StraightInputs f)) = ⊥
+IsKernelFault file bytes (Refused (Kernel f r)) = (f.now ≡ file) × IsNoKernel bytes r
+IsKernelFault file bytes (Refused (NetText f r)) = ⊥
+IsKernelFault file bytes (Refused (NetRule f r)) = ⊥
+IsKernelFault file bytes (Refused (Inputs f r)) = ⊥
+IsKernelFault file bytes (Refused (Schedule f r)) = ⊥
+IsKernelFault file bytes (Refused (NotEnabled f i)) = ⊥
+IsKernelFault file bytes (Refused (Limit n)) = ⊥
+IsKernelFault file bytes (Refused Stuck) = ⊥
+IsKernelFault file bytes (Refused (Stray name)) = ⊥
+IsKernelFault file bytes (Refused (Undefined f place)) = ⊥
+IsKernelFault file bytes (Refused (OutOfTurns n)) = ⊥
+
+abbrev pub InterpretsKernel : Text → Text → InterpretOptions → Text → Text → Result Text Refusal → Type 0
+InterpretsKernel kernel inputs o kernel_bytes input_bytes (Ok text) = OfKernel kernel_bytes (λ k. Interprets k input_bytes o (Ok text))
+InterpretsKernel kernel inputs o kernel_bytes input_bytes (Err (StraightKernel f)) = ⊥
+InterpretsKernel kernel inputs o kernel_bytes input_bytes (Err (StraightInputs f)) = ⊥
+InterpretsKernel kernel inputs o kernel_bytes input_bytes (Err (Kernel f r)) = (f.now ≡ kernel) × IsNoKernel kernel_bytes r
+InterpretsKernel kernel inputs o kernel_bytes input_bytes (Err (NetText f r)) = ⊥
+InterpretsKernel kernel inputs o kernel_bytes input_bytes (Err (NetRule f r)) = ⊥
+InterpretsKernel kernel inputs o kernel_bytes input_bytes (Err (Inputs f r)) = (f.now ≡ inputs) × OfKernel kernel_bytes (λ k. Interprets k input_bytes o (Err (interpret.Inputs r)))
+InterpretsKernel kernel inputs o kernel_bytes input_bytes (Err (Schedule f r)) = ⊥
+InterpretsKernel kernel inputs o kernel_bytes input_bytes (Err (NotEnabled f i)) = ⊥
+InterpretsKernel kernel inputs o kernel_bytes input_bytes (Err (Limit n)) = ⊥
+InterpretsKernel kernel inputs o kernel_bytes input_bytes (Err Stuck) = ⊥
+InterpretsKernel kernel inputs o kernel_bytes input_bytes (Err (Stray name)) = ⊥
+InterpretsKernel kernel inputs o kernel_bytes input_bytes (Err (Undefined f place)) = (f.now ≡ kernel) × OfKernel kernel_bytes (λ k. Interprets k input_bytes o (Err (interpret.Undefined place)))
+InterpretsKernel kernel inputs o kernel_bytes input_bytes (Err (OutOfTurns n)) = OfKernel kernel_bytes (λ k. Interprets k input_bytes o (Err (interpret.OutOfTurns n)))
 
 -- ---- all commands
 
@@ -158,7 +248,7 @@ AnswersBy Run plain chosen contents answer = RunsNet (at plain 0) (at plain 1) (
 AnswersBy Replay plain chosen contents answer = ReplaysNet (at plain 0) (at plain 1) (at plain 2) (at contents 0) (at contents 1) (at contents 2) answer
 AnswersBy Bench plain chosen contents answer = ⊥
 AnswersBy Upgrade plain chosen contents answer = Upgrades (at plain 0) (at contents 0) answer
-AnswersBy Ref plain chosen contents answer = ⊥
+AnswersBy Ref plain chosen contents answer = InterpretsKernel (at plain 0) (at plain 1) (interpretation_of chosen) (at contents 0) (at contents 1) answer
 AnswersBy Save plain chosen contents answer = ⊥
 AnswersBy Resume plain chosen contents answer = ⊥
 

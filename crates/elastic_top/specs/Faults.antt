@@ -3,6 +3,8 @@ use Rattle.std.specs.Prelude.{◌≡◌, ◌⊎◌, ℕ, List, [], ◌∷◌, Op
 use Rattle.std.specs.List.{concat}
 use Rattle.std.specs.Io.KnownBytes.{append_known}
 use Rattle.el_io.specs.Outside.{Rose, IsCut}
+use Rattle.el_base.specs.declared.span.Span.{Span}
+use Rattle.kernel_front.specs.Refusals.{refusal_text as kernel_label, refusal_span as kernel_span}
 use Rattle.net_text.specs.Refusals.{refusal_text as text_label, refusal_line as text_line}
 use Rattle.net_check.specs.Refusals.{refusal_text as rule_label, refusal_at as rule_at}
 use Rattle.inputs_text.specs.declared.refusal.InputRefusal.{InputRefusal}
@@ -13,7 +15,7 @@ use Rattle.net_check.specs.declared.refusal.At.TheVariants as at
 use Rattle.elastic_top.specs.declared.fault.Fault.{Fault}
 use Rattle.elastic_top.specs.declared.fault.Fault.TheVariants.{Usage, Read, Write, Memory, TooLong, Refused}
 use Rattle.elastic_top.specs.declared.fault.Refusal.{Refusal}
-use Rattle.elastic_top.specs.declared.fault.Refusal.TheVariants.{StraightKernel, StraightInputs, NetText, NetRule, Inputs, Schedule, NotEnabled, Limit, Stuck, Stray}
+use Rattle.elastic_top.specs.declared.fault.Refusal.TheVariants.{StraightKernel, StraightInputs, Kernel, NetText, NetRule, Inputs, Schedule, NotEnabled, Limit, Stuck, Stray, Undefined, OutOfTurns}
 
 -- ---- refusals
 
@@ -21,6 +23,7 @@ use Rattle.elastic_top.specs.declared.fault.Refusal.TheVariants.{StraightKernel,
 abbrev pub refusal_code : Refusal → ℕ
 refusal_code (StraightKernel file) = 4
 refusal_code (StraightInputs file) = 6
+refusal_code (Kernel file r) = 4
 refusal_code (NetText file r) = 5
 refusal_code (NetRule file r) = 5
 refusal_code (Inputs file r) = 6
@@ -29,6 +32,8 @@ refusal_code (NotEnabled file i) = 7
 refusal_code (Limit n) = 8
 refusal_code Stuck = 9
 refusal_code (Stray name) = 10
+refusal_code (Undefined file place) = 13
+refusal_code (OutOfTurns n) = 14
 
 -- a line that names a file, the number and the word of a refusal, and where there is one the number of a line
 abbrev pub line_parts : List ℕ → List ℕ → Option ℕ → List (List ℕ)
@@ -42,6 +47,11 @@ named_parts file label line (Some name) = file ∷ codes ": " ∷ label ∷ code
 
 abbrev pub input_parts : List ℕ → InputRefusal → List (List ℕ)
 input_parts file r = named_parts file (input_label r) (input_line r) (input_name r)
+
+-- and a line that names the line and the column of a place, where there is one
+abbrev pub span_parts : List ℕ → List ℕ → Option Span → List (List ℕ)
+span_parts file label None = file ∷ codes ": " ∷ label ∷ codes "\n" ∷ []
+span_parts file label (Some span) = file ∷ codes ":" ∷ decimal span.line ∷ codes ":" ∷ decimal span.column ∷ codes ": " ∷ label ∷ codes "\n" ∷ []
 
 -- and a line that names a unit, a channel or the net
 abbrev pub part_parts : List ℕ → List ℕ → List ℕ → ℕ → List (List ℕ)
@@ -57,6 +67,7 @@ place_parts file label (Some at.Net) = file ∷ codes ": " ∷ label ∷ codes "
 abbrev pub refusal_parts : Refusal → List (List ℕ)
 refusal_parts (StraightKernel file) = file.now ∷ codes ": 19 NotYet\n" ∷ []
 refusal_parts (StraightInputs file) = file.now ∷ codes ": 59 NotYet\n" ∷ []
+refusal_parts (Kernel file r) = span_parts file.now (kernel_label r) (kernel_span r)
 refusal_parts (NetText file r) = line_parts file.now (text_label r) (text_line r)
 refusal_parts (NetRule file r) = place_parts file.now (rule_label r) (rule_at r)
 refusal_parts (Inputs file r) = input_parts file.now r
@@ -65,6 +76,8 @@ refusal_parts (NotEnabled file i) = file.now ∷ codes ": 61 NotEnabled " ∷ de
 refusal_parts (Limit n) = codes "elastic: 70 Limit " ∷ decimal n ∷ codes "\n" ∷ []
 refusal_parts Stuck = codes "elastic: 71 Stuck\n" ∷ []
 refusal_parts (Stray name) = codes "elastic: 72 Stray " ∷ name ∷ codes "\n" ∷ []
+refusal_parts (Undefined file place) = file.now ∷ codes ":" ∷ decimal place.line ∷ codes ":" ∷ decimal place.column ∷ codes ": 80 Undefined\n" ∷ []
+refusal_parts (OutOfTurns n) = codes "elastic: 81 Turns " ∷ decimal n ∷ codes "\n" ∷ []
 
 -- ---- faults
 

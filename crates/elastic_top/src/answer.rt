@@ -2,14 +2,17 @@
 ghost use Rattle.std.specs.Prelude.{◌≡◌, ◌≤◌, IsTrue, length, Ok, IfOk, IfErr};
 ghost use Rattle.command_words.specs.Tables.{is_built, plain_of};
 ghost use Rattle.command_words.specs.Commands.{asked};
-ghost use Rattle.elastic_top.specs.Answers.{Answers, Goes, HasLimit, Refuses, limit_or, options_of};
+ghost use Rattle.elastic_top.specs.Answers.{Answers, Goes, HasLimit, Refuses, interpretation_of, limit_or, options_of, profile_of, turns_or};
 ghost use Rattle.elastic_top.specs.Files.{limits_of, AreWithin};
 ghost use Rattle.elastic_top.specs.Reading.{contents_of};
 
 use crate::fault::{Fault, Refusal};
+use crate::interpretation::interpret;
 use crate::runs::{replay, run};
 use crate::upgrade::upgraded;
+use c_meaning::Profile;
 use command_words::{Chosen, Command, Verb};
+use kernel_ref::{DEFAULT_TURNS, InterpretOptions};
 use net_runs::{DEFAULT_FIRINGS, RunOptions};
 use std::alloc::Global;
 use straight_path::answer::{Refusal as StraightRefusal, answer as straight_answer};
@@ -56,10 +59,17 @@ pub fn answer<'a>(
             contents[1].as_slice(),
             contents[2].as_slice(),
         ),
+        Verb::Ref => interpret(
+            alloc,
+            words[0],
+            words[1],
+            contents[0].as_slice(),
+            contents[1].as_slice(),
+            interpretation_of(&command.chosen),
+        ),
         Verb::Upgrade => upgraded(alloc, words[0], contents[0].as_slice()),
         Verb::Compile => unreachable!(),
         Verb::Bench => unreachable!(),
-        Verb::Ref => unreachable!(),
         Verb::Save => unreachable!(),
         Verb::Resume => unreachable!(),
     }
@@ -101,5 +111,30 @@ fn limit_or(asked: Option<u64>) -> u64
     match asked {
         Some(limit) => limit,
         None => DEFAULT_FIRINGS,
+    }
+}
+
+fn interpretation_of(chosen: &Chosen) -> InterpretOptions
+    ensures { result ≡ interpretation_of chosen.now }
+{
+    InterpretOptions {
+        profile: profile_of(chosen.wrap),
+        turns: turns_or(chosen.turns),
+        count: chosen.count,
+    }
+}
+
+fn profile_of(wrap: bool) -> Profile
+    ensures { result ≡ profile_of wrap }
+{
+    if wrap { Profile::Wrap } else { Profile::Plain }
+}
+
+fn turns_or(asked: Option<u64>) -> u64
+    ensures { result ≡ turns_or asked }
+{
+    match asked {
+        Some(turns) => turns,
+        None => DEFAULT_TURNS,
     }
 }

@@ -6,12 +6,14 @@ ghost use Rattle.net_text.specs.Refusals.{refusal_text as text_label};
 ghost use Rattle.net_check.specs.Refusals.{refusal_text as rule_label};
 ghost use Rattle.inputs_text.specs.Refusals.{refusal_text as input_label};
 ghost use Rattle.net_replay.specs.Readings.{refusal_text as schedule_label};
-ghost use Rattle.elastic_top.specs.Faults.{fault_code, fault_line, refusal_code, refusal_parts, line_parts, input_parts, part_parts, place_parts, IsTold};
+ghost use Rattle.kernel_front.specs.Refusals.{refusal_text as kernel_label};
+ghost use Rattle.elastic_top.specs.Faults.{fault_code, fault_line, refusal_code, refusal_parts, line_parts, input_parts, part_parts, place_parts, span_parts, IsTold};
 
 use crate::line::{Piece, write_line};
-use el_base::{Label, Name};
+use el_base::{Label, Name, Span};
 use el_io::Sink;
 use inputs_text::InputRefusal;
+use kernel_front::KernelRefusal;
 use net_check::{At, NetRefusal};
 use net_replay::ScheduleRefusal;
 use net_text::TextRefusal;
@@ -23,6 +25,8 @@ pub enum Refusal<'a> {
     StraightKernel(&'a str),
     /// The bytes of this file have not the form of the straight kernel's inputs.
     StraightInputs(&'a str),
+    /// The bytes of this file are no kernel.
+    Kernel(&'a str, KernelRefusal),
     /// The bytes of this file are no net text.
     NetText(&'a str, TextRefusal),
     /// The net of this file breaks a rule.
@@ -39,6 +43,10 @@ pub enum Refusal<'a> {
     Stuck,
     /// At rest an address lay past the array of this name.
     Stray(Name),
+    /// The operation at this place of this file's kernel is the first one that is undefined.
+    Undefined(&'a str, Span),
+    /// The kernel is not over within so many turns.
+    OutOfTurns(u64),
 }
 
 impl<'a> Refusal<'a> {
@@ -46,13 +54,15 @@ impl<'a> Refusal<'a> {
         ensures { result ≡ refusal_code self.now }
     {
         match self {
-            Refusal::StraightKernel(_) => 4,
+            Refusal::StraightKernel(_) | Refusal::Kernel(_, _) => 4,
             Refusal::NetText(_, _) | Refusal::NetRule(_, _) => 5,
             Refusal::StraightInputs(_) | Refusal::Inputs(_, _) => 6,
             Refusal::Schedule(_, _) | Refusal::NotEnabled(_, _) => 7,
             Refusal::Limit(_) => 8,
             Refusal::Stuck => 9,
             Refusal::Stray(_) => 10,
+            Refusal::Undefined(_, _) => 13,
+            Refusal::OutOfTurns(_) => 14,
         }
     }
 }
@@ -132,6 +142,9 @@ fn tell_refusal<E: Sink>(err: &mut E, refusal: &Refusal<'_>)
             err,
             &[Piece::Text(*file), Piece::Text(": 59 NotYet\n")],
         ),
+        Refusal::Kernel(file, refused) => {
+            tell_span(err, *file, kernel_label(refused), refused.span());
+        }
         Refusal::NetText(file, refused) => {
             tell_line(err, *file, text_label(*refused), refused.line());
         }
@@ -168,6 +181,34 @@ fn tell_refusal<E: Sink>(err: &mut E, refusal: &Refusal<'_>)
                 Piece::Text("\n"),
             ],
         ),
+        Refusal::Undefined(file, span) => write_line(
+            err,
+            &[
+                Piece::Text(*file),
+                Piece::Text(":"),
+                Piece::Number(u64::from(span.line)),
+                Piece::Text(":"),
+                Piece::Number(u64::from(span.column)),
+                Piece::Text(": 80 Undefined\n"),
+            ],
+        ),
+        Refusal::OutOfTurns(turns) => write_line(
+            err,
+            &[
+                Piece::Text("elastic: 81 Turns "),
+                Piece::Number(*turns),
+                Piece::Text("\n"),
+            ],
+        ),
+    }
+}
+
+fn kernel_label(refused: &KernelRefusal) -> Label
+    ensures { printed result.number result.word.now ≡ kernel_label refused.now }
+{
+    Label {
+        number: refused.number(),
+        word: refused.word(),
     }
 }
 
@@ -225,6 +266,29 @@ fn tell_inputs<'a, E: Sink>(err: &mut E, file: &'a str, refused: &'a InputRefusa
             ],
         ),
         None => tell_line(err, file, input_label(refused), refused.line()),
+    }
+}
+
+// The line of a refusal that may name a place in its file.
+fn tell_span<E: Sink>(err: &mut E, file: &str, label: Label, span: Option<Span>)
+    ensures { IsTold (E.written err.old) (E.written err.new) (E.faults err.old) (E.faults err.new)
+        (concat (span_parts file.now (printed label.number label.word.now) span)) }
+{
+    match span {
+        Some(span) => write_line(
+            err,
+            &[
+                Piece::Text(file),
+                Piece::Text(":"),
+                Piece::Number(u64::from(span.line)),
+                Piece::Text(":"),
+                Piece::Number(u64::from(span.column)),
+                Piece::Text(": "),
+                Piece::Labelled(label),
+                Piece::Text("\n"),
+            ],
+        ),
+        None => tell_line(err, file, label, None),
     }
 }
 

@@ -4,6 +4,7 @@
 mod answer;
 mod call;
 mod fault;
+mod interpretation;
 mod line;
 mod program;
 mod reading;

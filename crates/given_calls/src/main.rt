@@ -17,7 +17,13 @@ use std::{fs, io};
 const ROOM: u64 = 100_000;
 
 /// The files of rows on sound devices.
-const SOUND: [&str; 4] = ["calls.tsv", "schedules.tsv", "runs.tsv", "nets.tsv"];
+const SOUND: [&str; 5] = [
+    "calls.tsv",
+    "schedules.tsv",
+    "runs.tsv",
+    "nets.tsv",
+    "interpreted.tsv",
+];
 
 /// Which calls of the devices fail, by their numbers from 0, and how many bytes the output takes at once.
 #[derive(Clone, Copy)]

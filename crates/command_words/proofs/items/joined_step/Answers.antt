@@ -14,3 +14,6 @@ returns-in-Number c =
     let own : IsTrue (is_own c.args.verb c.args.choice) = search rules in
     let valued : kind_of c.args.choice ≢ Flag = λ flag. absurd (search rules) in
     record { some = moves_joined c.args.verb c.args.word.now c.args.choice c.args.value.now c.requires own valued; none = λ e. absurd (false≢true (sym e)) }
+
+pub returns-in-Flag-clause-none : goal.returns-in-Flag-clause-none
+returns-in-Flag-clause-none c = λ none. flag_value c.args.verb c.args.word.now c.args.choice c.args.value.now c.requires (sym c.kind.ensures ∙ c.in-Flag.is)

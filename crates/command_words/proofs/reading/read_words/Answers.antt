@@ -5,16 +5,12 @@ use Rattle.command_words.specs.Tables.{verb_word}
 use Rattle.command_words.specs.Items.{items_of}
 use Rattle.command_words.specs.Commands.{texts}
 use Rattle.command_words.proofs.Moves.{rest_texts}
-use Rattle.command_words.proofs.ItemLemmas.{no_delays}
 use Rattle.command_words.proofs.CommandLemmas.{read_of}
 use Rattle.command_words.proofs.reading.read_words.Goals as goal
 
 on_ok : {A E : Type 0} (P Q : A → Type 0) (r : Result A E) → ((x : A) → P x → Q x) → IfOk r P → IfOk r Q
 on_ok P Q (Ok x) f h = f x h
 on_ok P Q (Err e) f h = tt
-
-pub command_of-requires : goal.command_of-requires
-command_of-requires c = rw c.as_slice.ensures.value (no_delays c.in-Some.verb _ _ (rw c.in-Some-2.is at c.in_ok-items.ensures.some))
 
 pub returns-clause-none : goal.returns-clause-none
 returns-clause-none c =

@@ -2,7 +2,8 @@ use Rattle.std.proofs.Common.{subst}
 use Rattle.std.specs.Prelude.{IfOk, IfErr, Ok}
 use Rattle.net_runs.specs.Runs.{Runs}
 use Rattle.net_runs.specs.Replays.{Replays}
-use Rattle.elastic_top.specs.Answers.{Goes, OfNet, Refuses, ReplaysNet, RunsNet, options_of}
+use Rattle.kernel_ref.specs.Answers.{Interprets}
+use Rattle.elastic_top.specs.Answers.{Goes, InterpretsKernel, OfKernel, OfNet, Refuses, ReplaysNet, RunsNet, interpretation_of, options_of}
 use Rattle.elastic_top.proofs.AnswerLemmas.{bytes_of_two, bytes_of_three, of_two, of_three}
 use Rattle.elastic_top.proofs.answer.answer.Goals as goal
 
@@ -45,3 +46,19 @@ returns-in-Replay-clause-err c =
     (of_three (λ u v w a b d. IfErr c.replay.result (Refuses (ReplaysNet u v w a b d))) c.args.command.now.plain.items c.args.contents.now _ _ _ _ _ _
     (rw c.in-Replay.is at c.requires.plain) (rw c.in-Replay.is at c.requires.count) c.index-contents-0-in-Replay.is c.index-contents-1-in-Replay.is c.index-contents-2.is
     (rw (c.as_slice-words.ensures.value, c.as_slice-in-Replay.ensures.value, c.as_slice-in-Replay-2.ensures.value, c.as_slice-in-Replay-3.ensures.value) at c.replay.ensures.err))
+
+pub returns-in-Ref-clause-ok : goal.returns-in-Ref-clause-ok
+returns-in-Ref-clause-ok c =
+    rw c.in-Ref.is
+    (bytes_of_two (λ a b. IfOk c.interpret.result (λ text. OfKernel a (λ k. Interprets k b (interpretation_of c.args.command.now.chosen) (Ok text.items)))) c.args.contents.now _ _
+    (rw c.in-Ref.is at c.requires.count) c.index-contents-0-in-Ref.is c.index-contents-1-in-Ref.is
+    (subst (λ o. IfOk c.interpret.result (λ text. OfKernel c.index-contents-0-in-Ref.result.items (λ k. Interprets k c.index-contents-1-in-Ref.result.items o (Ok text.items)))) c.interpretation_of.ensures
+    (subst (λ x. IfOk c.interpret.result (λ text. OfKernel x (λ k. Interprets k c.index-contents-1-in-Ref.result.items c.interpretation_of.result (Ok text.items)))) c.as_slice-in-Ref.ensures.value
+    (subst (λ y. IfOk c.interpret.result (λ text. OfKernel c.as_slice-in-Ref.result.now (λ k. Interprets k y c.interpretation_of.result (Ok text.items)))) c.as_slice-in-Ref-2.ensures.value c.interpret.ensures.ok))))
+
+pub returns-in-Ref-clause-err : goal.returns-in-Ref-clause-err
+returns-in-Ref-clause-err c =
+    rw c.in-Ref.is
+    (of_two (λ v w a b. IfErr c.interpret.result (Refuses (InterpretsKernel v w (interpretation_of c.args.command.now.chosen) a b))) c.args.command.now.plain.items c.args.contents.now _ _ _ _
+    (rw c.in-Ref.is at c.requires.plain) (rw c.in-Ref.is at c.requires.count) c.index-contents-0-in-Ref.is c.index-contents-1-in-Ref.is
+    (rw (c.as_slice-words.ensures.value, c.as_slice-in-Ref.ensures.value, c.as_slice-in-Ref-2.ensures.value, c.interpretation_of.ensures) at c.interpret.ensures.err))

@@ -29,3 +29,12 @@ returns-in-Stuck g c = rw c.in-Stuck.is c.write_line-in-Stuck.ensures
 
 pub returns-in-Stray : goal.returns-in-Stray
 returns-in-Stray g c = rw (c.in-Stray.is, ← c.as_slice.ensures.bytes) c.write_line-in-Stray.ensures
+
+pub returns-in-Kernel : goal.returns-in-Kernel
+returns-in-Kernel g c = rw (c.in-Kernel.is, ← c.kernel_label.ensures, ← c.span.ensures) c.tell_span.ensures
+
+pub returns-in-Undefined : goal.returns-in-Undefined
+returns-in-Undefined g c = rw (c.in-Undefined.is, ← c.from.ensures, ← c.from-in-Undefined.ensures) c.write_line-in-Undefined.ensures
+
+pub returns-in-OutOfTurns : goal.returns-in-OutOfTurns
+returns-in-OutOfTurns g c = rw c.in-OutOfTurns.is c.write_line-in-OutOfTurns.ensures

@@ -1,0 +1,5 @@
+pub mod Texts
+pub mod Results
+pub mod Answers
+pub mod Laws
+pub mod Faults
