@@ -3,6 +3,7 @@ ghost use Rattle.std.specs.Prelude.{◌≤◌, IfOk, length};
 ghost use Rattle.el_base.specs.Limits.{max_kernel_bytes, IsNumbered};
 ghost use Rattle.net_types.specs.Numbered.{AreNumbered};
 
+use crate::graphs::read_graph;
 use crate::runs::put_run;
 use anyhow::{Context, Result, bail, ensure};
 use circuit_build::build;
@@ -29,6 +30,16 @@ pub fn put_kernel<W: Write>(alloc: Global, line: &str, out: &mut W) -> Result<()
             Ok(graph) => put_circuit(alloc, &graph, inputs, out),
         },
     }
+}
+
+/// Writes what the circuit of a line's graph comes to on the line's inputs, in which `@` stands for a line feed.
+pub fn put_graph<W: Write>(alloc: Global, line: &str, out: &mut W) -> Result<()> {
+    let fields: Vec<&str> = line.split('\t').collect(alloc)?;
+    let [_, graph @ .., inputs] = fields.as_slice() else {
+        bail!("a line is a word, a graph and inputs");
+    };
+    let graph = read_graph(alloc, graph)?;
+    put_circuit(alloc, &graph, inputs, out)
 }
 
 fn put_circuit<W: Write>(alloc: Global, graph: &Ir, inputs: &str, out: &mut W) -> Result<()> {

@@ -1,11 +1,12 @@
-//! Answers given rows on kernels by their circuits: what the plain runner ends with on the circuit of a kernel's graph, one a
-//! line of the file of its folder.
+//! Answers given rows on kernels and on graphs by their circuits: what the plain runner ends with on the circuit of a kernel's
+//! graph, or of a graph that is told as text, one a line of the files of its folder.
 #![tactic(auto)]
 
 mod circuits;
+mod graphs;
 mod runs;
 
-use crate::circuits::put_kernel;
+use crate::circuits::{put_graph, put_kernel};
 use anyhow::Result;
 use std::io::{BufWriter, Write};
 use std::{fs, io};
@@ -15,6 +16,11 @@ fn main(rt: HostRuntime) -> Result<()> {
     let kernels = fs::read_to_string(&rt, "kernels.tsv")?;
     for line in kernels.as_str().lines().skip(1) {
         put_kernel(rt.alloc(), line, &mut out)?;
+        writeln!(out)?;
+    }
+    let graphs = fs::read_to_string(&rt, "graphs.tsv")?;
+    for line in graphs.as_str().lines().skip(1) {
+        put_graph(rt.alloc(), line, &mut out)?;
         writeln!(out)?;
     }
     out.flush()?;
