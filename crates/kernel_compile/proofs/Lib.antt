@@ -1,0 +1,11 @@
+pub mod Answers
+pub mod Asked
+pub mod Checking
+pub mod Circuits
+pub mod Counting
+pub mod GoodLemmas
+pub mod HeaderLemmas
+pub mod Inputs
+pub mod Joined
+pub mod Slots
+pub mod SoundHeaders

@@ -1,0 +1,42 @@
+-- What each answer of the compiler says of the bytes of a kernel.
+use Rattle.std.specs.Prelude.{◌≡◌, ◌≢◌, ◌⊎◌, ℕ, List, Result, Ok, Err}
+use Rattle.c_ast.specs.declared.typed.Typed.{Typed}
+use Rattle.c_meaning.specs.declared.profile.Profile.{Profile}
+use Rattle.net_types.specs.declared.net.Net.{Net}
+use Rattle.kernel_front.specs.Answers.{Says, IsKernel}
+use Rattle.kernel_front.specs.declared.reading.Kernel.{Kernel}
+use Rattle.kernel_front.specs.declared.refusal.KernelRefusal.{KernelRefusal}
+use Rattle.kernel_front.specs.declared.refusal.KernelRefusal.TheVariants as refusal
+use Rattle.buffer_place.specs.declared.timing.Timing.{Timing}
+use Rattle.buffer_place.specs.Placing.{IsPlaced}
+use Rattle.kernel_compile.specs.declared.compiling.Compiled.{Compiled}
+use Rattle.kernel_compile.specs.Goods.{Good}
+use Rattle.kernel_compile.specs.Layers.{IsKernelNet}
+
+-- the net is good under every profile: it is the net of the kernel's graph, with the slots and delays of the timing
+pub record IsCircuit (t : Timing) (k : Typed) (net : Net) : Type 0 where
+  pub good : (p : Profile) → Good net k p
+  pub plain : Net
+  pub of_graph : IsKernelNet k plain
+  pub placed : IsPlaced t plain net
+
+-- the bytes spell and type the kernel, which has so many nodes, and the net is its circuit
+pub record IsCompiled (bytes : List ℕ) (t : Timing) (c : Compiled) : Type 0 where
+  pub kernel : IsKernel bytes (record { typed = c.typed; nodes = c.nodes })
+  pub circuit : IsCircuit t c.typed c.net
+
+-- what an answer says of the bytes: a refusal what it says of a reader, so want of memory says nothing
+abbrev pub CompileSays : List ℕ → Timing → Result Compiled KernelRefusal → Type 0
+CompileSays bytes t (Ok c) = IsCompiled bytes t c
+CompileSays bytes t (Err e) = Says bytes (Err e)
+
+-- the answer goes with a reader's: the same kernel, or the same refusal
+abbrev pub GoesWith : Result Kernel KernelRefusal → Result Compiled KernelRefusal → Type 0
+GoesWith (Ok kernel) (Ok c) = (c.typed ≡ kernel.typed) × (c.nodes ≡ kernel.nodes)
+GoesWith (Err e) (Err d) = d ≡ e
+GoesWith (Ok kernel) (Err d) = ⊥
+GoesWith (Err e) (Ok c) = ⊥
+
+-- whatever but want of memory says what holds of the bytes, the answer goes with it or is want of memory
+abbrev pub AnswersAsRead : List ℕ → Result Compiled KernelRefusal → Type 0
+AnswersAsRead bytes r = (read : Result Kernel KernelRefusal) → read ≢ Err refusal.Memory → Says bytes read → GoesWith read r ⊎ (r ≡ Err refusal.Memory)

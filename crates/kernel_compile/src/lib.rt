@@ -1,0 +1,11 @@
+//! From the bytes of a kernel to its circuit, in one call: a checked net that computes the kernel with whatever slots and
+//! delays.
+#![tactic(auto)]
+
+mod compiling;
+mod laws;
+#[cfg(test)]
+mod tests;
+
+pub use compiling::{Compiled, compile};
+pub use laws::{good_nets_stay_good, inputs_are_patterns, kernel_nets_are_good};
