@@ -1,4 +1,5 @@
 # demo: the main job in about a minute on a fresh machine, without the proofs.
+# ref: your own kernel of the whole language and inputs, run as C, without the proofs: make ref KERNEL=my.c INPUTS=my.txt
 # go: your own kernel and inputs, without the proofs: make go KERNEL=my.c INPUTS=my.txt
 # run: a netlist and inputs of your own, without the proofs: make run NETLIST=my.net INPUTS=my.txt
 # build: proves the program and all below it, and leaves it as crates/elastic/out/elastic. From nothing this takes
@@ -7,12 +8,14 @@
 # bench: times the proved programs: `go` on a kernel of 1,024 nodes, reading texts of 65,536 bytes, a million acts
 #   on queues of depths 16, 128 and 1,024, buffer placement on nets of up to a million channels, reading and printing
 #   inputs of 2^20 elements, live variables and block arguments of 32,768 blocks and 1,000 variables,
-#   and the plain interpreter on a loop of 120 million turns, beside the same kernel by `cc -O0`.
+#   circuits of block graphs of sizes up to a million, the plain interpreter on a loop of 120 million turns, beside the
+#   same kernel by `cc -O0`, and the plain runner on a histogram's net of 103 units, alone and among idle loops, beside
+#   plain sweeps over the units.
 #   With BEFORE=PROGRAM another bench_front is timed beside this one.
 # stack: reads long and deep kernel texts with a stack of 1 MiB.
 # fail-alloc: makes each allocation of a run fail in turn.
 
-.PHONY: demo go run build test bench stack fail-alloc
+.PHONY: demo ref go run build test bench stack fail-alloc
 
 KERNEL = examples/sum/kernel.c
 INPUTS = examples/sum/inputs.txt
@@ -25,6 +28,10 @@ demo:
 	@echo $(UNPROVED)
 	@echo 'elastic go examples/sum/kernel.c examples/sum/inputs.txt prints:'
 	@cd crates/elastic && rt try --data k=../../examples/sum/kernel.c --data i=../../examples/sum/inputs.txt -- go k i
+
+ref:
+	@echo $(UNPROVED)
+	@cd crates/elastic && rt try --data $(notdir $(KERNEL))=$(abspath $(KERNEL)) --data $(notdir $(INPUTS))=$(abspath $(INPUTS)) -- ref $(notdir $(KERNEL)) $(notdir $(INPUTS)) --count
 
 go:
 	@echo $(UNPROVED)
@@ -50,8 +57,11 @@ bench: build
 	@cd crates/bench_inputs && mkdir -p out && echo 'a = 1' > out/inputs.txt && rt run -- out/inputs.txt 1 1
 	@sh tools/bench_inputs.sh crates/bench_inputs/out/bench_inputs
 	@cd crates/bench_args && rt run -- 32768 1000
+	@cd crates/bench_build && rt run -- 1000000
 	@cd crates/bench_ref && mkdir -p out && printf 'void f(void) { }' > out/k.c && : > out/i && rt run -- out/k.c out/i 1
 	@sh tools/bench_ref.sh crates/bench_ref/out/bench_ref
+	@cd crates/bench_core && rt run -- ../../examples/histogram/net.txt ../../examples/histogram/inputs.txt 1 1
+	@sh tools/bench_core.sh crates/bench_core/out/bench_core examples/histogram/net.txt
 
 stack:
 	@cd crates/given_rows && rt run -- data/repeats.tsv > /dev/null
