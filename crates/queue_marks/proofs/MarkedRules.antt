@@ -22,7 +22,7 @@ use Rattle.net_check.specs.Laws.{AllRulesCheck, CheckedKeepsAll}
 use Rattle.net_check.specs.Shapes.{KeepsC7, HasShape}
 use Rattle.net_check.specs.Sizes.{KeepsC3}
 use Rattle.queue_marks.specs.Marked.{with_mark, forwarding}
-use Rattle.queue_marks.specs.Laws.{MarksKeepRules, MarksKeepChecked}
+use Rattle.queue_marks.specs.Laws.{MarksKeepRules, MarksKeepUntimed, MarksKeepChecked}
 use Rattle.queue_marks.proofs.MarkedRuns.{kind_marked}
 
 as_many : (ks : List Kind) → length (map with_mark ks) ≡ length ks
@@ -410,6 +410,9 @@ rules_marked net n (keeps_c5 h) = keeps_c5 (c5_marked net h)
 rules_marked net n (keeps_c6 h) = keeps_c6 (c6_marked net h)
 rules_marked net n (keeps_c7 h) = keeps_c7 (c7_marked net h)
 rules_marked net n (keeps_c8 h) = keeps_c8 (c8_marked net h)
+
+pub untimed_marked : MarksKeepUntimed
+untimed_marked net = record { c1 = c1_marked net; c2 = c2_marked net; c5 = c5_marked net; c6 = c6_marked net; c7 = c7_marked net; c8 = c8_marked net }
 
 pub checked_marked : AllRulesCheck → CheckedKeepsAll → MarksKeepChecked
 checked_marked all kept net h =

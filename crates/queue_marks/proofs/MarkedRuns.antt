@@ -15,7 +15,7 @@ use Rattle.net_core.specs.Fire.{State, Own, Setting, Effect, idle, opened, effec
 use Rattle.net_core.specs.Laws.{starts}
 use Rattle.net_core.specs.Runs.{opening, Leads}
 use Rattle.queue_marks.specs.Marked.{with_mark, forwarding, forwards, own_with_mark, all_with_marks, with_marks}
-use Rattle.queue_marks.specs.Laws.{MarksAllowRuns, MarksEndAlike}
+use Rattle.queue_marks.specs.Laws.{MarksAllowRuns, MarksEndAlike, QueuesHaveMark}
 
 -- ---- kinds
 
@@ -26,6 +26,13 @@ kinds_marked (k ∷ ks) (suc u) = kinds_marked ks u
 
 pub kind_marked : (net : Net) (u : ℕ) → kind_of (forwarding net) u ≡ with_mark (kind_of net u)
 kind_marked net u = kinds_marked net.units u
+
+queue_has_mark : (k : Kind) (a depth : ℕ) (ports : List Port) (groups : List (List ℕ)) (mark : Bool) → with_mark k ≡ Lsq a depth ports groups mark → mark ≡ true
+queue_has_mark (Lsq b d ps gs f) a depth ports groups mark e = cc
+queue_has_mark _ a depth ports groups mark e = cc
+
+pub queues_have : QueuesHaveMark
+queues_have net u a depth ports groups mark e = queue_has_mark (kind_of net u) a depth ports groups mark (sym (kind_marked net u) ∙ e)
 
 uses_marked : (k : Kind) → uses (with_mark k) ≡ uses k
 uses_marked Entry = refl

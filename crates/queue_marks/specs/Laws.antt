@@ -1,14 +1,15 @@
 -- The mark of queues: what a circuit does without it, it does with it.
-use Rattle.std.specs.Prelude.{ℕ, Option, List}
+use Rattle.std.specs.Prelude.{ℕ, true, Option, List}
 use Rattle.net_types.specs.declared.net.Net.{Net}
 use Rattle.net_types.specs.declared.firing.Firing.{Firing}
 use Rattle.net_types.specs.declared.firing.Inputs.{Inputs}
 use Rattle.net_check.specs.Checks.{IsChecked}
 use Rattle.net_check.specs.Keeps.{Keeps}
+use Rattle.net_check.specs.Laws.{KeepsUntimed}
 use Rattle.net_core.specs.Fire.{State}
 use Rattle.net_core.specs.Laws.{IsSpent}
 use Rattle.net_core.specs.Runs.{Run, Exited}
-use Rattle.queue_marks.specs.Marked.{forwarding, with_marks}
+use Rattle.queue_marks.specs.Marked.{forwarding, with_marks, HasMark}
 
 -- each run of a net is a run of the net with the marks, and leads to the same state but for the marks:
 -- tokens, arrays, strays and what units keep beside the marks are equal
@@ -27,6 +28,14 @@ MarksEndAlike = (net : Net) (s : State) → EndsAlike net s
 abbrev pub MarksKeepRules : Type 0
 MarksKeepRules = (net : Net) (n : ℕ) → Keeps net n → Keeps (forwarding net) n
 
+-- so it is of those that read no slots and no delays, rule by rule
+abbrev pub MarksKeepUntimed : Type 0
+MarksKeepUntimed = (net : Net) → KeepsUntimed net (forwarding net)
+
 -- so with a checked net the net with the marks is one
 abbrev pub MarksKeepChecked : Type 0
 MarksKeepChecked = (net : Net) → IsChecked net → IsChecked (forwarding net)
+
+-- each queue of the net with the marks has the mark
+abbrev pub QueuesHaveMark : Type 0
+QueuesHaveMark = (net : Net) → HasMark true (forwarding net)

@@ -1,8 +1,10 @@
 -- Nets all of whose queues have the mark, and their states.
-use Rattle.std.specs.Prelude.{true, List, [], ◌∷◌, map}
+use Rattle.std.specs.Prelude.{◌≡◌, ℕ, Bool, true, false, List, [], ◌∷◌, map}
 use Rattle.net_types.specs.declared.net.Net.{Net}
+use Rattle.net_types.specs.declared.net.Port.{Port}
 use Rattle.net_types.specs.declared.net.Unit.{Unit as Kind}
 use Rattle.net_types.specs.declared.net.Unit.TheVariants.{Entry, Param, Const, Op1, Op2, Select, Fork, Mux, Cmerge, Branch, Sink, Read, Lsq, Exit}
+use Rattle.net_types.specs.Nets.{kind_of}
 use Rattle.net_core.specs.Fire.{State, Own}
 
 -- a queue with the mark, and any other kind as it is
@@ -25,6 +27,15 @@ with_mark Exit = Exit
 -- the net with the mark on every queue
 abbrev pub forwarding : Net → Net
 forwarding net = record net { units = map with_mark net.units }
+
+-- the net with the mark on every queue where it is asked for, else the net as it is
+abbrev pub marked : Bool → Net → Net
+marked true net = forwarding net
+marked false net = net
+
+-- each queue of the net has the mark exactly where it is asked for
+abbrev pub HasMark : Bool → Net → Type 0
+HasMark forward net = (u a depth : ℕ) (ports : List Port) (groups : List (List ℕ)) (mark : Bool) → kind_of net u ≡ Lsq a depth ports groups mark → mark ≡ forward
 
 abbrev pub forwards : Own → Own
 forwards o = record o { queue = record o.queue { forward = true } }
