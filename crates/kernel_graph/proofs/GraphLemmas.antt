@@ -1,6 +1,6 @@
 -- The shares of normal forms, graphs over variables and graphs over arguments, joined.
-use Rattle.std.proofs.Common.{◌≡◌, ℕ, suc, ◌+◌, ◌*◌, ◌^◌, ◌<◌, ◌≤◌, List, [], ◌∷◌, ◌++◌, Option, length, map, refl, sym, ap, subst, ◌∙◌, arith, length-append}
-use Rattle.std.specs.Prelude.{ℤ, All, Result, Ok, Err, IfOk}
+use Rattle.std.proofs.Common.{◌≡◌, ℕ, suc, ◌+◌, ◌*◌, ◌^◌, ◌<◌, ◌≤◌, List, [], ◌∷◌, Option, length, refl, sym, ap, subst, ◌∙◌, arith, length-append}
+use Rattle.std.specs.Prelude.{◌↔◌, ℤ, Result, Ok, Err, IfOk}
 use Rattle.std.proofs.lemmas.List.{length-map}
 use Rattle.std.proofs.Math.Nat.{mul-le-mul}
 use Rattle.std.proofs.lemmas.List.Elements.{All-weaker}
@@ -13,13 +13,11 @@ use Rattle.c_ast.specs.declared.tree.Param.{Param}
 use Rattle.c_ast.specs.declared.typed.Typed.{Typed}
 use Rattle.c_ast.specs.declared.normal.Normal.{Normal}
 use Rattle.c_ast.specs.Nodes.{typed_nodes}
-use Rattle.c_meaning.specs.declared.profile.Profile.{Profile}
-use Rattle.c_meaning.specs.Stores.{Inputs, AreFitting, AreInRanges, scalar_type, scalar_types}
-use Rattle.c_meaning.specs.Statements.{Ends}
-use Rattle.c_meaning.specs.Headers.{scalar_of, scalars_of, kernel_header, normal_header}
+use Rattle.c_meaning.specs.Stores.{AreInRanges, scalar_type, scalar_types}
+use Rattle.c_meaning.specs.Headers.{scalar_of, scalars_of}
 use Rattle.c_meaning.specs.KernelPatterns.{scalar_patterns, array_patterns, result_pattern}
 use Rattle.c_meaning.specs.Sizes.{Sizes, form_sizes}
-use Rattle.ir.specs.Accesses.{accesses_in}
+use Rattle.ir.specs.Accesses.{accesses_in, IsStoredTo}
 use Rattle.ir.specs.Finished.{Finished}
 use Rattle.ir.specs.Graphs.{Graph, passage, weight}
 use Rattle.ir.specs.Variables.{VarGraph}
@@ -27,9 +25,12 @@ use Rattle.ir.specs.Visits.{Visit, Passing}
 use Rattle.c_norm.specs.Kernels.{normal_form}
 use Rattle.c_norm.specs.Shares.{NormalShare, NormalSizes, SmallSizes}
 use Rattle.struct_cfg.specs.Runs.{CfgShare, CfgSizes}
-use Rattle.struct_cfg.specs.Kernels.{IsSmallForm}
+use Rattle.struct_cfg.specs.Kernels.{IsSmallForm, form_graph}
+use Rattle.block_trim.specs.Trimming.{trimmed}
 use Rattle.block_args.specs.Shares.{ArgsShare, ArgsSizes}
-use Rattle.block_args.specs.Made.{parts}
+use Rattle.block_args.specs.Made.{IsArgued, parts}
+use Rattle.array_targets.specs.Laws.{StoresAreAssignments}
+use Rattle.array_targets.specs.Targets.{IsAssignedTo}
 use Rattle.kernel_graph.specs.Shares.{first_on, KernelRunsFollow, IsSmallGraph, GraphShare}
 
 -- ---- bounds
@@ -104,8 +105,8 @@ module _ (k : Typed) (c : VarGraph) (g : Graph) (n : NormalShare k (normal_form 
         accesses = e.accesses 1024 (All-weaker (λ x. accesses_in x.steps ≤ s.accesses) (λ x. accesses_in x.steps ≤ 1024) (λ x l. (let w = h.accesses in omega arith)) c.blocks b.accesses);
       }
 
-  pub kept : SmallSizes (length (normal_form k).vars) (form_sizes (normal_form k)) → GraphShare k g
-  kept h = record { header = d.header ∙ a.header; runs = runs; small = small h }
+  pub kept : SmallSizes (length (normal_form k).vars) (form_sizes (normal_form k)) → ((x : ℕ) → IsStoredTo g x ↔ IsAssignedTo k x) → GraphShare k g
+  kept h s = record { header = d.header ∙ a.header; runs = runs; small = small h; stored = s }
 
 pub small_form : (n : ℕ) (f : Normal) → n ≤ max_nodes → NormalSizes n (length f.vars) (form_sizes f) → IsSmallForm f
 small_form n f l z =
@@ -129,11 +130,15 @@ small_parts n f c l z a s =
 abbrev Layers : Typed → VarGraph → Normal → Type 0
 Layers k c f = NormalShare k f × NormalSizes (typed_nodes k) (length f.vars) (form_sizes f) × CfgShare f c × CfgSizes c (length f.vars) (form_sizes f)
 
-pub all_kept : (k : Typed) (f : Normal) (c : VarGraph) (r : Result Graph Memory) → f ≡ normal_form k → typed_nodes k ≤ max_nodes
-    → ((n v : ℕ) (z : Sizes) → n ≤ max_nodes → NormalSizes n v z → SmallSizes v z)
+-- the stores of the graph, where each layer is what its definition says
+stores_kept : (k : Typed) (f : Normal) (c : VarGraph) (g : Graph) → StoresAreAssignments → f ≡ normal_form k → c ≡ trimmed (form_graph f) → IsArgued c g → (a : ℕ) → IsStoredTo g a ↔ IsAssignedTo k a
+stores_kept k f c g law is cut made = law k g (subst (λ x. IsArgued x g) (cut ∙ ap (λ x. trimmed (form_graph x)) is) made)
+
+pub all_kept : (k : Typed) (f : Normal) (c : VarGraph) (r : Result Graph Memory) → f ≡ normal_form k → c ≡ trimmed (form_graph f) → typed_nodes k ≤ max_nodes
+    → ((n v : ℕ) (z : Sizes) → n ≤ max_nodes → NormalSizes n v z → SmallSizes v z) → StoresAreAssignments
     → NormalShare k f → NormalSizes (typed_nodes k) (length f.vars) (form_sizes f) → CfgShare f c → CfgSizes c (length f.vars) (form_sizes f)
-    → IfOk r (ArgsShare c) → IfOk r (ArgsSizes c) → IfOk r (GraphShare k)
-all_kept k f c (Ok g) is few law n z a b d e =
+    → IfOk r (IsArgued c) → IfOk r (ArgsShare c) → IfOk r (ArgsSizes c) → IfOk r (GraphShare k)
+all_kept k f c (Ok g) is cut few law stores n z a b made d e =
     let all = subst (Layers k c) is (n, z, a, b) in
-    kept k c g all.0 all.1 all.2 all.3 d e (law (typed_nodes k) (length (normal_form k).vars) (form_sizes (normal_form k)) few all.1)
-all_kept k f c (Err x) is few law n z a b d e = tt
+    kept k c g all.0 all.1 all.2 all.3 d e (law (typed_nodes k) (length (normal_form k).vars) (form_sizes (normal_form k)) few all.1) (stores_kept k f c g stores is cut made)
+all_kept k f c (Err x) is cut few law stores n z a b made d e = tt

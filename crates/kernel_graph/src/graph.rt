@@ -4,6 +4,7 @@ ghost use Rattle.c_ast.specs.Nodes.{typed_nodes};
 ghost use Rattle.c_meaning.specs.Lawful.{Lawful};
 ghost use Rattle.kernel_graph.specs.Shares.{GraphShare};
 
+use array_targets::stores_are_assignments;
 use block_args::arguments;
 use c_ast::Typed;
 use c_norm::laws::small_forms_can_be_built;
@@ -14,7 +15,8 @@ use std::alloc::Global;
 use struct_cfg::cfg;
 
 /// The block graph of a kernel: where the kernel ends, under either profile, the graph's run returns with the same arrays
-/// and result, within bounds that a circuit keeps. It has at most 32,768 blocks and a size of at most 8,000,000.
+/// and result, within bounds that a circuit keeps. It has at most 32,768 blocks and a size of at most 8,000,000, and its
+/// steps store to exactly the arrays that the kernel assigns to.
 ///
 /// # Errors
 ///
@@ -25,6 +27,7 @@ pub fn block_graph(alloc: Global, typed: &Typed) -> Result<Ir, Memory>
     ensures { IfOk result (GraphShare typed.now) }
 {
     small_forms_can_be_built();
+    stores_are_assignments();
     let form = normal(alloc, typed)?;
     let graph = cfg(alloc, &form)?;
     arguments(alloc, &graph)

@@ -1,11 +1,5 @@
-use Rattle.std.proofs.Common.{◌≡◌, ◌<◌, ◌^◌, sym, subst, arith, length}
-use Rattle.c_ast.specs.declared.normal.Normal.{Normal}
+use Rattle.std.proofs.Common.{arith}
 use Rattle.c_ast.specs.Nodes.{typed_nodes}
-use Rattle.c_meaning.specs.Lawful.{LawfulNormal}
-use Rattle.c_meaning.specs.Sizes.{form_sizes}
-use Rattle.struct_cfg.specs.Kernels.{IsSmallForm}
-use Rattle.struct_cfg.specs.Runs.{CfgShare, CfgSizes}
-use Rattle.c_norm.specs.Shares.{NormalShare, NormalSizes}
 use Rattle.kernel_graph.proofs.GraphLemmas.{all_kept, small_form, small_parts}
 use Rattle.kernel_graph.proofs.graph.block_graph.Goals as goal
 
@@ -24,5 +18,5 @@ arguments-requires c = small_parts (typed_nodes c.args.typed.now) c.in_ok-form.f
 
 pub returns : goal.returns
 returns c =
-    all_kept c.args.typed.now c.in_ok-form.form c.in_ok-graph.graph c.arguments.result c.in_ok-form.ensures.form c.requires.few c.small_forms_can_be_built.ensures
-    c.in_ok-form.ensures.share c.in_ok-form.ensures.sizes c.in_ok-graph.ensures.share c.in_ok-graph.ensures.sizes c.arguments.ensures.share c.arguments.ensures.sizes
+    all_kept c.args.typed.now c.in_ok-form.form c.in_ok-graph.graph c.arguments.result c.in_ok-form.ensures.form c.in_ok-graph.ensures.graph c.requires.few c.small_forms_can_be_built.ensures c.stores_are_assignments.ensures
+    c.in_ok-form.ensures.share c.in_ok-form.ensures.sizes c.in_ok-graph.ensures.share c.in_ok-graph.ensures.sizes c.arguments.ensures.made c.arguments.ensures.share c.arguments.ensures.sizes
