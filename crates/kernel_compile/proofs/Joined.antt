@@ -21,11 +21,14 @@ use Rattle.net_types.specs.Nets.{kind_of}
 use Rattle.net_check.specs.Retimed.{Retimed}
 use Rattle.net_core.specs.Fire.{State, tokens_at}
 use Rattle.net_core.specs.Runs.{Run, AtRest, HasExited}
-use Rattle.net_core.specs.Laws.{Completion, OneSlotServes, StaysAtRest}
+use Rattle.net_core.specs.Laws.{Completion, OneSlotServes, StaysAtRest, SpentIsAtRest}
+use Rattle.queue_marks.specs.Laws.{MarksAllowRuns, MarksEndAlike}
+use Rattle.queue_marks.specs.Marked.{marked}
 use Rattle.kernel_compile.specs.Goods.{HoldsEnd, Computes, input_patterns, PatternsFit}
-use Rattle.kernel_compile.specs.Layers.{IsKernelNet, KernelNetsAreGood}
+use Rattle.kernel_compile.specs.Layers.{KernelNetsAreGood}
 use Rattle.kernel_compile.proofs.Counting.{joined_firings}
 use Rattle.kernel_compile.proofs.Asked.{parameters_few}
+use Rattle.kernel_compile.proofs.Marking.{Runner, runner_marked}
 use Rattle.kernel_compile.proofs.Slots.{has_slots, one_slots, fits_same, kinds_same}
 
 -- ---- a run of a graph goes on for as many visits as are wanted, or returns
@@ -66,16 +69,16 @@ record Ending (net : Net) (k : Typed) (z : Numbers) (out : List (List ℤ)) (r :
   few : length firings ≤ 256 * typed_nodes k * (t + 1)
   holds : HoldsEnd net k out r to
 
-module _ (law : Completion) (serves : OneSlotServes) (stays : StaysAtRest) (fit_law : PatternsFit) (k : Typed) (net : Net) (lawful : Lawful k) (is : IsKernelNet k net) where
+module _ (law : Completion) (serves : OneSlotServes) (stays : StaysAtRest) (fit_law : PatternsFit) (k : Typed) (net : Net) (lawful : Lawful k) (is : Runner k net) where
   header_is : net_header net ≡ kernel_header k
-  header_is = is.laid.header ∙ is.of_kernel.header
+  header_is = is.header ∙ is.of_kernel.header
 
   module _ (net2 : Net) (ret : Retimed net net2) where
     moved : (i : Inputs) (fs : List Firing) (t : State) → Run net i fs t → Run net2 i fs t
-    moved i fs t run = serves net net2 i fs t (one_slots net is.laid.slots) ret run
+    moved i fs t run = serves net net2 i fs t (one_slots net is.slots) ret run
 
     rested : (s : State) → ((c : ℕ) → tokens_at s c ≡ []) → AtRest net s → AtRest net2 s
-    rested s empty rest = stays net net2 s ret.same (has_slots net net2 is.laid.slots ret.same) empty rest
+    rested s empty rest = stays net net2 s ret.same (has_slots net net2 is.slots ret.same) empty rest
 
     kind_laid : (x : ℕ) → kind_of net2 x ≡ Exit → kind_of net x ≡ Exit
     kind_laid x e = sym (kinds_same net net2 ret.same x) ∙ e
@@ -133,9 +136,12 @@ module _ (law : Completion) (serves : OneSlotServes) (stays : StaysAtRest) (fit_
           subst (λ q. HoldsEnd net2 k out r q) (sym y.0) e.holds;
     }
 
-pub kernel_nets_good : Completion → OneSlotServes → StaysAtRest → PatternsFit → KernelNetsAreGood
-kernel_nets_good law serves stays fit k net net2 p lawful is ret = record {
-  checked = ret.checked;
-  header = ap net_header ret.same ∙ header_is law serves stays fit k net lawful is;
-  retimed = λ net3 again. computes law serves stays fit k net lawful is net3 (record { same = again.same ∙ ret.same; checked = again.checked }) p;
-}
+pub kernel_nets_good : Completion → OneSlotServes → StaysAtRest → PatternsFit → MarksAllowRuns → MarksEndAlike → SpentIsAtRest → KernelNetsAreGood
+kernel_nets_good law serves stays fit runs ends spent k net net2 forward p lawful is ret =
+    let m = marked forward net in
+    let r = runner_marked runs ends spent forward k net is in
+    record {
+      checked = ret.checked;
+      header = ap net_header ret.same ∙ header_is law serves stays fit k m lawful r;
+      retimed = λ net3 again. computes law serves stays fit k m lawful r net3 (record { same = again.same ∙ ret.same; checked = again.checked }) p;
+    }

@@ -7,5 +7,8 @@ pub mod GoodLemmas
 pub mod HeaderLemmas
 pub mod Inputs
 pub mod Joined
+pub mod Marking
+pub mod Queues
 pub mod Slots
 pub mod SoundHeaders
+pub mod Targets

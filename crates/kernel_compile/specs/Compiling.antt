@@ -1,5 +1,5 @@
 -- What each answer of the compiler says of the bytes of a kernel.
-use Rattle.std.specs.Prelude.{◌≡◌, ◌≢◌, ◌⊎◌, ℕ, List, Result, Ok, Err}
+use Rattle.std.specs.Prelude.{◌≡◌, ◌≢◌, ◌⊎◌, ℕ, Bool, List, Result, Ok, Err}
 use Rattle.c_ast.specs.declared.typed.Typed.{Typed}
 use Rattle.c_meaning.specs.declared.profile.Profile.{Profile}
 use Rattle.net_types.specs.declared.net.Net.{Net}
@@ -9,26 +9,31 @@ use Rattle.kernel_front.specs.declared.refusal.KernelRefusal.{KernelRefusal}
 use Rattle.kernel_front.specs.declared.refusal.KernelRefusal.TheVariants as refusal
 use Rattle.buffer_place.specs.declared.timing.Timing.{Timing}
 use Rattle.buffer_place.specs.Placing.{IsPlaced}
+use Rattle.queue_marks.specs.Marked.{marked, HasMark}
 use Rattle.kernel_compile.specs.declared.compiling.Compiled.{Compiled}
 use Rattle.kernel_compile.specs.Goods.{Good}
 use Rattle.kernel_compile.specs.Layers.{IsKernelNet}
+use Rattle.kernel_compile.specs.Targets.{TargetsHaveQueues}
 
--- the net is good under every profile: it is the net of the kernel's graph, with the slots and delays of the timing
-pub record IsCircuit (t : Timing) (k : Typed) (net : Net) : Type 0 where
+-- the net is good under every profile: it is the net of the kernel's graph, with the mark on its queues where that is asked for, and with the slots and delays
+-- of the timing; the arrays that the kernel assigns to have queues, and no others
+pub record IsCircuit (t : Timing) (forward : Bool) (k : Typed) (net : Net) : Type 0 where
   pub good : (p : Profile) → Good net k p
   pub plain : Net
   pub of_graph : IsKernelNet k plain
-  pub placed : IsPlaced t plain net
+  pub placed : IsPlaced t (marked forward plain) net
+  pub marks : HasMark forward net
+  pub targets : TargetsHaveQueues k net
 
 -- the bytes spell and type the kernel, which has so many nodes, and the net is its circuit
-pub record IsCompiled (bytes : List ℕ) (t : Timing) (c : Compiled) : Type 0 where
+pub record IsCompiled (bytes : List ℕ) (t : Timing) (forward : Bool) (c : Compiled) : Type 0 where
   pub kernel : IsKernel bytes (record { typed = c.typed; nodes = c.nodes })
-  pub circuit : IsCircuit t c.typed c.net
+  pub circuit : IsCircuit t forward c.typed c.net
 
 -- what an answer says of the bytes: a refusal what it says of a reader, so want of memory says nothing
-abbrev pub CompileSays : List ℕ → Timing → Result Compiled KernelRefusal → Type 0
-CompileSays bytes t (Ok c) = IsCompiled bytes t c
-CompileSays bytes t (Err e) = Says bytes (Err e)
+abbrev pub CompileSays : List ℕ → Timing → Bool → Result Compiled KernelRefusal → Type 0
+CompileSays bytes t forward (Ok c) = IsCompiled bytes t forward c
+CompileSays bytes t forward (Err e) = Says bytes (Err e)
 
 -- the answer goes with a reader's: the same kernel, or the same refusal
 abbrev pub GoesWith : Result Kernel KernelRefusal → Result Compiled KernelRefusal → Type 0

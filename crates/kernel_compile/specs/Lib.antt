@@ -1,3 +1,4 @@
 pub mod Compiling
 pub mod Goods
 pub mod Layers
+pub mod Targets

@@ -6,7 +6,8 @@ use el_base::{
     patterns_are_those_of_their_numbers, patterns_have_their_width,
     patterns_stand_for_numbers_in_range,
 };
-use net_core::{completion, more_slots};
+use net_core::{completion, more_slots, spent_is_at_rest};
+use queue_marks::marks_allow_runs;
 
 /// The inputs that fit a net with a kernel's header are the patterns of inputs that fit the kernel, and no others.
 pub fn inputs_are_patterns()
@@ -18,14 +19,16 @@ pub fn inputs_are_patterns()
     patterns_are_those_of_their_numbers();
 }
 
-/// A checked net that is equal but for slots and delays to the net of a kernel's graph computes the kernel, whatever the
-/// profile, and so it does with whatever other slots and delays it is checked.
+/// A checked net that is equal but for slots and delays to the net of a kernel's graph, with the mark on every queue or as it
+/// is, computes the kernel, whatever the profile, and so it does with whatever other slots and delays it is checked.
 pub fn kernel_nets_are_good()
     ensures { KernelNetsAreGood }
 {
     inputs_are_patterns();
     completion();
     more_slots();
+    spent_is_at_rest();
+    marks_allow_runs();
 }
 
 /// A good net computes its kernel, and is good with whatever other slots and delays it is checked. Where the kernel ends in
