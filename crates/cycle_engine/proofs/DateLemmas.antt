@@ -21,7 +21,7 @@ use Rattle.cycle_engine.proofs.BeforeLemmas.{after_of, dated_put}
 abbrev pub AllBy : ℕ → Dated → Type 0
 AllBy m s = (d : ℕ) → AllByRecursion (λ x. x ≤ m) (get_or s.dates d [])
 
-each_taken : (P : ℕ → Type 0) (g : Bool) (xs : List ℕ) → AllByRecursion P xs → AllByRecursion P (taken g xs)
+pub each_taken : (P : ℕ → Type 0) (g : Bool) (xs : List ℕ) → AllByRecursion P xs → AllByRecursion P (taken g xs)
 each_taken P true [] h = tt
 each_taken P true (x ∷ xs) h = h.1
 each_taken P false xs h = h
@@ -30,7 +30,7 @@ each_push : (P : ℕ → Type 0) (v : ℕ) (xs : List ℕ) → AllByRecursion P 
 each_push P v [] h p = (p, tt)
 each_push P v (x ∷ xs) h p = (h.0, each_push P v xs h.1 p)
 
-each_added : (P : ℕ → Type 0) (o : Option ℕ) (xs : List ℕ) → AllByRecursion P xs → ((v : ℕ) → o ≡ Some v → P v) → AllByRecursion P (added o xs)
+pub each_added : (P : ℕ → Type 0) (o : Option ℕ) (xs : List ℕ) → AllByRecursion P xs → ((v : ℕ) → o ≡ Some v → P v) → AllByRecursion P (added o xs)
 each_added P None xs h p = h
 each_added P (Some v) xs h p = each_push P v xs h (p v refl)
 

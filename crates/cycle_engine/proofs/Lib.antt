@@ -4,11 +4,17 @@ pub mod DateLemmas
 pub mod BoundLemmas
 pub mod WorkedLemmas
 pub mod OwnLemmas
+pub mod JoinLemmas
 pub mod PlaceLemmas
 mod QueueTurnLemmas
 mod TurnLemmas
+mod StepLemmas
 mod RunLemmas
 mod MoveLemmas
 mod UsedLemmas
 mod MakeLemmas
 mod StartLemmas
+mod MarkLemmas
+mod NoteLemmas
+mod NextLemmas
+mod ExecLemmas

@@ -19,6 +19,8 @@ use Rattle.cycle_engine.specs.Cycles.{Dated, after_by, after_in, AreDated, May, 
 use Rattle.cycle_engine.specs.Cuts.{joined}
 use Rattle.cycle_engine.specs.private.Trials.{dated_of, IsEngine, IsBegun, AreWithin, HasDateRoom, dates_after}
 use Rattle.cycle_engine.specs.private.Goings.{Past, IsReady, InCycle, MayFollow, IsMade, all_made}
+use Rattle.cycle_engine.specs.private.Marking.{AreSince, IsListed, IsNoted}
+use Rattle.cycle_engine.proofs.NoteLemmas.{after_is, moved_after, coming_after}
 use Rattle.cycle_engine.proofs.BeforeLemmas.{after_of}
 use Rattle.cycle_engine.proofs.DateLemmas.{dated_after}
 use Rattle.cycle_engine.proofs.MoveLemmas.{are_within}
@@ -85,16 +87,19 @@ logged true xs ys zs ws f a b = b ∙ (ap (λ k. k ++ f ∷ []) a ∙ append_ass
 logged false xs ys zs ws f a b = b ∙ ap (λ (k : List Firing). k ++ []) a
 
 -- the engine after a firing
-pub record Makes1 (net : Net) (b : Bounds) (c : ℕ) (old new : Engine) (f : Firing) : Type 0 where
+pub record Makes1 (net : Net) (b : Bounds) (c : ℕ) (old new : Engine) (f : Firing) (p : Plan) : Type 0 where
   pub after : dated_of new ≡ after_in net c (dated_of old) f
   pub fired : new.fired.items ≡ old.fired.items ++ f ∷ []
   pub begun : new.begun ≡ old.begun
   pub made : new.made ≡ old.made
   pub logged : IsLogged b.keep (f ∷ []) old.log new.log
+  pub marks : new.marks ≡ old.marks
+  pub since : AreSince new.fired.items new.since.items
+  pub notes : IsNoted net f.unit p.takes p.put c old.notes new.notes
 
-pub made_going : (net : Net) (past : Past) (b : Bounds) (c : ℕ) (start : Dated) (old new : Engine) (f : Firing) → InCycle net past b c start old → MayFollow net old f → IsUnused old.fired.items f
-    → May net c start (dated_of old) f → Makes1 net b c old new f → IsMade net past b c start old new f
-made_going net past b c start old new f going follow un may one = record {
+pub made_going : (net : Net) (past : Past) (b : Bounds) (c : ℕ) (start : Dated) (old new : Engine) (f : Firing) (p : Plan) → IsEngine net old → IsPlanOf net old.state f (Some p) → InCycle net past b c start old → MayFollow net old f → IsUnused old.fired.items f
+    → May net c start (dated_of old) f → Makes1 net b c old new f p → IsMade net past b c start old new f
+made_going net past b c start old new f p eng is going follow un may one = record {
   may = may;
   after = one.after;
   fired = one.fired;
@@ -109,15 +114,17 @@ made_going net past b c start old new f going follow un may one = record {
     made = one.made ∙ going.made;
     log = (let P : List Firing → Type 0 = λ fs. new.log.items ≡ cond b.keep (joined past.cycles ++ fs) [] in
         subst P (sym one.fired) (logged b.keep old.log.items (joined past.cycles) old.fired.items new.log.items f going.log one.logged.items));
+    moved = moved_after net c old new f p eng (after_is net c old new f p is one.after) one.begun one.notes going.moved;
+    coming = coming_after net c old new f p eng (after_is net c old new f p is one.after) one.notes going.coming;
   };
 }
 
 counts_more : (n m : ℕ) (s t : State) → CountsWithin n s → CountsRise max_depth s t → m ≡ n + max_depth → CountsWithin m t
 counts_more n m s t a r e = let P : ℕ → Type 0 = λ k. CountsWithin k t in subst P (sym e) (r n a)
 
-pub made_ready : (net : Net) (b : Bounds) (c : ℕ) (old new : Engine) (f : Firing) → IsReady net b old → IsEngine net new → CountsRise max_depth (state_of old.state) (state_of new.state) → Makes1 net b c old new f
+pub made_ready : (net : Net) (b : Bounds) (c : ℕ) (old new : Engine) (f : Firing) (p : Plan) → IsReady net b old → IsEngine net new → CountsRise max_depth (state_of old.state) (state_of new.state) → Makes1 net b c old new f p
     → all_made old < b.limit → IsReady net b new
-made_ready net b c old new f r eng rise one less =
+made_ready net b c old new f p r eng rise one less =
     let n : all_made new ≡ all_made old + 1 = (let a = ap (λ (fs : List Firing). length fs) one.fired in let d = length_snoc old.fired.items f in let e = one.made in omega arith) in
     let m : all_made new * max_depth ≡ all_made old * max_depth + max_depth = ap (λ k. k * max_depth) n ∙ more (all_made old) max_depth in
     record {
@@ -128,6 +135,10 @@ made_ready net b c old new f r eng rise one less =
       room = room b.keep refl;
       chans = ap (λ k. length k.chans.items) one.begun ∙ r.chans;
       queues = ap (λ k. length k.queues.items) one.begun ∙ r.queues;
+      marked = ap (λ m. length m.marked.items) one.marks ∙ r.marked;
+      listed = (let P : _ → Type 0 = IsListed net in subst P (sym one.marks) r.listed);
+      cells = one.notes.cells ∙ r.cells;
+      since = one.since;
     }
   where
     more : (x y : ℕ) → (x + 1) * y ≡ x * y + y

@@ -16,6 +16,7 @@ use Rattle.net_core.proofs.ApartLemmas.{same_in, same_out}
 use Rattle.net_core.proofs.ForkLemmas.{send_eff, send_inv}
 use Rattle.cycle_engine.specs.Cycles.{Dated, after_by, after_in, used, IsRipe, May, act_place, AreDated}
 use Rattle.cycle_engine.specs.Rousing.{GoesTo, Stirs, OwnRouses}
+use Rattle.cycle_engine.specs.private.Marking.{is_goer}
 use Rattle.cycle_engine.proofs.BeforeLemmas.{after_of, IsLate, kept_free}
 use Rattle.cycle_engine.proofs.DateLemmas.{effect_there}
 use Rattle.cycle_engine.proofs.RousingLemmas.{late_or, slots_within}
@@ -32,12 +33,6 @@ go_on (Exec x) r h e q = cc
 go_on (Reply p) r h e q = cc
 go_on Retire r h e q = cc
 go_on End r h e q = cc
-
-abbrev is_goer : Kind → Bool
-is_goer (Fork w outs) = false
-is_goer (Cmerge ins) = false
-is_goer (Lsq a d ps gs fw) = false
-is_goer _ = true
 
 goes_only : (k : Kind) (a : Act) (o : Own) (xs : List ℕ) (ss : Setting) (h : ℕ → Option ℕ) (e : Effect) → is_goer k ≡ true → effect_of (row k a o xs ss) h ≡ Some e → a ≡ Go
 unfolding row
@@ -56,7 +51,7 @@ goes_only (Sink w) a o xs ss h e g q = go_on a _ h e q
 goes_only (Read n) a o xs ss h e g q = go_on a _ h e q
 goes_only Exit a o xs ss h e g q = go_on a _ h e q
 
-both_go : (net : Net) (u : ℕ) (a b : Act) (s t : State) → is_goer (kind_of net u) ≡ true → enabled net s (firing u a) → enabled net t (firing u b) → act_place b ≡ act_place a
+pub both_go : (net : Net) (u : ℕ) (a b : Act) (s t : State) → is_goer (kind_of net u) ≡ true → enabled net s (firing u a) → enabled net t (firing u b) → act_place b ≡ act_place a
 both_go net u a b s t g n m =
     let x = effect_there net s (firing u a) n in
     let y = effect_there net t (firing u b) m in

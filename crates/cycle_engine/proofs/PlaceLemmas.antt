@@ -1,31 +1,31 @@
--- The next place after that of an enabled firing.
-use Rattle.std.proofs.Common.{is_some, suc, zero, cond, eqb-true, ◌≡◌, ◌≢◌, ℕ, ◌+◌, ◌<◌, ◌≤◌, ◌^◌, ◌⊎◌, inl, inr, Bool, true, false, Option, Some, None, List, [], ◌∷◌, length, get_or, refl, sym, ap, subst, ◌∙◌, arith, nat_lt, ltb-true}
+-- The acts of units, by their ranks and numbers.
+use Rattle.std.proofs.Common.{is_some, suc, zero, cond, eqb-true, ◌≡◌, ℕ, ◌<◌, ◌≤◌, ◌⊎◌, inl, inr, Bool, true, false, Option, Some, None, List, [], ◌∷◌, length, get_or, refl, sym, ap, ◌∙◌, arith, nat_lt, ltb-true}
 use Rattle.std.proofs.lemmas.Bool.{cases_lt, and_parts}
-use Rattle.el_base.specs.Limits.{max_ways}
+use Rattle.std.proofs.lemmas.List.{get_or_past}
 use Rattle.net_types.specs.declared.net.Net.{Net}
 use Rattle.net_types.specs.declared.net.Unit.{Unit as Kind}
-use Rattle.net_types.specs.declared.net.Unit.TheVariants.{Fork, Cmerge, Lsq}
+use Rattle.net_types.specs.declared.net.Unit.TheVariants.{Entry, Param, Const, Op1, Op2, Select, Fork, Mux, Cmerge, Branch, Sink, Read, Lsq, Exit}
 use Rattle.net_types.specs.declared.firing.Act.{Act}
 use Rattle.net_types.specs.declared.firing.Act.TheVariants.{Go, From, Send, Alloc, Addr, Data, Exec, Reply, Retire, End}
 use Rattle.net_types.specs.declared.firing.Firing.{Firing}
 use Rattle.net_types.specs.Nets.{kind_of, firing, uses}
 use Rattle.net_types.specs.Order.{act_rank, act_number}
 use Rattle.net_check.specs.Checks.{IsChecked}
-use Rattle.net_check.specs.Shapes.{HasShape}
 use Rattle.net_check.specs.Ends.{is_lsq}
 use Rattle.std.specs.List.{find}
 use Rattle.lsq_core.specs.declared.entry.Entry.{Entry as Item}
 use Rattle.lsq_core.specs.Acts.{can, wants_addr, wants_data, wants_reply, is_done}
 use Rattle.lsq_core.specs.Views.{InPorts}
-use Rattle.net_core.specs.Fire.{State, Own, Setting, Effect, effect_of, idle, enabled, head_at, at_array, row, setting}
-use Rattle.net_core.specs.private.Searches.{ActLe, FiringLe}
-use Rattle.net_core.proofs.OrderLemmas.{le_before, before_le, go_least}
+use Rattle.net_core.specs.Fire.{State, Own, Row, Take, Setting, Effect, with_head, taking, on_go, fork_row, effect_of, idle, enabled, head_at, at_array, row, go_row, setting}
 use Rattle.net_core.proofs.GoesLemmas.{goes}
 use Rattle.net_core.proofs.ForkLemmas.{fork_is, send_inv}
 use Rattle.net_core.proofs.ActLemmas.{merge_inv, from_kind, alloc_kind}
 use Rattle.net_core.proofs.QueueActLemmas.{queue_inv, lsq_is, group_within}
-use Rattle.cycle_engine.specs.Cycles.{act_place, place_of}
-use Rattle.cycle_engine.specs.private.Places.{place_number, IsNext, HasView}
+use Rattle.cycle_engine.specs.Cycles.{act_place}
+use Rattle.cycle_engine.specs.private.Places.{HasView, count_in, inputs_in, outputs_in, groups_in, ports_in, first_of}
+use Rattle.cycle_engine.specs.private.Marking.{asks_first, IsStarved}
+use Rattle.cycle_engine.proofs.OwnLemmas.{fork_act}
+use Rattle.cycle_engine.proofs.QueueTurnLemmas.{on_go_is}
 
 -- ---- numbers of acts
 
@@ -62,41 +62,37 @@ done_some : (o : Option Item) → is_done o ≡ true → is_some o ≡ true
 done_some None h = cc
 done_some (Some x) h = refl
 
-module _ (net : Net) (s : State) (u : ℕ) (checked : IsChecked net) where
-  pub from_small : (j : ℕ) → enabled net s (firing u (From j)) → j + 1 < 2 ^ 32
-  from_small j n =
+module _ (net : Net) (s : State) (u : ℕ) where
+  from_below : (j : ℕ) → enabled net s (firing u (From j)) → j < inputs_in (kind_of net u)
+  from_below j n =
       let g = goes net s (firing u (From j)) n in
       let k = from_kind (kind_of net u) j (get_or s.own u idle) (at_array s.arrays (uses (kind_of net u))) (setting net s) (head_at net s u) g.0 g.1.is in
       let m = merge_inv net s u k.0 (From j) k.1 g.0 g.1.is in
       let e : j ≡ m.0 = (let q : From j ≡ From m.0 = m.1 in cc) in
       let l = m.2 in
-      let h : HasShape (Cmerge k.0) = subst HasShape k.1 (checked.shapes u) in
-      let t : k.0 ≤ max_ways = h.most in
+      let h : inputs_in (kind_of net u) ≡ k.0 = ap inputs_in k.1 in
       omega arith
 
-  pub send_small : (j : ℕ) → enabled net s (firing u (Send j)) → j + 1 < 2 ^ 32
-  send_small j n =
+  send_below : (j : ℕ) → enabled net s (firing u (Send j)) → j < outputs_in (kind_of net u)
+  send_below j n =
       let g = goes net s (firing u (Send j)) n in
       let k = send_kind (kind_of net u) j (get_or s.own u idle) (at_array s.arrays (uses (kind_of net u))) (setting net s) (head_at net s u) g.0 g.1.is in
       let i = send_inv k.1 j (get_or s.own u idle) [] (head_at net s u) g.0 (sym (fork_is net s u k.0 k.1 k.2 s j) ∙ g.1.is) in
       let l : j < k.1 = ltb-true _ _ (and_parts (nat_lt j k.1) _ i.0).0 in
-      let h : HasShape (Fork k.0 k.1) = subst HasShape k.2 (checked.shapes u) in
-      let t : k.1 ≤ max_ways = h.most in
+      let h : outputs_in (kind_of net u) ≡ k.1 = ap outputs_in k.2 in
       omega arith
 
-  pub alloc_small : (j : ℕ) → enabled net s (firing u (Alloc j)) → j + 1 < 2 ^ 32
-  alloc_small j n =
+  alloc_below : (j : ℕ) → enabled net s (firing u (Alloc j)) → j < groups_in (kind_of net u)
+  alloc_below j n =
       let g = goes net s (firing u (Alloc j)) n in
       let k = alloc_kind (kind_of net u) j (get_or s.own u idle) (at_array s.arrays (uses (kind_of net u))) (setting net s) (head_at net s u) g.0 g.1.is in
       let i = queue_inv k.depth k.ports k.groups (Alloc j) (get_or s.own u idle) (get_or s.arrays k.array []) (head_at net s u) g.0 (sym (lsq_is net u k.array k.depth k.ports k.groups k.mark k.is s (Alloc j)) ∙ g.1.is) in
       let l : j < length k.groups = group_within k.depth k.groups (get_or s.own u idle).queue j i.1 in
-      let t : length k.groups < 2 ^ 32 = checked.numbered.groups u k.array k.depth k.ports k.groups k.mark k.is in
+      let h : groups_in (kind_of net u) ≡ length k.groups = ap groups_in k.is in
       omega arith
 
-  ports_small : (j : ℕ) (v : HasView net s u) → j < length v.view.ports → j + 1 < 2 ^ 32
-  ports_small j v l =
-      let t : length v.view.ports < 2 ^ 32 = checked.numbered.ports u v.array v.view.depth v.view.ports v.view.groups v.view.queue.forward v.shape in
-      omega arith
+  port_below : (j : ℕ) (v : HasView net s u) → j < length v.view.ports → j < ports_in (kind_of net u)
+  port_below j v l = (let h : ports_in (kind_of net u) ≡ length v.view.ports = ap ports_in v.shape in omega arith)
 
   can_of : (b : Act) (v : HasView net s u) → enabled net s (firing u b) → can v.view.depth v.view.groups v.view.queue b ≡ true
   can_of b v n =
@@ -104,26 +100,26 @@ module _ (net : Net) (s : State) (u : ℕ) (checked : IsChecked net) where
       let i = queue_inv v.view.depth v.view.ports v.view.groups b (get_or s.own u idle) (get_or s.arrays v.array []) (head_at net s u) g.0 (sym (lsq_is net u v.array v.view.depth v.view.ports v.view.groups v.view.queue.forward v.shape s b) ∙ g.1.is) in
       ap (λ z. can v.view.depth v.view.groups z b) v.state ∙ i.1
 
-  pub addr_small : (j : ℕ) → (is_lsq (kind_of net u) ≡ true → HasView net s u) → enabled net s (firing u (Addr j)) → j + 1 < 2 ^ 32
-  addr_small j view n =
+  addr_below : (j : ℕ) → (is_lsq (kind_of net u) ≡ true → HasView net s u) → enabled net s (firing u (Addr j)) → j < ports_in (kind_of net u)
+  addr_below j view n =
       let g = goes net s (firing u (Addr j)) n in
       let v = view (addr_kind (kind_of net u) j (get_or s.own u idle) (at_array s.arrays (uses (kind_of net u))) (setting net s) (head_at net s u) g.0 g.1.is) in
       let f : is_some (find (wants_addr j) v.view.queue.items) ≡ true = (can_of (Addr j) v n) in
-      ports_small j v (found_port (wants_addr j) v.view.queue.items j (length v.view.ports) v.ports (λ x h. eqb-true _ _ (and_parts _ _ h).0) f)
+      port_below j v (found_port (wants_addr j) v.view.queue.items j (length v.view.ports) v.ports (λ x h. eqb-true _ _ (and_parts _ _ h).0) f)
 
-  pub data_small : (j : ℕ) → (is_lsq (kind_of net u) ≡ true → HasView net s u) → enabled net s (firing u (Data j)) → j + 1 < 2 ^ 32
-  data_small j view n =
+  data_below : (j : ℕ) → (is_lsq (kind_of net u) ≡ true → HasView net s u) → enabled net s (firing u (Data j)) → j < ports_in (kind_of net u)
+  data_below j view n =
       let g = goes net s (firing u (Data j)) n in
       let v = view (data_kind (kind_of net u) j (get_or s.own u idle) (at_array s.arrays (uses (kind_of net u))) (setting net s) (head_at net s u) g.0 g.1.is) in
       let f : is_some (find (wants_data j) v.view.queue.items) ≡ true = (can_of (Data j) v n) in
-      ports_small j v (found_port (wants_data j) v.view.queue.items j (length v.view.ports) v.ports (λ x h. eqb-true _ _ (and_parts _ _ h).0) f)
+      port_below j v (found_port (wants_data j) v.view.queue.items j (length v.view.ports) v.ports (λ x h. eqb-true _ _ (and_parts _ _ h).0) f)
 
-  pub reply_small : (j : ℕ) → (is_lsq (kind_of net u) ≡ true → HasView net s u) → enabled net s (firing u (Reply j)) → j + 1 < 2 ^ 32
-  reply_small j view n =
+  reply_below : (j : ℕ) → (is_lsq (kind_of net u) ≡ true → HasView net s u) → enabled net s (firing u (Reply j)) → j < ports_in (kind_of net u)
+  reply_below j view n =
       let g = goes net s (firing u (Reply j)) n in
       let v = view (reply_kind (kind_of net u) j (get_or s.own u idle) (at_array s.arrays (uses (kind_of net u))) (setting net s) (head_at net s u) g.0 g.1.is) in
       let f : is_some (find (wants_reply j) v.view.queue.items) ≡ true = done_some (find (wants_reply j) v.view.queue.items) (can_of (Reply j) v n) in
-      ports_small j v (found_port (wants_reply j) v.view.queue.items j (length v.view.ports) v.ports (λ x h. eqb-true _ _ (and_parts _ _ h).0) f)
+      port_below j v (found_port (wants_reply j) v.view.queue.items j (length v.view.ports) v.ports (λ x h. eqb-true _ _ (and_parts _ _ h).0) f)
 
 -- ---- acts by their ranks and numbers
 
@@ -170,95 +166,76 @@ retire_is b e = ap act_place (act_is 8 b e)
 pub end_is : (b : Act) → act_rank b ≡ 9 → act_place b ≡ End
 end_is b e = ap act_place (act_is 9 b e)
 
--- ---- the next place
+-- ---- how many acts there are of a kind
 
--- the same act with the next number
-step : (a b : Act) → act_rank b ≡ act_rank a → act_number b ≡ act_number a + 1 → (g : Act) → ActLe a g → act_place g ≢ act_place a → ActLe b g
-step a b r n g (inl l) ne = inl (omega arith)
-step a b r n g (inr m) ne = by (cases_lt (act_number a) (act_number g)) m
+-- the acts that are enabled have the first numbers
+pub numbers_below : (net : Net) (s : State) (u : ℕ) (kind b : Act) → (is_lsq (kind_of net u) ≡ true → HasView net s u) → act_rank b ≡ act_rank kind → enabled net s (firing u b) → act_number (act_place b) < count_in (kind_of net u) kind
+numbers_below net s u kind b view r n = by b r n
   where
-    by : (act_number a < act_number g) ⊎ (act_number g ≤ act_number a) → (act_rank a ≡ act_rank g) × (act_number a ≤ act_number g) → ActLe b g
-    by (inl l) m = let e = m.0 in inr (omega arith, omega arith)
-    by (inr l) m = let e = m.0 in let k = m.1 in absurd (ne (ap act_place (same_act g a (sym m.0) (omega arith))))
+    kind_is : (x : ℕ) → act_rank kind ≡ x → count_in (kind_of net u) kind ≡ count_in (kind_of net u) (act_by x (act_number kind))
+    kind_is x e = ap (count_in (kind_of net u)) (act_is x kind e)
 
--- the first act of the next kind, where all acts of a kind are of one place
-jump : (a b : Act) → act_rank b ≡ act_rank a + 1 → act_number b ≡ 0 → ((g : Act) → act_rank g ≡ act_rank a → act_place g ≡ act_place a) → (g : Act) → ActLe a g → act_place g ≢ act_place a → ActLe b g
-jump a b r n same g (inl l) ne = by (cases_lt (act_rank b) (act_rank g))
-  where
-    by : (act_rank b < act_rank g) ⊎ (act_rank g ≤ act_rank b) → ActLe b g
-    by (inl k) = inl k
-    by (inr k) = inr (omega arith, omega arith)
-jump a b r n same g (inr m) ne = absurd (ne (same g (sym m.0)))
+    by : (b : Act) → act_rank b ≡ act_rank kind → enabled net s (firing u b) → act_number (act_place b) < count_in (kind_of net u) kind
+    by Go r n = let k = kind_is 0 (sym r) in omega arith
+    by (From j) r n = let k = kind_is 1 (sym r) in let l = from_below net s u j n in omega arith
+    by (Send j) r n = let k = kind_is 2 (sym r) in let l = send_below net s u j n in omega arith
+    by (Alloc j) r n = let k = kind_is 3 (sym r) in let l = alloc_below net s u j n in omega arith
+    by (Addr j) r n = let k = kind_is 4 (sym r) in let l = addr_below net s u j view n in omega arith
+    by (Data j) r n = let k = kind_is 5 (sym r) in let l = data_below net s u j view n in omega arith
+    by (Exec j) r n = let k = kind_is 6 (sym r) in omega arith
+    by (Reply j) r n = let k = kind_is 7 (sym r) in let l = reply_below net s u j view n in omega arith
+    by Retire r n = let k = kind_is 8 (sym r) in omega arith
+    by End r n = let k = kind_is 9 (sym r) in omega arith
 
-next_of : (net : Net) (u : ℕ) (a b : Act) → u < length net.units → act_place b ≡ b → act_number b < 2 ^ 32 → place_number (firing u a) < place_number (firing u b)
-    → act_rank a ≤ act_rank b → ((g : Act) → ActLe a g → act_place g ≢ act_place a → ActLe b g) → IsNext net (firing u a) (firing u b)
-next_of net u a b l fixed small more rises acts = record {
-  place = record { fixed = fixed; small = small; within = omega arith };
-  more = more;
-  behind = inr (refl, rises);
-  far = λ g e ne. le_before (firing u b) g (by g (before_le (firing u a) g e) ne);
-}
-  where
-    by : (g : Firing) → FiringLe (firing u a) g → place_of g ≢ place_of (firing u a) → FiringLe (firing u b) g
-    by g (inl k) ne = inl k
-    by g (inr m) ne = inr (m.0, acts g.act m.1 (λ z. ne (λ i. record { unit = sym m.0 i; act = z i })))
+first_kind : (k : Kind) (b : Act) (o : Own) (xs : List ℕ) (ss : Setting) (h : ℕ → Option ℕ) (e : Effect) → is_lsq k ≡ false → effect_of (row k b o xs ss) h ≡ Some e → act_rank b ≡ act_rank (first_of k)
+unfolding row
+first_kind (Lsq a d ps gs fw) b o xs ss h e l q = cc
+first_kind (Fork w outs) b o xs ss h e l q = ap act_rank (fork_act outs b o xs h e q).1
+first_kind (Cmerge ins) (From j) o xs ss h e l q = refl
+first_kind (Cmerge ins) b o xs ss h e l q = cc
+first_kind k b o xs ss h e l q = ap act_rank (on_go_is b (go_row k o xs ss) h e q)
 
-module _ (net : Net) (u : ℕ) (l : u < length net.units) where
-  pub after_go : IsNext net (firing u Go) (firing u (From 0))
-  after_go = next_of net u Go (From 0) l refl (omega arith) (omega arith) (omega arith) (jump Go (From 0) refl refl (λ g r. go_is g r))
+-- a unit that is no queue has acts of one kind
+pub first_rank : (net : Net) (s : State) (u : ℕ) (b : Act) → is_lsq (kind_of net u) ≡ false → enabled net s (firing u b) → act_rank b ≡ act_rank (first_of (kind_of net u))
+first_rank net s u b l n =
+    let g = goes net s (firing u b) n in
+    first_kind (kind_of net u) b (get_or s.own u idle) (at_array s.arrays (uses (kind_of net u))) (setting net s) (head_at net s u) g.0 l g.1.is
 
-  pub after_from : (j : ℕ) → j + 1 < 2 ^ 32 → IsNext net (firing u (From j)) (firing u (From (j + 1)))
-  after_from j k = next_of net u (From j) (From (j + 1)) l refl k (omega arith) (omega arith) (step (From j) (From (j + 1)) refl refl)
+pub first_low : (k : Kind) → act_rank (first_of k) ≤ 2
+first_low Entry = omega arith
+first_low (Param j) = omega arith
+first_low (Const w n) = omega arith
+first_low (Op1 op) = omega arith
+first_low (Op2 op) = omega arith
+first_low (Select w) = omega arith
+first_low (Fork w outs) = omega arith
+first_low (Mux w ins) = omega arith
+first_low (Cmerge ins) = omega arith
+first_low (Branch w) = omega arith
+first_low (Sink w) = omega arith
+first_low (Read a) = omega arith
+first_low (Lsq a d ps gs f) = omega arith
+first_low Exit = omega arith
 
-  pub after_send : (j : ℕ) → j + 1 < 2 ^ 32 → IsNext net (firing u (Send j)) (firing u (Send (j + 1)))
-  after_send j k = next_of net u (Send j) (Send (j + 1)) l refl k (omega arith) (omega arith) (step (Send j) (Send (j + 1)) refl refl)
+queue_kind : (k : Kind) (b : Act) (o : Own) (xs : List ℕ) (ss : Setting) (h : ℕ → Option ℕ) (e : Effect) → is_lsq k ≡ true → effect_of (row k b o xs ss) h ≡ Some e → 3 ≤ act_rank b
+unfolding row
+queue_kind (Lsq a d ps gs fw) Go o xs ss h e l q = cc
+queue_kind (Lsq a d ps gs fw) (From j) o xs ss h e l q = cc
+queue_kind (Lsq a d ps gs fw) (Send j) o xs ss h e l q = cc
+queue_kind (Lsq a d ps gs fw) (Alloc j) o xs ss h e l q = omega arith
+queue_kind (Lsq a d ps gs fw) (Addr j) o xs ss h e l q = omega arith
+queue_kind (Lsq a d ps gs fw) (Data j) o xs ss h e l q = omega arith
+queue_kind (Lsq a d ps gs fw) (Exec j) o xs ss h e l q = omega arith
+queue_kind (Lsq a d ps gs fw) (Reply j) o xs ss h e l q = omega arith
+queue_kind (Lsq a d ps gs fw) Retire o xs ss h e l q = omega arith
+queue_kind (Lsq a d ps gs fw) End o xs ss h e l q = omega arith
+queue_kind k b o xs ss h e l q = cc
 
-  pub after_alloc : (j : ℕ) → j + 1 < 2 ^ 32 → IsNext net (firing u (Alloc j)) (firing u (Alloc (j + 1)))
-  after_alloc j k = next_of net u (Alloc j) (Alloc (j + 1)) l refl k (omega arith) (omega arith) (step (Alloc j) (Alloc (j + 1)) refl refl)
-
-  pub after_addr : (j : ℕ) → j + 1 < 2 ^ 32 → IsNext net (firing u (Addr j)) (firing u (Addr (j + 1)))
-  after_addr j k = next_of net u (Addr j) (Addr (j + 1)) l refl k (omega arith) (omega arith) (step (Addr j) (Addr (j + 1)) refl refl)
-
-  pub after_data : (j : ℕ) → j + 1 < 2 ^ 32 → IsNext net (firing u (Data j)) (firing u (Data (j + 1)))
-  after_data j k = next_of net u (Data j) (Data (j + 1)) l refl k (omega arith) (omega arith) (step (Data j) (Data (j + 1)) refl refl)
-
-  pub after_exec : (j : ℕ) → IsNext net (firing u (Exec j)) (firing u (Reply 0))
-  after_exec j = next_of net u (Exec j) (Reply 0) l refl (omega arith) (omega arith) (omega arith) (jump (Exec j) (Reply 0) refl refl (λ g r. ap act_place (exec_is g r)))
-
-  pub after_reply : (j : ℕ) → j + 1 < 2 ^ 32 → IsNext net (firing u (Reply j)) (firing u (Reply (j + 1)))
-  after_reply j k = next_of net u (Reply j) (Reply (j + 1)) l refl k (omega arith) (omega arith) (step (Reply j) (Reply (j + 1)) refl refl)
-
-  pub after_retire : IsNext net (firing u Retire) (firing u End)
-  after_retire = next_of net u Retire End l refl (omega arith) (omega arith) (omega arith) (jump Retire End refl refl (λ g r. retire_is g r))
-
-  rank_most : (a : Act) → act_rank a ≤ 9
-  rank_most Go = omega arith
-  rank_most (From j) = omega arith
-  rank_most (Send j) = omega arith
-  rank_most (Alloc j) = omega arith
-  rank_most (Addr j) = omega arith
-  rank_most (Data j) = omega arith
-  rank_most (Exec j) = omega arith
-  rank_most (Reply j) = omega arith
-  rank_most Retire = omega arith
-  rank_most End = omega arith
-
-  pub after_end : IsNext net (firing u End) (firing (u + 1) Go)
-  after_end = record {
-    place = record { fixed = refl; small = omega arith; within = omega arith };
-    more = omega arith;
-    behind = inl (omega arith);
-    far = λ g e ne. le_before (firing (u + 1) Go) g (by g (before_le (firing u End) g e) ne);
-  }
-    where
-      by : (g : Firing) → FiringLe (firing u End) g → place_of g ≢ place_of (firing u End) → FiringLe (firing (u + 1) Go) g
-      by g (inl k) ne = units (cases_lt (u + 1) g.unit)
-        where
-          units : (u + 1 < g.unit) ⊎ (g.unit ≤ u + 1) → FiringLe (firing (u + 1) Go) g
-          units (inl m) = inl m
-          units (inr m) = inr (omega arith, go_least g.act)
-      by g (inr (e, inl k)) ne = let t = rank_most g.act in absurd (omega arith)
-      by g (inr (e, inr m)) ne = absurd (ne (let z = end_is g.act (sym m.0) in λ i. record { unit = sym e i; act = z i }))
+-- the acts of a queue come from the third kind on
+pub queue_rank : (net : Net) (s : State) (u : ℕ) (b : Act) → is_lsq (kind_of net u) ≡ true → enabled net s (firing u b) → 3 ≤ act_rank b
+queue_rank net s u b l n =
+    let g = goes net s (firing u b) n in
+    queue_kind (kind_of net u) b (get_or s.own u idle) (at_array s.arrays (uses (kind_of net u))) (setting net s) (head_at net s u) g.0 l g.1.is
 
 pub fires_within : (net : Net) (s : State) (f : Firing) → IsChecked net → length s.tokens ≡ length net.chans → enabled net s f → f.unit < length net.units
 fires_within net s f checked long n = by (cases_lt f.unit (length net.units))
@@ -267,9 +244,57 @@ fires_within net s f checked long n = by (cases_lt f.unit (length net.units))
     by (inl l) = l
     by (inr l) = absurd (Rattle.net_core.proofs.FindLemmas.past_quiet net s f checked long l n)
 
--- the firing of a unit by an act, as a function of the act
-pub fires_as : (net : Net) (s : State) (f : Firing) (a : Act) → f.act ≡ a → enabled net s f → enabled net s (firing f.unit a)
-fires_as net s f a e n = subst (λ b. enabled net s (firing f.unit b)) e n
+-- a queue is among the units
+pub queue_within : (net : Net) (u : ℕ) → is_lsq (kind_of net u) ≡ true → u < length net.units
+queue_within net u q = by (cases_lt u (length net.units))
+  where
+    by : (u < length net.units) ⊎ (length net.units ≤ u) → u < length net.units
+    by (inl l) = l
+    by (inr l) = (let z : kind_of net u ≡ Sink 0 = get_or_past net.units u (Sink 0) l in let y : false ≡ true = sym (ap is_lsq z) ∙ q in cc)
 
-pub next_as : (net : Net) (f p : Firing) (a : Act) → f.act ≡ a → IsNext net (firing f.unit a) p → IsNext net f p
-next_as net f p a e n = subst (λ b. IsNext net (firing f.unit b) p) (sym e) n
+-- ---- units that want a token
+
+none_head : (o : Option ℕ) (k : ℕ → Option Effect) (e : Effect) → o ≡ None → with_head o k ≡ Some e → ⊥
+none_head None k e n q = cc
+none_head (Some v) k e n q = cc
+
+go_asks : (a : Act) (next : ℕ → Row) (h : ℕ → Option ℕ) (e : Effect) → h 0 ≡ None → effect_of (on_go a (Take 0 next)) h ≡ Some e → ⊥
+go_asks Go next h e n q = none_head (h 0) (λ v. taking 0 (effect_of (next v) h)) e n q
+go_asks (From j) next h e n q = cc
+go_asks (Send j) next h e n q = cc
+go_asks (Alloc j) next h e n q = cc
+go_asks (Addr j) next h e n q = cc
+go_asks (Data j) next h e n q = cc
+go_asks (Exec j) next h e n q = cc
+go_asks (Reply j) next h e n q = cc
+go_asks Retire next h e n q = cc
+go_asks End next h e n q = cc
+
+fork_asks : (outs : ℕ) (a : Act) (o : Own) (xs : List ℕ) (h : ℕ → Option ℕ) (e : Effect) → h 0 ≡ None → effect_of (fork_row outs a o xs) h ≡ Some e → ⊥
+fork_asks outs a o xs h e n q =
+    let fa = fork_act outs a o xs h e q in
+    let i = send_inv outs fa.0 o xs h e fa.2 in
+    let z : None ≡ Some i.1 = sym n ∙ i.2 in cc
+
+asks : (k : Kind) (a : Act) (o : Own) (xs : List ℕ) (ss : Setting) (h : ℕ → Option ℕ) (e : Effect) → asks_first k ≡ true → h 0 ≡ None → effect_of (row k a o xs ss) h ≡ Some e → ⊥
+unfolding row
+asks Entry a o xs ss h e t n q = cc
+asks (Param j) a o xs ss h e t n q = cc
+asks (Cmerge ins) a o xs ss h e t n q = cc
+asks (Lsq x d ps gs fw) a o xs ss h e t n q = cc
+asks Exit a o xs ss h e t n q = cc
+asks (Fork w outs) a o xs ss h e t n q = fork_asks outs a o xs h e n q
+asks (Const w x) a o xs ss h e t n q = go_asks a _ h e n q
+asks (Op1 op) a o xs ss h e t n q = go_asks a _ h e n q
+asks (Op2 op) a o xs ss h e t n q = go_asks a _ h e n q
+asks (Select w) a o xs ss h e t n q = go_asks a _ h e n q
+asks (Mux w ins) a o xs ss h e t n q = go_asks a _ h e n q
+asks (Branch w) a o xs ss h e t n q = go_asks a _ h e n q
+asks (Sink w) a o xs ss h e t n q = go_asks a _ h e n q
+asks (Read x) a o xs ss h e t n q = go_asks a _ h e n q
+
+-- a unit that wants a token does not fire
+pub starved_quiet : (net : Net) (s : State) (u : ℕ) (a : Act) → IsStarved net s u → enabled net s (firing u a) → ⊥
+starved_quiet net s u a h n =
+    let g = goes net s (firing u a) n in
+    asks (kind_of net u) a (get_or s.own u idle) (at_array s.arrays (uses (kind_of net u))) (setting net s) (head_at net s u) g.0 h.0 h.1 g.1.is

@@ -35,10 +35,11 @@ use Rattle.net_core.proofs.EffectLemmas.{QueueGoes, queue_goes_on}
 use Rattle.net_core.proofs.RegularLemmas.{IsRegular, own_kept}
 use Rattle.net_core.proofs.TakerLemmas.{counted_head, one_held}
 use Rattle.cycle_engine.specs.Cycles.{Dated, used, IsRipe, HasDepth, May, Makes, act_place, place_of, IsUnused, phase, after_in, after_by, AreDated}
-use Rattle.cycle_engine.specs.Rousing.{Could}
+use Rattle.cycle_engine.specs.Rousing.{Could, GoesTo, ComesFrom}
+use Rattle.cycle_engine.specs.private.Marking.{is_merge}
 use Rattle.cycle_engine.specs.private.Places.{AllocsOnce}
 use Rattle.cycle_engine.proofs.BeforeLemmas.{after_of, IsLate, before, may_could, kept_free}
-use Rattle.cycle_engine.proofs.RousingLemmas.{slots_within, room_before}
+use Rattle.cycle_engine.proofs.RousingLemmas.{slots_within, room_before, rouses, late_or}
 use Rattle.cycle_engine.proofs.DateLemmas.{some_effect, effect_there, dated_after}
 use Rattle.cycle_engine.proofs.OwnLemmas.{fork_act}
 use Rattle.cycle_engine.proofs.MakeLemmas.{all_snoc}
@@ -65,10 +66,6 @@ queue_late net u w e checked q p l h =
 
 -- ---- the act that puts at a place
 
-abbrev pub is_merge : Kind → Bool
-is_merge (Cmerge ins) = true
-is_merge _ = false
-
 abbrev pub queue_at : ℕ → ℕ → Act
 queue_at n p = cond (nat_lt p n) (Alloc p) (cond (p == n) End (Reply (p - n - 1)))
 
@@ -77,7 +74,7 @@ act_at (Fork w outs) p = Send p
 act_at (Lsq a d ps gs fw) p = queue_at (length gs) p
 act_at _ p = Go
 
-on_go_is : (a : Act) (r : Row) (h : ℕ → Option ℕ) (e : Effect) → effect_of (on_go a r) h ≡ Some e → a ≡ Go
+pub on_go_is : (a : Act) (r : Row) (h : ℕ → Option ℕ) (e : Effect) → effect_of (on_go a r) h ≡ Some e → a ≡ Go
 on_go_is Go r h e q = refl
 on_go_is _ r h e q = cc
 
@@ -285,6 +282,32 @@ others_back net c start fs s u n d ps gs fw a e g checked good ks k m ku ea ne u
             took : (t : Bool) → takes_from net u e (out_of g.unit w.place net.chans) ≡ t → has_room net s.state g.unit (Some w)
             took false free = room_before net c s u g.unit e w ne k free h
             took true there = absurd (two_tokens net s.state u n d ps gs fw a e g.unit q.0 g.act x.0 w checked good ku ea q.1 x.1 i there)
+
+-- what a firing makes possible elsewhere: at the unit into which it put without delay, or at a merge that puts on a channel from
+-- which it took
+pub unit_rouses : (net : Net) (c : ℕ) (start : Dated) (fs : List Firing) (s : Dated) (f g : Firing) (e : Effect) → IsChecked net → AreDated net start → AreDated net s → Makes net c start start fs s → IsUnused fs g → effect net s.state f ≡ Some e
+    → May net c start (after_in net c s f) g → May net c start s g ⊎ ((g.unit ≡ f.unit) ⊎ (GoesTo net f.unit e g.unit ⊎ ((is_merge (kind_of net g.unit) ≡ true) × ComesFrom net f.unit e s g)))
+unit_rouses net c start fs s f g e checked ks k m un is may = by (rouses net c start s f g e checked k is may) (is_merge (kind_of net g.unit)) refl (cases_eq g.unit f.unit) (late_or net f.unit g.unit e)
+  where
+    after : May net c start (after_of net c s f.unit e) g
+    after = (let P : Dated → Type 0 = λ x. May net c start x g in subst P (ap (after_by net c s f.unit) is) may)
+
+    back : is_merge (kind_of net g.unit) ≡ false → g.unit ≢ f.unit → IsLate net f.unit g.unit e → May net c start s g
+    back plain ne late =
+        let b = before net c start s f.unit g e (λ u v a differ o r. differ (sym (checked.alone u v a o r))) ne k late (may_could net c start (after_of net c s f.unit e) g after) in
+        let x = some_effect (effect net s.state g) (λ x. has_room net start.state g.unit x.put) b.0.acts in
+        let T : Option Effect → Type 0 = λ o. IsSomeAnd o (λ y. has_room net s.state g.unit y.put) in
+        record { turn = subst T (sym x.1) (room_now net c start fs s g x.0 ks m un plain x.1 x.2); ripe = b.0.ripe; room = b.0.acts; depth = b.0.depth }
+
+    by : May net c start s g ⊎ ((g.unit ≡ f.unit) ⊎ (GoesTo net f.unit e g.unit ⊎ ComesFrom net f.unit e s g)) → (q : Bool) → is_merge (kind_of net g.unit) ≡ q → (g.unit ≡ f.unit) ⊎ (g.unit ≢ f.unit)
+        → IsLate net f.unit g.unit e ⊎ GoesTo net f.unit e g.unit → May net c start s g ⊎ ((g.unit ≡ f.unit) ⊎ (GoesTo net f.unit e g.unit ⊎ ((is_merge (kind_of net g.unit) ≡ true) × ComesFrom net f.unit e s g)))
+    by (inl x) q i u l = inl x
+    by (inr (inl x)) q i u l = inr (inl x)
+    by (inr (inr (inl x))) q i u l = inr (inr (inl x))
+    by (inr (inr (inr x))) true i u l = inr (inr (inr (i, x)))
+    by (inr (inr (inr x))) false i (inl u) l = inr (inl u)
+    by (inr (inr (inr x))) false i (inr u) (inl l) = inl (back i u l)
+    by (inr (inr (inr x))) false i (inr u) (inr l) = inr (inr (inl l))
 
 -- ---- the queue's own acts
 

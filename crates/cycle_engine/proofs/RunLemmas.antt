@@ -1,7 +1,7 @@
 -- Lists of cycles with one more, and without those at the end that have no firing.
-use Rattle.std.proofs.Common.{◌≡◌, ◌≢◌, ℕ, suc, ◌+◌, ◌-◌, ◌*◌, ◌<◌, ◌≤◌, ◌^◌, ◌⊎◌, inl, inr, Bool, true, false, cond, not, ◌==◌, eq-eqb, eqb-true, List, [], ◌∷◌, ◌++◌, length, get_or, refl, sym, ap, subst, ◌∙◌, arith, length-append, append_assoc}
+use Rattle.std.proofs.Common.{◌≡◌, ◌≢◌, ℕ, suc, ◌+◌, ◌-◌, ◌*◌, ◌<◌, ◌≤◌, ◌^◌, ◌⊎◌, inl, inr, Bool, true, false, cond, not, nat_le, ◌==◌, eq-eqb, eqb-true, List, [], ◌∷◌, ◌++◌, length, get_or, refl, sym, ap, subst, ◌∙◌, arith, length-append, append_assoc}
 use Rattle.std.specs.List.{AllByRecursion}
-use Rattle.std.proofs.lemmas.Bool.{cases_lt}
+use Rattle.std.proofs.lemmas.Bool.{cases_lt, leb-true, leb-false}
 use Rattle.std.proofs.lemmas.List.{append-nil}
 use Rattle.std.proofs.Math.Nat.{mul-le-mul_right}
 use Rattle.el_base.specs.Limits.{max_delay, max_firings}
@@ -23,13 +23,14 @@ use Rattle.cycle_engine.specs.Cycles.{Dated, dated_opening, Cycle, Cycles, AreDa
 use Rattle.cycle_engine.specs.Bounds.{firing_count, EndsFiring}
 use Rattle.cycle_engine.specs.Cuts.{joined}
 use Rattle.cycle_engine.specs.Timings.{IsTimed, HasFewCycles, IsTimingFault}
-use Rattle.cycle_engine.specs.private.Trials.{dated_of}
+use Rattle.cycle_engine.specs.private.Trials.{dated_of, IsEngine}
 use Rattle.cycle_engine.specs.private.Goings.{Past, IsReady, HasDone, IsBroken, all_made}
 use Rattle.cycle_engine.specs.private.Places.{IsFull, IsCycled, kept_before, trimmed, HasRun}
 use Rattle.cycle_engine.proofs.DateLemmas.{AllBy, each_as, makes_dates}
 use Rattle.cycle_engine.proofs.BoundLemmas.{RipeFrom, empty_rests, cycles_bound}
 use Rattle.cycle_engine.proofs.StartLemmas.{opening_are}
 use Rattle.cycle_engine.proofs.TurnLemmas.{no_dates}
+use Rattle.cycle_engine.proofs.NextLemmas.{entries_now, next_quiet}
 
 -- ---- one more cycle
 
@@ -65,8 +66,8 @@ joined_snoc : (fss : List (List Firing)) (fs : List Firing) → joined (fss ++ f
 joined_snoc [] fs = append-nil fs
 joined_snoc (gs ∷ fss) fs = ap (λ xs. gs ++ xs) (joined_snoc fss fs) ∙ sym (append_assoc gs (joined fss) fs)
 
-pub cycle_done : (net : Net) (past : Past) (b : Bounds) (c : ℕ) (start : Dated) (e : Engine) → IsFull net past b c start e → HasDone net (record past { cycles = past.cycles ++ e.fired.items ∷ [] }) b (c + 1) e
-cycle_done net past b c start e f =
+pub cycle_done : (net : Net) (past : Past) (b : Bounds) (c : ℕ) (start : Dated) (e : Engine) → IsEngine net e → IsFull net past b c start e → HasDone net (record past { cycles = past.cycles ++ e.fired.items ∷ [] }) b (c + 1) e
+cycle_done net past b c start e eng f =
     let P : ℕ → Type 0 = λ n. Cycle net n start e.fired.items (dated_of e) in
     let z : c ≡ 0 + length past.cycles = (let n = f.going.number in omega arith) in
     record {
@@ -75,6 +76,10 @@ cycle_done net past b c start e f =
       number = (let n = f.going.number in let l = length-append past.cycles (e.fired.items ∷ []) in omega arith);
       made = (let n = f.going.made in let k = count_snoc past.cycles e.fired.items in omega arith);
       log = f.going.log ∙ ap (λ xs. cond b.keep xs []) (sym (joined_snoc past.cycles e.fired.items));
+      moved = f.going.moved;
+      entries = entries_now net past b c start e eng f;
+      coming = f.going.coming;
+      next = next_quiet net past b c start e eng f;
     }
 
 -- ---- without the cycles at the end that have no firing
@@ -167,7 +172,7 @@ end_is (gs ∷ gss) = let e : 0 + length (gs ∷ gss) ≡ length (gs ∷ gss) = 
 
 -- ---- rest
 
-delay_most : (net : Net) → IsChecked net → (d : ℕ) → (chan_at net d).delay ≤ max_delay
+pub delay_most : (net : Net) → IsChecked net → (d : ℕ) → (chan_at net d).delay ≤ max_delay
 delay_most net checked d = by (cases_lt d (length net.chans))
   where
     by : (d < length net.chans) ⊎ (length net.chans ≤ d) → (chan_at net d).delay ≤ max_delay
@@ -227,7 +232,7 @@ pub run_first : (net : Net) (inputs : Inputs) (b : Bounds) (e : Engine) → IsRe
 run_first net inputs b e r d = record { cycles = []; ready = r; done = d; number = refl; near = λ z. omega arith; rest = λ z. cc; few = omega arith }
 
 module _ (net : Net) (inputs : Inputs) (b : Bounds) (old new : Engine) (cycle last : ℕ) (did going : Bool) (checked : IsChecked net) (run : HasRun net inputs b old cycle last true) (ready : IsReady net b new)
-    (cycled : IsCycled net (record { inputs = inputs; cycles = run.cycles }) b cycle new did) (rest : going ≡ false → AtRest net (state_of new.state)) (goes : going ≡ true → did ≡ false → AtRest net (state_of new.state) → ⊥) where
+    (cycled : IsCycled net (record { inputs = inputs; cycles = run.cycles }) b cycle new did) (goes : going ≡ nat_le (cycle + 1 - cond did (cycle + 1) last) max_delay) where
   -- the firings of the cycle
   made : all_made new ≡ all_made old + length cycled.firings
   made = (let a = cycled.done.made in let c = run.done.made in let d = count_snoc run.cycles cycled.firings in omega arith)
@@ -258,16 +263,22 @@ module _ (net : Net) (inputs : Inputs) (b : Bounds) (old new : Engine) (cycle la
       run.number ∙ sym (ap (λ (xs : List (List Firing)). length xs) e)
 
   near : (x : Bool) → did ≡ x → going ≡ true → cycle + 1 ≤ cond x (cycle + 1) last + max_delay
-  near true d g = omega arith
-  near false d g = by (cases_lt cycle (last + max_delay))
+  near x d g =
+      let P : Bool → Type 0 = λ y. going ≡ nat_le (cycle + 1 - cond y (cycle + 1) last) max_delay in
+      let l = leb-true (cycle + 1 - cond x (cycle + 1) last) max_delay (sym (subst P d goes) ∙ g) in
+      omega arith
+
+  -- a cycle without a firing, so late that all tokens are ripe, leaves the state at rest
+  rest : (x : Bool) → did ≡ x → going ≡ false → AtRest net (state_of new.state)
+  rest x d g = at x d (let P : Bool → Type 0 = λ y. going ≡ nat_le (cycle + 1 - cond y (cycle + 1) last) max_delay in leb-false (cycle + 1 - cond x (cycle + 1) last) max_delay (sym (subst P d goes) ∙ g))
     where
-      by : (cycle < last + max_delay) ⊎ (last + max_delay ≤ cycle) → cycle + 1 ≤ last + max_delay
-      by (inl l) = omega arith
-      by (inr l) =
+      at : (x : Bool) → did ≡ x → max_delay < cycle + 1 - cond x (cycle + 1) last → AtRest net (state_of new.state)
+      at true d l = absurd (omega arith)
+      at false d l =
           let n = run.number in
           let m = run.done.number in
           let P : List Firing → Type 0 = λ fs. Cycles net 0 (dated_opening net inputs) (run.cycles ++ fs ∷ []) (dated_of new) in
-          absurd (goes g d (late_rests net inputs run.cycles (dated_of new) checked (subst P (cycled.none d) cycled.done.done) (omega arith)))
+          late_rests net inputs run.cycles (dated_of new) checked (subst P (cycled.none d) cycled.done.done) (omega arith)
 
   few : (x : Bool) → did ≡ x → cond x (cycle + 1) last ≤ all_made new * (max_delay + 1)
   few true d = few_more (all_made old) (all_made new) max_delay cycle last (more d) run.few (run.near refl)
@@ -280,7 +291,7 @@ module _ (net : Net) (inputs : Inputs) (b : Bounds) (old new : Engine) (cycle la
     done = cycled.done;
     number = number did refl;
     near = near did refl;
-    rest = rest;
+    rest = rest did refl;
     few = few did refl;
   }
 
@@ -335,8 +346,8 @@ broken_timing net inputs b (fault.Stray a) h = h
 broken_timing net inputs b fault.Memory h = h
 
 -- the cycle that the engine has made
-pub cycled : (net : Net) (past : Past) (b : Bounds) (c : ℕ) (start : Dated) (e : Engine) (none : Bool) (n : ℕ) → none ≡ (n == 0) → n ≡ length e.fired.items → IsFull net past b c start e → IsCycled net past b c e (not none)
-cycled net past b c start e none n is long f = record { firings = e.fired.items; done = cycle_done net past b c start e f; some = some e.fired.items none is long; none = empty e.fired.items none is long }
+pub cycled : (net : Net) (past : Past) (b : Bounds) (c : ℕ) (start : Dated) (e : Engine) (none : Bool) (n : ℕ) → none ≡ (n == 0) → n ≡ length e.fired.items → IsEngine net e → IsFull net past b c start e → IsCycled net past b c e (not none)
+cycled net past b c start e none n is long eng f = record { firings = e.fired.items; done = cycle_done net past b c start e eng f; some = some e.fired.items none is long; none = empty e.fired.items none is long }
   where
     some : (fs : List Firing) (x : Bool) → x ≡ (n == 0) → n ≡ length fs → not x ≡ true → fs ≢ []
     some [] x i l q = let z : x ≡ true = i ∙ eq-eqb n 0 l in let y : false ≡ true = sym (ap not z) ∙ q in cc

@@ -1,20 +1,28 @@
 -- The engine at the opening state, and as a cycle begins.
-use Rattle.std.proofs.Common.{◌≡◌, ℕ, suc, ◌+◌, ◌*◌, ◌<◌, ◌≤◌, ◌≢◌, ◌⊎◌, inl, inr, set, get_or-set_same, get_or-set_other, Bool, true, false, cond, List, [], ◌∷◌, ◌++◌, length, map, get_or, refl, sym, ap, subst, ◌∙◌, arith}
+use Rattle.std.proofs.Common.{◌≡◌, ℕ, suc, zero, ◌+◌, ◌*◌, ◌%◌, ◌<◌, ◌≤◌, inl, replicate, Bool, true, false, cond, List, [], ◌∷◌, ◌++◌, length, map, get_or, refl, sym, ap, subst, ◌∙◌, arith}
 use Rattle.std.proofs.lemmas.List.{append-nil}
-use Rattle.std.proofs.lemmas.Bool.{cases_eq}
+use Rattle.std.specs.List.{AllByRecursion}
 use Rattle.el_base.specs.Limits.{max_depth, max_firings}
 use Rattle.net_types.specs.declared.net.Chan.{Chan}
 use Rattle.net_types.specs.declared.net.Net.{Net}
 use Rattle.net_types.specs.declared.firing.Firing.{Firing}
 use Rattle.net_types.specs.declared.firing.Inputs.{Inputs}
+use Rattle.net_types.specs.declared.net.Unit.{Unit as Kind}
+use Rattle.net_types.specs.declared.net.Unit.TheVariants.{Entry, Param, Const, Op1, Op2, Select, Fork, Mux, Cmerge, Branch, Sink, Read, Lsq, Exit}
+use Rattle.net_types.specs.Nets.{chan_at}
+use Rattle.net_check.specs.Checks.{IsChecked}
+use Rattle.net_core.specs.Fire.{idle, opened, tokens_at}
 use Rattle.net_core.specs.Runs.{opening}
 use Rattle.net_core.specs.States.{state_of, IsOf, CountsWithin}
 use Rattle.cycle_engine.specs.declared.engine.Engine.{Engine}
 use Rattle.cycle_engine.specs.declared.engine.Bounds.{Bounds}
-use Rattle.cycle_engine.specs.Cycles.{Dated, dated_opening, AreDated, Makes, Once, InOrder}
+use Rattle.cycle_engine.specs.Cycles.{Dated, dated_opening, May, AreDated, Makes, Once, InOrder}
 use Rattle.cycle_engine.specs.Cuts.{joined}
 use Rattle.cycle_engine.specs.private.Trials.{dated_of, IsBegun, IsEngine}
-use Rattle.cycle_engine.specs.private.Goings.{Past, IsReady, InCycle, HasDone, all_made}
+use Rattle.cycle_engine.specs.private.Marking.{Holds, IsMarked, IsListed, cell, entries_at}
+use Rattle.cycle_engine.specs.private.Goings.{Past, IsReady, InCycle, HasDone, AreComing, all_made}
+use Rattle.cycle_engine.proofs.PlaceLemmas.{fires_within}
+use Rattle.cycle_engine.proofs.MarkLemmas.{since_none}
 
 no_dates : List ℕ
 no_dates = []
@@ -31,8 +39,9 @@ pub opened_as : (net : Net) (inputs : Inputs) (e : Engine) → state_of e.state 
 opened_as net inputs e a d = λ i. record { state = sym a i; dates = sym d i }
 
 pub opened_ready : (net : Net) (inputs : Inputs) (b : Bounds) (e : Engine) → IsOf net e.state → e.dates.slots ≡ map (λ (c : Chan). c.slots) net.chans → dated_opening net inputs ≡ dated_of e → b.limit ≤ max_firings
-    → e.made ≡ 0 → e.fired.items ≡ [] → CountsWithin 0 (state_of e.state) → e.log.room ≡ cond b.keep b.limit 0 → length e.begun.chans.items ≡ length net.chans → length e.begun.queues.items ≡ length net.units → IsReady net b e
-opened_ready net inputs b e of slots same few made fired counts room chans queues =
+    → e.made ≡ 0 → e.fired.items ≡ [] → CountsWithin 0 (state_of e.state) → e.log.room ≡ cond b.keep b.limit 0 → length e.begun.chans.items ≡ length net.chans → length e.begun.queues.items ≡ length net.units
+    → length e.marks.marked.items ≡ length net.units → IsListed net e.marks → length e.notes.coming.items ≡ 1024 → IsReady net b e
+opened_ready net inputs b e of slots same few made fired counts room chans queues marked listed cells =
     let z : all_made e ≡ 0 = (let l = ap (λ (fs : List Firing). length fs) fired in omega arith) in
     let k : all_made e * max_depth ≡ 0 = ap (λ n. n * max_depth) z in
     let P : ℕ → Type 0 = λ n. CountsWithin n (state_of e.state) in
@@ -45,23 +54,67 @@ opened_ready net inputs b e of slots same few made fired counts room chans queue
       room = λ h. (let r : e.log.room ≡ b.limit = room ∙ ap (λ x. cond x b.limit 0) h in omega arith);
       chans = chans;
       queues = queues;
+      marked = marked;
+      listed = listed;
+      cells = cells;
+      since = since_none e.fired.items e.since.items fired;
     }
 
-pub opened_done : (net : Net) (inputs : Inputs) (b : Bounds) (e : Engine) → dated_opening net inputs ≡ dated_of e → e.made ≡ 0 → e.fired.items ≡ [] → e.log.items ≡ [] → HasDone net (record { inputs = inputs; cycles = [] }) b 0 e
-opened_done net inputs b e same made fired log = record {
+items_none : (us : List Kind) (u : ℕ) → length (get_or (map opened us) u idle).queue.items ≡ 0
+items_none [] zero = refl
+items_none [] (suc u) = refl
+items_none (Lsq a d ps gs fw ∷ us) zero = refl
+items_none (Entry ∷ us) zero = refl
+items_none (Param j ∷ us) zero = refl
+items_none (Const w n ∷ us) zero = refl
+items_none (Op1 op ∷ us) zero = refl
+items_none (Op2 op ∷ us) zero = refl
+items_none (Select w ∷ us) zero = refl
+items_none (Fork w n ∷ us) zero = refl
+items_none (Mux w n ∷ us) zero = refl
+items_none (Cmerge n ∷ us) zero = refl
+items_none (Branch w ∷ us) zero = refl
+items_none (Sink w ∷ us) zero = refl
+items_none (Read a ∷ us) zero = refl
+items_none (Exit ∷ us) zero = refl
+items_none (k ∷ us) (suc u) = items_none us u
+
+lists_none : (cs : List Chan) (d : ℕ) → get_or (map (λ (c : Chan). no_dates) cs) d no_dates ≡ no_dates
+lists_none [] d = refl
+lists_none (c ∷ cs) zero = refl
+lists_none (c ∷ cs) (suc d) = lists_none cs d
+
+zeros_zero : (z n d : ℕ) → get_or (replicate n z) d z ≡ z
+zeros_zero z zero zero = refl
+zeros_zero z zero (suc d) = refl
+zeros_zero z (suc n) zero = refl
+zeros_zero z (suc n) (suc d) = zeros_zero z n d
+
+pub opened_done : (net : Net) (inputs : Inputs) (b : Bounds) (e : Engine) → dated_opening net inputs ≡ dated_of e → e.made ≡ 0 → e.fired.items ≡ [] → e.log.items ≡ [] → IsChecked net → e.begun.chans.items ≡ replicate (length net.chans) 0 → e.begun.queues.items ≡ replicate (length net.units) 0
+    → ((u : ℕ) → u < length net.units → IsMarked e.marks u) → HasDone net (record { inputs = inputs; cycles = [] }) b 0 e
+unfolding no_dates
+opened_done net inputs b e same made fired log checked chans queues marked = record {
   done = same;
   number = refl;
   made = (let l = ap (λ (fs : List Firing). length fs) fired in omega arith);
   log = log ∙ sym (none b.keep);
+  moved = λ d. inl (ap (λ xs. get_or xs d 0) chans ∙ (zeros_zero 0 (length net.chans) d ∙ sym (ap (λ (xs : List ℕ). length xs) (ap (λ (s : Dated). tokens_at s.state d) (sym same) ∙ lists_none net.chans d))));
+  entries = λ u l. inl (ap (λ xs. get_or xs u 0) queues ∙ (zeros_zero 0 (length net.units) u ∙ (sym (items_none net.units u) ∙ ap (λ (s : Dated). entries_at s.state u) same)));
+  coming = λ d. (let P : List ℕ → Type 0 = AllByRecursion (λ x. (x < 0) × (0 ≤ x + (chan_at net d).delay → Holds d (cell e.notes ((x + (chan_at net d).delay) % 1024)))) in subst P (sym (ap (λ (s : Dated). get_or s.dates d []) (sym same) ∙ lists_none net.chans d)) tt);
+  next = λ g m stirred. stirred (inl (marked g.unit (within g m)));
 }
   where
+    within : (g : Firing) → May net 0 (dated_of e) (dated_of e) g → g.unit < length net.units
+    within g m = fires_within net (state_of e.state) g checked (let P : Dated → Type 0 = λ x. length x.state.tokens ≡ length net.chans in subst P same (long_map net.chans)) m.turn
+
     none : (k : Bool) → cond k (joined []) [] ≡ joined []
     none true = refl
     none false = refl
 
 pub begun_ready : (net : Net) (b : Bounds) (old new : Engine) → IsReady net b old → IsEngine net new → state_of new.state ≡ state_of old.state → new.made ≡ all_made old → new.fired.items ≡ [] → new.log ≡ old.log
-    → length new.begun.chans.items ≡ length net.chans → length new.begun.queues.items ≡ length net.units → IsReady net b new
-begun_ready net b old new r eng same made fired log chans queues =
+    → length new.begun.chans.items ≡ length net.chans → length new.begun.queues.items ≡ length net.units
+    → length new.marks.marked.items ≡ length net.units → IsListed net new.marks → length new.notes.coming.items ≡ 1024 → IsReady net b new
+begun_ready net b old new r eng same made fired log chans queues marked listed cells =
     let z : all_made new ≡ all_made old = (let l = ap (λ (fs : List Firing). length fs) fired in omega arith) in
     let k : all_made new * max_depth ≡ all_made old * max_depth = ap (λ n. n * max_depth) z in
     let P : ℕ → Type 0 = λ n. CountsWithin n (state_of new.state) in
@@ -74,12 +127,16 @@ begun_ready net b old new r eng same made fired log chans queues =
       room = λ h. (let x = r.room h in let y : new.log.room ≡ old.log.room = ap (λ l. l.room) log in omega arith);
       chans = chans;
       queues = queues;
+      marked = marked;
+      listed = listed;
+      cells = cells;
+      since = since_none new.fired.items new.since.items fired;
     }
 
 -- so a cycle begins
 pub begun_going : (net : Net) (past : Past) (b : Bounds) (c : ℕ) (old new : Engine) → HasDone net past b c old → IsBegun net (dated_of old) new.begun → dated_of new ≡ dated_of old → new.fired.items ≡ []
-    → new.made ≡ all_made old → new.log.items ≡ old.log.items → InCycle net past b c (dated_of old) new
-begun_going net past b c old new d begun same none made log =
+    → new.made ≡ all_made old → new.log.items ≡ old.log.items → AreComing net (c + 1) new → InCycle net past b c (dated_of old) new
+begun_going net past b c old new d begun same none made log coming =
     let M : List Firing → Type 0 = λ fs. Makes net c (dated_of old) (dated_of old) fs (dated_of new) in
     let O : List Firing → Type 0 = Once in
     let I : List Firing → Type 0 = InOrder in
@@ -92,13 +149,6 @@ begun_going net past b c old new d begun same none made log =
       order = subst I (sym none) tt;
       made = made ∙ d.made;
       log = log ∙ (d.log ∙ (ap (λ xs. cond b.keep xs []) (sym (append-nil (joined past.cycles))) ∙ ap (λ fs. cond b.keep (joined past.cycles ++ fs) []) (sym none)));
+      moved = λ d. inl (begun.chans d ∙ ap (λ (s : Dated). length (tokens_at s.state d)) (sym same));
+      coming = coming;
     }
-
--- one more length noted
-pub noted_more : (ok : ℕ → Type 0) (want : ℕ → ℕ) (xs : List ℕ) (i v : ℕ) → i < length xs → ((u : ℕ) → u < i → ok u → get_or xs u 0 ≡ want u) → (ok i → v ≡ want i)
-    → (u : ℕ) → u < i + 1 → ok u → get_or (set xs i v) u 0 ≡ want u
-noted_more ok want xs i v l h here u less good = by (cases_eq u i)
-  where
-    by : (u ≡ i) ⊎ (u ≢ i) → get_or (set xs i v) u 0 ≡ want u
-    by (inl e) = ap (λ k. get_or (set xs i v) k 0) e ∙ (get_or-set_same xs i v 0 l ∙ (here (subst ok e good) ∙ ap want (sym e)))
-    by (inr n) = get_or-set_other xs i u v 0 n ∙ h u (omega arith) good

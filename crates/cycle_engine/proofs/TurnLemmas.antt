@@ -1,9 +1,9 @@
--- Places that are gone through in a cycle.
-use Rattle.std.proofs.Common.{◌≡◌, ◌≢◌, ℕ, suc, zero, ◌+◌, ◌-◌, ◌*◌, ◌<◌, ◌≤◌, ◌^◌, ◌⊎◌, ◌||◌, inl, inr, Bool, true, false, Option, Some, List, [], ◌∷◌, ◌++◌, length, map, get_or, refl, sym, ap, subst, ◌∙◌, arith, cond, Result, Ok, Err, IsErrAnd, MatchResult, IsSomeAnd}
+-- Turns of units and queues in a cycle.
+use Rattle.std.proofs.Common.{◌≡◌, ◌≢◌, ℕ, suc, zero, ◌+◌, ◌<◌, ◌≤◌, ◌⊎◌, ◌&&◌, inl, inr, Bool, true, false, Option, Some, None, List, [], ◌∷◌, ◌++◌, length, map, get_or, set, refl, sym, ap, subst, ◌∙◌, arith, Result, IfSome, IsErrAnd, MatchResult, IsSomeAnd}
 use Rattle.std.proofs.lemmas.Result.{err_from_is_err_and}
 use Rattle.net_replay.specs.declared.fault.RunFault.{RunFault}
 use Rattle.std.specs.List.{AllByRecursion}
-use Rattle.std.proofs.lemmas.Bool.{cases_lt}
+use Rattle.std.proofs.lemmas.Bool.{cases_lt, cases_eq}
 use Rattle.net_types.specs.declared.net.Chan.{Chan}
 use Rattle.net_types.specs.declared.net.Net.{Net}
 use Rattle.net_types.specs.declared.net.Unit.{Unit as Kind}
@@ -12,30 +12,37 @@ use Rattle.net_types.specs.declared.firing.Act.{Act}
 use Rattle.net_types.specs.declared.firing.Act.TheVariants.{Go, From, Send, Alloc, Addr, Data, Exec, Reply, Retire, End}
 use Rattle.net_types.specs.declared.firing.Firing.{Firing}
 use Rattle.net_types.specs.declared.firing.Inputs.{Inputs}
-use Rattle.net_types.specs.Nets.{kind_of, uses, firing}
-use Rattle.net_types.specs.Order.{act_rank, act_number, is_before}
+use Rattle.net_types.specs.Nets.{kind_of, uses, firing, out_of, chan_at}
+use Rattle.net_types.specs.Order.{act_rank, act_number}
 use Rattle.net_check.specs.Checks.{IsChecked}
 use Rattle.net_check.specs.Ends.{is_lsq}
-use Rattle.net_core.specs.Fire.{State, Own, Effect, Setting, effect_of, idle, effect, enabled, has_room, row, setting, head_at, at_array, after, after_effect}
-use Rattle.net_core.specs.Finds.{IsLeastFrom, IsQuietFrom}
-use Rattle.net_core.specs.States.{state_of}
-use Rattle.net_core.specs.private.Searches.{FiringLe}
-use Rattle.net_core.proofs.OrderLemmas.{le_before, before_le, go_least}
+use Rattle.net_core.specs.Fire.{State, Own, Effect, Setting, effect_of, idle, effect, enabled, has_room, row, setting, head_at, at_array, after, after_effect, tokens_at, takes_from}
+use Rattle.net_core.specs.declared.plan.Put.{Put}
+use Rattle.net_core.specs.declared.plan.Plan.{Plan}
+use Rattle.net_core.specs.States.{state_of, IsPlanOf}
+use Rattle.net_core.proofs.ApartLemmas.{is_at-inv, out_of-at}
 use Rattle.net_core.proofs.CheckedLemmas.{premises_of}
 use Rattle.net_core.proofs.QueueActLemmas.{queue_inv, lsq_is, queue_effect}
 use Rattle.net_core.proofs.RegularLemmas.{IsRegular, regular_kept, regular_opening}
 use Rattle.cycle_engine.specs.declared.engine.Engine.{Engine}
 use Rattle.cycle_engine.specs.declared.engine.Bounds.{Bounds}
+use Rattle.cycle_engine.specs.declared.marks.Marks.{Marks}
 use Rattle.cycle_engine.specs.Cycles.{Dated, dated_opening, IsRipe, HasDepth, May, IsOldest, Makes, act_place, place_of, IsUnused, phase, Cycles, after_in, after_by, AreDated}
+use Rattle.cycle_engine.specs.Rousing.{GoesTo, ComesFrom}
 use Rattle.cycle_engine.specs.private.Trials.{dated_of, IsEngine}
-use Rattle.cycle_engine.specs.private.Goings.{Past, InCycle, MayFollow, IsMade, IsTried}
-use Rattle.cycle_engine.specs.private.Places.{place_number, IsPlace, IsBehind, IsNext, AllPlain, IsVisitedTo, IsVisited, IsSettled, AllocsOnce, AreTriedTo, IsFull}
+use Rattle.cycle_engine.specs.private.Marking.{IsMarked, IsListed, KeepsMarks, IsTargetMarked, IsRoused, IsTaken, IsMergeMarked, is_merge, is_goer}
+use Rattle.cycle_engine.specs.private.Goings.{Past, IsReady, InCycle, MayFollow, IsMade, AllPlain, IsBegunIn}
+use Rattle.cycle_engine.specs.private.Places.{IsOpen, IsNextAct, AllocsOnce, IsQueueTurn, IsTurnOf, IsTurn, IsOpenTurn, IsSettled, AreQueues, IsServed, IsFull, first_of}
 use Rattle.cycle_engine.proofs.BeforeLemmas.{after_of}
+use Rattle.cycle_engine.proofs.RousingLemmas.{slots_within}
+use Rattle.cycle_engine.proofs.OwnLemmas.{both_go}
 use Rattle.cycle_engine.proofs.DateLemmas.{AllBy, each_as, makes_dates, effect_there}
-use Rattle.cycle_engine.proofs.MakeLemmas.{all_snoc}
+use Rattle.cycle_engine.proofs.MakeLemmas.{all_snoc, takes_within}
 use Rattle.cycle_engine.proofs.StartLemmas.{opening_are}
-use Rattle.cycle_engine.proofs.PlaceLemmas.{exec_is}
-use Rattle.cycle_engine.proofs.QueueTurnLemmas.{laws, queue_used, unused_before, unused_last, allocs_more, allocs_none, queue_rouses}
+use Rattle.cycle_engine.proofs.MarkLemmas.{none_held, unmarked, still_marked}
+use Rattle.cycle_engine.proofs.NoteLemmas.{effect_in, taken_all}
+use Rattle.cycle_engine.proofs.PlaceLemmas.{same_act, exec_is, first_rank, queue_rank, fires_within}
+use Rattle.cycle_engine.proofs.QueueTurnLemmas.{laws, queue_used, unused_before, unused_last, allocs_more, allocs_none, queue_rouses, unit_rouses}
 
 -- ---- what holds along cycles
 
@@ -57,6 +64,12 @@ cycles_dated net c s (fs ∷ fss) t y k h =
     let w = makes_dates net c s s fs y.0 y.1.makes k h in
     cycles_dated net (suc c) y.0 fss t y.2 w.0 (λ d. each_as (λ x. x ≤ c) (λ x. x ≤ suc c) (λ x z. omega arith) (get_or y.0.dates d []) (w.1 d))
 
+pub cycles_by : (net : Net) (c : ℕ) (s : Dated) (fss : List (List Firing)) (t : Dated) (n : ℕ) → n ≡ c + length fss → Cycles net c s fss t → AreDated net s → AllBy c s → AllBy n t
+cycles_by net c s [] t n e y k h d = let P : Dated → Type 0 = λ x. AllByRecursion (λ y. y ≤ n) (get_or x.dates d []) in subst P y (each_as (λ x. x ≤ c) (λ x. x ≤ n) (λ x z. omega arith) (get_or s.dates d []) (h d))
+cycles_by net c s (fs ∷ fss) t n e y k h d =
+    let w = makes_dates net c s s fs y.0 y.1.makes k h in
+    cycles_by net (suc c) y.0 fss t n (omega arith) y.2 w.0 (λ i. each_as (λ x. x ≤ c) (λ x. x ≤ suc c) (λ x z. omega arith) (get_or y.0.dates i []) (w.1 i)) d
+
 abbrev no_list : List ℕ
 no_list = []
 
@@ -76,8 +89,11 @@ going_regular net past b c start e checked g =
     makes_regular net c start start e.fired.items (dated_of e) checked g.makes
     (cycles_regular net 0 (dated_opening net past.inputs) past.cycles start checked g.done (regular_opening net past.inputs (premises_of net laws checked)))
 
-going_dated : (net : Net) (past : Past) (b : Bounds) (c : ℕ) (start : Dated) (e : Engine) → InCycle net past b c start e → AreDated net start
+pub going_dated : (net : Net) (past : Past) (b : Bounds) (c : ℕ) (start : Dated) (e : Engine) → InCycle net past b c start e → AreDated net start
 going_dated net past b c start e g = cycles_dated net 0 (dated_opening net past.inputs) past.cycles start g.done (opening_are net past.inputs) (opening_by net past.inputs 0)
+
+going_dated_now : (net : Net) (past : Past) (b : Bounds) (c : ℕ) (start : Dated) (e : Engine) → InCycle net past b c start e → AreDated net (dated_of e)
+going_dated_now net past b c start e g = (makes_dates net c start start e.fired.items (dated_of e) g.makes (going_dated net past b c start e g) (cycles_by net 0 (dated_opening net past.inputs) past.cycles start c (let n = g.number in omega arith) g.done (opening_are net past.inputs) (opening_by net past.inputs 0))).0
 
 -- ---- phases
 
@@ -151,126 +167,77 @@ phase_rises a b l = by (phase_high a) (phase_low b)
     by (inr (inl z)) w = let e = z.0 in let m = z.1 in let k = w.1 (omega arith) in omega arith
     by (inr (inr z)) w = let m = w.0 in omega arith
 
--- ---- the order of places
-
-le_behind : (f g : Firing) → FiringLe f g → IsBehind f g
-le_behind f g (inl l) = inl l
-le_behind f g (inr (e, inl l)) = inr (e, omega arith)
-le_behind f g (inr (e, inr m)) = inr (e, (let r = m.0 in omega arith))
-
-behind_on : (f g h : Firing) → IsBehind f g → IsBehind g h → IsBehind f h
-behind_on f g h (inl l) (inl m) = inl (omega arith)
-behind_on f g h (inl l) (inr m) = let e = m.0 in inl (omega arith)
-behind_on f g h (inr l) (inl m) = let e = l.0 in inl (omega arith)
-behind_on f g h (inr l) (inr m) = let a = l.0 in let b = m.0 in let c = l.1 in let d = m.1 in inr (omega arith, omega arith)
-
-behind_rank : (f g : Firing) → IsBehind f g → f.unit ≡ g.unit → act_rank f.act ≤ act_rank g.act
-behind_rank f g (inl l) e = absurd (omega arith)
-behind_rank f g (inr m) e = m.1
-
--- one of two firings does not stand after the other
-total : (f g : Firing) → FiringLe f g ⊎ FiringLe g f
-total f g = by (cases_lt f.unit g.unit) (cases_lt g.unit f.unit) (cases_lt (act_rank f.act) (act_rank g.act)) (cases_lt (act_rank g.act) (act_rank f.act)) (cases_lt (act_number f.act) (act_number g.act))
-  where
-    by : (f.unit < g.unit) ⊎ (g.unit ≤ f.unit) → (g.unit < f.unit) ⊎ (f.unit ≤ g.unit) → (act_rank f.act < act_rank g.act) ⊎ (act_rank g.act ≤ act_rank f.act)
-        → (act_rank g.act < act_rank f.act) ⊎ (act_rank f.act ≤ act_rank g.act) → (act_number f.act < act_number g.act) ⊎ (act_number g.act ≤ act_number f.act) → FiringLe f g ⊎ FiringLe g f
-    by (inl a) b c d e = inl (inl a)
-    by (inr a) (inl b) c d e = inr (inl b)
-    by (inr a) (inr b) (inl c) d e = inl (inr (omega arith, inl c))
-    by (inr a) (inr b) (inr c) (inl d) e = inr (inr (omega arith, inl d))
-    by (inr a) (inr b) (inr c) (inr d) (inl e) = inl (inr (omega arith, inr (omega arith, omega arith)))
-    by (inr a) (inr b) (inr c) (inr d) (inr e) = inr (inr (omega arith, inr (omega arith, e)))
-
-before_stands : (g f : Firing) → is_before g f ≡ true → FiringLe g f
-before_stands g f i = by (total g f)
-  where
-    by : FiringLe g f ⊎ FiringLe f g → FiringLe g f
-    by (inl l) = l
-    by (inr l) = let z : false ≡ true = sym (le_before f g l) ∙ i in cc
-
-before_behind : (g f : Firing) → is_before g f ≡ true → IsBehind g f
-before_behind g f i = le_behind g f (before_stands g f i)
-
-none_first : (g : Firing) → is_before g (firing 0 Go) ≡ true → ⊥
-none_first g i = let z : false ≡ true = sym (le_before (firing 0 Go) g (by (cases_lt 0 g.unit))) ∙ i in cc
-  where
-    by : (0 < g.unit) ⊎ (g.unit ≤ 0) → FiringLe (firing 0 Go) g
-    by (inl l) = inl l
-    by (inr l) = inr (omega arith, go_least g.act)
-
--- what is enabled before the next enabled firing from a place on is before the place
-before_place : (net : Net) (s : State) (place f g : Firing) → IsLeastFrom net s place f → enabled net s g → is_before g f ≡ true → is_before g place ≡ true
-before_place net s place f g least n i = by (is_before g place) refl
-  where
-    by : (b : Bool) → is_before g place ≡ b → is_before g place ≡ true
-    by true e = e
-    by false e = let z : false ≡ true = sym (least.least g n e) ∙ i in cc
-
--- so each enabled firing before the next place is before this place, or at the firing's place
-module _ (net : Net) (s : State) (place f next : Firing) (least : IsLeastFrom net s place f) (after : IsNext net f next) where
-  pub before_next : (g : Firing) → enabled net s g → is_before g next ≡ true → (is_before g place ≡ true → ⊥) → (place_of g ≡ place_of f → ⊥) → ⊥
-  before_next g n i old here = by (is_before g f) refl
-    where
-      by : (b : Bool) → is_before g f ≡ b → ⊥
-      by true e = old (before_place net s place f g least n e)
-      by false e = let z : false ≡ true = sym (after.far g e here) ∙ i in cc
-
--- ---- units that are no queues
-
--- two enabled firings of a unit that is no queue that are at one place are one
-same_plain : (net : Net) (s : State) (f g : Firing) → is_lsq (kind_of net f.unit) ≡ false → enabled net s f → enabled net s g → place_of g ≡ place_of f → g ≡ f
-same_plain net s f g l nf ng e =
-    let u : g.unit ≡ f.unit = ap (λ (x : Firing). x.unit) e in
-    let lg : is_lsq (kind_of net g.unit) ≡ false = ap (λ x. is_lsq (kind_of net x)) u ∙ l in
-    let a : g.act ≡ f.act = sym (phase_fixed g.act (fires_plain net s g lg ng)) ∙ (ap (λ (x : Firing). x.act) e ∙ phase_fixed f.act (fires_plain net s f l nf)) in
-    λ i. record { unit = u i; act = a i }
+-- ---- units and acts
 
 each_order : (fs : List Firing) (P : Firing → Type 0) (Q : Firing → Type 0) → ((g : Firing) → P g → Q g) → AllByRecursion P fs → AllByRecursion Q fs
 each_order [] P Q h a = tt
 each_order (g ∷ fs) P Q h a = (h g a.0, each_order fs P Q h a.1)
 
-pub plain_follows : (net : Net) (e : Engine) (f : Firing) → AllPlain net e.fired.items → is_lsq (kind_of net f.unit) ≡ false → enabled net (state_of e.state) f → MayFollow net e f
-plain_follows net e f plain l n =
-    let z = fires_plain net (state_of e.state) f l n in
-    record {
-      order = each_order e.fired.items (λ g. (is_lsq (kind_of net g.unit) ≡ false) × (phase g.act ≡ 0)) (λ g. g.unit ≡ f.unit → phase g.act ≤ phase f.act) (λ g h q. (let y = h.1 in omega arith)) plain;
-      oldest = plain_oldest net (state_of e.state) f.unit f.act z;
-    }
+-- ---- the next place
 
-pub plain_made : (net : Net) (past : Past) (b : Bounds) (c : ℕ) (start : Dated) (old new : Engine) (f place next : Firing) (done : Bool) → IsVisitedTo net past b c start old done place → is_lsq (kind_of net f.unit) ≡ false
-    → enabled net (state_of old.state) f → IsMade net past b c start old new f → IsVisitedTo net past b c start new (done || true) next
-plain_made net past b c start old new f place next done v l n made = record {
-  going = made.going;
-  plain = (let P : List Firing → Type 0 = AllPlain net in
-      subst P (sym made.fired) (all_snoc (λ g. (is_lsq (kind_of net g.unit) ≡ false) × (phase g.act ≡ 0)) old.fired.items f v.plain (l, fires_plain net (state_of old.state) f l n)));
-  refused = λ q. (let z : true ≡ false = sym (by done) ∙ q in cc);
-}
+-- whether an act is still to be tried
+open_or : (r n : ℕ) (a : Act) → IsOpen r n a ⊎ (IsOpen r n a → ⊥)
+open_or r n a = by (cases_lt r (act_rank a)) (cases_eq r (act_rank a)) (cases_lt (act_number (act_place a)) n)
   where
-    by : (x : Bool) → (x || true) ≡ true
-    by true = refl
-    by false = refl
+    by : (r < act_rank a) ⊎ (act_rank a ≤ r) → (r ≡ act_rank a) ⊎ (r ≢ act_rank a) → (act_number (act_place a) < n) ⊎ (n ≤ act_number (act_place a)) → IsOpen r n a ⊎ (IsOpen r n a → ⊥)
+    by (inl l) e m = inl (inl l)
+    by (inr l) (inr e) m = inr (λ z. shut z)
+      where
+        shut : IsOpen r n a → ⊥
+        shut (inl k) = omega arith
+        shut (inr k) = e k.0
+    by (inr l) (inl e) (inr m) = inl (inr (e, m))
+    by (inr l) (inl e) (inl m) = inr (λ z. shut z)
+      where
+        shut : IsOpen r n a → ⊥
+        shut (inl k) = omega arith
+        shut (inr k) = let j = k.1 in omega arith
 
-or_false : (x : Bool) → (x || false) ≡ false → x ≡ false
-or_false true e = e
-or_false false e = refl
-
-pub plain_passed : (net : Net) (past : Past) (b : Bounds) (c : ℕ) (start : Dated) (old new : Engine) (f place next : Firing) (done : Bool) → IsVisitedTo net past b c start old done place → IsLeastFrom net (state_of old.state) place f → IsNext net f next
-    → new ≡ old → (is_lsq (kind_of net f.unit) ≡ false → IsUnused old.fired.items f → May net c start (dated_of old) f → ⊥) → IsVisitedTo net past b c start new (done || false) next
-plain_passed net past b c start old new f place next done v least after same refused =
-    let P : Engine → Type 0 = λ e. IsVisitedTo net past b c start e (done || false) next in
-    subst P (sym same) (record { going = v.going; plain = v.plain; refused = λ q g l i un m. at q g l i un m })
+-- what is not to be tried any more after the act of the number n, but was before, is that act
+open_next : (r n : ℕ) (a : Act) → IsOpen r n a → IsOpen r (n + 1) a ⊎ ((act_rank a ≡ r) × (act_number (act_place a) ≡ n))
+open_next r n a (inl l) = inl (inl l)
+open_next r n a (inr k) = by (cases_lt n (act_number (act_place a)))
   where
-    at : (done || false) ≡ false → (g : Firing) → is_lsq (kind_of net g.unit) ≡ false → is_before g next ≡ true → IsUnused old.fired.items g → May net c start (dated_of old) g → ⊥
-    at q g l i un m = before_next net (state_of old.state) place f next least after g m.turn i
-        (λ k. v.refused (or_false done q) g l k un m)
-        (λ e. (let u : g.unit ≡ f.unit = ap (λ (x : Firing). x.unit) e in
-        let lf : is_lsq (kind_of net f.unit) ≡ false = ap (λ x. is_lsq (kind_of net x)) (sym u) ∙ l in
-        let z : g ≡ f = same_plain net (state_of old.state) f g lf least.fires m.turn e in
-        let P : Firing → Type 0 = λ x. IsUnused old.fired.items x in
-        let Q : Firing → Type 0 = λ x. May net c start (dated_of old) x in
-        refused lf (subst P z un) (subst Q z m)))
+    by : (n < act_number (act_place a)) ⊎ (act_number (act_place a) ≤ n) → IsOpen r (n + 1) a ⊎ ((act_rank a ≡ r) × (act_number (act_place a) ≡ n))
+    by (inl l) = inl (inr (k.0, omega arith))
+    by (inr l) = let m = k.1 in inr (sym k.0, omega arith)
 
--- ---- queues
+closed_rank : (r n : ℕ) (a : Act) → (IsOpen r n a → ⊥) → act_rank a ≤ r
+closed_rank r n a h = by (cases_lt r (act_rank a))
+  where
+    by : (r < act_rank a) ⊎ (act_rank a ≤ r) → act_rank a ≤ r
+    by (inl l) = absurd (h (inl l))
+    by (inr l) = l
+
+place_rank : (a : Act) → act_rank (act_place a) ≡ act_rank a
+place_rank Go = refl
+place_rank (From j) = refl
+place_rank (Send j) = refl
+place_rank (Alloc j) = refl
+place_rank (Addr j) = refl
+place_rank (Data j) = refl
+place_rank (Exec j) = refl
+place_rank (Reply j) = refl
+place_rank Retire = refl
+place_rank End = refl
+
+place_fixed : (a : Act) → act_rank a ≢ 6 → act_place a ≡ a
+place_fixed Go n = refl
+place_fixed (From j) n = refl
+place_fixed (Send j) n = refl
+place_fixed (Alloc j) n = refl
+place_fixed (Addr j) n = refl
+place_fixed (Data j) n = refl
+place_fixed (Exec j) n = absurd (n refl)
+place_fixed (Reply j) n = refl
+place_fixed Retire n = refl
+place_fixed End n = refl
+
+-- acts of one rank and number are at one place
+same_place : (net : Net) (s : State) (f g : Firing) (r n : ℕ) → IsNextAct net s f r n → g.unit ≡ f.unit → act_rank g.act ≡ r → act_number (act_place g.act) ≡ n → place_of g ≡ place_of f
+same_place net s f g r n next u k l =
+    let z : act_place g.act ≡ act_place f.act = same_act (act_place g.act) (act_place f.act) (place_rank g.act ∙ (k ∙ (sym next.rank ∙ sym (place_rank f.act)))) (l ∙ sym next.number) in
+    λ i. record { unit = u i; act = z i }
 
 exec_kind : (k : Kind) (j : ℕ) (o : Own) (xs : List ℕ) (ss : Setting) (h : ℕ → Option ℕ) (e : Effect) → effect_of (row k (Exec j) o xs ss) h ≡ Some e → Rattle.net_core.proofs.ActLemmas.IsLsq k
 unfolding row
@@ -313,18 +280,6 @@ refused_here net c start s fs f g n refused e un m = by (act_place_or f.act)
     is_exec Retire = inr refl
     is_exec End = inr refl
 
-    place_rank : (a : Act) → act_rank (act_place a) ≡ act_rank a
-    place_rank Go = refl
-    place_rank (From j) = refl
-    place_rank (Send j) = refl
-    place_rank (Alloc j) = refl
-    place_rank (Addr j) = refl
-    place_rank (Data j) = refl
-    place_rank (Exec j) = refl
-    place_rank (Reply j) = refl
-    place_rank Retire = refl
-    place_rank End = refl
-
     act_place_or : (a : Act) → (act_rank a ≡ 6) ⊎ ((act_rank a ≢ 6) × (act_place a ≡ a))
     act_place_or Go = inr ((λ z. absurd (omega arith)), refl)
     act_place_or (From j) = inr ((λ z. absurd (omega arith)), refl)
@@ -356,203 +311,367 @@ refused_here net c start s fs f g n refused e un m = by (act_place_or f.act)
             let Q : Firing → Type 0 = λ x. May net c start s x in
             refused unf (subst Q z m)
 
--- before a queue acts
-pub tried_first : (net : Net) (past : Past) (b : Bounds) (c : ℕ) (start : Dated) (e : Engine) → IsSettled net past b c start e → AreTriedTo net past b c start e (firing 0 Go)
-tried_first net past b c start e s = record {
-  going = s.going;
-  allocs = allocs_none net c e.fired.items (dated_of e) s.plain;
-  behind = each_order e.fired.items (λ g. (is_lsq (kind_of net g.unit) ≡ false) × (phase g.act ≡ 0)) (λ g. is_lsq (kind_of net g.unit) ≡ true → IsBehind g (firing 0 Go)) (λ g h q. (let z : true ≡ false = sym q ∙ h.0 in cc)) s.plain;
-  refused = by;
-}
+-- no firing at the place may be made, where that one may not be made
+refused_at : (net : Net) (c : ℕ) (start s : Dated) (fs : List Firing) (f g : Firing) (r n : ℕ) → IsNextAct net s.state f r n → (IsUnused fs f → May net c start s f → ⊥) → place_of g ≡ place_of f → IsUnused fs g → May net c start s g → ⊥
+refused_at net c start s fs f g r n next refused e un m = by (cases_eq r 6)
   where
-    by : (g : Firing) → (is_lsq (kind_of net g.unit) ≡ false) ⊎ (is_before g (firing 0 Go) ≡ true) → IsUnused e.fired.items g → May net c start (dated_of e) g → ⊥
-    by g (inl l) un m = s.refused g l un m
-    by g (inr i) un m = none_first g i
+    by : (r ≡ 6) ⊎ (r ≢ 6) → ⊥
+    by (inl z) = refused_here net c start s fs f g (next.exec z) refused e un m
+    by (inr z) =
+        let p : act_place g.act ≡ act_place f.act = ap (λ (x : Firing). x.act) e in
+        let a : act_place f.act ≡ f.act = place_fixed f.act (λ y. z (sym next.rank ∙ y)) in
+        let b : act_place g.act ≡ g.act = place_fixed g.act (λ y. z (sym next.rank ∙ (sym (place_rank f.act) ∙ (ap act_rank (sym p) ∙ (place_rank g.act ∙ y))))) in
+        let k : g.act ≡ f.act = sym b ∙ (p ∙ a) in
+        let q : g ≡ f = λ i. record { unit = ap (λ (x : Firing). x.unit) e i; act = k i } in
+        let P : Firing → Type 0 = λ x. IsUnused fs x in
+        let Q : Firing → Type 0 = λ x. May net c start s x in
+        refused (subst P q un) (subst Q q m)
 
--- the next act may follow
-pub act_follows : (net : Net) (past : Past) (b : Bounds) (c : ℕ) (start : Dated) (e : Engine) (place f : Firing) → AreTriedTo net past b c start e place → IsPlace net place → IsLeastFrom net (state_of e.state) place f
-    → is_lsq (kind_of net f.unit) ≡ true → MayFollow net e f
-act_follows net past b c start e place f t p least l = record {
-  order = each_order e.fired.items (λ g. is_lsq (kind_of net g.unit) ≡ true → IsBehind g place) (λ g. g.unit ≡ f.unit → phase g.act ≤ phase f.act)
-      (λ g h q. phase_rises g.act f.act (behind_rank g f (behind_on g place f (h (ap (λ x. is_lsq (kind_of net x)) q ∙ l)) (le_behind place f stands)) q)) t.behind;
-  oldest = oldest f.act refl;
-}
-  where
-    stands : FiringLe place f
-    stands = before_le place f least.from
+-- ---- one place more
 
-    exec_zero : (a : Act) → act_rank a ≡ 6 → act_place a ≡ a → act_number a ≡ 0
-    exec_zero Go r q = absurd (omega arith)
-    exec_zero (From j) r q = absurd (omega arith)
-    exec_zero (Send j) r q = absurd (omega arith)
-    exec_zero (Alloc j) r q = absurd (omega arith)
-    exec_zero (Addr j) r q = absurd (omega arith)
-    exec_zero (Data j) r q = absurd (omega arith)
-    exec_zero (Exec j) r q = sym (ap act_number q)
-    exec_zero (Reply j) r q = absurd (omega arith)
-    exec_zero Retire r q = absurd (omega arith)
-    exec_zero End r q = absurd (omega arith)
-
-    older : (x y : ℕ) → f.act ≡ Exec x → y < x → enabled net (state_of e.state) (firing f.unit (Exec y)) → ⊥
-    older x y a k n = by (is_before (firing f.unit (Exec y)) place) refl
-      where
-        af : act_rank f.act ≡ 6
-        af = ap act_rank a
-
-        nf : act_number f.act ≡ x
-        nf = ap act_number a
-
-        by : (z : Bool) → is_before (firing f.unit (Exec y)) place ≡ z → ⊥
-        by false i = le (before_le f (firing f.unit (Exec y)) (least.least (firing f.unit (Exec y)) n i))
-          where
-            le : FiringLe f (firing f.unit (Exec y)) → ⊥
-            le (inl z) = omega arith
-            le (inr (z, inl q)) = let r = af in omega arith
-            le (inr (z, inr q)) = let r = q.1 in let t = nf in omega arith
-        by true i = le (before_stands (firing f.unit (Exec y)) place i) stands
-          where
-            back : place.unit ≡ f.unit → act_rank place.act ≡ 6 → ⊥
-            back u r =
-                let nz = exec_zero place.act r p.fixed in
-                let l : FiringLe place (firing f.unit (Exec y)) = inr (u, inr (r, omega arith)) in
-                let z : false ≡ true = sym (le_before place (firing f.unit (Exec y)) l) ∙ i in cc
-
-            le : FiringLe (firing f.unit (Exec y)) place → FiringLe place f → ⊥
-            le (inl q) (inl z) = omega arith
-            le (inl q) (inr z) = let u = z.0 in omega arith
-            le (inr q) (inl z) = let u = q.0 in omega arith
-            le (inr (u, inl q)) (inr (v, inl z)) = let r = af in omega arith
-            le (inr (u, inl q)) (inr (v, inr z)) = let r = af in let t = z.0 in omega arith
-            le (inr (u, inr q)) (inr z) = back (sym u) (sym q.0)
-
-    oldest : (a : Act) → f.act ≡ a → IsOldest net (state_of e.state) f.unit f.act
-    oldest (Exec x) a = let P : Act → Type 0 = IsOldest net (state_of e.state) f.unit in subst P (sym a) (λ y k n. older x y a k n)
-    oldest Go a = let P : Act → Type 0 = IsOldest net (state_of e.state) f.unit in subst P (sym a) tt
-    oldest (From j) a = let P : Act → Type 0 = IsOldest net (state_of e.state) f.unit in subst P (sym a) tt
-    oldest (Send j) a = let P : Act → Type 0 = IsOldest net (state_of e.state) f.unit in subst P (sym a) tt
-    oldest (Alloc j) a = let P : Act → Type 0 = IsOldest net (state_of e.state) f.unit in subst P (sym a) tt
-    oldest (Addr j) a = let P : Act → Type 0 = IsOldest net (state_of e.state) f.unit in subst P (sym a) tt
-    oldest (Data j) a = let P : Act → Type 0 = IsOldest net (state_of e.state) f.unit in subst P (sym a) tt
-    oldest (Reply j) a = let P : Act → Type 0 = IsOldest net (state_of e.state) f.unit in subst P (sym a) tt
-    oldest Retire a = let P : Act → Type 0 = IsOldest net (state_of e.state) f.unit in subst P (sym a) tt
-    oldest End a = let P : Act → Type 0 = IsOldest net (state_of e.state) f.unit in subst P (sym a) tt
-
-module _ (net : Net) (past : Past) (b : Bounds) (c : ℕ) (start : Dated) (old : Engine) (place f next : Firing) (t : AreTriedTo net past b c start old place) (least : IsLeastFrom net (state_of old.state) place f) (after : IsNext net f next) where
-  behind_next : AllByRecursion (λ g. is_lsq (kind_of net g.unit) ≡ true → IsBehind g next) old.fired.items
-  behind_next = each_order old.fired.items (λ g. is_lsq (kind_of net g.unit) ≡ true → IsBehind g place) (λ g. is_lsq (kind_of net g.unit) ≡ true → IsBehind g next)
-      (λ g h q. behind_on g f next (behind_on g place f (h q) (le_behind place f (before_le place f least.from))) after.behind) t.behind
-
-  -- the firing was made
-  pub act_made : (new : Engine) → IsChecked net → IsEngine net old → is_lsq (kind_of net f.unit) ≡ true → IsMade net past b c start old new f → AreTriedTo net past b c start new next
-  act_made new checked eng l made = record {
-    going = made.going;
-    allocs = allocs;
-    behind = (let P : List Firing → Type 0 = AllByRecursion (λ g. is_lsq (kind_of net g.unit) ≡ true → IsBehind g next) in
-        subst P (sym made.fired) (all_snoc (λ g. is_lsq (kind_of net g.unit) ≡ true → IsBehind g next) old.fired.items f behind_next (λ q. after.behind)));
-    refused = refused;
-  }
+module _ (net : Net) (past : Past) (b : Bounds) (c : ℕ) (start : Dated) (marks : Marks) (old : Engine) (f : Firing) (r n : ℕ) (t : IsTurn net past b c start marks old f.unit r n) (next : IsNextAct net (state_of old.state) f r n) where
+  -- it may follow
+  pub turn_follows : MayFollow net old f
+  turn_follows = record { order = by (is_lsq (kind_of net f.unit)) t.of; oldest = next.oldest }
     where
-      good : IsRegular net (state_of old.state)
-      good = going_regular net past b c start old checked t.going
-
-      w : (e : Effect) × (effect net (state_of old.state) f ≡ Some e) × has_room net (state_of old.state) f.unit e.put
-      w = effect_there net (state_of old.state) f least.fires
-
-      allocs : AllocsOnce net c new.fired.items (dated_of new)
-      allocs = kinds (kind_of net f.unit) refl l
-        where
-          kinds : (y : Kind) → kind_of net f.unit ≡ y → is_lsq (kind_of net f.unit) ≡ true → AllocsOnce net c new.fired.items (dated_of new)
-          kinds (Lsq x d ps gs fw) ku q =
-              let a = allocs_more net c old.fired.items (dated_of old) f.unit x d ps gs fw f.act w.0 checked good eng.dated ku w.1 t.allocs in
-              let e : dated_of new ≡ after_of net c (dated_of old) f.unit w.0 = made.after ∙ ap (after_by net c (dated_of old) f.unit) w.1 in
-              let P : Dated → Type 0 = λ s. AllocsOnce net c (old.fired.items ++ f ∷ []) s in
-              let Q : List Firing → Type 0 = λ fs. AllocsOnce net c fs (dated_of new) in
-              subst Q (sym made.fired) (subst P (sym e) a)
-          kinds Entry ku q = let z : false ≡ true = sym (ap is_lsq ku) ∙ q in cc
-          kinds (Param j) ku q = let z : false ≡ true = sym (ap is_lsq ku) ∙ q in cc
-          kinds (Const x y) ku q = let z : false ≡ true = sym (ap is_lsq ku) ∙ q in cc
-          kinds (Op1 x) ku q = let z : false ≡ true = sym (ap is_lsq ku) ∙ q in cc
-          kinds (Op2 x) ku q = let z : false ≡ true = sym (ap is_lsq ku) ∙ q in cc
-          kinds (Select x) ku q = let z : false ≡ true = sym (ap is_lsq ku) ∙ q in cc
-          kinds (Fork x y) ku q = let z : false ≡ true = sym (ap is_lsq ku) ∙ q in cc
-          kinds (Mux x y) ku q = let z : false ≡ true = sym (ap is_lsq ku) ∙ q in cc
-          kinds (Cmerge x) ku q = let z : false ≡ true = sym (ap is_lsq ku) ∙ q in cc
-          kinds (Branch x) ku q = let z : false ≡ true = sym (ap is_lsq ku) ∙ q in cc
-          kinds (Sink x) ku q = let z : false ≡ true = sym (ap is_lsq ku) ∙ q in cc
-          kinds (Read x) ku q = let z : false ≡ true = sym (ap is_lsq ku) ∙ q in cc
-          kinds Exit ku q = let z : false ≡ true = sym (ap is_lsq ku) ∙ q in cc
-
-      before : (g : Firing) → IsUnused new.fired.items g → (g.unit ≡ f.unit → phase g.act ≤ phase f.act) → May net c start (dated_of new) g → May net c start (dated_of old) g
-      before g un ph m =
-          let P : List Firing → Type 0 = λ fs. IsUnused fs g in
-          let Q : Dated → Type 0 = λ s. May net c start s g in
-          queue_rouses net c start old.fired.items (dated_of old) f.unit f.act g checked good (going_dated net past b c start old t.going) eng.dated t.going.makes t.allocs l least.fires (subst P made.fired un) ph (subst Q made.after m)
-
-      unused : (g : Firing) → IsUnused new.fired.items g → IsUnused old.fired.items g
-      unused g un = let P : List Firing → Type 0 = λ fs. IsUnused fs g in unused_before old.fired.items f g (subst P made.fired un)
-
-      apart : (g : Firing) → IsUnused new.fired.items g → place_of g ≡ place_of f → ⊥
-      apart g un e = let P : List Firing → Type 0 = λ fs. IsUnused fs g in unused_last old.fired.items f g (subst P made.fired un) (sym e)
-
-      refused : (g : Firing) → (is_lsq (kind_of net g.unit) ≡ false) ⊎ (is_before g next ≡ true) → IsUnused new.fired.items g → May net c start (dated_of new) g → ⊥
-      refused g (inl q) un m = t.refused g (inl q) (unused g un) (before g un (λ u. let z : true ≡ false = sym l ∙ (ap (λ x. is_lsq (kind_of net x)) (sym u) ∙ q) in cc) m)
-      refused g (inr i) un m = by (is_before g f) refl
-        where
-          by : (x : Bool) → is_before g f ≡ x → ⊥
-          by true k =
-              let mo : May net c start (dated_of old) g = before g un (λ u. phase_rises g.act f.act (behind_rank g f (before_behind g f k) u)) m in
-              t.refused g (inr (before_place net (state_of old.state) place f g least mo.turn k)) (unused g un) mo
-          by false k = let z : false ≡ true = sym (after.far g k (apart g un)) ∙ i in cc
+      by : (q : Bool) → IsTurnOf q net c marks old f.unit r → AllByRecursion (λ g. g.unit ≡ f.unit → phase g.act ≤ phase f.act) old.fired.items
+      by true o = each_order old.fired.items (λ g. g.unit ≡ f.unit → act_rank g.act ≤ r) (λ g. g.unit ≡ f.unit → phase g.act ≤ phase f.act) (λ g h e. phase_rises g.act f.act (let x = h e in let y = next.rank in omega arith)) o.behind
+      by false o = each_order old.fired.items (λ g. (is_lsq (kind_of net g.unit) ≡ false) × (phase g.act ≡ 0)) (λ g. g.unit ≡ f.unit → phase g.act ≤ phase f.act) (λ g h e. (let y = h.1 in omega arith)) o
 
   -- it may not be made, or its place has fired
-  pub act_passed : (new : Engine) → new ≡ old → (IsUnused old.fired.items f → May net c start (dated_of old) f → ⊥) → AreTriedTo net past b c start new next
-  act_passed new same refused =
-      let P : Engine → Type 0 = λ e. AreTriedTo net past b c start e next in
-      subst P (sym same) (record { going = t.going; allocs = t.allocs; behind = behind_next; refused = at })
+  pub turn_passed : (new : Engine) → new ≡ old → (IsUnused old.fired.items f → May net c start (dated_of old) f → ⊥) → IsTurn net past b c start marks new f.unit r (n + 1)
+  turn_passed new same refused =
+      let P : Engine → Type 0 = λ e. IsTurn net past b c start marks e f.unit r (n + 1) in
+      subst P (sym same) (record { going = t.going; watched = λ g un m. at g un m (t.watched g un m); of = t.of })
     where
-      at : (g : Firing) → (is_lsq (kind_of net g.unit) ≡ false) ⊎ (is_before g next ≡ true) → IsUnused old.fired.items g → May net c start (dated_of old) g → ⊥
-      at g (inl q) un m = t.refused g (inl q) un m
-      at g (inr i) un m = before_next net (state_of old.state) place f next least after g m.turn i (λ k. t.refused g (inr k) un m)
-          (λ e. refused_here net c start (dated_of old) old.fired.items f g least.fires refused e un m)
+      at : (g : Firing) → IsUnused old.fired.items g → May net c start (dated_of old) g → IsMarked old.marks g.unit ⊎ ((g.unit ≡ f.unit) × IsOpen r n g.act) → IsMarked old.marks g.unit ⊎ ((g.unit ≡ f.unit) × IsOpen r (n + 1) g.act)
+      at g un m (inl k) = inl k
+      at g un m (inr k) = by (open_next r n g.act k.1)
+        where
+          by : IsOpen r (n + 1) g.act ⊎ ((act_rank g.act ≡ r) × (act_number (act_place g.act) ≡ n)) → IsMarked old.marks g.unit ⊎ ((g.unit ≡ f.unit) × IsOpen r (n + 1) g.act)
+          by (inl o) = inr (k.0, o)
+          by (inr w) = absurd (refused_at net c start (dated_of old) old.fired.items f g r n next refused (same_place net (state_of old.state) f g r n next k.0 w.0 w.1) un m)
 
-  -- its unit is no queue
-  pub act_left : (new : Engine) → new ≡ old → is_lsq (kind_of net f.unit) ≡ false → AreTriedTo net past b c start new next
-  act_left new same l = act_passed new same (λ un m. t.refused f (inl l) un m)
+  module _ (new : Engine) (made : IsMade net past b c start old new f) where
+    unused : (g : Firing) → IsUnused new.fired.items g → IsUnused old.fired.items g
+    unused g un = let P : List Firing → Type 0 = λ fs. IsUnused fs g in unused_before old.fired.items f g (subst P made.fired un)
 
-  pub act_tried : (new : Engine) (did : Bool) → IsChecked net → IsEngine net old → is_lsq (kind_of net f.unit) ≡ true → IsTried net past b c start old new f did → AreTriedTo net past b c start new next
-  act_tried new true checked eng l m = act_made new checked eng l m
-  act_tried new false checked eng l m = act_passed new m.same m.refused
+    apart : (g : Firing) → IsUnused new.fired.items g → place_of g ≡ place_of f → ⊥
+    apart g un e = let P : List Firing → Type 0 = λ fs. IsUnused fs g in unused_last old.fired.items f g (subst P made.fired un) (sym e)
 
-pub plain_tried : (net : Net) (past : Past) (b : Bounds) (c : ℕ) (start : Dated) (old new : Engine) (f place next : Firing) (done did : Bool) → IsVisitedTo net past b c start old done place → IsLeastFrom net (state_of old.state) place f → IsNext net f next
-    → is_lsq (kind_of net f.unit) ≡ false → IsTried net past b c start old new f did → IsVisitedTo net past b c start new (done || did) next
-plain_tried net past b c start old new f place next done true v least after l m = plain_made net past b c start old new f place next done v l least.fires m
-plain_tried net past b c start old new f place next done false v least after l m = plain_passed net past b c start old new f place next done v least after m.same (λ q. m.refused)
+    -- what could be made before, and was to be tried
+    before_on : (g : Firing) → IsUnused new.fired.items g → ((v : ℕ) → IsMarked old.marks v → IsMarked new.marks v) → May net c start (dated_of old) g → IsMarked new.marks g.unit ⊎ ((g.unit ≡ f.unit) × IsOpen r (n + 1) g.act)
+    before_on g un kept m = by (t.watched g (unused g un) m)
+      where
+        at : g.unit ≡ f.unit → IsOpen r (n + 1) g.act ⊎ ((act_rank g.act ≡ r) × (act_number (act_place g.act) ≡ n)) → IsMarked new.marks g.unit ⊎ ((g.unit ≡ f.unit) × IsOpen r (n + 1) g.act)
+        at e (inl o) = inr (e, o)
+        at e (inr w) = absurd (apart g un (same_place net (state_of old.state) f g r n next e w.0 w.1))
 
-pub plain_left : (net : Net) (past : Past) (b : Bounds) (c : ℕ) (start : Dated) (old : Engine) (f place next : Firing) (done : Bool) → IsVisitedTo net past b c start old done place → IsLeastFrom net (state_of old.state) place f → IsNext net f next
-    → is_lsq (kind_of net f.unit) ≡ true → IsVisitedTo net past b c start old (done || false) next
-plain_left net past b c start old f place next done v least after l = plain_passed net past b c start old old f place next done v least after refl (λ q. let z : true ≡ false = sym l ∙ q in cc)
+        by : IsMarked old.marks g.unit ⊎ ((g.unit ≡ f.unit) × IsOpen r n g.act) → IsMarked new.marks g.unit ⊎ ((g.unit ≡ f.unit) × IsOpen r (n + 1) g.act)
+        by (inl k) = inl (kept g.unit k)
+        by (inr k) = at k.0 (open_next r n g.act k.1)
 
-pub visited_first : (net : Net) (past : Past) (b : Bounds) (c : ℕ) (start : Dated) (e : Engine) → InCycle net past b c start e → AllPlain net e.fired.items → IsVisitedTo net past b c start e false (firing 0 Go)
-visited_first net past b c start e g p = record { going = g; plain = p; refused = λ q h l i un m. none_first h i }
+    -- a unit that is no queue made it, and the units were marked at which it can have let one fire
+    pub unit_made : IsChecked net → IsEngine net old → is_lsq (kind_of net f.unit) ≡ false → (p : Plan) → IsPlanOf net old.state f (Some p) → KeepsMarks old.marks new.marks → length old.marks.marked.items ≡ length net.units
+        → IsRoused net f.unit p (length old.marks.marked.items) new.marks → IsTurn net past b c start marks new f.unit r (n + 1)
+    unit_made checked eng l p is kept long roused = record {
+      going = made.going;
+      watched = watched;
+      of = (let P : Bool → Type 0 = λ q. IsTurnOf q net c marks new f.unit r in subst P (sym l) all);
+    }
+      where
+        s : State
+        s = state_of old.state
 
--- the places up to the last one
-pub visited_all : (net : Net) (past : Past) (b : Bounds) (c : ℕ) (start : Dated) (e : Engine) (did : Bool) (place : Firing) → IsVisitedTo net past b c start e did place → IsQuietFrom net (state_of e.state) place → IsVisited net past b c start e did
-visited_all net past b c start e did place v quiet = record { going = v.going; plain = v.plain; refused = λ q g l un m. v.refused q g l (quiet g m.turn) un m }
+        plain : AllPlain net old.fired.items
+        plain = (let P : Bool → Type 0 = λ q. IsTurnOf q net c marks old f.unit r in subst P l t.of)
 
-pub tried_all : (net : Net) (past : Past) (b : Bounds) (c : ℕ) (start : Dated) (e : Engine) (place : Firing) → AreTriedTo net past b c start e place → IsQuietFrom net (state_of e.state) place → IsFull net past b c start e
-tried_all net past b c start e place t quiet = record { going = t.going; full = λ f un m. t.refused f (inr (quiet f m.turn)) un m }
+        all : AllPlain net new.fired.items
+        all = (let P : List Firing → Type 0 = AllPlain net in
+            subst P (sym made.fired) (all_snoc (λ g. (is_lsq (kind_of net g.unit) ≡ false) × (phase g.act ≡ 0)) old.fired.items f plain (l, fires_plain net (state_of old.state) f l made.may.turn)))
 
-pub settled_of : (net : Net) (past : Past) (b : Bounds) (c : ℕ) (start : Dated) (e : Engine) (more : Bool) → more ≡ false → IsVisited net past b c start e more → IsSettled net past b c start e
-settled_of net past b c start e more q v = record { going = v.going; plain = v.plain; refused = v.refused q }
+        room : has_room net (state_of old.state) f.unit p.put
+        room = (let P : Option Effect → Type 0 = λ o. IsSomeAnd o (λ x. has_room net (state_of old.state) f.unit x.put) in subst P (sym is) made.may.turn)
 
--- what a fault that is handed on says
-pub exit_broken : {T : Type 0} (P : T → Type 0) (Q : RunFault → Type 0) (r : Result T RunFault) (e : RunFault) → IsErrAnd r (λ d. d ≡ e) → Q e → MatchResult r P Q
-exit_broken P Q r e x h =
-    let p = err_from_is_err_and r x in
-    let R : Result _ RunFault → Type 0 = λ q. MatchResult q P Q in
-    subst R (sym p.1) (subst Q (sym p.2) h)
+        within : (g : Firing) → May net c start (dated_of new) g → g.unit < length old.marks.marked.items
+        within g m = (let k = fires_within net (state_of new.state) g checked (chans_after) m.turn in omega arith)
+          where
+            chans_after : length (state_of new.state).tokens ≡ length net.chans
+            chans_after = (going_dated_now net past b c start new made.going).chans
 
--- ---- what is counted down
+        watched : (g : Firing) → IsUnused new.fired.items g → May net c start (dated_of new) g → IsMarked new.marks g.unit ⊎ ((g.unit ≡ f.unit) × IsOpen r (n + 1) g.act)
+        watched g un m = by (unit_rouses net c start old.fired.items (dated_of old) f g (effect_in net old f p) checked (going_dated net past b c start old t.going) eng.dated t.going.makes (unused g un) (sym is) (let Q : Dated → Type 0 = λ x. May net c start x g in subst Q made.after m))
+          where
+            goes : (o : Option Put) → has_room net (state_of old.state) f.unit o → IfSome o (λ w. (chan_at net (out_of f.unit w.place net.chans)).delay ≡ 0 → IsTargetMarked net (length old.marks.marked.items) new.marks (out_of f.unit w.place net.chans))
+                → IsSomeAnd o (λ w. ((chan_at net (out_of f.unit w.place net.chans)).delay ≡ 0) × ((chan_at net (out_of f.unit w.place net.chans)).to.unit ≡ g.unit)) → IsMarked new.marks g.unit
+            goes None h k i = absurd i
+            goes (Some w) h k i =
+                let d : out_of f.unit w.place net.chans < length net.chans = slots_within net.chans (out_of f.unit w.place net.chans) (length (tokens_at (state_of old.state) (out_of f.unit w.place net.chans))) h in
+                let e = i.1 in
+                let q = within g m in
+                subst (IsMarked new.marks) e (k i.0 d (omega arith))
+
+            comes : is_merge (kind_of net g.unit) ≡ true → (o : Option Effect) → IsSomeAnd o (λ x. IsSomeAnd x.put (λ w. takes_from net f.unit (effect_in net old f p) (out_of g.unit w.place net.chans) ≡ true)) → IsMarked new.marks g.unit
+            comes merge None i = absurd i
+            comes merge (Some x) i = put x.put i
+              where
+                put : (o : Option Put) → IsSomeAnd o (λ w. takes_from net f.unit (effect_in net old f p) (out_of g.unit w.place net.chans) ≡ true) → IsMarked new.marks g.unit
+                put None i = absurd i
+                put (Some w) i =
+                    let h = taken_all net f.unit (out_of g.unit w.place net.chans) (effect_in net old f p) (IsMergeMarked net (length old.marks.marked.items) new.marks) i roused.merges in
+                    let d = taken_all net f.unit (out_of g.unit w.place net.chans) (effect_in net old f p) (λ y. y < length old.dates.tokens) i (takes_within net old f p eng is) in
+                    let k = eng.dated.lists in
+                    let l' : out_of g.unit w.place net.chans < length net.chans = omega arith in
+                    let e : (chan_at net (out_of g.unit w.place net.chans)).from.unit ≡ g.unit = (is_at-inv (chan_at net (out_of g.unit w.place net.chans)).from g.unit w.place (out_of-at g.unit w.place net.chans l')).0 in
+                    let q = within g m in
+                    subst (IsMarked new.marks) e (h l' (ap (λ v. is_merge (kind_of net v)) e ∙ merge) (omega arith))
+
+            -- a unit of one place has used it
+            own : g.unit ≡ f.unit → (q : Bool) → is_goer (kind_of net f.unit) ≡ q → IsMarked new.marks g.unit
+            own e false i = let q = within g m in subst (IsMarked new.marks) (sym e) (roused.own i (omega arith))
+            own e true i =
+                let N : ℕ → Type 0 = λ v. enabled net (state_of new.state) (firing v g.act) in
+                let z : act_place g.act ≡ act_place f.act = both_go net f.unit f.act g.act (state_of old.state) (state_of new.state) i made.may.turn (subst N e m.turn) in
+                absurd (apart g un (λ j. record { unit = e j; act = z j }))
+
+            by : May net c start (dated_of old) g ⊎ ((g.unit ≡ f.unit) ⊎ (GoesTo net f.unit (effect_in net old f p) g.unit ⊎ ((is_merge (kind_of net g.unit) ≡ true) × ComesFrom net f.unit (effect_in net old f p) (dated_of old) g)))
+                → IsMarked new.marks g.unit ⊎ ((g.unit ≡ f.unit) × IsOpen r (n + 1) g.act)
+            by (inl mo) = before_on g un kept.kept mo
+            by (inr (inl e)) = inl (own e (is_goer (kind_of net f.unit)) refl)
+            by (inr (inr (inl k))) = inl (goes p.put room roused.target k)
+            by (inr (inr (inr k))) = inl (comes k.0 (effect net (state_of old.state) g) k.1)
+
+    -- a queue made it
+    pub queue_made : IsChecked net → IsEngine net old → is_lsq (kind_of net f.unit) ≡ true → new.marks ≡ old.marks → IsTurn net past b c start marks new f.unit r (n + 1)
+    queue_made checked eng l same = record {
+      going = made.going;
+      watched = watched;
+      of = (let P : Bool → Type 0 = λ q. IsTurnOf q net c marks new f.unit r in subst P (sym l) (record { allocs = allocs; behind = behind; fresh = fresh; same = same ∙ turn.same }));
+    }
+      where
+        turn : IsQueueTurn net c marks old f.unit r
+        turn = (let P : Bool → Type 0 = λ q. IsTurnOf q net c marks old f.unit r in subst P l t.of)
+
+        good : IsRegular net (state_of old.state)
+        good = going_regular net past b c start old checked t.going
+
+        w : (e : Effect) × (effect net (state_of old.state) f ≡ Some e) × has_room net (state_of old.state) f.unit e.put
+        w = effect_there net (state_of old.state) f made.may.turn
+
+        allocs : AllocsOnce net c new.fired.items (dated_of new)
+        allocs = kinds (kind_of net f.unit) refl l
+          where
+            kinds : (y : Kind) → kind_of net f.unit ≡ y → is_lsq (kind_of net f.unit) ≡ true → AllocsOnce net c new.fired.items (dated_of new)
+            kinds (Lsq x d ps gs fw) ku q =
+                let a = allocs_more net c old.fired.items (dated_of old) f.unit x d ps gs fw f.act w.0 checked good eng.dated ku w.1 turn.allocs in
+                let e : dated_of new ≡ after_of net c (dated_of old) f.unit w.0 = made.after ∙ ap (after_by net c (dated_of old) f.unit) w.1 in
+                let P : Dated → Type 0 = λ s. AllocsOnce net c (old.fired.items ++ f ∷ []) s in
+                let Q : List Firing → Type 0 = λ fs. AllocsOnce net c fs (dated_of new) in
+                subst Q (sym made.fired) (subst P (sym e) a)
+            kinds Entry ku q = let z : false ≡ true = sym (ap is_lsq ku) ∙ q in cc
+            kinds (Param j) ku q = let z : false ≡ true = sym (ap is_lsq ku) ∙ q in cc
+            kinds (Const x y) ku q = let z : false ≡ true = sym (ap is_lsq ku) ∙ q in cc
+            kinds (Op1 x) ku q = let z : false ≡ true = sym (ap is_lsq ku) ∙ q in cc
+            kinds (Op2 x) ku q = let z : false ≡ true = sym (ap is_lsq ku) ∙ q in cc
+            kinds (Select x) ku q = let z : false ≡ true = sym (ap is_lsq ku) ∙ q in cc
+            kinds (Fork x y) ku q = let z : false ≡ true = sym (ap is_lsq ku) ∙ q in cc
+            kinds (Mux x y) ku q = let z : false ≡ true = sym (ap is_lsq ku) ∙ q in cc
+            kinds (Cmerge x) ku q = let z : false ≡ true = sym (ap is_lsq ku) ∙ q in cc
+            kinds (Branch x) ku q = let z : false ≡ true = sym (ap is_lsq ku) ∙ q in cc
+            kinds (Sink x) ku q = let z : false ≡ true = sym (ap is_lsq ku) ∙ q in cc
+            kinds (Read x) ku q = let z : false ≡ true = sym (ap is_lsq ku) ∙ q in cc
+            kinds Exit ku q = let z : false ≡ true = sym (ap is_lsq ku) ∙ q in cc
+
+        behind : AllByRecursion (λ g. g.unit ≡ f.unit → act_rank g.act ≤ r) new.fired.items
+        behind = (let P : List Firing → Type 0 = AllByRecursion (λ g. g.unit ≡ f.unit → act_rank g.act ≤ r) in
+            subst P (sym made.fired) (all_snoc (λ g. g.unit ≡ f.unit → act_rank g.act ≤ r) old.fired.items f turn.behind (λ q. (let z = next.rank in omega arith))))
+
+        fresh : AllByRecursion (λ g. is_lsq (kind_of net g.unit) ≡ true → (g.unit ≡ f.unit) ⊎ (IsMarked marks g.unit → ⊥)) new.fired.items
+        fresh = (let P : List Firing → Type 0 = AllByRecursion (λ g. is_lsq (kind_of net g.unit) ≡ true → (g.unit ≡ f.unit) ⊎ (IsMarked marks g.unit → ⊥)) in
+            subst P (sym made.fired) (all_snoc (λ g. is_lsq (kind_of net g.unit) ≡ true → (g.unit ≡ f.unit) ⊎ (IsMarked marks g.unit → ⊥)) old.fired.items f turn.fresh (λ q. inl refl)))
+
+        before : (g : Firing) → IsUnused new.fired.items g → (g.unit ≡ f.unit → phase g.act ≤ phase f.act) → May net c start (dated_of new) g → May net c start (dated_of old) g
+        before g un ph m =
+            let P : List Firing → Type 0 = λ fs. IsUnused fs g in
+            let Q : Dated → Type 0 = λ s. May net c start s g in
+            queue_rouses net c start old.fired.items (dated_of old) f.unit f.act g checked good (going_dated net past b c start old t.going) eng.dated t.going.makes turn.allocs l made.may.turn (subst P made.fired un) ph (subst Q made.after m)
+
+        kept : (v : ℕ) → IsMarked old.marks v → IsMarked new.marks v
+        kept v h = (let P : Marks → Type 0 = λ y. IsMarked y v in subst P (sym same) h)
+
+        watched : (g : Firing) → IsUnused new.fired.items g → May net c start (dated_of new) g → IsMarked new.marks g.unit ⊎ ((g.unit ≡ f.unit) × IsOpen r (n + 1) g.act)
+        watched g un m = by (cases_eq g.unit f.unit) (open_or r (n + 1) g.act)
+          where
+            by : (g.unit ≡ f.unit) ⊎ (g.unit ≢ f.unit) → IsOpen r (n + 1) g.act ⊎ (IsOpen r (n + 1) g.act → ⊥) → IsMarked new.marks g.unit ⊎ ((g.unit ≡ f.unit) × IsOpen r (n + 1) g.act)
+            by (inl e) (inl o) = inr (e, o)
+            by (inl e) (inr o) = before_on g un kept (before g un (λ z. phase_rises g.act f.act (let x = closed_rank r (n + 1) g.act o in let y = next.rank in omega arith)) m)
+            by (inr e) o = before_on g un kept (before g un (λ z. absurd (e z)) m)
+
+-- ---- one kind of acts more
+
+-- all acts of the rank r were tried
+pub turn_on : (net : Net) (past : Past) (b : Bounds) (c : ℕ) (start : Dated) (marks : Marks) (e : Engine) (u r n : ℕ) → IsTurn net past b c start marks e u r n
+    → ((a : Act) → enabled net (state_of e.state) (firing u a) → act_rank a ≡ r → act_number (act_place a) < n) → IsTurn net past b c start marks e u (r + 1) 0
+turn_on net past b c start marks e u r n t below = record { going = t.going; watched = λ g un m. at g m (t.watched g un m); of = of (is_lsq (kind_of net u)) t.of }
+  where
+    at : (g : Firing) → May net c start (dated_of e) g → IsMarked e.marks g.unit ⊎ ((g.unit ≡ u) × IsOpen r n g.act) → IsMarked e.marks g.unit ⊎ ((g.unit ≡ u) × IsOpen (r + 1) 0 g.act)
+    at g m (inl k) = inl k
+    at g m (inr k) = by k.1
+      where
+        N : ℕ → Type 0
+        N v = enabled net (state_of e.state) (firing v g.act)
+
+        by : IsOpen r n g.act → IsMarked e.marks g.unit ⊎ ((g.unit ≡ u) × IsOpen (r + 1) 0 g.act)
+        by (inl l) = by_rank (cases_lt (r + 1) (act_rank g.act))
+          where
+            by_rank : (r + 1 < act_rank g.act) ⊎ (act_rank g.act ≤ r + 1) → IsMarked e.marks g.unit ⊎ ((g.unit ≡ u) × IsOpen (r + 1) 0 g.act)
+            by_rank (inl q) = inr (k.0, inl q)
+            by_rank (inr q) = inr (k.0, inr (omega arith, omega arith))
+        by (inr l) = let z = below g.act (subst N k.0 m.turn) (sym l.0) in let y = l.1 in absurd (omega arith)
+
+    of : (q : Bool) → IsTurnOf q net c marks e u r → IsTurnOf q net c marks e u (r + 1)
+    of true o = record {
+      allocs = o.allocs;
+      behind = each_order e.fired.items (λ g. g.unit ≡ u → act_rank g.act ≤ r) (λ g. g.unit ≡ u → act_rank g.act ≤ r + 1) (λ g h z. (let y = h z in omega arith)) o.behind;
+      fresh = o.fresh;
+      same = o.same;
+    }
+    of false o = o
+
+-- ---- a unit that is no queue
+
+pub open_queue : (net : Net) (past : Past) (b : Bounds) (c : ℕ) (start : Dated) (e : Engine) (u : ℕ) → is_lsq (kind_of net u) ≡ true → IsOpenTurn net past b c start e u → IsBegunIn net past b c start e
+open_queue net past b c start e u l t = record { going = t.going; plain = t.plain; watching = λ g un m. at g (t.watched g un m) }
+  where
+    at : (g : Firing) → IsMarked e.marks g.unit ⊎ ((g.unit ≡ u) × (is_lsq (kind_of net g.unit) ≡ false)) → IsMarked e.marks g.unit
+    at g (inl k) = k
+    at g (inr k) = let z : true ≡ false = sym l ∙ (ap (λ x. is_lsq (kind_of net x)) (sym k.0) ∙ k.1) in cc
+
+pub open_unit : (net : Net) (past : Past) (b : Bounds) (c : ℕ) (start : Dated) (e : Engine) (u : ℕ) (kind : Act) → is_lsq (kind_of net u) ≡ false → kind ≡ first_of (kind_of net u) → IsOpenTurn net past b c start e u
+    → IsTurn net past b c start e.marks e u (act_rank kind) 0
+open_unit net past b c start e u kind l is t = record { going = t.going; watched = λ g un m. at g m (t.watched g un m); of = (let P : Bool → Type 0 = λ q. IsTurnOf q net c e.marks e u (act_rank kind) in subst P (sym l) t.plain) }
+  where
+    N : Act → ℕ → Type 0
+    N a v = enabled net (state_of e.state) (firing v a)
+
+    at : (g : Firing) → May net c start (dated_of e) g → IsMarked e.marks g.unit ⊎ ((g.unit ≡ u) × (is_lsq (kind_of net g.unit) ≡ false)) → IsMarked e.marks g.unit ⊎ ((g.unit ≡ u) × IsOpen (act_rank kind) 0 g.act)
+    at g m (inl k) = inl k
+    at g m (inr k) =
+        let r = first_rank net (state_of e.state) u g.act l (subst (N g.act) k.0 m.turn) in
+        let q = ap act_rank is in
+        inr (k.0, inr (omega arith, omega arith))
+
+pub unit_done : (net : Net) (past : Past) (b : Bounds) (c : ℕ) (start : Dated) (marks : Marks) (e : Engine) (u : ℕ) (kind : Act) → is_lsq (kind_of net u) ≡ false → kind ≡ first_of (kind_of net u) → IsTurn net past b c start marks e u (act_rank kind + 1) 0
+    → IsBegunIn net past b c start e
+unit_done net past b c start marks e u kind l is t = record { going = t.going; plain = (let P : Bool → Type 0 = λ q. IsTurnOf q net c marks e u (act_rank kind + 1) in subst P l t.of); watching = λ g un m. at g m (t.watched g un m) }
+  where
+    N : Act → ℕ → Type 0
+    N a v = enabled net (state_of e.state) (firing v a)
+
+    at : (g : Firing) → May net c start (dated_of e) g → IsMarked e.marks g.unit ⊎ ((g.unit ≡ u) × IsOpen (act_rank kind + 1) 0 g.act) → IsMarked e.marks g.unit
+    at g m (inl k) = k
+    at g m (inr k) =
+        let r = first_rank net (state_of e.state) u g.act l (subst (N g.act) k.0 m.turn) in
+        let q = ap act_rank is in
+        absurd (by k.1 (omega arith))
+      where
+        by : IsOpen (act_rank kind + 1) 0 g.act → act_rank g.act ≡ act_rank kind → ⊥
+        by (inl o) z = omega arith
+        by (inr o) z = let y = o.0 in omega arith
+
+-- the engine with other marks
+abbrev pub with_marks : Engine → Marks → Engine
+with_marks e m = record { state = e.state; dates = e.dates; begun = e.begun; fired = e.fired; since = e.since; made = e.made; log = e.log; marks = m; notes = e.notes }
+
+pub going_marks : (net : Net) (past : Past) (b : Bounds) (c : ℕ) (start : Dated) (e : Engine) (m : Marks) → InCycle net past b c start e → InCycle net past b c start (with_marks e m)
+going_marks net past b c start e m g = record { began = g.began; done = g.done; number = g.number; makes = g.makes; once = g.once; order = g.order; made = g.made; log = g.log; moved = g.moved; coming = g.coming }
+
+pub ready_marks : (net : Net) (b : Bounds) (e : Engine) (m : Marks) → IsReady net b e → length m.marked.items ≡ length net.units → IsListed net m → IsReady net b (with_marks e m)
+ready_marks net b e m r long listed = record {
+  engine = record { state = r.engine.state; slots = r.engine.slots; dated = r.engine.dated };
+  few = r.few;
+  within = r.within;
+  counts = r.counts;
+  room = r.room;
+  chans = r.chans;
+  queues = r.queues;
+  marked = long;
+  listed = listed;
+  cells = r.cells;
+  since = r.since;
+}
+
+-- a unit was taken from the list
+pub taken_open : (net : Net) (past : Past) (b : Bounds) (c : ℕ) (start : Dated) (e : Engine) (m : Marks) (u : ℕ) → IsTaken net e.marks m u → IsBegunIn net past b c start e → IsOpenTurn net past b c start (with_marks e m) u
+taken_open net past b c start e m u k t = record { going = going_marks net past b c start e m t.going; plain = t.plain; watched = λ g un x. at g (k.left g.unit (t.watching g un x)) }
+  where
+    at : (g : Firing) → IsMarked m g.unit ⊎ ((g.unit ≡ u) × (is_lsq (kind_of net g.unit) ≡ false)) → IsMarked m g.unit ⊎ ((g.unit ≡ u) × (is_lsq (kind_of net g.unit) ≡ false))
+    at g x = x
+
+pub begun_settled : (net : Net) (past : Past) (b : Bounds) (c : ℕ) (start : Dated) (e : Engine) (m : Marks) → IsListed net e.marks → m.marked ≡ e.marks.marked → e.marks.list.items ≡ [] → IsBegunIn net past b c start e → IsSettled net past b c start (with_marks e m)
+begun_settled net past b c start e m listed same none t = record {
+  going = going_marks net past b c start e m t.going;
+  plain = t.plain;
+  watching = λ g un k. ap (λ (v : _). get_or v.items g.unit false) same ∙ t.watching g un k;
+  units = λ u l k. none_held e.marks.list.items u none (listed u l (ap (λ (v : _). get_or v.items u false) (sym same) ∙ k));
+}
+
+-- ---- queues
+
+pub served_first : (net : Net) (past : Past) (b : Bounds) (c : ℕ) (start : Dated) (e : Engine) (queues : List ℕ) → IsSettled net past b c start e → IsServed net past b c start e queues 0
+served_first net past b c start e queues s = record {
+  going = s.going;
+  allocs = allocs_none net c e.fired.items (dated_of e) s.plain;
+  watching = s.watching;
+  units = s.units;
+  fresh = each_order e.fired.items (λ g. (is_lsq (kind_of net g.unit) ≡ false) × (phase g.act ≡ 0)) (λ g. is_lsq (kind_of net g.unit) ≡ true → IsMarked e.marks g.unit → ⊥) (λ g h q. (let z : true ≡ false = sym q ∙ h.0 in cc)) s.plain;
+  served = λ k l. absurd (omega arith);
+}
+
+-- the queue has no turn
+pub served_left : (net : Net) (past : Past) (b : Bounds) (c : ℕ) (start : Dated) (e : Engine) (queues : List ℕ) (n u : ℕ) → get_or queues n 0 ≡ u → (get_or e.marks.marked.items u false && is_lsq (kind_of net u)) ≡ false → IsServed net past b c start e queues n
+    → IsServed net past b c start e queues (n + 1)
+served_left net past b c start e queues n u is none s = record { going = s.going; allocs = s.allocs; watching = s.watching; units = s.units; fresh = s.fresh; served = λ k l. at k (cases_lt k n) l }
+  where
+    not_marked : IsMarked e.marks u → ⊥
+    not_marked m = by (is_lsq (kind_of net u)) refl
+      where
+        by : (q : Bool) → is_lsq (kind_of net u) ≡ q → ⊥
+        by false i = s.units u i m
+        by true i = let z : (true && true) ≡ (get_or e.marks.marked.items u false && is_lsq (kind_of net u)) = λ j. (sym m j) && (sym i j) in let y : true ≡ false = z ∙ none in cc
+
+    at : (k : ℕ) → (k < n) ⊎ (n ≤ k) → k < n + 1 → IsMarked e.marks (get_or queues k 0) → ⊥
+    at k (inl l) m = s.served k l
+    at k (inr l) m = let z : k ≡ n = omega arith in let P : ℕ → Type 0 = λ v. IsMarked e.marks v → ⊥ in subst P (sym (ap (λ x. get_or queues x 0) z ∙ is)) not_marked
+
+-- its mark was taken, and its turn begins
+pub served_turn : (net : Net) (past : Past) (b : Bounds) (c : ℕ) (start : Dated) (e : Engine) (m : Marks) (queues : List ℕ) (n u : ℕ) → m.marked.items ≡ set e.marks.marked.items u false → IsMarked e.marks u → is_lsq (kind_of net u) ≡ true
+    → IsServed net past b c start e queues n → IsTurn net past b c start m (with_marks e m) u 3 0
+served_turn net past b c start e m queues n u is mark l s = record {
+  going = going_marks net past b c start e m s.going;
+  watched = λ g un k. at g k (cases_eq g.unit u) (s.watching g un k);
+  of = (let P : Bool → Type 0 = λ q. IsTurnOf q net c m (with_marks e m) u 3 in subst P (sym l) (record {
+    allocs = s.allocs;
+    behind = each_order e.fired.items (λ g. is_lsq (kind_of net g.unit) ≡ true → IsMarked e.marks g.unit → ⊥) (λ g. g.unit ≡ u → act_rank g.act ≤ 3)
+        (λ g h z. absurd (h (ap (λ x. is_lsq (kind_of net x)) z ∙ l) (subst (IsMarked e.marks) (sym z) mark))) s.fresh;
+    fresh = each_order e.fired.items (λ g. is_lsq (kind_of net g.unit) ≡ true → IsMarked e.marks g.unit → ⊥) (λ g. is_lsq (kind_of net g.unit) ≡ true → (g.unit ≡ u) ⊎ (IsMarked m g.unit → ⊥))
+        (λ g h q. inr (λ z. h q (unmarked e.marks m u g.unit is z).1)) s.fresh;
+    same = refl;
+  }));
+}
+  where
+    N : Act → ℕ → Type 0
+    N a v = enabled net (state_of e.state) (firing v a)
+
+    at : (g : Firing) → May net c start (dated_of e) g → (g.unit ≡ u) ⊎ (g.unit ≢ u) → IsMarked e.marks g.unit → IsMarked m g.unit ⊎ ((g.unit ≡ u) × IsOpen 3 0 g.act)
+    at g k (inr x) w = inl (still_marked e.marks m u g.unit is x w)
+    at g k (inl x) w =
+        let r = queue_rank net (state_of e.state) u g.act l (subst (N g.act) x k.turn) in
+        inr (x, by (cases_lt 3 (act_rank g.act)))
+      where
+        by : (3 < act_rank g.act) ⊎ (act_rank g.act ≤ 3) → IsOpen 3 0 g.act
+        by (inl y) = inl y
+        by (inr y) = (let r = queue_rank net (state_of e.state) u g.act l (subst (N g.act) x k.turn) in inr (omega arith, omega arith))
 
 rank_most : (a : Act) → act_rank a ≤ 9
 rank_most Go = omega arith
@@ -566,73 +685,51 @@ rank_most (Reply j) = omega arith
 rank_most Retire = omega arith
 rank_most End = omega arith
 
-place_below : (net : Net) (p : Firing) → IsPlace net p → place_number p < (length net.units * 10 + 10) * 2 ^ 32
-place_below net p k =
-    let a = rank_most p.act in
-    let b : act_number (act_place p.act) ≡ act_number p.act = ap act_number k.fixed in
-    let c = k.small in
-    let d = k.within in
-    omega arith
-
--- a place does not stand after the next enabled firing from it on
-number_le : (p f : Firing) → act_place p.act ≡ p.act → act_number p.act < 2 ^ 32 → FiringLe p f → place_number p ≤ place_number f
-number_le p f fixed small (inl l) =
-    let a = rank_most p.act in
-    let b : act_number (act_place p.act) ≡ act_number p.act = ap act_number fixed in
-    omega arith
-number_le p f fixed small (inr (e, inl l)) =
-    let b : act_number (act_place p.act) ≡ act_number p.act = ap act_number fixed in
-    omega arith
-number_le p f fixed small (inr (e, inr m)) = let r = m.0 in by p.act f.act r m.1 fixed
+-- its turn has ended
+pub turn_served : (net : Net) (past : Past) (b : Bounds) (c : ℕ) (start : Dated) (old e : Engine) (m : Marks) (queues : List ℕ) (n u : ℕ) → m.marked.items ≡ set old.marks.marked.items u false → is_lsq (kind_of net u) ≡ true → get_or queues n 0 ≡ u
+    → IsServed net past b c start old queues n → IsTurn net past b c start m e u 10 0 → IsServed net past b c start e queues (n + 1)
+turn_served net past b c start old e m queues n u is l at_n s t = record {
+  going = t.going;
+  allocs = turn.allocs;
+  watching = λ g un k. watch g (t.watched g un k);
+  units = λ v q k. s.units v q (unmarked old.marks m u v is (here v k)).1;
+  fresh = each_order e.fired.items (λ g. is_lsq (kind_of net g.unit) ≡ true → (g.unit ≡ u) ⊎ (IsMarked m g.unit → ⊥)) (λ g. is_lsq (kind_of net g.unit) ≡ true → IsMarked e.marks g.unit → ⊥) (λ g h q k. fresh g (h q) (here g.unit k)) turn.fresh;
+  served = λ k y z. served k y (cases_lt k n) (here (get_or queues k 0) z);
+}
   where
-    numbers : (a b : Act) → act_rank a ≡ act_rank b → act_number a ≤ act_number b → act_place a ≡ a → act_number (act_place a) ≤ act_number (act_place b)
-    numbers a b r l q = at b refl
+    turn : IsQueueTurn net c m e u 10
+    turn = (let P : Bool → Type 0 = λ q. IsTurnOf q net c m e u 10 in subst P l t.of)
+
+    here : (v : ℕ) → IsMarked e.marks v → IsMarked m v
+    here v k = (let P : Marks → Type 0 = λ y. IsMarked y v in subst P turn.same k)
+
+    watch : (g : Firing) → IsMarked e.marks g.unit ⊎ ((g.unit ≡ u) × IsOpen 10 0 g.act) → IsMarked e.marks g.unit
+    watch g (inl k) = k
+    watch g (inr k) = absurd (by k.1)
       where
-        same : act_number (act_place a) ≡ act_number a
-        same = ap act_number q
+        by : IsOpen 10 0 g.act → ⊥
+        by (inl o) = let r = rank_most g.act in omega arith
+        by (inr o) = let r = rank_most g.act in let y = o.0 in omega arith
 
-        exec : (j : ℕ) → b ≡ Exec j → act_number (act_place a) ≤ 0
-        exec j i =
-            let z : a ≡ Exec (act_number a) = exec_is a (r ∙ ap act_rank i) in
-            let y : act_number (act_place a) ≡ 0 = ap (λ x. act_number (act_place x)) z in
-            omega arith
+    fresh : (g : Firing) → (g.unit ≡ u) ⊎ (IsMarked m g.unit → ⊥) → IsMarked m g.unit → ⊥
+    fresh g (inl z) k = (unmarked old.marks m u g.unit is k).0 z
+    fresh g (inr f) k = f k
 
-        at : (x : Act) → b ≡ x → act_number (act_place a) ≤ act_number (act_place b)
-        at (Exec j) i = let y : act_number (act_place b) ≡ 0 = ap (λ x. act_number (act_place x)) i in let x = exec j i in omega arith
-        at Go i = let y : act_number (act_place b) ≡ act_number b = (let e1 = ap (λ x. act_number (act_place x)) i in let e2 = ap act_number i in omega arith) in let s = same in omega arith
-        at (From j) i = let y : act_number (act_place b) ≡ act_number b = (let e1 = ap (λ x. act_number (act_place x)) i in let e2 = ap act_number i in omega arith) in let s = same in omega arith
-        at (Send j) i = let y : act_number (act_place b) ≡ act_number b = (let e1 = ap (λ x. act_number (act_place x)) i in let e2 = ap act_number i in omega arith) in let s = same in omega arith
-        at (Alloc j) i = let y : act_number (act_place b) ≡ act_number b = (let e1 = ap (λ x. act_number (act_place x)) i in let e2 = ap act_number i in omega arith) in let s = same in omega arith
-        at (Addr j) i = let y : act_number (act_place b) ≡ act_number b = (let e1 = ap (λ x. act_number (act_place x)) i in let e2 = ap act_number i in omega arith) in let s = same in omega arith
-        at (Data j) i = let y : act_number (act_place b) ≡ act_number b = (let e1 = ap (λ x. act_number (act_place x)) i in let e2 = ap act_number i in omega arith) in let s = same in omega arith
-        at (Reply j) i = let y : act_number (act_place b) ≡ act_number b = (let e1 = ap (λ x. act_number (act_place x)) i in let e2 = ap act_number i in omega arith) in let s = same in omega arith
-        at Retire i = let y : act_number (act_place b) ≡ act_number b = (let e1 = ap (λ x. act_number (act_place x)) i in let e2 = ap act_number i in omega arith) in let s = same in omega arith
-        at End i = let y : act_number (act_place b) ≡ act_number b = (let e1 = ap (λ x. act_number (act_place x)) i in let e2 = ap act_number i in omega arith) in let s = same in omega arith
+    served : (k : ℕ) → k < n + 1 → (k < n) ⊎ (n ≤ k) → IsMarked m (get_or queues k 0) → ⊥
+    served k y (inl q) z = s.served k q (unmarked old.marks m u (get_or queues k 0) is z).1
+    served k y (inr q) z = (let w : k ≡ n = omega arith in (unmarked old.marks m u (get_or queues k 0) is z).0 (ap (λ x. get_or queues x 0) w ∙ at_n))
 
-    by : (a b : Act) → act_rank a ≡ act_rank b → act_number a ≤ act_number b → act_place a ≡ a → (p.unit * 10 + act_rank a) * 2 ^ 32 + act_number (act_place a) ≤ (f.unit * 10 + act_rank b) * 2 ^ 32 + act_number (act_place b)
-    by a b r l q = let n = numbers a b r l q in let u = e in omega arith
+-- all queues had their turns
+pub served_full : (net : Net) (past : Past) (b : Bounds) (c : ℕ) (start : Dated) (e : Engine) (queues : List ℕ) → AreQueues net queues → IsServed net past b c start e queues (length queues) → IsFull net past b c start e
+served_full net past b c start e queues all s = record { going = s.going; full = λ g un m. by g.unit (is_lsq (kind_of net g.unit)) refl (s.watching g un m) }
+  where
+    by : (u : ℕ) (q : Bool) → is_lsq (kind_of net u) ≡ q → IsMarked e.marks u → ⊥
+    by u false i k = s.units u i k
+    by u true i k = let h = all u i in s.served h.at h.within (subst (IsMarked e.marks) (sym h.is) k)
 
-pub place_less : (net : Net) (s : State) (place f next : Firing) → IsPlace net place → IsLeastFrom net s place f → IsNext net f next
-    → (length net.units * 10 + 10) * 2 ^ 32 - place_number next < (length net.units * 10 + 10) * 2 ^ 32 - place_number place
-place_less net s place f next p least after =
-    let a = number_le place f p.fixed p.small (before_le place f least.from) in
-    let b = after.more in
-    let c = place_below net next after.place in
-    omega arith
-
-pub passes_less : (limit a a' : ℕ) (more : Bool) → a ≤ a' → a' ≤ limit → (more ≡ true → a < a') → (limit - a') * 2 + cond more 1 0 < (limit - a) * 2 + 1
-passes_less limit a a' true l m h = let k = h refl in omega arith
-passes_less limit a a' false l m h = omega arith
-
-pub plain_result : (net : Net) (past : Past) (b : Bounds) (c : ℕ) (start : Dated) (old new : Engine) (f place next : Firing) (done : Bool) (Q : RunFault → Type 0) (r : Result Bool RunFault) → IsVisitedTo net past b c start old done place
-    → IsLeastFrom net (state_of old.state) place f → IsNext net f next → is_lsq (kind_of net f.unit) ≡ false → MatchResult r (IsTried net past b c start old new f) Q → MatchResult r (λ did. IsVisitedTo net past b c start new (done || did) next) Q
-plain_result net past b c start old new f place next done Q (Ok did) v least after l m = plain_tried net past b c start old new f place next done did v least after l m
-plain_result net past b c start old new f place next done Q (Err e) v least after l m = m
-
-pub or_left : (x y : Bool) → x ≡ true → (x || y) ≡ x
-or_left true y e = refl
-or_left false y e = cc
-
-pub or_right : (x y : Bool) → x ≡ false → (x || y) ≡ y
-or_right true y e = cc
-or_right false y e = refl
+-- what a fault that is handed on says
+pub exit_broken : {T : Type 0} (P : T → Type 0) (Q : RunFault → Type 0) (r : Result T RunFault) (e : RunFault) → IsErrAnd r (λ d. d ≡ e) → Q e → MatchResult r P Q
+exit_broken P Q r e x h =
+    let p = err_from_is_err_and r x in
+    let R : Result _ RunFault → Type 0 = λ q. MatchResult q P Q in
+    subst R (sym p.1) (subst Q (sym p.2) h)

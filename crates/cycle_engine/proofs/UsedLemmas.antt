@@ -1,5 +1,5 @@
 -- The places that a plan uses, and when the engine may make it.
-use Rattle.std.proofs.Common.{◌≡◌, ℕ, suc, ◌<◌, ◌≢◌, not, nat_lt, Bool, true, false, Option, Some, None, List, [], ◌∷◌, length, get_or, refl, sym, ap, subst, ◌∙◌, arith, IsSomeAnd}
+use Rattle.std.proofs.Common.{◌≡◌, ℕ, suc, ◌<◌, ◌≤◌, ◌≢◌, ◌⊎◌, inl, inr, not, nat_lt, Bool, true, false, Option, Some, None, List, [], ◌∷◌, length, get_or, refl, sym, ap, subst, ◌∙◌, arith, IsSomeAnd}
 use Rattle.net_types.specs.declared.net.Net.{Net}
 use Rattle.net_types.specs.declared.net.Unit.{Unit as Kind}
 use Rattle.net_types.specs.declared.net.Unit.TheVariants.{Entry, Param, Const, Op1, Op2, Select, Fork, Mux, Cmerge, Branch, Sink, Read, Lsq, Exit}
@@ -20,6 +20,8 @@ use Rattle.net_core.proofs.ForkLemmas.{send_inv}
 use Rattle.cycle_engine.specs.declared.engine.Engine.{Engine}
 use Rattle.cycle_engine.specs.Cycles.{Dated, used, HasDepth, AllocHasDepth, May, IsUnused, place_of}
 use Rattle.cycle_engine.specs.private.Trials.{dated_of, AllRipe, is_fork, places_used, HadRoom, HadDepth, EntriesFit, Allowed, IsBegun}
+use Rattle.std.proofs.lemmas.Bool.{cases_lt}
+use Rattle.cycle_engine.specs.private.Marking.{no_firing, IsNotBefore}
 use Rattle.cycle_engine.proofs.OwnLemmas.{fork_act, fork_effect, fork_uses, send_does}
 
 -- a row that looks at nothing it doesn't take
@@ -226,3 +228,11 @@ no_plan net c e start f o is n m =
 pub unused_of : (xs : List Firing) (f d : Firing) → ((k : ℕ) → k < length xs → place_of (get_or xs k d) ≢ place_of f) → IsUnused xs f
 unused_of [] f d h = tt
 unused_of (x ∷ xs) f d h = (h 0 (omega arith), unused_of xs f d (λ k l. h (suc k) (omega arith)))
+
+-- the firings before n are of other units, and those from n on of other places
+pub unused_from : (xs : List Firing) (f : Firing) (n : ℕ) → IsNotBefore xs f.unit n → ((k : ℕ) → n ≤ k → k < length xs → place_of (get_or xs k no_firing) ≢ place_of f) → IsUnused xs f
+unused_from xs f n before h = unused_of xs f no_firing (λ k l. by k l (cases_lt k n))
+  where
+    by : (k : ℕ) → k < length xs → (k < n) ⊎ (n ≤ k) → place_of (get_or xs k no_firing) ≢ place_of f
+    by k l (inl m) e = before k l m (ap (λ (x : Firing). x.unit) e)
+    by k l (inr m) e = h k m l e

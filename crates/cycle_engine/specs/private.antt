@@ -1,4 +1,5 @@
 -- Private: what only contracts of this crate cite.
 pub mod Trials
 pub mod Goings
+pub mod Marking
 pub mod Places

@@ -1,6 +1,6 @@
 //! The cycles in which tokens were put.
 
-ghost use Rattle.std.specs.Prelude.{◌≡◌, ◌↔◌, length, true, IsTrue, IfSome};
+ghost use Rattle.std.specs.Prelude.{◌≡◌, ◌<◌, ◌^◌, ◌↔◌, length, true, IsTrue, IfSome};
 ghost use Rattle.net_types.specs.Nets.{chan_at, into};
 ghost use Rattle.net_core.specs.Plans.{apart, places_of};
 ghost use Rattle.cycle_engine.specs.private.Trials.{RipeAt, AllRipe, dates_without, AreWithin, dates_after, HasDateRoom};
@@ -9,8 +9,9 @@ use net_check::Checked;
 use net_core::{Put, Takes, Tokens};
 
 /// The delay of a channel in cycles, 0 past the channels.
-fn delay_of(net: &Checked, chan: u32) -> u64
-    ensures { result ≡ (chan_at net.now chan).delay }
+pub(crate) fn delay_of(net: &Checked, chan: u32) -> u64
+    ensures delay { result ≡ (chan_at net.now chan).delay }
+    ensures small { result < 2 ^ 32 }
 {
     let chans = net.net().chans.as_slice();
     if (chan as usize) < chans.len() {

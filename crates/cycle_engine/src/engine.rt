@@ -1,13 +1,17 @@
 //! The state of a run by cycles.
 
-ghost use Rattle.std.specs.Prelude.{◌≡◌, ◌≤◌, ◌<◌, ℕ, [], true, cond, IfOk, length, get_or};
+ghost use Rattle.std.specs.Prelude.{◌≡◌, ◌≢◌, ◌⊎◌, ◌≤◌, ◌<◌, ℕ, [], true, cond, replicate, IfOk, OnOk, length, get_or};
 ghost use Rattle.el_base.specs.Limits.{max_firings};
 ghost use Rattle.net_types.specs.Inputs.{InputsFit};
 ghost use Rattle.net_types.specs.Nets.{kind_of};
 ghost use Rattle.net_check.specs.Ends.{is_lsq};
 ghost use Rattle.net_core.specs.Fire.{idle, tokens_at};
 ghost use Rattle.net_core.specs.States.{IsOf, state_of};
+ghost use Rattle.cycle_engine.specs.private.Marking.{HasUnit, entries_at};
 
+use crate::marks::Marks;
+use crate::notes::Notes;
+use crate::places::is_queue;
 use el_base::Log;
 use lsq_core::Queue;
 use net_check::Checked;
@@ -40,9 +44,15 @@ pub(crate) struct Engine {
     pub begun: Lengths,
     /// The firings of the cycle so far.
     pub fired: Vec<Firing>,
+    /// Of each unit that has fired in the cycle a number from 1 on, at most that of its first firing; 0 of most others.
+    pub since: Vec<u64>,
     /// How many firings the cycles before made.
     pub made: u64,
     pub log: Log<Firing>,
+    /// The units that may fire in the cycle.
+    pub marks: Marks,
+    /// What the next cycles have to be told.
+    pub notes: Notes,
 }
 
 /// How many firings the log has to have room for.
@@ -58,7 +68,7 @@ fn log_room(bounds: Bounds) -> u64
 ///
 /// [`Memory`] where memory is wanting.
 fn zeros(alloc: Global, count: usize) -> Result<Vec<u32>, Memory>
-    ensures { IfOk result (λ zeros. length zeros.items ≡ count) }
+    ensures { IfOk result (λ zeros. zeros.items ≡ replicate count 0) }
 {
     Ok(vec![in alloc; 0; count]?)
 }
@@ -66,7 +76,7 @@ fn zeros(alloc: Global, count: usize) -> Result<Vec<u32>, Memory>
 impl Engine {
     ghost use Rattle.cycle_engine.specs.Cycles.{Dated};
     ghost use Rattle.cycle_engine.specs.private.Trials.{dated_of, IsEngine};
-    ghost use Rattle.cycle_engine.specs.private.Goings.{Past, IsReady, HasDone, InCycle, all_made};
+    ghost use Rattle.cycle_engine.specs.private.Goings.{Past, IsReady, HasDone, IsBegunIn};
     ghost use Rattle.cycle_engine.specs.declared.engine.Bounds.{Bounds as BoundsValue};
 
     /// The opening state of a net on inputs.
@@ -88,6 +98,9 @@ impl Engine {
     {
         let chans = net.net().chans.as_slice();
         let units = net.net().units.as_slice();
+        let since = vec![in alloc; 0; units.len()]?;
+        let marks = Marks::new(alloc, net)?;
+        let notes = Notes::new(alloc)?;
         let state = State::new(alloc, net, inputs)?;
         let dates = Tokens::new(alloc, chans)?;
         let begun = Lengths {
@@ -100,40 +113,52 @@ impl Engine {
             dates,
             begun,
             fired: Vec::new(alloc),
+            since,
             made: 0,
             log,
+            marks,
+            notes,
         })
     }
 
-    /// Begins a cycle: notes the lengths of channels and queues, and that nothing has fired.
-    pub(crate) fn begin(&mut self, net: &Checked, bounds: Bounds)
+    /// Begins a cycle: marks the units that may fire in it, and notes the lengths of channels and queues and that nothing has
+    /// fired.
+    ///
+    /// # Errors
+    ///
+    /// [`Memory`] where memory is wanting.
+    pub(crate) fn begin(&mut self, net: &Checked, bounds: Bounds, now: u64) -> Result<(), Memory>
         requires { IsReady net.now bounds self.old }
-        ensures ready { IsReady net.now bounds self.new }
-        ensures none { self.new.fired.items ≡ [] }
-        ensures same { dated_of self.new ≡ dated_of self.old }
-        ensures going { (past : Past) (c : ℕ) → HasDone net.now past bounds c self.old
-            → InCycle net.now past bounds c (dated_of self.old) self.new }
+        ensures ready { OnOk result (IsReady net.now bounds self.new) }
+        ensures none { OnOk result (self.new.fired.items ≡ []) }
+        ensures same { OnOk result (dated_of self.new ≡ dated_of self.old) }
+        ensures going { (past : Past) → HasDone net.now past bounds now self.old
+            → OnOk result (IsBegunIn net.now past bounds now (dated_of self.old) self.new) }
     {
         let _ = bounds;
-        note_chans(&mut self.begun.chans, net, &self.state);
-        note_queues(&mut self.begun.queues, net, &self.state);
+        let _ = net.net();
+        let fired = self.fired.as_slice();
+        self.marks.mark_fired(net, &self.state, fired)?;
+        note_queues(&mut self.begun.queues, net, &self.state, fired);
+        clear_since(&mut self.since, fired);
+        let moved = self.notes.moved.as_slice();
+        self.marks
+            .mark_emptied(net, &self.state, &mut self.begun.chans, moved)?;
+        self.marks.mark_targets(net, self.notes.ripening(now))?;
+        self.notes.clear(now);
         self.made += self.fired.len() as u64;
         self.fired.clear();
+        Ok(())
     }
 }
 
-/// Notes how many tokens each channel has.
-fn note_chans(lengths: &mut Vec<u32>, net: &Checked, state: &State)
-    requires of { IsOf net.now state.now }
-    requires long { length lengths.old.items ≡ length net.now.chans }
-    ensures long { length lengths.new.items ≡ length net.now.chans }
-    ensures noted { (d : ℕ) → get_or lengths.new.items d 0
-        ≡ length (tokens_at (state_of state.now) d) }
-{
-    let chans = net.net().chans.as_slice();
-    for at in 0..chans.len() {
-        let chan = at as u32;
-        lengths[at] = state.held(net, chan);
+/// Forgets when units have fired.
+fn clear_since(since: &mut Vec<u64>, fired: &[Firing]) {
+    for firing in fired {
+        let at = firing.unit as usize;
+        if at < since.len() {
+            since[at] = 0;
+        }
     }
 }
 
@@ -150,17 +175,31 @@ fn entries(net: &Checked, state: &State, unit: u32) -> u32
     }
 }
 
-/// Notes how many entries each queue has.
-fn note_queues(lengths: &mut Vec<u32>, net: &Checked, state: &State)
+/// Notes how many entries the queues have that fired.
+fn note_queues(lengths: &mut Vec<u32>, net: &Checked, state: &State, fired: &[Firing])
     requires of { IsOf net.now state.now }
     requires long { length lengths.old.items ≡ length net.now.units }
     ensures long { length lengths.new.items ≡ length net.now.units }
-    ensures noted { (u : ℕ) → is_lsq (kind_of net.now u) ≡ true → get_or lengths.new.items u 0
-        ≡ length (get_or (state_of state.now).own u idle).queue.items }
+    ensures noted { (u : ℕ) → is_lsq (kind_of net.now u) ≡ true
+        → (get_or lengths.old.items u 0 ≡ entries_at (state_of state.now) u) ⊎ HasUnit u fired.now
+        → get_or lengths.new.items u 0 ≡ entries_at (state_of state.now) u }
 {
-    let units = net.net().units.as_slice();
-    for at in 0..units.len() {
-        let unit = at as u32;
-        lengths[at] = entries(net, state, unit);
+    for firing in fired {
+        note_queue(lengths, net, state, firing.unit);
+    }
+}
+
+/// Notes how many entries the queue of a unit has, where it is one.
+fn note_queue(lengths: &mut Vec<u32>, net: &Checked, state: &State, unit: u32)
+    requires of { IsOf net.now state.now }
+    requires long { length lengths.old.items ≡ length net.now.units }
+    ensures long { length lengths.new.items ≡ length net.now.units }
+    ensures noted { is_lsq (kind_of net.now unit) ≡ true
+        → get_or lengths.new.items unit 0 ≡ entries_at (state_of state.now) unit }
+    ensures others { (u : ℕ) → u ≢ unit
+        → get_or lengths.new.items u 0 ≡ get_or lengths.old.items u 0 }
+{
+    if is_queue(net, unit) && (unit as usize) < lengths.len() {
+        lengths[unit as usize] = entries(net, state, unit);
     }
 }

@@ -1,7 +1,10 @@
 //! Laws of cycles, each as the contract of a function that does nothing.
 ghost use Rattle.cycle_engine.specs.Rousing.{Rouses, OwnRouses, NextRouses};
 ghost use Rattle.cycle_engine.specs.Bounds.{CyclesBound};
+ghost use Rattle.cycle_engine.specs.Joins.{CyclesAreRuns, CutsAreLong};
 ghost use Rattle.cycle_engine.specs.Worked.{StraightCycles};
+
+use net_core::limit_decides;
 
 /// What a firing makes possible in its cycle is of its own unit, or of the unit at the other end of the channel of
 /// delay 0 on which it put, or puts on a channel from which it took.
@@ -26,6 +29,15 @@ pub fn next_cycles_rouse()
 pub fn cycles_are_few()
     ensures { CyclesBound }
 {}
+
+/// The firings of cycles from the opening state, one cycle after another, are a run to the state to which the cycles lead.
+/// Where a limit cuts cycles off, there are runs of more firings than it.
+pub fn cycles_are_runs()
+    ensures runs { CyclesAreRuns }
+    ensures long { CutsAreLong }
+{
+    limit_decides();
+}
 
 /// The worked net without a queue makes its nine firings in one cycle, computed by the definitions.
 pub fn worked_net_cycles()

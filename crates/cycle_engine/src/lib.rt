@@ -6,6 +6,8 @@
 mod dates;
 mod engine;
 mod laws;
+mod marks;
+mod notes;
 mod places;
 mod runs;
 #[cfg(test)]
@@ -14,6 +16,7 @@ mod trial;
 mod turns;
 
 pub use laws::{
-    cycles_are_few, firings_rouse, firings_rouse_their_unit, next_cycles_rouse, worked_net_cycles,
+    cycles_are_few, cycles_are_runs, firings_rouse, firings_rouse_their_unit, next_cycles_rouse,
+    worked_net_cycles,
 };
 pub use runs::{Timed, run_cycles};

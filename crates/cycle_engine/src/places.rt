@@ -1,17 +1,17 @@
-//! Places in the order of firings.
+//! The acts of units, one after another.
 
-ghost use Rattle.std.specs.Prelude.{◌≡◌, ◌<◌, true, length};
-ghost use Rattle.net_types.specs.declared.firing.Act.TheVariants.{Go};
+ghost use Rattle.std.specs.Prelude.{◌≡◌, ℕ, true, false, IfOk, OnOk, MatchOption, length};
 ghost use Rattle.net_types.specs.Nets.{kind_of};
 ghost use Rattle.net_check.specs.Ends.{is_lsq};
-ghost use Rattle.net_core.specs.Fire.{enabled};
 ghost use Rattle.net_core.specs.States.{IsOf, state_of};
-ghost use Rattle.cycle_engine.specs.private.Places.{IsPlace, IsNext, HasView};
+ghost use Rattle.cycle_engine.specs.private.Marking.{Holds, IsStarved, asks_first, is_goer, is_merge};
+ghost use Rattle.cycle_engine.specs.private.Places.{HasView, HasNoExec, IsFirstExec, AreQueues, first_of, count_in, inputs_in, outputs_in, groups_in, ports_in, numbered};
 
 use lsq_core::Queue;
 use net_check::Checked;
 use net_core::State;
-use net_types::{Act, Firing, Unit};
+use net_types::{Act, Memory, Unit};
+use std::alloc::Global;
 
 /// Whether a unit is a queue.
 pub(crate) fn is_queue(net: &Checked, unit: u32) -> bool
@@ -28,55 +28,246 @@ pub(crate) fn is_queue(net: &Checked, unit: u32) -> bool
     }
 }
 
-/// The first of all places.
-pub(crate) fn first_place(net: &Checked) -> Firing
-    ensures place { IsPlace net.now result }
-    ensures is { result ≡ record { unit = 0; act = Go } }
+/// Whether a unit is a control merge.
+pub(crate) fn is_merge(net: &Checked, unit: u32) -> bool
+    ensures { result ≡ is_merge (kind_of net.now unit) }
 {
-    let _ = net;
-    Firing {
-        unit: 0,
-        act: Act::Go,
+    let units = net.net().units.as_slice();
+    if (unit as usize) < units.len() {
+        match &units[unit as usize] {
+            Unit::Cmerge { .. } => true,
+            _ => false,
+        }
+    } else {
+        false
+    }
+}
+
+/// Whether a unit has one place only: it is no fork, no control merge and no queue.
+pub(crate) fn goes(net: &Checked, unit: u32) -> bool
+    ensures { result ≡ is_goer (kind_of net.now unit) }
+{
+    let units = net.net().units.as_slice();
+    if (unit as usize) < units.len() {
+        match &units[unit as usize] {
+            Unit::Fork { .. } => false,
+            Unit::Cmerge { .. } => false,
+            Unit::Lsq { .. } => false,
+            _ => true,
+        }
+    } else {
+        true
+    }
+}
+
+/// Whether a unit does not fire without a token at its first input.
+fn asks_first(net: &Checked, unit: u32) -> bool
+    ensures { result ≡ asks_first (kind_of net.now unit) }
+{
+    let units = net.net().units.as_slice();
+    if (unit as usize) < units.len() {
+        match &units[unit as usize] {
+            Unit::Entry => false,
+            Unit::Param(_) => false,
+            Unit::Cmerge { .. } => false,
+            Unit::Lsq { .. } => false,
+            Unit::Exit => false,
+            _ => true,
+        }
+    } else {
+        true
+    }
+}
+
+/// Whether a unit wants a token at its first input.
+pub(crate) fn is_starved(net: &Checked, state: &State, unit: u32) -> bool
+    requires { IsOf net.now state.now }
+    ensures { result ≡ true → IsStarved net.now (state_of state.now) unit }
+{
+    if !asks_first(net, unit) {
+        return false;
+    }
+    match state.head(net, net.into_place(unit, 0)) {
+        None => true,
+        Some(_) => false,
+    }
+}
+
+/// The queues of a net.
+///
+/// # Errors
+///
+/// [`Memory`] where memory is wanting.
+pub(crate) fn queues(alloc: Global, net: &Checked) -> Result<Vec<u32>, Memory>
+    ensures { IfOk result (λ queues. AreQueues net.now queues.items) }
+{
+    let mut queues = Vec::new(alloc);
+    for at in 0..net.net().units.as_slice().len() {
+        add_queue(&mut queues, net, at as u32)?;
+    }
+    Ok(queues)
+}
+
+/// Adds a unit to a list where it is a queue.
+///
+/// # Errors
+///
+/// [`Memory`] where memory is wanting.
+fn add_queue(queues: &mut Vec<u32>, net: &Checked, unit: u32) -> Result<(), Memory>
+    ensures kept { OnOk result ((u : ℕ) → Holds u queues.old.items → Holds u queues.new.items) }
+    ensures added { OnOk result
+        (is_lsq (kind_of net.now unit) ≡ true → Holds unit queues.new.items) }
+{
+    if !is_queue(net, unit) {
+        return Ok(());
+    }
+    queues.push(unit)?;
+    Ok(())
+}
+
+/// The first act of a unit that is no queue; none of a queue.
+pub(crate) fn first_act(net: &Checked, unit: u32) -> Option<Act>
+    ensures { MatchOption result (is_lsq (kind_of net.now unit) ≡ true)
+        (λ act. (is_lsq (kind_of net.now unit) ≡ false) × (act ≡ first_of (kind_of net.now unit))) }
+{
+    let units = net.net().units.as_slice();
+    if (unit as usize) < units.len() {
+        match &units[unit as usize] {
+            Unit::Fork { .. } => Some(Act::Send(0)),
+            Unit::Cmerge { .. } => Some(Act::From(0)),
+            Unit::Lsq { .. } => None,
+            _ => Some(Act::Go),
+        }
+    } else {
+        Some(Act::Go)
+    }
+}
+
+/// How many acts a unit may have of the kind of an act.
+pub(crate) fn count_acts(net: &Checked, unit: u32, act: Act) -> u32
+    ensures { result ≡ count_in (kind_of net.now unit) act }
+{
+    match act {
+        Act::From(_) => inputs_of(net, unit),
+        Act::Send(_) => outputs_of(net, unit),
+        Act::Alloc(_) => groups_of(net, unit),
+        Act::Addr(_) => ports_of(net, unit),
+        Act::Data(_) => ports_of(net, unit),
+        Act::Reply(_) => ports_of(net, unit),
+        Act::Go => 1,
+        Act::Exec(_) => 1,
+        Act::Retire => 1,
+        Act::End => 1,
+    }
+}
+
+/// The inputs of a control merge; none of another unit.
+fn inputs_of(net: &Checked, unit: u32) -> u32
+    ensures { result ≡ inputs_in (kind_of net.now unit) }
+{
+    let units = net.net().units.as_slice();
+    if (unit as usize) < units.len() {
+        match &units[unit as usize] {
+            Unit::Cmerge { ins } => *ins,
+            _ => 0,
+        }
+    } else {
+        0
+    }
+}
+
+/// The outputs of a fork; none of another unit.
+fn outputs_of(net: &Checked, unit: u32) -> u32
+    ensures { result ≡ outputs_in (kind_of net.now unit) }
+{
+    let units = net.net().units.as_slice();
+    if (unit as usize) < units.len() {
+        match &units[unit as usize] {
+            Unit::Fork { outs, .. } => *outs,
+            _ => 0,
+        }
+    } else {
+        0
+    }
+}
+
+/// How many groups a queue has; another unit has none.
+fn groups_of(net: &Checked, unit: u32) -> u32
+    ensures { result ≡ groups_in (kind_of net.now unit) }
+{
+    let units = net.net().units.as_slice();
+    if (unit as usize) < units.len() {
+        match &units[unit as usize] {
+            Unit::Lsq { groups, .. } => groups.as_slice().len() as u32,
+            _ => 0,
+        }
+    } else {
+        0
+    }
+}
+
+/// How many ports a queue has; another unit has none.
+fn ports_of(net: &Checked, unit: u32) -> u32
+    ensures { result ≡ ports_in (kind_of net.now unit) }
+{
+    let units = net.net().units.as_slice();
+    if (unit as usize) < units.len() {
+        match &units[unit as usize] {
+            Unit::Lsq { ports, .. } => ports.as_slice().len() as u32,
+            _ => 0,
+        }
+    } else {
+        0
+    }
+}
+
+/// The act of a number, of the kind of another act.
+pub(crate) fn numbered(act: Act, number: u32) -> Act
+    ensures { result ≡ numbered act number }
+{
+    match act {
+        Act::Go => Act::Go,
+        Act::From(_) => Act::From(number),
+        Act::Send(_) => Act::Send(number),
+        Act::Alloc(_) => Act::Alloc(number),
+        Act::Addr(_) => Act::Addr(number),
+        Act::Data(_) => Act::Data(number),
+        Act::Exec(_) => Act::Exec(u64::from(number)),
+        Act::Reply(_) => Act::Reply(number),
+        Act::Retire => Act::Retire,
+        Act::End => Act::End,
+    }
+}
+
+/// The execution of the oldest entry that may execute, of a unit that is a queue; none where no entry may.
+pub(crate) fn oldest(net: &Checked, state: &State, unit: u32) -> Option<Act>
+    requires { IsOf net.now state.now }
+    ensures { MatchOption result (HasNoExec net.now (state_of state.now) unit)
+        (IsFirstExec net.now (state_of state.now) unit) }
+{
+    if unit as usize >= net.net().units.as_slice().len() {
+        return None;
+    }
+    let Some(queue) = state.queue(net, unit) else {
+        return None;
+    };
+    let _ = queue.len();
+    match queue.oldest() {
+        None => None,
+        Some(serial) => Some(Act::Exec(serial)),
     }
 }
 
 /// Looks at the queue of a unit: its entries are in order, and of its ports.
-fn look_at_queue(net: &Checked, state: &State, unit: u32)
-    requires of { IsOf net.now state.now }
-    requires within { unit < length net.now.units }
+pub(crate) fn look_at_queue(net: &Checked, state: &State, unit: u32)
+    requires { IsOf net.now state.now }
     ensures { is_lsq (kind_of net.now unit) ≡ true
         → HasView net.now (state_of state.now) unit }
 {
+    if unit as usize >= net.net().units.as_slice().len() {
+        return;
+    }
     if let Some(queue) = state.queue(net, unit) {
         let _ = queue.len();
     }
-}
-
-/// The next place after that of an enabled firing.
-pub(crate) fn place_after(net: &Checked, state: &State, firing: Firing) -> Firing
-    requires of { IsOf net.now state.now }
-    requires fires { enabled net.now (state_of state.now) firing }
-    ensures { IsNext net.now firing result }
-{
-    let _ = net.net();
-    let unit = firing.unit;
-    look_at_queue(net, state, unit);
-    let act = match firing.act {
-        Act::Go => Act::From(0),
-        Act::From(input) => Act::From(input + 1),
-        Act::Send(output) => Act::Send(output + 1),
-        Act::Alloc(group) => Act::Alloc(group + 1),
-        Act::Addr(port) => Act::Addr(port + 1),
-        Act::Data(port) => Act::Data(port + 1),
-        Act::Exec(_) => Act::Reply(0),
-        Act::Reply(port) => Act::Reply(port + 1),
-        Act::Retire => Act::End,
-        Act::End => {
-            return Firing {
-                unit: unit + 1,
-                act: Act::Go,
-            };
-        }
-    };
-    Firing { unit, act }
 }

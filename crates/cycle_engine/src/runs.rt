@@ -1,16 +1,15 @@
 //! Whole runs by cycles.
 
-ghost use Rattle.std.specs.Prelude.{◌≡◌, ◌+◌, ◌≤◌, length, cond, true, false, IfOk, OnOk, MatchResult};
-ghost use Rattle.el_base.specs.Limits.{max_firings};
+ghost use Rattle.std.specs.Prelude.{◌≡◌, ◌+◌, ◌-◌, ◌≤◌, nat_le, length, cond, IfOk, OnOk, MatchResult};
+ghost use Rattle.el_base.specs.Limits.{max_delay, max_firings};
 ghost use Rattle.net_types.specs.Inputs.{InputsFit};
-ghost use Rattle.net_core.specs.Runs.{AtRest};
-ghost use Rattle.net_core.specs.States.{IsOf, state_of};
 ghost use Rattle.cycle_engine.specs.Timings.{IsTimed, HasFewCycles, IsTimingFault};
 ghost use Rattle.cycle_engine.specs.private.Goings.{Past, IsReady, HasDone, IsBroken};
-ghost use Rattle.cycle_engine.specs.private.Places.{IsCycled};
+ghost use Rattle.cycle_engine.specs.private.Places.{IsCycled, AreQueues};
 
 use crate::engine::{Bounds, Engine};
-use el_base::Log;
+use crate::places::queues;
+use el_base::{Log, MAX_DELAY};
 use net_check::Checked;
 use net_core::State;
 use net_replay::RunFault;
@@ -50,15 +49,16 @@ pub fn run_cycles(
 {
     let _ = net.net();
     let bounds = Bounds { limit, keep };
+    let queues = queues(alloc, net)?;
     let mut engine = Engine::new(alloc, net, inputs, bounds)?;
     let mut cycle: u64 = 0;
     let mut last: u64 = 0;
     let mut going = true;
     'cycles: while going {
-        let fired = engine.run_cycle(net, bounds, cycle)?;
+        let fired = engine.run_cycle(net, queues.as_slice(), bounds, cycle)?;
         cycle += 1;
         last = last_of(fired, cycle, last);
-        going = engine.goes_on(net, fired);
+        going = goes_on(cycle, last);
     }
     Ok(engine.timed(last))
 }
@@ -70,6 +70,14 @@ fn last_of(fired: bool, cycle: u64, last: u64) -> u64
     if fired { cycle } else { last }
 }
 
+/// Whether there may be a firing in a cycle to come, after so many of which those from `last` on have none: whether not all
+/// tokens were there long enough for each delay.
+fn goes_on(cycle: u64, last: u64) -> bool
+    ensures { result ≡ nat_le (cycle - last) max_delay }
+{
+    cycle.saturating_sub(last) <= u64::from(MAX_DELAY)
+}
+
 impl Engine {
     /// Makes a cycle, and tells whether it has a firing.
     ///
@@ -77,33 +85,24 @@ impl Engine {
     ///
     /// `Limit` where as many firings as the limit allows are made and one more may be made in the cycle. `Memory` where
     /// memory is wanting.
-    fn run_cycle(&mut self, net: &Checked, bounds: Bounds, now: u64) -> Result<bool, RunFault>
-        requires { IsReady net.now bounds self.old }
+    fn run_cycle(
+        &mut self,
+        net: &Checked,
+        queues: &[u32],
+        bounds: Bounds,
+        now: u64,
+    ) -> Result<bool, RunFault>
+        requires ready { IsReady net.now bounds self.old }
+        requires queues { AreQueues net.now queues.now }
         ensures ready { OnOk result (IsReady net.now bounds self.new) }
         ensures cycled { (past : Past) → HasDone net.now past bounds now self.old
             → MatchResult result (IsCycled net.now past bounds now self.new)
             (IsBroken net.now past.inputs bounds) }
     {
-        self.begin(net, bounds);
+        self.begin(net, bounds, now)?;
         self.run_units(net, bounds, now)?;
-        self.run_queues(net, bounds, now)?;
+        self.run_queues(net, queues, bounds, now)?;
         Ok(!self.fired.is_empty())
-    }
-
-    /// Whether there may be a firing in a cycle to come, after one with a firing or without.
-    fn goes_on(&self, net: &Checked, fired: bool) -> bool
-        requires { IsOf net.now self.now.state }
-        ensures rest { result ≡ false → AtRest net.now (state_of self.now.state) }
-        ensures goes { result ≡ true → fired ≡ false
-            → AtRest net.now (state_of self.now.state) → ⊥ }
-    {
-        if fired {
-            return true;
-        }
-        match self.state.find(net) {
-            Some(_) => true,
-            None => false,
-        }
     }
 
     /// The run that the engine has made, of so many cycles.

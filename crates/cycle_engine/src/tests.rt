@@ -1,5 +1,6 @@
 use crate::{
-    cycles_are_few, firings_rouse, firings_rouse_their_unit, next_cycles_rouse, worked_net_cycles,
+    cycles_are_few, cycles_are_runs, firings_rouse, firings_rouse_their_unit, next_cycles_rouse,
+    worked_net_cycles,
 };
 
 #[test]
@@ -8,5 +9,6 @@ fn laws_are_called() {
     firings_rouse_their_unit();
     next_cycles_rouse();
     cycles_are_few();
+    cycles_are_runs();
     worked_net_cycles();
 }

@@ -1,6 +1,6 @@
 //! One firing is tried.
 
-ghost use Rattle.std.specs.Prelude.{◌≡◌, ◌↔◌, ℕ, ◌+◌, ◌<◌, ◌≤◌, ◌^◌, ◌∷◌, ◌++◌, [], Some, true, false, IsTrue, IfSome, IfOk, IfErr, OnOk, MatchOption, length, get_or};
+ghost use Rattle.std.specs.Prelude.{◌≡◌, ◌↔◌, ℕ, ◌+◌, ◌<◌, ◌≤◌, ◌^◌, ◌∷◌, ◌++◌, [], Some, is_some, true, false, IsTrue, IfSome, IfOk, IfErr, OnOk, MatchOption, length, get_or};
 ghost use Rattle.el_base.specs.Limits.{max_depth};
 ghost use Rattle.net_types.specs.Nets.{into, kind_of, chan_at};
 ghost use Rattle.net_core.specs.Fire.{has_room};
@@ -11,6 +11,7 @@ ghost use Rattle.net_replay.specs.declared.fault.RunFault.TheVariants as fault;
 ghost use Rattle.cycle_engine.specs.Cycles.{Dated, May, IsUnused, place_of, after_in};
 ghost use Rattle.cycle_engine.specs.private.Trials.{dated_of, AllRipe, HadRoom, HadDepth, EntriesFit, Allowed, IsBegun, IsEngine, is_fork, places_used};
 ghost use Rattle.cycle_engine.specs.private.Goings.{Past, IsReady, InCycle, MayFollow, IsTried, IsBroken, IsMore};
+ghost use Rattle.cycle_engine.specs.private.Marking.{IsNoted, AreSince, IsNotBefore, IsSinceNoted};
 ghost use Rattle.std.specs.Prelude.{MatchResult};
 
 use crate::dates::{are_ripe, is_ripe, move_dates};
@@ -149,6 +150,17 @@ fn note_fired(fired: &mut Vec<Firing>, firing: Firing) -> Result<(), RunFault>
     }
 }
 
+/// Notes that a unit fires after so many firings of the cycle.
+fn note_since(since: &mut Vec<u64>, unit: u32, count: usize)
+    requires { count < 2 ^ 63 }
+    ensures { IsSinceNoted unit count since.old.items since.new.items }
+{
+    let at = unit as usize;
+    if at < since.len() && (since[at] == 0 || since[at] > count as u64) {
+        since[at] = count as u64 + 1;
+    }
+}
+
 /// Adds a firing to the log where it is kept.
 fn note(log: &mut Log<Firing>, keep: bool, firing: Firing)
     requires { keep ≡ true → 0 < log.old.room }
@@ -160,14 +172,35 @@ fn note(log: &mut Log<Firing>, keep: bool, firing: Firing)
 }
 
 impl Engine {
+    /// The number of a firing of the cycle, from which on those of a unit come; none where the unit has not fired.
+    fn first_fired(&self, unit: u32) -> Option<usize>
+        requires { AreSince self.now.fired.items self.now.since.items }
+        ensures { MatchOption result (IsNotBefore self.now.fired.items unit (length self.now.fired.items))
+            (IsNotBefore self.now.fired.items unit) }
+    {
+        let at = unit as usize;
+        if at >= self.since.len() {
+            return Some(0);
+        }
+        let since = self.since[at];
+        if since == 0 {
+            return None;
+        }
+        Some(since as usize - 1)
+    }
+
     /// Whether the place of a firing has fired in the cycle.
     fn is_used(&self, firing: Firing) -> bool
+        requires { AreSince self.now.fired.items self.now.since.items }
         ensures used { result ≡ true → IsUnused self.now.fired.items firing → ⊥ }
         ensures unused { result ≡ false → IsUnused self.now.fired.items firing }
     {
+        let Some(first) = self.first_fired(firing.unit) else {
+            return false;
+        };
         let fired = self.fired.as_slice();
-        for done in fired {
-            if place(*done) == place(firing) {
+        for at in first..fired.len() {
+            if place(fired[at]) == place(firing) {
                 return true;
             }
         }
@@ -242,6 +275,9 @@ impl Engine {
         requires room { has_room net.now (state_of self.old.state) firing.unit plan.put }
         requires counts { CountsWithin (2 ^ 62) (state_of self.old.state) }
         requires log { keep ≡ true → 0 < self.old.log.room }
+        requires cells { length self.old.notes.coming.items ≡ 1024 }
+        requires since { AreSince self.old.fired.items self.old.since.items }
+        ensures since { OnOk result (AreSince self.new.fired.items self.new.since.items) }
         ensures engine { OnOk result (IsEngine net.now self.new) }
         ensures after { OnOk result
             (dated_of self.new ≡ after_in net.now now (dated_of self.old) firing) }
@@ -251,17 +287,22 @@ impl Engine {
             (self.new.fired.items ≡ self.old.fired.items ++ firing ∷ []) }
         ensures begun { OnOk result (self.new.begun ≡ self.old.begun) }
         ensures made { OnOk result (self.new.made ≡ self.old.made) }
+        ensures marks { OnOk result (self.new.marks ≡ self.old.marks) }
+        ensures notes { OnOk result (IsNoted net.now firing.unit plan.takes plan.put now
+            self.old.notes self.new.notes) }
         ensures log { OnOk result (IsLogged keep (firing ∷ []) self.old.log self.new.log) }
         ensures memory { IfErr result (λ e. e ≡ fault.Memory) }
     {
+        note_since(&mut self.since, firing.unit, self.fired.len());
         note_fired(&mut self.fired, firing)?;
+        self.notes.note(net, firing.unit, plan, now)?;
         self.state.make(net, firing, plan);
         move_dates(&mut self.dates, net, firing.unit, plan.takes, plan.put, now);
         note(&mut self.log, keep, firing);
         Ok(())
     }
 
-    /// Makes a firing where it may be made in the cycle and its place has not fired, and tells whether it was made.
+    /// Makes a firing where it may be made in the cycle and its place has not fired, and gives its plan where it was made.
     ///
     /// # Errors
     ///
@@ -272,22 +313,25 @@ impl Engine {
         bounds: Bounds,
         firing: Firing,
         now: u64,
-    ) -> Result<bool, RunFault>
+    ) -> Result<Option<Plan>, RunFault>
         requires { IsReady net.now bounds self.old }
         ensures ready { OnOk result (IsReady net.now bounds self.new) }
-        ensures more { IfOk result (IsMore self.old self.new) }
+        ensures more { IfOk result (λ did. IsMore self.old self.new (is_some did)) }
+        ensures marks { OnOk result (self.new.marks ≡ self.old.marks) }
+        ensures plan { IfOk result (λ did. IfSome did
+            (λ p. IsPlanOf net.now self.old.state firing (Some p))) }
         ensures tried { (past : Past) (start : Dated)
             → InCycle net.now past bounds now start self.old
             → MayFollow net.now self.old firing
             → MatchResult result
-            (IsTried net.now past bounds now start self.old self.new firing)
+            (λ did. IsTried net.now past bounds now start self.old self.new firing (is_some did))
             (IsBroken net.now past.inputs bounds) }
     {
         if self.is_used(firing) {
-            return Ok(false);
+            return Ok(None);
         }
         let Some(plan) = self.may(net, firing, now) else {
-            return Ok(false);
+            return Ok(None);
         };
         if self.made + self.fired.len() as u64 == bounds.limit {
             return Err(RunFault::Limit {
@@ -295,6 +339,6 @@ impl Engine {
             });
         }
         self.make(net, firing, plan, bounds.keep, now)?;
-        Ok(true)
+        Ok(Some(plan))
     }
 }

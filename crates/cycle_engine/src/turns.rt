@@ -1,78 +1,114 @@
-//! A cycle's turns: first the units that are no queues are gone through until none of them may fire, then the queues once.
+//! A cycle's turns: first the marked units that are no queues, until none is marked, then the marked queues once.
 
-ghost use Rattle.std.specs.Prelude.{◌||◌, Bool, IfOk, OnOk, MatchResult};
-ghost use Rattle.net_types.specs.declared.firing.Firing.{Firing as FiringValue};
-ghost use Rattle.net_core.specs.Finds.{IsLeastFrom};
+ghost use Rattle.std.specs.Prelude.{◌≡◌, ◌≢◌, ℕ, ◌+◌, ◌≤◌, ◌&&◌, false, get_or, List, OnOk, MatchResult};
+ghost use Rattle.net_types.specs.Nets.{kind_of};
+ghost use Rattle.net_types.specs.Order.{act_rank};
+ghost use Rattle.net_check.specs.Ends.{is_lsq};
 ghost use Rattle.net_core.specs.States.{state_of};
 ghost use Rattle.cycle_engine.specs.Cycles.{Dated};
-ghost use Rattle.cycle_engine.specs.private.Goings.{Past, IsReady, InCycle, IsBroken, IsMore};
-ghost use Rattle.cycle_engine.specs.private.Places.{IsPlace, IsNext, AllPlain, IsVisitedTo, IsVisited, IsSettled, AreTriedTo, IsFull};
+ghost use Rattle.cycle_engine.specs.declared.marks.Marks.{Marks as MarksValue};
+ghost use Rattle.cycle_engine.specs.private.Goings.{Past, IsReady, IsBroken, IsBegunIn, to_visit};
+ghost use Rattle.cycle_engine.specs.private.Places.{IsTurn, IsNextAct, IsOpenTurn, IsSettled, IsServed, IsFull, AreQueues};
 
 use crate::engine::{Bounds, Engine};
-use crate::places::{first_place, is_queue, place_after};
+use crate::places::{count_acts, first_act, is_queue, look_at_queue, numbered, oldest};
 use net_check::Checked;
 use net_replay::RunFault;
-use net_types::Firing;
+use net_types::{Act, Firing};
 
 impl Engine {
-    /// Makes the next enabled firing where its unit is no queue, it may be made in the cycle and its place has not fired,
-    /// and tells whether it was made.
+    /// Tries a place, and marks the units of which its firing may let one fire in the cycle.
     ///
     /// # Errors
     ///
     /// As [`Engine::attempt`].
-    fn attempt_plain(
+    fn step(
         &mut self,
         net: &Checked,
         bounds: Bounds,
         firing: Firing,
         now: u64,
-    ) -> Result<bool, RunFault>
+    ) -> Result<(), RunFault>
         requires { IsReady net.now bounds self.old }
         ensures ready { OnOk result (IsReady net.now bounds self.new) }
-        ensures more { IfOk result (IsMore self.old self.new) }
-        ensures tried { (past : Past) (start : Dated) (done : Bool) (place next : FiringValue)
-            → IsVisitedTo net.now past bounds now start self.old done place
-            → IsLeastFrom net.now (state_of self.old.state) place firing
-            → IsNext net.now firing next
+        ensures less { OnOk result (to_visit bounds self.new ≤ to_visit bounds self.old) }
+        ensures tried { (past : Past) (start : Dated) (marks : MarksValue) (rank number : ℕ)
+            → IsTurn net.now past bounds now start marks self.old firing.unit rank number
+            → IsNextAct net.now (state_of self.old.state) firing rank number
             → MatchResult result
-            (λ did. IsVisitedTo net.now past bounds now start self.new (done || did) next)
+            (λ _. IsTurn net.now past bounds now start marks self.new firing.unit rank (number + 1))
             (IsBroken net.now past.inputs bounds) }
     {
-        if is_queue(net, firing.unit) {
-            return Ok(false);
+        let _ = net.net();
+        let Some(plan) = self.attempt(net, bounds, firing, now)? else {
+            return Ok(());
+        };
+        if !is_queue(net, firing.unit) {
+            self.marks.rouse(net, firing.unit, plan)?;
         }
-        self.attempt(net, bounds, firing, now)
+        Ok(())
     }
 
-    /// Goes once through the units that are no queues, and tells whether a firing was made.
+    /// Tries all places of a unit of one kind.
     ///
     /// # Errors
     ///
     /// As [`Engine::attempt`].
-    fn visit_units(&mut self, net: &Checked, bounds: Bounds, now: u64) -> Result<bool, RunFault>
-        requires { IsReady net.now bounds self.old }
+    fn steps(
+        &mut self,
+        net: &Checked,
+        bounds: Bounds,
+        unit: u32,
+        kind: Act,
+        now: u64,
+    ) -> Result<(), RunFault>
+        requires ready { IsReady net.now bounds self.old }
+        requires kind { act_rank kind ≢ 6 }
         ensures ready { OnOk result (IsReady net.now bounds self.new) }
-        ensures more { IfOk result (IsMore self.old self.new) }
-        ensures visited { (past : Past) (start : Dated)
-            → InCycle net.now past bounds now start self.old
-            → AllPlain net.now self.old.fired.items
+        ensures less { OnOk result (to_visit bounds self.new ≤ to_visit bounds self.old) }
+        ensures tried { (past : Past) (start : Dated) (marks : MarksValue)
+            → IsTurn net.now past bounds now start marks self.old unit (act_rank kind) 0
             → MatchResult result
-            (IsVisited net.now past bounds now start self.new)
+            (λ _. IsTurn net.now past bounds now start marks self.new unit (act_rank kind + 1) 0)
             (IsBroken net.now past.inputs bounds) }
     {
-        let mut place = first_place(net);
-        let mut did = false;
-        'places: while let Some(firing) = self.state.find_from(net, place) {
-            let next = place_after(net, &self.state, firing);
-            let made = self.attempt_plain(net, bounds, firing, now)?;
-            did = did || made;
-            place = next;
+        let count = count_acts(net, unit, kind);
+        for number in 0..count {
+            let act = numbered(kind, number);
+            self.step(net, bounds, Firing { unit, act }, now)?;
         }
-        Ok(did)
+        look_at_queue(net, &self.state, unit);
+        Ok(())
     }
 
-    /// Makes firings of units that are no queues until none of them may be made in the cycle.
+    /// Tries the execution of a queue.
+    ///
+    /// # Errors
+    ///
+    /// As [`Engine::attempt`].
+    fn execute(
+        &mut self,
+        net: &Checked,
+        bounds: Bounds,
+        unit: u32,
+        now: u64,
+    ) -> Result<(), RunFault>
+        requires { IsReady net.now bounds self.old }
+        ensures ready { OnOk result (IsReady net.now bounds self.new) }
+        ensures tried { (past : Past) (start : Dated) (marks : MarksValue)
+            → IsTurn net.now past bounds now start marks self.old unit 6 0
+            → MatchResult result
+            (λ _. IsTurn net.now past bounds now start marks self.new unit 7 0)
+            (IsBroken net.now past.inputs bounds) }
+    {
+        let Some(act) = oldest(net, &self.state, unit) else {
+            return Ok(());
+        };
+        self.step(net, bounds, Firing { unit, act }, now)?;
+        Ok(())
+    }
+
+    /// Makes firings of marked units that are no queues until none of them may be made in the cycle.
     ///
     /// # Errors
     ///
@@ -86,51 +122,107 @@ impl Engine {
         requires { IsReady net.now bounds self.old }
         ensures ready { OnOk result (IsReady net.now bounds self.new) }
         ensures settled { (past : Past) (start : Dated)
-            → InCycle net.now past bounds now start self.old
-            → AllPlain net.now self.old.fired.items
+            → IsBegunIn net.now past bounds now start self.old
             → MatchResult result
             (λ _. IsSettled net.now past bounds now start self.new)
             (IsBroken net.now past.inputs bounds) }
     {
-        let mut more = true;
-        'passes: while more {
-            more = self.visit_units(net, bounds, now)?;
+        'units: while let Some(unit) = self.marks.take(net) {
+            self.run_unit(net, bounds, unit, now)?;
         }
         Ok(())
     }
 
-    /// Makes the next enabled firing where its unit is a queue, it may be made in the cycle and its place has not fired.
+    /// Tries the places of a unit whose mark was taken, where it is no queue.
     ///
     /// # Errors
     ///
     /// As [`Engine::attempt`].
-    fn attempt_act(
+    fn run_unit(
         &mut self,
         net: &Checked,
         bounds: Bounds,
-        firing: Firing,
+        unit: u32,
         now: u64,
     ) -> Result<(), RunFault>
         requires { IsReady net.now bounds self.old }
         ensures ready { OnOk result (IsReady net.now bounds self.new) }
-        ensures tried { (past : Past) (start : Dated) (place next : FiringValue)
-            → AreTriedTo net.now past bounds now start self.old place
-            → IsPlace net.now place
-            → IsLeastFrom net.now (state_of self.old.state) place firing
-            → IsNext net.now firing next
+        ensures less { OnOk result (to_visit bounds self.new ≤ to_visit bounds self.old) }
+        ensures tried { (past : Past) (start : Dated)
+            → IsOpenTurn net.now past bounds now start self.old unit
             → MatchResult result
-            (λ _. AreTriedTo net.now past bounds now start self.new next)
+            (λ _. IsBegunIn net.now past bounds now start self.new)
             (IsBroken net.now past.inputs bounds) }
     {
-        let _ = net.net();
-        if !is_queue(net, firing.unit) {
+        let Some(kind) = first_act(net, unit) else {
             return Ok(());
-        }
-        self.attempt(net, bounds, firing, now)?;
+        };
+        self.steps(net, bounds, unit, kind, now)?;
         Ok(())
     }
 
-    /// Goes once through the queues, whose acts go in their order.
+    /// Tries the places of a queue, in the order of its acts.
+    ///
+    /// # Errors
+    ///
+    /// As [`Engine::attempt`].
+    fn run_queue(
+        &mut self,
+        net: &Checked,
+        bounds: Bounds,
+        unit: u32,
+        now: u64,
+    ) -> Result<(), RunFault>
+        requires { IsReady net.now bounds self.old }
+        ensures ready { OnOk result (IsReady net.now bounds self.new) }
+        ensures tried { (past : Past) (start : Dated) (marks : MarksValue)
+            → IsTurn net.now past bounds now start marks self.old unit 3 0
+            → MatchResult result
+            (λ _. IsTurn net.now past bounds now start marks self.new unit 10 0)
+            (IsBroken net.now past.inputs bounds) }
+    {
+        self.steps(net, bounds, unit, Act::Alloc(0), now)?;
+        self.steps(net, bounds, unit, Act::Addr(0), now)?;
+        self.steps(net, bounds, unit, Act::Data(0), now)?;
+        self.execute(net, bounds, unit, now)?;
+        self.steps(net, bounds, unit, Act::Reply(0), now)?;
+        self.steps(net, bounds, unit, Act::Retire, now)?;
+        self.steps(net, bounds, unit, Act::End, now)?;
+        Ok(())
+    }
+
+    /// Whether a unit is a queue that is marked.
+    fn has_turn(&self, net: &Checked, unit: u32) -> bool
+        ensures { result
+            ≡ (get_or self.now.marks.marked.items unit false && is_lsq (kind_of net.now unit)) }
+    {
+        self.marks.is_marked(unit) && is_queue(net, unit)
+    }
+
+    /// Gives a queue its turn where it is marked, and takes its mark.
+    ///
+    /// # Errors
+    ///
+    /// As [`Engine::attempt`].
+    fn serve(&mut self, net: &Checked, bounds: Bounds, unit: u32, now: u64) -> Result<(), RunFault>
+        requires { IsReady net.now bounds self.old }
+        ensures ready { OnOk result (IsReady net.now bounds self.new) }
+        ensures served { (past : Past) (start : Dated) (queues : List ℕ) (n : ℕ)
+            → IsServed net.now past bounds now start self.old queues n
+            → get_or queues n 0 ≡ unit
+            → MatchResult result
+            (λ _. IsServed net.now past bounds now start self.new queues (n + 1))
+            (IsBroken net.now past.inputs bounds) }
+    {
+        if !self.has_turn(net, unit) {
+            return Ok(());
+        }
+        self.marks.unmark(unit);
+        self.run_queue(net, bounds, unit, now)?;
+        Ok(())
+    }
+
+    /// Gives each marked queue its turn.
     ///
     /// # Errors
     ///
@@ -138,10 +230,12 @@ impl Engine {
     pub(crate) fn run_queues(
         &mut self,
         net: &Checked,
+        queues: &[u32],
         bounds: Bounds,
         now: u64,
     ) -> Result<(), RunFault>
-        requires { IsReady net.now bounds self.old }
+        requires ready { IsReady net.now bounds self.old }
+        requires queues { AreQueues net.now queues.now }
         ensures ready { OnOk result (IsReady net.now bounds self.new) }
         ensures full { (past : Past) (start : Dated)
             → IsSettled net.now past bounds now start self.old
@@ -149,11 +243,8 @@ impl Engine {
             (λ _. IsFull net.now past bounds now start self.new)
             (IsBroken net.now past.inputs bounds) }
     {
-        let mut place = first_place(net);
-        'places: while let Some(firing) = self.state.find_from(net, place) {
-            let next = place_after(net, &self.state, firing);
-            self.attempt_act(net, bounds, firing, now)?;
-            place = next;
+        for unit in queues {
+            self.serve(net, bounds, *unit, now)?;
         }
         Ok(())
     }

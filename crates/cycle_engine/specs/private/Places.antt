@@ -1,49 +1,143 @@
--- Private: only contracts of this crate cite it. Places in the order of firings, and those that may not fire any more in a cycle.
-use Rattle.std.specs.Prelude.{◌≡◌, ◌≢◌, ◌⊎◌, ℕ, ◌+◌, ◌*◌, ◌<◌, ◌≤◌, ◌^◌, Bool, true, false, List, [], ◌∷◌, ◌++◌, length, get_or}
+-- Private: only contracts of this crate cite it. Places that were tried, and those that may not fire any more in a cycle.
+use Rattle.std.specs.Prelude.{◌≡◌, ◌≢◌, ◌⊎◌, ℕ, ◌+◌, ◌*◌, ◌<◌, ◌≤◌, Bool, true, false, List, [], ◌∷◌, ◌++◌, length, get_or}
 use Rattle.std.specs.List.{AllByRecursion}
 use Rattle.el_base.specs.Limits.{max_delay}
 use Rattle.net_types.specs.declared.net.Net.{Net}
 use Rattle.net_types.specs.declared.firing.Firing.{Firing}
 use Rattle.net_types.specs.declared.firing.Inputs.{Inputs}
 use Rattle.net_types.specs.declared.net.Port.{Port}
-use Rattle.net_types.specs.declared.net.Unit.TheVariants.{Lsq}
-use Rattle.net_types.specs.declared.firing.Act.TheVariants.{Alloc}
+use Rattle.net_types.specs.declared.net.Unit.{Unit as Kind}
+use Rattle.net_types.specs.declared.net.Unit.TheVariants.{Entry, Param, Const, Op1, Op2, Select, Fork, Mux, Cmerge, Branch, Sink, Read, Lsq, Exit}
+use Rattle.net_types.specs.declared.firing.Act.{Act}
+use Rattle.net_types.specs.declared.firing.Act.TheVariants.{Go, From, Send, Alloc, Addr, Data, Exec, Reply, Retire, End}
 use Rattle.net_types.specs.Nets.{kind_of, into, firing}
-use Rattle.net_types.specs.Order.{act_rank, act_number, is_before}
+use Rattle.net_types.specs.Order.{act_rank, act_number}
 use Rattle.net_check.specs.Ends.{is_lsq}
 use Rattle.lsq_core.specs.Views.{QueueView, InOrder, InPorts}
-use Rattle.net_core.specs.Fire.{State, idle}
+use Rattle.net_core.specs.Fire.{State, idle, enabled}
 use Rattle.net_core.specs.Plans.{kind_in}
 use Rattle.net_core.specs.Runs.{AtRest}
 use Rattle.net_core.specs.States.{state_of}
 use Rattle.cycle_engine.specs.declared.engine.Engine.{Engine}
 use Rattle.cycle_engine.specs.declared.engine.Bounds.{Bounds}
-use Rattle.cycle_engine.specs.Cycles.{Dated, May, IsRipe, IsUnused, act_place, place_of, phase}
+use Rattle.cycle_engine.specs.declared.marks.Marks.{Marks}
+use Rattle.cycle_engine.specs.Cycles.{Dated, May, IsOldest, IsRipe, IsUnused, act_place}
 use Rattle.cycle_engine.specs.private.Trials.{dated_of}
-use Rattle.cycle_engine.specs.private.Goings.{Past, IsReady, InCycle, HasDone, all_made}
+use Rattle.cycle_engine.specs.private.Marking.{Holds, IsMarked}
+use Rattle.cycle_engine.specs.private.Goings.{Past, IsReady, InCycle, HasDone, AllPlain, IsWatching, all_made}
 
--- ---- the order of places
+-- ---- the acts of a unit
 
--- a number that rises with places
-abbrev pub place_number : Firing → ℕ
-place_number f = (f.unit * 10 + act_rank f.act) * 2 ^ 32 + act_number (act_place f.act)
+-- the act of a number, of the kind of another act
+abbrev pub numbered : Act → ℕ → Act
+numbered Go n = Go
+numbered (From j) n = From n
+numbered (Send j) n = Send n
+numbered (Alloc j) n = Alloc n
+numbered (Addr j) n = Addr n
+numbered (Data j) n = Data n
+numbered (Exec j) n = Exec n
+numbered (Reply j) n = Reply n
+numbered Retire n = Retire
+numbered End n = End
 
--- a place from which on firings are looked for
-pub record IsPlace (net : Net) (p : Firing) : Type 0 where
-  pub fixed : act_place p.act ≡ p.act
-  pub small : act_number p.act < 2 ^ 32
-  pub within : p.unit ≤ length net.units
+-- the inputs of a control merge
+abbrev pub inputs_in : Kind → ℕ
+inputs_in Entry = 0
+inputs_in (Param j) = 0
+inputs_in (Const w n) = 0
+inputs_in (Op1 op) = 0
+inputs_in (Op2 op) = 0
+inputs_in (Select w) = 0
+inputs_in (Fork w outs) = 0
+inputs_in (Mux w ins) = 0
+inputs_in (Cmerge ins) = ins
+inputs_in (Branch w) = 0
+inputs_in (Sink w) = 0
+inputs_in (Read a) = 0
+inputs_in (Lsq a d ps gs f) = 0
+inputs_in Exit = 0
 
--- a firing of a unit before that of a place, or of its unit and a kind of acts that does not come later
-abbrev pub IsBehind : Firing → Firing → Type 0
-IsBehind g p = (g.unit < p.unit) ⊎ ((g.unit ≡ p.unit) × (act_rank g.act ≤ act_rank p.act))
+-- the outputs of a fork
+abbrev pub outputs_in : Kind → ℕ
+outputs_in Entry = 0
+outputs_in (Param j) = 0
+outputs_in (Const w n) = 0
+outputs_in (Op1 op) = 0
+outputs_in (Op2 op) = 0
+outputs_in (Select w) = 0
+outputs_in (Fork w outs) = outs
+outputs_in (Mux w ins) = 0
+outputs_in (Cmerge ins) = 0
+outputs_in (Branch w) = 0
+outputs_in (Sink w) = 0
+outputs_in (Read a) = 0
+outputs_in (Lsq a d ps gs f) = 0
+outputs_in Exit = 0
 
--- the place p is the next one after that of the firing f: what is not before f and is not of its place is not before p
-pub record IsNext (net : Net) (f p : Firing) : Type 0 where
-  pub place : IsPlace net p
-  pub more : place_number f < place_number p
-  pub behind : IsBehind f p
-  pub far : (g : Firing) → is_before g f ≡ false → place_of g ≢ place_of f → is_before g p ≡ false
+-- the groups of a queue
+abbrev pub groups_in : Kind → ℕ
+groups_in Entry = 0
+groups_in (Param j) = 0
+groups_in (Const w n) = 0
+groups_in (Op1 op) = 0
+groups_in (Op2 op) = 0
+groups_in (Select w) = 0
+groups_in (Fork w outs) = 0
+groups_in (Mux w ins) = 0
+groups_in (Cmerge ins) = 0
+groups_in (Branch w) = 0
+groups_in (Sink w) = 0
+groups_in (Read a) = 0
+groups_in (Lsq a d ps gs f) = length gs
+groups_in Exit = 0
+
+-- the ports of a queue
+abbrev pub ports_in : Kind → ℕ
+ports_in Entry = 0
+ports_in (Param j) = 0
+ports_in (Const w n) = 0
+ports_in (Op1 op) = 0
+ports_in (Op2 op) = 0
+ports_in (Select w) = 0
+ports_in (Fork w outs) = 0
+ports_in (Mux w ins) = 0
+ports_in (Cmerge ins) = 0
+ports_in (Branch w) = 0
+ports_in (Sink w) = 0
+ports_in (Read a) = 0
+ports_in (Lsq a d ps gs f) = length ps
+ports_in Exit = 0
+
+-- the first act of a unit that is no queue
+abbrev pub first_of : Kind → Act
+first_of Entry = Go
+first_of (Param j) = Go
+first_of (Const w n) = Go
+first_of (Op1 op) = Go
+first_of (Op2 op) = Go
+first_of (Select w) = Go
+first_of (Fork w outs) = Send 0
+first_of (Mux w ins) = Go
+first_of (Cmerge ins) = From 0
+first_of (Branch w) = Go
+first_of (Sink w) = Go
+first_of (Read a) = Go
+first_of (Lsq a d ps gs f) = Go
+first_of Exit = Go
+
+-- how many acts a unit of a kind may have of the kind of an act
+abbrev pub count_in : Kind → Act → ℕ
+count_in k Go = 1
+count_in k (From j) = inputs_in k
+count_in k (Send j) = outputs_in k
+count_in k (Alloc j) = groups_in k
+count_in k (Addr j) = ports_in k
+count_in k (Data j) = ports_in k
+count_in k (Exec j) = 1
+count_in k (Reply j) = ports_in k
+count_in k Retire = 1
+count_in k End = 1
 
 -- the queue of a unit, its entries in order and of its ports
 pub record HasView (net : Net) (s : State) (u : ℕ) : Type 0 where
@@ -54,50 +148,83 @@ pub record HasView (net : Net) (s : State) (u : ℕ) : Type 0 where
   pub order : InOrder view.queue
   pub ports : InPorts (length view.ports) view.queue.items
 
--- ---- units that are no queues
+-- no entry may execute
+abbrev pub HasNoExec : Net → State → ℕ → Type 0
+HasNoExec net s u = (j : ℕ) → enabled net s (firing u (Exec j)) → ⊥
 
--- the firings are of units that are no queues
-abbrev pub AllPlain : Net → List Firing → Type 0
-AllPlain net fs = AllByRecursion (λ g. (is_lsq (kind_of net g.unit) ≡ false) × (phase g.act ≡ 0)) fs
+-- ---- places that were tried
 
--- no place of a unit that is no queue, that is before p and has not fired, may fire
-abbrev pub UnitsRefusedTo : Net → ℕ → Dated → Engine → Firing → Type 0
-UnitsRefusedTo net c start e p = (g : Firing) → is_lsq (kind_of net g.unit) ≡ false → is_before g p ≡ true → IsUnused e.fired.items g → May net c start (dated_of e) g → ⊥
+-- the act is not before the number n of the acts of the rank r
+abbrev pub IsOpen : ℕ → ℕ → Act → Type 0
+IsOpen r n a = (r < act_rank a) ⊎ ((r ≡ act_rank a) × (n ≤ act_number (act_place a)))
 
-abbrev pub UnitsRefused : Net → ℕ → Dated → Engine → Type 0
-UnitsRefused net c start e = (g : Firing) → is_lsq (kind_of net g.unit) ≡ false → IsUnused e.fired.items g → May net c start (dated_of e) g → ⊥
+-- the firing is the next to be tried, an execution that of the oldest entry that may execute
+pub record IsNextAct (net : Net) (s : State) (f : Firing) (r n : ℕ) : Type 0 where
+  pub rank : act_rank f.act ≡ r
+  pub number : act_number (act_place f.act) ≡ n
+  pub exec : r ≡ 6 → enabled net s f
+  pub oldest : IsOldest net s f.unit f.act
 
--- the units that are no queues were gone through up to p; where nothing was made, none of them may fire
-pub record IsVisitedTo (net : Net) (past : Past) (b : Bounds) (c : ℕ) (start : Dated) (e : Engine) (did : Bool) (p : Firing) : Type 0 where
-  pub going : InCycle net past b c start e
-  pub plain : AllPlain net e.fired.items
-  pub refused : did ≡ false → UnitsRefusedTo net c start e p
+abbrev pub IsFirstExec : Net → State → ℕ → Act → Type 0
+IsFirstExec net s u act = IsNextAct net s (firing u act) 6 0
 
--- the units that are no queues were gone through; where nothing was made, none of them may fire
-pub record IsVisited (net : Net) (past : Past) (b : Bounds) (c : ℕ) (start : Dated) (e : Engine) (did : Bool) : Type 0 where
-  pub going : InCycle net past b c start e
-  pub plain : AllPlain net e.fired.items
-  pub refused : did ≡ false → UnitsRefused net c start e
-
--- no unit that is no queue may fire, and queues have not fired
-pub record IsSettled (net : Net) (past : Past) (b : Bounds) (c : ℕ) (start : Dated) (e : Engine) : Type 0 where
-  pub going : InCycle net past b c start e
-  pub plain : AllPlain net e.fired.items
-  pub refused : UnitsRefused net c start e
-
--- ---- queues
+-- a unit that may fire is marked, or is u, and its act is still to be tried
+abbrev pub IsWatched : Net → ℕ → Dated → Engine → ℕ → ℕ → ℕ → Type 0
+IsWatched net c start e u r n = (g : Firing) → IsUnused e.fired.items g → May net c start (dated_of e) g → IsMarked e.marks g.unit ⊎ ((g.unit ≡ u) × IsOpen r n g.act)
 
 -- once a queue has allocated in the cycle, the head at no other of its groups is ripe
 abbrev pub AllocsOnce : Net → ℕ → List Firing → Dated → Type 0
 AllocsOnce net c fs s = (u a b n d : ℕ) (ps : List Port) (gs : List (List ℕ)) (fw : Bool) → kind_of net u ≡ Lsq n d ps gs fw → (IsUnused fs (firing u (Alloc a)) → ⊥) → IsUnused fs (firing u (Alloc b)) → b < length gs
     → IsRipe net c s (into u b net.chans) → ⊥
 
--- no place of a unit that is no queue, and none before p, that has not fired, may fire
-pub record AreTriedTo (net : Net) (past : Past) (b : Bounds) (c : ℕ) (start : Dated) (e : Engine) (p : Firing) : Type 0 where
+-- in the turn of the queue u, whose acts so far are of no rank above r; marked queues but u have not fired, and marks are as they were
+pub record IsQueueTurn (net : Net) (c : ℕ) (marks : Marks) (e : Engine) (u r : ℕ) : Type 0 where
+  pub allocs : AllocsOnce net c e.fired.items (dated_of e)
+  pub behind : AllByRecursion (λ g. g.unit ≡ u → act_rank g.act ≤ r) e.fired.items
+  pub fresh : AllByRecursion (λ g. is_lsq (kind_of net g.unit) ≡ true → (g.unit ≡ u) ⊎ (IsMarked marks g.unit → ⊥)) e.fired.items
+  pub same : e.marks ≡ marks
+
+abbrev pub IsTurnOf : Bool → Net → ℕ → Marks → Engine → ℕ → ℕ → Type 0
+IsTurnOf true net c marks e u r = IsQueueTurn net c marks e u r
+IsTurnOf false net c marks e u r = AllPlain net e.fired.items
+
+-- the acts of the unit u before the number n of those of the rank r were tried
+pub record IsTurn (net : Net) (past : Past) (b : Bounds) (c : ℕ) (start : Dated) (marks : Marks) (e : Engine) (u r n : ℕ) : Type 0 where
+  pub going : InCycle net past b c start e
+  pub watched : IsWatched net c start e u r n
+  pub of : IsTurnOf (is_lsq (kind_of net u)) net c marks e u r
+
+-- the mark of the unit u was taken where it is no queue
+pub record IsOpenTurn (net : Net) (past : Past) (b : Bounds) (c : ℕ) (start : Dated) (e : Engine) (u : ℕ) : Type 0 where
+  pub going : InCycle net past b c start e
+  pub plain : AllPlain net e.fired.items
+  pub watched : (g : Firing) → IsUnused e.fired.items g → May net c start (dated_of e) g → IsMarked e.marks g.unit ⊎ ((g.unit ≡ u) × (is_lsq (kind_of net g.unit) ≡ false))
+
+-- no unit that is no queue is marked
+abbrev pub NoneMarked : Net → Engine → Type 0
+NoneMarked net e = (u : ℕ) → is_lsq (kind_of net u) ≡ false → IsMarked e.marks u → ⊥
+
+-- no unit that is no queue may fire, and queues have not fired
+pub record IsSettled (net : Net) (past : Past) (b : Bounds) (c : ℕ) (start : Dated) (e : Engine) : Type 0 where
+  pub going : InCycle net past b c start e
+  pub plain : AllPlain net e.fired.items
+  pub watching : IsWatching net c start e
+  pub units : NoneMarked net e
+
+-- ---- queues
+
+-- the list has all queues of the net
+abbrev pub AreQueues : Net → List ℕ → Type 0
+AreQueues net queues = (u : ℕ) → is_lsq (kind_of net u) ≡ true → Holds u queues
+
+-- the first n queues of a list had their turns: what may fire is marked, is none of these and has not fired
+pub record IsServed (net : Net) (past : Past) (b : Bounds) (c : ℕ) (start : Dated) (e : Engine) (queues : List ℕ) (n : ℕ) : Type 0 where
   pub going : InCycle net past b c start e
   pub allocs : AllocsOnce net c e.fired.items (dated_of e)
-  pub behind : AllByRecursion (λ g. is_lsq (kind_of net g.unit) ≡ true → IsBehind g p) e.fired.items
-  pub refused : (g : Firing) → (is_lsq (kind_of net g.unit) ≡ false) ⊎ (is_before g p ≡ true) → IsUnused e.fired.items g → May net c start (dated_of e) g → ⊥
+  pub watching : IsWatching net c start e
+  pub units : NoneMarked net e
+  pub fresh : AllByRecursion (λ g. is_lsq (kind_of net g.unit) ≡ true → IsMarked e.marks g.unit → ⊥) e.fired.items
+  pub served : (k : ℕ) → k < n → IsMarked e.marks (get_or queues k 0) → ⊥
 
 -- nothing that has not fired may fire
 pub record IsFull (net : Net) (past : Past) (b : Bounds) (c : ℕ) (start : Dated) (e : Engine) : Type 0 where

@@ -1,4 +1,5 @@
-use Rattle.std.proofs.Common.{◌≡◌, ℕ, ◌+◌, ◌<◌, Bool, true, false, cond, sym, subst}
+use Rattle.std.proofs.Common.{◌≡◌, ◌∙◌, ℕ, ◌+◌, ◌-◌, ◌<◌, nat_le, Bool, true, false, cond, ap, sym, subst}
+use Rattle.el_base.specs.Limits.{max_delay}
 use Rattle.net_types.specs.declared.net.Net.{Net}
 use Rattle.net_types.specs.declared.firing.Inputs.{Inputs}
 use Rattle.cycle_engine.specs.declared.engine.Bounds.{Bounds}
@@ -34,7 +35,7 @@ cycles-preserved c =
     let P : ℕ → Type 0 = λ n. HasRun c.args.net.now c.args.inputs.now (record { limit = c.args.limit; keep = c.args.keep }) c.run_cycle.new.self (c.cycles.cycle + 1) n c.goes_on-going.result in
     subst P (sym c.last_of-last.ensures)
     (run_step c.args.net.now c.args.inputs.now b c.cycles.engine c.run_cycle.new.self c.cycles.cycle c.cycles.last c.in_ok-fired.fired c.goes_on-going.result c.net.ensures.checked run c.in_ok-fired.ensures.ready
-    (c.in_ok-fired.ensures.cycled (record { inputs = c.args.inputs.now; cycles = run.cycles }) run.done) c.goes_on-going.ensures.rest c.goes_on-going.ensures.goes)
+    (c.in_ok-fired.ensures.cycled (record { inputs = c.args.inputs.now; cycles = run.cycles }) run.done) (c.goes_on-going.ensures ∙ ap (λ n. nat_le (c.cycles.cycle + 1 - n) max_delay) c.last_of-last.ensures))
 
 pub cycles-smaller : goal.cycles-smaller
 cycles-smaller c =
@@ -44,7 +45,7 @@ cycles-smaller c =
     let Q : Bool → Type 0 = λ g. to_do c.args.limit (all_made c.run_cycle.new.self) (c.cycles.cycle + 1) (cond c.in_ok-fired.fired (c.cycles.cycle + 1) c.cycles.last) c.goes_on-going.result < to_do c.args.limit (all_made c.cycles.engine) c.cycles.cycle c.cycles.last g in
     subst P (sym c.last_of-last.ensures) (subst Q (sym c.cycles-test.true)
     (run_less c.args.net.now c.args.inputs.now b c.cycles.engine c.run_cycle.new.self c.cycles.cycle c.cycles.last c.in_ok-fired.fired c.goes_on-going.result c.net.ensures.checked run c.in_ok-fired.ensures.ready
-    (c.in_ok-fired.ensures.cycled (record { inputs = c.args.inputs.now; cycles = run.cycles }) run.done) c.goes_on-going.ensures.rest c.goes_on-going.ensures.goes))
+    (c.in_ok-fired.ensures.cycled (record { inputs = c.args.inputs.now; cycles = run.cycles }) run.done) (c.goes_on-going.ensures ∙ ap (λ n. nat_le (c.cycles.cycle + 1 - n) max_delay) c.last_of-last.ensures)))
 
 pub returns-clause-timed : goal.returns-clause-timed
 returns-clause-timed c =

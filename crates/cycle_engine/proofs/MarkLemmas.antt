@@ -1,0 +1,284 @@
+-- Marks, and lists of units that are marked.
+use Rattle.std.proofs.Common.{◌≡◌, ◌≢◌, ℕ, suc, zero, ◌+◌, ◌<◌, ◌≤◌, ◌⊎◌, inl, inr, Bool, true, false, Option, Some, None, List, [], ◌∷◌, ◌++◌, length, get_or, set, refl, sym, ap, subst, ◌∙◌, arith, length-append, length-set, get_or-set_same, get_or-set_other}
+use Rattle.std.specs.List.{AllByRecursion}
+use Rattle.std.proofs.lemmas.Bool.{cases_eq, cases_lt}
+use Rattle.std.proofs.lemmas.List.{get_or_append_left}
+use Rattle.net_types.specs.declared.net.Net.{Net}
+use Rattle.net_types.specs.declared.firing.Firing.{Firing}
+use Rattle.net_types.specs.Nets.{into, out_of, kind_of, chan_at}
+use Rattle.net_check.specs.Ends.{is_lsq}
+use Rattle.net_core.specs.Fire.{State, tokens_at}
+use Rattle.net_core.specs.declared.plan.Put.{Put}
+use Rattle.cycle_engine.specs.declared.marks.Marks.{Marks}
+use Rattle.cycle_engine.specs.private.Marking.{AreSince, IsSinceNoted, Holds, HasUnit, no_firing, IsMarked, IsListed, KeepsMarks, IsSourceMarked, IsMergeMarked, IsTargetMarked, IsPutMarked, IsTaken, IsEmptied, IsCounted}
+
+-- ---- lists
+
+get_last : (xs : List ℕ) (x : ℕ) → get_or (xs ++ x ∷ []) (length xs) 0 ≡ x
+get_last [] x = refl
+get_last (y ∷ xs) x = get_last xs x
+
+pub holds_last : (xs : List ℕ) (x : ℕ) → Holds x (xs ++ x ∷ [])
+holds_last xs x = record { at = length xs; within = (let n = length-append xs (x ∷ []) in omega arith); is = get_last xs x }
+
+pub holds_more : (xs ys : List ℕ) (x : ℕ) → Holds x xs → Holds x (xs ++ ys)
+holds_more xs ys x h = record { at = h.at; within = (let n = length-append xs ys in let w = h.within in omega arith); is = get_or_append_left xs ys 0 h.at h.within ∙ h.is }
+
+-- the number is among the first ones, or is the last
+pub holds_snoc : (xs : List ℕ) (y x : ℕ) → Holds x (xs ++ y ∷ []) → Holds x xs ⊎ (x ≡ y)
+holds_snoc xs y x h = by (cases_lt h.at (length xs))
+  where
+    by : (h.at < length xs) ⊎ (length xs ≤ h.at) → Holds x xs ⊎ (x ≡ y)
+    by (inl l) = inl (record { at = h.at; within = l; is = sym (get_or_append_left xs (y ∷ []) 0 h.at l) ∙ h.is })
+    by (inr l) =
+        let n = length-append xs (y ∷ []) in
+        let w = h.within in
+        let e : h.at ≡ length xs = omega arith in
+        inr (sym h.is ∙ (ap (λ k. get_or (xs ++ y ∷ []) k 0) e ∙ get_last xs y))
+
+pub holds_none : (x : ℕ) → Holds x [] → ⊥
+holds_none x h = let w = h.within in omega arith
+
+pub none_held : (xs : List ℕ) (x : ℕ) → xs ≡ [] → Holds x xs → ⊥
+none_held xs x e h = holds_none x (subst (Holds x) e h)
+
+-- ---- marks
+
+bool_within : (xs : List Bool) (u : ℕ) → get_or xs u false ≡ true → u < length xs
+bool_within [] zero e = cc
+bool_within [] (suc u) e = cc
+bool_within (x ∷ xs) zero e = omega arith
+bool_within (x ∷ xs) (suc u) e = let l = bool_within xs u e in omega arith
+
+pub marked_within : (m : Marks) (u : ℕ) → IsMarked m u → u < length m.marked.items
+marked_within m u h = bool_within m.marked.items u h
+
+pub keeps_same : (m : Marks) → KeepsMarks m m
+keeps_same m = record { long = refl; kept = λ u h. h; listed = λ net h. h }
+
+pub keeps_then : (a b c : Marks) → KeepsMarks a b → KeepsMarks b c → KeepsMarks a c
+keeps_then a b c h k = record { long = k.long ∙ h.long; kept = λ u m. k.kept u (h.kept u m); listed = λ net l. k.listed net (h.listed net l) }
+
+-- a unit is marked and added to the list
+pub keeps_marked : (old new : Marks) (u : ℕ) → u < length old.marked.items → new.marked.items ≡ set old.marked.items u true → new.list.items ≡ old.list.items ++ u ∷ [] → KeepsMarks old new
+keeps_marked old new u l e f = record { long = ap length e ∙ length-set old.marked.items u true; kept = kept; listed = listed }
+  where
+    is : (v : ℕ) → get_or new.marked.items v false ≡ get_or (set old.marked.items u true) v false
+    is v = ap (λ xs. get_or xs v false) e
+
+    kept : (v : ℕ) → IsMarked old v → IsMarked new v
+    kept v h = by (cases_eq v u)
+      where
+        by : (v ≡ u) ⊎ (v ≢ u) → get_or new.marked.items v false ≡ true
+        by (inl z) = is v ∙ (ap (λ k. get_or (set old.marked.items u true) k false) z ∙ get_or-set_same old.marked.items u true false l)
+        by (inr n) = is v ∙ (get_or-set_other old.marked.items u v true false n ∙ h)
+
+    listed : (net : Net) → IsListed net old → IsListed net new
+    listed net h v q m = by (cases_eq v u)
+      where
+        P : List ℕ → Type 0
+        P xs = Holds v xs
+
+        by : (v ≡ u) ⊎ (v ≢ u) → Holds v new.list.items
+        by (inl z) = subst P (sym f) (subst (λ k. Holds k (old.list.items ++ u ∷ [])) (sym z) (holds_last old.list.items u))
+        by (inr n) = subst P (sym f) (holds_more old.list.items (u ∷ []) v (h v q (sym (is v ∙ get_or-set_other old.marked.items u v true false n) ∙ m)))
+
+pub is_marked : (old new : Marks) (u : ℕ) → u < length old.marked.items → new.marked.items ≡ set old.marked.items u true → IsMarked new u
+is_marked old new u l e = ap (λ xs. get_or xs u false) e ∙ get_or-set_same old.marked.items u true false l
+
+-- what is marked after a mark was taken away was marked, and is another unit
+pub unmarked : (old new : Marks) (u v : ℕ) → new.marked.items ≡ set old.marked.items u false → IsMarked new v → (v ≢ u) × IsMarked old v
+unmarked old new u v e h = by (cases_eq v u)
+  where
+    k : get_or (set old.marked.items u false) v false ≡ true
+    k = ap (λ xs. get_or xs v false) (sym e) ∙ h
+
+    by : (v ≡ u) ⊎ (v ≢ u) → (v ≢ u) × IsMarked old v
+    by (inr n) = (n, sym (get_or-set_other old.marked.items u v false false n) ∙ k)
+    by (inl z) = absurd (at (cases_lt u (length old.marked.items)))
+      where
+        at : (u < length old.marked.items) ⊎ (length old.marked.items ≤ u) → ⊥
+        at (inl l) = let y : false ≡ true = sym (get_or-set_same old.marked.items u false false l) ∙ (ap (λ x. get_or (set old.marked.items u false) x false) (sym z) ∙ k) in cc
+        at (inr l) = let w = bool_within (set old.marked.items u false) v k in let n = length-set old.marked.items u false in let y = z in omega arith
+
+-- another unit stays marked
+pub still_marked : (old new : Marks) (u v : ℕ) → new.marked.items ≡ set old.marked.items u false → v ≢ u → IsMarked old v → IsMarked new v
+still_marked old new u v e n h = ap (λ xs. get_or xs v false) e ∙ (get_or-set_other old.marked.items u v false false n ∙ h)
+
+-- the next number of the list was taken, and its mark
+pub taken_marked : (net : Net) (old new : Marks) (u : ℕ) → old.list.items ≡ new.list.items ++ u ∷ [] → new.marked.items ≡ set old.marked.items u false → is_lsq (kind_of net u) ≡ false → IsTaken net old new u
+taken_marked net old new u l e q = record {
+  long = ap length e ∙ length-set old.marked.items u false;
+  listed = listed;
+  left = λ v m. at v m (cases_eq v u);
+  fewer = (let a = ap (λ (xs : List ℕ). length xs) l in let n = length-append new.list.items (u ∷ []) in omega arith);
+}
+  where
+    listed : IsListed net old → IsListed net new
+    listed h v p m =
+        let w = unmarked old new u v e m in
+        by w.0 (holds_snoc new.list.items u v (subst (Holds v) l (h v p w.1)))
+      where
+        by : v ≢ u → Holds v new.list.items ⊎ (v ≡ u) → Holds v new.list.items
+        by n (inl k) = k
+        by n (inr z) = absurd (n z)
+
+    at : (v : ℕ) → IsMarked old v → (v ≡ u) ⊎ (v ≢ u) → IsMarked new v ⊎ ((v ≡ u) × (is_lsq (kind_of net v) ≡ false))
+    at v m (inl z) = inr (z, ap (λ x. is_lsq (kind_of net x)) z ∙ q)
+    at v m (inr n) = inl (still_marked old new u v e n m)
+
+-- a queue was taken from the list, and keeps its mark
+pub taken_queue : (net : Net) (old new : Marks) (u : ℕ) → old.list.items ≡ new.list.items ++ u ∷ [] → new.marked.items ≡ old.marked.items → is_lsq (kind_of net u) ≡ true → IsTaken net old new u
+taken_queue net old new u l e q = record {
+  long = ap length e;
+  listed = listed;
+  left = λ v m. inl (ap (λ xs. get_or xs v false) e ∙ m);
+  fewer = (let a = ap (λ (xs : List ℕ). length xs) l in let n = length-append new.list.items (u ∷ []) in omega arith);
+}
+  where
+    listed : IsListed net old → IsListed net new
+    listed h v p m = by (holds_snoc new.list.items u v (subst (Holds v) l (h v p (ap (λ xs. get_or xs v false) (sym e) ∙ m))))
+      where
+        by : Holds v new.list.items ⊎ (v ≡ u) → Holds v new.list.items
+        by (inl k) = k
+        by (inr z) = let y : true ≡ false = sym q ∙ (ap (λ x. is_lsq (kind_of net x)) (sym z) ∙ p) in cc
+
+-- ---- marks at the ends of channels, as more are marked
+
+pub source_more : (net : Net) (s : State) (n : ℕ) (a b : Marks) (d : ℕ) → KeepsMarks a b → IsSourceMarked net s n a d → IsSourceMarked net s n b d
+source_more net s n a b d k h l f m = k.kept (chan_at net d).from.unit (h l f m)
+
+pub target_more : (net : Net) (n : ℕ) (a b : Marks) (d : ℕ) → KeepsMarks a b → IsTargetMarked net n a d → IsTargetMarked net n b d
+target_more net n a b d k h l m = k.kept (chan_at net d).to.unit (h l m)
+
+pub source_as : (net : Net) (s : State) (m n : ℕ) (a : Marks) (d : ℕ) → m ≡ n → IsSourceMarked net s m a d → IsSourceMarked net s n a d
+source_as net s m n a d e h l f k = h l f (omega arith)
+
+-- ---- a channel whose tokens were counted
+
+pub record IsLooked (net : Net) (s : State) (n : ℕ) (old new : List ℕ) (m : Marks) (d : ℕ) : Type 0 where
+  pub noted : IsCounted s new d
+  pub marked : length (tokens_at s d) < get_or old d 0 → IsSourceMarked net s n m d
+
+-- one more was looked at
+pub looked_on : (net : Net) (s : State) (n c d : ℕ) (first old new : List ℕ) (a b : Marks) → KeepsMarks a b → IsCounted s new c → ((x : ℕ) → x ≢ c → get_or new x 0 ≡ get_or old x 0)
+    → IsLooked net s n first old a d → IsLooked net s n first new b d
+looked_on net s n c d first old new a b k here other h = by (cases_eq d c)
+  where
+    m : length (tokens_at s d) < get_or first d 0 → IsSourceMarked net s n b d
+    m l = source_more net s n a b d k (h.marked l)
+
+    by : (d ≡ c) ⊎ (d ≢ c) → IsLooked net s n first new b d
+    by (inl e) = record { noted = subst (IsCounted s new) (sym e) here; marked = m }
+    by (inr x) = record { noted = other d x ∙ h.noted; marked = m }
+
+pub looked_here : (net : Net) (s : State) (n c : ℕ) (first old new : List ℕ) (a b : Marks) → KeepsMarks a b → IsCounted s new c → (length (tokens_at s c) < get_or old c 0 → IsSourceMarked net s n b c)
+    → (get_or old c 0 ≡ get_or first c 0) ⊎ IsLooked net s n first old a c → IsLooked net s n first new b c
+looked_here net s n c first old new a b k here marked (inl e) = record { noted = here; marked = λ l. marked (omega arith) }
+looked_here net s n c first old new a b k here marked (inr h) = record { noted = here; marked = λ l. source_more net s n a b c k (h.marked l) }
+
+pub looked_rest : (net : Net) (s : State) (n c d : ℕ) (first old new : List ℕ) (a b : Marks) → KeepsMarks a b → IsCounted s new c → ((x : ℕ) → x ≢ c → get_or new x 0 ≡ get_or old x 0) → (length (tokens_at s c) < get_or old c 0 → IsSourceMarked net s n b c)
+    → ((x : ℕ) → (get_or old x 0 ≡ get_or first x 0) ⊎ IsLooked net s n first old a x) → (get_or new d 0 ≡ get_or first d 0) ⊎ IsLooked net s n first new b d
+looked_rest net s n c d first old new a b k here other marked rest = by (cases_eq d c) (rest d)
+  where
+    by : (d ≡ c) ⊎ (d ≢ c) → (get_or old d 0 ≡ get_or first d 0) ⊎ IsLooked net s n first old a d → (get_or new d 0 ≡ get_or first d 0) ⊎ IsLooked net s n first new b d
+    by (inl e) r = inr (subst (IsLooked net s n first new b) (sym e) (looked_here net s n c first old new a b k here marked (rest c)))
+    by (inr x) (inl e) = inl (other d x ∙ e)
+    by (inr x) (inr h) = inr (looked_on net s n c d first old new a b k here other h)
+
+-- the firing of a number has its unit
+pub unit_named : (fs : List Firing) (P : ℕ → Type 0) (u : ℕ) → HasUnit u fs → ((k : ℕ) → k < length fs → P (get_or fs k no_firing).unit) → P u
+unit_named fs P u h f = subst P h.is (f h.at h.within)
+
+pub number_held : (xs : List ℕ) (P : ℕ → Type 0) (x : ℕ) → Holds x xs → ((k : ℕ) → k < length xs → P (get_or xs k 0)) → P x
+number_held xs P x h f = subst P h.is (f h.at h.within)
+
+-- the channels of a list up to one more
+pub looked_each : (net : Net) (s : State) (n : ℕ) (moved : List ℕ) (i : ℕ) (first old new : List ℕ) (a b : Marks) → KeepsMarks a b → IsCounted s new (get_or moved i 0) → ((x : ℕ) → x ≢ get_or moved i 0 → get_or new x 0 ≡ get_or old x 0)
+    → (length (tokens_at s (get_or moved i 0)) < get_or old (get_or moved i 0) 0 → IsSourceMarked net s n b (get_or moved i 0)) → ((k : ℕ) → k < i → IsLooked net s n first old a (get_or moved k 0))
+    → ((x : ℕ) → (get_or old x 0 ≡ get_or first x 0) ⊎ IsLooked net s n first old a x) → (k : ℕ) → k < i + 1 → IsLooked net s n first new b (get_or moved k 0)
+looked_each net s n moved i first old new a b kept here other marked each rest k l = by (cases_lt k i)
+  where
+    P : ℕ → Type 0
+    P x = IsLooked net s n first new b (get_or moved x 0)
+
+    by : (k < i) ⊎ (i ≤ k) → IsLooked net s n first new b (get_or moved k 0)
+    by (inl m) = looked_on net s n (get_or moved i 0) (get_or moved k 0) first old new a b kept here other (each k m)
+    by (inr m) = (let e : i ≡ k = omega arith in subst P e (looked_here net s n (get_or moved i 0) first old new a b kept here marked (rest (get_or moved i 0))))
+
+pub looked_noted : (net : Net) (s : State) (n : ℕ) (moved first new : List ℕ) (b : Marks) (d : ℕ) → ((k : ℕ) → k < length moved → IsLooked net s n first new b (get_or moved k 0)) → ((x : ℕ) → (get_or new x 0 ≡ get_or first x 0) ⊎ IsLooked net s n first new b x)
+    → IsCounted s first d ⊎ Holds d moved → IsCounted s new d
+looked_noted net s n moved first new b d each rest (inr h) = subst (IsCounted s new) h.is (each h.at h.within).noted
+looked_noted net s n moved first new b d each rest (inl k) = by (rest d)
+  where
+    by : (get_or new d 0 ≡ get_or first d 0) ⊎ IsLooked net s n first new b d → IsCounted s new d
+    by (inl e) = e ∙ k
+    by (inr h) = h.noted
+
+pub looked_marked : (net : Net) (s : State) (n : ℕ) (moved first new : List ℕ) (b : Marks) (d : ℕ) → ((k : ℕ) → k < length moved → IsLooked net s n first new b (get_or moved k 0)) → Holds d moved → length (tokens_at s d) < get_or first d 0 → IsSourceMarked net s n b d
+looked_marked net s n moved first new b d each h = (let P : ℕ → Type 0 = λ x. length (tokens_at s x) < get_or first x 0 → IsSourceMarked net s n b x in subst P h.is (each h.at h.within).marked)
+
+pub target_as : (net : Net) (m n : ℕ) (a : Marks) (d : ℕ) → m ≡ n → IsTargetMarked net m a d → IsTargetMarked net n a d
+target_as net m n a d e h l k = h l (omega arith)
+
+pub or_as : {A : Type 0} {X : Type 0} (P : A → Type 0) {a b : A} → a ≡ b → X ⊎ P a → X ⊎ P b
+or_as P e (inl x) = inl x
+or_as P e (inr p) = inr (subst P e p)
+
+pub emptied_listed : (net : Net) (old new : Marks) → IsEmptied old new → IsListed net old → IsListed net new
+emptied_listed net old new e h u l m = absurd (none_held old.list.items u e.before (h u l (ap (λ (v : _). get_or v.items u false) (sym e.same) ∙ m)))
+
+-- ---- from where on units have fired
+
+pub since_none : (fs : List Firing) (since : List ℕ) → fs ≡ [] → AreSince fs since
+since_none fs since e k l = (let n = ap (λ (xs : List Firing). length xs) e in absurd (omega arith))
+
+get_last_firing : (xs : List Firing) (x : Firing) → get_or (xs ++ x ∷ []) (length xs) no_firing ≡ x
+get_last_firing [] x = refl
+get_last_firing (y ∷ xs) x = get_last_firing xs x
+
+-- one firing more
+pub since_more : (old new : List Firing) (f : Firing) (n : ℕ) (before after : List ℕ) → n ≡ length old → new ≡ old ++ f ∷ [] → IsSinceNoted f.unit n before after → AreSince old before → AreSince new after
+since_more old new f n before after long e s h = (let P : List Firing → Type 0 = λ fs. AreSince fs after in subst P (sym e) more)
+  where
+    more : AreSince (old ++ f ∷ []) after
+    more k l w = by (cases_lt k (length old))
+      where
+        earlier : k < length old → (get_or old k no_firing).unit < length after → ((get_or old k no_firing).unit ≡ f.unit) ⊎ ((get_or old k no_firing).unit ≢ f.unit)
+            → (0 < get_or after (get_or old k no_firing).unit 0) × (get_or after (get_or old k no_firing).unit 0 ≤ k + 1)
+        earlier m v (inr x) =
+            let a = h k m (let z = s.long in omega arith) in
+            let b = s.others (get_or old k no_firing).unit x in
+            (let p = a.0 in omega arith, let p = a.1 in omega arith)
+        earlier m v (inl x) =
+            let a = h k m (let z = s.long in omega arith) in
+            let Q : ℕ → Type 0 = λ u. (0 < get_or before u 0) × (get_or before u 0 ≤ k + 1) in
+            let R : ℕ → Type 0 = λ u. (0 < get_or after u 0) × (get_or after u 0 ≤ k + 1) in
+            let b = subst Q x a in
+            let c = s.kept b.0 (let p = b.1 in omega arith) in
+            subst R (sym x) (let p = b.0 in omega arith, let p = b.1 in omega arith)
+
+        by : (k < length old) ⊎ (length old ≤ k) → (0 < get_or after (get_or (old ++ f ∷ []) k no_firing).unit 0) × (get_or after (get_or (old ++ f ∷ []) k no_firing).unit 0 ≤ k + 1)
+        by (inl m) =
+            let g : get_or (old ++ f ∷ []) k no_firing ≡ get_or old k no_firing = get_or_append_left old (f ∷ []) no_firing k m in
+            let I : Firing → Type 0 = λ g. g.unit < length after → (0 < get_or after g.unit 0) × (get_or after g.unit 0 ≤ k + 1) in
+            subst I (sym g) (λ v. earlier m v (cases_eq (get_or old k no_firing).unit f.unit)) w
+        by (inr m) =
+            let z = length-append old (f ∷ []) in
+            let i : k ≡ length old = omega arith in
+            let g : get_or (old ++ f ∷ []) k no_firing ≡ f = ap (λ j. get_or (old ++ f ∷ []) j no_firing) i ∙ get_last_firing old f in
+            let I : Firing → Type 0 = λ g. g.unit < length after → (0 < get_or after g.unit 0) × (get_or after g.unit 0 ≤ k + 1) in
+            subst I (sym g) (λ v. (let o = s.own (let z = s.long in omega arith) in (o.0, (let p = o.1 in omega arith)))) w
+
+-- ---- merges
+
+pub merge_more : (net : Net) (m n : ℕ) (a b : Marks) (d : ℕ) → m ≡ n → KeepsMarks a b → IsMergeMarked net m a d → IsMergeMarked net n b d
+merge_more net m n a b d e k h l q x = k.kept (chan_at net d).from.unit (h l q (omega arith))
+
+pub merges_more : (net : Net) (m n u : ℕ) (a b : Marks) (ps : List ℕ) → m ≡ n → KeepsMarks a b → AllByRecursion (λ p. IsMergeMarked net m a (into u p net.chans)) ps → AllByRecursion (λ p. IsMergeMarked net n b (into u p net.chans)) ps
+merges_more net m n u a b [] e k h = tt
+merges_more net m n u a b (p ∷ ps) e k h = (merge_more net m n a b (into u p net.chans) e k h.0, merges_more net m n u a b ps e k h.1)
+
+pub put_as : (net : Net) (u : ℕ) (put : Option Put) (m n : ℕ) (a : Marks) → m ≡ n → IsPutMarked net u put m a → IsPutMarked net u put n a
+put_as net u None m n a e h = tt
+put_as net u (Some w) m n a e h = λ z. target_as net m n a (out_of u w.place net.chans) e (h z)

@@ -1,0 +1,207 @@
+-- From one cycle to the next: which units may fire in it.
+use Rattle.std.proofs.Common.{◌≡◌, ◌≢◌, ℕ, suc, zero, ◌+◌, ◌%◌, ◌<◌, ◌≤◌, ◌⊎◌, inl, inr, Bool, true, false, List, [], ◌∷◌, length, get_or, set, refl, sym, ap, subst, ◌∙◌, arith, IsSomeAnd, get_or-set_other}
+use Rattle.std.specs.List.{AllByRecursion}
+use Rattle.std.proofs.lemmas.Bool.{cases_lt, cases_eq}
+use Rattle.el_base.specs.Limits.{max_delay}
+use Rattle.net_types.specs.declared.net.Net.{Net}
+use Rattle.net_types.specs.declared.firing.Firing.{Firing}
+use Rattle.net_types.specs.Nets.{into, out_of, kind_of, chan_at}
+use Rattle.net_check.specs.Checks.{IsChecked}
+use Rattle.net_check.specs.Ends.{is_lsq}
+use Rattle.net_core.specs.Fire.{Own, idle, first, tokens_at}
+use Rattle.net_core.specs.States.{state_of}
+use Rattle.net_core.proofs.ApartLemmas.{into-at, out_of-at, is_at-inv}
+use Rattle.cycle_engine.specs.declared.engine.Engine.{Engine}
+use Rattle.cycle_engine.specs.declared.engine.Bounds.{Bounds}
+use Rattle.cycle_engine.specs.declared.marks.Marks.{Marks}
+use Rattle.cycle_engine.specs.Cycles.{Dated, IsRipe, HasDepth, May, Makes, IsUnused, after_by, after_in}
+use Rattle.cycle_engine.specs.private.Trials.{dated_of, IsEngine}
+use Rattle.cycle_engine.specs.private.Marking.{Holds, HasUnit, no_firing, IsMarked, IsStarved, IsSourceMarked, IsTargetMarked, IsCounted, cell, cells_of, entries_at}
+use Rattle.cycle_engine.specs.private.Goings.{Past, IsReady, HasDone, IsStirred, IsWatching, AreComing}
+use Rattle.cycle_engine.specs.private.Places.{IsFull}
+use Rattle.cycle_engine.specs.Rousing.{Could}
+use Rattle.cycle_engine.proofs.BeforeLemmas.{after_of, may_could}
+use Rattle.cycle_engine.proofs.RousingLemmas.{next_rouses}
+use Rattle.cycle_engine.proofs.DateLemmas.{each_as, effect_there}
+use Rattle.cycle_engine.proofs.PlaceLemmas.{fires_within, starved_quiet}
+use Rattle.cycle_engine.proofs.TurnLemmas.{going_dated}
+
+get_other : (xs : List Own) (v u : ℕ) (o : Own) → u ≢ v → get_or (set xs v o) u idle ≡ get_or xs u idle
+get_other xs v u o n = get_or-set_other xs v u o idle n
+
+-- a unit that has not fired keeps what it kept
+own_same : (net : Net) (c : ℕ) (start s : Dated) (fs : List Firing) (t : Dated) (u : ℕ) → Makes net c start s fs t → (HasUnit u fs → ⊥) → get_or t.state.own u idle ≡ get_or s.state.own u idle
+own_same net c start s [] t u m n = ap (λ (x : Dated). get_or x.state.own u idle) (sym m)
+own_same net c start s (f ∷ fs) t u m n =
+    let w = effect_there net s.state f m.0.turn in
+    let q : after_in net c s f ≡ after_of net c s f.unit w.0 = ap (after_by net c s f.unit) w.1 in
+    own_same net c start (after_in net c s f) fs t u m.2 (λ h. n (record { at = suc h.at; within = (let l = h.within in omega arith); is = h.is }))
+    ∙ (ap (λ (x : Dated). get_or x.state.own u idle) q ∙ get_other s.state.own f.unit u w.0.own (λ e. n (record { at = 0; within = omega arith; is = sym e })))
+
+unit_unused : (fs : List Firing) (g : Firing) → (HasUnit g.unit fs → ⊥) → IsUnused fs g
+unit_unused [] g n = tt
+unit_unused (f ∷ fs) g n = (
+  (λ e. n (record { at = 0; within = omega arith; is = ap (λ (x : Firing). x.unit) e })),
+  unit_unused fs g (λ h. n (record { at = suc h.at; within = (let l = h.within in omega arith); is = h.is })),
+)
+
+has_unit_or : (fs : List Firing) (u : ℕ) → HasUnit u fs ⊎ (HasUnit u fs → ⊥)
+has_unit_or [] u = inr (λ h. (let l = h.within in omega arith))
+has_unit_or (f ∷ fs) u = by (cases_eq f.unit u) (has_unit_or fs u)
+  where
+    by : (f.unit ≡ u) ⊎ (f.unit ≢ u) → HasUnit u fs ⊎ (HasUnit u fs → ⊥) → HasUnit u (f ∷ fs) ⊎ (HasUnit u (f ∷ fs) → ⊥)
+    by (inl e) k = inl (record { at = 0; within = omega arith; is = e })
+    by (inr e) (inl h) = inl (record { at = suc h.at; within = (let l = h.within in omega arith); is = h.is })
+    by (inr e) (inr k) = inr (λ h. none h.at h.within h.is)
+      where
+        none : (i : ℕ) → i < length (f ∷ fs) → (get_or (f ∷ fs) i no_firing).unit ≡ u → ⊥
+        none zero l z = e z
+        none (suc i) l z = k (record { at = i; within = omega arith; is = z })
+
+within_tokens : (xss : List (List ℕ)) (d n : ℕ) → n < length (get_or xss d []) → d < length xss
+within_tokens [] d n h = absurd (omega arith)
+within_tokens (x ∷ xss) zero n h = omega arith
+within_tokens (x ∷ xss) (suc d) n h = let l = within_tokens xss d n h in omega arith
+
+some_within : (xss : List (List ℕ)) (k : ℕ) (Q : ℕ → Type 0) → IsSomeAnd (first (get_or xss k [])) Q → k < length xss
+some_within [] k Q i = absurd i
+some_within (y ∷ xss) zero Q i = omega arith
+some_within (y ∷ xss) (suc k) Q i = let h = some_within xss k Q i in omega arith
+
+-- a unit that is not to be marked as the next cycle begins may not fire in it
+module _ (net : Net) (past : Past) (b : Bounds) (c : ℕ) (start : Dated) (e : Engine) (eng : IsEngine net e) (f : IsFull net past b c start e) where
+  pub entries_now : (u : ℕ) → is_lsq (kind_of net u) ≡ true → (get_or e.begun.queues.items u 0 ≡ entries_at (state_of e.state) u) ⊎ HasUnit u e.fired.items
+  entries_now u l = by (has_unit_or e.fired.items u)
+    where
+      by : HasUnit u e.fired.items ⊎ (HasUnit u e.fired.items → ⊥) → (get_or e.begun.queues.items u 0 ≡ entries_at (state_of e.state) u) ⊎ HasUnit u e.fired.items
+      by (inl h) = inr h
+      by (inr n) = inl (f.going.began.queues u l ∙ ap (λ (o : Own). length o.queue.items) (sym (own_same net c start start e.fired.items (dated_of e) u f.going.makes n)))
+
+  pub next_quiet : (g : Firing) → May net (c + 1) (dated_of e) (dated_of e) g → (IsStirred net (c + 1) e g.unit → ⊥) → ⊥
+  next_quiet g m quiet = f.full g (unit_unused e.fired.items g none) (record { turn = m.turn; ripe = then_could.ripe; room = then_could.acts; depth = then_could.depth })
+    where
+      fed : IsStarved net (state_of e.state) g.unit → ⊥
+      fed h = starved_quiet net (state_of e.state) g.unit g.act h m.turn
+
+      none : HasUnit g.unit e.fired.items → ⊥
+      none h = quiet (inr (inl (h, fed)))
+
+      rooms : (p : ℕ) → length (tokens_at start.state (out_of g.unit p net.chans)) ≤ length (tokens_at (state_of e.state) (out_of g.unit p net.chans))
+      rooms p = by (cases_lt (length (tokens_at (state_of e.state) (out_of g.unit p net.chans))) (length (tokens_at start.state (out_of g.unit p net.chans))))
+        where
+          d : ℕ
+          d = out_of g.unit p net.chans
+
+          began : get_or e.begun.chans.items (out_of g.unit p net.chans) 0 ≡ length (tokens_at start.state (out_of g.unit p net.chans))
+          began = f.going.began.chans (out_of g.unit p net.chans)
+
+          fell : length (tokens_at (state_of e.state) (out_of g.unit p net.chans)) < length (tokens_at start.state (out_of g.unit p net.chans)) → IsCounted (state_of e.state) e.begun.chans.items (out_of g.unit p net.chans) ⊎ Holds (out_of g.unit p net.chans) e.notes.moved.items → ⊥
+          fell l (inl k) = (let z : get_or e.begun.chans.items (out_of g.unit p net.chans) 0 ≡ length (tokens_at (state_of e.state) (out_of g.unit p net.chans)) = k in let y = began in omega arith)
+          fell l (inr k) =
+              let w = within_tokens start.state.tokens (out_of g.unit p net.chans) 0 (omega arith) in
+              let s = (going_dated net past b c start e f.going).chans in
+              let l' : out_of g.unit p net.chans < length net.chans = omega arith in
+              let y = began in
+              quiet (inr (inr (inl (record {
+                chan = out_of g.unit p net.chans;
+                moved = k;
+                fewer = omega arith;
+                within = l';
+                source = (is_at-inv (chan_at net (out_of g.unit p net.chans)).from g.unit p (out_of-at g.unit p net.chans l')).0;
+                fed = fed;
+              }))))
+
+          by : (length (tokens_at (state_of e.state) (out_of g.unit p net.chans)) < length (tokens_at start.state (out_of g.unit p net.chans))) ⊎ (length (tokens_at start.state (out_of g.unit p net.chans)) ≤ length (tokens_at (state_of e.state) (out_of g.unit p net.chans)))
+              → length (tokens_at start.state (out_of g.unit p net.chans)) ≤ length (tokens_at (state_of e.state) (out_of g.unit p net.chans))
+          by (inl l) = absurd (fell l (f.going.moved (out_of g.unit p net.chans)))
+          by (inr l) = l
+
+      ripes : (p : ℕ) → IsRipe net (suc c) (dated_of e) (into g.unit p net.chans) → IsRipe net c (dated_of e) (into g.unit p net.chans)
+      ripes p r = by (get_or e.dates.tokens (into g.unit p net.chans) []) refl (f.going.coming (into g.unit p net.chans)) r
+        where
+          delay : ℕ
+          delay = (chan_at net (into g.unit p net.chans)).delay
+
+          within : into g.unit p net.chans < length net.chans
+          within = (let w = some_within e.dates.tokens (into g.unit p net.chans) (λ x. x + (chan_at net (into g.unit p net.chans)).delay ≤ suc c) r in let k = eng.dated.lists in omega arith)
+
+          at : (x : ℕ) → x + (chan_at net (into g.unit p net.chans)).delay ≤ suc c → (x < c + 1) × (c + 1 ≤ x + (chan_at net (into g.unit p net.chans)).delay → Holds (into g.unit p net.chans) (cell e.notes ((x + (chan_at net (into g.unit p net.chans)).delay) % 1024)))
+              → (x + (chan_at net (into g.unit p net.chans)).delay ≤ c) ⊎ (c < x + (chan_at net (into g.unit p net.chans)).delay) → x + (chan_at net (into g.unit p net.chans)).delay ≤ c
+          at x l k (inl m) = m
+          at x l k (inr m) =
+              let z : x + (chan_at net (into g.unit p net.chans)).delay ≡ c + 1 = omega arith in
+              let P : ℕ → Type 0 = λ n. Holds (into g.unit p net.chans) (cell e.notes (n % 1024)) in
+              absurd (quiet (inr (inr (inr (record {
+                chan = into g.unit p net.chans;
+                coming = subst P z (k.1 (omega arith));
+                within = within;
+                target = (is_at-inv (chan_at net (into g.unit p net.chans)).to g.unit p (into-at g.unit p net.chans within)).0;
+              })))))
+
+          or : (x y : ℕ) → (x ≤ y) ⊎ (y < x)
+          or x y = swap (cases_lt y x)
+            where
+              swap : (y < x) ⊎ (x ≤ y) → (x ≤ y) ⊎ (y < x)
+              swap (inl l) = inr l
+              swap (inr l) = inl l
+
+          by : (ds : List ℕ) → get_or e.dates.tokens (into g.unit p net.chans) [] ≡ ds
+              → AllByRecursion (λ x. (x < c + 1) × (c + 1 ≤ x + (chan_at net (into g.unit p net.chans)).delay → Holds (into g.unit p net.chans) (cell e.notes ((x + (chan_at net (into g.unit p net.chans)).delay) % 1024)))) ds
+              → IsSomeAnd (first ds) (λ date. date + (chan_at net (into g.unit p net.chans)).delay ≤ suc c) → IsSomeAnd (first ds) (λ date. date + (chan_at net (into g.unit p net.chans)).delay ≤ c)
+          by [] i k h = absurd h
+          by (x ∷ ds) i k h = at x h k.0 (or (x + (chan_at net (into g.unit p net.chans)).delay) c)
+
+      depth : HasDepth (kind_of net g.unit) (get_or (state_of e.state).own g.unit idle) g.act → HasDepth (kind_of net g.unit) (get_or start.state.own g.unit idle) g.act
+      depth h = (let P : Own → Type 0 = λ o. HasDepth (kind_of net g.unit) o g.act in subst P (own_same net c start start e.fired.items (dated_of e) g.unit f.going.makes none) h)
+
+      sooner : May net (suc c) (dated_of e) (dated_of e) g
+      sooner = (let z : c + 1 ≡ suc c = omega arith in let P : ℕ → Type 0 = λ n. May net n (dated_of e) (dated_of e) g in subst P z m)
+
+      then_could : Could net c start (dated_of e) g
+      then_could = next_rouses net c start (dated_of e) g rooms ripes depth (may_could net (suc c) (dated_of e) (dated_of e) g sooner)
+
+-- as a cycle begins, what is to be marked was marked
+pub begun_watching : (net : Net) (past : Past) (b : Bounds) (c n : ℕ) (old new : Engine) → IsChecked net → IsReady net b old → HasDone net past b c old → dated_of new ≡ dated_of old
+    → ((u : ℕ) → u < length net.units → IsStirred net c old u → IsMarked new.marks u) → IsWatching net c (dated_of old) new
+begun_watching net past b c n old new checked ready done same marked g un m = by (get_or new.marks.marked.items g.unit false) refl
+  where
+    may : May net c (dated_of old) (dated_of old) g
+    may = (let P : Dated → Type 0 = λ x. May net c (dated_of old) x g in subst P same m)
+
+    within : g.unit < length net.units
+    within = fires_within net (state_of old.state) g checked ready.engine.dated.chans may.turn
+
+    by : (x : Bool) → get_or new.marks.marked.items g.unit false ≡ x → IsMarked new.marks g.unit
+    by true e = e
+    by false e = absurd (done.next g may (λ s. let z : false ≡ true = sym e ∙ marked g.unit within s in cc))
+
+-- the marks of a cycle's beginning
+pub stirred_marked : (net : Net) (c : ℕ) (old : Engine) (m1 m2 m3 : Marks) (n : ℕ) → length net.units ≡ n → ((u : ℕ) → IsMarked old.marks u → IsMarked m1 u) → ((u : ℕ) → IsMarked m1 u → IsMarked m2 u) → ((u : ℕ) → IsMarked m2 u → IsMarked m3 u)
+    → ((u : ℕ) → HasUnit u old.fired.items → (IsStarved net (state_of old.state) u → ⊥) → u < n → IsMarked m1 u)
+    → ((d : ℕ) → Holds d old.notes.moved.items → length (tokens_at (state_of old.state) d) < get_or old.begun.chans.items d 0 → IsSourceMarked net (state_of old.state) n m2 d)
+    → ((d : ℕ) → Holds d (cell old.notes (c % 1024)) → IsTargetMarked net n m3 d)
+    → (u : ℕ) → u < length net.units → IsStirred net c old u → IsMarked m3 u
+stirred_marked net c old m1 m2 m3 n e a1 a2 a3 fired emptied ripened u l (inl k) = a3 u (a2 u (a1 u k))
+stirred_marked net c old m1 m2 m3 n e a1 a2 a3 fired emptied ripened u l (inr (inl h)) = a3 u (a2 u (fired u h.0 h.1 (omega arith)))
+stirred_marked net c old m1 m2 m3 n e a1 a2 a3 fired emptied ripened u l (inr (inr (inl h))) =
+    let s = h.source in
+    let F : ℕ → Type 0 = λ v. IsStarved net (state_of old.state) v → ⊥ in
+    a3 u (subst (IsMarked m2) h.source (emptied h.chan h.moved h.fewer h.within (subst F (sym h.source) h.fed) (omega arith)))
+stirred_marked net c old m1 m2 m3 n e a1 a2 a3 fired emptied ripened u l (inr (inr (inr h))) =
+    let s = h.target in
+    subst (IsMarked m3) h.target (ripened h.chan h.coming h.within (omega arith))
+
+apart_cells : (x c delay : ℕ) → delay ≤ max_delay → x < c → c + 1 ≤ x + delay → (x + delay) % 1024 ≢ c % 1024
+apart_cells x c delay m l k e = omega arith
+
+-- the cell of the cycle that begins is emptied
+pub begun_coming : (net : Net) (c : ℕ) (old new : Engine) → ((d : ℕ) → (chan_at net d).delay ≤ max_delay) → new.dates.tokens ≡ old.dates.tokens → cells_of new.notes ≡ set (cells_of old.notes) (c % 1024) [] → AreComing net c old → AreComing net (c + 1) new
+begun_coming net c old new most same cells h d =
+    let P : List (List ℕ) → Type 0 = λ xs. AllByRecursion (λ x. (x < c + 1) × (c + 1 ≤ x + (chan_at net d).delay → Holds d (cell new.notes ((x + (chan_at net d).delay) % 1024)))) (get_or xs d []) in
+    subst P (sym same) (each_as (λ x. (x < c) × (c ≤ x + (chan_at net d).delay → Holds d (cell old.notes ((x + (chan_at net d).delay) % 1024)))) (λ x. (x < c + 1) × (c + 1 ≤ x + (chan_at net d).delay → Holds d (cell new.notes ((x + (chan_at net d).delay) % 1024))))
+    (λ x k. (omega (arith, k.0), λ l. at x k.0 l (k.1 (omega arith)))) (get_or old.dates.tokens d []) (h d))
+  where
+    at : (x : ℕ) → x < c → c + 1 ≤ x + (chan_at net d).delay → Holds d (cell old.notes ((x + (chan_at net d).delay) % 1024)) → Holds d (cell new.notes ((x + (chan_at net d).delay) % 1024))
+    at x l k q =
+        let P : List ℕ → Type 0 = Holds d in
+        subst P (sym (ap (λ xs. get_or xs ((x + (chan_at net d).delay) % 1024) []) cells ∙ get_or-set_other (cells_of old.notes) (c % 1024) ((x + (chan_at net d).delay) % 1024) [] [] (apart_cells x c (chan_at net d).delay (most d) l k))) q

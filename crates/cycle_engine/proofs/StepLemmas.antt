@@ -1,0 +1,100 @@
+-- Steps of turns: the acts of one kind by their numbers, and what a try of a place told.
+use Rattle.std.proofs.Common.{◌≡◌, ◌≢◌, ℕ, ◌+◌, ◌<◌, ◌&&◌, Bool, true, false, Option, Some, None, is_some, length, refl, sym, ap, subst, ◌∙◌, arith, IfSome}
+use Rattle.net_types.specs.declared.net.Net.{Net}
+use Rattle.net_types.specs.declared.net.Unit.{Unit as Kind}
+use Rattle.net_types.specs.declared.firing.Act.{Act}
+use Rattle.net_types.specs.declared.firing.Act.TheVariants.{Go, From, Send, Alloc, Addr, Data, Exec, Reply, Retire, End}
+use Rattle.net_types.specs.declared.firing.Firing.{Firing}
+use Rattle.net_types.specs.Nets.{kind_of, firing}
+use Rattle.net_types.specs.Order.{act_rank, act_number}
+use Rattle.net_check.specs.Checks.{IsChecked}
+use Rattle.net_check.specs.Ends.{is_lsq}
+use Rattle.net_core.specs.Fire.{State, enabled}
+use Rattle.net_core.specs.declared.plan.Plan.{Plan}
+use Rattle.net_core.specs.States.{state_of, IsPlanOf}
+use Rattle.cycle_engine.specs.declared.engine.Engine.{Engine}
+use Rattle.cycle_engine.specs.declared.engine.Bounds.{Bounds}
+use Rattle.cycle_engine.specs.declared.marks.Marks.{Marks}
+use Rattle.cycle_engine.specs.Cycles.{Dated, IsOldest, act_place}
+use Rattle.cycle_engine.specs.private.Marking.{KeepsMarks, IsRoused}
+use Rattle.cycle_engine.specs.private.Goings.{Past, IsReady, IsMade, IsTried}
+use Rattle.cycle_engine.specs.private.Places.{IsNextAct, IsTurn, HasNoExec, count_in, numbered}
+use Rattle.cycle_engine.proofs.PlaceLemmas.{exec_is}
+use Rattle.cycle_engine.proofs.TurnLemmas.{turn_passed, unit_made, queue_made, turn_on, with_marks, going_marks}
+
+-- ---- the acts of one kind, by their numbers
+
+one_number : (net : Net) (k : Kind) (kind : Act) (n count : ℕ) → count ≡ count_in k kind → n < count → act_rank kind ≢ 6 → (act_rank (numbered kind n) ≡ act_rank kind) × (act_number (act_place (numbered kind n)) ≡ n)
+one_number net k Go n count e l x = (refl, omega arith)
+one_number net k (From j) n count e l x = (refl, refl)
+one_number net k (Send j) n count e l x = (refl, refl)
+one_number net k (Alloc j) n count e l x = (refl, refl)
+one_number net k (Addr j) n count e l x = (refl, refl)
+one_number net k (Data j) n count e l x = (refl, refl)
+one_number net k (Exec j) n count e l x = absurd (x refl)
+one_number net k (Reply j) n count e l x = (refl, refl)
+one_number net k Retire n count e l x = (refl, omega arith)
+one_number net k End n count e l x = (refl, omega arith)
+
+other_oldest : (net : Net) (s : State) (u : ℕ) (a : Act) → act_rank a ≢ 6 → IsOldest net s u a
+other_oldest net s u Go e = tt
+other_oldest net s u (From j) e = tt
+other_oldest net s u (Send j) e = tt
+other_oldest net s u (Alloc j) e = tt
+other_oldest net s u (Addr j) e = tt
+other_oldest net s u (Data j) e = tt
+other_oldest net s u (Exec j) e = absurd (e refl)
+other_oldest net s u (Reply j) e = tt
+other_oldest net s u Retire e = tt
+other_oldest net s u End e = tt
+
+pub next_numbered : (net : Net) (s : State) (u : ℕ) (kind : Act) (n count : ℕ) (act : Act) → act_rank kind ≢ 6 → act ≡ numbered kind n → count ≡ count_in (kind_of net u) kind → n < count → IsNextAct net s (firing u act) (act_rank kind) n
+next_numbered net s u kind n count act x is e l =
+    let w = one_number net (kind_of net u) kind n count e l x in
+    let r : act_rank act ≡ act_rank kind = ap act_rank is ∙ w.0 in
+    record {
+      rank = r;
+      number = ap (λ a. act_number (act_place a)) is ∙ w.1;
+      exec = λ z. absurd (x z);
+      oldest = other_oldest net s u act (λ z. x (sym r ∙ z));
+    }
+
+pub exec_on : (net : Net) (past : Past) (b : Bounds) (c : ℕ) (start : Dated) (marks : Marks) (e : Engine) (u : ℕ) → HasNoExec net (state_of e.state) u → IsTurn net past b c start marks e u 6 0 → IsTurn net past b c start marks e u 7 0
+exec_on net past b c start marks e u none t = turn_on net past b c start marks e u 6 0 t (λ a n r. absurd (at a n r))
+  where
+    at : (a : Act) → enabled net (state_of e.state) (firing u a) → act_rank a ≡ 6 → ⊥
+    at a n r = (let N : Act → Type 0 = λ x. enabled net (state_of e.state) (firing u x) in none (act_number a) (subst N (exec_is a r) n))
+
+pub exec_done : (net : Net) (past : Past) (b : Bounds) (c : ℕ) (start : Dated) (marks : Marks) (e : Engine) (u : ℕ) → IsTurn net past b c start marks e u 6 1 → IsTurn net past b c start marks e u 7 0
+exec_done net past b c start marks e u t = turn_on net past b c start marks e u 6 1 t (λ a n r. at a r)
+  where
+    at : (a : Act) → act_rank a ≡ 6 → act_number (act_place a) < 1
+    at a r = (let z : act_number (act_place a) ≡ 0 = ap (λ x. act_number (act_place x)) (exec_is a r) in omega arith)
+
+-- ---- what a try told
+
+made_marks : (net : Net) (past : Past) (b : Bounds) (c : ℕ) (start : Dated) (old e : Engine) (f : Firing) (m : Marks) → IsMade net past b c start old e f → IsMade net past b c start old (with_marks e m) f
+made_marks net past b c start old e f m k = record { may = k.may; after = k.after; fired = k.fired; going = going_marks net past b c start e m k.going }
+
+module _ (net : Net) (past : Past) (b : Bounds) (c : ℕ) (start : Dated) (marks : Marks) (old mid : Engine) (f : Firing) (r n : ℕ) (t : IsTurn net past b c start marks old f.unit r n) (next : IsNextAct net (state_of old.state) f r n) (o : Option Plan)
+    (tried : IsTried net past b c start old mid f (is_some o)) where
+  pub step_passed : o ≡ None → IsTurn net past b c start marks mid f.unit r (n + 1)
+  step_passed e = (let T : Option Plan → Type 0 = λ x. IsTried net past b c start old mid f (is_some x) in let k = subst T e tried in turn_passed net past b c start marks old f r n t next mid k.same k.refused)
+
+  pub step_unit : (p : Plan) (m : Marks) → o ≡ Some p → IfSome o (λ p. IsPlanOf net old.state f (Some p)) → mid.marks ≡ old.marks → IsChecked net → IsReady net b old → is_lsq (kind_of net f.unit) ≡ false
+      → KeepsMarks mid.marks m → IsRoused net f.unit p (length mid.marks.marked.items) m → IsTurn net past b c start marks (with_marks mid m) f.unit r (n + 1)
+  step_unit p m e plan same checked ready l kept roused =
+      let T : Option Plan → Type 0 = λ x. IsTried net past b c start old mid f (is_some x) in
+      let k = subst T e tried in
+      let P : Option Plan → Type 0 = λ x. IfSome x (λ p. IsPlanOf net old.state f (Some p)) in
+      let K : Marks → Type 0 = λ x. KeepsMarks x m in
+      let R : Marks → Type 0 = λ x. IsRoused net f.unit p (length x.marked.items) m in
+      unit_made net past b c start marks old f r n t next (with_marks mid m) (made_marks net past b c start old mid f m k) checked ready.engine l p (subst P e plan) (subst K same kept) ready.marked (subst R same roused)
+
+  pub step_queue : (p : Plan) → o ≡ Some p → mid.marks ≡ old.marks → IsChecked net → IsReady net b old → is_lsq (kind_of net f.unit) ≡ true → IsTurn net past b c start marks mid f.unit r (n + 1)
+  step_queue p e same checked ready l = let T : Option Plan → Type 0 = λ x. IsTried net past b c start old mid f (is_some x) in queue_made net past b c start marks old f r n t next mid (subst T e tried) checked ready.engine l same
+
+pub turn_parts : (x y : Bool) → (x && y) ≡ true → (x ≡ true) × (y ≡ true)
+turn_parts true true e = (refl, refl)
+turn_parts true false e = cc
+turn_parts false y e = cc

@@ -1,0 +1,196 @@
+-- Private: only contracts of this crate cite it. Marks at the units that may fire, and what is noted for the next cycle.
+use Rattle.std.specs.Prelude.{◌≡◌, ◌≢◌, ◌⊎◌, ℕ, ◌+◌, ◌<◌, ◌≤◌, ◌++◌, ◌∷◌, ◌%◌, nat_lt, cond, set, Bool, true, false, Option, None, List, [], map, length, get_or, IfSome}
+use Rattle.std.specs.List.{AllByRecursion}
+use Rattle.std.specs.declared.vec.Vec.{Vec}
+use Rattle.std.specs.declared.alloc.Global.{Global}
+use Rattle.net_types.specs.declared.net.Net.{Net}
+use Rattle.net_types.specs.declared.net.Unit.{Unit as Kind}
+use Rattle.net_types.specs.declared.net.Unit.TheVariants.{Entry, Param, Const, Op1, Op2, Select, Fork, Mux, Cmerge, Branch, Sink, Read, Lsq, Exit}
+use Rattle.net_types.specs.declared.firing.Act.TheVariants.{Go}
+use Rattle.net_types.specs.declared.firing.Firing.{Firing}
+use Rattle.net_types.specs.Nets.{into, out_of, kind_of, chan_at, firing}
+use Rattle.net_check.specs.Ends.{is_lsq}
+use Rattle.net_core.specs.Fire.{State, idle, tokens_at, head_at}
+use Rattle.net_core.specs.declared.plan.Put.{Put}
+use Rattle.net_core.specs.declared.plan.Takes.{Takes}
+use Rattle.net_core.specs.declared.plan.Plan.{Plan}
+use Rattle.net_core.specs.Plans.{places_of}
+use Rattle.cycle_engine.specs.declared.marks.Marks.{Marks}
+use Rattle.cycle_engine.specs.declared.notes.Notes.{Notes}
+
+-- ---- lists
+
+-- the number is in the list
+pub record Holds (x : ℕ) (xs : List ℕ) : Type 0 where
+  pub at : ℕ
+  pub within : at < length xs
+  pub is : get_or xs at 0 ≡ x
+
+-- what stands past the firings
+abbrev pub no_firing : Firing
+no_firing = firing 0 Go
+
+-- a firing of the list is of the unit
+pub record HasUnit (u : ℕ) (fs : List Firing) : Type 0 where
+  pub at : ℕ
+  pub within : at < length fs
+  pub is : (get_or fs at no_firing).unit ≡ u
+
+-- no firing before the number n is of the unit
+abbrev pub IsNotBefore : List Firing → ℕ → ℕ → Type 0
+IsNotBefore fs u n = (k : ℕ) → k < length fs → k < n → (get_or fs k no_firing).unit ≢ u
+
+-- the numbers tell from where on units have fired
+abbrev pub AreSince : List Firing → List ℕ → Type 0
+AreSince fs since = (k : ℕ) → k < length fs → (get_or fs k no_firing).unit < length since → (0 < get_or since (get_or fs k no_firing).unit 0) × (get_or since (get_or fs k no_firing).unit 0 ≤ k + 1)
+
+-- the unit fires after n firings: where its number told of no earlier one it is n + 1
+pub record IsSinceNoted (u n : ℕ) (old new : List ℕ) : Type 0 where
+  pub long : length new ≡ length old
+  pub others : (v : ℕ) → v ≢ u → get_or new v 0 ≡ get_or old v 0
+  pub kept : 0 < get_or old u 0 → get_or old u 0 ≤ n → get_or new u 0 ≡ get_or old u 0
+  pub own : u < length old → (0 < get_or new u 0) × (get_or new u 0 ≤ n + 1)
+
+-- ---- marks
+
+abbrev pub IsMarked : Marks → ℕ → Type 0
+IsMarked m u = get_or m.marked.items u false ≡ true
+
+-- a marked unit that is no queue is in the list
+abbrev pub IsListed : Net → Marks → Type 0
+IsListed net m = (u : ℕ) → is_lsq (kind_of net u) ≡ false → IsMarked m u → Holds u m.list.items
+
+-- no mark is taken away
+pub record KeepsMarks (old new : Marks) : Type 0 where
+  pub long : length new.marked.items ≡ length old.marked.items
+  pub kept : (u : ℕ) → IsMarked old u → IsMarked new u
+  pub listed : (net : Net) → IsListed net old → IsListed net new
+
+-- a unit that does not fire without a token at its first input
+abbrev pub asks_first : Kind → Bool
+asks_first Entry = false
+asks_first (Param j) = false
+asks_first (Const w n) = true
+asks_first (Op1 op) = true
+asks_first (Op2 op) = true
+asks_first (Select w) = true
+asks_first (Fork w outs) = true
+asks_first (Mux w ins) = true
+asks_first (Cmerge ins) = false
+asks_first (Branch w) = true
+asks_first (Sink w) = true
+asks_first (Read a) = true
+asks_first (Lsq a d ps gs f) = false
+asks_first Exit = false
+
+-- the unit wants a token at its first input, and so may not fire
+abbrev pub IsStarved : Net → State → ℕ → Type 0
+IsStarved net s u = (asks_first (kind_of net u) ≡ true) × (head_at net s u 0 ≡ None)
+
+-- the unit that puts on a channel is marked, where it is among so many and wants no token
+abbrev pub IsSourceMarked : Net → State → ℕ → Marks → ℕ → Type 0
+IsSourceMarked net s n m d = d < length net.chans → (IsStarved net s (chan_at net d).from.unit → ⊥) → (chan_at net d).from.unit < n → IsMarked m (chan_at net d).from.unit
+
+abbrev pub IsTargetMarked : Net → ℕ → Marks → ℕ → Type 0
+IsTargetMarked net n m d = d < length net.chans → (chan_at net d).to.unit < n → IsMarked m (chan_at net d).to.unit
+
+-- a control merge
+abbrev pub is_merge : Kind → Bool
+is_merge Entry = false
+is_merge (Param j) = false
+is_merge (Const w n) = false
+is_merge (Op1 op) = false
+is_merge (Op2 op) = false
+is_merge (Select w) = false
+is_merge (Fork w outs) = false
+is_merge (Mux w ins) = false
+is_merge (Cmerge ins) = true
+is_merge (Branch w) = false
+is_merge (Sink w) = false
+is_merge (Read a) = false
+is_merge (Lsq a d ps gs f) = false
+is_merge Exit = false
+
+-- a unit of one place
+abbrev pub is_goer : Kind → Bool
+is_goer Entry = true
+is_goer (Param j) = true
+is_goer (Const w n) = true
+is_goer (Op1 op) = true
+is_goer (Op2 op) = true
+is_goer (Select w) = true
+is_goer (Fork w outs) = false
+is_goer (Mux w ins) = true
+is_goer (Cmerge ins) = false
+is_goer (Branch w) = true
+is_goer (Sink w) = true
+is_goer (Read a) = true
+is_goer (Lsq a d ps gs f) = false
+is_goer Exit = true
+
+-- the unit that puts on a channel is marked, where it is a control merge
+abbrev pub IsMergeMarked : Net → ℕ → Marks → ℕ → Type 0
+IsMergeMarked net n m d = d < length net.chans → is_merge (kind_of net (chan_at net d).from.unit) ≡ true → (chan_at net d).from.unit < n → IsMarked m (chan_at net d).from.unit
+
+-- the unit into which a token was put without delay is marked
+abbrev pub IsPutMarked : Net → ℕ → Option Put → ℕ → Marks → Type 0
+IsPutMarked net u put n m = IfSome put (λ w. (chan_at net (out_of u w.place net.chans)).delay ≡ 0 → IsTargetMarked net n m (out_of u w.place net.chans))
+
+-- marked are the unit that fired where it has other places, the control merges that put on the channels from which it took, and
+-- the unit into which it put without delay
+pub record IsRoused (net : Net) (u : ℕ) (p : Plan) (n : ℕ) (m : Marks) : Type 0 where
+  pub own : is_goer (kind_of net u) ≡ false → u < n → IsMarked m u
+  pub merges : AllByRecursion (λ q. IsMergeMarked net n m (into u q net.chans)) (places_of p.takes)
+  pub target : IsPutMarked net u p.put n m
+
+-- there was nothing to take
+pub record IsEmptied (old new : Marks) : Type 0 where
+  pub same : new.marked ≡ old.marked
+  pub before : old.list.items ≡ []
+  pub none : new.list.items ≡ []
+
+-- a mark was taken, and so was the next number of the list
+pub record IsTaken (net : Net) (old new : Marks) (u : ℕ) : Type 0 where
+  pub long : length new.marked.items ≡ length old.marked.items
+  pub listed : IsListed net old → IsListed net new
+  pub left : (v : ℕ) → IsMarked old v → IsMarked new v ⊎ ((v ≡ u) × (is_lsq (kind_of net v) ≡ false))
+  pub fewer : length new.list.items + 1 ≡ length old.list.items
+
+-- the number of tokens of a channel is noted
+abbrev pub IsCounted : State → List ℕ → ℕ → Type 0
+IsCounted s lengths d = get_or lengths d 0 ≡ length (tokens_at s d)
+
+-- how many entries the queue of a unit has
+abbrev pub entries_at : State → ℕ → ℕ
+entries_at s u = length (get_or s.own u idle).queue.items
+
+-- ---- what is noted
+
+abbrev pub lists_of : List (Vec ℕ Global) → List (List ℕ)
+lists_of cells = map (λ (v : Vec ℕ Global). v.items) cells
+
+abbrev pub cells_of : Notes → List (List ℕ)
+cells_of n = lists_of n.coming.items
+
+-- the channels that are noted in a cell
+abbrev pub cell : Notes → ℕ → List ℕ
+cell n k = get_or (cells_of n) k []
+
+-- a channel is noted where the token that is put on it in the cycle c ripens later
+abbrev pub cells_with : Net → ℕ → ℕ → List (List ℕ) → List (List ℕ)
+cells_with net d c cells = cond (nat_lt 0 (chan_at net d).delay)
+    (set cells ((c + (chan_at net d).delay) % 1024) (get_or cells ((c + (chan_at net d).delay) % 1024) [] ++ d ∷ [])) cells
+
+-- the channels from which is taken
+abbrev pub taken_by : Net → ℕ → Takes → List ℕ
+taken_by net u takes = map (λ p. into u p net.chans) (places_of takes)
+
+-- the channels that a firing takes from or puts on are noted, and the latter for the cycle in which its token ripens
+pub record IsNoted (net : Net) (u : ℕ) (takes : Takes) (put : Option Put) (c : ℕ) (old new : Notes) : Type 0 where
+  pub cells : length new.coming.items ≡ length old.coming.items
+  pub moved : (d : ℕ) → Holds d old.moved.items → Holds d new.moved.items
+  pub taken : AllByRecursion (λ p. Holds (into u p net.chans) new.moved.items) (places_of takes)
+  pub put_on : IfSome put (λ w. Holds (out_of u w.place net.chans) new.moved.items)
+  pub kept : (k d : ℕ) → Holds d (cell old k) → Holds d (cell new k)
+  pub comes : IfSome put (λ w. 0 < (chan_at net (out_of u w.place net.chans)).delay
+      → Holds (out_of u w.place net.chans) (cell new ((c + (chan_at net (out_of u w.place net.chans)).delay) % 1024)))
