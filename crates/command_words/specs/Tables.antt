@@ -20,7 +20,7 @@ Text = List ℕ
 -- ---- what is built: the commands, and the options of each. The words of all others are no command.
 
 abbrev pub is_built : Verb → Bool
-is_built Compile = false
+is_built Compile = true
 is_built Go = true
 is_built Run = true
 is_built Replay = true
@@ -31,9 +31,9 @@ is_built Save = false
 is_built Resume = false
 
 abbrev pub built_choices : Verb → List Choice
-built_choices Compile = []
-built_choices Go = []
-built_choices Run = Limit ∷ Count ∷ Log ∷ []
+built_choices Compile = Delay ∷ Slots ∷ Forward ∷ Wrap ∷ []
+built_choices Go = Delay ∷ Slots ∷ Limit ∷ Count ∷ Cycles ∷ Forward ∷ Wrap ∷ []
+built_choices Run = Limit ∷ Count ∷ Cycles ∷ Log ∷ []
 built_choices Replay = []
 built_choices Bench = []
 built_choices Upgrade = []

@@ -186,9 +186,19 @@ pub fn built_choices(verb: Verb) -> &'static [Choice]
     ensures { result.now ≡ built_choices verb }
 {
     match verb {
-        Verb::Run => &[Choice::Limit, Choice::Count, Choice::Log],
+        Verb::Compile => &[Choice::Delay, Choice::Slots, Choice::Forward, Choice::Wrap],
+        Verb::Go => &[
+            Choice::Delay,
+            Choice::Slots,
+            Choice::Limit,
+            Choice::Count,
+            Choice::Cycles,
+            Choice::Forward,
+            Choice::Wrap,
+        ],
+        Verb::Run => &[Choice::Limit, Choice::Count, Choice::Cycles, Choice::Log],
         Verb::Ref => &[Choice::Wrap, Choice::Turns, Choice::Count],
-        Verb::Compile | Verb::Go | Verb::Replay | Verb::Bench => &[],
-        Verb::Upgrade | Verb::Save | Verb::Resume => &[],
+        Verb::Replay | Verb::Bench | Verb::Upgrade => &[],
+        Verb::Save | Verb::Resume => &[],
     }
 }

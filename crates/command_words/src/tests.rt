@@ -69,8 +69,8 @@ fn tells_tables(rt: HostRuntime) -> Result<(), Fail> {
     assert_eq!(rt; Verb::Bench.plain(), [PlainKind::Seed].as_slice());
     assert_eq!(rt; Choice::Count.kind(), ValueKind::Flag);
     assert_eq!(rt; Choice::Wrap.word(), "--wrap");
-    assert!(rt; !Choice::Count.is_own(Verb::Go));
-    assert!(rt; Choice::Count.is_own(Verb::Run));
+    assert!(rt; Choice::Delay.is_own(Verb::Go));
+    assert!(rt; !Choice::Workers.is_own(Verb::Run));
     assert_eq!(rt; choices(Verb::Save), [Choice::At].as_slice());
     assert!(rt; built_choices(Verb::Upgrade).is_empty());
     Ok(())

@@ -57,9 +57,9 @@ impl Verb {
         ensures { result ≡ is_built self }
     {
         match self {
-            Verb::Go | Verb::Run | Verb::Replay | Verb::Upgrade | Verb::Ref => true,
-            Verb::Compile | Verb::Bench => false,
-            Verb::Save | Verb::Resume => false,
+            Verb::Compile | Verb::Go | Verb::Run | Verb::Replay => true,
+            Verb::Upgrade | Verb::Ref => true,
+            Verb::Bench | Verb::Save | Verb::Resume => false,
         }
     }
 

@@ -1,6 +1,6 @@
 -- What a fault of making a text is, for the commands and for a call.
-use Rattle.std.proofs.Common.{◌≡◌, ◌<◌, zero, suc, refl, subst, sym, ap, arith, List, [], ◌∷◌, length, map, get_or}
-use Rattle.std.specs.Prelude.{ℕ, Result, Ok, Err}
+use Rattle.std.proofs.Common.{◌≡◌, ◌<◌, zero, suc, refl, subst, sym, ap, arith, List, [], ◌∷◌, length, get_or}
+use Rattle.std.specs.Prelude.{ℕ}
 use Rattle.std.specs.Borrow.{Bor}
 use Rattle.std.specs.declared.vec.Vec.{Vec}
 use Rattle.std.specs.declared.alloc.Global.{Global}
@@ -36,6 +36,13 @@ bytes_at-is (v ∷ contents) zero b within is = ap (λ (x : Vec ℕ Global). x.i
 bytes_at-is (v ∷ contents) (suc i) b within is = bytes_at-is contents i b (omega (arith, within)) is
 
 -- what holds of the words and the bytes that are taken holds of those at the places
+pub of_one : (Holds : Text → Text → Type 0) (words : List (Bor Text)) (contents : List (Vec ℕ Global)) (d : Bor Text) (a : Vec ℕ Global)
+    → length words ≡ 1 → length contents ≡ 1 → a ≡ get_or contents 0 a → Holds (get_or words 0 d).now a.items → Holds (at (word_texts words) 0) (at (contents_of contents) 0)
+of_one Holds words contents d a m n ia is =
+    let ev : at (word_texts words) 0 ≡ (get_or words 0 d).now = word_at words 0 d (omega (arith, m)) in
+    let ea : at (contents_of contents) 0 ≡ a.items = bytes_at-is contents 0 a (omega (arith, n)) ia in
+    subst (λ t. Holds t (at (contents_of contents) 0)) (sym ev) (subst (λ t. Holds (get_or words 0 d).now t) (sym ea) is)
+
 pub of_two : (Holds : Text → Text → Text → Text → Type 0) (words : List (Bor Text)) (contents : List (Vec ℕ Global)) (d e : Bor Text) (a b : Vec ℕ Global)
     → length words ≡ 2 → length contents ≡ 2 → a ≡ get_or contents 0 a → b ≡ get_or contents 1 b
     → Holds (get_or words 0 d).now (get_or words 1 e).now a.items b.items
@@ -74,6 +81,10 @@ of_three Holds words contents d e f a b c m n ia ib ic is =
     (subst (λ t. Holds u v w a.items b.items t) (sym ec) is)))))
 
 -- the same of the bytes alone
+pub bytes_of_one : (Holds : Text → Type 0) (contents : List (Vec ℕ Global)) (a : Vec ℕ Global)
+    → length contents ≡ 1 → a ≡ get_or contents 0 a → Holds a.items → Holds (at (contents_of contents) 0)
+bytes_of_one Holds contents a n ia is = subst Holds (sym (bytes_at-is contents 0 a (omega (arith, n)) ia)) is
+
 pub bytes_of_two : (Holds : Text → Text → Type 0) (contents : List (Vec ℕ Global)) (a b : Vec ℕ Global)
     → length contents ≡ 2 → a ≡ get_or contents 0 a → b ≡ get_or contents 1 b
     → Holds a.items b.items → Holds (at (contents_of contents) 0) (at (contents_of contents) 1)

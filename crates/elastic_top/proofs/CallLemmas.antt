@@ -1,6 +1,6 @@
 -- From the fault of a call to its status, its cause and its line.
-use Rattle.std.proofs.Common.{◌≡◌, ◌≢◌, ◌≤◌, ◌<◌, ℕ, List, [], ◌∷◌, ◌++◌, length, refl, sym, ◌∙◌, ap, subst, arith, Contains, Option, Some, None}
-use Rattle.std.specs.Prelude.{Result, Ok, Err, IsTrue, true, false}
+use Rattle.std.proofs.Common.{◌≡◌, ◌≢◌, ◌≤◌, ◌<◌, ℕ, List, [], ◌∷◌, ◌++◌, length, refl, sym, ◌∙◌, ap, subst, arith, Contains}
+use Rattle.std.specs.Prelude.{Err, IsTrue}
 use Rattle.std.proofs.lemmas.Bool.{false≢true}
 use Rattle.el_io.specs.Outside.{Told, IsHeld, IsWhole, MayPass, MayHold}
 use Rattle.command_words.specs.declared.verb.Verb.{Verb}
@@ -8,35 +8,41 @@ use Rattle.command_words.specs.declared.verb.Verb.TheVariants.{Compile, Go, Run,
 use Rattle.command_words.specs.Tables.{Text, is_built}
 use Rattle.command_words.specs.Commands.{Asked}
 use Rattle.command_words.specs.declared.command.Chosen.{Chosen}
-use Rattle.elastic_top.specs.Files.{Wanted, files_of}
-use Rattle.elastic_top.specs.Reading.{AreHeld, IsReached, IsUnread, IsTooLong}
+use Rattle.elastic_top.specs.Files.{Wanted}
+use Rattle.elastic_top.specs.Reading.{AreHeld}
 use Rattle.elastic_top.specs.Answers.{Answers, AnswersBy}
-use Rattle.elastic_top.specs.Faults.{refusal_code, fault_code, fault_line, unread_parts, write_line, memory_line}
+use Rattle.elastic_top.specs.Faults.{refusal_code, fault_code, fault_line, write_line, memory_line}
 use Rattle.elastic_top.specs.Statuses.{statuses, statuses_of}
 use Rattle.elastic_top.specs.Causes.{IsCauseOf, IsOwn, Unread, Writes, RefusesWith, AreKept, AreSound, TooLong as TooLongOf}
 use Rattle.elastic_top.specs.declared.fault.Fault.{Fault}
 use Rattle.elastic_top.specs.declared.fault.Fault.TheVariants.{Usage, Read, Write, Memory, TooLong, Refused}
 use Rattle.elastic_top.specs.declared.fault.Refusal.{Refusal}
-use Rattle.elastic_top.specs.declared.fault.Refusal.TheVariants.{StraightKernel, StraightInputs, Kernel, NetText, NetRule, Inputs, Schedule, NotEnabled, Limit, Stuck, Stray, Undefined, OutOfTurns}
+use Rattle.elastic_top.specs.declared.fault.Refusal.TheVariants.{Kernel, NetText, NetRule, Inputs, Schedule, NotEnabled, Limit, Stuck, Stray, Undefined, OutOfTurns}
 
 -- a command's own refusals have its statuses
 own : (v : Verb) (plain : List Text) (chosen : Chosen) (contents : List Text) (r : Refusal) → AnswersBy v plain chosen contents (Err r) → Contains (statuses_of v) (refusal_code r)
-own Compile plain chosen contents r a = absurd a
-own Go plain chosen contents (StraightKernel f) a = (3, omega arith, refl)
-own Go plain chosen contents (StraightInputs f) a = (4, omega arith, refl)
-own Go plain chosen contents (Kernel f x) a = absurd a
+own Compile plain chosen contents (Kernel f x) a = (3, omega arith, refl)
+own Compile plain chosen contents (NetText f x) a = absurd a
+own Compile plain chosen contents (NetRule f x) a = absurd a
+own Compile plain chosen contents (Inputs f x) a = absurd a
+own Compile plain chosen contents (Schedule f x) a = absurd a
+own Compile plain chosen contents (NotEnabled f i) a = absurd a
+own Compile plain chosen contents (Limit n) a = absurd a
+own Compile plain chosen contents Stuck a = absurd a
+own Compile plain chosen contents (Stray name) a = absurd a
+own Compile plain chosen contents (Undefined f place) a = absurd a
+own Compile plain chosen contents (OutOfTurns n) a = absurd a
+own Go plain chosen contents (Kernel f x) a = (3, omega arith, refl)
 own Go plain chosen contents (NetText f x) a = absurd a
 own Go plain chosen contents (NetRule f x) a = absurd a
-own Go plain chosen contents (Inputs f x) a = absurd a
+own Go plain chosen contents (Inputs f x) a = (4, omega arith, refl)
 own Go plain chosen contents (Schedule f x) a = absurd a
 own Go plain chosen contents (NotEnabled f i) a = absurd a
-own Go plain chosen contents (Limit n) a = absurd a
+own Go plain chosen contents (Limit n) a = (5, omega arith, refl)
 own Go plain chosen contents Stuck a = absurd a
-own Go plain chosen contents (Stray name) a = absurd a
+own Go plain chosen contents (Stray name) a = (6, omega arith, refl)
 own Go plain chosen contents (Undefined f place) a = absurd a
 own Go plain chosen contents (OutOfTurns n) a = absurd a
-own Run plain chosen contents (StraightKernel f) a = absurd a
-own Run plain chosen contents (StraightInputs f) a = absurd a
 own Run plain chosen contents (Kernel f x) a = absurd a
 own Run plain chosen contents (NetText f x) a = (3, omega arith, refl)
 own Run plain chosen contents (NetRule f x) a = (3, omega arith, refl)
@@ -48,8 +54,6 @@ own Run plain chosen contents Stuck a = (6, omega arith, refl)
 own Run plain chosen contents (Stray name) a = (7, omega arith, refl)
 own Run plain chosen contents (Undefined f place) a = absurd a
 own Run plain chosen contents (OutOfTurns n) a = absurd a
-own Replay plain chosen contents (StraightKernel f) a = absurd a
-own Replay plain chosen contents (StraightInputs f) a = absurd a
 own Replay plain chosen contents (Kernel f x) a = absurd a
 own Replay plain chosen contents (NetText f x) a = (3, omega arith, refl)
 own Replay plain chosen contents (NetRule f x) a = (3, omega arith, refl)
@@ -62,8 +66,6 @@ own Replay plain chosen contents (Stray name) a = (7, omega arith, refl)
 own Replay plain chosen contents (Undefined f place) a = absurd a
 own Replay plain chosen contents (OutOfTurns n) a = absurd a
 own Bench plain chosen contents r a = absurd a
-own Upgrade plain chosen contents (StraightKernel f) a = absurd a
-own Upgrade plain chosen contents (StraightInputs f) a = absurd a
 own Upgrade plain chosen contents (Kernel f x) a = absurd a
 own Upgrade plain chosen contents (NetText f x) a = (3, omega arith, refl)
 own Upgrade plain chosen contents (NetRule f x) a = (3, omega arith, refl)
@@ -75,8 +77,6 @@ own Upgrade plain chosen contents Stuck a = absurd a
 own Upgrade plain chosen contents (Stray name) a = absurd a
 own Upgrade plain chosen contents (Undefined f place) a = absurd a
 own Upgrade plain chosen contents (OutOfTurns n) a = absurd a
-own Ref plain chosen contents (StraightKernel f) a = absurd a
-own Ref plain chosen contents (StraightInputs f) a = absurd a
 own Ref plain chosen contents (Kernel f x) a = (3, omega arith, refl)
 own Ref plain chosen contents (NetText f x) a = absurd a
 own Ref plain chosen contents (NetRule f x) a = absurd a
@@ -93,8 +93,6 @@ own Resume plain chosen contents r a = absurd a
 
 -- each fault has one of the statuses
 refusal_status : (r : Refusal) → Contains statuses (refusal_code r)
-refusal_status (StraightKernel f) = (4, omega arith, refl)
-refusal_status (StraightInputs f) = (6, omega arith, refl)
 refusal_status (Kernel f x) = (4, omega arith, refl)
 refusal_status (NetText f x) = (5, omega arith, refl)
 refusal_status (NetRule f x) = (5, omega arith, refl)
@@ -124,8 +122,6 @@ record IsInside (code : ℕ) : Type 0 where
   pub long : code ≢ 12
 
 inside : (r : Refusal) → IsInside (refusal_code r)
-inside (StraightKernel f) = record { spelled = λ e. absurd (omega (arith, e)); unread = λ e. absurd (omega (arith, e)); unwritten = λ e. absurd (omega (arith, e)); memory = λ e. absurd (omega (arith, e)); long = λ e. absurd (omega (arith, e)) }
-inside (StraightInputs f) = record { spelled = λ e. absurd (omega (arith, e)); unread = λ e. absurd (omega (arith, e)); unwritten = λ e. absurd (omega (arith, e)); memory = λ e. absurd (omega (arith, e)); long = λ e. absurd (omega (arith, e)) }
 inside (Kernel f x) = record { spelled = λ e. absurd (omega (arith, e)); unread = λ e. absurd (omega (arith, e)); unwritten = λ e. absurd (omega (arith, e)); memory = λ e. absurd (omega (arith, e)); long = λ e. absurd (omega (arith, e)) }
 inside (NetText f x) = record { spelled = λ e. absurd (omega (arith, e)); unread = λ e. absurd (omega (arith, e)); unwritten = λ e. absurd (omega (arith, e)); memory = λ e. absurd (omega (arith, e)); long = λ e. absurd (omega (arith, e)) }
 inside (NetRule f x) = record { spelled = λ e. absurd (omega (arith, e)); unread = λ e. absurd (omega (arith, e)); unwritten = λ e. absurd (omega (arith, e)); memory = λ e. absurd (omega (arith, e)); long = λ e. absurd (omega (arith, e)) }
@@ -147,8 +143,8 @@ pub record HasOutside (list : List ℕ) : Type 0 where
   pub long : Contains list 12
 
 pub outside : (v : Verb) → IsTrue (is_built v) → HasOutside (statuses_of v)
-outside Compile b = absurd (false≢true b)
-outside Go b = record { done = (0, omega arith, refl); unread = (1, omega arith, refl); unwritten = (2, omega arith, refl); memory = (5, omega arith, refl); long = (6, omega arith, refl) }
+outside Compile b = record { done = (0, omega arith, refl); unread = (1, omega arith, refl); unwritten = (2, omega arith, refl); memory = (4, omega arith, refl); long = (5, omega arith, refl) }
+outside Go b = record { done = (0, omega arith, refl); unread = (1, omega arith, refl); unwritten = (2, omega arith, refl); memory = (7, omega arith, refl); long = (8, omega arith, refl) }
 outside Run b = record { done = (0, omega arith, refl); unread = (1, omega arith, refl); unwritten = (2, omega arith, refl); memory = (8, omega arith, refl); long = (9, omega arith, refl) }
 outside Replay b = record { done = (0, omega arith, refl); unread = (1, omega arith, refl); unwritten = (2, omega arith, refl); memory = (8, omega arith, refl); long = (9, omega arith, refl) }
 outside Bench b = absurd (false≢true b)

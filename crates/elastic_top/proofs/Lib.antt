@@ -3,5 +3,6 @@ pub mod CallLemmas
 pub mod Cuts
 pub mod PieceLemmas
 pub mod PlanLemmas
+pub mod RangeLemmas
 pub mod ReadingLemmas
-pub mod LimitLemmas
+pub mod SoundLemmas

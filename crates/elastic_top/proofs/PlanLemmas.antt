@@ -1,15 +1,15 @@
 -- The files of a command, taken one by one; and what is known of their contents.
-use Rattle.std.proofs.Common.{◌≡◌, ℕ, ◌+◌, ◌<◌, ◌≤◌, List, [], ◌∷◌, ◌++◌, length, take, map, get_or, refl, sym, ◌∙◌, ap, ap₂, subst, arith, length-append}
+use Rattle.std.proofs.Common.{◌≡◌, ℕ, ◌+◌, ◌<◌, ◌≤◌, List, [], ◌∷◌, ◌++◌, length, take, get_or, refl, sym, ◌∙◌, ap, ap₂, subst, arith}
 use Rattle.std.specs.Borrow.{Bor}
 use Rattle.std.specs.declared.vec.Vec.{Vec}
 use Rattle.std.specs.declared.alloc.Global.{Global}
 use Rattle.std.proofs.lemmas.List.{take_more, map-append, length-take-le}
-use Rattle.el_io.specs.Outside.{Told, IsWhole}
+use Rattle.el_io.specs.Outside.{Told}
 use Rattle.command_words.specs.declared.verb.PlainKind.{PlainKind}
 use Rattle.command_words.specs.declared.verb.PlainKind.TheVariants.{File, Seed}
 use Rattle.command_words.specs.Tables.{Text}
 use Rattle.command_words.specs.Commands.{word_texts}
-use Rattle.elastic_top.specs.Files.{Wanted, wanted, limits_of, AreWithin}
+use Rattle.elastic_top.specs.Files.{wanted, limits_of, AreWithin}
 use Rattle.elastic_top.specs.Reading.{AreHeld, contents_of}
 
 wanted-append : (ks ls : List PlainKind) (ws vs : List Text) → length ws ≡ length ks → wanted (ks ++ ls) (ws ++ vs) ≡ wanted ks ws ++ wanted ls vs

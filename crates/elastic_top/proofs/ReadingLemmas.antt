@@ -1,16 +1,16 @@
 -- Files that are read in order.
-use Rattle.std.proofs.Common.{◌≡◌, ℕ, suc, ◌+◌, ◌<◌, List, [], ◌∷◌, ◌++◌, length, take, drop, map, get_or, refl, sym, ◌∙◌, ap, subst, arith}
+use Rattle.std.proofs.Common.{◌≡◌, ℕ, suc, ◌+◌, ◌<◌, List, [], ◌∷◌, ◌++◌, length, take, drop, map, get_or, sym, ◌∙◌, ap, subst}
 use Rattle.std.specs.declared.vec.Vec.{Vec}
 use Rattle.std.specs.declared.alloc.Global.{Global}
 use Rattle.std.proofs.lemmas.List.{take_more, map-append, take-append-drop}
 use Rattle.std.proofs.Math.Seq.{drop-cons}
-use Rattle.el_io.specs.Outside.{Told, IsHeld, IsWhole, MayPass}
+use Rattle.el_io.specs.Outside.{Told, IsWhole, MayPass}
 use Rattle.command_words.specs.Tables.{Text}
 use Rattle.elastic_top.specs.Files.{Wanted}
 use Rattle.elastic_top.specs.declared.reading.File.{File}
 use Rattle.elastic_top.specs.declared.fault.Fault.{Fault}
 use Rattle.elastic_top.specs.declared.fault.Fault.TheVariants.{Usage, Read, Write, Memory, TooLong, Refused}
-use Rattle.elastic_top.specs.Reading.{contents_of, file_of, AreHeld, IsReached, IsUnread, IsTooLong, EndsReading, IsFileFault}
+use Rattle.elastic_top.specs.Reading.{contents_of, file_of, AreHeld, IsReached, EndsReading, IsFileFault}
 
 held_on : (holds : Text → Told) (files : List Wanted) (contents : List Text) (file : Wanted) (bytes : Text) → AreHeld holds files contents
     → IsWhole (holds file.name) file.limit bytes → AreHeld holds (files ++ file ∷ []) (contents ++ bytes ∷ [])

@@ -1,5 +1,5 @@
 -- What each command answers for the contents of its files.
-use Rattle.std.specs.Prelude.{◌≡◌, ◌≢◌, ◌≤◌, ℕ, List, [], get_or, Bool, true, false, Option, Some, None, Result, Ok, Err}
+use Rattle.std.specs.Prelude.{◌≡◌, ℕ, List, [], get_or, Result, Ok, Err}
 use Rattle.net_types.specs.declared.net.Net.{Net}
 use Rattle.net_text.specs.declared.refusal.TextRefusal.{TextRefusal}
 use Rattle.net_text.specs.declared.refusal.TextRefusal.TheVariants as text
@@ -9,51 +9,30 @@ use Rattle.net_check.specs.declared.refusal.NetRefusal.{NetRefusal}
 use Rattle.net_check.specs.declared.refusal.NetRefusal.TheVariants as rule
 use Rattle.net_check.specs.Checks.{IsChecked}
 use Rattle.net_check.specs.Refusals.{RefusalHolds}
-use Rattle.straight_path.specs.Answers.{IsAnswer, SpellsNothing, SpellsNoInputs}
 use Rattle.command_words.specs.declared.verb.Verb.{Verb}
 use Rattle.command_words.specs.declared.verb.Verb.TheVariants.{Compile, Go, Run, Replay, Bench, Upgrade, Ref, Save, Resume}
 use Rattle.command_words.specs.Tables.{Text}
 use Rattle.command_words.specs.Commands.{Asked}
 use Rattle.command_words.specs.declared.command.Chosen.{Chosen}
-use Rattle.el_base.specs.Limits.{max_firings}
 use Rattle.net_runs.specs.declared.options.RunOptions.{RunOptions}
-use Rattle.net_runs.specs.declared.options.TheConstants.{DEFAULT_FIRINGS}
 use Rattle.net_runs.specs.declared.refusal.RunRefusal.TheVariants as run
 use Rattle.net_runs.specs.Runs.{Runs}
 use Rattle.net_runs.specs.Replays.{Replays}
 use Rattle.c_ast.specs.declared.typed.Typed.{Typed}
-use Rattle.c_meaning.specs.declared.profile.Profile.{Profile}
-use Rattle.c_meaning.specs.declared.profile.Profile.TheVariants.{Plain, Wrap}
 use Rattle.kernel_front.specs.declared.reading.Kernel.{Kernel as ReadKernel}
-use Rattle.kernel_front.specs.declared.refusal.KernelRefusal.{KernelRefusal}
-use Rattle.kernel_front.specs.declared.refusal.KernelRefusal.TheVariants as front
-use Rattle.kernel_front.specs.Answers.{IsKernel, IsLexed, IsParsed, IsTyped}
+use Rattle.kernel_front.specs.Answers.{IsKernel}
+use Rattle.kernel_runs.specs.declared.options.CircuitOptions.{CircuitOptions}
+use Rattle.kernel_runs.specs.declared.refusal.GoRefusal.TheVariants as go
+use Rattle.kernel_runs.specs.Circuits.{Compiles, IsNoKernel}
+use Rattle.kernel_runs.specs.Goes.{Goes}
 use Rattle.kernel_ref.specs.declared.options.InterpretOptions.{InterpretOptions}
-use Rattle.kernel_ref.specs.declared.options.TheConstants.{DEFAULT_TURNS}
 use Rattle.kernel_ref.specs.declared.refusal.InterpretRefusal.TheVariants as interpret
 use Rattle.kernel_ref.specs.Answers.{Interprets}
+use Rattle.elastic_top.specs.Options.{circuit_of, options_of, interpretation_of}
 use Rattle.elastic_top.specs.declared.fault.Fault.{Fault}
 use Rattle.elastic_top.specs.declared.fault.Fault.TheVariants.{Usage, Read, Write, Memory, TooLong, Refused}
 use Rattle.elastic_top.specs.declared.fault.Refusal.{Refusal}
-use Rattle.elastic_top.specs.declared.fault.Refusal.TheVariants.{StraightKernel, StraightInputs, Kernel, NetText, NetRule, Inputs, Schedule, NotEnabled, Limit, Stuck, Stray, Undefined, OutOfTurns}
-
--- ---- go: the net of the kernel, the line `%%` and the result
-
-abbrev pub Goes : Text → Text → Text → Text → Result Text Refusal → Type 0
-Goes kernel inputs kernel_bytes input_bytes (Ok text) = IsAnswer kernel_bytes input_bytes text
-Goes kernel inputs kernel_bytes input_bytes (Err (StraightKernel file)) = (file.now ≡ kernel) × SpellsNothing kernel_bytes
-Goes kernel inputs kernel_bytes input_bytes (Err (StraightInputs file)) = (file.now ≡ inputs) × SpellsNoInputs kernel_bytes input_bytes
-Goes kernel inputs kernel_bytes input_bytes (Err (Kernel f r)) = ⊥
-Goes kernel inputs kernel_bytes input_bytes (Err (NetText file r)) = ⊥
-Goes kernel inputs kernel_bytes input_bytes (Err (NetRule file r)) = ⊥
-Goes kernel inputs kernel_bytes input_bytes (Err (Inputs f r)) = ⊥
-Goes kernel inputs kernel_bytes input_bytes (Err (Schedule f r)) = ⊥
-Goes kernel inputs kernel_bytes input_bytes (Err (NotEnabled f i)) = ⊥
-Goes kernel inputs kernel_bytes input_bytes (Err (Limit n)) = ⊥
-Goes kernel inputs kernel_bytes input_bytes (Err Stuck) = ⊥
-Goes kernel inputs kernel_bytes input_bytes (Err (Stray name)) = ⊥
-Goes kernel inputs kernel_bytes input_bytes (Err (Undefined f place)) = ⊥
-Goes kernel inputs kernel_bytes input_bytes (Err (OutOfTurns n)) = ⊥
+use Rattle.elastic_top.specs.declared.fault.Refusal.TheVariants.{Kernel, NetText, NetRule, Inputs, Schedule, NotEnabled, Limit, Stuck, Stray, Undefined, OutOfTurns}
 
 -- ---- upgrade: the text in version 2 of a checked net
 
@@ -80,8 +59,6 @@ IsNetFault file bytes (Read name) = ⊥
 IsNetFault file bytes Write = ⊥
 IsNetFault file bytes Memory = Unit {0}
 IsNetFault file bytes (TooLong name) = ⊥
-IsNetFault file bytes (Refused (StraightKernel f)) = ⊥
-IsNetFault file bytes (Refused (StraightInputs f)) = ⊥
 IsNetFault file bytes (Refused (Kernel f r)) = ⊥
 IsNetFault file bytes (Refused (NetText f r)) = (f.now ≡ file) × IsNoNet bytes r
 IsNetFault file bytes (Refused (NetRule f r)) = (f.now ≡ file) × IsUnchecked bytes r
@@ -103,8 +80,6 @@ pub record IsUpgraded (bytes upgraded : Text) : Type 0 where
 
 abbrev pub Upgrades : Text → Text → Result Text Refusal → Type 0
 Upgrades file bytes (Ok text) = IsUpgraded bytes text
-Upgrades file bytes (Err (StraightKernel f)) = ⊥
-Upgrades file bytes (Err (StraightInputs f)) = ⊥
 Upgrades file bytes (Err (Kernel f r)) = ⊥
 Upgrades file bytes (Err (NetText f r)) = (f.now ≡ file) × IsNoNet bytes r
 Upgrades file bytes (Err (NetRule f r)) = (f.now ≡ file) × IsUnchecked bytes r
@@ -126,22 +101,8 @@ pub record OfNet (bytes : Text) (Holds : Net → Type 0) : Type 0 where
   pub checked : IsChecked net
   pub holds : Holds net
 
--- the limit that is asked for, or the usual one
-abbrev pub limit_or : Option ℕ → ℕ
-limit_or None = DEFAULT_FIRINGS
-limit_or (Some n) = n
-
-abbrev pub options_of : Chosen → RunOptions
-options_of c = record { limit = limit_or c.limit; count = c.count; log = c.log }
-
--- a limit that a run may have
-abbrev pub HasLimit : Chosen → Type 0
-HasLimit c = limit_or c.limit ≤ max_firings
-
 abbrev pub RunsNet : Text → Text → RunOptions → Text → Text → Result Text Refusal → Type 0
 RunsNet netlist inputs o net_bytes input_bytes (Ok text) = OfNet net_bytes (λ net. Runs net input_bytes o (Ok text))
-RunsNet netlist inputs o net_bytes input_bytes (Err (StraightKernel f)) = ⊥
-RunsNet netlist inputs o net_bytes input_bytes (Err (StraightInputs f)) = ⊥
 RunsNet netlist inputs o net_bytes input_bytes (Err (Kernel f r)) = ⊥
 RunsNet netlist inputs o net_bytes input_bytes (Err (NetText f r)) = (f.now ≡ netlist) × IsNoNet net_bytes r
 RunsNet netlist inputs o net_bytes input_bytes (Err (NetRule f r)) = (f.now ≡ netlist) × IsUnchecked net_bytes r
@@ -156,8 +117,6 @@ RunsNet netlist inputs o net_bytes input_bytes (Err (OutOfTurns n)) = ⊥
 
 abbrev pub ReplaysNet : Text → Text → Text → Text → Text → Text → Result Text Refusal → Type 0
 ReplaysNet netlist inputs schedule net_bytes input_bytes bytes (Ok text) = OfNet net_bytes (λ net. Replays net input_bytes bytes (Ok text))
-ReplaysNet netlist inputs schedule net_bytes input_bytes bytes (Err (StraightKernel f)) = ⊥
-ReplaysNet netlist inputs schedule net_bytes input_bytes bytes (Err (StraightInputs f)) = ⊥
 ReplaysNet netlist inputs schedule net_bytes input_bytes bytes (Err (Kernel f r)) = ⊥
 ReplaysNet netlist inputs schedule net_bytes input_bytes bytes (Err (NetText f r)) = (f.now ≡ netlist) × IsNoNet net_bytes r
 ReplaysNet netlist inputs schedule net_bytes input_bytes bytes (Err (NetRule f r)) = (f.now ≡ netlist) × IsUnchecked net_bytes r
@@ -172,30 +131,25 @@ ReplaysNet netlist inputs schedule net_bytes input_bytes bytes (Err (OutOfTurns 
 
 -- ---- ref: the results of the kernel, run by the plain interpreter
 
-abbrev pub profile_of : Bool → Profile
-profile_of true = Wrap
-profile_of false = Plain
-
--- the number of turns that is asked for, or the usual one
-abbrev pub turns_or : Option ℕ → ℕ
-turns_or None = DEFAULT_TURNS
-turns_or (Some n) = n
-
-abbrev pub interpretation_of : Chosen → InterpretOptions
-interpretation_of c = record { profile = profile_of c.wrap; turns = turns_or c.turns; count = c.count }
-
 -- the bytes are a kernel, of whose typed tree that holds
 pub record OfKernel (bytes : Text) (Holds : Typed → Type 0) : Type 0 where
   pub kernel : ReadKernel
   pub read : IsKernel bytes kernel
   pub holds : Holds kernel.typed
 
--- the bytes are no kernel, as the refusal says
-abbrev pub IsNoKernel : Text → KernelRefusal → Type 0
-IsNoKernel bytes (front.Lex r) = IsLexed bytes r
-IsNoKernel bytes (front.Parse r) = IsParsed bytes r
-IsNoKernel bytes (front.Types r) = IsTyped bytes r
-IsNoKernel bytes front.Memory = ⊥
+-- a refusal of a kernel file
+abbrev pub IsKernelRefusal : Text → Text → Refusal → Type 0
+IsKernelRefusal file bytes (Kernel f r) = (f.now ≡ file) × IsNoKernel bytes r
+IsKernelRefusal file bytes (NetText f r) = ⊥
+IsKernelRefusal file bytes (NetRule f r) = ⊥
+IsKernelRefusal file bytes (Inputs f r) = ⊥
+IsKernelRefusal file bytes (Schedule f r) = ⊥
+IsKernelRefusal file bytes (NotEnabled f i) = ⊥
+IsKernelRefusal file bytes (Limit n) = ⊥
+IsKernelRefusal file bytes Stuck = ⊥
+IsKernelRefusal file bytes (Stray name) = ⊥
+IsKernelRefusal file bytes (Undefined f place) = ⊥
+IsKernelRefusal file bytes (OutOfTurns n) = ⊥
 
 -- a refusal of a kernel file, or want of memory
 abbrev pub IsKernelFault : Text → Text → Fault → Type 0
@@ -204,24 +158,10 @@ IsKernelFault file bytes (Read name) = ⊥
 IsKernelFault file bytes Write = ⊥
 IsKernelFault file bytes Memory = Unit {0}
 IsKernelFault file bytes (TooLong name) = ⊥
-IsKernelFault file bytes (Refused (StraightKernel f)) = ⊥
-IsKernelFault file bytes (Refused (StraightInputs f)) = ⊥
-IsKernelFault file bytes (Refused (Kernel f r)) = (f.now ≡ file) × IsNoKernel bytes r
-IsKernelFault file bytes (Refused (NetText f r)) = ⊥
-IsKernelFault file bytes (Refused (NetRule f r)) = ⊥
-IsKernelFault file bytes (Refused (Inputs f r)) = ⊥
-IsKernelFault file bytes (Refused (Schedule f r)) = ⊥
-IsKernelFault file bytes (Refused (NotEnabled f i)) = ⊥
-IsKernelFault file bytes (Refused (Limit n)) = ⊥
-IsKernelFault file bytes (Refused Stuck) = ⊥
-IsKernelFault file bytes (Refused (Stray name)) = ⊥
-IsKernelFault file bytes (Refused (Undefined f place)) = ⊥
-IsKernelFault file bytes (Refused (OutOfTurns n)) = ⊥
+IsKernelFault file bytes (Refused r) = IsKernelRefusal file bytes r
 
 abbrev pub InterpretsKernel : Text → Text → InterpretOptions → Text → Text → Result Text Refusal → Type 0
 InterpretsKernel kernel inputs o kernel_bytes input_bytes (Ok text) = OfKernel kernel_bytes (λ k. Interprets k input_bytes o (Ok text))
-InterpretsKernel kernel inputs o kernel_bytes input_bytes (Err (StraightKernel f)) = ⊥
-InterpretsKernel kernel inputs o kernel_bytes input_bytes (Err (StraightInputs f)) = ⊥
 InterpretsKernel kernel inputs o kernel_bytes input_bytes (Err (Kernel f r)) = (f.now ≡ kernel) × IsNoKernel kernel_bytes r
 InterpretsKernel kernel inputs o kernel_bytes input_bytes (Err (NetText f r)) = ⊥
 InterpretsKernel kernel inputs o kernel_bytes input_bytes (Err (NetRule f r)) = ⊥
@@ -234,6 +174,26 @@ InterpretsKernel kernel inputs o kernel_bytes input_bytes (Err (Stray name)) = �
 InterpretsKernel kernel inputs o kernel_bytes input_bytes (Err (Undefined f place)) = (f.now ≡ kernel) × OfKernel kernel_bytes (λ k. Interprets k input_bytes o (Err (interpret.Undefined place)))
 InterpretsKernel kernel inputs o kernel_bytes input_bytes (Err (OutOfTurns n)) = OfKernel kernel_bytes (λ k. Interprets k input_bytes o (Err (interpret.OutOfTurns n)))
 
+-- ---- compile and go: the circuit of the kernel, and a run of it
+
+abbrev pub CompilesKernel : Text → CircuitOptions → Text → Result Text Refusal → Type 0
+CompilesKernel kernel c bytes (Ok text) = Compiles bytes c (Ok text)
+CompilesKernel kernel c bytes (Err r) = IsKernelRefusal kernel bytes r
+
+abbrev pub GoesKernel : Text → Text → CircuitOptions → RunOptions → Text → Text → Result Text Refusal → Type 0
+GoesKernel kernel inputs c o kernel_bytes input_bytes (Ok text) = Goes kernel_bytes input_bytes c o (Ok text)
+GoesKernel kernel inputs c o kernel_bytes input_bytes (Err (Kernel f r)) = (f.now ≡ kernel) × IsNoKernel kernel_bytes r
+GoesKernel kernel inputs c o kernel_bytes input_bytes (Err (NetText f r)) = ⊥
+GoesKernel kernel inputs c o kernel_bytes input_bytes (Err (NetRule f r)) = ⊥
+GoesKernel kernel inputs c o kernel_bytes input_bytes (Err (Inputs f r)) = (f.now ≡ inputs) × Goes kernel_bytes input_bytes c o (Err (go.Inputs r))
+GoesKernel kernel inputs c o kernel_bytes input_bytes (Err (Schedule f r)) = ⊥
+GoesKernel kernel inputs c o kernel_bytes input_bytes (Err (NotEnabled f i)) = ⊥
+GoesKernel kernel inputs c o kernel_bytes input_bytes (Err (Limit n)) = Goes kernel_bytes input_bytes c o (Err (go.Limit n))
+GoesKernel kernel inputs c o kernel_bytes input_bytes (Err Stuck) = ⊥
+GoesKernel kernel inputs c o kernel_bytes input_bytes (Err (Stray name)) = Goes kernel_bytes input_bytes c o (Err (go.Stray name))
+GoesKernel kernel inputs c o kernel_bytes input_bytes (Err (Undefined f place)) = ⊥
+GoesKernel kernel inputs c o kernel_bytes input_bytes (Err (OutOfTurns n)) = ⊥
+
 -- ---- all commands
 
 -- the text at a place of a list
@@ -242,8 +202,8 @@ at texts i = get_or texts i []
 
 -- what a command answers for the contents of its files: one line a command
 abbrev pub AnswersBy : Verb → List Text → Chosen → List Text → Result Text Refusal → Type 0
-AnswersBy Compile plain chosen contents answer = ⊥
-AnswersBy Go plain chosen contents answer = Goes (at plain 0) (at plain 1) (at contents 0) (at contents 1) answer
+AnswersBy Compile plain chosen contents answer = CompilesKernel (at plain 0) (circuit_of chosen) (at contents 0) answer
+AnswersBy Go plain chosen contents answer = GoesKernel (at plain 0) (at plain 1) (circuit_of chosen) (options_of chosen) (at contents 0) (at contents 1) answer
 AnswersBy Run plain chosen contents answer = RunsNet (at plain 0) (at plain 1) (options_of chosen) (at contents 0) (at contents 1) answer
 AnswersBy Replay plain chosen contents answer = ReplaysNet (at plain 0) (at plain 1) (at plain 2) (at contents 0) (at contents 1) (at contents 2) answer
 AnswersBy Bench plain chosen contents answer = ⊥

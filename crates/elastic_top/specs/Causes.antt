@@ -1,5 +1,5 @@
 -- Why a call ended as it did.
-use Rattle.std.specs.Prelude.{◌≡◌, ◌≢◌, ◌≤◌, ℕ, List, [], ◌∷◌, length, Result, Ok, Err}
+use Rattle.std.specs.Prelude.{◌≡◌, ◌≢◌, ◌≤◌, ℕ, List, [], ◌∷◌, length, Ok, Err}
 use Rattle.std.specs.List.{concat}
 use Rattle.el_io.specs.Outside.{Told, IsHeld}
 use Rattle.command_words.specs.Tables.{Text}

@@ -15,14 +15,12 @@ use Rattle.net_check.specs.declared.refusal.At.TheVariants as at
 use Rattle.elastic_top.specs.declared.fault.Fault.{Fault}
 use Rattle.elastic_top.specs.declared.fault.Fault.TheVariants.{Usage, Read, Write, Memory, TooLong, Refused}
 use Rattle.elastic_top.specs.declared.fault.Refusal.{Refusal}
-use Rattle.elastic_top.specs.declared.fault.Refusal.TheVariants.{StraightKernel, StraightInputs, Kernel, NetText, NetRule, Inputs, Schedule, NotEnabled, Limit, Stuck, Stray, Undefined, OutOfTurns}
+use Rattle.elastic_top.specs.declared.fault.Refusal.TheVariants.{Kernel, NetText, NetRule, Inputs, Schedule, NotEnabled, Limit, Stuck, Stray, Undefined, OutOfTurns}
 
 -- ---- refusals
 
 -- the status of a refusal
 abbrev pub refusal_code : Refusal → ℕ
-refusal_code (StraightKernel file) = 4
-refusal_code (StraightInputs file) = 6
 refusal_code (Kernel file r) = 4
 refusal_code (NetText file r) = 5
 refusal_code (NetRule file r) = 5
@@ -65,8 +63,6 @@ place_parts file label (Some at.Net) = file ∷ codes ": " ∷ label ∷ codes "
 
 -- the line of a refusal in parts, with the line feed; a file is named by the word that named it
 abbrev pub refusal_parts : Refusal → List (List ℕ)
-refusal_parts (StraightKernel file) = file.now ∷ codes ": 19 NotYet\n" ∷ []
-refusal_parts (StraightInputs file) = file.now ∷ codes ": 59 NotYet\n" ∷ []
 refusal_parts (Kernel file r) = span_parts file.now (kernel_label r) (kernel_span r)
 refusal_parts (NetText file r) = line_parts file.now (text_label r) (text_line r)
 refusal_parts (NetRule file r) = place_parts file.now (rule_label r) (rule_at r)

@@ -2,6 +2,8 @@ pub mod Answers
 pub mod Causes
 pub mod Faults
 pub mod Files
+pub mod Laws
 pub mod Lines
+pub mod Options
 pub mod Reading
 pub mod Statuses

@@ -5,7 +5,7 @@ use Rattle.command_words.specs.declared.verb.Verb.TheVariants.{Compile, Go, Run,
 
 abbrev pub statuses_of : Verb → List ℕ
 statuses_of Compile = 0 ∷ 2 ∷ 3 ∷ 4 ∷ 11 ∷ 12 ∷ []
-statuses_of Go = 0 ∷ 2 ∷ 3 ∷ 4 ∷ 6 ∷ 11 ∷ 12 ∷ []
+statuses_of Go = 0 ∷ 2 ∷ 3 ∷ 4 ∷ 6 ∷ 8 ∷ 10 ∷ 11 ∷ 12 ∷ []
 statuses_of Run = 0 ∷ 2 ∷ 3 ∷ 5 ∷ 6 ∷ 8 ∷ 9 ∷ 10 ∷ 11 ∷ 12 ∷ []
 statuses_of Replay = 0 ∷ 2 ∷ 3 ∷ 5 ∷ 6 ∷ 7 ∷ 9 ∷ 10 ∷ 11 ∷ 12 ∷ []
 statuses_of Bench = 0 ∷ 3 ∷ 11 ∷ []

@@ -5,8 +5,8 @@ ghost use Rattle.el_io.specs.Outside.{Rose, IsCut};
 ghost use Rattle.command_words.specs.Tables.{is_built, plain_of};
 ghost use Rattle.command_words.specs.Commands as commands;
 ghost use Rattle.command_words.specs.Commands.{texts, asked, Asked};
-ghost use Rattle.elastic_top.specs.Answers.{HasLimit};
 ghost use Rattle.elastic_top.specs.Files.{files_of as wanted_of};
+ghost use Rattle.elastic_top.specs.Options.{IsWithin};
 ghost use Rattle.elastic_top.specs.Reading.{code_of, file_of};
 ghost use Rattle.elastic_top.specs.Faults.{IsTold, usage_line, write_line, memory_line};
 ghost use Rattle.elastic_top.specs.Statuses.{statuses, statuses_of};
@@ -116,7 +116,7 @@ fn run_command<'a, F: Files, O: Sink>(
 ) -> Result<(), Fault<'a>>
     requires built { IsTrue (is_built command.now.verb) }
     requires plain { length command.now.plain.items ≡ length (plain_of command.now.verb) }
-    requires limit { HasLimit command.now.chosen }
+    requires chosen { IsWithin command.now.chosen }
     ensures done { OnOk result (Writes (F.holds files.old) (asked command.now)
         (λ text. O.written out.new ≡ append_known (O.written out.old) text)) }
     ensures failed { code_of result ≡ 2 → Rose (F.faults files.old) (F.faults files.new) }
@@ -145,7 +145,7 @@ fn run_files<'a, F: Files, O: Sink>(
 ) -> Result<(), Fault<'a>>
     requires built { IsTrue (is_built command.now.verb) }
     requires plain { length command.now.plain.items ≡ length (plain_of command.now.verb) }
-    requires limit { HasLimit command.now.chosen }
+    requires chosen { IsWithin command.now.chosen }
     requires plan { map file_of plan.now ≡ wanted_of (asked command.now) }
     ensures done { OnOk result (Writes (F.holds files.old) (asked command.now)
         (λ text. O.written out.new ≡ append_known (O.written out.old) text)) }

@@ -21,10 +21,6 @@ use net_text::TextRefusal;
 /// Why a command has no text for the contents of its files; a file is named by its word.
 #[derive(Debug, Drop)]
 pub enum Refusal<'a> {
-    /// The bytes of this file have not the form of a straight kernel.
-    StraightKernel(&'a str),
-    /// The bytes of this file have not the form of the straight kernel's inputs.
-    StraightInputs(&'a str),
     /// The bytes of this file are no kernel.
     Kernel(&'a str, KernelRefusal),
     /// The bytes of this file are no net text.
@@ -54,9 +50,9 @@ impl<'a> Refusal<'a> {
         ensures { result ≡ refusal_code self.now }
     {
         match self {
-            Refusal::StraightKernel(_) | Refusal::Kernel(_, _) => 4,
+            Refusal::Kernel(_, _) => 4,
             Refusal::NetText(_, _) | Refusal::NetRule(_, _) => 5,
-            Refusal::StraightInputs(_) | Refusal::Inputs(_, _) => 6,
+            Refusal::Inputs(_, _) => 6,
             Refusal::Schedule(_, _) | Refusal::NotEnabled(_, _) => 7,
             Refusal::Limit(_) => 8,
             Refusal::Stuck => 9,
@@ -134,14 +130,6 @@ fn tell_refusal<E: Sink>(err: &mut E, refusal: &Refusal<'_>)
         (concat (refusal_parts refusal.now)) }
 {
     match refusal {
-        Refusal::StraightKernel(file) => write_line(
-            err,
-            &[Piece::Text(*file), Piece::Text(": 19 NotYet\n")],
-        ),
-        Refusal::StraightInputs(file) => write_line(
-            err,
-            &[Piece::Text(*file), Piece::Text(": 59 NotYet\n")],
-        ),
         Refusal::Kernel(file, refused) => {
             tell_span(err, *file, kernel_label(refused), refused.span());
         }

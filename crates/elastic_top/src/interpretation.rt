@@ -1,12 +1,10 @@
 //! Kernels that two files spell, run by the plain interpreter.
-ghost use Rattle.std.specs.Prelude.{◌≤◌, Ok, Err, length, IfOk, IfErr};
+ghost use Rattle.std.specs.Prelude.{◌≤◌, Ok, length, IfOk, IfErr};
 ghost use Rattle.el_base.specs.Limits.{max_inputs_bytes, max_kernel_bytes};
-ghost use Rattle.command_words.specs.Tables.{Text};
-ghost use Rattle.kernel_front.specs.Answers.{IsKernel, Says};
-ghost use Rattle.elastic_top.specs.Answers.{InterpretsKernel, IsKernelFault, Refuses};
+ghost use Rattle.elastic_top.specs.Answers.{InterpretsKernel, Refuses};
 
 use crate::fault::{Fault, Refusal};
-use kernel_front::{Kernel, KernelRefusal, read_kernel};
+use crate::kernels::kernel_of;
 use kernel_ref::{InterpretOptions, InterpretRefusal, interpret_text};
 use std::alloc::Global;
 
@@ -42,28 +40,5 @@ pub fn interpret<'a>(
             Err(Fault::Refused(Refusal::OutOfTurns(turns)))
         }
         Err(InterpretRefusal::Memory) => Err(Fault::Memory),
-    }
-}
-
-/// The kernel that the bytes of this file spell.
-fn kernel_of<'a>(alloc: Global, file: &'a str, bytes: &[u8]) -> Result<Kernel, Fault<'a>>
-    requires { length bytes.now ≤ max_kernel_bytes }
-    ensures read { IfOk result (IsKernel bytes.now) }
-    ensures err { IfErr result (IsKernelFault file.entry.now bytes.now) }
-{
-    match read_kernel(alloc, bytes) {
-        Ok(kernel) => Ok(kernel),
-        Err(refused) => Err(kernel_fault(file, refused)),
-    }
-}
-
-fn kernel_fault(file: &str, refused: KernelRefusal) -> Fault<'_>
-    ensures { (bytes : Text) → Says bytes (Err refused) → IsKernelFault file.entry.now bytes result }
-{
-    match refused {
-        KernelRefusal::Lex(_) => Fault::Refused(Refusal::Kernel(file, refused)),
-        KernelRefusal::Parse(_) => Fault::Refused(Refusal::Kernel(file, refused)),
-        KernelRefusal::Types(_) => Fault::Refused(Refusal::Kernel(file, refused)),
-        KernelRefusal::Memory => Fault::Memory,
     }
 }

@@ -3,9 +3,14 @@
 
 mod answer;
 mod call;
+mod compiling;
 mod fault;
+mod going;
 mod interpretation;
+mod kernels;
+mod laws;
 mod line;
+mod options;
 mod program;
 mod reading;
 mod runs;
@@ -15,5 +20,6 @@ mod tests;
 mod upgrade;
 
 pub use call::top;
+pub use laws::{ending_kernels_go, kernels_are_compiled};
 pub use program::run;
 pub use status::Status;

@@ -1,6 +1,6 @@
 //! The top call on files and sinks in memory.
 
-use crate::top;
+use crate::{ending_kernels_go, kernels_are_compiled, top};
 use el_io::{MemFiles, MemSink, Open};
 use std::alloc::Global;
 use std::test::Fail;
@@ -58,6 +58,8 @@ fn go<R: Threads + Sync>(
 
 #[test]
 fn prints_a_net_and_the_result(rt: HostRuntime) -> Result<(), Fail> {
+    kernels_are_compiled();
+    ending_kernels_go();
     let outcome = go(&rt, rt.alloc(), None, None, None)?;
     assert_eq!(rt; outcome.code, 0);
     assert!(rt; outcome.err.is_empty());

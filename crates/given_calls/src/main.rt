@@ -1,5 +1,5 @@
 //! Answers given calls of the program on files in memory, one a line of the files of its folder: the status, what was
-//! written to the output, and what to the error output.
+//! written to the output, and what to the error output. Of the output of `go` only what stands after the circuit is told.
 #![tactic(auto)]
 
 mod field;
@@ -14,16 +14,28 @@ use std::thread::Threads;
 use std::{fs, io};
 
 /// How many bytes an output takes.
-const ROOM: u64 = 100_000;
+const ROOM: u64 = 1_000_000;
 
-/// The files of rows on sound devices.
-const SOUND: [&str; 5] = [
-    "calls.tsv",
-    "schedules.tsv",
-    "runs.tsv",
-    "nets.tsv",
-    "interpreted.tsv",
+/// The line between a circuit and the results.
+const BETWEEN: &str = "%%\n";
+
+/// The files of rows on sound devices, and what is told of each output.
+const SOUND: [(&str, Told); 6] = [
+    ("calls.tsv", Told::Whole),
+    ("schedules.tsv", Told::Whole),
+    ("runs.tsv", Told::Whole),
+    ("nets.tsv", Told::Whole),
+    ("interpreted.tsv", Told::Whole),
+    ("circuits.tsv", Told::AfterCircuit),
 ];
+
+/// What is told of an output.
+#[derive(Clone, Copy, Debug, PartialEq, Eq)]
+enum Told {
+    Whole,
+    /// What stands after the line `%%`, the first one.
+    AfterCircuit,
+}
 
 /// Which calls of the devices fail, by their numbers from 0, and how many bytes the output takes at once.
 #[derive(Clone, Copy)]
@@ -36,7 +48,7 @@ struct Failing {
 
 fn main(rt: HostRuntime) -> Result<()> {
     let mut out = BufWriter::new(rt.alloc(), io::writer(&rt))?;
-    for name in SOUND {
+    for (name, told) in SOUND {
         let calls = fs::read_to_string(&rt, name)?;
         for line in calls.as_str().lines().skip(1) {
             let sound = Failing {
@@ -45,14 +57,14 @@ fn main(rt: HostRuntime) -> Result<()> {
                 put: None,
                 told: None,
             };
-            put_answer(&rt, rt.alloc(), &sound, line, &mut out)?;
+            put_answer(&rt, rt.alloc(), &sound, line, told, &mut out)?;
             writeln!(out)?;
         }
     }
     let calls = fs::read_to_string(&rt, "faults.tsv")?;
     for line in calls.as_str().lines().skip(1) {
         let (failing, line) = failing_of(line)?;
-        put_answer(&rt, rt.alloc(), &failing, line, &mut out)?;
+        put_answer(&rt, rt.alloc(), &failing, line, Told::Whole, &mut out)?;
         writeln!(out)?;
     }
     out.flush()?;
@@ -75,7 +87,14 @@ fn failing_of(line: &str) -> Result<(Failing, &str)> {
 }
 
 /// Writes what the call of a line answers.
-fn put_answer<R, W>(rt: &R, alloc: Global, failing: &Failing, line: &str, out: &mut W) -> Result<()>
+fn put_answer<R, W>(
+    rt: &R,
+    alloc: Global,
+    failing: &Failing,
+    line: &str,
+    shown: Told,
+    out: &mut W,
+) -> Result<()>
 where
     R: Threads + Sync,
     W: Write,
@@ -108,9 +127,21 @@ where
     );
     let code = status.code;
     write!(out, "{code}\t")?;
-    put_text(text.bytes(), out)?;
+    put_text(told_of(shown, text.bytes())?, out)?;
     out.write_all(b"\t")?;
     put_text(told.bytes(), out)
+}
+
+/// The part of an output that is told.
+fn told_of(told: Told, text: &[u8]) -> Result<&[u8]> {
+    if told == Told::Whole {
+        return Ok(text);
+    }
+    let text = std::str::from_utf8(text).ok().context("other bytes")?;
+    match text.split_once(BETWEEN) {
+        None => Ok(text.as_bytes()),
+        Some((_, after)) => Ok(after.as_bytes()),
+    }
 }
 
 fn words_of(alloc: Global, field: &str) -> Result<Vec<String>> {

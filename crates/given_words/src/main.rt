@@ -58,8 +58,23 @@ fn put_command<W: Write>(command: &Command<'_>, out: &mut W) -> Result<()> {
     for word in command.plain.iter() {
         write!(out, " {word}")?;
     }
+    put_delays(&command.chosen, out)?;
     put_numbers(&command.chosen, out)?;
     put_flags(&command.chosen, out)
+}
+
+fn put_delays<W: Write>(chosen: &Chosen, out: &mut W) -> Result<()> {
+    let Some(delays) = &chosen.delay else {
+        return Ok(());
+    };
+    let mut before = " delay ";
+    for delay in delays.as_slice() {
+        let class = delay.class.word();
+        let cycles = delay.cycles;
+        write!(out, "{before}{class}={cycles}")?;
+        before = ",";
+    }
+    Ok(())
 }
 
 fn put_numbers<W: Write>(chosen: &Chosen, out: &mut W) -> Result<()> {

@@ -1,9 +1,8 @@
 -- A sound run has no refusal.
-use Rattle.std.proofs.Common.{◌≡◌, ◌≢◌, ◌⊎◌, inl, inr, ℕ, ◌<◌, List, length, refl, sym, subst, arith}
+use Rattle.std.proofs.Common.{◌≡◌, ◌≢◌, inl, inr, refl, sym, subst, arith}
 use Rattle.std.specs.Prelude.{Result, Ok, Err}
 use Rattle.net_types.specs.declared.net.Net.{Net}
 use Rattle.net_types.specs.declared.firing.Inputs.{Inputs}
-use Rattle.net_check.specs.Checks.{IsChecked}
 use Rattle.net_core.specs.Fire.{State}
 use Rattle.net_core.specs.Runs.{HasExited, Long}
 use Rattle.net_core.specs.States.{strays_at}
@@ -11,11 +10,10 @@ use Rattle.inputs_text.specs.declared.refusal.InputRefusal.{InputRefusal}
 use Rattle.inputs_text.specs.declared.refusal.InputRefusal.TheVariants as input
 use Rattle.inputs_text.proofs.OnlyLemmas.{one_inputs, only_answer}
 use Rattle.net_runs.specs.declared.options.RunOptions.{RunOptions}
-use Rattle.net_runs.specs.declared.refusal.RunRefusal.{RunRefusal}
 use Rattle.net_runs.specs.declared.refusal.RunRefusal.TheVariants as refusal
 use Rattle.net_runs.specs.Given.{Bytes, Gives, IsNoInputs}
 use Rattle.net_runs.specs.Results.{IsStrayIn}
-use Rattle.net_runs.specs.Runs.{RestsWithin, Runs}
+use Rattle.net_runs.specs.Runs.{RestsWithin}
 use Rattle.net_runs.specs.Laws.{IsSoundRun, RunsAreComplete}
 
 -- a text of inputs is not refused

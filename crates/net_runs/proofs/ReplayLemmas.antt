@@ -1,6 +1,6 @@
 -- From where firings lead to what a replay answers.
-use Rattle.std.proofs.Common.{◌≡◌, ℕ, ◌+◌, ◌≤◌, ◌<◌, ◌^◌, List, [], ◌∷◌, ◌++◌, length, sym, ap, subst, arith, length-append}
-use Rattle.std.specs.Prelude.{Result, Ok, Err}
+use Rattle.std.proofs.Common.{◌≡◌, ◌+◌, ◌≤◌, ◌<◌, ◌^◌, List, [], ◌∷◌, ◌++◌, length, ap, arith, length-append}
+use Rattle.std.specs.Prelude.{Ok, Err}
 use Rattle.net_types.specs.declared.net.Net.{Net}
 use Rattle.net_types.specs.declared.firing.Firing.{Firing}
 use Rattle.net_types.specs.declared.firing.Inputs.{Inputs}
@@ -10,7 +10,7 @@ use Rattle.net_replay.specs.Readings.{Says as SaysFirings}
 use Rattle.net_replay.specs.Schedules.{firing_text, schedule_text}
 use Rattle.net_runs.specs.declared.refusal.RunRefusal.{RunRefusal}
 use Rattle.net_runs.specs.declared.refusal.RunRefusal.TheVariants as refusal
-use Rattle.net_runs.specs.Given.{Bytes, Gives, On, IsInputsFault, IsScheduleFault}
+use Rattle.net_runs.specs.Given.{Bytes, Gives, IsInputsFault, IsScheduleFault}
 use Rattle.net_runs.specs.Results.{IsRestFault}
 use Rattle.net_runs.specs.Runs.{IsOneRest}
 use Rattle.net_runs.specs.Replays.{IsReplayFault, Replays}

@@ -1,28 +1,29 @@
--- From how the runner ends, and from the refusals of a state at rest, to what a run answers.
-use Rattle.std.proofs.Common.{◌≡◌, ℕ, ◌+◌, ◌≤◌, ◌^◌, List, [], ◌∷◌, ◌++◌, length, refl, sym, ◌∙◌, ap, subst, arith}
-use Rattle.std.specs.Prelude.{Bool, true, false, cond, Result, Ok, Err}
+-- From how a run by cycles ends, and from the refusals of a state at rest, to what a run answers.
+use Rattle.std.proofs.Common.{◌≡◌, ℕ, ◌+◌, ◌*◌, ◌≤◌, List, [], ◌++◌, length, refl, sym, ◌∙◌, ap, subst, arith}
+use Rattle.std.specs.Prelude.{Bool, true, false, cond, Err}
 use Rattle.net_types.specs.declared.net.Net.{Net}
 use Rattle.net_types.specs.declared.firing.Firing.{Firing}
 use Rattle.net_types.specs.declared.firing.Inputs.{Inputs}
 use Rattle.net_types.specs.Inputs.{InputsFit}
+use Rattle.net_types.specs.Nets.{chan_at}
 use Rattle.net_check.specs.Checks.{IsChecked}
 use Rattle.net_core.specs.Fire.{State}
-use Rattle.net_core.specs.Runs.{opening, Long}
-use Rattle.net_core.specs.States.{CountsWithin}
-use Rattle.net_core.specs.Laws.{Completion, LimitIsLong}
-use Rattle.el_base.specs.Logs.{Logged}
-use Rattle.net_replay.specs.Finishes.{Finishes, Finished}
+use Rattle.net_core.specs.Runs.{Run, Long}
+use Rattle.net_core.specs.States.{state_of}
+use Rattle.net_core.specs.Laws.{Completion}
 use Rattle.net_replay.specs.Replays.{RestsIn}
-use Rattle.net_replay.specs.declared.runner.Ended.TheVariants as ended
+use Rattle.net_replay.specs.declared.fault.RunFault.{RunFault}
+use Rattle.net_replay.specs.declared.fault.RunFault.TheVariants as fault
+use Rattle.cycle_engine.specs.declared.runs.Timed.{Timed}
+use Rattle.cycle_engine.specs.Cuts.{joined}
+use Rattle.cycle_engine.specs.Joins.{CyclesAreRuns, CutsAreLong}
+use Rattle.cycle_engine.specs.Timings.{IsTimed, HasFewCycles, IsTimingFault}
 use Rattle.net_runs.specs.declared.options.RunOptions.{RunOptions}
 use Rattle.net_runs.specs.declared.refusal.RunRefusal.{RunRefusal}
 use Rattle.net_runs.specs.declared.refusal.RunRefusal.TheVariants as refusal
 use Rattle.net_runs.specs.Given.{Bytes, Gives, IsInputsFault}
-use Rattle.net_runs.specs.Results.{IsRestFault, IsRunText, log_lines, count_line}
-use Rattle.net_runs.specs.Runs.{IsOneRest, RestsWithin, RunsTo, IsRunFault, Runs}
-
-pub counts_within : (s : State) → CountsWithin 0 s → CountsWithin (2 ^ 60) s
-counts_within s h = record { serials = λ u. omega (arith, h.serials u); strays = λ a. omega (arith, h.strays a) }
+use Rattle.net_runs.specs.Results.{IsRestFault, IsRunText, log_lines, count_line, cycles_line}
+use Rattle.net_runs.specs.Runs.{IsOneRest, RunsTo, IsRunFault, Runs}
 
 pub one_rest : Completion → (net : Net) (inputs : Inputs) (firings : List Firing) (s : State) → IsChecked net → RestsIn net inputs firings s → IsOneRest net inputs firings s
 one_rest law net inputs firings s checked rests = record { run = rests; all = law net inputs firings s checked rests.run rests.rest }
@@ -31,61 +32,67 @@ logged_lines : (b : Bool) (firings : List Firing) → log_lines b (cond b firing
 logged_lines true firings = refl
 logged_lines false firings = refl
 
--- the text of what is logged is that of the firings
-text_of_firings : (net : Net) (s : State) (o : RunOptions) (made : ℕ) (firings items : List Firing) (text : List ℕ) → made ≡ length firings → items ≡ cond o.log firings []
-    → IsRunText net s o made items text → IsRunText net s o (length firings) firings text
-text_of_firings net s o made firings items text counted are is = record {
+-- the text of what is counted and logged is that of the firings and the cycles
+text_of_run : (net : Net) (s : State) (o : RunOptions) (made number n k : ℕ) (firings items : List Firing) (text : List ℕ) → made ≡ n → number ≡ k → items ≡ cond o.log firings []
+    → IsRunText net s o made number items text → IsRunText net s o n k firings text
+text_of_run net s o made number n k firings items text counted numbered are is = record {
   results = is.results;
   are = is.are;
   whole =
-      subst (λ n. text ≡ is.results ++ count_line o.count n ++ log_lines o.log firings) counted
-      (is.whole ∙ ap (λ l. is.results ++ count_line o.count made ++ l) (ap (log_lines o.log) are ∙ logged_lines o.log firings));
+      is.whole
+      ∙ ap (λ l. is.results ++ count_line o.count made ++ cycles_line o.cycles number ++ l) (ap (log_lines o.log) are ∙ logged_lines o.log firings)
+      ∙ ap (λ m. is.results ++ count_line o.count made ++ cycles_line o.cycles m ++ log_lines o.log firings) numbered
+      ∙ ap (λ m. is.results ++ count_line o.count m ++ cycles_line o.cycles k ++ log_lines o.log firings) counted;
 }
 
-module _ (completion : Completion) (net : Net) (inputs : Inputs) (o : RunOptions) (checked : IsChecked net) (firings : List Firing) (s : State) (made : ℕ)
-    (ends : Finishes net (opening net inputs) 0 o.limit firings s (ended.Rest made)) where
-  counted : made ≡ length firings
-  counted = omega (arith, ends.ends.counted)
+module _ (completion : Completion) (runs : CyclesAreRuns) (net : Net) (inputs : Inputs) (o : RunOptions) (checked : IsChecked net) (run : Timed)
+    (timed : IsTimed net inputs o.limit o.log run) where
+  made : run.firings ≡ length (joined timed.cycles)
+  made = timed.firings ∙ sym (runs net inputs timed.cycles timed.to timed.runs).count
 
-  one : IsOneRest net inputs firings s
-  one = one_rest completion net inputs firings s checked (record { run = ends.leads; rest = ends.ends.rest })
+  leads : Run net inputs (joined timed.cycles) (state_of run.state)
+  leads = subst (Run net inputs (joined timed.cycles)) (sym timed.state) (runs net inputs timed.cycles timed.to timed.runs).run
 
-  within : length firings ≤ o.limit
-  within = omega (arith, counted, ends.ends.within)
+  one : IsOneRest net inputs (joined timed.cycles) (state_of run.state)
+  one = one_rest completion net inputs (joined timed.cycles) (state_of run.state) checked (record { run = leads; rest = timed.rest })
 
-  pub rested : (items : List Firing) (text : List ℕ) → items ≡ [] ++ cond o.log firings [] → IsRunText net s o made items text → RunsTo net o text inputs
-  rested items text are is = record { firings = firings; state = s; one = one; within = within; holds = text_of_firings net s o made firings items text counted are is }
+  within : length (joined timed.cycles) ≤ o.limit
+  within = omega (arith, made, timed.within)
 
-  pub refused : (r : RunRefusal) → IsRestFault net s r → IsRunFault net inputs o r
+  few : HasFewCycles net run → (most : ℕ) → ((d : ℕ) → (chan_at net d).delay ≤ most) → length timed.cycles ≤ length (joined timed.cycles) * (most + 1)
+  few bound most below =
+      let P : ℕ → Type 0 = λ n. n ≤ length (joined timed.cycles) * (most + 1) in
+      let Q : ℕ → Type 0 = λ n. run.cycles ≤ n * (most + 1) in
+      subst P timed.number (subst Q made (bound most below))
+
+  pub rested : HasFewCycles net run → (text : List ℕ) → IsRunText net (state_of run.state) o run.firings run.cycles run.log.items text → RunsTo net o text inputs
+  rested bound text is = record {
+    firings = joined timed.cycles;
+    state = state_of run.state;
+    one = one;
+    within = within;
+    holds = record {
+      cycles = timed.cycles;
+      are = record { to = timed.to; run = timed.runs; state = sym timed.state; ends = timed.ends; together = refl; few = few bound };
+      told = text_of_run net (state_of run.state) o run.firings run.cycles (length (joined timed.cycles)) (length timed.cycles) (joined timed.cycles) run.log.items text made
+          timed.number timed.log is;
+    };
+  }
+
+  pub refused : (r : RunRefusal) → IsRestFault net (state_of run.state) r → IsRunFault net inputs o r
   refused (refusal.Inputs r) is = absurd is
   refused (refusal.Schedule r) is = absurd is
   refused (refusal.NotEnabled i) is = absurd is
   refused (refusal.Limit n) is = absurd is
-  refused refusal.Stuck is = record { firings = firings; state = s; one = one; within = within; holds = is }
-  refused (refusal.Stray name) is = record { firings = firings; state = s; one = one; within = within; holds = is }
+  refused refusal.Stuck is = record { firings = joined timed.cycles; state = state_of run.state; one = one; within = within; holds = is }
+  refused (refusal.Stray name) is = record { firings = joined timed.cycles; state = state_of run.state; one = one; within = within; holds = is }
   refused refusal.Memory is = tt
 
-pub limited : LimitIsLong → (net : Net) (inputs : Inputs) (limit : ℕ) (firings : List Firing) (s : State) → Finishes net (opening net inputs) 0 limit firings s ended.Limit → Long net inputs limit
-limited law net inputs limit firings s ends =
-    let e : length firings ≡ limit = omega (arith, ends.ends.reached) in
-    subst (Long net inputs) e (law net inputs firings s ends.ends.next ends.leads ends.ends.goes)
-
--- the same of what the runner does from the opening state
-module _ (net : Net) (inputs : Inputs) (before s : State) (start : before ≡ opening net inputs) (a b : Logged Firing) where
-  pub limited_from : LimitIsLong → (limit : ℕ) (keep : Bool) → Finished net before s 0 limit keep a b ended.Limit → Long net inputs limit
-  limited_from law limit keep h =
-      limited law net inputs limit h.firings s (subst (λ t. Finishes net t 0 limit h.firings s ended.Limit) start h.finishes)
-
-  pub rested_from : Completion → IsChecked net → (o : RunOptions) (made : ℕ) → a.items ≡ [] → Finished net before s 0 o.limit o.log a b (ended.Rest made)
-      → (text : List ℕ) → IsRunText net s o made b.items text → RunsTo net o text inputs
-  rested_from law checked o made none h text is =
-      rested law net inputs o checked h.firings s made (subst (λ t. Finishes net t 0 o.limit h.firings s (ended.Rest made)) start h.finishes) b.items text
-      (h.logged.items ∙ ap (λ xs. xs ++ cond o.log h.firings []) none) is
-
-  pub refused_from : Completion → IsChecked net → (o : RunOptions) (made : ℕ) → Finished net before s 0 o.limit o.log a b (ended.Rest made)
-      → (r : RunRefusal) → IsRestFault net s r → IsRunFault net inputs o r
-  refused_from law checked o made h r is =
-      refused law net inputs o checked h.firings s made (subst (λ t. Finishes net t 0 o.limit h.firings s (ended.Rest made)) start h.finishes) r is
+pub limited : CutsAreLong → (net : Net) (inputs : Inputs) (limit : ℕ) (e : RunFault) (n : ℕ) → e ≡ fault.Limit n → IsTimingFault net inputs limit e
+    → Long net inputs limit
+limited law net inputs limit e n is says =
+    let cut : IsTimingFault net inputs limit (fault.Limit n) = subst (IsTimingFault net inputs limit) is says in
+    law net inputs limit cut.1
 
 -- a refusal of the inputs, and one of a run on them
 pub inputs_refused : (net : Net) (bytes : Bytes) (o : RunOptions) (r : RunRefusal) → IsInputsFault net bytes r → Runs net bytes o (Err r)

@@ -1,8 +1,7 @@
 -- The inputs and the firings that texts give, and why they give none.
-use Rattle.std.specs.Prelude.{◌≡◌, ◌≢◌, ℕ, List, Result, Ok, Err}
+use Rattle.std.specs.Prelude.{◌≢◌, ℕ, List, Ok, Err}
 use Rattle.net_types.specs.declared.net.Net.{Net}
 use Rattle.net_types.specs.declared.firing.Inputs.{Inputs}
-use Rattle.net_types.specs.declared.firing.Firing.{Firing}
 use Rattle.net_types.specs.Inputs.{InputsFit}
 use Rattle.inputs_text.specs.declared.refusal.InputRefusal.{InputRefusal}
 use Rattle.inputs_text.specs.declared.refusal.InputRefusal.TheVariants as input

@@ -4,7 +4,7 @@ use Rattle.el_base.specs.declared.ty.Array.{Array}
 use Rattle.net_types.specs.declared.net.Net.{Net}
 use Rattle.net_types.specs.declared.firing.Firing.{Firing}
 use Rattle.net_core.specs.Fire.{State}
-use Rattle.net_core.specs.Runs.{HasExited, Exited}
+use Rattle.net_core.specs.Runs.{HasExited}
 use Rattle.net_core.specs.States.{elements_at, TookAtExit}
 use Rattle.inputs_text.specs.Results.{ResultText}
 use Rattle.net_replay.specs.Judgements.{HasNoStrays, IsFirstStray}
@@ -56,13 +56,18 @@ abbrev pub count_line : Bool → ℕ → List ℕ
 count_line true n = codes "# firings " ++ decimal n ++ 10 ∷ []
 count_line false n = []
 
+-- the number of cycles, where it is asked for
+abbrev pub cycles_line : Bool → ℕ → List ℕ
+cycles_line true n = codes "# cycles " ++ decimal n ++ 10 ∷ []
+cycles_line false n = []
+
 -- a line `%%` and the firings, where they are asked for
 abbrev pub log_lines : Bool → List Firing → List ℕ
 log_lines true firings = codes "%%\n" ++ schedule_text firings
 log_lines false firings = []
 
--- the results of a state, the number of firings that led to it, and these firings
-pub record IsRunText (net : Net) (s : State) (o : RunOptions) (made : ℕ) (firings : List Firing) (text : List ℕ) : Type 0 where
+-- the results of a state, the number of firings that led to it, that of the cycles in which they were made, and these firings
+pub record IsRunText (net : Net) (s : State) (o : RunOptions) (made cycles : ℕ) (firings : List Firing) (text : List ℕ) : Type 0 where
   pub results : List ℕ
   pub are : AreResultsOf net s results
-  pub whole : text ≡ results ++ count_line o.count made ++ log_lines o.log firings
+  pub whole : text ≡ results ++ count_line o.count made ++ cycles_line o.cycles cycles ++ log_lines o.log firings

@@ -1,12 +1,16 @@
 -- What a run of a net on a text of inputs answers.
-use Rattle.std.specs.Prelude.{◌≡◌, ◌≤◌, ℕ, List, length, Result, Ok, Err}
+use Rattle.std.specs.Prelude.{◌≡◌, ◌+◌, ◌*◌, ◌≤◌, ℕ, List, length, Result, Ok, Err}
 use Rattle.net_types.specs.declared.net.Net.{Net}
 use Rattle.net_types.specs.declared.firing.Firing.{Firing}
 use Rattle.net_types.specs.declared.firing.Inputs.{Inputs}
+use Rattle.net_types.specs.Nets.{chan_at}
 use Rattle.net_core.specs.Fire.{State}
 use Rattle.net_core.specs.Runs.{HasExited, Long}
 use Rattle.net_core.specs.Laws.{CompletesIn}
 use Rattle.net_replay.specs.Replays.{RestsIn}
+use Rattle.cycle_engine.specs.Cycles.{Dated, dated_opening, Cycles}
+use Rattle.cycle_engine.specs.Bounds.{EndsFiring}
+use Rattle.cycle_engine.specs.Cuts.{joined}
 use Rattle.net_runs.specs.declared.options.RunOptions.{RunOptions}
 use Rattle.net_runs.specs.declared.refusal.RunRefusal.{RunRefusal}
 use Rattle.net_runs.specs.declared.refusal.RunRefusal.TheVariants as refusal
@@ -27,9 +31,25 @@ pub record RestsWithin (net : Net) (inputs : Inputs) (limit : ℕ) (Holds : List
   pub within : length firings ≤ limit
   pub holds : Holds firings state
 
+-- the firings are those of cycles from the opening state to the state s, one cycle after another, and the last cycle has a
+-- firing; there are at most as many cycles as firings, each times one more than the greatest delay
+pub record AreCycles (net : Net) (inputs : Inputs) (firings : List Firing) (s : State) (cycles : List (List Firing)) : Type 0 where
+  pub to : Dated
+  pub run : Cycles net 0 (dated_opening net inputs) cycles to
+  pub state : to.state ≡ s
+  pub ends : EndsFiring cycles
+  pub together : firings ≡ joined cycles
+  pub few : (most : ℕ) → ((d : ℕ) → (chan_at net d).delay ≤ most) → length cycles ≤ length firings * (most + 1)
+
+-- the text tells the state s, and of the firings and their cycles what is asked for
+pub record TellsCycles (net : Net) (inputs : Inputs) (o : RunOptions) (firings : List Firing) (s : State) (text : Bytes) : Type 0 where
+  pub cycles : List (List Firing)
+  pub are : AreCycles net inputs firings s cycles
+  pub told : IsRunText net s o (length firings) (length cycles) firings text
+
 -- the text of the run that is asked for
 abbrev pub RunsTo : Net → RunOptions → Bytes → Inputs → Type 0
-RunsTo net o text inputs = RestsWithin net inputs o.limit (λ firings s. IsRunText net s o (length firings) firings text)
+RunsTo net o text inputs = RestsWithin net inputs o.limit (λ firings s. TellsCycles net inputs o firings s text)
 
 -- the run ends at rest, and the exit has not fired
 abbrev pub Sticks : Net → RunOptions → Inputs → Type 0

@@ -1,6 +1,6 @@
 //! Runs of a checked net on a text of inputs, to the text of their results.
 //!
-//! [`run_text`] is the plain runner from text to text, and [`replay_text`] makes the firings of a schedule.
+//! [`run_text`] runs by cycles from text to text, and [`replay_text`] makes the firings of a schedule.
 #![tactic(auto)]
 
 mod given;
@@ -11,6 +11,8 @@ mod refusal;
 mod replays;
 mod results;
 mod runs;
+#[cfg(test)]
+mod tests;
 
 pub use laws::sound_runs_are_not_refused;
 pub use options::{DEFAULT_FIRINGS, RunOptions};

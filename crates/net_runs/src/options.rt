@@ -8,6 +8,8 @@ pub struct RunOptions {
     pub limit: u64,
     /// Whether the number of firings is written after the results.
     pub count: bool,
-    /// Whether the firings are written after that.
+    /// Whether the number of cycles is written after that.
+    pub cycles: bool,
+    /// Whether the firings are written after both, one cycle after another.
     pub log: bool,
 }

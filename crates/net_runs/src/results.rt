@@ -3,11 +3,13 @@ ghost use Rattle.std.specs.Prelude.{◌≡◌, ◌++◌, ◌<◌, length, IfOk, 
 ghost use Rattle.net_core.specs.Runs.{AtRest, HasExited};
 ghost use Rattle.net_core.specs.States.{IsOf, state_of};
 ghost use Rattle.net_replay.specs.Judgements.{IsFirstStray};
-ghost use Rattle.net_runs.specs.Results.{AreElementsIn, AreResultsOf, IsRestFault, IsRunText, IsTextOf, count_line, log_lines};
+ghost use Rattle.net_runs.specs.Results.{AreElementsIn, AreResultsOf, IsRestFault, IsRunText, IsTextOf};
+ghost use Rattle.net_runs.specs.Results.{count_line, cycles_line, log_lines};
 
 use crate::options::RunOptions;
 use crate::printing::{put_arrays, put_return};
 use crate::refusal::RunRefusal;
+use cycle_engine::Timed;
 use el_base::put_u64;
 use net_check::Checked;
 use net_core::State;
@@ -15,24 +17,23 @@ use net_replay::{RunFault, judge, print_schedule};
 use net_types::{Firing, List, Memory};
 use std::alloc::Global;
 
-/// The results of a state at rest, the number of the firings that led to it and these firings, where they are asked for.
+/// The results of a run at rest, and where they are asked for the numbers of its firings and of its cycles and the firings.
 pub(crate) fn run_text_of(
     alloc: Global,
     net: &Checked,
-    state: &State,
+    run: &Timed,
     options: RunOptions,
-    made: u64,
-    firings: &[Firing],
 ) -> Result<Vec<u8>, RunRefusal>
-    requires of { IsOf net.now state.now }
-    requires rest { AtRest net.now (state_of state.now) }
-    ensures ok { IfOk result (λ text.
-        IsRunText net.now (state_of state.now) options made firings.now text.items) }
-    ensures err { IfErr result (IsRestFault net.now (state_of state.now)) }
+    requires of { IsOf net.now run.now.state }
+    requires rest { AtRest net.now (state_of run.now.state) }
+    ensures ok { IfOk result (λ text. IsRunText net.now (state_of run.now.state) options
+        run.now.firings run.now.cycles run.now.log.items text.items) }
+    ensures err { IfErr result (IsRestFault net.now (state_of run.now.state)) }
 {
-    let mut text = results_of(alloc, net, state)?;
-    put_count(&mut text, options.count, made)?;
-    put_log(alloc, &mut text, options.log, firings)?;
+    let mut text = results_of(alloc, net, &run.state)?;
+    put_count(&mut text, options.count, run.firings)?;
+    put_cycles(&mut text, options.cycles, run.cycles)?;
+    put_log(alloc, &mut text, options.log, run.log.as_slice())?;
     Ok(text)
 }
 
@@ -44,6 +45,18 @@ fn put_count(text: &mut Vec<u8>, asked: bool, made: u64) -> Result<(), Memory>
     }
     text.extend_from_slice(b"# firings ")?;
     put_u64(text, made)?;
+    text.push(b'\n')?;
+    Ok(())
+}
+
+fn put_cycles(text: &mut Vec<u8>, asked: bool, cycles: u64) -> Result<(), Memory>
+    ensures { OnOk result (text.new.items ≡ text.old.items ++ cycles_line asked cycles) }
+{
+    if !asked {
+        return Ok(());
+    }
+    text.extend_from_slice(b"# cycles ")?;
+    put_u64(text, cycles)?;
     text.push(b'\n')?;
     Ok(())
 }

@@ -1,4 +1,4 @@
-//! The plain runner, from text to text.
+//! Runs by cycles, from text to text.
 ghost use Rattle.std.specs.Prelude.{◌≡◌, ◌≤◌, length, Ok, Err, IfOk, IfErr};
 ghost use Rattle.el_base.specs.Limits.{IsNumbered, max_firings};
 ghost use Rattle.net_types.specs.Inputs.{InputsFit};
@@ -8,15 +8,16 @@ use crate::given::inputs_of;
 use crate::options::RunOptions;
 use crate::refusal::RunRefusal;
 use crate::results::run_text_of;
-use el_base::Log;
+use cycle_engine::{cycles_are_runs, run_cycles};
 use net_check::Checked;
-use net_core::{State, completion, limit_decides};
-use net_replay::{Ended, finish};
+use net_core::completion;
+use net_replay::RunFault;
 use net_types::Inputs;
 use std::alloc::Global;
 
-/// The text of a run of a net on the inputs that bytes give, by the plain runner: the results of the one state at rest, and
-/// where they are asked for the number of firings to it and the firings of a run that ends in it.
+/// The text of a run of a net on the inputs that bytes give, by cycles: the results of the one state at rest, and where they
+/// are asked for the number of firings to it, that of the cycles in which they are made, and the firings, one cycle after
+/// another.
 ///
 /// The bytes have to be fewer than 2^32, and the limit is in firings.
 ///
@@ -43,7 +44,6 @@ pub fn run_text(
 }
 
 /// The same on inputs.
-#[tactic(auto, using(crate::proofs::RunLemmas::counts_within))]
 fn run_on(
     alloc: Global,
     net: &Checked,
@@ -56,15 +56,15 @@ fn run_on(
     ensures err { IfErr result (IsRunFault net.now inputs.now options) }
 {
     completion();
-    limit_decides();
+    cycles_are_runs();
     let _ = net.net();
-    let mut state = State::new(alloc, net, inputs)?;
-    let room = if options.log { options.limit } else { 0 };
-    let mut log = Log::with_room(alloc, room)?;
-    match finish(net, &mut state, 0, options.limit, options.log, &mut log) {
-        Ended::Limit => Err(RunRefusal::Limit {
+    match run_cycles(alloc, net, inputs, options.limit, options.log) {
+        Ok(timed) => run_text_of(alloc, net, &timed, options),
+        Err(RunFault::Limit { .. }) => Err(RunRefusal::Limit {
             limit: options.limit,
         }),
-        Ended::Rest { made } => run_text_of(alloc, net, &state, options, made, log.as_slice()),
+        Err(RunFault::Memory) => Err(RunRefusal::Memory),
+        Err(RunFault::Stuck) => unreachable!(),
+        Err(RunFault::Stray { .. }) => unreachable!(),
     }
 }

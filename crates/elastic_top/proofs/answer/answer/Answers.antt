@@ -3,32 +3,56 @@ use Rattle.std.specs.Prelude.{IfOk, IfErr, Ok}
 use Rattle.net_runs.specs.Runs.{Runs}
 use Rattle.net_runs.specs.Replays.{Replays}
 use Rattle.kernel_ref.specs.Answers.{Interprets}
-use Rattle.elastic_top.specs.Answers.{Goes, InterpretsKernel, OfKernel, OfNet, Refuses, ReplaysNet, RunsNet, interpretation_of, options_of}
-use Rattle.elastic_top.proofs.AnswerLemmas.{bytes_of_two, bytes_of_three, of_two, of_three}
+use Rattle.kernel_runs.specs.Circuits.{Compiles}
+use Rattle.kernel_runs.specs.Goes.{Goes}
+use Rattle.elastic_top.specs.Answers.{CompilesKernel, GoesKernel, InterpretsKernel, OfKernel, OfNet, Refuses, ReplaysNet, RunsNet}
+use Rattle.elastic_top.specs.Options.{circuit_of, interpretation_of, options_of}
+use Rattle.elastic_top.proofs.AnswerLemmas.{bytes_of_one, bytes_of_two, bytes_of_three, of_one, of_two, of_three}
 use Rattle.elastic_top.proofs.answer.answer.Goals as goal
+
+pub returns-in-Compile-clause-ok : goal.returns-in-Compile-clause-ok
+returns-in-Compile-clause-ok c =
+    rw c.in-Compile.is
+    (bytes_of_one (λ a. IfOk c.compile.result (λ text. Compiles a (circuit_of c.args.command.now.chosen) (Ok text.items))) c.args.contents.now _
+    (rw c.in-Compile.is at c.requires.count) c.index-contents-0.is
+    (rw (c.as_slice.ensures.value, c.circuit_of.ensures.value) at c.compile.ensures.ok))
+
+pub returns-in-Compile-clause-err : goal.returns-in-Compile-clause-err
+returns-in-Compile-clause-err c =
+    rw c.in-Compile.is
+    (of_one (λ v a. IfErr c.compile.result (Refuses (CompilesKernel v (circuit_of c.args.command.now.chosen) a))) c.args.command.now.plain.items c.args.contents.now _ _
+    (rw c.in-Compile.is at c.requires.plain) (rw c.in-Compile.is at c.requires.count) c.index-contents-0.is
+    (rw (c.as_slice-words.ensures.value, c.as_slice.ensures.value, c.circuit_of.ensures.value) at c.compile.ensures.err))
+
+pub returns-in-Go-clause-ok : goal.returns-in-Go-clause-ok
+returns-in-Go-clause-ok c =
+    rw c.in-Go.is
+    (bytes_of_two (λ a b. IfOk c.go.result (λ text. Goes a b (circuit_of c.args.command.now.chosen) (options_of c.args.command.now.chosen) (Ok text.items))) c.args.contents.now _ _
+    (rw c.in-Go.is at c.requires.count) c.index-contents-0-in-Go.is c.index-contents-1.is
+    (rw (c.as_slice-in-Go.ensures.value, c.as_slice-in-Go-2.ensures.value, c.circuit_of-in-Go.ensures.value, c.options_of.ensures) at c.go.ensures.ok))
 
 pub returns-in-Go-clause-err : goal.returns-in-Go-clause-err
 returns-in-Go-clause-err c =
     rw c.in-Go.is
-    (of_two (λ v w a b. IfErr c.go.result (Refuses (Goes v w a b))) c.args.command.now.plain.items c.args.contents.now _ _ _ _
-    (rw c.in-Go.is at c.requires.plain) (rw c.in-Go.is at c.requires.count) c.index-contents-0.is c.index-contents-1.is
-    (rw (c.as_slice-words.ensures.value, c.as_slice.ensures.value, c.as_slice-in-Go.ensures.value) at c.go.ensures.err))
+    (of_two (λ v w a b. IfErr c.go.result (Refuses (GoesKernel v w (circuit_of c.args.command.now.chosen) (options_of c.args.command.now.chosen) a b))) c.args.command.now.plain.items c.args.contents.now _ _ _ _
+    (rw c.in-Go.is at c.requires.plain) (rw c.in-Go.is at c.requires.count) c.index-contents-0-in-Go.is c.index-contents-1.is
+    (rw (c.as_slice-words.ensures.value, c.as_slice-in-Go.ensures.value, c.as_slice-in-Go-2.ensures.value, c.circuit_of-in-Go.ensures.value, c.options_of.ensures) at c.go.ensures.err))
 
 pub returns-in-Run-clause-err : goal.returns-in-Run-clause-err
 returns-in-Run-clause-err c =
     rw c.in-Run.is
     (of_two (λ v w a b. IfErr c.run.result (Refuses (RunsNet v w (options_of c.args.command.now.chosen) a b))) c.args.command.now.plain.items c.args.contents.now _ _ _ _
     (rw c.in-Run.is at c.requires.plain) (rw c.in-Run.is at c.requires.count) c.index-contents-0-in-Run.is c.index-contents-1-in-Run.is
-    (rw (c.as_slice-words.ensures.value, c.as_slice-in-Run.ensures.value, c.as_slice-in-Run-2.ensures.value, c.options_of.ensures) at c.run.ensures.err))
+    (rw (c.as_slice-words.ensures.value, c.as_slice-in-Run.ensures.value, c.as_slice-in-Run-2.ensures.value, c.options_of-in-Run.ensures) at c.run.ensures.err))
 
 pub returns-in-Run-clause-ok : goal.returns-in-Run-clause-ok
 returns-in-Run-clause-ok c =
     rw c.in-Run.is
     (bytes_of_two (λ a b. IfOk c.run.result (λ text. OfNet a (λ net. Runs net b (options_of c.args.command.now.chosen) (Ok text.items)))) c.args.contents.now _ _
     (rw c.in-Run.is at c.requires.count) c.index-contents-0-in-Run.is c.index-contents-1-in-Run.is
-    (subst (λ o. IfOk c.run.result (λ text. OfNet c.index-contents-0-in-Run.result.items (λ net. Runs net c.index-contents-1-in-Run.result.items o (Ok text.items)))) c.options_of.ensures
-    (subst (λ x. IfOk c.run.result (λ text. OfNet x (λ net. Runs net c.index-contents-1-in-Run.result.items c.options_of.result (Ok text.items)))) c.as_slice-in-Run.ensures.value
-    (subst (λ y. IfOk c.run.result (λ text. OfNet c.as_slice-in-Run.result.now (λ net. Runs net y c.options_of.result (Ok text.items)))) c.as_slice-in-Run-2.ensures.value c.run.ensures.ok))))
+    (subst (λ o. IfOk c.run.result (λ text. OfNet c.index-contents-0-in-Run.result.items (λ net. Runs net c.index-contents-1-in-Run.result.items o (Ok text.items)))) c.options_of-in-Run.ensures
+    (subst (λ x. IfOk c.run.result (λ text. OfNet x (λ net. Runs net c.index-contents-1-in-Run.result.items c.options_of-in-Run.result (Ok text.items)))) c.as_slice-in-Run.ensures.value
+    (subst (λ y. IfOk c.run.result (λ text. OfNet c.as_slice-in-Run.result.now (λ net. Runs net y c.options_of-in-Run.result (Ok text.items)))) c.as_slice-in-Run-2.ensures.value c.run.ensures.ok))))
 
 pub returns-in-Replay-clause-ok : goal.returns-in-Replay-clause-ok
 returns-in-Replay-clause-ok c =

@@ -1,4 +1,4 @@
-use Rattle.std.proofs.Common.{rules, ◌≡◌, arith, refl, sym, ◌∙◌, ap, subst, Contains, List, ℕ}
+use Rattle.std.proofs.Common.{◌≡◌, arith, refl, sym, ◌∙◌, ap, subst, Contains}
 use Rattle.std.specs.Option.{is_some}
 use Rattle.std.specs.Io.KnownBytes.{append_known}
 use Rattle.el_io.specs.Outside.{IsCut}
@@ -7,13 +7,13 @@ use Rattle.elastic_top.specs.Faults.{IsTold, fault_code}
 use Rattle.elastic_top.specs.Statuses.{statuses_of}
 use Rattle.elastic_top.specs.Causes.{AreSound, Unread, TooLong, Writes, RefusesWith}
 use Rattle.elastic_top.proofs.CallLemmas.{outside, status_of, any_status, unread_of, long_of, cut_of, refused_of, unwritten_of, memory_of, sound_status}
-use Rattle.elastic_top.proofs.LimitLemmas.{has_limit}
+use Rattle.elastic_top.proofs.RangeLemmas.{spelled_within}
 use Rattle.elastic_top.proofs.call.top.Goals as goal
 
-pub run_command-requires-clause-limit : goal.run_command-requires-clause-limit
-run_command-requires-clause-limit g c =
+pub run_command-requires-clause-chosen : goal.run_command-requires-clause-chosen
+run_command-requires-clause-chosen g c =
     let spells : Command (texts c.args.words.now) (asked c.in-Ok-Some.command) = rw c.in-Ok-Some.field-0-is at c.in-Ok-Some.ensures.some in
-    has_limit (texts c.args.words.now) (asked c.in-Ok-Some.command) spells
+    spelled_within (texts c.args.words.now) (asked c.in-Ok-Some.command) spells
 
 pub returns-in-Ok-None-clause-usage : goal.returns-in-Ok-None-clause-usage
 returns-in-Ok-None-clause-usage g c = λ is. c.in-Ok-None.ensures.none (ap is_some c.in-Ok-None.field-0-is)

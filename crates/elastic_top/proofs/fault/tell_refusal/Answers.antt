@@ -6,12 +6,6 @@ returns-in-NetText g c = rw (c.in-NetText.is, ← c.text_label.ensures, ← c.li
 pub returns-in-NetRule : goal.returns-in-NetRule
 returns-in-NetRule g c = rw (c.in-NetRule.is, ← c.rule_label.ensures, ← c.at.ensures) c.tell_place.ensures
 
-pub returns-in-StraightKernel : goal.returns-in-StraightKernel
-returns-in-StraightKernel g c = rw c.in-StraightKernel.is c.write_line.ensures
-
-pub returns-in-StraightInputs : goal.returns-in-StraightInputs
-returns-in-StraightInputs g c = rw c.in-StraightInputs.is c.write_line-in-StraightInputs.ensures
-
 pub returns-in-Inputs : goal.returns-in-Inputs
 returns-in-Inputs g c = rw c.in-Inputs.is c.tell_inputs.ensures
 
@@ -19,7 +13,7 @@ pub returns-in-Schedule : goal.returns-in-Schedule
 returns-in-Schedule g c = rw (c.in-Schedule.is, ← c.schedule_label.ensures, ← c.line-in-Schedule.ensures) c.tell_line-in-Schedule.ensures
 
 pub returns-in-NotEnabled : goal.returns-in-NotEnabled
-returns-in-NotEnabled g c = rw c.in-NotEnabled.is c.write_line-in-NotEnabled.ensures
+returns-in-NotEnabled g c = rw c.in-NotEnabled.is c.write_line.ensures
 
 pub returns-in-Limit : goal.returns-in-Limit
 returns-in-Limit g c = rw c.in-Limit.is c.write_line-in-Limit.ensures

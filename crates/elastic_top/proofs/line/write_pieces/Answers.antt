@@ -1,4 +1,4 @@
-use Rattle.std.proofs.Common.{rules, refl, arith}
+use Rattle.std.proofs.Common.{arith}
 use Rattle.elastic_top.proofs.Cuts.{on_any}
 use Rattle.elastic_top.proofs.PieceLemmas.{piece_more, piece_cut}
 use Rattle.elastic_top.proofs.line.write_pieces.Goals as goal

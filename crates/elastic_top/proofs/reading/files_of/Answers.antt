@@ -1,4 +1,4 @@
-use Rattle.std.proofs.Common.{◌≡◌, ◌<◌, ◌∷◌, [], ◌++◌, length, sym, ◌∙◌, ap, arith}
+use Rattle.std.proofs.Common.{◌<◌, ◌∷◌, [], ◌++◌, length, sym, ◌∙◌, ap, arith}
 use Rattle.elastic_top.specs.Files.{wanted}
 use Rattle.elastic_top.proofs.PlanLemmas.{wanted_more}
 use Rattle.elastic_top.proofs.reading.files_of.Goals as goal

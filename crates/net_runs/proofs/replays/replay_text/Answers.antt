@@ -1,4 +1,3 @@
-use Rattle.std.specs.Prelude.{Ok, Err}
 use Rattle.std.proofs.lemmas.Result.{IfOk-weaker, IfErr-weaker}
 use Rattle.net_runs.proofs.ReplayLemmas.{few_firings, inputs_refused, schedule_refused, replay_refused}
 use Rattle.net_runs.proofs.replays.replay_text.Goals as goal

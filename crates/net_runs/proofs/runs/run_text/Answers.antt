@@ -1,4 +1,3 @@
-use Rattle.std.specs.Prelude.{Ok, Err}
 use Rattle.std.proofs.lemmas.Result.{IfOk-weaker, IfErr-weaker}
 use Rattle.net_runs.proofs.RunLemmas.{inputs_refused, run_refused}
 use Rattle.net_runs.proofs.runs.run_text.Goals as goal

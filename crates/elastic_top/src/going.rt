@@ -1,0 +1,39 @@
+//! Runs of the circuit of the kernel that a file spells, on the inputs of another.
+ghost use Rattle.std.specs.Prelude.{◌≤◌, Ok, length, IfOk, IfErr};
+ghost use Rattle.el_base.specs.Limits.{max_firings, max_inputs_bytes, max_kernel_bytes};
+ghost use Rattle.buffer_place.specs.Timings.{IsTiming};
+ghost use Rattle.elastic_top.specs.Answers.{GoesKernel, Refuses};
+
+use crate::fault::{Fault, Refusal};
+use kernel_runs::{CircuitOptions, GoRefusal, go_text};
+use net_runs::RunOptions;
+use std::alloc::Global;
+
+/// The text of the circuit of the kernel of one file, and of a run of it on the inputs of another.
+pub fn go<'a>(
+    alloc: Global,
+    kernel: &'a str,
+    inputs: &'a str,
+    kernel_bytes: &[u8],
+    input_bytes: &[u8],
+    circuit: CircuitOptions,
+    run: RunOptions,
+) -> Result<Vec<u8>, Fault<'a>>
+    requires kernel { length kernel_bytes.now ≤ max_kernel_bytes }
+    requires inputs { length input_bytes.now ≤ max_inputs_bytes }
+    requires timing { IsTiming circuit.timing }
+    requires limit { run.limit ≤ max_firings }
+    ensures ok { IfOk result (λ text. GoesKernel kernel.entry.now inputs.entry.now circuit run
+        kernel_bytes.now input_bytes.now (Ok text.items)) }
+    ensures err { IfErr result (Refuses (GoesKernel kernel.entry.now inputs.entry.now circuit run
+        kernel_bytes.now input_bytes.now)) }
+{
+    match go_text(alloc, kernel_bytes, input_bytes, circuit, run) {
+        Ok(text) => Ok(text),
+        Err(GoRefusal::Kernel(refused)) => Err(Fault::Refused(Refusal::Kernel(kernel, refused))),
+        Err(GoRefusal::Inputs(refused)) => Err(Fault::Refused(Refusal::Inputs(inputs, refused))),
+        Err(GoRefusal::Limit { limit }) => Err(Fault::Refused(Refusal::Limit(limit))),
+        Err(GoRefusal::Stray { name }) => Err(Fault::Refused(Refusal::Stray(name))),
+        Err(GoRefusal::Memory) => Err(Fault::Memory),
+    }
+}

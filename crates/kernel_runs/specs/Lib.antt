@@ -1,0 +1,4 @@
+pub mod Circuits
+pub mod Goes
+pub mod Laws
+pub mod Faults

@@ -1,0 +1,89 @@
+//! From the bytes of a kernel and of its inputs to the text of its circuit and of a run of it.
+ghost use Rattle.std.specs.Prelude.{◌≤◌, length, Ok, Err, IfOk, IfErr};
+ghost use Rattle.el_base.specs.Limits.{IsNumbered, max_firings, max_kernel_bytes};
+ghost use Rattle.c_meaning.specs.Lawful.{Lawful};
+ghost use Rattle.c_meaning.specs.declared.profile.Profile.{Profile};
+ghost use Rattle.buffer_place.specs.Timings.{IsTiming};
+ghost use Rattle.kernel_compile.specs.Goods.{Good};
+ghost use Rattle.kernel_runs.specs.Faults.{IsGoFault, IsJoined};
+ghost use Rattle.kernel_runs.specs.Goes.{Goes, GoesTo};
+
+use crate::given::{kernel_fault, run_fault};
+use crate::options::CircuitOptions;
+use crate::refusal::GoRefusal;
+use c_meaning::range_laws::numbers_stay_in_range;
+use inputs_text::inputs_texts_have_one_reading;
+use kernel_compile::{Compiled, compile, good_nets_stay_good};
+use net_runs::{RunOptions, run_text};
+use net_text::print;
+use net_types::{Memory, Net};
+use std::alloc::Global;
+
+/// The text of the circuit of the kernel that bytes spell, a line `%%`, and the text of a run of it on the inputs that other
+/// bytes give: the results, and where they are asked for the numbers of firings and of cycles, and the firings.
+///
+/// Where the kernel ends on the inputs in T turns, whatever is taken for a signed result out of range, the results are its
+/// own, after at most 256·N·(T+1) firings, N being its nodes. The bytes of inputs have to be fewer than 2^32, and the limit
+/// is in firings.
+///
+/// # Errors
+///
+/// `Kernel` where the bytes are no kernel, then `Inputs` where the others are no text of inputs of it. `Limit` exactly where
+/// there are runs of the circuit of more firings than the limit. Else `Stray` exactly where in the state at rest an address
+/// lay past an array, with the name of the first such array. `Memory` where memory ran out.
+pub fn go_text(
+    alloc: Global,
+    kernel: &[u8],
+    inputs: &[u8],
+    circuit: CircuitOptions,
+    run: RunOptions,
+) -> Result<Vec<u8>, GoRefusal>
+    requires bytes { length kernel.now ≤ max_kernel_bytes }
+    requires short { IsNumbered (length inputs.now) }
+    requires timing { IsTiming circuit.timing }
+    requires limit { run.limit ≤ max_firings }
+    ensures ok { IfOk result (λ text. Goes kernel.now inputs.now circuit run (Ok text.items)) }
+    ensures err { IfErr result (λ refused. Goes kernel.now inputs.now circuit run (Err refused)) }
+{
+    match compile(alloc, kernel, circuit.timing, circuit.forward) {
+        Ok(compiled) => go_on(alloc, &compiled, inputs, run),
+        Err(refused) => Err(kernel_fault(refused)),
+    }
+}
+
+/// The same of a kernel with its circuit.
+fn go_on(
+    alloc: Global,
+    compiled: &Compiled,
+    inputs: &[u8],
+    run: RunOptions,
+) -> Result<Vec<u8>, GoRefusal>
+    requires lawful { Lawful compiled.now.typed }
+    requires good { (p : Profile) → Good compiled.now.net compiled.now.typed p }
+    requires short { IsNumbered (length inputs.now) }
+    requires limit { run.limit ≤ max_firings }
+    ensures ok { IfOk result (λ text.
+        GoesTo compiled.now.typed compiled.now.net inputs.now run text.items) }
+    ensures err { IfErr result (IsGoFault compiled.now.net inputs.now run) }
+{
+    good_nets_stay_good();
+    inputs_texts_have_one_reading();
+    numbers_stay_in_range();
+    match run_text(alloc, &compiled.net, inputs, run) {
+        Ok(results) => match joined(alloc, compiled.net.net(), results.as_slice()) {
+            Ok(text) => Ok(text),
+            Err(Memory) => Err(GoRefusal::Memory),
+        },
+        Err(refused) => Err(run_fault(refused)),
+    }
+}
+
+/// The text of a net, a line `%%`, and what follows.
+fn joined(alloc: Global, net: &Net, results: &[u8]) -> Result<Vec<u8>, Memory>
+    ensures { IfOk result (λ text. IsJoined net.now results.now text.items) }
+{
+    let mut text = print(alloc, net)?;
+    text.extend_from_slice(b"%%\n")?;
+    text.extend_from_slice(results)?;
+    Ok(text)
+}

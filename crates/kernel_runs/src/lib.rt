@@ -1,0 +1,20 @@
+//! From the bytes of a kernel to the text of its circuit, and with the bytes of inputs to the text of a run of it.
+//!
+//! [`compile_text`] and [`go_text`] are the whole calls. A circuit computes its kernel whatever the inputs, so what
+//! [`go_text`] shows are the kernel's own results where it ends on them.
+#![tactic(auto)]
+
+mod compilation;
+mod given;
+mod going;
+mod laws;
+mod options;
+mod refusal;
+#[cfg(test)]
+mod tests;
+
+pub use compilation::compile_text;
+pub use going::go_text;
+pub use laws::{circuits_show_what_is_interpreted, ending_kernels_run, kernels_compile};
+pub use options::CircuitOptions;
+pub use refusal::GoRefusal;

@@ -1,9 +1,0 @@
-pub mod Answers
-pub mod Draft
-pub mod Good
-pub mod Inputs
-pub mod Meaning
-pub mod PartRefusals
-pub mod Pass
-pub mod Reading
-pub mod Spelling

@@ -1,0 +1,38 @@
+#!/bin/sh
+# Times runs by cycles on the netlist of a histogram, examples/histogram, with 32,768 turns, beside the plain runner, by the
+# proved program bench_cycles; then the same where the loop stands among 1,000, 10,000 and 500,000 idle ones of two units.
+# With GNU time it tells the most memory of each process too. On a machine with other work, times are longer.
+set -eu
+program=$1
+net=$2
+folder=$(mktemp -d)
+trap 'rm -rf "$folder"' EXIT
+# Runs a program, and tells its memory and its user time where they can be taken.
+timed() {
+  if [ -x /usr/bin/time ]; then /usr/bin/time -f '%M KiB, %U s of user time' "$@"; else "$@"; fi
+}
+# The net with so many idle loops of a fork and a sum behind its units.
+with_idle() {
+  awk -v loops="$1" '
+    /^unit / { units++ }
+    /^chan / && !laid { for (i = 0; i < loops; i++) print "unit fork 32 2\nunit op2 add32"; laid = 1 }
+    /^end$/ {
+      for (i = 0; i < loops; i++) {
+        fork = units + 2 * i; sum = fork + 1
+        print "chan " fork ".0 " sum ".0 32 1 1\nchan " fork ".1 " sum ".1 32 1 1\nchan " sum ".0 " fork ".0 32 1 1"
+      }
+    }
+    { print }' "$net"
+}
+awk '
+  /^array / { length_of[$2] = $4 }
+  END {
+    print "n = 32768"
+    printf "x ="; for (i = 0; i < length_of["x"]; i++) printf " %d", (i * 37 + 11) % length_of["h"]; print ""
+    printf "h ="; for (i = 0; i < length_of["h"]; i++) printf " 0"; print ""
+  }' "$net" > "$folder/inputs"
+for loops in 0 1000 10000 500000; do
+  echo "among $loops idle loops:"
+  with_idle "$loops" > "$folder/net"
+  timed "$program" "$folder/net" "$folder/inputs"
+done

@@ -1,0 +1,21 @@
+#!/bin/sh
+# Runs each kernel of examples/ by a program elastic, by `go` and by `ref`, and compares what it prints with results.txt.
+set -eu
+program=$1
+folder=$(mktemp -d)
+trap 'rm -rf "$folder"' EXIT
+bad=0
+for kernel in examples/*/kernel.c; do
+  example=$(dirname "$kernel")
+  "$program" go "$kernel" "$example/inputs.txt" | sed '1,/^%%$/d' > "$folder/go" || true
+  "$program" ref "$kernel" "$example/inputs.txt" > "$folder/ref" || true
+  for way in go ref; do
+    if cmp -s "$folder/$way" "$example/results.txt"; then
+      echo "$way $example: as results.txt"
+    else
+      echo "$way $example: differs from results.txt"
+      bad=1
+    fi
+  done
+done
+exit $bad
