@@ -10,7 +10,6 @@ mod QueueTurnLemmas
 mod TurnLemmas
 mod StepLemmas
 mod RunLemmas
-mod MoveLemmas
 mod UsedLemmas
 mod MakeLemmas
 mod StartLemmas
@@ -18,3 +17,4 @@ mod MarkLemmas
 mod NoteLemmas
 mod NextLemmas
 mod ExecLemmas
+pub mod FollowLemmas

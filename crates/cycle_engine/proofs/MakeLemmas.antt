@@ -1,46 +1,79 @@
 -- A firing made by the engine.
-use Rattle.std.proofs.Common.{◌≡◌, ℕ, suc, zero, ◌+◌, ◌*◌, ◌<◌, ◌≤◌, ◌≢◌, Bool, true, false, cond, Option, Some, None, List, [], ◌∷◌, ◌++◌, length, map, get_or, refl, sym, ap, subst, ◌∙◌, arith, IfSome, length-append, append_assoc}
+use Rattle.std.proofs.Common.{◌≡◌, ℕ, ◌+◌, ◌<◌, ◌≤◌, ◌≢◌, Bool, true, false, cond, Option, Some, None, List, [], ◌∷◌, ◌++◌, length, map, get_or, refl, sym, ap, subst, ◌∙◌, arith, IfSome, IsSomeAnd, length-append, append_assoc}
 use Rattle.std.specs.List.{AllByRecursion}
-use Rattle.el_base.specs.Limits.{max_depth}
-use Rattle.net_types.specs.declared.net.Chan.{Chan}
 use Rattle.net_types.specs.declared.net.Net.{Net}
 use Rattle.net_types.specs.declared.firing.Firing.{Firing}
-use Rattle.net_types.specs.Nets.{out_of, nowhere, chan_at, kind_of}
-use Rattle.net_core.specs.Fire.{Effect, State, has_room, after, after_effect, applied}
+use Rattle.net_types.specs.Nets.{into, out_of, chan_at, kind_of}
+use Rattle.net_core.specs.Fire.{Effect, has_room, after, after_effect, applied}
 use Rattle.net_core.specs.declared.plan.Put.{Put}
+use Rattle.net_core.specs.declared.plan.Moves.{Moves}
+use Rattle.net_core.specs.declared.plan.Change.TheVariants as change
 use Rattle.net_core.specs.declared.plan.Plan.{Plan}
-use Rattle.net_core.specs.Plans.{places_of, effect_by}
-use Rattle.net_core.specs.States.{state_of, IsOf, own_at, array_at, IsPlanOf, CountsWithin, CountsRise}
+use Rattle.net_core.specs.Held.{AllWithin, HasRoom, laid_on, taken_all}
+use Rattle.net_core.specs.Plans.{places_of, effect_by, apart, chans_of, taken_of, laid_of, moves_of}
+use Rattle.net_core.specs.private.Moves.{taken_chans}
+use Rattle.net_core.specs.States.{state_of, IsOf, own_at, array_at, IsPlanOf}
 use Rattle.net_core.proofs.StateLemmas.{plan_within}
+use Rattle.net_core.proofs.MoveLemmas.{chans_are, distinct_of, moves_are, slots_at}
 use Rattle.net_replay.specs.Finishes.{IsLogged}
 use Rattle.cycle_engine.specs.declared.engine.Engine.{Engine}
 use Rattle.cycle_engine.specs.declared.engine.Bounds.{Bounds}
-use Rattle.cycle_engine.specs.Cycles.{Dated, after_by, after_in, AreDated, May, Makes, Once, InOrder, IsUnused, IsOldest, phase, place_of}
+use Rattle.cycle_engine.specs.Cycles.{Dated, dated, after_by, after_in, AreDated, May, Makes, Once, InOrder, IsUnused, IsOldest, phase, place_of}
 use Rattle.cycle_engine.specs.Cuts.{joined}
-use Rattle.cycle_engine.specs.private.Trials.{dated_of, IsEngine, IsBegun, AreWithin, HasDateRoom, dates_after}
-use Rattle.cycle_engine.specs.private.Goings.{Past, IsReady, InCycle, MayFollow, IsMade, all_made}
-use Rattle.cycle_engine.specs.private.Marking.{AreSince, IsListed, IsNoted}
-use Rattle.cycle_engine.proofs.NoteLemmas.{after_is, moved_after, coming_after}
+use Rattle.cycle_engine.specs.private.Trials.{dated_of, IsEngine, IsBegun, dated_laid, dated_moves, dates_after}
+use Rattle.cycle_engine.specs.private.Goings.{Past, IsReady, InCycle, MayFollow, IsMade}
+use Rattle.cycle_engine.specs.private.Marking.{IsNoted, IsFreed}
+use Rattle.cycle_engine.proofs.NoteLemmas.{after_is, coming_after}
+use Rattle.cycle_engine.proofs.FollowLemmas.{followed_after}
 use Rattle.cycle_engine.proofs.BeforeLemmas.{after_of}
 use Rattle.cycle_engine.proofs.DateLemmas.{dated_after}
-use Rattle.cycle_engine.proofs.MoveLemmas.{are_within}
 
-slots_at : (cs : List Chan) (d : ℕ) → get_or (map (λ (c : Chan). c.slots) cs) d 0 ≡ (get_or cs d nowhere).slots
-slots_at [] d = refl
-slots_at (c ∷ cs) zero = refl
-slots_at (c ∷ cs) (suc d) = slots_at cs d
+-- ---- dates are moved as tokens are
 
-pub put_room : (net : Net) (e : Engine) (u : ℕ) (o : Option Put) → IsEngine net e → has_room net (state_of e.state) u o → IfSome o (λ w. HasDateRoom net u e.dates.tokens e.dates.slots w)
-put_room net e u None k h = tt
-put_room net e u (Some w) k h =
+put_room : (net : Net) (e : Engine) (c u : ℕ) (o : Option Put) → IsEngine net e → has_room net (state_of e.state) u o → IfSome (dated_laid c (laid_of net u o)) (λ w. HasRoom e.dates w.chan)
+put_room net e c u None k h = tt
+put_room net e c u (Some w) k h =
     let a = k.dated.each (out_of u w.place net.chans) in
     let b : get_or e.dates.slots (out_of u w.place net.chans) 0 ≡ (chan_at net (out_of u w.place net.chans)).slots = ap (λ xs. get_or xs (out_of u w.place net.chans) 0) k.slots ∙ slots_at net.chans (out_of u w.place net.chans) in
     omega arith
 
-pub takes_within : (net : Net) (e : Engine) (f : Firing) (p : Plan) → IsEngine net e → IsPlanOf net e.state f (Some p) → AreWithin net (length e.dates.tokens) f.unit (places_of p.takes)
-takes_within net e f p k is =
-    let P : ℕ → Type 0 = λ n. AreWithin net n f.unit (places_of p.takes) in
-    subst P (k.dated.chans ∙ sym k.dated.lists) (are_within net (length e.state.tokens.tokens) f.unit (places_of p.takes) (plan_within net e.state f p (sym is)))
+-- there is room for the date of the token that is put
+pub date_room : (net : Net) (e : Engine) (c u : ℕ) (p : Plan) (m : Moves) → m ≡ dated_moves c (moves_of net u p) → IsEngine net e → has_room net (state_of e.state) u p.put → IfSome m.laid (λ w. HasRoom e.dates w.chan)
+date_room net e c u p m s k h = let P : Moves → Type 0 = λ x. IfSome x.laid (λ w. HasRoom e.dates w.chan) in subst P (sym s) (put_room net e c u p.put k h)
+
+each_within : (n : ℕ) (f : ℕ → ℕ) (ps : List ℕ) → AllWithin n (map f ps) → AllByRecursion (λ p. f p < n) ps
+each_within n f [] h = tt
+each_within n f (p ∷ ps) h = (h.0, each_within n f ps h.1)
+
+plan_dates : (net : Net) (e : Engine) (f : Firing) (p : Plan) → IsEngine net e → IsPlanOf net e.state f (Some p) → AllWithin (length e.dates.tokens) (taken_chans net f.unit p.takes)
+plan_dates net e f p k is =
+    let P : ℕ → Type 0 = λ n. AllWithin n (taken_chans net f.unit p.takes) in
+    subst P (k.dated.chans ∙ sym k.dated.lists) (plan_within net e.state f p (sym is))
+
+-- the channels from which a plan takes are among those of the dates
+pub takes_within : (net : Net) (e : Engine) (f : Firing) (p : Plan) → IsEngine net e → IsPlanOf net e.state f (Some p) → AllByRecursion (λ q. into f.unit q net.chans < length e.dates.tokens) (places_of p.takes)
+takes_within net e f p k is = each_within (length e.dates.tokens) (λ q. into f.unit q net.chans) (places_of p.takes) (plan_dates net e f p k is)
+
+pub dates_within : (net : Net) (e : Engine) (c : ℕ) (f : Firing) (p : Plan) (m : Moves) → m ≡ dated_moves c (moves_of net f.unit p) → IsEngine net e → IsPlanOf net e.state f (Some p) → AllWithin (length e.dates.tokens) (chans_of m.taken)
+dates_within net e c f p m s k is =
+    let P : Moves → Type 0 = λ x. AllWithin (length e.dates.tokens) (chans_of x.taken) in
+    let Q : List ℕ → Type 0 = AllWithin (length e.dates.tokens) in
+    subst P (sym s) (subst Q (sym (chans_are net f.unit p.takes)) (plan_dates net e f p k is))
+
+laid_dated : (net : Net) (u c : ℕ) (o : Option Put) → dated_laid c (laid_of net u o) ≡ laid_of net u (dated c o)
+laid_dated net u c None = refl
+laid_dated net u c (Some w) = refl
+
+-- so are the dates moved
+pub dates_made : (net : Net) (c : ℕ) (e : Engine) (f : Firing) (p : Plan) (m : Moves) (new : List (List ℕ)) → IsEngine net e → IsPlanOf net e.state f (Some p) → apart p.takes ≡ true → m ≡ dated_moves c (moves_of net f.unit p)
+    → new ≡ laid_on m.laid (taken_all (chans_of m.taken) e.dates.tokens) → new ≡ dates_after net f.unit p.takes p.put c e.dates.tokens
+dates_made net c e f p m new k is a s r =
+    let x : Plan = record { takes = p.takes; put = dated c p.put; change = change.Keep } in
+    let P : ℕ → Type 0 = λ n. AllWithin n (taken_chans net f.unit p.takes) in
+    let w : AllWithin (length net.chans) (taken_chans net f.unit p.takes) = subst P k.dated.chans (plan_within net e.state f p (sym is)) in
+    r ∙ (ap (λ (y : Moves). laid_on y.laid (taken_all (chans_of y.taken) e.dates.tokens)) s
+    ∙ (ap (λ l. laid_on l (taken_all (chans_of (taken_of net f.unit p.takes)) e.dates.tokens)) (laid_dated net f.unit c p.put)
+    ∙ moves_are net f.unit x e.dates.tokens (distinct_of net f.unit p.takes a w)))
 
 pub made_is : (net : Net) (c : ℕ) (e e' : Engine) (f : Firing) (p : Plan) → IsPlanOf net e.state f (Some p) → state_of e'.state ≡ after net (state_of e.state) f
     → e'.dates.tokens ≡ dates_after net f.unit p.takes p.put c e.dates.tokens → dated_of e' ≡ after_in net c (dated_of e) f
@@ -86,25 +119,34 @@ logged : (keep : Bool) (xs ys zs ws : List Firing) (f : Firing) → xs ≡ cond 
 logged true xs ys zs ws f a b = b ∙ (ap (λ k. k ++ f ∷ []) a ∙ append_assoc ys zs (f ∷ []))
 logged false xs ys zs ws f a b = b ∙ ap (λ (k : List Firing). k ++ []) a
 
--- the engine after a firing
-pub record Makes1 (net : Net) (b : Bounds) (c : ℕ) (old new : Engine) (f : Firing) (p : Plan) : Type 0 where
+-- the engine after a firing that moved these tokens
+pub record Makes1 (net : Net) (b : Bounds) (c : ℕ) (old new : Engine) (f : Firing) (m : Moves) : Type 0 where
   pub after : dated_of new ≡ after_in net c (dated_of old) f
   pub fired : new.fired.items ≡ old.fired.items ++ f ∷ []
   pub begun : new.begun ≡ old.begun
   pub made : new.made ≡ old.made
   pub logged : IsLogged b.keep (f ∷ []) old.log new.log
-  pub marks : new.marks ≡ old.marks
-  pub since : AreSince new.fired.items new.since.items
-  pub notes : IsNoted net f.unit p.takes p.put c old.notes new.notes
+  pub notes : IsNoted net m.laid c old.notes new.notes
+  pub freed : IsFreed old.dates c (chans_of m.taken) old.freed new.freed
 
-pub made_going : (net : Net) (past : Past) (b : Bounds) (c : ℕ) (start : Dated) (old new : Engine) (f : Firing) (p : Plan) → IsEngine net old → IsPlanOf net old.state f (Some p) → InCycle net past b c start old → MayFollow net old f → IsUnused old.fired.items f
-    → May net c start (dated_of old) f → Makes1 net b c old new f p → IsMade net past b c start old new f
-made_going net past b c start old new f p eng is going follow un may one = record {
+made_begun : (net : Net) (b : Bounds) (c : ℕ) (start : Dated) (old new : Engine) (f : Firing) (p : Plan) (m : Moves) → IsReady net b old → IsPlanOf net old.state f (Some p) → m ≡ moves_of net f.unit p → May net c start (dated_of old) f
+    → Makes1 net b c old new f m → IsBegun net c start old → IsBegun net c start new
+made_begun net b c start old new f p m ready is s may one began = record {
+  chans =
+      (let P : Option Effect → Type 0 = λ o. IsSomeAnd o (λ x. has_room net (state_of old.state) f.unit x.put) in
+      let Q : Moves → Type 0 = λ x. IsFreed old.dates c (chans_of x.taken) old.freed new.freed in
+      followed_after net c start old new f p ready.engine is (subst P (sym is) may.turn) (after_is net c old new f p is one.after) (subst Q s one.freed) ready.chans began.chans);
+  queues = λ u q. (ap (λ k. get_or k.items u 0) one.begun ∙ began.queues u q);
+}
+
+pub made_going : (net : Net) (past : Past) (b : Bounds) (c : ℕ) (start : Dated) (old new : Engine) (f : Firing) (p : Plan) (m : Moves) → IsReady net b old → IsPlanOf net old.state f (Some p) → m ≡ moves_of net f.unit p
+    → InCycle net past b c start old → MayFollow net old f → IsUnused old.fired.items f → May net c start (dated_of old) f → Makes1 net b c old new f m → IsMade net past b c start old new f
+made_going net past b c start old new f p m ready is s going follow un may one = record {
   may = may;
   after = one.after;
   fired = one.fired;
   going = record {
-    began = (let P : _ → Type 0 = IsBegun net start in subst P (sym one.begun) going.began);
+    began = made_begun net b c start old new f p m ready is s may one going.began;
     done = going.done;
     number = going.number;
     makes = (let P : List Firing → Type 0 = λ fs. Makes net c start start fs (dated_of new) in
@@ -114,39 +156,8 @@ made_going net past b c start old new f p eng is going follow un may one = recor
     made = one.made ∙ going.made;
     log = (let P : List Firing → Type 0 = λ fs. new.log.items ≡ cond b.keep (joined past.cycles ++ fs) [] in
         subst P (sym one.fired) (logged b.keep old.log.items (joined past.cycles) old.fired.items new.log.items f going.log one.logged.items));
-    moved = moved_after net c old new f p eng (after_is net c old new f p is one.after) one.begun one.notes going.moved;
-    coming = coming_after net c old new f p eng (after_is net c old new f p is one.after) one.notes going.coming;
+    listed = one.freed.listed going.listed;
+    coming = (let Q : Moves → Type 0 = λ x. IsNoted net x.laid c old.notes new.notes in
+        coming_after net c old new f p ready.engine (after_is net c old new f p is one.after) (subst Q s one.notes) going.coming);
   };
 }
-
-counts_more : (n m : ℕ) (s t : State) → CountsWithin n s → CountsRise max_depth s t → m ≡ n + max_depth → CountsWithin m t
-counts_more n m s t a r e = let P : ℕ → Type 0 = λ k. CountsWithin k t in subst P (sym e) (r n a)
-
-pub made_ready : (net : Net) (b : Bounds) (c : ℕ) (old new : Engine) (f : Firing) (p : Plan) → IsReady net b old → IsEngine net new → CountsRise max_depth (state_of old.state) (state_of new.state) → Makes1 net b c old new f p
-    → all_made old < b.limit → IsReady net b new
-made_ready net b c old new f p r eng rise one less =
-    let n : all_made new ≡ all_made old + 1 = (let a = ap (λ (fs : List Firing). length fs) one.fired in let d = length_snoc old.fired.items f in let e = one.made in omega arith) in
-    let m : all_made new * max_depth ≡ all_made old * max_depth + max_depth = ap (λ k. k * max_depth) n ∙ more (all_made old) max_depth in
-    record {
-      engine = eng;
-      few = r.few;
-      within = omega arith;
-      counts = counts_more (all_made old * max_depth) (all_made new * max_depth) (state_of old.state) (state_of new.state) r.counts rise m;
-      room = room b.keep refl;
-      chans = ap (λ k. length k.chans.items) one.begun ∙ r.chans;
-      queues = ap (λ k. length k.queues.items) one.begun ∙ r.queues;
-      marked = ap (λ m. length m.marked.items) one.marks ∙ r.marked;
-      listed = (let P : _ → Type 0 = IsListed net in subst P (sym one.marks) r.listed);
-      cells = one.notes.cells ∙ r.cells;
-      since = one.since;
-    }
-  where
-    more : (x y : ℕ) → (x + 1) * y ≡ x * y + y
-    more x y = grind arith
-
-    room : (k : Bool) → b.keep ≡ k → b.keep ≡ true → b.limit ≤ all_made new + new.log.room
-    room true is k =
-        let a = ap (λ (fs : List Firing). length fs) one.fired in let d = length_snoc old.fired.items f in let e = one.made in let g = r.room k in
-        let i : new.log.room + 1 ≡ old.log.room = (let z = one.logged.room in let y : length (cond b.keep (f ∷ []) []) ≡ 1 = ap (λ k. length (cond k (f ∷ []) [])) is in omega arith) in
-        omega arith
-    room false is k = (let z : false ≡ true = sym is ∙ k in cc)

@@ -5,12 +5,12 @@ use Rattle.std.proofs.lemmas.Bool.{cases_eq, cases_lt}
 use Rattle.std.proofs.lemmas.List.{get_or_append_left}
 use Rattle.net_types.specs.declared.net.Net.{Net}
 use Rattle.net_types.specs.declared.firing.Firing.{Firing}
-use Rattle.net_types.specs.Nets.{into, out_of, kind_of, chan_at}
+use Rattle.net_types.specs.Nets.{kind_of, chan_at}
 use Rattle.net_check.specs.Ends.{is_lsq}
-use Rattle.net_core.specs.Fire.{State, tokens_at}
-use Rattle.net_core.specs.declared.plan.Put.{Put}
+use Rattle.net_core.specs.Fire.{State}
+use Rattle.net_core.specs.declared.plan.Laid.{Laid}
 use Rattle.cycle_engine.specs.declared.marks.Marks.{Marks}
-use Rattle.cycle_engine.specs.private.Marking.{AreSince, IsSinceNoted, Holds, HasUnit, no_firing, IsMarked, IsListed, KeepsMarks, IsSourceMarked, IsMergeMarked, IsTargetMarked, IsPutMarked, IsTaken, IsEmptied, IsCounted}
+use Rattle.cycle_engine.specs.private.Marking.{AreSince, IsSinceNoted, Holds, HasUnit, no_firing, IsMarked, IsListed, KeepsMarks, IsSourceMarked, IsMergeMarked, IsTargetMarked, IsPutMarked, IsTaken, IsEmptied}
 
 -- ---- lists
 
@@ -154,69 +154,12 @@ target_more net n a b d k h l m = k.kept (chan_at net d).to.unit (h l m)
 pub source_as : (net : Net) (s : State) (m n : ℕ) (a : Marks) (d : ℕ) → m ≡ n → IsSourceMarked net s m a d → IsSourceMarked net s n a d
 source_as net s m n a d e h l f k = h l f (omega arith)
 
--- ---- a channel whose tokens were counted
-
-pub record IsLooked (net : Net) (s : State) (n : ℕ) (old new : List ℕ) (m : Marks) (d : ℕ) : Type 0 where
-  pub noted : IsCounted s new d
-  pub marked : length (tokens_at s d) < get_or old d 0 → IsSourceMarked net s n m d
-
--- one more was looked at
-pub looked_on : (net : Net) (s : State) (n c d : ℕ) (first old new : List ℕ) (a b : Marks) → KeepsMarks a b → IsCounted s new c → ((x : ℕ) → x ≢ c → get_or new x 0 ≡ get_or old x 0)
-    → IsLooked net s n first old a d → IsLooked net s n first new b d
-looked_on net s n c d first old new a b k here other h = by (cases_eq d c)
-  where
-    m : length (tokens_at s d) < get_or first d 0 → IsSourceMarked net s n b d
-    m l = source_more net s n a b d k (h.marked l)
-
-    by : (d ≡ c) ⊎ (d ≢ c) → IsLooked net s n first new b d
-    by (inl e) = record { noted = subst (IsCounted s new) (sym e) here; marked = m }
-    by (inr x) = record { noted = other d x ∙ h.noted; marked = m }
-
-pub looked_here : (net : Net) (s : State) (n c : ℕ) (first old new : List ℕ) (a b : Marks) → KeepsMarks a b → IsCounted s new c → (length (tokens_at s c) < get_or old c 0 → IsSourceMarked net s n b c)
-    → (get_or old c 0 ≡ get_or first c 0) ⊎ IsLooked net s n first old a c → IsLooked net s n first new b c
-looked_here net s n c first old new a b k here marked (inl e) = record { noted = here; marked = λ l. marked (omega arith) }
-looked_here net s n c first old new a b k here marked (inr h) = record { noted = here; marked = λ l. source_more net s n a b c k (h.marked l) }
-
-pub looked_rest : (net : Net) (s : State) (n c d : ℕ) (first old new : List ℕ) (a b : Marks) → KeepsMarks a b → IsCounted s new c → ((x : ℕ) → x ≢ c → get_or new x 0 ≡ get_or old x 0) → (length (tokens_at s c) < get_or old c 0 → IsSourceMarked net s n b c)
-    → ((x : ℕ) → (get_or old x 0 ≡ get_or first x 0) ⊎ IsLooked net s n first old a x) → (get_or new d 0 ≡ get_or first d 0) ⊎ IsLooked net s n first new b d
-looked_rest net s n c d first old new a b k here other marked rest = by (cases_eq d c) (rest d)
-  where
-    by : (d ≡ c) ⊎ (d ≢ c) → (get_or old d 0 ≡ get_or first d 0) ⊎ IsLooked net s n first old a d → (get_or new d 0 ≡ get_or first d 0) ⊎ IsLooked net s n first new b d
-    by (inl e) r = inr (subst (IsLooked net s n first new b) (sym e) (looked_here net s n c first old new a b k here marked (rest c)))
-    by (inr x) (inl e) = inl (other d x ∙ e)
-    by (inr x) (inr h) = inr (looked_on net s n c d first old new a b k here other h)
-
 -- the firing of a number has its unit
 pub unit_named : (fs : List Firing) (P : ℕ → Type 0) (u : ℕ) → HasUnit u fs → ((k : ℕ) → k < length fs → P (get_or fs k no_firing).unit) → P u
 unit_named fs P u h f = subst P h.is (f h.at h.within)
 
 pub number_held : (xs : List ℕ) (P : ℕ → Type 0) (x : ℕ) → Holds x xs → ((k : ℕ) → k < length xs → P (get_or xs k 0)) → P x
 number_held xs P x h f = subst P h.is (f h.at h.within)
-
--- the channels of a list up to one more
-pub looked_each : (net : Net) (s : State) (n : ℕ) (moved : List ℕ) (i : ℕ) (first old new : List ℕ) (a b : Marks) → KeepsMarks a b → IsCounted s new (get_or moved i 0) → ((x : ℕ) → x ≢ get_or moved i 0 → get_or new x 0 ≡ get_or old x 0)
-    → (length (tokens_at s (get_or moved i 0)) < get_or old (get_or moved i 0) 0 → IsSourceMarked net s n b (get_or moved i 0)) → ((k : ℕ) → k < i → IsLooked net s n first old a (get_or moved k 0))
-    → ((x : ℕ) → (get_or old x 0 ≡ get_or first x 0) ⊎ IsLooked net s n first old a x) → (k : ℕ) → k < i + 1 → IsLooked net s n first new b (get_or moved k 0)
-looked_each net s n moved i first old new a b kept here other marked each rest k l = by (cases_lt k i)
-  where
-    P : ℕ → Type 0
-    P x = IsLooked net s n first new b (get_or moved x 0)
-
-    by : (k < i) ⊎ (i ≤ k) → IsLooked net s n first new b (get_or moved k 0)
-    by (inl m) = looked_on net s n (get_or moved i 0) (get_or moved k 0) first old new a b kept here other (each k m)
-    by (inr m) = (let e : i ≡ k = omega arith in subst P e (looked_here net s n (get_or moved i 0) first old new a b kept here marked (rest (get_or moved i 0))))
-
-pub looked_noted : (net : Net) (s : State) (n : ℕ) (moved first new : List ℕ) (b : Marks) (d : ℕ) → ((k : ℕ) → k < length moved → IsLooked net s n first new b (get_or moved k 0)) → ((x : ℕ) → (get_or new x 0 ≡ get_or first x 0) ⊎ IsLooked net s n first new b x)
-    → IsCounted s first d ⊎ Holds d moved → IsCounted s new d
-looked_noted net s n moved first new b d each rest (inr h) = subst (IsCounted s new) h.is (each h.at h.within).noted
-looked_noted net s n moved first new b d each rest (inl k) = by (rest d)
-  where
-    by : (get_or new d 0 ≡ get_or first d 0) ⊎ IsLooked net s n first new b d → IsCounted s new d
-    by (inl e) = e ∙ k
-    by (inr h) = h.noted
-
-pub looked_marked : (net : Net) (s : State) (n : ℕ) (moved first new : List ℕ) (b : Marks) (d : ℕ) → ((k : ℕ) → k < length moved → IsLooked net s n first new b (get_or moved k 0)) → Holds d moved → length (tokens_at s d) < get_or first d 0 → IsSourceMarked net s n b d
-looked_marked net s n moved first new b d each h = (let P : ℕ → Type 0 = λ x. length (tokens_at s x) < get_or first x 0 → IsSourceMarked net s n b x in subst P h.is (each h.at h.within).marked)
 
 pub target_as : (net : Net) (m n : ℕ) (a : Marks) (d : ℕ) → m ≡ n → IsTargetMarked net m a d → IsTargetMarked net n a d
 target_as net m n a d e h l k = h l (omega arith)
@@ -275,10 +218,10 @@ since_more old new f n before after long e s h = (let P : List Firing → Type 0
 pub merge_more : (net : Net) (m n : ℕ) (a b : Marks) (d : ℕ) → m ≡ n → KeepsMarks a b → IsMergeMarked net m a d → IsMergeMarked net n b d
 merge_more net m n a b d e k h l q x = k.kept (chan_at net d).from.unit (h l q (omega arith))
 
-pub merges_more : (net : Net) (m n u : ℕ) (a b : Marks) (ps : List ℕ) → m ≡ n → KeepsMarks a b → AllByRecursion (λ p. IsMergeMarked net m a (into u p net.chans)) ps → AllByRecursion (λ p. IsMergeMarked net n b (into u p net.chans)) ps
-merges_more net m n u a b [] e k h = tt
-merges_more net m n u a b (p ∷ ps) e k h = (merge_more net m n a b (into u p net.chans) e k h.0, merges_more net m n u a b ps e k h.1)
+pub merges_more : (net : Net) (m n : ℕ) (a b : Marks) (ds : List ℕ) → m ≡ n → KeepsMarks a b → AllByRecursion (IsMergeMarked net m a) ds → AllByRecursion (IsMergeMarked net n b) ds
+merges_more net m n a b [] e k h = tt
+merges_more net m n a b (d ∷ ds) e k h = (merge_more net m n a b d e k h.0, merges_more net m n a b ds e k h.1)
 
-pub put_as : (net : Net) (u : ℕ) (put : Option Put) (m n : ℕ) (a : Marks) → m ≡ n → IsPutMarked net u put m a → IsPutMarked net u put n a
-put_as net u None m n a e h = tt
-put_as net u (Some w) m n a e h = λ z. target_as net m n a (out_of u w.place net.chans) e (h z)
+pub put_as : (net : Net) (laid : Option Laid) (m n : ℕ) (a : Marks) → m ≡ n → IsPutMarked net laid m a → IsPutMarked net laid n a
+put_as net None m n a e h = tt
+put_as net (Some w) m n a e h = λ z. target_as net m n a w.chan e (h z)

@@ -1,5 +1,5 @@
 -- From one cycle to the next: which units may fire in it.
-use Rattle.std.proofs.Common.{◌≡◌, ◌≢◌, ℕ, suc, zero, ◌+◌, ◌%◌, ◌<◌, ◌≤◌, ◌⊎◌, inl, inr, Bool, true, false, List, [], ◌∷◌, length, get_or, set, refl, sym, ap, subst, ◌∙◌, arith, IsSomeAnd, get_or-set_other}
+use Rattle.std.proofs.Common.{◌≡◌, ◌≢◌, ℕ, suc, zero, ◌+◌, ◌%◌, ◌<◌, ◌≤◌, ◌⊎◌, inl, inr, Bool, true, false, Option, Some, None, List, [], ◌∷◌, length, get_or, set, refl, sym, ap, subst, ◌∙◌, arith, IsSomeAnd, get_or-set_other}
 use Rattle.std.specs.List.{AllByRecursion}
 use Rattle.std.proofs.lemmas.Bool.{cases_lt, cases_eq}
 use Rattle.el_base.specs.Limits.{max_delay}
@@ -8,23 +8,23 @@ use Rattle.net_types.specs.declared.firing.Firing.{Firing}
 use Rattle.net_types.specs.Nets.{into, out_of, kind_of, chan_at}
 use Rattle.net_check.specs.Checks.{IsChecked}
 use Rattle.net_check.specs.Ends.{is_lsq}
-use Rattle.net_core.specs.Fire.{Own, idle, first, tokens_at}
+use Rattle.net_core.specs.Fire.{Own, idle, first, has_room, tokens_at}
+use Rattle.net_core.specs.declared.plan.Put.{Put}
 use Rattle.net_core.specs.States.{state_of}
 use Rattle.net_core.proofs.ApartLemmas.{into-at, out_of-at, is_at-inv}
 use Rattle.cycle_engine.specs.declared.engine.Engine.{Engine}
 use Rattle.cycle_engine.specs.declared.engine.Bounds.{Bounds}
 use Rattle.cycle_engine.specs.declared.marks.Marks.{Marks}
 use Rattle.cycle_engine.specs.Cycles.{Dated, IsRipe, HasDepth, May, Makes, IsUnused, after_by, after_in}
-use Rattle.cycle_engine.specs.private.Trials.{dated_of, IsEngine}
-use Rattle.cycle_engine.specs.private.Marking.{Holds, HasUnit, no_firing, IsMarked, IsStarved, IsSourceMarked, IsTargetMarked, IsCounted, cell, cells_of, entries_at}
+use Rattle.cycle_engine.specs.private.Trials.{dated_of, IsOldFull, IsFollowed, IsEngine}
+use Rattle.cycle_engine.specs.private.Marking.{Holds, HasUnit, no_firing, IsMarked, IsStarved, IsSourceMarked, IsTargetMarked, cell, cells_of, entries_at}
 use Rattle.cycle_engine.specs.private.Goings.{Past, IsReady, HasDone, IsStirred, IsWatching, AreComing}
 use Rattle.cycle_engine.specs.private.Places.{IsFull}
 use Rattle.cycle_engine.specs.Rousing.{Could}
 use Rattle.cycle_engine.proofs.BeforeLemmas.{after_of, may_could}
-use Rattle.cycle_engine.proofs.RousingLemmas.{next_rouses}
+use Rattle.cycle_engine.proofs.RousingLemmas.{slots_within, next_could}
 use Rattle.cycle_engine.proofs.DateLemmas.{each_as, effect_there}
 use Rattle.cycle_engine.proofs.PlaceLemmas.{fires_within, starved_quiet}
-use Rattle.cycle_engine.proofs.TurnLemmas.{going_dated}
 
 get_other : (xs : List Own) (v u : ℕ) (o : Own) → u ≢ v → get_or (set xs v o) u idle ≡ get_or xs u idle
 get_other xs v u o n = get_or-set_other xs v u o idle n
@@ -58,11 +58,6 @@ has_unit_or (f ∷ fs) u = by (cases_eq f.unit u) (has_unit_or fs u)
         none zero l z = e z
         none (suc i) l z = k (record { at = i; within = omega arith; is = z })
 
-within_tokens : (xss : List (List ℕ)) (d n : ℕ) → n < length (get_or xss d []) → d < length xss
-within_tokens [] d n h = absurd (omega arith)
-within_tokens (x ∷ xss) zero n h = omega arith
-within_tokens (x ∷ xss) (suc d) n h = let l = within_tokens xss d n h in omega arith
-
 some_within : (xss : List (List ℕ)) (k : ℕ) (Q : ℕ → Type 0) → IsSomeAnd (first (get_or xss k [])) Q → k < length xss
 some_within [] k Q i = absurd i
 some_within (y ∷ xss) zero Q i = omega arith
@@ -70,10 +65,10 @@ some_within (y ∷ xss) (suc k) Q i = let h = some_within xss k Q i in omega ari
 
 -- a unit that is not to be marked as the next cycle begins may not fire in it
 module _ (net : Net) (past : Past) (b : Bounds) (c : ℕ) (start : Dated) (e : Engine) (eng : IsEngine net e) (f : IsFull net past b c start e) where
-  pub entries_now : (u : ℕ) → is_lsq (kind_of net u) ≡ true → (get_or e.begun.queues.items u 0 ≡ entries_at (state_of e.state) u) ⊎ HasUnit u e.fired.items
+  pub entries_now : (u : ℕ) → is_lsq (kind_of net u) ≡ true → (get_or e.begun.items u 0 ≡ entries_at (state_of e.state) u) ⊎ HasUnit u e.fired.items
   entries_now u l = by (has_unit_or e.fired.items u)
     where
-      by : HasUnit u e.fired.items ⊎ (HasUnit u e.fired.items → ⊥) → (get_or e.begun.queues.items u 0 ≡ entries_at (state_of e.state) u) ⊎ HasUnit u e.fired.items
+      by : HasUnit u e.fired.items ⊎ (HasUnit u e.fired.items → ⊥) → (get_or e.begun.items u 0 ≡ entries_at (state_of e.state) u) ⊎ HasUnit u e.fired.items
       by (inl h) = inr h
       by (inr n) = inl (f.going.began.queues u l ∙ ap (λ (o : Own). length o.queue.items) (sym (own_same net c start start e.fired.items (dated_of e) u f.going.makes n)))
 
@@ -86,35 +81,30 @@ module _ (net : Net) (past : Past) (b : Bounds) (c : ℕ) (start : Dated) (e : E
       none : HasUnit g.unit e.fired.items → ⊥
       none h = quiet (inr (inl (h, fed)))
 
-      rooms : (p : ℕ) → length (tokens_at start.state (out_of g.unit p net.chans)) ≤ length (tokens_at (state_of e.state) (out_of g.unit p net.chans))
-      rooms p = by (cases_lt (length (tokens_at (state_of e.state) (out_of g.unit p net.chans))) (length (tokens_at start.state (out_of g.unit p net.chans))))
+      -- where what g puts has room now it had room as the cycle began
+      rooms : (o : Option Put) → has_room net (state_of e.state) g.unit o → has_room net start.state g.unit o
+      rooms None r = tt
+      rooms (Some w) r = by (get_or e.freed.marked.items (out_of g.unit w.place net.chans) false) refl
         where
-          d : ℕ
-          d = out_of g.unit p net.chans
+          within : out_of g.unit w.place net.chans < length net.chans
+          within = slots_within net.chans (out_of g.unit w.place net.chans) (length (tokens_at (state_of e.state) (out_of g.unit w.place net.chans))) r
 
-          began : get_or e.begun.chans.items (out_of g.unit p net.chans) 0 ≡ length (tokens_at start.state (out_of g.unit p net.chans))
-          began = f.going.began.chans (out_of g.unit p net.chans)
+          freed : get_or e.freed.marked.items (out_of g.unit w.place net.chans) false ≡ true → ⊥
+          freed m = quiet (inr (inr (inl (record {
+            chan = out_of g.unit w.place net.chans;
+            listed = f.going.listed (out_of g.unit w.place net.chans) m;
+            within = within;
+            source = (is_at-inv (chan_at net (out_of g.unit w.place net.chans)).from g.unit w.place (out_of-at g.unit w.place net.chans within)).0;
+            fed = fed;
+          }))))
 
-          fell : length (tokens_at (state_of e.state) (out_of g.unit p net.chans)) < length (tokens_at start.state (out_of g.unit p net.chans)) → IsCounted (state_of e.state) e.begun.chans.items (out_of g.unit p net.chans) ⊎ Holds (out_of g.unit p net.chans) e.notes.moved.items → ⊥
-          fell l (inl k) = (let z : get_or e.begun.chans.items (out_of g.unit p net.chans) 0 ≡ length (tokens_at (state_of e.state) (out_of g.unit p net.chans)) = k in let y = began in omega arith)
-          fell l (inr k) =
-              let w = within_tokens start.state.tokens (out_of g.unit p net.chans) 0 (omega arith) in
-              let s = (going_dated net past b c start e f.going).chans in
-              let l' : out_of g.unit p net.chans < length net.chans = omega arith in
-              let y = began in
-              quiet (inr (inr (inl (record {
-                chan = out_of g.unit p net.chans;
-                moved = k;
-                fewer = omega arith;
-                within = l';
-                source = (is_at-inv (chan_at net (out_of g.unit p net.chans)).from g.unit p (out_of-at g.unit p net.chans l')).0;
-                fed = fed;
-              }))))
+          clear : (length (tokens_at start.state (out_of g.unit w.place net.chans)) < (chan_at net (out_of g.unit w.place net.chans)).slots) ⊎ IsOldFull net c e (out_of g.unit w.place net.chans) → has_room net start.state g.unit (Some w)
+          clear (inl l) = l
+          clear (inr k) = (let z = k.0 in absurd (omega arith))
 
-          by : (length (tokens_at (state_of e.state) (out_of g.unit p net.chans)) < length (tokens_at start.state (out_of g.unit p net.chans))) ⊎ (length (tokens_at start.state (out_of g.unit p net.chans)) ≤ length (tokens_at (state_of e.state) (out_of g.unit p net.chans)))
-              → length (tokens_at start.state (out_of g.unit p net.chans)) ≤ length (tokens_at (state_of e.state) (out_of g.unit p net.chans))
-          by (inl l) = absurd (fell l (f.going.moved (out_of g.unit p net.chans)))
-          by (inr l) = l
+          by : (x : Bool) → get_or e.freed.marked.items (out_of g.unit w.place net.chans) false ≡ x → has_room net start.state g.unit (Some w)
+          by true m = absurd (freed m)
+          by false m = clear ((f.going.began.chans (out_of g.unit w.place net.chans)).clear m)
 
       ripes : (p : ℕ) → IsRipe net (suc c) (dated_of e) (into g.unit p net.chans) → IsRipe net c (dated_of e) (into g.unit p net.chans)
       ripes p r = by (get_or e.dates.tokens (into g.unit p net.chans) []) refl (f.going.coming (into g.unit p net.chans)) r
@@ -158,7 +148,7 @@ module _ (net : Net) (past : Past) (b : Bounds) (c : ℕ) (start : Dated) (e : E
       sooner = (let z : c + 1 ≡ suc c = omega arith in let P : ℕ → Type 0 = λ n. May net n (dated_of e) (dated_of e) g in subst P z m)
 
       then_could : Could net c start (dated_of e) g
-      then_could = next_rouses net c start (dated_of e) g rooms ripes depth (may_could net (suc c) (dated_of e) (dated_of e) g sooner)
+      then_could = next_could net c start (dated_of e) g rooms ripes depth (may_could net (suc c) (dated_of e) (dated_of e) g sooner)
 
 -- as a cycle begins, what is to be marked was marked
 pub begun_watching : (net : Net) (past : Past) (b : Bounds) (c n : ℕ) (old new : Engine) → IsChecked net → IsReady net b old → HasDone net past b c old → dated_of new ≡ dated_of old
@@ -178,18 +168,39 @@ begun_watching net past b c n old new checked ready done same marked g un m = by
 -- the marks of a cycle's beginning
 pub stirred_marked : (net : Net) (c : ℕ) (old : Engine) (m1 m2 m3 : Marks) (n : ℕ) → length net.units ≡ n → ((u : ℕ) → IsMarked old.marks u → IsMarked m1 u) → ((u : ℕ) → IsMarked m1 u → IsMarked m2 u) → ((u : ℕ) → IsMarked m2 u → IsMarked m3 u)
     → ((u : ℕ) → HasUnit u old.fired.items → (IsStarved net (state_of old.state) u → ⊥) → u < n → IsMarked m1 u)
-    → ((d : ℕ) → Holds d old.notes.moved.items → length (tokens_at (state_of old.state) d) < get_or old.begun.chans.items d 0 → IsSourceMarked net (state_of old.state) n m2 d)
+    → ((d : ℕ) → Holds d old.freed.list.items → IsSourceMarked net (state_of old.state) n m2 d)
     → ((d : ℕ) → Holds d (cell old.notes (c % 1024)) → IsTargetMarked net n m3 d)
     → (u : ℕ) → u < length net.units → IsStirred net c old u → IsMarked m3 u
-stirred_marked net c old m1 m2 m3 n e a1 a2 a3 fired emptied ripened u l (inl k) = a3 u (a2 u (a1 u k))
-stirred_marked net c old m1 m2 m3 n e a1 a2 a3 fired emptied ripened u l (inr (inl h)) = a3 u (a2 u (fired u h.0 h.1 (omega arith)))
-stirred_marked net c old m1 m2 m3 n e a1 a2 a3 fired emptied ripened u l (inr (inr (inl h))) =
+stirred_marked net c old m1 m2 m3 n e a1 a2 a3 fired freed ripened u l (inl k) = a3 u (a2 u (a1 u k))
+stirred_marked net c old m1 m2 m3 n e a1 a2 a3 fired freed ripened u l (inr (inl h)) = a3 u (a2 u (fired u h.0 h.1 (omega arith)))
+stirred_marked net c old m1 m2 m3 n e a1 a2 a3 fired freed ripened u l (inr (inr (inl h))) =
     let s = h.source in
     let F : ℕ → Type 0 = λ v. IsStarved net (state_of old.state) v → ⊥ in
-    a3 u (subst (IsMarked m2) h.source (emptied h.chan h.moved h.fewer h.within (subst F (sym h.source) h.fed) (omega arith)))
-stirred_marked net c old m1 m2 m3 n e a1 a2 a3 fired emptied ripened u l (inr (inr (inr h))) =
+    a3 u (subst (IsMarked m2) h.source (freed h.chan h.listed h.within (subst F (sym h.source) h.fed) (omega arith)))
+stirred_marked net c old m1 m2 m3 n e a1 a2 a3 fired freed ripened u l (inr (inr (inr h))) =
     let s = h.target in
     subst (IsMarked m3) h.target (ripened h.chan h.coming h.within (omega arith))
+
+-- no channel is marked as a cycle begins, and all tokens are older
+pub begun_followed : (net : Net) (c : ℕ) (old new : Engine) → dated_of new ≡ dated_of old → ((d : ℕ) → get_or new.freed.marked.items d false ≡ false) → AreComing net c old → (d : ℕ) → IsFollowed net c (dated_of old) new d
+begun_followed net c old new same none coming d = record {
+  marked = λ m. (let z : true ≡ false = sym m ∙ none d in cc);
+  clear = λ m. by (cases_lt (length (tokens_at (state_of old.state) d)) (chan_at net d).slots);
+  newest = inl (omega (arith, tokens));
+}
+  where
+    tokens : length (tokens_at (state_of new.state) d) ≡ length (tokens_at (state_of old.state) d)
+    tokens = ap (λ (s : Dated). length (tokens_at s.state d)) same
+
+    older : AllByRecursion (λ x. x < c) (get_or new.dates.tokens d [])
+    older =
+        let P : Dated → Type 0 = λ s. AllByRecursion (λ x. x < c) (get_or s.dates d []) in
+        subst P (sym same) (each_as (λ x. (x < c) × (c ≤ x + (chan_at net d).delay → Holds d (cell old.notes ((x + (chan_at net d).delay) % 1024)))) (λ x. x < c) (λ x k. k.0) (get_or old.dates.tokens d []) (coming d))
+
+    by : (length (tokens_at (state_of old.state) d) < (chan_at net d).slots) ⊎ ((chan_at net d).slots ≤ length (tokens_at (state_of old.state) d))
+        → (length (tokens_at (state_of old.state) d) < (chan_at net d).slots) ⊎ IsOldFull net c new d
+    by (inl l) = inl l
+    by (inr l) = inr (omega (arith, tokens), older)
 
 apart_cells : (x c delay : ℕ) → delay ≤ max_delay → x < c → c + 1 ≤ x + delay → (x + delay) % 1024 ≢ c % 1024
 apart_cells x c delay m l k e = omega arith

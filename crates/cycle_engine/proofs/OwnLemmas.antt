@@ -9,17 +9,33 @@ use Rattle.net_types.specs.declared.net.Unit.TheVariants.{Entry, Param, Const, O
 use Rattle.net_types.specs.declared.firing.Act.{Act}
 use Rattle.net_types.specs.declared.firing.Act.TheVariants.{Go, From, Send, Alloc, Addr, Data, Exec, Reply, Retire, End}
 use Rattle.net_types.specs.Nets.{into, out_of, kind_of, uses, chan_at, firing}
-use Rattle.net_core.specs.Fire.{State, Own, Row, Look, Take, Fires, Effect, Setting, effect_of, with_head, taking, on_go, when, put_at, idle, row, cmerge_row, fork_row, send_row, sent_to, setting, at_array, head_at, tokens_at, effect, has_room, enabled, moved, puts_on, takes_from, among, added, taken}
+use Rattle.net_core.specs.Fire.{State, Own, Row, Look, Take, Fires, Effect, Setting, effect_of, with_head, taking, on_go, when, put_at, idle, row, cmerge_row, fork_row, send_row, sent_to, setting, at_array, head_at, tokens_at, effect, has_room, moved, puts_on, takes_from, among, added, taken}
 use Rattle.net_core.specs.Uses.{used_by}
 use Rattle.net_core.proofs.RowLemmas.{get-changed}
 use Rattle.net_core.proofs.ApartLemmas.{same_in, same_out}
 use Rattle.net_core.proofs.ForkLemmas.{send_eff, send_inv}
 use Rattle.cycle_engine.specs.Cycles.{Dated, after_by, after_in, used, IsRipe, May, act_place, AreDated}
 use Rattle.cycle_engine.specs.Rousing.{GoesTo, Stirs, OwnRouses}
-use Rattle.cycle_engine.specs.private.Marking.{is_goer}
 use Rattle.cycle_engine.proofs.BeforeLemmas.{after_of, IsLate, kept_free}
 use Rattle.cycle_engine.proofs.DateLemmas.{effect_there}
 use Rattle.cycle_engine.proofs.RousingLemmas.{late_or, slots_within}
+
+-- a unit of one place
+abbrev is_goer : Kind → Bool
+is_goer Entry = true
+is_goer (Param j) = true
+is_goer (Const w n) = true
+is_goer (Op1 op) = true
+is_goer (Op2 op) = true
+is_goer (Select w) = true
+is_goer (Fork w outs) = false
+is_goer (Mux w ins) = true
+is_goer (Cmerge ins) = false
+is_goer (Branch w) = true
+is_goer (Sink w) = true
+is_goer (Read a) = true
+is_goer (Lsq a d ps gs f) = false
+is_goer Exit = true
 
 -- the kinds that only go
 go_on : (a : Act) (r : Row) (h : ℕ → Option ℕ) (e : Effect) → effect_of (on_go a r) h ≡ Some e → a ≡ Go
@@ -50,14 +66,6 @@ goes_only (Branch w) a o xs ss h e g q = go_on a _ h e q
 goes_only (Sink w) a o xs ss h e g q = go_on a _ h e q
 goes_only (Read n) a o xs ss h e g q = go_on a _ h e q
 goes_only Exit a o xs ss h e g q = go_on a _ h e q
-
-pub both_go : (net : Net) (u : ℕ) (a b : Act) (s t : State) → is_goer (kind_of net u) ≡ true → enabled net s (firing u a) → enabled net t (firing u b) → act_place b ≡ act_place a
-both_go net u a b s t g n m =
-    let x = effect_there net s (firing u a) n in
-    let y = effect_there net t (firing u b) m in
-    let p : a ≡ Go = goes_only (kind_of net u) a (get_or s.own u idle) (at_array s.arrays (uses (kind_of net u))) (setting net s) (head_at net s u) x.0 g x.1 in
-    let q : b ≡ Go = goes_only (kind_of net u) b (get_or t.own u idle) (at_array t.arrays (uses (kind_of net u))) (setting net t) (head_at net t u) y.0 g y.1 in
-    ap act_place (q ∙ sym p)
 
 -- merges
 abbrev merge_eff : ℕ → Own → List ℕ → Effect

@@ -1,5 +1,5 @@
 -- The acts of units, by their ranks and numbers.
-use Rattle.std.proofs.Common.{is_some, suc, zero, cond, eqb-true, ◌≡◌, ℕ, ◌<◌, ◌≤◌, ◌⊎◌, inl, inr, Bool, true, false, Option, Some, None, List, [], ◌∷◌, length, get_or, refl, sym, ap, ◌∙◌, arith, nat_lt, ltb-true}
+use Rattle.std.proofs.Common.{is_some, suc, zero, cond, eqb-true, ◌≡◌, ◌≢◌, ℕ, ◌<◌, ◌≤◌, ◌⊎◌, inl, inr, Bool, true, false, Option, Some, None, List, [], ◌∷◌, length, get_or, refl, sym, ap, ◌∙◌, arith, nat_lt, ltb-true}
 use Rattle.std.proofs.lemmas.Bool.{cases_lt, and_parts}
 use Rattle.std.proofs.lemmas.List.{get_or_past}
 use Rattle.net_types.specs.declared.net.Net.{Net}
@@ -201,21 +201,54 @@ first_rank net s u b l n =
     let g = goes net s (firing u b) n in
     first_kind (kind_of net u) b (get_or s.own u idle) (at_array s.arrays (uses (kind_of net u))) (setting net s) (head_at net s u) g.0 l g.1.is
 
-pub first_low : (k : Kind) → act_rank (first_of k) ≤ 2
-first_low Entry = omega arith
-first_low (Param j) = omega arith
-first_low (Const w n) = omega arith
-first_low (Op1 op) = omega arith
-first_low (Op2 op) = omega arith
-first_low (Select w) = omega arith
-first_low (Fork w outs) = omega arith
-first_low (Mux w ins) = omega arith
-first_low (Cmerge ins) = omega arith
-first_low (Branch w) = omega arith
-first_low (Sink w) = omega arith
-first_low (Read a) = omega arith
-first_low (Lsq a d ps gs f) = omega arith
-first_low Exit = omega arith
+-- the kind of act of a unit that is no queue, by the first of them
+pub first_send : (k : Kind) (i : ℕ) → first_of k ≡ Send i → Send 0 ≡ first_of k
+first_send Entry i e = cc
+first_send (Param j) i e = cc
+first_send (Const w n) i e = cc
+first_send (Op1 op) i e = cc
+first_send (Op2 op) i e = cc
+first_send (Select w) i e = cc
+first_send (Fork w outs) i e = refl
+first_send (Mux w ins) i e = cc
+first_send (Cmerge ins) i e = cc
+first_send (Branch w) i e = cc
+first_send (Sink w) i e = cc
+first_send (Read a) i e = cc
+first_send (Lsq a d ps gs f) i e = cc
+first_send Exit i e = cc
+
+pub first_from : (k : Kind) (i : ℕ) → first_of k ≡ From i → From 0 ≡ first_of k
+first_from Entry i e = cc
+first_from (Param j) i e = cc
+first_from (Const w n) i e = cc
+first_from (Op1 op) i e = cc
+first_from (Op2 op) i e = cc
+first_from (Select w) i e = cc
+first_from (Fork w outs) i e = cc
+first_from (Mux w ins) i e = cc
+first_from (Cmerge ins) i e = refl
+first_from (Branch w) i e = cc
+first_from (Sink w) i e = cc
+first_from (Read a) i e = cc
+first_from (Lsq a d ps gs f) i e = cc
+first_from Exit i e = cc
+
+pub first_go : (k : Kind) → ((i : ℕ) → first_of k ≢ Send i) → ((i : ℕ) → first_of k ≢ From i) → Go ≡ first_of k
+first_go Entry n m = refl
+first_go (Param j) n m = refl
+first_go (Const w x) n m = refl
+first_go (Op1 op) n m = refl
+first_go (Op2 op) n m = refl
+first_go (Select w) n m = refl
+first_go (Fork w outs) n m = absurd (n 0 refl)
+first_go (Mux w ins) n m = refl
+first_go (Cmerge ins) n m = absurd (m 0 refl)
+first_go (Branch w) n m = refl
+first_go (Sink w) n m = refl
+first_go (Read a) n m = refl
+first_go (Lsq a d ps gs f) n m = refl
+first_go Exit n m = refl
 
 queue_kind : (k : Kind) (b : Act) (o : Own) (xs : List ℕ) (ss : Setting) (h : ℕ → Option ℕ) (e : Effect) → is_lsq k ≡ true → effect_of (row k b o xs ss) h ≡ Some e → 3 ≤ act_rank b
 unfolding row

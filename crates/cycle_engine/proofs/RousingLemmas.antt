@@ -3,14 +3,15 @@ use Rattle.std.proofs.Common.{◌≡◌, ◌≢◌, ◌⊎◌, inl, inr, ℕ, su
 use Rattle.std.proofs.lemmas.Bool.{cases_eq}
 use Rattle.net_types.specs.declared.net.Chan.{Chan}
 use Rattle.net_types.specs.declared.net.Net.{Net}
-use Rattle.net_types.specs.Nets.{into, out_of, nowhere, chan_at}
-use Rattle.net_core.specs.Fire.{Effect, effect, has_room, tokens_at, puts_on, takes_from, moved, added, taken}
+use Rattle.net_types.specs.declared.firing.Firing.{Firing}
+use Rattle.net_types.specs.Nets.{into, out_of, nowhere, kind_of, chan_at}
+use Rattle.net_core.specs.Fire.{Effect, idle, effect, has_room, tokens_at, puts_on, takes_from, moved, added, taken}
 use Rattle.net_core.specs.declared.plan.Put.{Put}
 use Rattle.net_core.proofs.Premises.{Alone}
 use Rattle.net_core.proofs.RowLemmas.{get-changed}
 use Rattle.net_core.proofs.ApartLemmas.{into-at, is_at-inv, puts-inv, not_put}
 use Rattle.std.specs.List.{AllByRecursion}
-use Rattle.cycle_engine.specs.Cycles.{Dated, after_by, after_in, used, IsRipe, May, AreDated}
+use Rattle.cycle_engine.specs.Cycles.{Dated, after_by, after_in, used, IsRipe, HasDepth, May, AreDated}
 use Rattle.cycle_engine.specs.Rousing.{Could, GoesTo, ComesFrom, Rouses, NextRouses}
 use Rattle.cycle_engine.proofs.BeforeLemmas.{after_of, IsLate, before, may_could}
 
@@ -113,17 +114,24 @@ each_map : {A : Type 0} (P Q : A → Type 0) (xs : List A) → ((x : A) → P x 
 each_map P Q [] f h = tt
 each_map P Q (x ∷ xs) f h = (f x h.0, each_map P Q xs f h.1)
 
-pub next_rouses : NextRouses
-next_rouses net c s t f rooms ripes depth o = record {
+-- what could be made as the next cycle begins, where what the unit may put had room in this one too
+pub next_could : (net : Net) (c : ℕ) (s t : Dated) (f : Firing) → ((o : Option Put) → has_room net t.state f.unit o → has_room net s.state f.unit o)
+    → ((p : ℕ) → IsRipe net (suc c) t (into f.unit p net.chans) → IsRipe net c t (into f.unit p net.chans))
+    → (HasDepth (kind_of net f.unit) (get_or t.state.own f.unit idle) f.act → HasDepth (kind_of net f.unit) (get_or s.state.own f.unit idle) f.act)
+    → Could net (suc c) t t f → Could net c s t f
+next_could net c s t f rooms ripes depth o = record {
   acts = room (effect net t.state f) o.acts;
   ripe = each_map (λ p. IsRipe net (suc c) t (into f.unit p net.chans)) (λ p. IsRipe net c t (into f.unit p net.chans)) (used net t.state f) ripes o.ripe;
   depth = depth o.depth;
 }
   where
+    room : (q : Option Effect) → IsSomeAnd q (λ e. has_room net t.state f.unit e.put) → IsSomeAnd q (λ e. has_room net s.state f.unit e.put)
+    room None x = x
+    room (Some e) x = rooms e.put x
+
+pub next_rouses : NextRouses
+next_rouses net c s t f rooms ripes depth o = next_could net c s t f one ripes depth o
+  where
     one : (w : Option Put) → has_room net t.state f.unit w → has_room net s.state f.unit w
     one None x = tt
     one (Some w) x = let z = rooms w.place in omega arith
-
-    room : (q : Option Effect) → IsSomeAnd q (λ e. has_room net t.state f.unit e.put) → IsSomeAnd q (λ e. has_room net s.state f.unit e.put)
-    room None x = x
-    room (Some e) x = one e.put x

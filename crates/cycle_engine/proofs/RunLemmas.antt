@@ -76,7 +76,7 @@ cycle_done net past b c start e eng f =
       number = (let n = f.going.number in let l = length-append past.cycles (e.fired.items ∷ []) in omega arith);
       made = (let n = f.going.made in let k = count_snoc past.cycles e.fired.items in omega arith);
       log = f.going.log ∙ ap (λ xs. cond b.keep xs []) (sym (joined_snoc past.cycles e.fired.items));
-      moved = f.going.moved;
+      listed = f.going.listed;
       entries = entries_now net past b c start e eng f;
       coming = f.going.coming;
       next = next_quiet net past b c start e eng f;

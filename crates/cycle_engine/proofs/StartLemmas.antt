@@ -11,15 +11,16 @@ use Rattle.net_types.specs.declared.net.Unit.{Unit as Kind}
 use Rattle.net_types.specs.declared.net.Unit.TheVariants.{Entry, Param, Const, Op1, Op2, Select, Fork, Mux, Cmerge, Branch, Sink, Read, Lsq, Exit}
 use Rattle.net_types.specs.Nets.{chan_at}
 use Rattle.net_check.specs.Checks.{IsChecked}
-use Rattle.net_core.specs.Fire.{idle, opened, tokens_at}
+use Rattle.net_core.specs.Fire.{idle, opened}
 use Rattle.net_core.specs.Runs.{opening}
 use Rattle.net_core.specs.States.{state_of, IsOf, CountsWithin}
 use Rattle.cycle_engine.specs.declared.engine.Engine.{Engine}
 use Rattle.cycle_engine.specs.declared.engine.Bounds.{Bounds}
+use Rattle.cycle_engine.specs.declared.freed.Freed.{Freed}
 use Rattle.cycle_engine.specs.Cycles.{Dated, dated_opening, May, AreDated, Makes, Once, InOrder}
 use Rattle.cycle_engine.specs.Cuts.{joined}
 use Rattle.cycle_engine.specs.private.Trials.{dated_of, IsBegun, IsEngine}
-use Rattle.cycle_engine.specs.private.Marking.{Holds, IsMarked, IsListed, cell, entries_at}
+use Rattle.cycle_engine.specs.private.Marking.{Holds, IsMarked, IsListed, AreListed, cell, entries_at}
 use Rattle.cycle_engine.specs.private.Goings.{Past, IsReady, InCycle, HasDone, AreComing, all_made}
 use Rattle.cycle_engine.proofs.PlaceLemmas.{fires_within}
 use Rattle.cycle_engine.proofs.MarkLemmas.{since_none}
@@ -39,7 +40,7 @@ pub opened_as : (net : Net) (inputs : Inputs) (e : Engine) → state_of e.state 
 opened_as net inputs e a d = λ i. record { state = sym a i; dates = sym d i }
 
 pub opened_ready : (net : Net) (inputs : Inputs) (b : Bounds) (e : Engine) → IsOf net e.state → e.dates.slots ≡ map (λ (c : Chan). c.slots) net.chans → dated_opening net inputs ≡ dated_of e → b.limit ≤ max_firings
-    → e.made ≡ 0 → e.fired.items ≡ [] → CountsWithin 0 (state_of e.state) → e.log.room ≡ cond b.keep b.limit 0 → length e.begun.chans.items ≡ length net.chans → length e.begun.queues.items ≡ length net.units
+    → e.made ≡ 0 → e.fired.items ≡ [] → CountsWithin 0 (state_of e.state) → e.log.room ≡ cond b.keep b.limit 0 → length e.freed.marked.items ≡ length net.chans → length e.begun.items ≡ length net.units
     → length e.marks.marked.items ≡ length net.units → IsListed net e.marks → length e.notes.coming.items ≡ 1024 → IsReady net b e
 opened_ready net inputs b e of slots same few made fired counts room chans queues marked listed cells =
     let z : all_made e ≡ 0 = (let l = ap (λ (fs : List Firing). length fs) fired in omega arith) in
@@ -84,13 +85,16 @@ lists_none [] d = refl
 lists_none (c ∷ cs) zero = refl
 lists_none (c ∷ cs) (suc d) = lists_none cs d
 
-zeros_zero : (z n d : ℕ) → get_or (replicate n z) d z ≡ z
-zeros_zero z zero zero = refl
-zeros_zero z zero (suc d) = refl
-zeros_zero z (suc n) zero = refl
-zeros_zero z (suc n) (suc d) = zeros_zero z n d
+each_one : {A : Type 0} (z : A) (n d : ℕ) → get_or (replicate n z) d z ≡ z
+each_one z zero zero = refl
+each_one z zero (suc d) = refl
+each_one z (suc n) zero = refl
+each_one z (suc n) (suc d) = each_one z n d
 
-pub opened_done : (net : Net) (inputs : Inputs) (b : Bounds) (e : Engine) → dated_opening net inputs ≡ dated_of e → e.made ≡ 0 → e.fired.items ≡ [] → e.log.items ≡ [] → IsChecked net → e.begun.chans.items ≡ replicate (length net.chans) 0 → e.begun.queues.items ≡ replicate (length net.units) 0
+pub none_listed : (f : Freed) → ((d : ℕ) → get_or f.marked.items d false ≡ false) → AreListed f
+none_listed f none d m = let z : true ≡ false = sym m ∙ none d in cc
+
+pub opened_done : (net : Net) (inputs : Inputs) (b : Bounds) (e : Engine) → dated_opening net inputs ≡ dated_of e → e.made ≡ 0 → e.fired.items ≡ [] → e.log.items ≡ [] → IsChecked net → e.freed.marked.items ≡ replicate (length net.chans) false → e.begun.items ≡ replicate (length net.units) 0
     → ((u : ℕ) → u < length net.units → IsMarked e.marks u) → HasDone net (record { inputs = inputs; cycles = [] }) b 0 e
 unfolding no_dates
 opened_done net inputs b e same made fired log checked chans queues marked = record {
@@ -98,8 +102,8 @@ opened_done net inputs b e same made fired log checked chans queues marked = rec
   number = refl;
   made = (let l = ap (λ (fs : List Firing). length fs) fired in omega arith);
   log = log ∙ sym (none b.keep);
-  moved = λ d. inl (ap (λ xs. get_or xs d 0) chans ∙ (zeros_zero 0 (length net.chans) d ∙ sym (ap (λ (xs : List ℕ). length xs) (ap (λ (s : Dated). tokens_at s.state d) (sym same) ∙ lists_none net.chans d))));
-  entries = λ u l. inl (ap (λ xs. get_or xs u 0) queues ∙ (zeros_zero 0 (length net.units) u ∙ (sym (items_none net.units u) ∙ ap (λ (s : Dated). entries_at s.state u) same)));
+  listed = none_listed e.freed (λ d. ap (λ (xs : List Bool). get_or xs d false) chans ∙ each_one false (length net.chans) d);
+  entries = λ u l. inl (ap (λ xs. get_or xs u 0) queues ∙ (each_one 0 (length net.units) u ∙ (sym (items_none net.units u) ∙ ap (λ (s : Dated). entries_at s.state u) same)));
   coming = λ d. (let P : List ℕ → Type 0 = AllByRecursion (λ x. (x < 0) × (0 ≤ x + (chan_at net d).delay → Holds d (cell e.notes ((x + (chan_at net d).delay) % 1024)))) in subst P (sym (ap (λ (s : Dated). get_or s.dates d []) (sym same) ∙ lists_none net.chans d)) tt);
   next = λ g m stirred. stirred (inl (marked g.unit (within g m)));
 }
@@ -112,7 +116,7 @@ opened_done net inputs b e same made fired log checked chans queues marked = rec
     none false = refl
 
 pub begun_ready : (net : Net) (b : Bounds) (old new : Engine) → IsReady net b old → IsEngine net new → state_of new.state ≡ state_of old.state → new.made ≡ all_made old → new.fired.items ≡ [] → new.log ≡ old.log
-    → length new.begun.chans.items ≡ length net.chans → length new.begun.queues.items ≡ length net.units
+    → length new.freed.marked.items ≡ length net.chans → length new.begun.items ≡ length net.units
     → length new.marks.marked.items ≡ length net.units → IsListed net new.marks → length new.notes.coming.items ≡ 1024 → IsReady net b new
 begun_ready net b old new r eng same made fired log chans queues marked listed cells =
     let z : all_made new ≡ all_made old = (let l = ap (λ (fs : List Firing). length fs) fired in omega arith) in
@@ -134,9 +138,9 @@ begun_ready net b old new r eng same made fired log chans queues marked listed c
     }
 
 -- so a cycle begins
-pub begun_going : (net : Net) (past : Past) (b : Bounds) (c : ℕ) (old new : Engine) → HasDone net past b c old → IsBegun net (dated_of old) new.begun → dated_of new ≡ dated_of old → new.fired.items ≡ []
-    → new.made ≡ all_made old → new.log.items ≡ old.log.items → AreComing net (c + 1) new → InCycle net past b c (dated_of old) new
-begun_going net past b c old new d begun same none made log coming =
+pub begun_going : (net : Net) (past : Past) (b : Bounds) (c : ℕ) (old new : Engine) → HasDone net past b c old → IsBegun net c (dated_of old) new → dated_of new ≡ dated_of old → new.fired.items ≡ []
+    → new.made ≡ all_made old → new.log.items ≡ old.log.items → AreListed new.freed → AreComing net (c + 1) new → InCycle net past b c (dated_of old) new
+begun_going net past b c old new d begun same none made log listed coming =
     let M : List Firing → Type 0 = λ fs. Makes net c (dated_of old) (dated_of old) fs (dated_of new) in
     let O : List Firing → Type 0 = Once in
     let I : List Firing → Type 0 = InOrder in
@@ -149,6 +153,6 @@ begun_going net past b c old new d begun same none made log coming =
       order = subst I (sym none) tt;
       made = made ∙ d.made;
       log = log ∙ (d.log ∙ (ap (λ xs. cond b.keep xs []) (sym (append-nil (joined past.cycles))) ∙ ap (λ fs. cond b.keep (joined past.cycles ++ fs) []) (sym none)));
-      moved = λ d. inl (begun.chans d ∙ ap (λ (s : Dated). length (tokens_at s.state d)) (sym same));
+      listed = listed;
       coming = coming;
     }

@@ -10,11 +10,13 @@ use Rattle.net_types.specs.Order.{act_rank, act_number}
 use Rattle.net_check.specs.Checks.{IsChecked}
 use Rattle.net_check.specs.Ends.{is_lsq}
 use Rattle.net_core.specs.Fire.{State, enabled}
-use Rattle.net_core.specs.declared.plan.Plan.{Plan}
+use Rattle.net_core.specs.declared.plan.Moves.{Moves}
+use Rattle.net_core.specs.Plans.{moves_of}
 use Rattle.net_core.specs.States.{state_of, IsPlanOf}
 use Rattle.cycle_engine.specs.declared.engine.Engine.{Engine}
 use Rattle.cycle_engine.specs.declared.engine.Bounds.{Bounds}
 use Rattle.cycle_engine.specs.declared.marks.Marks.{Marks}
+use Rattle.cycle_engine.specs.declared.trial.Planned.{Planned}
 use Rattle.cycle_engine.specs.Cycles.{Dated, IsOldest, act_place}
 use Rattle.cycle_engine.specs.private.Marking.{KeepsMarks, IsRoused}
 use Rattle.cycle_engine.specs.private.Goings.{Past, IsReady, IsMade, IsTried}
@@ -76,23 +78,26 @@ exec_done net past b c start marks e u t = turn_on net past b c start marks e u 
 made_marks : (net : Net) (past : Past) (b : Bounds) (c : ℕ) (start : Dated) (old e : Engine) (f : Firing) (m : Marks) → IsMade net past b c start old e f → IsMade net past b c start old (with_marks e m) f
 made_marks net past b c start old e f m k = record { may = k.may; after = k.after; fired = k.fired; going = going_marks net past b c start e m k.going }
 
-module _ (net : Net) (past : Past) (b : Bounds) (c : ℕ) (start : Dated) (marks : Marks) (old mid : Engine) (f : Firing) (r n : ℕ) (t : IsTurn net past b c start marks old f.unit r n) (next : IsNextAct net (state_of old.state) f r n) (o : Option Plan)
+module _ (net : Net) (past : Past) (b : Bounds) (c : ℕ) (start : Dated) (marks : Marks) (old mid : Engine) (f : Firing) (r n : ℕ) (t : IsTurn net past b c start marks old f.unit r n) (next : IsNextAct net (state_of old.state) f r n) (o : Option Planned)
     (tried : IsTried net past b c start old mid f (is_some o)) where
   pub step_passed : o ≡ None → IsTurn net past b c start marks mid f.unit r (n + 1)
-  step_passed e = (let T : Option Plan → Type 0 = λ x. IsTried net past b c start old mid f (is_some x) in let k = subst T e tried in turn_passed net past b c start marks old f r n t next mid k.same k.refused)
+  step_passed e = (let T : Option Planned → Type 0 = λ x. IsTried net past b c start old mid f (is_some x) in let k = subst T e tried in turn_passed net past b c start marks old f r n t next mid k.same k.refused)
 
-  pub step_unit : (p : Plan) (m : Marks) → o ≡ Some p → IfSome o (λ p. IsPlanOf net old.state f (Some p)) → mid.marks ≡ old.marks → IsChecked net → IsReady net b old → is_lsq (kind_of net f.unit) ≡ false
-      → KeepsMarks mid.marks m → IsRoused net f.unit p (length mid.marks.marked.items) m → IsTurn net past b c start marks (with_marks mid m) f.unit r (n + 1)
-  step_unit p m e plan same checked ready l kept roused =
-      let T : Option Plan → Type 0 = λ x. IsTried net past b c start old mid f (is_some x) in
+  pub step_unit : (p : Planned) (m : Marks) → o ≡ Some p → IfSome o (λ p. IsPlanOf net old.state f (Some p.plan)) → IfSome o (λ p. p.moves ≡ moves_of net f.unit p.plan) → mid.marks ≡ old.marks → IsChecked net → IsReady net b old
+      → is_lsq (kind_of net f.unit) ≡ false → KeepsMarks mid.marks m → IsRoused net (state_of mid.state) f.unit p.moves (length mid.marks.marked.items) m → IsTurn net past b c start marks (with_marks mid m) f.unit r (n + 1)
+  step_unit p m e plan moves same checked ready l kept roused =
+      let T : Option Planned → Type 0 = λ x. IsTried net past b c start old mid f (is_some x) in
       let k = subst T e tried in
-      let P : Option Plan → Type 0 = λ x. IfSome x (λ p. IsPlanOf net old.state f (Some p)) in
+      let P : Option Planned → Type 0 = λ x. IfSome x (λ p. IsPlanOf net old.state f (Some p.plan)) in
+      let Q : Option Planned → Type 0 = λ x. IfSome x (λ p. p.moves ≡ moves_of net f.unit p.plan) in
       let K : Marks → Type 0 = λ x. KeepsMarks x m in
-      let R : Marks → Type 0 = λ x. IsRoused net f.unit p (length x.marked.items) m in
-      unit_made net past b c start marks old f r n t next (with_marks mid m) (made_marks net past b c start old mid f m k) checked ready.engine l p (subst P e plan) (subst K same kept) ready.marked (subst R same roused)
+      let R : Marks → Type 0 = λ x. IsRoused net (state_of mid.state) f.unit p.moves (length x.marked.items) m in
+      let S : Moves → Type 0 = λ x. IsRoused net (state_of mid.state) f.unit x (length old.marks.marked.items) m in
+      unit_made net past b c start marks old f r n t next (with_marks mid m) (made_marks net past b c start old mid f m k) checked ready.engine l p.plan (subst P e plan) (subst K same kept) ready.marked
+      (subst S (subst Q e moves) (subst R same roused))
 
-  pub step_queue : (p : Plan) → o ≡ Some p → mid.marks ≡ old.marks → IsChecked net → IsReady net b old → is_lsq (kind_of net f.unit) ≡ true → IsTurn net past b c start marks mid f.unit r (n + 1)
-  step_queue p e same checked ready l = let T : Option Plan → Type 0 = λ x. IsTried net past b c start old mid f (is_some x) in queue_made net past b c start marks old f r n t next mid (subst T e tried) checked ready.engine l same
+  pub step_queue : (p : Planned) → o ≡ Some p → mid.marks ≡ old.marks → IsChecked net → IsReady net b old → is_lsq (kind_of net f.unit) ≡ true → IsTurn net past b c start marks mid f.unit r (n + 1)
+  step_queue p e same checked ready l = let T : Option Planned → Type 0 = λ x. IsTried net past b c start old mid f (is_some x) in queue_made net past b c start marks old f r n t next mid (subst T e tried) checked ready.engine l same
 
 pub turn_parts : (x y : Bool) → (x && y) ≡ true → (x ≡ true) × (y ≡ true)
 turn_parts true true e = (refl, refl)

@@ -1,5 +1,5 @@
 -- Turns of units and queues in a cycle.
-use Rattle.std.proofs.Common.{◌≡◌, ◌≢◌, ℕ, suc, zero, ◌+◌, ◌<◌, ◌≤◌, ◌⊎◌, ◌&&◌, inl, inr, Bool, true, false, Option, Some, None, List, [], ◌∷◌, ◌++◌, length, map, get_or, set, refl, sym, ap, subst, ◌∙◌, arith, Result, IfSome, IsErrAnd, MatchResult, IsSomeAnd}
+use Rattle.std.proofs.Common.{◌≡◌, ◌≢◌, ℕ, suc, zero, ◌+◌, ◌<◌, ◌≤◌, ◌⊎◌, ◌&&◌, inl, inr, Bool, true, false, Option, Some, None, List, [], ◌∷◌, ◌++◌, length, map, get_or, set, refl, sym, ap, subst, ◌∙◌, arith, Result, IsErrAnd, MatchResult, IsSomeAnd}
 use Rattle.std.proofs.lemmas.Result.{err_from_is_err_and}
 use Rattle.net_replay.specs.declared.fault.RunFault.{RunFault}
 use Rattle.std.specs.List.{AllByRecursion}
@@ -12,12 +12,15 @@ use Rattle.net_types.specs.declared.firing.Act.{Act}
 use Rattle.net_types.specs.declared.firing.Act.TheVariants.{Go, From, Send, Alloc, Addr, Data, Exec, Reply, Retire, End}
 use Rattle.net_types.specs.declared.firing.Firing.{Firing}
 use Rattle.net_types.specs.declared.firing.Inputs.{Inputs}
-use Rattle.net_types.specs.Nets.{kind_of, uses, firing, out_of, chan_at}
+use Rattle.net_types.specs.Nets.{kind_of, uses, firing, into, out_of, chan_at}
 use Rattle.net_types.specs.Order.{act_rank, act_number}
 use Rattle.net_check.specs.Checks.{IsChecked}
 use Rattle.net_check.specs.Ends.{is_lsq}
 use Rattle.net_core.specs.Fire.{State, Own, Effect, Setting, effect_of, idle, effect, enabled, has_room, row, setting, head_at, at_array, after, after_effect, tokens_at, takes_from}
+use Rattle.net_core.specs.Plans.{places_of, chans_of, taken_of, laid_of, moves_of}
 use Rattle.net_core.specs.declared.plan.Put.{Put}
+use Rattle.net_core.specs.declared.plan.Takes.{Takes}
+use Rattle.net_core.specs.declared.plan.Takes.TheVariants.{None as no_place, One, Two, Three}
 use Rattle.net_core.specs.declared.plan.Plan.{Plan}
 use Rattle.net_core.specs.States.{state_of, IsPlanOf}
 use Rattle.net_core.proofs.ApartLemmas.{is_at-inv, out_of-at}
@@ -28,20 +31,21 @@ use Rattle.cycle_engine.specs.declared.engine.Engine.{Engine}
 use Rattle.cycle_engine.specs.declared.engine.Bounds.{Bounds}
 use Rattle.cycle_engine.specs.declared.marks.Marks.{Marks}
 use Rattle.cycle_engine.specs.Cycles.{Dated, dated_opening, IsRipe, HasDepth, May, IsOldest, Makes, act_place, place_of, IsUnused, phase, Cycles, after_in, after_by, AreDated}
-use Rattle.cycle_engine.specs.Rousing.{GoesTo, ComesFrom}
-use Rattle.cycle_engine.specs.private.Trials.{dated_of, IsEngine}
-use Rattle.cycle_engine.specs.private.Marking.{IsMarked, IsListed, KeepsMarks, IsTargetMarked, IsRoused, IsTaken, IsMergeMarked, is_merge, is_goer}
+use Rattle.cycle_engine.specs.Rousing.{GoesTo, ComesFrom, Stirs}
+use Rattle.cycle_engine.specs.private.Trials.{dated_of, IsEngine, IsFollowed}
+use Rattle.cycle_engine.specs.private.Marking.{IsMarked, IsListed, KeepsMarks, IsRoused, IsTaken, IsMergeMarked, IsPutMarked, is_merge}
+use Rattle.cycle_engine.specs.private.Kinds.{is_fork}
 use Rattle.cycle_engine.specs.private.Goings.{Past, IsReady, InCycle, MayFollow, IsMade, AllPlain, IsBegunIn}
 use Rattle.cycle_engine.specs.private.Places.{IsOpen, IsNextAct, AllocsOnce, IsQueueTurn, IsTurnOf, IsTurn, IsOpenTurn, IsSettled, AreQueues, IsServed, IsFull, first_of}
 use Rattle.cycle_engine.proofs.BeforeLemmas.{after_of}
 use Rattle.cycle_engine.proofs.RousingLemmas.{slots_within}
-use Rattle.cycle_engine.proofs.OwnLemmas.{both_go}
+use Rattle.cycle_engine.proofs.OwnLemmas.{own_rouses}
 use Rattle.cycle_engine.proofs.DateLemmas.{AllBy, each_as, makes_dates, effect_there}
 use Rattle.cycle_engine.proofs.MakeLemmas.{all_snoc, takes_within}
 use Rattle.cycle_engine.proofs.StartLemmas.{opening_are}
 use Rattle.cycle_engine.proofs.MarkLemmas.{none_held, unmarked, still_marked}
 use Rattle.cycle_engine.proofs.NoteLemmas.{effect_in, taken_all}
-use Rattle.cycle_engine.proofs.PlaceLemmas.{same_act, exec_is, first_rank, queue_rank, fires_within}
+use Rattle.cycle_engine.proofs.PlaceLemmas.{same_act, exec_is, first_rank, queue_rank, fires_within, starved_quiet}
 use Rattle.cycle_engine.proofs.QueueTurnLemmas.{laws, queue_used, unused_before, unused_last, allocs_more, allocs_none, queue_rouses, unit_rouses}
 
 -- ---- what holds along cycles
@@ -327,6 +331,38 @@ refused_at net c start s fs f g r n next refused e un m = by (cases_eq r 6)
         let Q : Firing → Type 0 = λ x. May net c start s x in
         refused (subst P q un) (subst Q q m)
 
+-- ---- what a firing of a unit that is no queue stirs and takes
+
+-- it stirs another place of the unit only where it is of a fork, and takes the head
+stirs_fork : (k : Kind) (e : Effect) → is_lsq k ≡ false → Stirs k e → (is_fork k ≡ true) × (e.takes ≢ [])
+stirs_fork (Fork w outs) e l h = (refl, h)
+stirs_fork (Lsq a d ps gs fw) e l h = cc
+stirs_fork Entry e l h = absurd h
+stirs_fork (Param j) e l h = absurd h
+stirs_fork (Const w n) e l h = absurd h
+stirs_fork (Op1 op) e l h = absurd h
+stirs_fork (Op2 op) e l h = absurd h
+stirs_fork (Select w) e l h = absurd h
+stirs_fork (Mux w ins) e l h = absurd h
+stirs_fork (Cmerge ins) e l h = absurd h
+stirs_fork (Branch w) e l h = absurd h
+stirs_fork (Sink w) e l h = absurd h
+stirs_fork (Read a) e l h = absurd h
+stirs_fork Exit e l h = absurd h
+
+none_taken : (net : Net) (u : ℕ) (t : Takes) → chans_of (taken_of net u t) ≡ [] → places_of t ≡ []
+none_taken net u no_place e = refl
+none_taken net u (One p) e = cc
+none_taken net u (Two p q) e = cc
+none_taken net u (Three p q x) e = cc
+
+-- what holds of the channels from which is taken, by its places
+taken_each : (net : Net) (u : ℕ) (P : ℕ → Type 0) (t : Takes) → AllByRecursion P (chans_of (taken_of net u t)) → AllByRecursion (λ q. P (into u q net.chans)) (places_of t)
+taken_each net u P no_place h = h
+taken_each net u P (One p) h = h
+taken_each net u P (Two p q) h = h
+taken_each net u P (Three p q x) h = h
+
 -- ---- one place more
 
 module _ (net : Net) (past : Past) (b : Bounds) (c : ℕ) (start : Dated) (marks : Marks) (old : Engine) (f : Firing) (r n : ℕ) (t : IsTurn net past b c start marks old f.unit r n) (next : IsNextAct net (state_of old.state) f r n) where
@@ -373,16 +409,13 @@ module _ (net : Net) (past : Past) (b : Bounds) (c : ℕ) (start : Dated) (marks
 
     -- a unit that is no queue made it, and the units were marked at which it can have let one fire
     pub unit_made : IsChecked net → IsEngine net old → is_lsq (kind_of net f.unit) ≡ false → (p : Plan) → IsPlanOf net old.state f (Some p) → KeepsMarks old.marks new.marks → length old.marks.marked.items ≡ length net.units
-        → IsRoused net f.unit p (length old.marks.marked.items) new.marks → IsTurn net past b c start marks new f.unit r (n + 1)
+        → IsRoused net (state_of new.state) f.unit (moves_of net f.unit p) (length old.marks.marked.items) new.marks → IsTurn net past b c start marks new f.unit r (n + 1)
     unit_made checked eng l p is kept long roused = record {
       going = made.going;
       watched = watched;
       of = (let P : Bool → Type 0 = λ q. IsTurnOf q net c marks new f.unit r in subst P (sym l) all);
     }
       where
-        s : State
-        s = state_of old.state
-
         plain : AllPlain net old.fired.items
         plain = (let P : Bool → Type 0 = λ q. IsTurnOf q net c marks old f.unit r in subst P l t.of)
 
@@ -400,9 +433,12 @@ module _ (net : Net) (past : Past) (b : Bounds) (c : ℕ) (start : Dated) (marks
             chans_after = (going_dated_now net past b c start new made.going).chans
 
         watched : (g : Firing) → IsUnused new.fired.items g → May net c start (dated_of new) g → IsMarked new.marks g.unit ⊎ ((g.unit ≡ f.unit) × IsOpen r (n + 1) g.act)
-        watched g un m = by (unit_rouses net c start old.fired.items (dated_of old) f g (effect_in net old f p) checked (going_dated net past b c start old t.going) eng.dated t.going.makes (unused g un) (sym is) (let Q : Dated → Type 0 = λ x. May net c start x g in subst Q made.after m))
+        watched g un m = by (unit_rouses net c start old.fired.items (dated_of old) f g (effect_in net old f p) checked (going_dated net past b c start old t.going) eng.dated t.going.makes (unused g un) (sym is) after)
           where
-            goes : (o : Option Put) → has_room net (state_of old.state) f.unit o → IfSome o (λ w. (chan_at net (out_of f.unit w.place net.chans)).delay ≡ 0 → IsTargetMarked net (length old.marks.marked.items) new.marks (out_of f.unit w.place net.chans))
+            after : May net c start (after_in net c (dated_of old) f) g
+            after = (let P : Dated → Type 0 = λ x. May net c start x g in subst P made.after m)
+
+            goes : (o : Option Put) → has_room net (state_of old.state) f.unit o → IsPutMarked net (laid_of net f.unit o) (length old.marks.marked.items) new.marks
                 → IsSomeAnd o (λ w. ((chan_at net (out_of f.unit w.place net.chans)).delay ≡ 0) × ((chan_at net (out_of f.unit w.place net.chans)).to.unit ≡ g.unit)) → IsMarked new.marks g.unit
             goes None h k i = absurd i
             goes (Some w) h k i =
@@ -418,7 +454,8 @@ module _ (net : Net) (past : Past) (b : Bounds) (c : ℕ) (start : Dated) (marks
                 put : (o : Option Put) → IsSomeAnd o (λ w. takes_from net f.unit (effect_in net old f p) (out_of g.unit w.place net.chans) ≡ true) → IsMarked new.marks g.unit
                 put None i = absurd i
                 put (Some w) i =
-                    let h = taken_all net f.unit (out_of g.unit w.place net.chans) (effect_in net old f p) (IsMergeMarked net (length old.marks.marked.items) new.marks) i roused.merges in
+                    let h = taken_all net f.unit (out_of g.unit w.place net.chans) (effect_in net old f p) (IsMergeMarked net (length old.marks.marked.items) new.marks) i
+                    (taken_each net f.unit (IsMergeMarked net (length old.marks.marked.items) new.marks) p.takes roused.merges) in
                     let d = taken_all net f.unit (out_of g.unit w.place net.chans) (effect_in net old f p) (λ y. y < length old.dates.tokens) i (takes_within net old f p eng is) in
                     let k = eng.dated.lists in
                     let l' : out_of g.unit w.place net.chans < length net.chans = omega arith in
@@ -426,18 +463,36 @@ module _ (net : Net) (past : Past) (b : Bounds) (c : ℕ) (start : Dated) (marks
                     let q = within g m in
                     subst (IsMarked new.marks) e (h l' (ap (λ v. is_merge (kind_of net v)) e ∙ merge) (omega arith))
 
-            -- a unit of one place has used it
-            own : g.unit ≡ f.unit → (q : Bool) → is_goer (kind_of net f.unit) ≡ q → IsMarked new.marks g.unit
-            own e false i = let q = within g m in subst (IsMarked new.marks) (sym e) (roused.own i (omega arith))
-            own e true i =
+            -- a fork that took its head has another, since it may fire
+            stirred : g.unit ≡ f.unit → Stirs (kind_of net f.unit) (effect_in net old f p) → IsMarked new.marks g.unit
+            stirred e h =
+                let w = stirs_fork (kind_of net f.unit) (effect_in net old f p) l h in
                 let N : ℕ → Type 0 = λ v. enabled net (state_of new.state) (firing v g.act) in
-                let z : act_place g.act ≡ act_place f.act = both_go net f.unit f.act g.act (state_of old.state) (state_of new.state) i made.may.turn (subst N e m.turn) in
-                absurd (apart g un (λ j. record { unit = e j; act = z j }))
+                let q = within g m in
+                subst (IsMarked new.marks) (sym e) (roused.own w.0 (λ z. w.1 (none_taken net f.unit p.takes z)) (λ z. starved_quiet net (state_of new.state) f.unit g.act z (subst N e m.turn)) (omega arith))
+
+            own : g.unit ≡ f.unit → IsMarked new.marks g.unit ⊎ ((g.unit ≡ f.unit) × IsOpen r (n + 1) g.act)
+            own e = at (own_rouses net c start (dated_of old) f.unit f.act g.act (effect_in net old f p) eng.dated (sym is) (λ z. apart g un (λ j. record { unit = e j; act = z j })) (subst A e after))
+              where
+                A : ℕ → Type 0
+                A v = May net c start (after_in net c (dated_of old) f) (firing v g.act)
+
+                B : ℕ → Type 0
+                B v = May net c start (dated_of old) (firing v g.act)
+
+                G : ℕ → Type 0
+                G v = GoesTo net f.unit (effect_in net old f p) v
+
+                at : May net c start (dated_of old) (firing f.unit g.act) ⊎ (Stirs (kind_of net f.unit) (effect_in net old f p) ⊎ GoesTo net f.unit (effect_in net old f p) f.unit)
+                    → IsMarked new.marks g.unit ⊎ ((g.unit ≡ f.unit) × IsOpen r (n + 1) g.act)
+                at (inl mo) = before_on g un kept.kept (subst B (sym e) mo)
+                at (inr (inl h)) = inl (stirred e h)
+                at (inr (inr k)) = inl (goes p.put room roused.target (subst G (sym e) k))
 
             by : May net c start (dated_of old) g ⊎ ((g.unit ≡ f.unit) ⊎ (GoesTo net f.unit (effect_in net old f p) g.unit ⊎ ((is_merge (kind_of net g.unit) ≡ true) × ComesFrom net f.unit (effect_in net old f p) (dated_of old) g)))
                 → IsMarked new.marks g.unit ⊎ ((g.unit ≡ f.unit) × IsOpen r (n + 1) g.act)
             by (inl mo) = before_on g un kept.kept mo
-            by (inr (inl e)) = inl (own e (is_goer (kind_of net f.unit)) refl)
+            by (inr (inl e)) = own e
             by (inr (inr (inl k))) = inl (goes p.put room roused.target k)
             by (inr (inr (inr k))) = inl (comes k.0 (effect net (state_of old.state) g) k.1)
 
@@ -581,10 +636,24 @@ unit_done net past b c start marks e u kind l is t = record { going = t.going; p
 
 -- the engine with other marks
 abbrev pub with_marks : Engine → Marks → Engine
-with_marks e m = record { state = e.state; dates = e.dates; begun = e.begun; fired = e.fired; since = e.since; made = e.made; log = e.log; marks = m; notes = e.notes }
+with_marks e m = record { state = e.state; dates = e.dates; begun = e.begun; fired = e.fired; since = e.since; made = e.made; log = e.log; marks = m; notes = e.notes; freed = e.freed }
 
 pub going_marks : (net : Net) (past : Past) (b : Bounds) (c : ℕ) (start : Dated) (e : Engine) (m : Marks) → InCycle net past b c start e → InCycle net past b c start (with_marks e m)
-going_marks net past b c start e m g = record { began = g.began; done = g.done; number = g.number; makes = g.makes; once = g.once; order = g.order; made = g.made; log = g.log; moved = g.moved; coming = g.coming }
+going_marks net past b c start e m g = record {
+  began = record { chans = λ d. followed d (g.began.chans d); queues = g.began.queues };
+  done = g.done;
+  number = g.number;
+  makes = g.makes;
+  once = g.once;
+  order = g.order;
+  made = g.made;
+  log = g.log;
+  listed = g.listed;
+  coming = g.coming;
+}
+  where
+    followed : (d : ℕ) → IsFollowed net c start e d → IsFollowed net c start (with_marks e m) d
+    followed d k = record { marked = k.marked; clear = k.clear; newest = k.newest }
 
 pub ready_marks : (net : Net) (b : Bounds) (e : Engine) (m : Marks) → IsReady net b e → length m.marked.items ≡ length net.units → IsListed net m → IsReady net b (with_marks e m)
 ready_marks net b e m r long listed = record {

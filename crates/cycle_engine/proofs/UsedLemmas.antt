@@ -6,20 +6,21 @@ use Rattle.net_types.specs.declared.net.Unit.TheVariants.{Entry, Param, Const, O
 use Rattle.net_types.specs.declared.firing.Act.{Act}
 use Rattle.net_types.specs.declared.firing.Act.TheVariants.{Go, From, Send, Alloc, Addr, Data, Exec, Reply, Retire, End}
 use Rattle.net_types.specs.declared.firing.Firing.{Firing}
-use Rattle.net_types.specs.Nets.{out_of, kind_of, uses, firing}
+use Rattle.net_types.specs.Nets.{out_of, kind_of, chan_at, uses, firing}
 use Rattle.net_check.specs.Ends.{is_lsq}
 use Rattle.lsq_core.specs.Acts.{can, in_place}
 use Rattle.net_core.specs.Fire.{State, Own, Row, Stop, Look, Take, Fires, Effect, Setting, effect_of, with_head, taking, on_go, when, gate, idle, row, fork_row, exit_fires, queue_fires, setting, at_array, head_at, tokens_at, effect, has_room}
 use Rattle.net_core.specs.declared.plan.Put.{Put}
 use Rattle.net_core.specs.declared.plan.Takes.{Takes}
 use Rattle.net_core.specs.declared.plan.Plan.{Plan}
-use Rattle.net_core.specs.Plans.{places_of, effect_by, planned}
+use Rattle.net_core.specs.Plans.{places_of, effect_by, planned, laid_of}
 use Rattle.net_core.specs.States.{state_of, own_at, array_at, IsPlanOf}
 use Rattle.net_core.specs.Uses.{used_by, then_used}
 use Rattle.net_core.proofs.ForkLemmas.{send_inv}
 use Rattle.cycle_engine.specs.declared.engine.Engine.{Engine}
 use Rattle.cycle_engine.specs.Cycles.{Dated, used, HasDepth, AllocHasDepth, May, IsUnused, place_of}
-use Rattle.cycle_engine.specs.private.Trials.{dated_of, AllRipe, is_fork, places_used, HadRoom, HadDepth, EntriesFit, Allowed, IsBegun}
+use Rattle.cycle_engine.specs.private.Trials.{dated_of, AllRipe, places_used, HadRoom, HadDepth, EntriesFit, Allowed, IsOldFull, IsFollowed, IsBegun}
+use Rattle.cycle_engine.specs.private.Kinds.{is_fork}
 use Rattle.std.proofs.lemmas.Bool.{cases_lt}
 use Rattle.cycle_engine.specs.private.Marking.{no_firing, IsNotBefore}
 use Rattle.cycle_engine.proofs.OwnLemmas.{fork_act, fork_effect, fork_uses, send_does}
@@ -183,16 +184,29 @@ start_depth (Sink w) o n a e h = tt
 start_depth (Read x) o n a e h = tt
 start_depth Exit o n a e h = tt
 
-start_room : (net : Net) (start : Dated) (begun : List ℕ) (u : ℕ) (o : Option Put) → ((d : ℕ) → get_or begun d 0 ≡ length (tokens_at start.state d)) → HadRoom net begun u o → has_room net start.state u o
-start_room net start begun u None b h = tt
-start_room net start begun u (Some w) b h = let z = b (out_of u w.place net.chans) in omega arith
+-- ---- room
 
-room_start : (net : Net) (start : Dated) (begun : List ℕ) (u : ℕ) (o : Option Put) → ((d : ℕ) → get_or begun d 0 ≡ length (tokens_at start.state d)) → has_room net start.state u o → HadRoom net begun u o
-room_start net start begun u None b h = tt
-room_start net start begun u (Some w) b h = let z = b (out_of u w.place net.chans) in omega arith
+-- where there is room now, there was at the start exactly where the channel is not marked
+start_room : (net : Net) (c : ℕ) (start : Dated) (e : Engine) (u : ℕ) (o : Option Put) → ((d : ℕ) → IsFollowed net c start e d) → has_room net (state_of e.state) u o → HadRoom e.freed.marked.items (laid_of net u o)
+    → has_room net start.state u o
+start_room net c start e u None b r h = tt
+start_room net c start e u (Some w) b r h = by ((b (out_of u w.place net.chans)).clear h)
+  where
+    by : (length (tokens_at start.state (out_of u w.place net.chans)) < (chan_at net (out_of u w.place net.chans)).slots) ⊎ IsOldFull net c e (out_of u w.place net.chans)
+        → length (tokens_at start.state (out_of u w.place net.chans)) < (chan_at net (out_of u w.place net.chans)).slots
+    by (inl l) = l
+    by (inr f) = let z = f.0 in absurd (omega arith)
+
+room_start : (net : Net) (c : ℕ) (start : Dated) (e : Engine) (u : ℕ) (o : Option Put) → ((d : ℕ) → IsFollowed net c start e d) → has_room net start.state u o → HadRoom e.freed.marked.items (laid_of net u o)
+room_start net c start e u None b h = tt
+room_start net c start e u (Some w) b h = by (get_or e.freed.marked.items (out_of u w.place net.chans) false) refl
+  where
+    by : (x : Bool) → get_or e.freed.marked.items (out_of u w.place net.chans) false ≡ x → get_or e.freed.marked.items (out_of u w.place net.chans) false ≡ false
+    by false is = is
+    by true is = let z = (b (out_of u w.place net.chans)).marked is in absurd (omega arith)
 
 -- what the engine asks of a plan, as May
-pub may_of : (net : Net) (c : ℕ) (e : Engine) (start : Dated) (f : Firing) (p : Plan) → IsPlanOf net e.state f (Some p) → Allowed net c e f p → IsBegun net start e.begun → May net c start (dated_of e) f
+pub may_of : (net : Net) (c : ℕ) (e : Engine) (start : Dated) (f : Firing) (p : Plan) → IsPlanOf net e.state f (Some p) → Allowed net c e f p → IsBegun net c start e → May net c start (dated_of e) f
 may_of net c e start f p is a b =
     let P : Option Effect → Type 0 = λ o. IsSomeAnd o (λ x. has_room net (state_of e.state) f.unit x.put) in
     let Q : Option Effect → Type 0 = λ o. IsSomeAnd o (λ x. has_room net start.state f.unit x.put) in
@@ -200,20 +214,20 @@ may_of net c e start f p is a b =
     record {
       turn = subst P is a.room;
       ripe = subst R (sym (used_of net (state_of e.state) f.unit f.act (effect_by (kind_of net f.unit) (own_at e.state f.unit) (array_at net e.state f.unit) p) p.takes (sym is) refl)) a.ripe;
-      room = subst Q is (start_room net start e.begun.chans.items f.unit p.put b.chans a.had_room);
-      depth = depth_start (kind_of net f.unit) (get_or start.state.own f.unit idle) (get_or e.begun.queues.items f.unit 0) f.act (b.queues f.unit) a.had_depth;
+      room = subst Q is (start_room net c start e f.unit p.put b.chans a.room a.had_room);
+      depth = depth_start (kind_of net f.unit) (get_or start.state.own f.unit idle) (get_or e.begun.items f.unit 0) f.act (b.queues f.unit) a.had_depth;
     }
 
 -- and back
-pub may_parts : (net : Net) (c : ℕ) (e : Engine) (start : Dated) (f : Firing) (p : Plan) → IsPlanOf net e.state f (Some p) → IsBegun net start e.begun → May net c start (dated_of e) f → Allowed net c e f p
+pub may_parts : (net : Net) (c : ℕ) (e : Engine) (start : Dated) (f : Firing) (p : Plan) → IsPlanOf net e.state f (Some p) → IsBegun net c start e → May net c start (dated_of e) f → Allowed net c e f p
 may_parts net c e start f p is b m =
     let P : Option Effect → Type 0 = λ o. IsSomeAnd o (λ x. has_room net (state_of e.state) f.unit x.put) in
     let Q : Option Effect → Type 0 = λ o. IsSomeAnd o (λ x. has_room net start.state f.unit x.put) in
     let R : List ℕ → Type 0 = AllRipe net c e.dates.tokens f.unit in
     record {
       room = subst P (sym is) m.turn;
-      had_room = room_start net start e.begun.chans.items f.unit p.put b.chans (subst Q (sym is) m.room);
-      had_depth = start_depth (kind_of net f.unit) (get_or start.state.own f.unit idle) (get_or e.begun.queues.items f.unit 0) f.act (b.queues f.unit) m.depth;
+      had_room = room_start net c start e f.unit p.put b.chans (subst Q (sym is) m.room);
+      had_depth = start_depth (kind_of net f.unit) (get_or start.state.own f.unit idle) (get_or e.begun.items f.unit 0) f.act (b.queues f.unit) m.depth;
       ripe = subst R (used_of net (state_of e.state) f.unit f.act (effect_by (kind_of net f.unit) (own_at e.state f.unit) (array_at net e.state f.unit) p) p.takes (sym is) refl) m.ripe;
     }
 

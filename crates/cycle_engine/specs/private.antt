@@ -3,3 +3,4 @@ pub mod Trials
 pub mod Goings
 pub mod Marking
 pub mod Places
+pub mod Kinds

@@ -1,14 +1,16 @@
 //! The cycles in which tokens were put.
 
-ghost use Rattle.std.specs.Prelude.{◌≡◌, ◌<◌, ◌^◌, ◌↔◌, length, true, IsTrue, IfSome};
-ghost use Rattle.net_types.specs.Nets.{chan_at, into};
-ghost use Rattle.net_core.specs.Plans.{apart, places_of};
-ghost use Rattle.cycle_engine.specs.private.Trials.{RipeAt, AllRipe, dates_without, AreWithin, dates_after, HasDateRoom};
+ghost use Rattle.std.specs.Prelude.{◌≡◌, ◌<◌, ◌^◌, ◌↔◌, IsTrue};
+ghost use Rattle.std.specs.List.{AllByRecursion};
+ghost use Rattle.net_types.specs.Nets.{chan_at};
+ghost use Rattle.net_core.specs.Plans.{chans_of};
+ghost use Rattle.cycle_engine.specs.private.Trials.{RipeAt, dated_moves};
 
 use net_check::Checked;
-use net_core::{Put, Takes, Tokens};
+use net_core::{Laid, Moves, Taken, Tokens};
 
 /// The delay of a channel in cycles, 0 past the channels.
+#[inline(always)]
 pub(crate) fn delay_of(net: &Checked, chan: u32) -> u64
     ensures delay { result ≡ (chan_at net.now chan).delay }
     ensures small { result < 2 ^ 32 }
@@ -21,11 +23,10 @@ pub(crate) fn delay_of(net: &Checked, chan: u32) -> u64
     }
 }
 
-/// Whether the head at an input place may be used in the cycle `now`.
-pub(crate) fn is_ripe(dates: &Tokens, net: &Checked, unit: u32, place: u64, now: u64) -> bool
-    ensures { IsTrue result ↔ RipeAt net.now now dates.now.tokens (into unit place net.now.chans) }
+/// Whether the head of a channel may be used in the cycle `now`.
+pub(crate) fn is_ripe(dates: &Tokens, net: &Checked, chan: u32, now: u64) -> bool
+    ensures { IsTrue result ↔ RipeAt net.now now dates.now.tokens chan }
 {
-    let chan = net.into_place(unit, place);
     let delay = delay_of(net, chan);
     match dates.head(chan) {
         None => false,
@@ -33,66 +34,38 @@ pub(crate) fn is_ripe(dates: &Tokens, net: &Checked, unit: u32, place: u64, now:
     }
 }
 
-/// Whether all heads that a plan takes may be used in the cycle `now`.
-pub(crate) fn are_ripe(dates: &Tokens, net: &Checked, unit: u32, takes: Takes, now: u64) -> bool
-    ensures { IsTrue result ↔ AllRipe net.now now dates.now.tokens unit (places_of takes) }
+/// Whether the heads of all channels from which a firing takes may be used in the cycle `now`.
+#[inline(always)]
+pub(crate) fn are_ripe(dates: &Tokens, net: &Checked, taken: Taken, now: u64) -> bool
+    ensures { IsTrue result
+        ↔ AllByRecursion (RipeAt net.now now dates.now.tokens) (chans_of taken) }
 {
-    match takes {
-        Takes::None => true,
-        Takes::One(p) => is_ripe(dates, net, unit, p, now),
-        Takes::Two(p, q) => {
-            is_ripe(dates, net, unit, p, now) && is_ripe(dates, net, unit, q, now)
-        }
-        Takes::Three(p, q, r) => {
-            is_ripe(dates, net, unit, p, now)
-                && is_ripe(dates, net, unit, q, now)
-                && is_ripe(dates, net, unit, r, now)
+    match taken {
+        Taken::None => true,
+        Taken::One(c) => is_ripe(dates, net, c, now),
+        Taken::Two(c, d) => is_ripe(dates, net, c, now) && is_ripe(dates, net, d, now),
+        Taken::Three(c, d, e) => {
+            is_ripe(dates, net, c, now)
+                && is_ripe(dates, net, d, now)
+                && is_ripe(dates, net, e, now)
         }
     }
 }
 
-/// Takes the dates of the tokens that a firing takes.
-fn take_dates(dates: &mut Tokens, net: &Checked, unit: u32, takes: Takes)
-    requires { AreWithin net.now (length dates.old.tokens) unit (places_of takes) }
-    ensures tokens { dates.new.tokens
-        ≡ dates_without net.now unit (places_of takes) dates.old.tokens }
-    ensures slots { dates.new.slots ≡ dates.old.slots }
+/// How a firing in the cycle `now` moves dates: as it moves tokens, and its token has the date `now`.
+#[inline(always)]
+pub(crate) fn dated(moves: Moves, now: u64) -> Moves
+    ensures { result ≡ dated_moves now moves }
 {
-    match takes {
-        Takes::None => {}
-        Takes::One(p) => dates.take(net.into_place(unit, p)),
-        Takes::Two(p, q) => {
-            dates.take(net.into_place(unit, p));
-            dates.take(net.into_place(unit, q));
-        }
-        Takes::Three(p, q, r) => {
-            dates.take(net.into_place(unit, p));
-            dates.take(net.into_place(unit, q));
-            dates.take(net.into_place(unit, r));
-        }
-    }
-}
-
-/// Moves dates as a firing moves tokens: its token has the date `now`.
-pub(crate) fn move_dates(
-    dates: &mut Tokens,
-    net: &Checked,
-    unit: u32,
-    takes: Takes,
-    put: Option<Put>,
-    now: u64,
-)
-    requires long { length dates.old.tokens ≡ length net.now.chans }
-    requires within { AreWithin net.now (length dates.old.tokens) unit (places_of takes) }
-    requires apart { apart takes ≡ true }
-    requires room { IfSome put
-        (λ w. HasDateRoom net.now unit dates.old.tokens dates.old.slots w) }
-    ensures tokens { dates.new.tokens ≡ dates_after net.now unit takes put now dates.old.tokens }
-    ensures slots { dates.new.slots ≡ dates.old.slots }
-{
-    take_dates(dates, net, unit, takes);
-    match put {
-        None => {}
-        Some(put) => dates.put(net.out_of_place(unit, put.place), now),
+    let laid = match moves.laid {
+        None => None,
+        Some(laid) => Some(Laid {
+            chan: laid.chan,
+            value: now,
+        }),
+    };
+    Moves {
+        taken: moves.taken,
+        laid,
     }
 }

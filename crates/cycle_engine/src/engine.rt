@@ -5,10 +5,11 @@ ghost use Rattle.el_base.specs.Limits.{max_firings};
 ghost use Rattle.net_types.specs.Inputs.{InputsFit};
 ghost use Rattle.net_types.specs.Nets.{kind_of};
 ghost use Rattle.net_check.specs.Ends.{is_lsq};
-ghost use Rattle.net_core.specs.Fire.{idle, tokens_at};
+ghost use Rattle.net_core.specs.Fire.{idle};
 ghost use Rattle.net_core.specs.States.{IsOf, state_of};
-ghost use Rattle.cycle_engine.specs.private.Marking.{HasUnit, entries_at};
+ghost use Rattle.cycle_engine.specs.private.Marking.{HasUnit, IsMarked, IsStarved, KeepsMarks, entries_at};
 
+use crate::freed::Freed;
 use crate::marks::Marks;
 use crate::notes::Notes;
 use crate::places::is_queue;
@@ -26,22 +27,14 @@ pub(crate) struct Bounds {
     pub keep: bool,
 }
 
-/// How long channels and queues were when the cycle began.
-#[derive(Drop)]
-pub(crate) struct Lengths {
-    /// The tokens of each channel.
-    pub chans: Vec<u32>,
-    /// The entries of the queue of each unit; 0 of a unit that is none.
-    pub queues: Vec<u32>,
-}
-
 /// A state with the cycle in which each token was put, and what was done in the cycle so far.
 #[derive(Drop)]
 pub(crate) struct Engine {
     pub state: State,
     /// Beside the tokens of each channel the cycles in which they were put.
     pub dates: Tokens,
-    pub begun: Lengths,
+    /// How many entries the queue of each unit had when the cycle began; 0 of a unit that is none.
+    pub begun: Vec<u32>,
     /// The firings of the cycle so far.
     pub fired: Vec<Firing>,
     /// Of each unit that has fired in the cycle a number from 1 on, at most that of its first firing; 0 of most others.
@@ -51,8 +44,10 @@ pub(crate) struct Engine {
     pub log: Log<Firing>,
     /// The units that may fire in the cycle.
     pub marks: Marks,
-    /// What the next cycles have to be told.
+    /// When tokens ripen.
     pub notes: Notes,
+    /// The channels that were full when the cycle began, and from which tokens were taken.
+    pub freed: Freed,
 }
 
 /// How many firings the log has to have room for.
@@ -93,7 +88,8 @@ impl Engine {
         requires fit { InputsFit net.now inputs.now }
         requires few { bounds.limit ≤ max_firings }
         ensures ready { IfOk result (λ e. IsReady net.now bounds e) }
-        ensures done { IfOk result (λ e. HasDone net.now (record { inputs = inputs.now; cycles = [] }) bounds 0 e) }
+        ensures done { IfOk result (λ e. HasDone net.now
+            (record { inputs = inputs.now; cycles = [] }) bounds 0 e) }
         ensures none { IfOk result (λ e. e.fired.items ≡ []) }
     {
         let chans = net.net().chans.as_slice();
@@ -103,10 +99,8 @@ impl Engine {
         let notes = Notes::new(alloc)?;
         let state = State::new(alloc, net, inputs)?;
         let dates = Tokens::new(alloc, chans)?;
-        let begun = Lengths {
-            chans: zeros(alloc, chans.len())?,
-            queues: zeros(alloc, units.len())?,
-        };
+        let begun = zeros(alloc, units.len())?;
+        let freed = Freed::new(alloc, chans.len())?;
         let log = Log::with_room(alloc, log_room(bounds))?;
         Ok(Engine {
             state,
@@ -118,11 +112,11 @@ impl Engine {
             log,
             marks,
             notes,
+            freed,
         })
     }
 
-    /// Begins a cycle: marks the units that may fire in it, and notes the lengths of channels and queues and that nothing has
-    /// fired.
+    /// Begins a cycle: marks the units that may fire in it, and notes the lengths of queues and that nothing has fired.
     ///
     /// # Errors
     ///
@@ -138,13 +132,18 @@ impl Engine {
         let _ = bounds;
         let _ = net.net();
         let fired = self.fired.as_slice();
-        self.marks.mark_fired(net, &self.state, fired)?;
-        note_queues(&mut self.begun.queues, net, &self.state, fired);
-        clear_since(&mut self.since, fired);
-        let moved = self.notes.moved.as_slice();
-        self.marks
-            .mark_emptied(net, &self.state, &mut self.begun.chans, moved)?;
+        settle(
+            &mut self.marks,
+            &mut self.begun,
+            &mut self.since,
+            net,
+            &self.state,
+            fired,
+        )?;
+        let freed = self.freed.list.as_slice();
+        self.marks.mark_sources(net, &self.state, freed)?;
         self.marks.mark_targets(net, self.notes.ripening(now))?;
+        self.freed.clear();
         self.notes.clear(now);
         self.made += self.fired.len() as u64;
         self.fired.clear();
@@ -152,13 +151,12 @@ impl Engine {
     }
 }
 
-/// Forgets when units have fired.
-fn clear_since(since: &mut Vec<u64>, fired: &[Firing]) {
-    for firing in fired {
-        let at = firing.unit as usize;
-        if at < since.len() {
-            since[at] = 0;
-        }
+/// Forgets when a unit has fired.
+#[inline(always)]
+fn forget(since: &mut Vec<u64>, unit: u32) {
+    let at = unit as usize;
+    if at < since.len() {
+        since[at] = 0;
     }
 }
 
@@ -175,21 +173,41 @@ fn entries(net: &Checked, state: &State, unit: u32) -> u32
     }
 }
 
-/// Notes how many entries the queues have that fired.
-fn note_queues(lengths: &mut Vec<u32>, net: &Checked, state: &State, fired: &[Firing])
+/// Marks the units of firings that do not want a token at their first input, notes how many entries their queues have, and
+/// forgets when they have fired.
+///
+/// # Errors
+///
+/// [`Memory`] where memory is wanting.
+fn settle(
+    marks: &mut Marks,
+    begun: &mut Vec<u32>,
+    since: &mut Vec<u64>,
+    net: &Checked,
+    state: &State,
+    fired: &[Firing],
+) -> Result<(), Memory>
     requires of { IsOf net.now state.now }
-    requires long { length lengths.old.items ≡ length net.now.units }
-    ensures long { length lengths.new.items ≡ length net.now.units }
-    ensures noted { (u : ℕ) → is_lsq (kind_of net.now u) ≡ true
-        → (get_or lengths.old.items u 0 ≡ entries_at (state_of state.now) u) ⊎ HasUnit u fired.now
-        → get_or lengths.new.items u 0 ≡ entries_at (state_of state.now) u }
+    requires long { length begun.old.items ≡ length net.now.units }
+    ensures kept { OnOk result (KeepsMarks marks.old marks.new) }
+    ensures marked { OnOk result ((u : ℕ) → HasUnit u fired.now
+        → (IsStarved net.now (state_of state.now) u → ⊥)
+        → u < length marks.old.marked.items → IsMarked marks.new u) }
+    ensures long { OnOk result (length begun.new.items ≡ length net.now.units) }
+    ensures noted { OnOk result ((u : ℕ) → is_lsq (kind_of net.now u) ≡ true
+        → (get_or begun.old.items u 0 ≡ entries_at (state_of state.now) u) ⊎ HasUnit u fired.now
+        → get_or begun.new.items u 0 ≡ entries_at (state_of state.now) u) }
 {
     for firing in fired {
-        note_queue(lengths, net, state, firing.unit);
+        marks.mark_fed(net, state, firing.unit)?;
+        note_queue(begun, net, state, firing.unit);
+        forget(since, firing.unit);
     }
+    Ok(())
 }
 
 /// Notes how many entries the queue of a unit has, where it is one.
+#[inline(always)]
 fn note_queue(lengths: &mut Vec<u32>, net: &Checked, state: &State, unit: u32)
     requires of { IsOf net.now state.now }
     requires long { length lengths.old.items ≡ length net.now.units }

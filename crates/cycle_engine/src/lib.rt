@@ -5,6 +5,7 @@
 
 mod dates;
 mod engine;
+mod freed;
 mod laws;
 mod marks;
 mod notes;

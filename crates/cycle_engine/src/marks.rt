@@ -1,18 +1,18 @@
 //! The units that may fire in a cycle.
 
-ghost use Rattle.std.specs.Prelude.{◌≡◌, ◌≢◌, ◌⊎◌, ℕ, ◌+◌, ◌<◌, ◌≤◌, [], true, false, IfOk, IfSome, OnOk, MatchOption, length, get_or, set};
+ghost use Rattle.std.specs.Prelude.{◌≡◌, ◌≢◌, ℕ, ◌+◌, ◌<◌, ◌≤◌, [], true, false, IfOk, IfSome, OnOk, MatchOption, length, get_or, set};
 ghost use Rattle.std.specs.List.{AllByRecursion};
-ghost use Rattle.net_types.specs.Nets.{chan_at, into, kind_of};
-ghost use Rattle.net_core.specs.Fire.{tokens_at};
-ghost use Rattle.net_core.specs.Plans.{places_of};
+ghost use Rattle.net_types.specs.Nets.{kind_of};
+ghost use Rattle.net_core.specs.Plans.{chans_of};
 ghost use Rattle.net_core.specs.States.{IsOf, state_of};
-ghost use Rattle.cycle_engine.specs.private.Marking.{Holds, HasUnit, no_firing, IsMarked, IsListed, IsStarved, KeepsMarks, IsSourceMarked, IsMergeMarked, IsTargetMarked, IsPutMarked, IsRoused, IsTaken, IsEmptied, IsCounted, is_goer};
+ghost use Rattle.cycle_engine.specs.private.Marking.{Holds, IsMarked, IsListed, IsStarved, KeepsMarks, IsSourceMarked, IsMergeMarked, IsTargetMarked, IsPutMarked, IsRoused, IsTaken, IsEmptied};
+ghost use Rattle.cycle_engine.specs.private.Kinds.{is_fork};
 
 use crate::dates::delay_of;
-use crate::places::{goes, is_merge, is_queue, is_starved};
+use crate::places::{is_fork, is_merge, is_queue, is_starved};
 use net_check::Checked;
-use net_core::{Plan, Put, State, Takes};
-use net_types::{Firing, Memory};
+use net_core::{Laid, Moves, State, Taken};
+use net_types::Memory;
 use std::alloc::Global;
 
 /// Marks at units that may fire, and a list of those that are to be looked at.
@@ -51,6 +51,7 @@ impl Marks {
     /// # Errors
     ///
     /// [`Memory`] where memory is wanting.
+    #[inline(always)]
     fn mark(&mut self, unit: u32) -> Result<(), Memory>
         ensures kept { OnOk result (KeepsMarks self.old self.new) }
         ensures marked { OnOk result
@@ -68,6 +69,7 @@ impl Marks {
     }
 
     /// Whether a unit is marked.
+    #[inline(always)]
     pub(crate) fn is_marked(&self, unit: u32) -> bool
         ensures { result ≡ get_or self.now.marked.items unit false }
     {
@@ -76,6 +78,7 @@ impl Marks {
     }
 
     /// Takes the mark of a unit away.
+    #[inline(always)]
     pub(crate) fn unmark(&mut self, unit: u32)
         ensures marked { self.new.marked.items ≡ set self.old.marked.items unit false }
         ensures list { self.new.list ≡ self.old.list }
@@ -87,6 +90,7 @@ impl Marks {
     }
 
     /// Takes the next unit from the list, and its mark where it is no queue.
+    #[inline(always)]
     pub(crate) fn take(&mut self, net: &Checked) -> Option<u32>
         ensures { MatchOption result (IsEmptied self.old self.new)
             (IsTaken net.now self.old self.new) }
@@ -105,6 +109,7 @@ impl Marks {
     /// # Errors
     ///
     /// [`Memory`] where memory is wanting.
+    #[inline(always)]
     fn mark_merge(&mut self, net: &Checked, chan: u32) -> Result<(), Memory>
         ensures kept { OnOk result (KeepsMarks self.old self.new) }
         ensures marked { OnOk result
@@ -127,8 +132,11 @@ impl Marks {
     /// # Errors
     ///
     /// [`Memory`] where memory is wanting.
-    fn mark_fed(&mut self, net: &Checked, state: &State, unit: u32) -> Result<(), Memory>
+    #[inline(always)]
+    pub(crate) fn mark_fed(&mut self, net: &Checked, state: &State, unit: u32) -> Result<(), Memory>
         requires { IsOf net.now state.now }
+        ensures few { OnOk result
+            (length self.new.list.items ≤ length self.old.list.items + 1) }
         ensures kept { OnOk result (KeepsMarks self.old self.new) }
         ensures marked { OnOk result ((IsStarved net.now (state_of state.now) unit → ⊥)
             → unit < length self.old.marked.items → IsMarked self.new unit) }
@@ -145,6 +153,7 @@ impl Marks {
     /// # Errors
     ///
     /// [`Memory`] where memory is wanting.
+    #[inline(always)]
     fn mark_source(&mut self, net: &Checked, state: &State, chan: u32) -> Result<(), Memory>
         requires { IsOf net.now state.now }
         ensures kept { OnOk result (KeepsMarks self.old self.new) }
@@ -163,6 +172,7 @@ impl Marks {
     /// # Errors
     ///
     /// [`Memory`] where memory is wanting.
+    #[inline(always)]
     fn mark_target(&mut self, net: &Checked, chan: u32) -> Result<(), Memory>
         ensures kept { OnOk result (KeepsMarks self.old self.new) }
         ensures marked { OnOk result
@@ -177,119 +187,118 @@ impl Marks {
         Ok(())
     }
 
-    /// Marks the control merges that put on the channels into places of a unit.
+    /// Marks the control merges that put on channels from which tokens were taken.
     ///
     /// # Errors
     ///
     /// [`Memory`] where memory is wanting.
-    fn mark_merges(&mut self, net: &Checked, unit: u32, takes: Takes) -> Result<(), Memory>
+    #[inline(always)]
+    fn mark_merges(&mut self, net: &Checked, taken: Taken) -> Result<(), Memory>
         ensures kept { OnOk result (KeepsMarks self.old self.new) }
         ensures marked { OnOk result (AllByRecursion
-            (λ p. IsMergeMarked net.now (length self.old.marked.items) self.new (into unit p net.now.chans))
-            (places_of takes)) }
+            (IsMergeMarked net.now (length self.old.marked.items) self.new) (chans_of taken)) }
         ensures few { OnOk result
             (length self.new.list.items ≤ length self.old.list.items + 3) }
     {
-        match takes {
-            Takes::None => Ok(()),
-            Takes::One(p) => {
-                self.mark_merge(net, net.into_place(unit, p))?;
+        match taken {
+            Taken::None => Ok(()),
+            Taken::One(c) => {
+                self.mark_merge(net, c)?;
                 Ok(())
             }
-            Takes::Two(p, q) => {
-                self.mark_merge(net, net.into_place(unit, p))?;
-                self.mark_merge(net, net.into_place(unit, q))?;
+            Taken::Two(c, d) => {
+                self.mark_merge(net, c)?;
+                self.mark_merge(net, d)?;
                 Ok(())
             }
-            Takes::Three(p, q, r) => {
-                self.mark_merge(net, net.into_place(unit, p))?;
-                self.mark_merge(net, net.into_place(unit, q))?;
-                self.mark_merge(net, net.into_place(unit, r))?;
+            Taken::Three(c, d, e) => {
+                self.mark_merge(net, c)?;
+                self.mark_merge(net, d)?;
+                self.mark_merge(net, e)?;
                 Ok(())
             }
         }
     }
 
-    /// Marks the units of which a firing of a unit by a plan may let one fire in the cycle.
+    /// Marks the units of which a firing of a unit may let one fire in the cycle, by the tokens that it moved and the state
+    /// after it.
     ///
     /// # Errors
     ///
     /// [`Memory`] where memory is wanting.
-    pub(crate) fn rouse(&mut self, net: &Checked, unit: u32, plan: Plan) -> Result<(), Memory>
+    #[inline(always)]
+    pub(crate) fn rouse(
+        &mut self,
+        net: &Checked,
+        state: &State,
+        unit: u32,
+        moves: Moves,
+    ) -> Result<(), Memory>
+        requires { IsOf net.now state.now }
         ensures kept { OnOk result (KeepsMarks self.old self.new) }
-        ensures roused { OnOk result
-            (IsRoused net.now unit plan (length self.old.marked.items) self.new) }
+        ensures roused { OnOk result (IsRoused net.now (state_of state.now) unit moves
+            (length self.old.marked.items) self.new) }
         ensures few { OnOk result
             (length self.new.list.items ≤ length self.old.list.items + 5) }
     {
-        self.mark_own(net, unit)?;
-        self.mark_merges(net, unit, plan.takes)?;
-        self.mark_put(net, unit, plan.put)?;
+        self.mark_own(net, state, unit, moves.taken)?;
+        self.mark_merges(net, moves.taken)?;
+        self.mark_put(net, moves.laid)?;
         Ok(())
     }
 
-    /// Marks a unit that has more places than one.
+    /// Marks a fork that took its head and has another.
     ///
     /// # Errors
     ///
     /// [`Memory`] where memory is wanting.
-    fn mark_own(&mut self, net: &Checked, unit: u32) -> Result<(), Memory>
+    #[inline(always)]
+    fn mark_own(
+        &mut self,
+        net: &Checked,
+        state: &State,
+        unit: u32,
+        taken: Taken,
+    ) -> Result<(), Memory>
+        requires { IsOf net.now state.now }
         ensures kept { OnOk result (KeepsMarks self.old self.new) }
-        ensures marked { OnOk result (is_goer (kind_of net.now unit) ≡ false
+        ensures marked { OnOk result (is_fork (kind_of net.now unit) ≡ true
+            → chans_of taken ≢ [] → (IsStarved net.now (state_of state.now) unit → ⊥)
             → unit < length self.old.marked.items → IsMarked self.new unit) }
         ensures few { OnOk result
             (length self.new.list.items ≤ length self.old.list.items + 1) }
     {
-        if goes(net, unit) {
-            return Ok(());
+        match taken {
+            Taken::None => Ok(()),
+            _ => {
+                if is_fork(net, unit) {
+                    self.mark_fed(net, state, unit)?;
+                }
+                Ok(())
+            }
         }
-        self.mark(unit)?;
-        Ok(())
     }
 
-    /// Marks the unit into which a unit puts a token without delay.
+    /// Marks the unit into which a token was put without delay.
     ///
     /// # Errors
     ///
     /// [`Memory`] where memory is wanting.
-    fn mark_put(&mut self, net: &Checked, unit: u32, put: Option<Put>) -> Result<(), Memory>
+    #[inline(always)]
+    fn mark_put(&mut self, net: &Checked, laid: Option<Laid>) -> Result<(), Memory>
         ensures kept { OnOk result (KeepsMarks self.old self.new) }
-        ensures marked { OnOk result (IsPutMarked net.now unit put
+        ensures marked { OnOk result (IsPutMarked net.now laid
             (length self.old.marked.items) self.new) }
         ensures few { OnOk result
             (length self.new.list.items ≤ length self.old.list.items + 1) }
     {
-        let Some(put) = put else {
+        let Some(laid) = laid else {
             return Ok(());
         };
-        let chan = net.out_of_place(unit, put.place);
-        if delay_of(net, chan) > 0 {
+        if delay_of(net, laid.chan) > 0 {
             return Ok(());
         }
-        self.mark_target(net, chan)?;
-        Ok(())
-    }
-
-    /// Marks the units of firings that do not want a token at their first input.
-    ///
-    /// # Errors
-    ///
-    /// [`Memory`] where memory is wanting.
-    pub(crate) fn mark_fired(
-        &mut self,
-        net: &Checked,
-        state: &State,
-        fired: &[Firing],
-    ) -> Result<(), Memory>
-        requires { IsOf net.now state.now }
-        ensures kept { OnOk result (KeepsMarks self.old self.new) }
-        ensures marked { OnOk result ((u : ℕ) → HasUnit u fired.now
-            → (IsStarved net.now (state_of state.now) u → ⊥)
-            → u < length self.old.marked.items → IsMarked self.new u) }
-    {
-        for firing in fired {
-            self.mark_fed(net, state, firing.unit)?;
-        }
+        self.mark_target(net, laid.chan)?;
         Ok(())
     }
 
@@ -309,64 +318,25 @@ impl Marks {
         Ok(())
     }
 
-    /// Notes how many tokens channels have, and marks the units that put on those that have fewer than was noted before.
+    /// Marks the units that put on channels, where they do not want a token at their first input.
     ///
     /// # Errors
     ///
     /// [`Memory`] where memory is wanting.
-    pub(crate) fn mark_emptied(
+    pub(crate) fn mark_sources(
         &mut self,
         net: &Checked,
         state: &State,
-        lengths: &mut Vec<u32>,
-        moved: &[u32],
+        chans: &[u32],
     ) -> Result<(), Memory>
-        requires of { IsOf net.now state.now }
-        requires long { length lengths.old.items ≡ length net.now.chans }
+        requires { IsOf net.now state.now }
         ensures kept { OnOk result (KeepsMarks self.old self.new) }
-        ensures long { OnOk result (length lengths.new.items ≡ length net.now.chans) }
-        ensures noted { OnOk result ((d : ℕ) → IsCounted (state_of state.now) lengths.old.items d
-            ⊎ Holds d moved.now → IsCounted (state_of state.now) lengths.new.items d) }
-        ensures marked { OnOk result ((d : ℕ) → Holds d moved.now
-            → length (tokens_at (state_of state.now) d) < get_or lengths.old.items d 0
-            → IsSourceMarked net.now (state_of state.now) (length self.old.marked.items) self.new d) }
+        ensures marked { OnOk result ((d : ℕ) → Holds d chans.now
+            → IsSourceMarked net.now (state_of state.now)
+            (length self.old.marked.items) self.new d) }
     {
-        for chan in moved {
-            self.mark_if_emptied(net, state, lengths, *chan)?;
-        }
-        Ok(())
-    }
-
-    /// Notes how many tokens a channel has, and marks the unit that puts on it where it has fewer than was noted before.
-    ///
-    /// # Errors
-    ///
-    /// [`Memory`] where memory is wanting.
-    fn mark_if_emptied(
-        &mut self,
-        net: &Checked,
-        state: &State,
-        lengths: &mut Vec<u32>,
-        chan: u32,
-    ) -> Result<(), Memory>
-        requires of { IsOf net.now state.now }
-        requires long { length lengths.old.items ≡ length net.now.chans }
-        ensures kept { OnOk result (KeepsMarks self.old self.new) }
-        ensures long { OnOk result (length lengths.new.items ≡ length net.now.chans) }
-        ensures noted { OnOk result (IsCounted (state_of state.now) lengths.new.items chan) }
-        ensures others { OnOk result ((d : ℕ) → d ≢ chan
-            → get_or lengths.new.items d 0 ≡ get_or lengths.old.items d 0) }
-        ensures marked { OnOk result
-            (length (tokens_at (state_of state.now) chan) < get_or lengths.old.items chan 0
-            → IsSourceMarked net.now (state_of state.now) (length self.old.marked.items) self.new chan) }
-    {
-        let at = chan as usize;
-        if at < net.net().chans.as_slice().len() {
-            let held = state.held(net, chan);
-            if held < lengths[at] {
-                self.mark_source(net, state, chan)?;
-            }
-            lengths[at] = held;
+        for chan in chans {
+            self.mark_source(net, state, *chan)?;
         }
         Ok(())
     }

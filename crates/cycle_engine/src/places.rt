@@ -4,7 +4,8 @@ ghost use Rattle.std.specs.Prelude.{◌≡◌, ℕ, true, false, IfOk, OnOk, Mat
 ghost use Rattle.net_types.specs.Nets.{kind_of};
 ghost use Rattle.net_check.specs.Ends.{is_lsq};
 ghost use Rattle.net_core.specs.States.{IsOf, state_of};
-ghost use Rattle.cycle_engine.specs.private.Marking.{Holds, IsStarved, asks_first, is_goer, is_merge};
+ghost use Rattle.cycle_engine.specs.private.Marking.{Holds, IsStarved, asks_first, is_merge};
+ghost use Rattle.cycle_engine.specs.private.Kinds.{is_fork};
 ghost use Rattle.cycle_engine.specs.private.Places.{HasView, HasNoExec, IsFirstExec, AreQueues, first_of, count_in, inputs_in, outputs_in, groups_in, ports_in, numbered};
 
 use lsq_core::Queue;
@@ -14,6 +15,7 @@ use net_types::{Act, Memory, Unit};
 use std::alloc::Global;
 
 /// Whether a unit is a queue.
+#[inline(always)]
 pub(crate) fn is_queue(net: &Checked, unit: u32) -> bool
     ensures { result ≡ is_lsq (kind_of net.now unit) }
 {
@@ -29,6 +31,7 @@ pub(crate) fn is_queue(net: &Checked, unit: u32) -> bool
 }
 
 /// Whether a unit is a control merge.
+#[inline(always)]
 pub(crate) fn is_merge(net: &Checked, unit: u32) -> bool
     ensures { result ≡ is_merge (kind_of net.now unit) }
 {
@@ -43,24 +46,24 @@ pub(crate) fn is_merge(net: &Checked, unit: u32) -> bool
     }
 }
 
-/// Whether a unit has one place only: it is no fork, no control merge and no queue.
-pub(crate) fn goes(net: &Checked, unit: u32) -> bool
-    ensures { result ≡ is_goer (kind_of net.now unit) }
+/// Whether a unit is a fork.
+#[inline(always)]
+pub(crate) fn is_fork(net: &Checked, unit: u32) -> bool
+    ensures { result ≡ is_fork (kind_of net.now unit) }
 {
     let units = net.net().units.as_slice();
     if (unit as usize) < units.len() {
         match &units[unit as usize] {
-            Unit::Fork { .. } => false,
-            Unit::Cmerge { .. } => false,
-            Unit::Lsq { .. } => false,
-            _ => true,
+            Unit::Fork { .. } => true,
+            _ => false,
         }
     } else {
-        true
+        false
     }
 }
 
 /// Whether a unit does not fire without a token at its first input.
+#[inline(always)]
 fn asks_first(net: &Checked, unit: u32) -> bool
     ensures { result ≡ asks_first (kind_of net.now unit) }
 {
@@ -80,6 +83,7 @@ fn asks_first(net: &Checked, unit: u32) -> bool
 }
 
 /// Whether a unit wants a token at its first input.
+#[inline(always)]
 pub(crate) fn is_starved(net: &Checked, state: &State, unit: u32) -> bool
     requires { IsOf net.now state.now }
     ensures { result ≡ true → IsStarved net.now (state_of state.now) unit }
@@ -126,6 +130,7 @@ fn add_queue(queues: &mut Vec<u32>, net: &Checked, unit: u32) -> Result<(), Memo
 }
 
 /// The first act of a unit that is no queue; none of a queue.
+#[inline(always)]
 pub(crate) fn first_act(net: &Checked, unit: u32) -> Option<Act>
     ensures { MatchOption result (is_lsq (kind_of net.now unit) ≡ true)
         (λ act. (is_lsq (kind_of net.now unit) ≡ false) × (act ≡ first_of (kind_of net.now unit))) }
@@ -144,6 +149,7 @@ pub(crate) fn first_act(net: &Checked, unit: u32) -> Option<Act>
 }
 
 /// How many acts a unit may have of the kind of an act.
+#[inline(always)]
 pub(crate) fn count_acts(net: &Checked, unit: u32, act: Act) -> u32
     ensures { result ≡ count_in (kind_of net.now unit) act }
 {
@@ -222,6 +228,7 @@ fn ports_of(net: &Checked, unit: u32) -> u32
 }
 
 /// The act of a number, of the kind of another act.
+#[inline(always)]
 pub(crate) fn numbered(act: Act, number: u32) -> Act
     ensures { result ≡ numbered act number }
 {

@@ -2,78 +2,61 @@
 
 ghost use Rattle.std.specs.Prelude.{◌≡◌, ◌↔◌, ℕ, ◌+◌, ◌<◌, ◌≤◌, ◌^◌, ◌∷◌, ◌++◌, [], Some, is_some, true, false, IsTrue, IfSome, IfOk, IfErr, OnOk, MatchOption, length, get_or};
 ghost use Rattle.el_base.specs.Limits.{max_depth};
-ghost use Rattle.net_types.specs.Nets.{into, kind_of, chan_at};
+ghost use Rattle.net_types.specs.Nets.{kind_of};
 ghost use Rattle.net_core.specs.Fire.{has_room};
-ghost use Rattle.net_core.specs.Plans.{apart, admits};
+ghost use Rattle.net_core.specs.Plans.{apart, admits, chans_of, moves_of};
 ghost use Rattle.net_core.specs.States.{IsOf, IsPlanOf, CountsWithin, CountsRise, cell_at, state_of};
 ghost use Rattle.net_replay.specs.Finishes.{IsLogged};
 ghost use Rattle.net_replay.specs.declared.fault.RunFault.TheVariants as fault;
 ghost use Rattle.cycle_engine.specs.Cycles.{Dated, May, IsUnused, place_of, after_in};
-ghost use Rattle.cycle_engine.specs.private.Trials.{dated_of, AllRipe, HadRoom, HadDepth, EntriesFit, Allowed, IsBegun, IsEngine, is_fork, places_used};
+ghost use Rattle.cycle_engine.specs.private.Trials.{dated_of, AllRipe, HadRoom, HasRoomNow, HadDepth, EntriesFit, Allowed, IsBegun, IsEngine, places_used};
+ghost use Rattle.cycle_engine.specs.private.Kinds.{is_fork};
 ghost use Rattle.cycle_engine.specs.private.Goings.{Past, IsReady, InCycle, MayFollow, IsTried, IsBroken, IsMore};
-ghost use Rattle.cycle_engine.specs.private.Marking.{IsNoted, AreSince, IsNotBefore, IsSinceNoted};
+ghost use Rattle.cycle_engine.specs.private.Marking.{IsFreed, IsNoted, AreSince, IsNotBefore, IsSinceNoted};
 ghost use Rattle.std.specs.Prelude.{MatchResult};
 
-use crate::dates::{are_ripe, is_ripe, move_dates};
-use crate::engine::{Bounds, Engine, Lengths};
+use crate::dates::{are_ripe, dated, is_ripe};
+use crate::engine::{Bounds, Engine};
+use crate::freed::Freed;
+use crate::places::is_fork;
 use el_base::Log;
 use net_check::Checked;
-use net_core::{Plan, Put};
+use net_core::{Laid, Moves, Plan, moves_of};
 use net_replay::RunFault;
 use net_types::{Act, Firing, List, Unit};
 
-/// Whether a unit is a fork.
-fn forks(net: &Checked, unit: u32) -> bool
-    ensures { result ≡ is_fork (kind_of net.now unit) }
-{
-    let units = net.net().units.as_slice();
-    if (unit as usize) < units.len() {
-        match &units[unit as usize] {
-            Unit::Fork { .. } => true,
-            _ => false,
-        }
-    } else {
-        false
-    }
+/// What a firing does, and the tokens that it moves.
+#[derive(Clone, Copy, Debug)]
+pub(crate) struct Planned {
+    pub plan: Plan,
+    pub moves: Moves,
 }
 
-/// The slots of a channel, 0 past the channels.
-fn slots_of(net: &Checked, chan: u32) -> u32
-    ensures { result ≡ (chan_at net.now chan).slots }
+/// How many entries were noted of a queue, 0 past them.
+#[inline(always)]
+fn noted(entries: &[u32], at: u32) -> u32
+    ensures { result ≡ get_or entries.now at 0 }
 {
-    let chans = net.net().chans.as_slice();
-    if (chan as usize) < chans.len() {
-        chans[chan as usize].slots
+    if (at as usize) < entries.len() {
+        entries[at as usize]
     } else {
         0
     }
 }
 
-/// The length that was noted of a channel or of a queue, 0 past them.
-fn noted(lengths: &[u32], at: u32) -> u32
-    ensures { result ≡ get_or lengths.now at 0 }
+/// Whether the channel on which is put is not among those that were full as the cycle began and from which tokens were taken.
+#[inline(always)]
+fn had_room(freed: &Freed, laid: Option<Laid>) -> bool
+    ensures { IsTrue result ↔ HadRoom freed.now.marked.items laid }
 {
-    if (at as usize) < lengths.len() {
-        lengths[at as usize]
-    } else {
-        0
-    }
-}
-
-/// Whether there was room on the channel on which a plan puts.
-fn had_room(begun: &Lengths, net: &Checked, unit: u32, put: Option<Put>) -> bool
-    ensures { IsTrue result ↔ HadRoom net.now begun.now.chans.items unit put }
-{
-    match put {
+    match laid {
         None => true,
-        Some(put) => {
-            let chan = net.out_of_place(unit, put.place);
-            noted(begun.chans.as_slice(), chan) < slots_of(net, chan)
-        }
+        Some(laid) => !freed.is_marked(laid.chan),
     }
 }
 
 /// Whether so many entries leave room for those of a group, where an act allocates one.
+#[inline(always)]
 fn entries_fit(depth: u32, groups: &[List<u32>], entries: u32, act: Act) -> bool
     ensures { IsTrue result ↔ EntriesFit depth groups.now entries act }
 {
@@ -104,12 +87,13 @@ fn group_size(groups: &[List<u32>], group: u32) -> u64
 }
 
 /// Whether a queue had free depth for the entries of a group, where the firing allocates one.
-fn had_depth(begun: &Lengths, net: &Checked, firing: Firing) -> bool
+#[inline(always)]
+fn had_depth(begun: &[u32], net: &Checked, firing: Firing) -> bool
     ensures { IsTrue result ↔ HadDepth (kind_of net.now firing.unit)
-        (get_or begun.now.queues.items firing.unit 0) firing.act }
+        (get_or begun.now firing.unit 0) firing.act }
 {
     let units = net.net().units.as_slice();
-    let entries = noted(begun.queues.as_slice(), firing.unit);
+    let entries = noted(begun, firing.unit);
     if (firing.unit as usize) < units.len() {
         match &units[firing.unit as usize] {
             Unit::Lsq { depth, groups, .. } => {
@@ -123,6 +107,7 @@ fn had_depth(begun: &Lengths, net: &Checked, firing: Firing) -> bool
 }
 
 /// The firing by whose place it is known whether it has fired: all executions of a queue have one place.
+#[inline(always)]
 fn place(firing: Firing) -> Firing
     ensures { result ≡ place_of firing }
 {
@@ -140,6 +125,7 @@ fn place(firing: Firing) -> Firing
 /// # Errors
 ///
 /// `Memory` where memory is wanting.
+#[inline(always)]
 fn note_fired(fired: &mut Vec<Firing>, firing: Firing) -> Result<(), RunFault>
     ensures fired { OnOk result (fired.new.items ≡ fired.old.items ++ firing ∷ []) }
     ensures memory { IfErr result (λ e. e ≡ fault.Memory) }
@@ -151,6 +137,7 @@ fn note_fired(fired: &mut Vec<Firing>, firing: Firing) -> Result<(), RunFault>
 }
 
 /// Notes that a unit fires after so many firings of the cycle.
+#[inline(always)]
 fn note_since(since: &mut Vec<u64>, unit: u32, count: usize)
     requires { count < 2 ^ 63 }
     ensures { IsSinceNoted unit count since.old.items since.new.items }
@@ -162,6 +149,7 @@ fn note_since(since: &mut Vec<u64>, unit: u32, count: usize)
 }
 
 /// Adds a firing to the log where it is kept.
+#[inline(always)]
 fn note(log: &mut Log<Firing>, keep: bool, firing: Firing)
     requires { keep ≡ true → 0 < log.old.room }
     ensures { IsLogged keep (firing ∷ []) log.old log.new }
@@ -173,9 +161,11 @@ fn note(log: &mut Log<Firing>, keep: bool, firing: Firing)
 
 impl Engine {
     /// The number of a firing of the cycle, from which on those of a unit come; none where the unit has not fired.
+    #[inline(always)]
     fn first_fired(&self, unit: u32) -> Option<usize>
         requires { AreSince self.now.fired.items self.now.since.items }
-        ensures { MatchOption result (IsNotBefore self.now.fired.items unit (length self.now.fired.items))
+        ensures { MatchOption result
+            (IsNotBefore self.now.fired.items unit (length self.now.fired.items))
             (IsNotBefore self.now.fired.items unit) }
     {
         let at = unit as usize;
@@ -190,6 +180,7 @@ impl Engine {
     }
 
     /// Whether the place of a firing has fired in the cycle.
+    #[inline(always)]
     fn is_used(&self, firing: Firing) -> bool
         requires { AreSince self.now.fired.items self.now.since.items }
         ensures used { result ≡ true → IsUnused self.now.fired.items firing → ⊥ }
@@ -208,50 +199,75 @@ impl Engine {
     }
 
     /// Whether the heads that a plan of a unit uses may be used in the cycle.
-    fn uses_ripe(&self, net: &Checked, unit: u32, plan: &Plan, now: u64) -> bool
+    #[inline(always)]
+    fn uses_ripe(&self, net: &Checked, unit: u32, planned: &Planned, now: u64) -> bool
+        requires { planned.now.moves ≡ moves_of net.now unit planned.now.plan }
         ensures { IsTrue result ↔ AllRipe net.now now self.now.dates.tokens unit
-            (places_used (is_fork (kind_of net.now unit)) plan.now.takes) }
+            (places_used (is_fork (kind_of net.now unit)) planned.now.plan.takes) }
     {
-        if forks(net, unit) {
-            is_ripe(&self.dates, net, unit, 0, now)
+        if is_fork(net, unit) {
+            is_ripe(&self.dates, net, net.into_place(unit, 0), now)
         } else {
-            are_ripe(&self.dates, net, unit, plan.takes, now)
+            are_ripe(&self.dates, net, planned.moves.taken, now)
+        }
+    }
+
+    /// Whether there is room for the token that a firing puts, and was where the cycle began.
+    #[inline(always)]
+    fn has_room(&self, net: &Checked, laid: Option<Laid>) -> bool
+        requires { IsOf net.now self.now.state }
+        ensures { IsTrue result
+            ↔ HasRoomNow net.now self.now laid × HadRoom self.now.freed.marked.items laid }
+    {
+        match laid {
+            None => true,
+            Some(put) => self.state.has_room_on(net, put.chan) && had_room(&self.freed, laid),
         }
     }
 
     /// Whether a planned firing may be made in the cycle.
-    fn allows(&self, net: &Checked, firing: Firing, plan: &Plan, now: u64) -> bool
-        requires { IsOf net.now self.now.state }
-        ensures { IsTrue result ↔ Allowed net.now now self.now firing plan.now }
+    #[inline(always)]
+    fn allows(&self, net: &Checked, firing: Firing, planned: &Planned, now: u64) -> bool
+        requires of { IsOf net.now self.now.state }
+        requires moves { planned.now.moves ≡ moves_of net.now firing.unit planned.now.plan }
+        ensures { IsTrue result ↔ Allowed net.now now self.now firing planned.now.plan }
     {
-        self.state.has_room(net, firing.unit, plan.put)
-            && had_room(&self.begun, net, firing.unit, plan.put)
-            && had_depth(&self.begun, net, firing)
-            && self.uses_ripe(net, firing.unit, plan, now)
+        had_depth(self.begun.as_slice(), net, firing)
+            && self.uses_ripe(net, firing.unit, planned, now)
+            && self.has_room(net, planned.moves.laid)
     }
 
-    /// What a firing does that may be made in the cycle; `None` where it may not.
-    fn may(&self, net: &Checked, firing: Firing, now: u64) -> Option<Plan>
-        requires { IsEngine net.now self.now }
-        ensures apart { IfSome result (λ p. apart p.takes ≡ true) }
-        ensures admits { IfSome result
+    /// What a firing does that may be made in the cycle, by its plan; `None` where it may not.
+    #[inline(always)]
+    fn may(&self, net: &Checked, firing: Firing, plan: Option<Plan>, now: u64) -> Option<Planned>
+        requires engine { IsEngine net.now self.now }
+        requires apart { IfSome plan (λ p. apart p.takes ≡ true) }
+        requires admits { IfSome plan
             (λ p. admits (cell_at self.now.state firing.unit) p.change ≡ true) }
-        ensures effect { IfSome result (λ p. IsPlanOf net.now self.now.state firing (Some p)) }
+        requires effect { IsPlanOf net.now self.now.state firing plan }
+        ensures moves { IfSome result (λ p. p.moves ≡ moves_of net.now firing.unit p.plan) }
+        ensures apart { IfSome result (λ p. apart p.plan.takes ≡ true) }
+        ensures admits { IfSome result
+            (λ p. admits (cell_at self.now.state firing.unit) p.plan.change ≡ true) }
+        ensures effect { IfSome result
+            (λ p. IsPlanOf net.now self.now.state firing (Some p.plan)) }
         ensures room { IfSome result
-            (λ p. has_room net.now (state_of self.now.state) firing.unit p.put) }
-        ensures may { (start : Dated) → IsBegun net.now start self.now.begun → MatchOption result
+            (λ p. has_room net.now (state_of self.now.state) firing.unit p.plan.put) }
+        ensures may { (start : Dated) → IsBegun net.now now start self.now → MatchOption result
             (May net.now now start (dated_of self.now) firing → ⊥)
             (λ p. May net.now now start (dated_of self.now) firing) }
     {
-        match self.state.plan(net, firing) {
-            None => None,
-            Some(plan) => {
-                if self.allows(net, firing, &plan, now) {
-                    Some(plan)
-                } else {
-                    None
-                }
-            }
+        let Some(plan) = plan else {
+            return None;
+        };
+        let planned = Planned {
+            plan,
+            moves: moves_of(net, firing.unit, &plan),
+        };
+        if self.allows(net, firing, &planned, now) {
+            Some(planned)
+        } else {
+            None
         }
     }
 
@@ -260,19 +276,21 @@ impl Engine {
     /// # Errors
     ///
     /// `Memory` where memory is wanting.
+    #[inline(always)]
     fn make(
         &mut self,
         net: &Checked,
         firing: Firing,
-        plan: Plan,
+        planned: Planned,
         keep: bool,
         now: u64,
     ) -> Result<(), RunFault>
         requires engine { IsEngine net.now self.old }
-        requires apart { apart plan.takes ≡ true }
-        requires admits { admits (cell_at self.old.state firing.unit) plan.change ≡ true }
-        requires effect { IsPlanOf net.now self.old.state firing (Some plan) }
-        requires room { has_room net.now (state_of self.old.state) firing.unit plan.put }
+        requires moves { planned.moves ≡ moves_of net.now firing.unit planned.plan }
+        requires apart { apart planned.plan.takes ≡ true }
+        requires admits { admits (cell_at self.old.state firing.unit) planned.plan.change ≡ true }
+        requires effect { IsPlanOf net.now self.old.state firing (Some planned.plan) }
+        requires room { has_room net.now (state_of self.old.state) firing.unit planned.plan.put }
         requires counts { CountsWithin (2 ^ 62) (state_of self.old.state) }
         requires log { keep ≡ true → 0 < self.old.log.room }
         requires cells { length self.old.notes.coming.items ≡ 1024 }
@@ -288,38 +306,51 @@ impl Engine {
         ensures begun { OnOk result (self.new.begun ≡ self.old.begun) }
         ensures made { OnOk result (self.new.made ≡ self.old.made) }
         ensures marks { OnOk result (self.new.marks ≡ self.old.marks) }
-        ensures notes { OnOk result (IsNoted net.now firing.unit plan.takes plan.put now
-            self.old.notes self.new.notes) }
+        ensures notes { OnOk result
+            (IsNoted net.now planned.moves.laid now self.old.notes self.new.notes) }
+        ensures freed { OnOk result (IsFreed self.old.dates now (chans_of planned.moves.taken)
+            self.old.freed self.new.freed) }
         ensures log { OnOk result (IsLogged keep (firing ∷ []) self.old.log self.new.log) }
         ensures memory { IfErr result (λ e. e ≡ fault.Memory) }
     {
         note_since(&mut self.since, firing.unit, self.fired.len());
         note_fired(&mut self.fired, firing)?;
-        self.notes.note(net, firing.unit, plan, now)?;
-        self.state.make(net, firing, plan);
-        move_dates(&mut self.dates, net, firing.unit, plan.takes, plan.put, now);
+        let moves = planned.moves;
+        self.freed.note(&self.dates, moves.taken, now)?;
+        self.notes.note(net, moves.laid, now)?;
+        self.state.make_moves(net, firing, planned.plan, moves);
+        self.dates.make(dated(moves, now));
         note(&mut self.log, keep, firing);
         Ok(())
     }
 
-    /// Makes a firing where it may be made in the cycle and its place has not fired, and gives its plan where it was made.
+    /// Makes a firing, by its plan, where it may be made in the cycle and its place has not fired, and gives what it does where
+    /// it was made.
     ///
     /// # Errors
     ///
     /// `Limit` where it may be made and as many firings as the limit allows are made. `Memory` where memory is wanting.
+    #[inline(always)]
     pub(crate) fn attempt(
         &mut self,
         net: &Checked,
         bounds: Bounds,
         firing: Firing,
+        plan: Option<Plan>,
         now: u64,
-    ) -> Result<Option<Plan>, RunFault>
-        requires { IsReady net.now bounds self.old }
+    ) -> Result<Option<Planned>, RunFault>
+        requires ready { IsReady net.now bounds self.old }
+        requires apart { IfSome plan (λ p. apart p.takes ≡ true) }
+        requires admits { IfSome plan
+            (λ p. admits (cell_at self.old.state firing.unit) p.change ≡ true) }
+        requires effect { IsPlanOf net.now self.old.state firing plan }
         ensures ready { OnOk result (IsReady net.now bounds self.new) }
         ensures more { IfOk result (λ did. IsMore self.old self.new (is_some did)) }
         ensures marks { OnOk result (self.new.marks ≡ self.old.marks) }
         ensures plan { IfOk result (λ did. IfSome did
-            (λ p. IsPlanOf net.now self.old.state firing (Some p))) }
+            (λ p. IsPlanOf net.now self.old.state firing (Some p.plan))) }
+        ensures moves { IfOk result (λ did. IfSome did
+            (λ p. p.moves ≡ moves_of net.now firing.unit p.plan)) }
         ensures tried { (past : Past) (start : Dated)
             → InCycle net.now past bounds now start self.old
             → MayFollow net.now self.old firing
@@ -327,18 +358,18 @@ impl Engine {
             (λ did. IsTried net.now past bounds now start self.old self.new firing (is_some did))
             (IsBroken net.now past.inputs bounds) }
     {
+        let Some(planned) = self.may(net, firing, plan, now) else {
+            return Ok(None);
+        };
         if self.is_used(firing) {
             return Ok(None);
         }
-        let Some(plan) = self.may(net, firing, now) else {
-            return Ok(None);
-        };
         if self.made + self.fired.len() as u64 == bounds.limit {
             return Err(RunFault::Limit {
                 limit: bounds.limit,
             });
         }
-        self.make(net, firing, plan, bounds.keep, now)?;
-        Ok(Some(plan))
+        self.make(net, firing, planned, bounds.keep, now)?;
+        Ok(Some(planned))
     }
 }

@@ -16,13 +16,35 @@ use net_check::Checked;
 use net_replay::RunFault;
 use net_types::{Act, Firing};
 
+/// Names for copies of [`Engine::steps`], one for each kind of acts: they have no part in what it does, but in a copy that is
+/// called with one kind alone the compiler decides most tests.
+pub(crate) struct Sends;
+
+pub(crate) struct Froms;
+
+pub(crate) struct Goes;
+
+pub(crate) struct Allocs;
+
+pub(crate) struct Addrs;
+
+pub(crate) struct Datas;
+
+pub(crate) struct Execs;
+
+pub(crate) struct Replies;
+
+pub(crate) struct Retires;
+
+pub(crate) struct Ends;
+
 impl Engine {
     /// Tries a place, and marks the units of which its firing may let one fire in the cycle.
     ///
     /// # Errors
     ///
     /// As [`Engine::attempt`].
-    fn step(
+    fn step<K>(
         &mut self,
         net: &Checked,
         bounds: Bounds,
@@ -40,11 +62,13 @@ impl Engine {
             (IsBroken net.now past.inputs bounds) }
     {
         let _ = net.net();
-        let Some(plan) = self.attempt(net, bounds, firing, now)? else {
+        let plan = self.state.plan(net, firing);
+        let Some(planned) = self.attempt(net, bounds, firing, plan, now)? else {
             return Ok(());
         };
         if !is_queue(net, firing.unit) {
-            self.marks.rouse(net, firing.unit, plan)?;
+            self.marks
+                .rouse(net, &self.state, firing.unit, planned.moves)?;
         }
         Ok(())
     }
@@ -54,7 +78,7 @@ impl Engine {
     /// # Errors
     ///
     /// As [`Engine::attempt`].
-    fn steps(
+    fn steps<K>(
         &mut self,
         net: &Checked,
         bounds: Bounds,
@@ -75,7 +99,7 @@ impl Engine {
         let count = count_acts(net, unit, kind);
         for number in 0..count {
             let act = numbered(kind, number);
-            self.step(net, bounds, Firing { unit, act }, now)?;
+            self.step::<K>(net, bounds, Firing { unit, act }, now)?;
         }
         look_at_queue(net, &self.state, unit);
         Ok(())
@@ -104,7 +128,7 @@ impl Engine {
         let Some(act) = oldest(net, &self.state, unit) else {
             return Ok(());
         };
-        self.step(net, bounds, Firing { unit, act }, now)?;
+        self.step::<Execs>(net, bounds, Firing { unit, act }, now)?;
         Ok(())
     }
 
@@ -157,7 +181,11 @@ impl Engine {
         let Some(kind) = first_act(net, unit) else {
             return Ok(());
         };
-        self.steps(net, bounds, unit, kind, now)?;
+        match kind {
+            Act::Send(_) => self.steps::<Sends>(net, bounds, unit, Act::Send(0), now)?,
+            Act::From(_) => self.steps::<Froms>(net, bounds, unit, Act::From(0), now)?,
+            _ => self.steps::<Goes>(net, bounds, unit, Act::Go, now)?,
+        }
         Ok(())
     }
 
@@ -181,13 +209,13 @@ impl Engine {
             (λ _. IsTurn net.now past bounds now start marks self.new unit 10 0)
             (IsBroken net.now past.inputs bounds) }
     {
-        self.steps(net, bounds, unit, Act::Alloc(0), now)?;
-        self.steps(net, bounds, unit, Act::Addr(0), now)?;
-        self.steps(net, bounds, unit, Act::Data(0), now)?;
+        self.steps::<Allocs>(net, bounds, unit, Act::Alloc(0), now)?;
+        self.steps::<Addrs>(net, bounds, unit, Act::Addr(0), now)?;
+        self.steps::<Datas>(net, bounds, unit, Act::Data(0), now)?;
         self.execute(net, bounds, unit, now)?;
-        self.steps(net, bounds, unit, Act::Reply(0), now)?;
-        self.steps(net, bounds, unit, Act::Retire, now)?;
-        self.steps(net, bounds, unit, Act::End, now)?;
+        self.steps::<Replies>(net, bounds, unit, Act::Reply(0), now)?;
+        self.steps::<Retires>(net, bounds, unit, Act::Retire, now)?;
+        self.steps::<Ends>(net, bounds, unit, Act::End, now)?;
         Ok(())
     }
 

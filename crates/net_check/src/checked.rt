@@ -46,6 +46,7 @@ impl Model for Checked {
 
 impl Checked {
     /// The net.
+    #[inline(always)]
     pub fn net(&self) -> &Net
         ensures net { result.now ≡ self.now }
         ensures checked { IsChecked self.now }
@@ -85,6 +86,7 @@ impl Checked {
     }
 
     /// The number of the channel into an input place, or of all channels where there is none. It costs one step.
+    #[inline(always)]
     pub fn into_place(&self, unit: u32, place: u64) -> u32
         ensures { result ≡ into unit place self.now.chans }
     {
@@ -92,6 +94,7 @@ impl Checked {
     }
 
     /// The number of the channel out of an output place, or of all channels where there is none. It costs one step.
+    #[inline(always)]
     pub fn out_of_place(&self, unit: u32, place: u64) -> u32
         ensures { result ≡ out_of unit place self.now.chans }
     {

@@ -159,6 +159,7 @@ impl Wires {
     }
 
     /// The number of the channel at a place, or how many channels there are where it has none. It costs one step.
+    #[inline(always)]
     pub(crate) fn at(&self, unit: u32, place: u64) -> u32
         ensures { result ≡ wire self.now.starts.items self.now.chans.items self.now.none unit place }
     {

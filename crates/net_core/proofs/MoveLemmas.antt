@@ -1,19 +1,21 @@
 -- The steps of the code on the tokens, one by one, are what a firing does.
-use Rattle.std.proofs.Common.{◌≡◌, ℕ, suc, ◌<◌, ◌≤◌, ◌⊎◌, ◌&&◌, ◌||◌, ◌==◌, not, Bool, true, false, cond, Some, None, List, [], ◌∷◌, ◌++◌, length, get_or, map, refl, sym, ap, ◌∙◌, inl, inr, arith, eq-eqb, ne_eqb, length-set, get_or-set_same, get_or-set_other}
+use Rattle.std.proofs.Common.{◌≡◌, ℕ, suc, zero, ◌<◌, ◌≤◌, ◌⊎◌, ◌&&◌, ◌||◌, ◌==◌, not, Bool, true, false, cond, Option, Some, None, List, [], ◌∷◌, ◌++◌, length, get_or, map, refl, sym, ap, subst, IfSome, ◌∙◌, inl, inr, arith, eq-eqb, ne_eqb, length-set, get_or-set_same, get_or-set_other}
 use Rattle.std.proofs.lemmas.List.{set_past}
 use Rattle.std.proofs.lemmas.Bool.{cases_lt, cases_eq}
 use Rattle.net_types.specs.declared.net.Net.{Net}
+use Rattle.net_types.specs.declared.net.Chan.{Chan}
 use Rattle.net_types.specs.declared.net.Unit.TheVariants.{Sink}
 use Rattle.net_types.specs.declared.firing.Firing.{Firing}
-use Rattle.net_types.specs.Nets.{into, out_of}
+use Rattle.net_types.specs.Nets.{into, out_of, nowhere, chan_at}
 use Rattle.net_core.specs.declared.plan.Put.{Put}
 use Rattle.net_core.specs.declared.plan.Plan.{Plan}
+use Rattle.net_core.specs.declared.plan.Laid.{Laid}
 use Rattle.net_core.specs.declared.plan.Takes.{Takes}
 use Rattle.net_core.specs.declared.plan.Takes.TheVariants as takes
-use Rattle.net_core.specs.Fire.{State, idle, Effect, effect, among, taken, added, changed_from, moved, head_at}
-use Rattle.net_core.specs.Plans.{effect_by, places_of, apart}
-use Rattle.net_core.specs.Held.{take_at, put_at_end}
-use Rattle.net_core.specs.private.Moves.{taken_all, taken_chans, AllWithin}
+use Rattle.net_core.specs.Fire.{State, has_room, idle, Effect, effect, among, taken, added, changed_from, moved, head_at}
+use Rattle.net_core.specs.Plans.{effect_by, places_of, apart, taken_of, laid_of, chans_of}
+use Rattle.net_core.specs.Held.{AllWithin, Held, HasRoom, laid_on, take_at, taken_all, put_at_end}
+use Rattle.net_core.specs.private.Moves.{taken_chans}
 use Rattle.net_core.proofs.RowLemmas.{Has, Each, changed-set, changed-fuse}
 use Rattle.std.proofs.lemmas.Bool.{and_parts}
 use Rattle.net_core.proofs.ApartLemmas.{same_in, first_within, length-taken}
@@ -95,6 +97,42 @@ moved_some net u p w xss some d =
     one : (b : Bool) (ys : List ℕ) → cond b (ys ++ w.value ∷ []) ys ≡ added (cond b (Some w.value) None) ys
     one true ys = refl
     one false ys = refl
+
+pub chans_are : (net : Net) (u : ℕ) (t : Takes) → chans_of (taken_of net u t) ≡ taken_chans net u t
+chans_are net u takes.None = refl
+chans_are net u (takes.One p) = refl
+chans_are net u (takes.Two p q) = refl
+chans_are net u (takes.Three p q r) = refl
+
+-- so a firing moves tokens
+pub moves_are : (net : Net) (u : ℕ) (p : Plan) (xss : List (List ℕ)) → Distinct (taken_chans net u p.takes)
+    → laid_on (laid_of net u p.put) (taken_all (chans_of (taken_of net u p.takes)) xss) ≡ changed_from (moved net u (effect_by (Sink 0) idle [] p)) 0 xss
+moves_are net u p xss d =
+    ap (λ cs. laid_on (laid_of net u p.put) (taken_all cs xss)) (chans_are net u p.takes)
+    ∙ by p.put refl
+  where
+    by : (o : Option Put) → p.put ≡ o → laid_on (laid_of net u p.put) (taken_all (taken_chans net u p.takes) xss) ≡ changed_from (moved net u (effect_by (Sink 0) idle [] p)) 0 xss
+    by None e = ap (λ o. laid_on (laid_of net u o) (taken_all (taken_chans net u p.takes) xss)) e ∙ moved_none net u p xss e d
+    by (Some w) e = ap (λ o. laid_on (laid_of net u o) (taken_all (taken_chans net u p.takes) xss)) e ∙ moved_some net u p w xss e d
+
+pub slots_at : (cs : List Chan) (d : ℕ) → get_or (map (λ (c : Chan). c.slots) cs) d 0 ≡ (get_or cs d nowhere).slots
+slots_at [] d = refl
+slots_at (c ∷ cs) zero = refl
+slots_at (c ∷ cs) (suc d) = slots_at cs d
+
+-- what a firing puts has room among the tokens of a state, held with the slots of the channels
+pub laid_room : (net : Net) (s : State) (u : ℕ) (o : Option Put) (laid : Option Laid) (held : Held) → held.slots ≡ map (λ (c : Chan). c.slots) net.chans → held.tokens ≡ s.tokens
+    → laid ≡ laid_of net u o → has_room net s u o → IfSome laid (λ w. HasRoom held w.chan)
+laid_room net s u o laid held slots tokens is h =
+    let P : Option Laid → Type 0 = λ l. IfSome l (λ w. HasRoom held w.chan) in
+    subst P (sym is) (by o h)
+  where
+    by : (o : Option Put) → has_room net s u o → IfSome (laid_of net u o) (λ w. HasRoom held w.chan)
+    by None h = tt
+    by (Some w) h =
+        let e : get_or held.slots (out_of u w.place net.chans) 0 ≡ (chan_at net (out_of u w.place net.chans)).slots = ap (λ xs. get_or xs (out_of u w.place net.chans) 0) slots ∙ slots_at net.chans (out_of u w.place net.chans) in
+        let t : length (get_or held.tokens (out_of u w.place net.chans) []) ≡ length (get_or s.tokens (out_of u w.place net.chans) []) = ap (λ xs. length (get_or xs (out_of u w.place net.chans) [])) tokens in
+        omega arith
 
 -- taking only makes room
 pub shorter : (cs : List ℕ) (xss : List (List ℕ)) (k : ℕ) → length (get_or (taken_all cs xss) k []) ≤ length (get_or xss k [])

@@ -21,7 +21,8 @@ use Rattle.net_core.specs.declared.opening.Home.TheVariants as home
 use Rattle.net_core.specs.Fire.{effect, after, after_effect, applied, changed_from, moved, written, counted, raised, at_array}
 use Rattle.net_core.specs.Plans.{own_of, own_with, array_with, strays_of, effect_by, admits, keeps, planned, cell_after, strays_after, IsShaped}
 use Rattle.net_core.specs.States.{state_of, arrays_of, array_in, queue_array, cell_at, home_at, IsOf, IsQueueAt, own_at, array_at}
-use Rattle.net_core.specs.private.Moves.{AllWithin, taken_chans}
+use Rattle.net_core.specs.private.Moves.{taken_chans}
+use Rattle.net_core.specs.Held.{AllWithin}
 use Rattle.net_core.proofs.RowLemmas.{length-changed}
 use Rattle.net_core.proofs.MoveLemmas.{within_of}
 use Rattle.net_core.proofs.CellLemmas.{own_after, strays_same, array_after, keeps_after, shaped_after}

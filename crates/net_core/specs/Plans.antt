@@ -4,12 +4,19 @@ use Rattle.net_types.specs.declared.net.Port.{Port}
 use Rattle.net_types.specs.declared.net.Unit.{Unit as Kind}
 use Rattle.net_types.specs.declared.net.Unit.TheVariants.{Entry, Param, Const, Op1, Op2, Select, Fork, Mux, Cmerge, Branch, Sink, Read, Lsq, Exit}
 use Rattle.net_types.specs.declared.firing.Act.{Act}
+use Rattle.net_types.specs.declared.net.Net.{Net}
+use Rattle.net_types.specs.Nets.{into, out_of}
 use Rattle.lsq_core.specs.Acts.{Stepped, step, plain}
 use Rattle.lsq_core.specs.Views.{QueueView, allows, given, acted}
 use Rattle.net_core.specs.declared.cell.Cell.{Cell}
 use Rattle.net_core.specs.declared.cell.Cell.TheVariants as cell
 use Rattle.net_core.specs.declared.plan.Takes.{Takes}
 use Rattle.net_core.specs.declared.plan.Takes.TheVariants.{None as no_place, One, Two, Three}
+use Rattle.net_core.specs.declared.plan.Put.{Put}
+use Rattle.net_core.specs.declared.plan.Taken.{Taken}
+use Rattle.net_core.specs.declared.plan.Taken.TheVariants as taken
+use Rattle.net_core.specs.declared.plan.Laid.{Laid}
+use Rattle.net_core.specs.declared.plan.Moves.{Moves}
 use Rattle.net_core.specs.declared.plan.Change.{Change}
 use Rattle.net_core.specs.declared.plan.Change.TheVariants as change
 use Rattle.net_core.specs.declared.plan.Plan.{Plan}
@@ -121,6 +128,27 @@ places_of no_place = []
 places_of (One p) = p ∷ []
 places_of (Two p q) = p ∷ q ∷ []
 places_of (Three p q r) = p ∷ q ∷ r ∷ []
+
+-- the channels from which a unit takes at places, and the token that it puts, by its channel
+
+abbrev pub taken_of : Net → ℕ → Takes → Taken
+taken_of net u no_place = taken.None
+taken_of net u (One p) = taken.One (into u p net.chans)
+taken_of net u (Two p q) = taken.Two (into u p net.chans) (into u q net.chans)
+taken_of net u (Three p q r) = taken.Three (into u p net.chans) (into u q net.chans) (into u r net.chans)
+
+abbrev pub laid_of : Net → ℕ → Option Put → Option Laid
+laid_of net u None = None
+laid_of net u (Some w) = Some (record { chan = out_of u w.place net.chans; value = w.value })
+
+abbrev pub moves_of : Net → ℕ → Plan → Moves
+moves_of net u p = record { taken = taken_of net u p.takes; laid = laid_of net u p.put }
+
+abbrev pub chans_of : Taken → List ℕ
+chans_of taken.None = []
+chans_of (taken.One c) = c ∷ []
+chans_of (taken.Two c d) = c ∷ d ∷ []
+chans_of (taken.Three c d e) = c ∷ d ∷ e ∷ []
 
 -- what an act of a queue does; of another kind nothing
 abbrev pub stepped_by : Kind → Act → ℕ → Own → List ℕ → Stepped

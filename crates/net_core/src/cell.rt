@@ -92,6 +92,7 @@ impl Cell {
     }
 
     /// Makes a change, and tells whether an address lay past the array.
+    #[inline(always)]
     pub fn change(&mut self, change: Change) -> bool
         requires admits { admits self.old change ≡ true }
         requires serial { next_of self.old ≤ 2 ^ 62 }
@@ -142,6 +143,7 @@ impl Cell {
     }
 
     /// Notes a sending of a fork.
+    #[inline(always)]
     fn send(&mut self, out: u32)
         requires { admits self.old (change.Send out) ≡ true }
         ensures { self.new ≡ cell_after (change.Send out) self.old }

@@ -23,7 +23,7 @@ pub use laws::{
     completion, either_order, laws_need_rules, limit_decides, more_slots, one_token, rows_use_only,
     settled, spent_is_at_rest, worked_nets_run,
 };
-pub use plan::{Change, Heads, Plan, Put, Takes, plan_firing};
+pub use plan::{Change, Heads, Laid, Moves, Plan, Put, Taken, Takes, moves_of, plan_firing};
 pub use sent::Sent;
 pub use state::State;
 pub use tokens::Tokens;

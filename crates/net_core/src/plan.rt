@@ -5,11 +5,12 @@ ghost use Rattle.net_core.specs.declared.cell.Cell.TheVariants as cells;
 ghost use Rattle.net_types.specs.declared.firing.Act.TheVariants as acts;
 ghost use Rattle.lsq_core.specs.Acts.{in_place, out_place};
 ghost use Rattle.lsq_core.specs.Views.{given};
-ghost use Rattle.net_core.specs.Plans.{IsQueuePlan, IsSendPlan, IsShaped, IsUnitPlan, admits, apart, keeps, putting, queue_admits, setting_of};
+ghost use Rattle.net_core.specs.Plans.{IsQueuePlan, IsSendPlan, IsShaped, IsUnitPlan, admits, apart, keeps, putting, moves_of, queue_admits, setting_of, taken_of};
 
 use crate::cell::{Cell, UnitQueue};
 use crate::sent::Sent;
 use lsq_core::Queue;
+use net_check::Checked;
 use net_types::{Act, List, Unit};
 use word_ops::{apply1, apply2};
 
@@ -38,6 +39,29 @@ pub enum Takes {
     Three(u64, u64, u64),
 }
 
+/// The channels from which a firing takes.
+#[derive(Clone, Copy, Debug)]
+pub enum Taken {
+    None,
+    One(u32),
+    Two(u32, u32),
+    Three(u32, u32, u32),
+}
+
+/// A token that a firing puts on a channel.
+#[derive(Clone, Copy, Debug)]
+pub struct Laid {
+    pub chan: u32,
+    pub value: u64,
+}
+
+/// The tokens that a firing moves, by their channels.
+#[derive(Clone, Copy, Debug)]
+pub struct Moves {
+    pub taken: Taken,
+    pub laid: Option<Laid>,
+}
+
 /// What a firing does to the unit's own state.
 #[derive(Clone, Copy, Debug)]
 pub enum Change {
@@ -58,6 +82,40 @@ pub struct Plan {
     pub change: Change,
 }
 
+/// The channels from which a unit takes at places.
+#[inline(always)]
+fn taken_of(net: &Checked, unit: u32, takes: Takes) -> Taken
+    ensures { result ≡ taken_of net.now unit takes }
+{
+    match takes {
+        Takes::None => Taken::None,
+        Takes::One(p) => Taken::One(net.into_place(unit, p)),
+        Takes::Two(p, q) => Taken::Two(net.into_place(unit, p), net.into_place(unit, q)),
+        Takes::Three(p, q, r) => Taken::Three(
+            net.into_place(unit, p),
+            net.into_place(unit, q),
+            net.into_place(unit, r),
+        ),
+    }
+}
+
+/// The tokens that a firing of a unit by a plan moves.
+#[inline(always)]
+pub fn moves_of(net: &Checked, unit: u32, plan: &Plan) -> Moves
+    ensures { result ≡ moves_of net.now unit plan.now }
+{
+    let taken = taken_of(net, unit, plan.takes);
+    let laid = match plan.put {
+        None => None,
+        Some(put) => Some(Laid {
+            chan: net.out_of_place(unit, put.place),
+            value: put.value,
+        }),
+    };
+    Moves { taken, laid }
+}
+
+#[inline(always)]
 fn puts(takes: Takes, place: u64, value: u64) -> Option<Plan>
     ensures { result ≡ Some (putting takes place value) }
 {
@@ -70,6 +128,7 @@ fn puts(takes: Takes, place: u64, value: u64) -> Option<Plan>
 
 /// What a fork's sending does.
 #[tactic(auto, unfolding(crate::specs::Fire::row))]
+#[inline(always)]
 fn plan_send<H: Heads>(heads: &H, outs: u32, out: u32, sent: &Sent, array: &[u64]) -> Option<Plan>
     ensures apart { IfSome result (λ p. apart p.takes ≡ true) }
     ensures admits { IfSome result (λ p. admits (cells.Fork sent.now) p.change ≡ true) }
@@ -97,6 +156,7 @@ fn plan_send<H: Heads>(heads: &H, outs: u32, out: u32, sent: &Sent, array: &[u64
 
 /// What the firing of a unit that only goes does.
 #[tactic(auto, unfolding(crate::specs::Fire::row))]
+#[inline(always)]
 fn plan_go<H: Heads>(
     heads: &H,
     unit: &Unit,
@@ -220,6 +280,7 @@ fn plan_go<H: Heads>(
 }
 
 /// What a queue does that passes a control token from an input to the output of the same number.
+#[inline(always)]
 fn pass<H: Heads>(heads: &H, queue: &UnitQueue, act: Act, place: u64) -> Option<Plan>
     requires puts { (v : ℕ) → (given queue.now act v).put ≡ Some v }
     requires ins { in_place queue.now.groups act ≡ Some place }
@@ -228,10 +289,10 @@ fn pass<H: Heads>(heads: &H, queue: &UnitQueue, act: Act, place: u64) -> Option<
     ensures admits { IfSome result (λ p. queue_admits queue.now p.change ≡ true) }
     ensures effect { IsQueuePlan queue.now act (H.heads heads.now) result }
 {
+    let token = heads.head(place)?;
     if !queue.can(act) {
         return None;
     }
-    let token = heads.head(place)?;
     Some(Plan {
         takes: Takes::One(place),
         put: Some(Put {
@@ -243,6 +304,7 @@ fn pass<H: Heads>(heads: &H, queue: &UnitQueue, act: Act, place: u64) -> Option<
 }
 
 /// What a queue does that takes a token and puts none.
+#[inline(always)]
 fn fill<H: Heads>(heads: &H, queue: &UnitQueue, act: Act, place: u64) -> Option<Plan>
     requires ins { in_place queue.now.groups act ≡ Some place }
     requires outs { out_place queue.now.groups act ≡ None }
@@ -250,10 +312,10 @@ fn fill<H: Heads>(heads: &H, queue: &UnitQueue, act: Act, place: u64) -> Option<
     ensures admits { IfSome result (λ p. queue_admits queue.now p.change ≡ true) }
     ensures effect { IsQueuePlan queue.now act (H.heads heads.now) result }
 {
+    let token = heads.head(place)?;
     if !queue.can(act) {
         return None;
     }
-    let token = heads.head(place)?;
     Some(Plan {
         takes: Takes::One(place),
         put: None,
@@ -262,6 +324,7 @@ fn fill<H: Heads>(heads: &H, queue: &UnitQueue, act: Act, place: u64) -> Option<
 }
 
 /// What a queue does that takes and puts no token.
+#[inline(always)]
 fn alone<H: Heads>(heads: &H, queue: &UnitQueue, act: Act) -> Option<Plan>
     requires ins { in_place queue.now.groups act ≡ None }
     requires outs { out_place queue.now.groups act ≡ None }
@@ -281,6 +344,7 @@ fn alone<H: Heads>(heads: &H, queue: &UnitQueue, act: Act) -> Option<Plan>
 }
 
 /// What the reply of a queue at a port does.
+#[inline(always)]
 fn answer<H: Heads>(heads: &H, queue: &UnitQueue, port: u32, place: u64) -> Option<Plan>
     requires outs { place ≡ length queue.now.groups + 1 + port }
     ensures apart { IfSome result (λ p. apart p.takes ≡ true) }
@@ -328,6 +392,7 @@ fn plan_queue<H: Heads>(
 
 /// What a firing does; `None` where its heads or its own state hold it back.
 #[tactic(auto, unfolding(crate::specs::Fire::row))]
+#[inline(always)]
 pub fn plan_firing<H: Heads>(
     heads: &H,
     unit: &Unit,

@@ -41,6 +41,7 @@ impl Sent {
     }
 
     /// Whether an output has been sent on; past the outputs it counts as sent.
+    #[inline(always)]
     pub fn is_set(&self, out: u32) -> bool
         ensures { result ≡ get_or self.now out true }
     {
@@ -48,6 +49,7 @@ impl Sent {
     }
 
     /// Whether one output is left.
+    #[inline(always)]
     pub fn is_last(&self) -> bool
         ensures { result ≡ (count_false self.now == 1) }
     {
@@ -55,6 +57,7 @@ impl Sent {
     }
 
     /// Notes a sending; the last one clears all bits.
+    #[inline(always)]
     pub fn send(&mut self, out: u32)
         requires { get_or self.old out true ≡ false }
         ensures { self.new ≡ sent_to out self.old }

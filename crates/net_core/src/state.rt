@@ -4,18 +4,18 @@ ghost use Rattle.std.specs.Prelude.{◌≡◌, ◌<◌, ◌≤◌, ◌↔◌, �
 ghost use Rattle.el_base.specs.Limits.{max_depth};
 ghost use Rattle.net_types.specs.declared.net.Net.{Net};
 ghost use Rattle.net_types.specs.Inputs.{InputsFit};
-ghost use Rattle.net_types.specs.Nets.{kind_of, uses};
+ghost use Rattle.net_types.specs.Nets.{chan_at, kind_of, uses};
 ghost use Rattle.net_check.specs.Ends.{is_lsq};
 ghost use Rattle.net_core.specs.declared.cell.Cell.TheVariants.{Plain};
 ghost use Rattle.net_core.specs.Fire.{first, enabled, after, at_array, has_room, tokens_at};
-ghost use Rattle.net_core.specs.Plans.{apart, admits};
+ghost use Rattle.net_core.specs.Plans.{apart, admits, moves_of};
 ghost use Rattle.net_core.specs.Runs.{HasExited, opening};
 ghost use Rattle.net_core.specs.States.{CountsRise, CountsWithin, IsOf, IsPlanOf, IsQueueAt, TookAtExit, after_where, arrays_of, cell_at, elements_at, queue_array, state_of, strays_at};
 
 use crate::cell::{Cell, UnitQueue};
 use crate::opening::{Home, exit_of, fresh_cells, homes, owners};
-use crate::plan::{Heads, Plan, Put, plan_firing};
-use crate::steps::{change_cell, count_strays, move_tokens};
+use crate::plan::{Heads, Moves, Plan, Put, moves_of, plan_firing};
+use crate::steps::{change_cell, count_strays};
 use crate::tokens::Tokens;
 use lsq_core::Queue;
 use net_check::Checked;
@@ -102,6 +102,7 @@ impl State {
     }
 
     /// The elements of an array; none of an array that is not there.
+    #[inline(always)]
     fn elements(&self, array: u32) -> &[u64]
         ensures { result.now ≡ get_or (arrays_of self.now) array [] }
     {
@@ -117,6 +118,7 @@ impl State {
     }
 
     /// The elements of the array that a unit works on.
+    #[inline(always)]
     fn used(&self, unit: &Unit) -> &[u64]
         ensures { result.now ≡ at_array (arrays_of self.now) (uses unit.now) }
     {
@@ -169,6 +171,7 @@ impl State {
     }
 
     /// The queue of a unit of the net, where it has one.
+    #[inline(always)]
     pub fn queue(&self, net: &Checked, unit: u32) -> Option<&UnitQueue>
         requires of { IsOf net.now self.now }
         requires within { unit < length net.now.units }
@@ -210,6 +213,7 @@ impl State {
     /// What a firing does; `None` where the unit's heads or its own state hold it back.
     ///
     /// It is enabled where there is a plan and [`State::has_room`] for what the plan puts.
+    #[inline(always)]
     pub fn plan(&self, net: &Checked, firing: Firing) -> Option<Plan>
         requires { IsOf net.now self.now }
         ensures apart { IfSome result (λ p. apart p.takes ≡ true) }
@@ -238,6 +242,7 @@ impl State {
     }
 
     /// Whether a unit has room where it puts a token.
+    #[inline(always)]
     pub fn has_room(&self, net: &Checked, unit: u32, put: Option<Put>) -> bool
         requires { IsOf net.now self.now }
         ensures { IsTrue result ↔ has_room net.now (state_of self.now) unit put }
@@ -246,6 +251,17 @@ impl State {
             None => true,
             Some(put) => self.tokens.has_room(net.out_of_place(unit, put.place)),
         }
+    }
+
+    /// Whether a channel has fewer tokens than slots; none past the channels has. It costs one step.
+    #[inline(always)]
+    pub fn has_room_on(&self, net: &Checked, chan: u32) -> bool
+        requires { IsOf net.now self.now }
+        ensures { IsTrue result
+            ↔ length (tokens_at (state_of self.now) chan) < (chan_at net.now chan).slots }
+    {
+        let _ = net;
+        self.tokens.has_room(chan)
     }
 
     /// Whether a firing is enabled.
@@ -260,6 +276,7 @@ impl State {
     }
 
     /// Makes a planned firing that has room.
+    #[inline(always)]
     pub fn make(&mut self, net: &Checked, firing: Firing, plan: Plan)
         requires of { IsOf net.now self.old }
         requires effect { IsPlanOf net.now self.old firing (Some plan) }
@@ -271,7 +288,24 @@ impl State {
         ensures state { state_of self.new ≡ after net.now (state_of self.old) firing }
         ensures counts { CountsRise max_depth (state_of self.old) (state_of self.new) }
     {
-        move_tokens(&mut self.tokens, net, firing.unit, plan.takes, plan.put);
+        self.make_moves(net, firing, plan, moves_of(net, firing.unit, &plan));
+    }
+
+    /// Makes a planned firing that has room, by its moves.
+    #[inline(always)]
+    pub fn make_moves(&mut self, net: &Checked, firing: Firing, plan: Plan, moves: Moves)
+        requires of { IsOf net.now self.old }
+        requires effect { IsPlanOf net.now self.old firing (Some plan) }
+        requires moves { moves ≡ moves_of net.now firing.unit plan }
+        requires apart { apart plan.takes ≡ true }
+        requires admits { admits (cell_at self.old firing.unit) plan.change ≡ true }
+        requires room { has_room net.now (state_of self.old) firing.unit plan.put }
+        requires counts { CountsWithin (2 ^ 62) (state_of self.old) }
+        ensures of { IsOf net.now self.new }
+        ensures state { state_of self.new ≡ after net.now (state_of self.old) firing }
+        ensures counts { CountsRise max_depth (state_of self.old) (state_of self.new) }
+    {
+        self.tokens.make(moves);
         let stray = change_cell(&mut self.cells, firing.unit, plan.change);
         count_strays(&mut self.strays, net, firing.unit, stray);
         let _ = net.net();

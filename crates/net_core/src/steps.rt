@@ -1,64 +1,19 @@
-//! The steps of a firing: tokens are moved, the unit's cell is changed, and a stray is counted.
+//! The steps of a firing beside its tokens: the unit's cell is changed, and a stray is counted.
 
-ghost use Rattle.std.specs.Prelude.{◌≡◌, ◌≤◌, ◌^◌, ℕ, get_or, set, length, true, IfSome};
+ghost use Rattle.std.specs.Prelude.{◌≡◌, ◌≤◌, ◌^◌, ℕ, get_or, set, true};
 ghost use Rattle.net_types.specs.Nets.{kind_of, uses};
 ghost use Rattle.lsq_core.specs.Views.{count_of};
 ghost use Rattle.net_core.specs.declared.cell.Cell.TheVariants.{Plain};
 ghost use Rattle.net_core.specs.Fire.{counted, raised};
-ghost use Rattle.net_core.specs.Plans.{apart, admits, next_of, cell_after, strays_after};
-ghost use Rattle.net_core.specs.private.Moves.{AllWithin, HasRoomFor, taken_all, taken_chans, tokens_after};
+ghost use Rattle.net_core.specs.Plans.{admits, next_of, cell_after, strays_after};
 
 use crate::cell::Cell;
-use crate::plan::{Change, Put, Takes};
-use crate::tokens::Tokens;
+use crate::plan::Change;
 use net_check::Checked;
 use net_types::Unit;
 
-/// Takes the oldest tokens at places of a unit.
-fn take_all(tokens: &mut Tokens, net: &Checked, unit: u32, takes: Takes)
-    requires { AllWithin (length tokens.old.tokens) (taken_chans net.now unit takes) }
-    ensures tokens { tokens.new.tokens
-        ≡ taken_all (taken_chans net.now unit takes) tokens.old.tokens }
-    ensures slots { tokens.new.slots ≡ tokens.old.slots }
-{
-    match takes {
-        Takes::None => {}
-        Takes::One(p) => tokens.take(net.into_place(unit, p)),
-        Takes::Two(p, q) => {
-            tokens.take(net.into_place(unit, p));
-            tokens.take(net.into_place(unit, q));
-        }
-        Takes::Three(p, q, r) => {
-            tokens.take(net.into_place(unit, p));
-            tokens.take(net.into_place(unit, q));
-            tokens.take(net.into_place(unit, r));
-        }
-    }
-}
-
-/// Takes and puts the tokens of a firing.
-pub(crate) fn move_tokens(
-    tokens: &mut Tokens,
-    net: &Checked,
-    unit: u32,
-    takes: Takes,
-    put: Option<Put>,
-)
-    requires long { length tokens.old.tokens ≡ length net.now.chans }
-    requires within { AllWithin (length tokens.old.tokens) (taken_chans net.now unit takes) }
-    requires apart { apart takes ≡ true }
-    requires room { IfSome put (λ w. HasRoomFor net.now unit tokens.old w) }
-    ensures tokens { tokens.new.tokens ≡ tokens_after net.now unit takes put tokens.old.tokens }
-    ensures slots { tokens.new.slots ≡ tokens.old.slots }
-{
-    take_all(tokens, net, unit, takes);
-    match put {
-        None => {}
-        Some(put) => tokens.put(net.out_of_place(unit, put.place), put.value),
-    }
-}
-
 /// Makes a change of the cell of a unit, and tells whether an address lay past the array.
+#[inline(always)]
 pub(crate) fn change_cell(cells: &mut Vec<Cell>, unit: u32, change: Change) -> bool
     requires admits { admits (get_or cells.old.items unit Plain) change ≡ true }
     requires serial { next_of (get_or cells.old.items unit Plain) ≤ 2 ^ 62 }
@@ -76,6 +31,7 @@ pub(crate) fn change_cell(cells: &mut Vec<Cell>, unit: u32, change: Change) -> b
 }
 
 /// Counts a stray of the array that a unit works on, where there is one.
+#[inline(always)]
 pub(crate) fn count_strays(strays: &mut Vec<u64>, net: &Checked, unit: u32, stray: bool)
     requires { (a : ℕ) → get_or strays.old.items a 0 ≤ 2 ^ 62 }
     ensures { strays.new.items

@@ -4,8 +4,9 @@ ghost use Rattle.std.specs.Prelude.{IfOk};
 ghost use Rattle.net_core.specs.States.{CountsWithin, IsOf, state_of};
 
 use crate::{
-    State, completion, either_order, inputs_fit, laws_need_rules, limit_decides, more_slots,
-    one_token, rows_use_only, settled, spent_is_at_rest, worked_nets_run,
+    Laid, Moves, State, Taken, Tokens, completion, either_order, inputs_fit, laws_need_rules,
+    limit_decides, more_slots, one_token, rows_use_only, settled, spent_is_at_rest,
+    worked_nets_run,
 };
 use net_check::{Checked, check_net};
 use net_types::{Act, Chan, Firing, Inputs, List, Name, Net, Place, Unit};
@@ -90,14 +91,32 @@ fn the_smallest_net_runs_to_its_end(rt: HostRuntime) -> Result<(), Fail> {
         act: Act::Go,
     };
     assert!(rt; !state.enabled(&net, exit));
+    assert!(rt; state.has_room_on(&net, 0));
     assert_eq!(rt; state.find(&net), Some(entry));
     assert!(rt; state.try_fire(&net, entry));
     assert_eq!(rt; state.head(&net, 0), Some(0));
+    assert!(rt; !state.has_room_on(&net, 0));
     assert_eq!(rt; state.find_from(&net, exit), Some(exit));
     assert!(rt; state.try_fire(&net, exit));
     assert!(rt; state.exited());
     assert_eq!(rt; state.value(), None);
     assert_eq!(rt; state.strays(0), 0);
     assert_eq!(rt; state.find(&net), None);
+    Ok(())
+}
+
+#[test]
+fn a_token_is_put_and_is_the_newest(rt: HostRuntime) -> Result<(), Fail> {
+    let net = checked(rt.alloc())?;
+    let mut tokens = Tokens::new(rt.alloc(), net.net().chans.as_slice())?;
+    assert_eq!(rt; tokens.newest(0), None);
+    if !tokens.has_room(0) {
+        return Err("no room".into());
+    }
+    tokens.make(Moves {
+        taken: Taken::None,
+        laid: Some(Laid { chan: 0, value: 7 }),
+    });
+    assert_eq!(rt; tokens.newest(0), Some(7));
     Ok(())
 }

@@ -1,10 +1,13 @@
 //! The tokens of all channels.
 
-ghost use Rattle.std.specs.Prelude.{◌≡◌, ◌<◌, ◌^◌, ◌↔◌, [], get_or, length, map, IsTrue, IfOk};
+ghost use Rattle.std.specs.Prelude.{◌≡◌, ◌<◌, ◌^◌, ◌↔◌, [], get_or, length, map, IsTrue, IfOk, IfSome};
+ghost use Rattle.circular_buffer.specs.Buffer.{last_item};
 ghost use Rattle.net_core.specs.Fire.{first};
-ghost use Rattle.net_core.specs.Held.{HasRoom, take_at, put_at_end};
+ghost use Rattle.net_core.specs.Held.{AllWithin, HasRoom, laid_on, put_at_end, take_at, taken_all};
+ghost use Rattle.net_core.specs.Plans.{chans_of};
 ghost use Rattle.net_types.specs.declared.net.Chan.{Chan as ChanValue};
 
+use crate::plan::{Moves, Taken};
 use circular_buffer::HeapCircularBuffer;
 use net_types::{Chan, Memory};
 use std::alloc::Global;
@@ -41,6 +44,7 @@ impl Tokens {
     }
 
     /// The oldest token of a channel; `None` past the channels.
+    #[inline(always)]
     pub fn head(&self, chan: u32) -> Option<u64>
         ensures { result ≡ first (get_or self.now.tokens chan []) }
     {
@@ -51,7 +55,20 @@ impl Tokens {
         }
     }
 
+    /// The newest token of a channel; `None` past the channels.
+    #[inline(always)]
+    pub fn newest(&self, chan: u32) -> Option<u64>
+        ensures { result ≡ last_item (get_or self.now.tokens chan []) }
+    {
+        if (chan as usize) < self.rings.len() {
+            self.rings[chan as usize].back().copied()
+        } else {
+            None
+        }
+    }
+
     /// How many tokens a channel has; none past the channels. No channel has 2^32 slots.
+    #[inline(always)]
     pub fn held(&self, chan: u32) -> u32
         requires { get_or self.now.slots chan 0 < 2 ^ 32 }
         ensures { result ≡ length (get_or self.now.tokens chan []) }
@@ -64,6 +81,7 @@ impl Tokens {
     }
 
     /// Whether a channel has fewer tokens than slots; none past the channels has.
+    #[inline(always)]
     pub fn has_room(&self, chan: u32) -> bool
         ensures { IsTrue result ↔ HasRoom self.now chan }
     {
@@ -76,6 +94,7 @@ impl Tokens {
     }
 
     /// Takes the oldest token of a channel.
+    #[inline(always)]
     pub fn take(&mut self, chan: u32)
         requires { chan < length self.old.tokens }
         ensures tokens { self.new.tokens ≡ take_at chan self.old.tokens }
@@ -85,11 +104,50 @@ impl Tokens {
     }
 
     /// Puts a token on a channel.
+    #[inline(always)]
     pub fn put(&mut self, chan: u32, value: u64)
         requires { HasRoom self.old chan }
         ensures tokens { self.new.tokens ≡ put_at_end chan value self.old.tokens }
         ensures slots { self.new.slots ≡ self.old.slots }
     {
         self.rings[chan as usize].push_back(value);
+    }
+
+    /// Takes the oldest tokens of channels.
+    #[inline(always)]
+    fn take_all(&mut self, taken: Taken)
+        requires { AllWithin (length self.old.tokens) (chans_of taken) }
+        ensures tokens { self.new.tokens ≡ taken_all (chans_of taken) self.old.tokens }
+        ensures slots { self.new.slots ≡ self.old.slots }
+    {
+        match taken {
+            Taken::None => {}
+            Taken::One(c) => self.take(c),
+            Taken::Two(c, d) => {
+                self.take(c);
+                self.take(d);
+            }
+            Taken::Three(c, d, e) => {
+                self.take(c);
+                self.take(d);
+                self.take(e);
+            }
+        }
+    }
+
+    /// Takes the oldest tokens of channels, and then puts one.
+    #[inline(always)]
+    pub fn make(&mut self, moves: Moves)
+        requires within { AllWithin (length self.old.tokens) (chans_of moves.taken) }
+        requires room { IfSome moves.laid (λ w. HasRoom self.old w.chan) }
+        ensures tokens { self.new.tokens
+            ≡ laid_on moves.laid (taken_all (chans_of moves.taken) self.old.tokens) }
+        ensures slots { self.new.slots ≡ self.old.slots }
+    {
+        self.take_all(moves.taken);
+        match moves.laid {
+            None => {}
+            Some(laid) => self.put(laid.chan, laid.value),
+        }
     }
 }

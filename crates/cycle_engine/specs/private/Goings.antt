@@ -7,7 +7,6 @@ use Rattle.net_types.specs.declared.firing.Firing.{Firing}
 use Rattle.net_types.specs.declared.firing.Inputs.{Inputs}
 use Rattle.net_types.specs.Nets.{kind_of, chan_at}
 use Rattle.net_check.specs.Ends.{is_lsq}
-use Rattle.net_core.specs.Fire.{tokens_at}
 use Rattle.net_core.specs.States.{state_of, CountsWithin}
 use Rattle.net_replay.specs.declared.fault.RunFault.{RunFault}
 use Rattle.net_replay.specs.declared.fault.RunFault.TheVariants as fault
@@ -17,7 +16,7 @@ use Rattle.cycle_engine.specs.Cycles.{Dated, dated_opening, May, IsOldest, IsUnu
 use Rattle.cycle_engine.specs.Bounds.{firing_count}
 use Rattle.cycle_engine.specs.Cuts.{joined, IsCut}
 use Rattle.cycle_engine.specs.private.Trials.{dated_of, IsBegun, IsEngine}
-use Rattle.cycle_engine.specs.private.Marking.{AreSince, Holds, HasUnit, IsMarked, IsStarved, IsListed, IsCounted, cell, entries_at}
+use Rattle.cycle_engine.specs.private.Marking.{AreSince, Holds, HasUnit, IsMarked, IsStarved, IsListed, AreListed, cell, entries_at}
 
 -- how many firings are made in all
 abbrev pub all_made : Engine → ℕ
@@ -30,8 +29,8 @@ pub record IsReady (net : Net) (b : Bounds) (e : Engine) : Type 0 where
   pub within : all_made e ≤ b.limit
   pub counts : CountsWithin (all_made e * max_depth) (state_of e.state)
   pub room : b.keep ≡ true → b.limit ≤ all_made e + e.log.room
-  pub chans : length e.begun.chans.items ≡ length net.chans
-  pub queues : length e.begun.queues.items ≡ length net.units
+  pub chans : length e.freed.marked.items ≡ length net.chans
+  pub queues : length e.begun.items ≡ length net.units
   pub marked : length e.marks.marked.items ≡ length net.units
   pub listed : IsListed net e.marks
   pub cells : length e.notes.coming.items ≡ 1024
@@ -46,17 +45,13 @@ pub record Past : Type 0 where
   pub inputs : Inputs
   pub cycles : List (List Firing)
 
--- each channel has as many tokens as are noted, or tokens on it were moved
-abbrev pub AreMoved : Engine → Type 0
-AreMoved e = (d : ℕ) → IsCounted (state_of e.state) e.begun.chans.items d ⊎ Holds d e.notes.moved.items
-
 -- each token was put before the cycle c, and is noted where it ripens from that cycle on
 abbrev pub AreComing : Net → ℕ → Engine → Type 0
 AreComing net c e = (d : ℕ) → AllByRecursion (λ x. (x < c) × (c ≤ x + (chan_at net d).delay → Holds d (cell e.notes ((x + (chan_at net d).delay) % 1024)))) (get_or e.dates.tokens d [])
 
 -- the engine in the middle of the cycle c, which began with start
 pub record InCycle (net : Net) (past : Past) (b : Bounds) (c : ℕ) (start : Dated) (e : Engine) : Type 0 where
-  pub began : IsBegun net start e.begun
+  pub began : IsBegun net c start e
   pub done : Cycles net 0 (dated_opening net past.inputs) past.cycles start
   pub number : c ≡ length past.cycles
   pub makes : Makes net c start start e.fired.items (dated_of e)
@@ -64,14 +59,13 @@ pub record InCycle (net : Net) (past : Past) (b : Bounds) (c : ℕ) (start : Dat
   pub order : InOrder e.fired.items
   pub made : e.made ≡ firing_count past.cycles
   pub log : e.log.items ≡ cond b.keep (joined past.cycles ++ e.fired.items) []
-  pub moved : AreMoved e
+  pub listed : AreListed e.freed
   pub coming : AreComing net (c + 1) e
 
--- a channel has fewer tokens than as the cycle began, on which a unit puts
-pub record HasEmptied (net : Net) (e : Engine) (u : ℕ) : Type 0 where
+-- a unit puts on a channel that was full as the cycle began and from which tokens were taken
+pub record HasFreed (net : Net) (e : Engine) (u : ℕ) : Type 0 where
   pub chan : ℕ
-  pub moved : Holds chan e.notes.moved.items
-  pub fewer : length (tokens_at (state_of e.state) chan) < get_or e.begun.chans.items chan 0
+  pub listed : Holds chan e.freed.list.items
   pub within : chan < length net.chans
   pub source : (chan_at net chan).from.unit ≡ u
   pub fed : IsStarved net (state_of e.state) u → ⊥
@@ -85,7 +79,7 @@ pub record HasRipening (net : Net) (c : ℕ) (e : Engine) (u : ℕ) : Type 0 whe
 
 -- the unit is to be marked as the cycle c begins
 abbrev pub IsStirred : Net → ℕ → Engine → ℕ → Type 0
-IsStirred net c e u = IsMarked e.marks u ⊎ ((HasUnit u e.fired.items × (IsStarved net (state_of e.state) u → ⊥)) ⊎ (HasEmptied net e u ⊎ HasRipening net c e u))
+IsStirred net c e u = IsMarked e.marks u ⊎ ((HasUnit u e.fired.items × (IsStarved net (state_of e.state) u → ⊥)) ⊎ (HasFreed net e u ⊎ HasRipening net c e u))
 
 -- the engine after c cycles
 pub record HasDone (net : Net) (past : Past) (b : Bounds) (c : ℕ) (e : Engine) : Type 0 where
@@ -93,8 +87,8 @@ pub record HasDone (net : Net) (past : Past) (b : Bounds) (c : ℕ) (e : Engine)
   pub number : c ≡ length past.cycles
   pub made : all_made e ≡ firing_count past.cycles
   pub log : e.log.items ≡ cond b.keep (joined past.cycles) []
-  pub moved : AreMoved e
-  pub entries : (u : ℕ) → is_lsq (kind_of net u) ≡ true → (get_or e.begun.queues.items u 0 ≡ entries_at (state_of e.state) u) ⊎ HasUnit u e.fired.items
+  pub listed : AreListed e.freed
+  pub entries : (u : ℕ) → is_lsq (kind_of net u) ≡ true → (get_or e.begun.items u 0 ≡ entries_at (state_of e.state) u) ⊎ HasUnit u e.fired.items
   pub coming : AreComing net c e
   -- a unit that is not to be marked may not fire
   pub next : (g : Firing) → May net c (dated_of e) (dated_of e) g → (IsStirred net c e g.unit → ⊥) → ⊥

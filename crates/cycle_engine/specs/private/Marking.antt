@@ -1,5 +1,5 @@
 -- Private: only contracts of this crate cite it. Marks at the units that may fire, and what is noted for the next cycle.
-use Rattle.std.specs.Prelude.{◌≡◌, ◌≢◌, ◌⊎◌, ℕ, ◌+◌, ◌<◌, ◌≤◌, ◌++◌, ◌∷◌, ◌%◌, nat_lt, cond, set, Bool, true, false, Option, None, List, [], map, length, get_or, IfSome}
+use Rattle.std.specs.Prelude.{◌≡◌, ◌≢◌, ◌⊎◌, ℕ, ◌+◌, ◌<◌, ◌≤◌, ◌++◌, ◌∷◌, ◌%◌, nat_lt, cond, set, Bool, true, false, Option, None, List, [], map, length, get_or, IfSome, IsSomeAnd}
 use Rattle.std.specs.List.{AllByRecursion}
 use Rattle.std.specs.declared.vec.Vec.{Vec}
 use Rattle.std.specs.declared.alloc.Global.{Global}
@@ -8,15 +8,18 @@ use Rattle.net_types.specs.declared.net.Unit.{Unit as Kind}
 use Rattle.net_types.specs.declared.net.Unit.TheVariants.{Entry, Param, Const, Op1, Op2, Select, Fork, Mux, Cmerge, Branch, Sink, Read, Lsq, Exit}
 use Rattle.net_types.specs.declared.firing.Act.TheVariants.{Go}
 use Rattle.net_types.specs.declared.firing.Firing.{Firing}
-use Rattle.net_types.specs.Nets.{into, out_of, kind_of, chan_at, firing}
+use Rattle.net_types.specs.Nets.{kind_of, chan_at, firing}
 use Rattle.net_check.specs.Ends.{is_lsq}
-use Rattle.net_core.specs.Fire.{State, idle, tokens_at, head_at}
-use Rattle.net_core.specs.declared.plan.Put.{Put}
-use Rattle.net_core.specs.declared.plan.Takes.{Takes}
-use Rattle.net_core.specs.declared.plan.Plan.{Plan}
-use Rattle.net_core.specs.Plans.{places_of}
+use Rattle.net_core.specs.Fire.{State, idle, head_at}
+use Rattle.circular_buffer.specs.Buffer.{last_item}
+use Rattle.net_core.specs.declared.plan.Laid.{Laid}
+use Rattle.net_core.specs.declared.plan.Moves.{Moves}
+use Rattle.net_core.specs.Held.{Held}
+use Rattle.net_core.specs.Plans.{chans_of}
 use Rattle.cycle_engine.specs.declared.marks.Marks.{Marks}
 use Rattle.cycle_engine.specs.declared.notes.Notes.{Notes}
+use Rattle.cycle_engine.specs.declared.freed.Freed.{Freed}
+use Rattle.cycle_engine.specs.private.Kinds.{is_fork}
 
 -- ---- lists
 
@@ -111,37 +114,20 @@ is_merge (Read a) = false
 is_merge (Lsq a d ps gs f) = false
 is_merge Exit = false
 
--- a unit of one place
-abbrev pub is_goer : Kind → Bool
-is_goer Entry = true
-is_goer (Param j) = true
-is_goer (Const w n) = true
-is_goer (Op1 op) = true
-is_goer (Op2 op) = true
-is_goer (Select w) = true
-is_goer (Fork w outs) = false
-is_goer (Mux w ins) = true
-is_goer (Cmerge ins) = false
-is_goer (Branch w) = true
-is_goer (Sink w) = true
-is_goer (Read a) = true
-is_goer (Lsq a d ps gs f) = false
-is_goer Exit = true
-
 -- the unit that puts on a channel is marked, where it is a control merge
 abbrev pub IsMergeMarked : Net → ℕ → Marks → ℕ → Type 0
 IsMergeMarked net n m d = d < length net.chans → is_merge (kind_of net (chan_at net d).from.unit) ≡ true → (chan_at net d).from.unit < n → IsMarked m (chan_at net d).from.unit
 
 -- the unit into which a token was put without delay is marked
-abbrev pub IsPutMarked : Net → ℕ → Option Put → ℕ → Marks → Type 0
-IsPutMarked net u put n m = IfSome put (λ w. (chan_at net (out_of u w.place net.chans)).delay ≡ 0 → IsTargetMarked net n m (out_of u w.place net.chans))
+abbrev pub IsPutMarked : Net → Option Laid → ℕ → Marks → Type 0
+IsPutMarked net laid n m = IfSome laid (λ w. (chan_at net w.chan).delay ≡ 0 → IsTargetMarked net n m w.chan)
 
--- marked are the unit that fired where it has other places, the control merges that put on the channels from which it took, and
--- the unit into which it put without delay
-pub record IsRoused (net : Net) (u : ℕ) (p : Plan) (n : ℕ) (m : Marks) : Type 0 where
-  pub own : is_goer (kind_of net u) ≡ false → u < n → IsMarked m u
-  pub merges : AllByRecursion (λ q. IsMergeMarked net n m (into u q net.chans)) (places_of p.takes)
-  pub target : IsPutMarked net u p.put n m
+-- after a firing of the unit u that moved these tokens, which led to the state s, marked are a fork that took its head and has another,
+-- the control merges that put on the channels from which was taken, and the unit into which was put without delay
+pub record IsRoused (net : Net) (s : State) (u : ℕ) (m : Moves) (n : ℕ) (marks : Marks) : Type 0 where
+  pub own : is_fork (kind_of net u) ≡ true → chans_of m.taken ≢ [] → (IsStarved net s u → ⊥) → u < n → IsMarked marks u
+  pub merges : AllByRecursion (IsMergeMarked net n marks) (chans_of m.taken)
+  pub target : IsPutMarked net m.laid n marks
 
 -- there was nothing to take
 pub record IsEmptied (old new : Marks) : Type 0 where
@@ -155,10 +141,6 @@ pub record IsTaken (net : Net) (old new : Marks) (u : ℕ) : Type 0 where
   pub listed : IsListed net old → IsListed net new
   pub left : (v : ℕ) → IsMarked old v → IsMarked new v ⊎ ((v ≡ u) × (is_lsq (kind_of net v) ≡ false))
   pub fewer : length new.list.items + 1 ≡ length old.list.items
-
--- the number of tokens of a channel is noted
-abbrev pub IsCounted : State → List ℕ → ℕ → Type 0
-IsCounted s lengths d = get_or lengths d 0 ≡ length (tokens_at s d)
 
 -- how many entries the queue of a unit has
 abbrev pub entries_at : State → ℕ → ℕ
@@ -181,16 +163,26 @@ abbrev pub cells_with : Net → ℕ → ℕ → List (List ℕ) → List (List �
 cells_with net d c cells = cond (nat_lt 0 (chan_at net d).delay)
     (set cells ((c + (chan_at net d).delay) % 1024) (get_or cells ((c + (chan_at net d).delay) % 1024) [] ++ d ∷ [])) cells
 
--- the channels from which is taken
-abbrev pub taken_by : Net → ℕ → Takes → List ℕ
-taken_by net u takes = map (λ p. into u p net.chans) (places_of takes)
-
--- the channels that a firing takes from or puts on are noted, and the latter for the cycle in which its token ripens
-pub record IsNoted (net : Net) (u : ℕ) (takes : Takes) (put : Option Put) (c : ℕ) (old new : Notes) : Type 0 where
+-- the channel on which a token was put in the cycle c is noted for the cycle in which the token ripens
+pub record IsNoted (net : Net) (laid : Option Laid) (c : ℕ) (old new : Notes) : Type 0 where
   pub cells : length new.coming.items ≡ length old.coming.items
-  pub moved : (d : ℕ) → Holds d old.moved.items → Holds d new.moved.items
-  pub taken : AllByRecursion (λ p. Holds (into u p net.chans) new.moved.items) (places_of takes)
-  pub put_on : IfSome put (λ w. Holds (out_of u w.place net.chans) new.moved.items)
   pub kept : (k d : ℕ) → Holds d (cell old k) → Holds d (cell new k)
-  pub comes : IfSome put (λ w. 0 < (chan_at net (out_of u w.place net.chans)).delay
-      → Holds (out_of u w.place net.chans) (cell new ((c + (chan_at net (out_of u w.place net.chans)).delay) % 1024)))
+  pub comes : IfSome laid (λ w. 0 < (chan_at net w.chan).delay → Holds w.chan (cell new ((c + (chan_at net w.chan).delay) % 1024)))
+
+-- ---- channels from which tokens were taken when they were full
+
+-- a marked channel is in the list
+abbrev pub AreListed : Freed → Type 0
+AreListed f = (d : ℕ) → get_or f.marked.items d false ≡ true → Holds d f.list.items
+
+-- by the dates of its tokens the channel d is full, and the newest was put before the cycle c
+abbrev pub IsLongFull : Held → ℕ → ℕ → Type 0
+IsLongFull held c d = (get_or held.slots d 0 ≤ length (get_or held.tokens d [])) × IsSomeAnd (last_item (get_or held.tokens d [])) (λ x. x < c)
+
+-- tokens are to be taken from these channels in the cycle c: those of them that are full of older tokens are marked
+pub record IsFreed (held : Held) (c : ℕ) (ds : List ℕ) (old new : Freed) : Type 0 where
+  pub long : length new.marked.items ≡ length old.marked.items
+  pub listed : AreListed old → AreListed new
+  pub marked : (d : ℕ) → Holds d ds → IsLongFull held c d → d < length old.marked.items → get_or new.marked.items d false ≡ true
+  pub others : (d : ℕ) → (Holds d ds → ⊥) → get_or new.marked.items d false ≡ get_or old.marked.items d false
+  pub kept : (d : ℕ) → (IsLongFull held c d → ⊥) → get_or new.marked.items d false ≡ get_or old.marked.items d false

@@ -1,5 +1,5 @@
 -- Private: only contracts of this crate cite it. What the engine asks of a firing that it tries in a cycle.
-use Rattle.std.specs.Prelude.{◌≡◌, ℕ, ◌+◌, ◌<◌, ◌≤◌, Bool, true, false, Option, Some, None, List, [], ◌∷◌, length, get_or, map, IsSomeAnd}
+use Rattle.std.specs.Prelude.{◌≡◌, ◌⊎◌, ℕ, ◌+◌, ◌<◌, ◌≤◌, Bool, true, false, Option, Some, None, List, [], ◌∷◌, length, get_or, map, IsSomeAnd}
 use Rattle.std.specs.List.{AllByRecursion}
 use Rattle.net_types.specs.declared.net.Net.{Net}
 use Rattle.net_types.specs.declared.net.Chan.{Chan}
@@ -8,19 +8,21 @@ use Rattle.net_types.specs.declared.net.Unit.TheVariants.{Entry, Param, Const, O
 use Rattle.net_types.specs.declared.firing.Act.{Act}
 use Rattle.net_types.specs.declared.firing.Act.TheVariants.{Go, From, Send, Alloc, Addr, Data, Exec, Reply, Retire, End}
 use Rattle.net_types.specs.declared.firing.Firing.{Firing}
-use Rattle.net_types.specs.Nets.{into, out_of, kind_of, chan_at}
+use Rattle.net_types.specs.Nets.{into, kind_of, chan_at}
 use Rattle.net_check.specs.Ends.{is_lsq}
 use Rattle.net_core.specs.declared.plan.Put.{Put}
 use Rattle.net_core.specs.declared.plan.Takes.{Takes}
 use Rattle.net_core.specs.declared.plan.Change.TheVariants as change
 use Rattle.net_core.specs.declared.plan.Plan.{Plan}
 use Rattle.net_core.specs.Fire.{idle, first, has_room, tokens_at, changed_from, moved}
-use Rattle.net_core.specs.Held.{take_at}
-use Rattle.net_core.specs.Plans.{places_of, effect_by}
+use Rattle.net_core.specs.declared.plan.Laid.{Laid}
+use Rattle.net_core.specs.declared.plan.Moves.{Moves}
+use Rattle.net_core.specs.Plans.{places_of, effect_by, laid_of}
+use Rattle.circular_buffer.specs.Buffer.{last_item}
 use Rattle.net_core.specs.States.{state_of, IsOf}
 use Rattle.cycle_engine.specs.declared.engine.Engine.{Engine}
-use Rattle.cycle_engine.specs.declared.engine.Lengths.{Lengths}
 use Rattle.cycle_engine.specs.Cycles.{Dated, AreDated, dated}
+use Rattle.cycle_engine.specs.private.Kinds.{is_fork}
 
 -- the state of the engine with the dates of its tokens
 abbrev pub dated_of : Engine → Dated
@@ -36,51 +38,35 @@ RipeAt net c dates d = IsSomeAnd (first (get_or dates d [])) (λ date. date + (c
 abbrev pub AllRipe : Net → ℕ → List (List ℕ) → ℕ → List ℕ → Type 0
 AllRipe net c dates u places = AllByRecursion (λ p. RipeAt net c dates (into u p net.chans)) places
 
--- the first dates of the channels into these places are taken
-abbrev pub dates_without : Net → ℕ → List ℕ → List (List ℕ) → List (List ℕ)
-dates_without net u [] dates = dates
-dates_without net u (p ∷ ps) dates = dates_without net u ps (take_at (into u p net.chans) dates)
+-- the date c is put where a token is put
+abbrev pub dated_laid : ℕ → Option Laid → Option Laid
+dated_laid c None = None
+dated_laid c (Some w) = Some (record { chan = w.chan; value = c })
 
--- the channels into these places are of the list
-abbrev pub AreWithin : Net → ℕ → ℕ → List ℕ → Type 0
-AreWithin net n u places = AllByRecursion (λ p. into u p net.chans < n) places
+abbrev pub dated_moves : ℕ → Moves → Moves
+dated_moves c m = record { taken = m.taken; laid = dated_laid c m.laid }
 
 -- the dates after a firing that takes and puts in the cycle c
 abbrev pub dates_after : Net → ℕ → Takes → Option Put → ℕ → List (List ℕ) → List (List ℕ)
 dates_after net u takes put c dates =
     changed_from (moved net u (effect_by (Sink 0) idle [] (record { takes = takes; put = dated c put; change = change.Keep }))) 0 dates
 
--- the channel of a put has room for a date
-abbrev pub HasDateRoom : Net → ℕ → List (List ℕ) → List ℕ → Put → Type 0
-HasDateRoom net u dates slots w = length (get_or dates (out_of u w.place net.chans) []) < get_or slots (out_of u w.place net.chans) 0
-
 -- ---- the start of the cycle
-
-abbrev pub is_fork : Kind → Bool
-is_fork Entry = false
-is_fork (Param j) = false
-is_fork (Const w n) = false
-is_fork (Op1 op) = false
-is_fork (Op2 op) = false
-is_fork (Select w) = false
-is_fork (Fork w outs) = true
-is_fork (Mux w ins) = false
-is_fork (Cmerge ins) = false
-is_fork (Branch w) = false
-is_fork (Sink w) = false
-is_fork (Read a) = false
-is_fork (Lsq a d ps gs f) = false
-is_fork Exit = false
 
 -- the places whose heads a plan uses
 abbrev pub places_used : Bool → Takes → List ℕ
 places_used true takes = 0 ∷ []
 places_used false takes = places_of takes
 
--- there was room at the start, where channels held these numbers of tokens
-abbrev pub HadRoom : Net → List ℕ → ℕ → Option Put → Type 0
-HadRoom net begun u None = Unit {0}
-HadRoom net begun u (Some w) = get_or begun (out_of u w.place net.chans) 0 < (chan_at net (out_of u w.place net.chans)).slots
+-- the channel on which is put is not among those that were full at the start and from which tokens were taken
+abbrev pub HadRoom : List Bool → Option Laid → Type 0
+HadRoom marked None = Unit {0}
+HadRoom marked (Some w) = get_or marked w.chan false ≡ false
+
+-- the channel on which is put has room
+abbrev pub HasRoomNow : Net → Engine → Option Laid → Type 0
+HasRoomNow net e None = Unit {0}
+HasRoomNow net e (Some w) = length (tokens_at (state_of e.state) w.chan) < (chan_at net w.chan).slots
 
 -- so many entries leave room for those of the group that an act allocates
 abbrev pub EntriesFit : ℕ → List (List ℕ) → ℕ → Act → Type 0
@@ -114,14 +100,27 @@ HadDepth Exit n act = Unit {0}
 -- what the engine asks of a planned firing
 pub record Allowed (net : Net) (c : ℕ) (e : Engine) (f : Firing) (p : Plan) : Type 0 where
   pub room : has_room net (state_of e.state) f.unit p.put
-  pub had_room : HadRoom net e.begun.chans.items f.unit p.put
-  pub had_depth : HadDepth (kind_of net f.unit) (get_or e.begun.queues.items f.unit 0) f.act
+  pub had_room : HadRoom e.freed.marked.items (laid_of net f.unit p.put)
+  pub had_depth : HadDepth (kind_of net f.unit) (get_or e.begun.items f.unit 0) f.act
   pub ripe : AllRipe net c e.dates.tokens f.unit (places_used (is_fork (kind_of net f.unit)) p.takes)
 
--- the lengths of channels and queues in the state with which the cycle began
-pub record IsBegun (net : Net) (start : Dated) (begun : Lengths) : Type 0 where
-  pub chans : (d : ℕ) → get_or begun.chans.items d 0 ≡ length (tokens_at start.state d)
-  pub queues : (u : ℕ) → is_lsq (kind_of net u) ≡ true → get_or begun.queues.items u 0 ≡ length (get_or start.state.own u idle).queue.items
+-- the channel d is full, of tokens alone that were put before the cycle c
+abbrev pub IsOldFull : Net → ℕ → Engine → ℕ → Type 0
+IsOldFull net c e d = ((chan_at net d).slots ≤ length (tokens_at (state_of e.state) d)) × AllByRecursion (λ x. x < c) (get_or e.dates.tokens d [])
+
+-- what is known of the channel d in the cycle c, which began with start
+pub record IsFollowed (net : Net) (c : ℕ) (start : Dated) (e : Engine) (d : ℕ) : Type 0 where
+  -- where it is marked it was full then
+  pub marked : get_or e.freed.marked.items d false ≡ true → (chan_at net d).slots ≤ length (tokens_at start.state d)
+  -- where it is not it had room then, or is full of older tokens still
+  pub clear : get_or e.freed.marked.items d false ≡ false → (length (tokens_at start.state d) < (chan_at net d).slots) ⊎ IsOldFull net c e d
+  -- it has no more tokens than then, or the newest is of this cycle
+  pub newest : (length (tokens_at (state_of e.state) d) ≤ length (tokens_at start.state d)) ⊎ (last_item (get_or e.dates.tokens d []) ≡ Some c)
+
+-- what the engine keeps of the state with which the cycle c began: which channels were full in it, and the entries of queues
+pub record IsBegun (net : Net) (c : ℕ) (start : Dated) (e : Engine) : Type 0 where
+  pub chans : (d : ℕ) → IsFollowed net c start e d
+  pub queues : (u : ℕ) → is_lsq (kind_of net u) ≡ true → get_or e.begun.items u 0 ≡ length (get_or start.state.own u idle).queue.items
 
 -- the engine is of the net, and each token has a date
 pub record IsEngine (net : Net) (e : Engine) : Type 0 where

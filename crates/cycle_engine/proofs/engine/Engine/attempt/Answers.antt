@@ -10,5 +10,6 @@ returns-in_default-clause-tried c past start going follow = record { same = refl
 
 pub returns-clause-tried : goal.returns-clause-tried
 returns-clause-tried c past start going follow =
-    made_going c.args.net.now past c.args.bounds c.args.now start c.args.self.now c.make.new.self c.args.firing c.in-Some.plan c.requires.engine c.in-Some.ensures.effect going follow (c.if-is_used.ensures.unused refl) (c.in-Some.ensures.may start going.began)
-    (record { after = c.in_ok-make.ensures.after; fired = c.in_ok-make.ensures.fired; begun = c.in_ok-make.ensures.begun; made = c.in_ok-make.ensures.made; logged = c.in_ok-make.ensures.log; marks = c.in_ok-make.ensures.marks; since = c.in_ok-make.ensures.since; notes = c.in_ok-make.ensures.notes })
+    made_going c.args.net.now past c.args.bounds c.args.now start c.args.self.now c.make.new.self c.args.firing c.in-Some.planned.plan c.in-Some.planned.moves c.requires.ready c.in-Some.ensures.effect c.in-Some.ensures.moves going follow
+    (c.if-is_used.ensures.unused refl) (c.in-Some.ensures.may start going.began)
+    (record { after = c.in_ok-make.ensures.after; fired = c.in_ok-make.ensures.fired; begun = c.in_ok-make.ensures.begun; made = c.in_ok-make.ensures.made; logged = c.in_ok-make.ensures.log; notes = c.in_ok-make.ensures.notes; freed = c.in_ok-make.ensures.freed })

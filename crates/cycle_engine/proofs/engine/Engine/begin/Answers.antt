@@ -4,10 +4,10 @@ use Rattle.net_core.specs.States.{state_of}
 use Rattle.cycle_engine.specs.declared.engine.Engine.{Engine}
 use Rattle.cycle_engine.specs.private.Marking.{Holds, HasUnit}
 use Rattle.cycle_engine.specs.private.Goings.{all_made, AllPlain}
-use Rattle.cycle_engine.proofs.StartLemmas.{begun_ready, begun_going}
+use Rattle.cycle_engine.proofs.StartLemmas.{none_listed, begun_ready, begun_going}
 use Rattle.cycle_engine.proofs.MarkLemmas.{source_as, target_as, or_as}
 use Rattle.cycle_engine.proofs.NoteLemmas.{cleared_long}
-use Rattle.cycle_engine.proofs.NextLemmas.{begun_watching, stirred_marked, begun_coming}
+use Rattle.cycle_engine.proofs.NextLemmas.{begun_followed, begun_watching, stirred_marked, begun_coming}
 use Rattle.cycle_engine.proofs.RunLemmas.{delay_most}
 use Rattle.cycle_engine.proofs.engine.Engine.begin.Goals as goal
 
@@ -16,52 +16,55 @@ returns-clause-ready c =
     let e : Engine = record {
       state = c.args.self.now.state;
       dates = c.args.self.now.dates;
-      begun = record { chans = c.mark_emptied.new.lengths; queues = c.note_queues.new.lengths };
-      fired = c.clear-2.new.self;
-      since = c.clear_since.new.since;
+      begun = c.settle.new.begun;
+      fired = c.clear-3.new.self;
+      since = c.settle.new.since;
       made = c.args.self.now.made + c.len.result;
       log = c.args.self.now.log;
       marks = c.mark_targets.new.self;
-      notes = c.clear.new.self;
+      notes = c.clear-2.new.self;
+      freed = c.clear.new.self;
     } in
     let net = c.args.net.now in
     let made : c.args.self.now.made + c.len.result ≡ all_made c.args.self.now = omega (arith, c.len.ensures, c.args.self.now.fired.ok.0) in
     begun_ready c.args.net.now c.args.bounds c.args.self.now e c.requires
     (record { state = c.requires.engine.state; slots = c.requires.engine.slots; dated = c.requires.engine.dated })
-    refl made c.clear-2.ensures.items refl c.in_ok-mark_emptied.ensures.long c.note_queues.ensures.long
-    (c.in_ok-mark_targets.ensures.kept.long ∙ (c.in_ok-mark_emptied.ensures.kept.long ∙ (c.in_ok-mark_fired.ensures.kept.long ∙ c.requires.marked)))
-    (c.in_ok-mark_targets.ensures.kept.listed net (c.in_ok-mark_emptied.ensures.kept.listed net (c.in_ok-mark_fired.ensures.kept.listed net c.requires.listed)))
-    (cleared_long c.args.self.now.notes c.clear.new.self _ c.clear.ensures.cells ∙ c.requires.cells)
+    refl made c.clear-3.ensures.items refl (c.clear.ensures.long ∙ c.requires.chans) c.in_ok-settle.ensures.long
+    (c.in_ok-mark_targets.ensures.kept.long ∙ (c.in_ok-mark_sources.ensures.kept.long ∙ (c.in_ok-settle.ensures.kept.long ∙ c.requires.marked)))
+    (c.in_ok-mark_targets.ensures.kept.listed net (c.in_ok-mark_sources.ensures.kept.listed net (c.in_ok-settle.ensures.kept.listed net c.requires.listed)))
+    (cleared_long c.args.self.now.notes c.clear-2.new.self _ c.clear-2.ensures ∙ c.requires.cells)
 
 pub returns-clause-going : goal.returns-clause-going
 returns-clause-going c past done =
     let e : Engine = record {
       state = c.args.self.now.state;
       dates = c.args.self.now.dates;
-      begun = record { chans = c.mark_emptied.new.lengths; queues = c.note_queues.new.lengths };
-      fired = c.clear-2.new.self;
-      since = c.clear_since.new.since;
+      begun = c.settle.new.begun;
+      fired = c.clear-3.new.self;
+      since = c.settle.new.since;
       made = c.args.self.now.made + c.len.result;
       log = c.args.self.now.log;
       marks = c.mark_targets.new.self;
-      notes = c.clear.new.self;
+      notes = c.clear-2.new.self;
+      freed = c.clear.new.self;
     } in
-    let net = c.args.net.now in
     let made : c.args.self.now.made + c.len.result ≡ all_made c.args.self.now = omega (arith, c.len.ensures, c.args.self.now.fired.ok.0) in
     let P : List Firing → Type 0 = AllPlain c.args.net.now in
-    let n = length c.args.self.now.marks.marked.items in
-    let k1 = c.in_ok-mark_fired.ensures.kept in
-    let k2 = c.in_ok-mark_emptied.ensures.kept in
+    let k1 = c.in_ok-settle.ensures.kept in
+    let k2 = c.in_ok-mark_sources.ensures.kept in
     let k3 = c.in_ok-mark_targets.ensures.kept in
     record {
       going = begun_going c.args.net.now past c.args.bounds c.args.now c.args.self.now e done
-          (record { chans = λ d. c.in_ok-mark_emptied.ensures.noted d (or_as (Holds d) (sym c.as_slice-moved.ensures.value) (done.moved d)); queues = λ u l. c.note_queues.ensures.noted u l (or_as (HasUnit u) (sym c.as_slice-fired.ensures.value) (done.entries u l)) })
-          refl c.clear-2.ensures.items made refl
-          (begun_coming c.args.net.now c.args.now c.args.self.now e (delay_most c.args.net.now c.net.ensures.checked) refl c.clear.ensures.cells done.coming);
-      plain = subst P (sym c.clear-2.ensures.items) tt;
+          (record {
+            chans = begun_followed c.args.net.now c.args.now c.args.self.now e refl (c.clear.ensures.none done.listed) done.coming;
+            queues = λ u l. c.in_ok-settle.ensures.noted u l (or_as (HasUnit u) (sym c.as_slice-fired.ensures.value) (done.entries u l));
+          })
+          refl c.clear-3.ensures.items made refl (none_listed c.clear.new.self (c.clear.ensures.none done.listed))
+          (begun_coming c.args.net.now c.args.now c.args.self.now e (delay_most c.args.net.now c.net.ensures.checked) refl c.clear-2.ensures done.coming);
+      plain = subst P (sym c.clear-3.ensures.items) tt;
       watching = begun_watching c.args.net.now past c.args.bounds c.args.now 0 c.args.self.now e c.net.ensures.checked c.requires done refl
-          (stirred_marked c.args.net.now c.args.now c.args.self.now c.mark_fired.new.self c.mark_emptied.new.self c.mark_targets.new.self (length c.args.self.now.marks.marked.items) (sym c.requires.marked)
-          k1.kept k2.kept k3.kept (λ u h f l. c.in_ok-mark_fired.ensures.marked u (subst (HasUnit u) (sym c.as_slice-fired.ensures.value) h) f l)
-          (λ d h l. source_as c.args.net.now (state_of c.args.self.now.state) _ _ c.mark_emptied.new.self d k1.long (c.in_ok-mark_emptied.ensures.marked d (subst (Holds d) (sym c.as_slice-moved.ensures.value) h) l))
+          (stirred_marked c.args.net.now c.args.now c.args.self.now c.settle.new.marks c.mark_sources.new.self c.mark_targets.new.self (length c.args.self.now.marks.marked.items) (sym c.requires.marked)
+          k1.kept k2.kept k3.kept (λ u h f l. c.in_ok-settle.ensures.marked u (subst (HasUnit u) (sym c.as_slice-fired.ensures.value) h) f l)
+          (λ d h. source_as c.args.net.now (state_of c.args.self.now.state) _ _ c.mark_sources.new.self d k1.long (c.in_ok-mark_sources.ensures.marked d (subst (Holds d) (sym c.as_slice-freed.ensures.value) h)))
           (λ d h. target_as c.args.net.now _ _ c.mark_targets.new.self d (k2.long ∙ k1.long) (c.in_ok-mark_targets.ensures.marked d (subst (Holds d) (sym c.ripening.ensures) h))));
     }

@@ -1,26 +1,30 @@
-use Rattle.cycle_engine.proofs.MakeLemmas.{takes_within, put_room, made_is, made_engine}
-use Rattle.std.proofs.Common.{arith}
+use Rattle.cycle_engine.proofs.MakeLemmas.{dates_within, date_room, dates_made, made_is, made_engine}
+use Rattle.std.proofs.Common.{◌∙◌, ap, arith}
+use Rattle.cycle_engine.specs.private.Trials.{dated_moves}
 use Rattle.cycle_engine.proofs.MarkLemmas.{since_more}
 use Rattle.cycle_engine.proofs.engine.Engine.make.Goals as goal
 
-pub move_dates-requires-clause-within : goal.move_dates-requires-clause-within
-move_dates-requires-clause-within c = takes_within c.args.net.now c.args.self.now c.args.firing c.args.plan c.requires.engine c.requires.effect
+pub make-requires-clause-within : goal.make-requires-clause-within
+make-requires-clause-within c =
+    dates_within c.args.net.now c.args.self.now c.args.now c.args.firing c.args.planned.plan c.dated.result (c.dated.ensures ∙ ap (dated_moves c.args.now) c.requires.moves) c.requires.engine c.requires.effect
 
-pub move_dates-requires-clause-room : goal.move_dates-requires-clause-room
-move_dates-requires-clause-room c = put_room c.args.net.now c.args.self.now c.args.firing.unit c.args.plan.put c.requires.engine c.requires.room
+pub make-requires-clause-room : goal.make-requires-clause-room
+make-requires-clause-room c =
+    date_room c.args.net.now c.args.self.now c.args.now c.args.firing.unit c.args.planned.plan c.dated.result (c.dated.ensures ∙ ap (dated_moves c.args.now) c.requires.moves) c.requires.engine c.requires.room
 
 pub returns-clause-after : goal.returns-clause-after
 returns-clause-after c =
-    made_is c.args.net.now c.args.now c.args.self.now (record { state = c.make.new.self; dates = c.move_dates.new.dates; begun = c.args.self.now.begun; fired = c.note_fired.new.fired; since = c.note_since.new.since; made = c.args.self.now.made; log = c.note-2.new.log; marks = c.args.self.now.marks; notes = c.note.new.self })
-    c.args.firing c.args.plan c.requires.effect c.make.ensures.state c.move_dates.ensures.tokens
+    made_is c.args.net.now c.args.now c.args.self.now
+    (record { state = c.make_moves.new.self; dates = c.make.new.self; begun = c.args.self.now.begun; fired = c.note_fired.new.fired; since = c.note_since.new.since; made = c.args.self.now.made; log = c.note-3.new.log; marks = c.args.self.now.marks; notes = c.note-2.new.self; freed = c.note.new.self })
+    c.args.firing c.args.planned.plan c.requires.effect c.make_moves.ensures.state
+    (dates_made c.args.net.now c.args.now c.args.self.now c.args.firing c.args.planned.plan c.dated.result c.make.new.self.tokens c.requires.engine c.requires.effect c.requires.apart
+    (c.dated.ensures ∙ ap (dated_moves c.args.now) c.requires.moves) c.make.ensures.tokens)
 
 pub returns-clause-engine : goal.returns-clause-engine
 returns-clause-engine c =
-    made_engine c.args.net.now c.args.now c.args.self.now (record { state = c.make.new.self; dates = c.move_dates.new.dates; begun = c.args.self.now.begun; fired = c.note_fired.new.fired; since = c.note_since.new.since; made = c.args.self.now.made; log = c.note-2.new.log; marks = c.args.self.now.marks; notes = c.note.new.self })
-    c.args.firing c.args.plan c.requires.engine c.requires.effect
-    (made_is c.args.net.now c.args.now c.args.self.now (record { state = c.make.new.self; dates = c.move_dates.new.dates; begun = c.args.self.now.begun; fired = c.note_fired.new.fired; since = c.note_since.new.since; made = c.args.self.now.made; log = c.note-2.new.log; marks = c.args.self.now.marks; notes = c.note.new.self })
-    c.args.firing c.args.plan c.requires.effect c.make.ensures.state c.move_dates.ensures.tokens)
-    c.make.ensures.of c.move_dates.ensures.slots
+    made_engine c.args.net.now c.args.now c.args.self.now
+    (record { state = c.make_moves.new.self; dates = c.make.new.self; begun = c.args.self.now.begun; fired = c.note_fired.new.fired; since = c.note_since.new.since; made = c.args.self.now.made; log = c.note-3.new.log; marks = c.args.self.now.marks; notes = c.note-2.new.self; freed = c.note.new.self })
+    c.args.firing c.args.planned.plan c.requires.engine c.requires.effect (returns-clause-after c) c.make_moves.ensures.of c.make.ensures.slots
 
 pub returns-clause-since : goal.returns-clause-since
 returns-clause-since c =

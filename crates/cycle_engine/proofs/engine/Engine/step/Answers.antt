@@ -4,25 +4,25 @@ use Rattle.cycle_engine.proofs.StepLemmas.{step_passed, step_unit, step_queue}
 use Rattle.cycle_engine.proofs.engine.Engine.step.Goals as goal
 
 pub returns-in_default-clause-tried : goal.returns-in_default-clause-tried
-returns-in_default-clause-tried c past start marks rank number t next =
-    step_passed c.args.net.now past c.args.bounds c.args.now start marks c.args.self.now c.attempt.new.self c.args.firing rank number t next c.in_ok-plan.field-0
-    (c.in_ok-plan.ensures.tried past start t.going (turn_follows c.args.net.now past c.args.bounds c.args.now start marks c.args.self.now c.args.firing rank number t next)) c.in_default.is
+returns-in_default-clause-tried g c past start marks rank number t next =
+    step_passed c.args.net.now past c.args.bounds c.args.now start marks c.args.self.now c.attempt.new.self c.args.firing rank number t next c.in_ok-planned.field-0
+    (c.in_ok-planned.ensures.tried past start t.going (turn_follows c.args.net.now past c.args.bounds c.args.now start marks c.args.self.now c.args.firing rank number t next)) c.in_default.is
 
-pub returns-in_err-plan-clause-tried : goal.returns-in_err-plan-clause-tried
-returns-in_err-plan-clause-tried c past start marks rank number t next =
-    exit_broken _ _ c.from_residual.result c.in_err-plan.field-0.0 c.from_residual.ensures.1
-    (c.in_err-plan.ensures.tried past start t.going (turn_follows c.args.net.now past c.args.bounds c.args.now start marks c.args.self.now c.args.firing rank number t next))
+pub returns-in_err-planned-clause-tried : goal.returns-in_err-planned-clause-tried
+returns-in_err-planned-clause-tried g c past start marks rank number t next =
+    exit_broken _ _ c.from_residual.result c.in_err-planned.field-0.0 c.from_residual.ensures.1
+    (c.in_err-planned.ensures.tried past start t.going (turn_follows c.args.net.now past c.args.bounds c.args.now start marks c.args.self.now c.args.firing rank number t next))
 
 pub returns-in_ok-rouse-clause-tried : goal.returns-in_ok-rouse-clause-tried
-returns-in_ok-rouse-clause-tried c past start marks rank number t next =
+returns-in_ok-rouse-clause-tried g c past start marks rank number t next =
     let l : c.is_queue.result ≡ false = search rules in
-    step_unit c.args.net.now past c.args.bounds c.args.now start marks c.args.self.now c.attempt.new.self c.args.firing rank number t next c.in_ok-plan.field-0
-    (c.in_ok-plan.ensures.tried past start t.going (turn_follows c.args.net.now past c.args.bounds c.args.now start marks c.args.self.now c.args.firing rank number t next))
-    c.in-Some.plan c.rouse.new.self c.in-Some.is c.in_ok-plan.ensures.plan c.in_ok-plan.ensures.marks c.net.ensures.checked c.requires (sym c.is_queue.ensures ∙ l) c.in_ok-rouse.ensures.kept c.in_ok-rouse.ensures.roused
+    step_unit c.args.net.now past c.args.bounds c.args.now start marks c.args.self.now c.attempt.new.self c.args.firing rank number t next c.in_ok-planned.field-0
+    (c.in_ok-planned.ensures.tried past start t.going (turn_follows c.args.net.now past c.args.bounds c.args.now start marks c.args.self.now c.args.firing rank number t next))
+    c.in-Some.planned c.rouse.new.self c.in-Some.is c.in_ok-planned.ensures.plan c.in_ok-planned.ensures.moves c.in_ok-planned.ensures.marks c.net.ensures.checked c.requires (sym c.is_queue.ensures ∙ l) c.in_ok-rouse.ensures.kept c.in_ok-rouse.ensures.roused
 
 pub returns-else-not-is_queue-clause-tried : goal.returns-else-not-is_queue-clause-tried
-returns-else-not-is_queue-clause-tried c past start marks rank number t next =
+returns-else-not-is_queue-clause-tried g c past start marks rank number t next =
     let l : c.is_queue.result ≡ true = search rules in
-    step_queue c.args.net.now past c.args.bounds c.args.now start marks c.args.self.now c.attempt.new.self c.args.firing rank number t next c.in_ok-plan.field-0
-    (c.in_ok-plan.ensures.tried past start t.going (turn_follows c.args.net.now past c.args.bounds c.args.now start marks c.args.self.now c.args.firing rank number t next))
-    c.in-Some.plan c.in-Some.is c.in_ok-plan.ensures.marks c.net.ensures.checked c.requires (sym c.is_queue.ensures ∙ l)
+    step_queue c.args.net.now past c.args.bounds c.args.now start marks c.args.self.now c.attempt.new.self c.args.firing rank number t next c.in_ok-planned.field-0
+    (c.in_ok-planned.ensures.tried past start t.going (turn_follows c.args.net.now past c.args.bounds c.args.now start marks c.args.self.now c.args.firing rank number t next))
+    c.in-Some.planned c.in-Some.is c.in_ok-planned.ensures.marks c.net.ensures.checked c.requires (sym c.is_queue.ensures ∙ l)

@@ -7,7 +7,7 @@ use Rattle.cycle_engine.proofs.PlaceLemmas.{numbers_below}
 use Rattle.cycle_engine.proofs.engine.Engine.steps.Goals as goal
 
 pub loop-number-preserved : goal.loop-number-preserved
-loop-number-preserved c = record {
+loop-number-preserved g c = record {
   ready = c.in_ok-step.ensures.ready;
   less = (let a = c.loop-number.invariant.less in let b = c.in_ok-step.ensures.less in omega arith);
   tried = λ past start marks t. c.in_ok-step.ensures.tried past start marks (act_rank c.args.kind) c.loop-number.number (c.loop-number.invariant.tried past start marks t)
@@ -15,12 +15,12 @@ loop-number-preserved c = record {
 }
 
 pub returns-in_err-step-clause-tried : goal.returns-in_err-step-clause-tried
-returns-in_err-step-clause-tried c past start marks t =
+returns-in_err-step-clause-tried g c past start marks t =
     exit_broken _ _ c.from_residual.result c.in_err-step.field-0.0 c.from_residual.ensures.1
     (c.in_err-step.ensures.tried past start marks (act_rank c.args.kind) c.loop-number.number (c.loop-number.invariant.tried past start marks t)
     (next_numbered c.args.net.now (state_of c.loop-number.self.state) c.args.unit c.args.kind c.loop-number.number c.count_acts-count.result c.numbered-act.result c.requires.kind c.numbered-act.ensures c.count_acts-count.ensures c.loop-number-test.true))
 
 pub returns-clause-tried : goal.returns-clause-tried
-returns-clause-tried c past start marks t =
+returns-clause-tried g c past start marks t =
     turn_on c.args.net.now past c.args.bounds c.args.now start marks c.loop-number.self c.args.unit (act_rank c.args.kind) c.loop-number.number (c.loop-number.invariant.tried past start marks t)
     (λ a n r. (let k = numbers_below c.args.net.now (state_of c.loop-number.self.state) c.args.unit c.args.kind a c.look_at_queue.ensures r n in let e = c.count_acts-count.ensures in omega (arith, c.loop-number-test.false)))

@@ -7,7 +7,7 @@ use Rattle.cycle_engine.specs.private.Places.{IsTurn}
 use Rattle.cycle_engine.proofs.engine.Engine.steps.Given as goal
 
 abbrev pub invariant-loop-number : goal.invariant-loop-number
-invariant-loop-number l = record {
+invariant-loop-number g l = record {
   ready : IsReady l.net l.bounds l.self;
   less : to_visit l.bounds l.self ≤ to_visit l.bounds l.fn.self;
   tried : (past : Past) (start : Dated) (marks : Marks) → IsTurn l.net past l.bounds l.now start marks l.fn.self l.unit (act_rank l.kind) 0 → IsTurn l.net past l.bounds l.now start marks l.self l.unit (act_rank l.kind) l.number;

@@ -1,8 +1,7 @@
-use Rattle.std.proofs.Common.{◌∙◌, ℕ, sym, subst, refl, length}
+use Rattle.std.proofs.Common.{◌∙◌, sym, subst, refl, length}
 use Rattle.std.specs.List.{AllByRecursion}
-use Rattle.net_types.specs.Nets.{into}
-use Rattle.net_core.specs.declared.plan.Takes.{Takes}
-use Rattle.net_core.specs.Plans.{places_of}
+use Rattle.net_core.specs.declared.plan.Taken.{Taken}
+use Rattle.net_core.specs.Plans.{chans_of}
 use Rattle.cycle_engine.specs.private.Marking.{IsMergeMarked}
 use Rattle.cycle_engine.proofs.MarkLemmas.{keeps_then, keeps_same, merge_more}
 use Rattle.cycle_engine.proofs.marks.Marks.mark_merges.Goals as goal
@@ -18,15 +17,11 @@ returns-in_ok-mark_merge-in-Three-3-clause-marked c =
     let k1 = c.in_ok-mark_merge-in-Three.ensures.kept in
     let k2 = c.in_ok-mark_merge-in-Three-2.ensures.kept in
     let k3 = c.in_ok-mark_merge-in-Three-3.ensures.kept in
-    let D : ℕ → Type 0 = IsMergeMarked c.args.net.now (length c.args.self.now.marked.items) c.mark_merge-in-Three-3.new.self in
-    let P : Takes → Type 0 = λ t. AllByRecursion (λ p. IsMergeMarked c.args.net.now (length c.args.self.now.marked.items) c.mark_merge-in-Three-3.new.self (into c.args.unit p c.args.net.now.chans)) (places_of t) in
+    let P : Taken → Type 0 = λ t. AllByRecursion (IsMergeMarked c.args.net.now (length c.args.self.now.marked.items) c.mark_merge-in-Three-3.new.self) (chans_of t) in
     subst P (sym c.in-Three.is) (
-      subst D c.into_place-in-Three.ensures (merge_more c.args.net.now _ _ _ _ _ refl (keeps_then _ _ _ k2 k3) c.in_ok-mark_merge-in-Three.ensures.marked),
+      merge_more c.args.net.now _ _ _ _ _ refl (keeps_then _ _ _ k2 k3) c.in_ok-mark_merge-in-Three.ensures.marked,
       (
-        subst D c.into_place-in-Three-2.ensures (merge_more c.args.net.now _ _ _ _ _ k1.long k3 c.in_ok-mark_merge-in-Three-2.ensures.marked),
-        (
-          subst D c.into_place-in-Three-3.ensures (merge_more c.args.net.now _ _ _ _ _ (k2.long ∙ k1.long) (keeps_same c.mark_merge-in-Three-3.new.self) c.in_ok-mark_merge-in-Three-3.ensures.marked),
-          tt,
-        ),
+        merge_more c.args.net.now _ _ _ _ _ k1.long k3 c.in_ok-mark_merge-in-Three-2.ensures.marked,
+        (merge_more c.args.net.now _ _ _ _ _ (k2.long ∙ k1.long) (keeps_same c.mark_merge-in-Three-3.new.self) c.in_ok-mark_merge-in-Three-3.ensures.marked, tt),
       ),
     )

@@ -1,5 +1,5 @@
 use Rattle.std.proofs.Common.{◌∙◌}
-use Rattle.net_core.specs.Plans.{places_of}
+use Rattle.net_core.specs.Plans.{chans_of}
 use Rattle.cycle_engine.proofs.MarkLemmas.{keeps_then, merges_more, put_as}
 use Rattle.cycle_engine.proofs.marks.Marks.rouse.Goals as goal
 
@@ -12,7 +12,7 @@ returns-clause-roused c =
     let k2 = c.in_ok-mark_merges.ensures.kept in
     let k3 = c.in_ok-mark_put.ensures.kept in
     record {
-      own = λ g l. k3.kept c.args.unit (k2.kept c.args.unit (c.in_ok-mark_own.ensures.marked g l));
-      merges = merges_more c.args.net.now _ _ c.args.unit _ _ (places_of c.args.plan.takes) k1.long k3 c.in_ok-mark_merges.ensures.marked;
-      target = put_as c.args.net.now c.args.unit c.args.plan.put _ _ c.mark_put.new.self (k2.long ∙ k1.long) c.in_ok-mark_put.ensures.marked;
+      own = λ g t f l. k3.kept c.args.unit (k2.kept c.args.unit (c.in_ok-mark_own.ensures.marked g t f l));
+      merges = merges_more c.args.net.now _ _ _ _ (chans_of c.args.moves.taken) k1.long k3 c.in_ok-mark_merges.ensures.marked;
+      target = put_as c.args.net.now c.args.moves.laid _ _ c.mark_put.new.self (k2.long ∙ k1.long) c.in_ok-mark_put.ensures.marked;
     }
