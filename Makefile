@@ -12,8 +12,8 @@
 #   a million channels, reading and printing inputs of 2^20 elements, live variables and block arguments of 32,768 blocks
 #   and 1,000 variables, circuits of block graphs of sizes up to a million, the plain interpreter on a loop of 120 million
 #   turns, beside the same kernel by `cc -O0`, and the plain runner on a histogram's net of 103 units, alone and among idle
-#   loops, beside plain sweeps over the units, and runs by cycles on it, alone and among up to a million idle units, beside
-#   the plain runner.
+#   loops, beside plain sweeps over the units, and runs by cycles on a countdown of 13 units and on the histogram's
+#   net, alone and among up to a million idle units, beside the plain runner.
 #   With BEFORE=PROGRAM another bench_front is timed beside this one.
 # stack: reads long and deep kernel texts with a stack of 1 MiB.
 # fail-alloc: makes each allocation of a run fail in turn.

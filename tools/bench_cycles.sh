@@ -1,6 +1,7 @@
 #!/bin/sh
-# Times runs by cycles on the netlist of a histogram, examples/histogram, with 32,768 turns, beside the plain runner, by the
-# proved program bench_cycles; then the same where the loop stands among 1,000, 10,000 and 500,000 idle ones of two units.
+# Times runs by cycles beside the plain runner, by the proved program bench_cycles: on a countdown of 13 units,
+# examples/countdown, with 300,000 turns; on the netlist of a histogram, examples/histogram, with 32,768 turns; and on that
+# where the loop stands among 1,000, 10,000 and 500,000 idle ones of two units.
 # With GNU time it tells the most memory of each process too. On a machine with other work, times are longer.
 set -eu
 program=$1
@@ -31,8 +32,11 @@ awk '
     printf "x ="; for (i = 0; i < length_of["x"]; i++) printf " %d", (i * 37 + 11) % length_of["h"]; print ""
     printf "h ="; for (i = 0; i < length_of["h"]; i++) printf " 0"; print ""
   }' "$net" > "$folder/inputs"
+echo "a countdown of 13 units:"
+echo "n = 300000" > "$folder/small"
+timed "$program" "$(dirname "$net")/../countdown/net.txt" "$folder/small"
 for loops in 0 1000 10000 500000; do
-  echo "among $loops idle loops:"
+  echo "a histogram among $loops idle loops:"
   with_idle "$loops" > "$folder/net"
   timed "$program" "$folder/net" "$folder/inputs"
 done
