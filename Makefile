@@ -5,8 +5,10 @@
 # run: a netlist and inputs of your own, without the proofs: make run NETLIST=my.net INPUTS=my.txt
 # build: proves the program and all below it, and leaves it as crates/elastic/out/elastic. From nothing this takes
 #   most of the gate's time (docs/PROVED.md); what an earlier run proved on this machine is not proved again.
-# examples: builds the program, runs the kernels of examples/ by it, by go and by ref, and compares with their results.
-# test: the gate: every proof, wrong body, test and program.
+# examples: builds the program, runs the kernels of examples/ by it, by go and by ref, compares with their results, and tells
+#   the units, channels, firings and cycles of each.
+# test: the gate: every proof, program and the wrong bodies of must-fail/.
+# wrong: tries the wrong bodies that the gate leaves out (crates/*/wrong), of one crate with CRATE=NAME.
 # bench: times the proved programs: compiling kernels of 1,024 nodes, and how many firings and cycles four kernels take;
 #   reading texts of 65,536 bytes, a million acts on queues of depths 16, 128 and 1,024, buffer placement on nets of up to
 #   a million channels, reading and printing inputs of 2^20 elements, live variables and block arguments of 32,768 blocks
@@ -14,16 +16,27 @@
 #   turns, beside the same kernel by `cc -O0`, and the plain runner on a histogram's net of 103 units, alone and among idle
 #   loops, beside plain sweeps over the units, and runs by cycles on a countdown of 13 units and on the histogram's
 #   net, alone and among up to a million idle units, beside the plain runner.
-#   With BEFORE=PROGRAM another bench_front is timed beside this one.
+#   With BEFORE=PROGRAM another bench_text is timed beside this one. BENCH_ACTS, BENCH_SIZE and the like give other sizes.
 # stack: reads long and deep kernel texts with a stack of 1 MiB.
 # fail-alloc: makes each allocation of a run fail in turn.
 
-.PHONY: demo go compile ref run build examples test bench stack fail-alloc
+.PHONY: demo go compile ref run build examples test wrong bench stack fail-alloc
 
 KERNEL = examples/hist/kernel.c
 INPUTS = examples/hist/inputs.txt
 NETLIST = examples/net/net.txt
 BEFORE =
+CRATE =
+
+# The sizes of the benches: acts on a queue, channels and sizes of graphs, blocks and variables, rounds of the interpreted loop,
+# firings of the plain runner, and turns of the countdown.
+BENCH_ACTS = 1000000
+BENCH_SIZE = 1000000
+BENCH_BLOCKS = 32768
+BENCH_VARIABLES = 1000
+BENCH_ROUNDS = 20000000
+BENCH_FIRINGS = 20000000
+BENCH_TURNS = 300000
 
 UNPROVED = 'This build is not the proved one: it runs the program before its proofs.'
 
@@ -64,23 +77,22 @@ examples: build
 test:
 	rt ci
 
+wrong:
+	@sh tools/wrong.sh $(CRATE)
+
 bench: build
-	@cd crates/bench_compile && rt run -- ../../examples/fir/kernel.c 1
-	@sh tools/bench_compile.sh crates/bench_compile/out/bench_compile crates/elastic/out/elastic
-	@cd crates/bench_front && rt run -- ../../examples/sum/kernel.c 1
-	@sh tools/bench_front.sh crates/bench_front/out/bench_front $(BEFORE)
-	@cd crates/bench_queue && rt run -- 1000000
-	@cd crates/bench_place && rt run -- 1000000
-	@cd crates/bench_inputs && mkdir -p out && echo 'a = 1' > out/inputs.txt && rt run -- out/inputs.txt 1 1
-	@sh tools/bench_inputs.sh crates/bench_inputs/out/bench_inputs
-	@cd crates/bench_args && rt run -- 32768 1000
-	@cd crates/bench_build && rt run -- 1000000
-	@cd crates/bench_ref && mkdir -p out && printf 'void f(void) { }' > out/k.c && : > out/i && rt run -- out/k.c out/i 1
-	@sh tools/bench_ref.sh crates/bench_ref/out/bench_ref
-	@cd crates/bench_core && rt run -- ../../examples/histogram/net.txt ../../examples/histogram/inputs.txt 1 1
-	@sh tools/bench_core.sh crates/bench_core/out/bench_core examples/histogram/net.txt
-	@cd crates/bench_cycles && rt run -- ../../examples/histogram/net.txt ../../examples/histogram/inputs.txt
-	@sh tools/bench_cycles.sh crates/bench_cycles/out/bench_cycles examples/histogram/net.txt
+	@cd crates/bench_graphs && rt run -- compile ../../examples/fir/kernel.c 1
+	@sh tools/bench_compile.sh crates/bench_graphs/out/bench_graphs crates/elastic/out/elastic
+	@cd crates/bench_text && rt run -- front ../../examples/sum/kernel.c 1
+	@sh tools/bench_front.sh crates/bench_text/out/bench_text $(BEFORE)
+	@cd crates/bench_runs && rt run -- queue $(BENCH_ACTS)
+	@cd crates/bench_graphs && rt run -- place $(BENCH_SIZE)
+	@sh tools/bench_inputs.sh crates/bench_text/out/bench_text
+	@cd crates/bench_graphs && rt run -- args $(BENCH_BLOCKS) $(BENCH_VARIABLES)
+	@cd crates/bench_graphs && rt run -- build $(BENCH_SIZE)
+	@sh tools/bench_ref.sh crates/bench_runs/out/bench_runs $(BENCH_ROUNDS)
+	@sh tools/bench_core.sh crates/bench_runs/out/bench_runs examples/histogram/net.txt $(BENCH_FIRINGS)
+	@sh tools/bench_cycles.sh crates/bench_runs/out/bench_runs examples/histogram/net.txt $(BENCH_TURNS)
 
 stack:
 	@cd crates/given_rows && rt run -- data/repeats.tsv > /dev/null

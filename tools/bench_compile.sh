@@ -1,5 +1,5 @@
 #!/bin/sh
-# Times the compiler, by the proved program bench_compile: kernels of about 1,024 nodes of four shapes, each the least of 10
+# Times the compiler, by the proved program bench_graphs: kernels of about 1,024 nodes of four shapes, each the least of 10
 # times; beside it `cc -O0 -c` on the first of them, where cc is there. Then, by the program elastic, a table of four
 # examples: nodes, turns, units, channels, firings, cycles, and firings for each node and turn.
 set -eu
@@ -35,7 +35,7 @@ awk 'BEGIN {
 }' > "$folder/choices"
 for kernel in sum loops accesses choices; do
   printf '%s: ' "$kernel"
-  "$bench" "$folder/$kernel" 10
+  "$bench" compile "$folder/$kernel" 10
 done
 if command -v cc > /dev/null && [ -x /usr/bin/time ]; then
   { echo '#include <stdint.h>'; cat "$folder/sum"; } > "$folder/sum.c"
@@ -44,7 +44,7 @@ fi
 echo 'kernel: nodes, turns, units, channels, firings, cycles, firings for each node and turn'
 for example in fir matrix crc sort; do
   files="examples/$example/kernel.c examples/$example/inputs.txt"
-  nodes=$("$bench" "examples/$example/kernel.c" 1 | sed -n 's/ nodes, .*//p')
+  nodes=$("$bench" compile "examples/$example/kernel.c" 1 | sed -n 's/ nodes, .*//p')
   turns=$("$program" ref $files --count | sed -n 's/^# turns //p')
   "$program" go $files --count --cycles > "$folder/out"
   awk -v kernel="$example" -v nodes="$nodes" -v turns="$turns" '

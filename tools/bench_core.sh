@@ -1,12 +1,12 @@
 #!/bin/sh
-# Times the core on the netlist of a histogram, examples/histogram: 20 million firings by the plain runner, and as many by plain
-# sweeps over the units, by the proved program bench_core; then 20 million by the plain runner, and some by sweeps, where the
-# loop stands among 1,000 and 10,000 idle ones. With GNU time it tells the most memory of each process too. On a machine with
-# other work, times are longer.
+# Times the core on the netlist of a histogram, examples/histogram: 20 million firings, or as many as the third word says, by
+# the plain runner, and as many by plain sweeps over the units, by the proved program bench_runs; then as many by the plain
+# runner, and some by sweeps, where the loop stands among 1,000 and 10,000 idle ones. With GNU time it tells the most memory of
+# each process too. On a machine with other work, times are longer.
 set -eu
 program=$1
 net=$2
-firings=20000000
+firings=${3:-20000000}
 folder=$(mktemp -d)
 trap 'rm -rf "$folder"' EXIT
 # Runs a program, and tells its memory and its user time where they can be taken.
@@ -35,5 +35,5 @@ for loops in 0 1000 10000; do
   if [ "$loops" = 0 ]; then swept=$firings; else swept=20000; fi
   with_idle "$loops" > "$folder/net.txt"
   echo "$loops idle loops:"
-  timed "$program" "$folder/net.txt" "$folder/inputs.txt" "$firings" "$swept"
+  timed "$program" core "$folder/net.txt" "$folder/inputs.txt" "$firings" "$swept"
 done

@@ -1,11 +1,12 @@
 #!/bin/sh
-# Times runs by cycles beside the plain runner, by the proved program bench_cycles: on a countdown of 13 units,
-# examples/countdown, with 300,000 turns; on the netlist of a histogram, examples/histogram, with 32,768 turns; and on that
-# where the loop stands among 1,000, 10,000 and 500,000 idle ones of two units.
+# Times runs by cycles beside the plain runner, by the proved program bench_runs: on a countdown of 13 units,
+# examples/countdown, with 300,000 turns or as many as the third word says; on the netlist of a histogram, examples/histogram,
+# with 32,768 turns; and on that where the loop stands among 1,000, 10,000 and 500,000 idle ones of two units.
 # With GNU time it tells the most memory of each process too. On a machine with other work, times are longer.
 set -eu
 program=$1
 net=$2
+turns=${3:-300000}
 folder=$(mktemp -d)
 trap 'rm -rf "$folder"' EXIT
 # Runs a program, and tells its memory and its user time where they can be taken.
@@ -33,10 +34,10 @@ awk '
     printf "h ="; for (i = 0; i < length_of["h"]; i++) printf " 0"; print ""
   }' "$net" > "$folder/inputs"
 echo "a countdown of 13 units:"
-echo "n = 300000" > "$folder/small"
-timed "$program" "$(dirname "$net")/../countdown/net.txt" "$folder/small"
+echo "n = $turns" > "$folder/small"
+timed "$program" cycles "$(dirname "$net")/../countdown/net.txt" "$folder/small"
 for loops in 0 1000 10000 500000; do
   echo "a histogram among $loops idle loops:"
   with_idle "$loops" > "$folder/net"
-  timed "$program" "$folder/net" "$folder/inputs"
+  timed "$program" cycles "$folder/net" "$folder/inputs"
 done

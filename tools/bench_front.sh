@@ -1,5 +1,5 @@
 #!/bin/sh
-# Times lexing, and lexing with parsing, on texts of 65,536 bytes: milliseconds of the proved program bench_front, each
+# Times lexing, and lexing with parsing, on texts of 65,536 bytes: milliseconds of the proved program bench_text, each
 # the least of 40 runs in one process. A second program is timed beside the first, as one built before a change.
 set -eu
 folder=$(mktemp -d)
@@ -24,6 +24,6 @@ make_text 'groups' 'int f(int a) { return ' "${open60}a${close60}+" 'a; }'
 for name in 'semicolons' 'blanks' 'names' 'numbers' 'operators' 'a sum' 'groups'; do
   for program in "$@"; do
     printf '%-10s %s: ' "$name" "$program"
-    "$program" "$folder/$name" 40
+    "$program" front "$folder/$name" 40
   done
 done

@@ -1,6 +1,6 @@
 #!/bin/sh
 # Times reading the inputs of one array of 2^20 elements of int32_t, and printing them: milliseconds and megabytes a second
-# of the proved program bench_inputs, the least of 10 runs in one process; beside it `wc -w` on the same file.
+# of the proved program bench_text, the least of 10 runs in one process; beside it `wc -w` on the same file.
 set -eu
 program=$1
 folder=$(mktemp -d)
@@ -11,7 +11,7 @@ awk 'BEGIN {
   print ""
 }' > "$folder/i"
 printf 'inputs of 2^20 elements, %s bytes: ' "$(wc -c < "$folder/i")"
-"$program" "$folder/i" 1048576 10
+"$program" inputs "$folder/i" 1048576 10
 if command -v python3 > /dev/null; then
   python3 - "$folder/i" <<'P'
 import os, subprocess, sys, time

@@ -1,9 +1,10 @@
 #!/bin/sh
-# Times the plain interpreter on a loop of three statements, 20 million rounds and 120,000,006 turns: millions of turns a
-# second of the proved program bench_ref, and its time; beside it the same kernel run natively, by `cc -O0`. Both print
-# the result. On a machine with other work the user time is what tells.
+# Times the plain interpreter on a loop of three statements, 20 million rounds and 120,000,006 turns, or so many rounds as the
+# second word says: millions of turns a second of the proved program bench_runs, and its time; beside it the same kernel run
+# natively, by `cc -O0`. Both print the result. On a machine with other work the user time is what tells.
 set -eu
 program=$1
+rounds=${2:-20000000}
 folder=$(mktemp -d)
 trap 'rm -rf "$folder"' EXIT
 # Runs a program, and tells its user time where that can be taken.
@@ -22,19 +23,19 @@ uint32_t f(uint32_t n, uint32_t a[64]) {
 }
 K
 {
-  echo 'n = 20000000'
+  echo "n = $rounds"
   awk 'BEGIN { printf "a ="; for (i = 0; i < 64; i++) printf " 0"; print "" }'
 } > "$folder/i"
-timed "$program" "$folder/k.c" "$folder/i" 400000000
+timed "$program" ref "$folder/k.c" "$folder/i" 400000000
 if command -v cc > /dev/null; then
   {
     echo '#include <stdint.h>'
     echo '#include <stdio.h>'
     cat "$folder/k.c"
-    cat << 'M'
+    cat << M
 int main(void) {
   static uint32_t a[64];
-  printf("result %lu\n", (unsigned long)f(20000000, a));
+  printf("result %lu\\n", (unsigned long)f($rounds, a));
   return 0;
 }
 M

@@ -1,5 +1,6 @@
 #!/bin/sh
-# Runs each kernel of examples/ by a program elastic, by `go` and by `ref`, and compares what it prints with results.txt.
+# Runs each kernel of examples/ by a program elastic, by `go` and by `ref`, and compares what it prints with results.txt; then
+# tells a line for each: the units and channels of the printed circuit, and the firings and cycles of its run.
 set -eu
 program=$1
 folder=$(mktemp -d)
@@ -18,4 +19,5 @@ for kernel in examples/*/kernel.c; do
     fi
   done
 done
+sh "$(dirname "$0")/sizes.sh" "$program"
 exit $bad

@@ -42,12 +42,6 @@ FILES = {
     "marked.tsv": (0, CHECKED, NET),
     "edited.tsv": (0, CHECKED, NET),
     "operations.tsv": (-1, "the result", "an operation, its first operand, its second or nothing"),
-    "links.tsv": (
-        -1,
-        "what each call answers, a word each",
-        "the slots of a link; calls on its ends in one thread: ready, put=VALUE@STAMP where ready gives a stamp, peek, flush, "
-        "take@STAMP with a repay of at least that stamp",
-    ),
     "queues.tsv": (
         -1,
         "how many acts are made, what they put, the array, how many entries are left, the oldest that may execute or -",

@@ -1,20 +1,22 @@
 -- How large the graph over arguments is.
-use Rattle.std.proofs.Common.{◌≡◌, ℕ, zero, suc, ◌+◌, ◌*◌, ◌≤◌, List, [], ◌∷◌, ◌++◌, map, length, drop, refl, sym, ◌∙◌, ap, subst, arith}
-use Rattle.std.specs.Prelude.{sum_by}
-use Rattle.std.specs.List.{AllByRecursion}
+use Rattle.std.proofs.Common.{◌≡◌, ℕ, zero, suc, ◌+◌, ◌*◌, ◌≤◌, List, [], ◌∷◌, ◌++◌, map, length, get_or, drop, refl, sym, ◌∙◌, ap, arith, length-append}
+use Rattle.std.specs.Prelude.{sum_by, All}
 use Rattle.std.proofs.Math.Nat.{suc-mul}
 use Rattle.std.proofs.lemmas.List.Sums.{sum_by-cons}
-use Rattle.std.proofs.lemmas.List.Elements.{recursion_from_All, All-from_recursion}
+use Rattle.std.proofs.lemmas.List.{length-map, length-take, length-drop}
+use Rattle.std.proofs.lemmas.List.Elements.{All-nil, All-cons}
 use Rattle.ir.specs.declared.instr.Instr.{Instr}
 use Rattle.ir.specs.declared.instr.Instr.TheVariants.{Const, One, Two, Select, Load, Store}
+use Rattle.ir.specs.declared.graph.Block.{Block}
 use Rattle.ir.specs.declared.cfg.CfgBlock.{CfgBlock}
 use Rattle.ir.specs.Accesses.{is_access, accesses_in}
 use Rattle.ir.specs.Renaming.{renamed}
 use Rattle.ir.specs.Graphs.{block_weight}
 use Rattle.ir.specs.Variables.{VarGraph, IsVarGraph}
-use Rattle.block_args.specs.Tables.{Serves, held_at}
-use Rattle.block_args.specs.Arguments.{zeros, new_steps, new_block, new_blocks, argued}
+use Rattle.block_args.specs.Tables.{Serves, held_at, listed_at}
+use Rattle.block_args.specs.Arguments.{new_number, zeros, new_steps, new_block, new_blocks, argued}
 use Rattle.block_args.specs.Shares.{ArgsSizes}
+use Rattle.block_args.proofs.Named.{few_listed}
 use Rattle.block_args.proofs.Runs.{light}
 
 -- ---- accesses
@@ -39,11 +41,46 @@ same_accesses : (s : ℕ) (vars : List ℕ) (table : List (List ℕ)) (n : ℕ) 
 same_accesses s vars table zero b = no_accesses (drop s vars) (new_steps (held_at (length vars) table 0) b) ∙ renamed_accesses _ b.steps
 same_accesses s vars table (suc n) b = renamed_accesses _ b.steps
 
-few_accesses : (s : ℕ) (vars : List ℕ) (table : List (List ℕ)) (most n : ℕ) (bs : List CfgBlock) → AllByRecursion (λ b. accesses_in b.steps ≤ most) bs
-    → AllByRecursion (λ b. accesses_in b.steps ≤ most) (new_blocks s vars table n bs)
-few_accesses s vars table most n [] h = tt
-few_accesses s vars table most n (b ∷ bs) h =
-    (subst (λ k. k ≤ most) (sym (same_accesses s vars table n b)) h.0, few_accesses s vars table most (suc n) bs h.1)
+abbrev accesses_of : CfgBlock → ℕ
+accesses_of b = accesses_in b.steps
+
+abbrev new_accesses_of : Block → ℕ
+new_accesses_of b = accesses_in b.steps
+
+all_accesses : (s : ℕ) (vars : List ℕ) (table : List (List ℕ)) (n : ℕ) (bs : List CfgBlock) → sum_by new_accesses_of (new_blocks s vars table n bs) ≡ sum_by accesses_of bs
+all_accesses s vars table n [] = refl
+all_accesses s vars table n (b ∷ bs) =
+    let x = new_block s vars table n b in
+    let xs = new_blocks s vars table (suc n) bs in
+    sum_by-cons new_accesses_of x xs ∙ ap (λ k. k + sum_by new_accesses_of xs) (same_accesses s vars table n b) ∙ ap (λ k. accesses_of b + k) (all_accesses s vars table (suc n) bs) ∙ sym (sum_by-cons accesses_of b bs)
+
+-- ---- steps: block 0 makes a 0 for each variable that is no scalar
+
+abbrev steps_of : CfgBlock → ℕ
+steps_of b = length b.steps
+
+abbrev new_steps_of : Block → ℕ
+new_steps_of b = length b.steps
+
+later_steps : (s : ℕ) (vars : List ℕ) (table : List (List ℕ)) (n : ℕ) (bs : List CfgBlock) → sum_by new_steps_of (new_blocks s vars table (suc n) bs) ≡ sum_by steps_of bs
+later_steps s vars table n [] = refl
+later_steps s vars table n (b ∷ bs) =
+    let x = new_block s vars table (suc n) b in
+    let xs = new_blocks s vars table (suc (suc n)) bs in
+    sum_by-cons new_steps_of x xs ∙ ap (λ k. k + sum_by new_steps_of xs) (length-map b.steps (renamed (new_number (held_at (length vars) table (suc n)) b.reads))) ∙ ap (λ k. steps_of b + k) (later_steps s vars table (suc n) bs)
+    ∙ sym (sum_by-cons steps_of b bs)
+
+all_steps : (s : ℕ) (vars : List ℕ) (table : List (List ℕ)) (bs : List CfgBlock) → sum_by new_steps_of (new_blocks s vars table 0 bs) ≤ sum_by steps_of bs + length vars
+all_steps s vars table [] = omega arith
+all_steps s vars table (b ∷ bs) =
+    let held = held_at (length vars) table 0 in
+    let xs = new_blocks s vars table 1 bs in
+    let p = sum_by-cons new_steps_of (new_block s vars table 0 b) xs in
+    let q = sum_by-cons steps_of b bs in
+    let l = length-append (zeros (drop s vars)) (new_steps held b) in
+    let z : length (zeros (drop s vars)) ≡ length (drop s vars) = length-map (drop s vars) (λ w. Const w 0) in
+    let m : length (new_steps held b) ≡ length b.steps = length-map b.steps (renamed (new_number held b.reads)) in
+    omega (arith, p, q, l, z, m, length-drop s vars, later_steps s vars table 0 bs)
 
 -- ---- blocks and weights
 
@@ -71,11 +108,20 @@ module _ (g : VarGraph) (fine : IsVarGraph g) (table : List (List ℕ)) (serves 
       joined : (all one rest steps first later whole part unit : ℕ) → all ≡ one + rest → steps ≡ first + later → whole ≡ part + unit → one ≤ first + unit → rest ≤ later + part → all ≤ steps + whole
       joined all one rest steps first later whole part unit p q e l r = omega arith
 
+  few_args : (n : ℕ) (b : CfgBlock) → length (new_block (length g.scalars) g.vars table n b).args ≤ length g.vars
+  few_args zero b = omega (arith, length-take (length g.scalars) g.vars)
+  few_args (suc n) b = let e = length-map (listed_at table (suc n)) (λ v. get_or g.vars v 0) in omega (arith, e, few_listed g table (suc n) serves)
+
+  all_args : (n : ℕ) (bs : List CfgBlock) → All (λ (b : Block). length b.args ≤ length g.vars) (new_blocks (length g.scalars) g.vars table n bs)
+  all_args n [] = All-nil (λ (b : Block). length b.args ≤ length g.vars)
+  all_args n (b ∷ bs) =
+      All-cons (λ (x : Block). length x.args ≤ length g.vars) (new_block (length g.scalars) g.vars table n b) (new_blocks (length g.scalars) g.vars table (suc n) bs) (few_args n b) (all_args (suc n) bs)
+
   pub sizes : ArgsSizes g (argued g table)
   sizes = record {
     blocks = many_blocks (length g.scalars) g.vars table 0 g.blocks;
     bounded = light_blocks 0 g.blocks;
-    accesses = λ most h.
-        All-from_recursion (λ b. accesses_in b.steps ≤ most) (new_blocks (length g.scalars) g.vars table 0 g.blocks)
-        (few_accesses (length g.scalars) g.vars table most 0 g.blocks (recursion_from_All (λ b. accesses_in b.steps ≤ most) g.blocks h));
+    steps = all_steps (length g.scalars) g.vars table g.blocks;
+    accesses = all_accesses (length g.scalars) g.vars table 0 g.blocks;
+    args = all_args 0 g.blocks;
   }

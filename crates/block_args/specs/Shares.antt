@@ -16,4 +16,6 @@ pub record ArgsShare (c : VarGraph) (g : Graph) : Type 0 where
 pub record ArgsSizes (c : VarGraph) (g : Graph) : Type 0 where
   pub blocks : length g.blocks ≡ length c.blocks
   pub bounded : size g ≤ sum_by (λ b. length b.steps) c.blocks + length c.blocks * (2 + 3 * length c.vars)
-  pub accesses : (most : ℕ) → All (λ b. accesses_in b.steps ≤ most) c.blocks → All (λ b. accesses_in b.steps ≤ most) g.blocks
+  pub steps : sum_by (λ b. length b.steps) g.blocks ≤ sum_by (λ b. length b.steps) c.blocks + length c.vars
+  pub accesses : sum_by (λ b. accesses_in b.steps) g.blocks ≡ sum_by (λ b. accesses_in b.steps) c.blocks
+  pub args : All (λ b. length b.args ≤ length c.vars) g.blocks

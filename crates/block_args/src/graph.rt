@@ -8,7 +8,8 @@ ghost use Rattle.block_args.specs.Made.{parts, IsArgued, HasLiveArgs};
 
 use crate::block::new_block;
 use crate::live::live_variables;
-use ir::{Array, Block, Cfg, Ir, List, Memory, Scalar};
+use el_base::{copy_arrays, copy_scalars};
+use ir::{Block, Cfg, Ir, List, Memory};
 use std::alloc::Global;
 
 /// The graph whose blocks get as arguments the variables that are live at them, and block 0 the scalars.
@@ -58,24 +59,4 @@ fn new_blocks(alloc: Global, cfg: &Cfg, table: &[List<u32>]) -> Result<List<Bloc
         number += 1;
     }
     Ok(made)
-}
-
-fn copy_scalars(alloc: Global, scalars: &[Scalar]) -> Result<List<Scalar>, Memory>
-    ensures { IfOk result (λ copies. copies ≡ scalars.now) }
-{
-    let mut copies = List::new(alloc);
-    for scalar in scalars {
-        copies.push(scalar.copy()?)?;
-    }
-    Ok(copies)
-}
-
-fn copy_arrays(alloc: Global, arrays: &[Array]) -> Result<List<Array>, Memory>
-    ensures { IfOk result (λ copies. copies ≡ arrays.now) }
-{
-    let mut copies = List::new(alloc);
-    for array in arrays {
-        copies.push(array.copy()?)?;
-    }
-    Ok(copies)
 }

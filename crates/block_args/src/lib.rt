@@ -8,8 +8,6 @@ mod laws;
 mod live;
 mod numbers;
 mod tables;
-#[cfg(test)]
-mod tests;
 mod walk;
 
 pub use graph::arguments;

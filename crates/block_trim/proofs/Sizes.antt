@@ -1,10 +1,8 @@
 -- How large the trimmed graph is.
 use Rattle.std.proofs.Common.{◌≡◌, ℕ, suc, ◌+◌, ◌≤◌, List, [], ◌∷◌, map, length, refl, sym, ◌∙◌, ap, subst, arith}
 use Rattle.std.specs.Prelude.{Bool, true, false, sum_by, filter, not, cond, if◌then◌else◌}
-use Rattle.std.specs.List.{AllByRecursion}
 use Rattle.std.proofs.lemmas.List.{length-map}
 use Rattle.std.proofs.lemmas.List.Sums.{sum_by-cons}
-use Rattle.std.proofs.lemmas.List.Elements.{recursion_from_All, All-from_recursion}
 use Rattle.ir.specs.declared.instr.Instr.{Instr}
 use Rattle.ir.specs.declared.instr.Instr.TheVariants.{Const, One, Two, Select, Load, Store}
 use Rattle.ir.specs.declared.cfg.CfgBlock.{CfgBlock}
@@ -71,9 +69,12 @@ all_steps (b ∷ bs) =
     let p : sum_by count (map trimmed_block (b ∷ bs)) ≡ count (trimmed_block b) + sum_by count (map trimmed_block bs) = sum_by-cons count (trimmed_block b) (map trimmed_block bs) in
     p ∙ ap (λ n. n + sum_by count (map trimmed_block bs)) (same_steps b) ∙ ap (λ n. count b + n) (all_steps bs) ∙ sym (sum_by-cons count b bs)
 
-few_accesses : (most : ℕ) (bs : List CfgBlock) → AllByRecursion (λ b. accesses_in b.steps ≤ most) bs → AllByRecursion (λ b. accesses_in b.steps ≤ most) (map trimmed_block bs)
-few_accesses most [] h = tt
-few_accesses most (b ∷ bs) h = (subst (λ k. k ≤ most) (sym (same_accesses b)) h.0, few_accesses most bs h.1)
+all_accesses : (bs : List CfgBlock) → sum_by (λ (b : CfgBlock). accesses_in b.steps) (map trimmed_block bs) ≡ sum_by (λ (b : CfgBlock). accesses_in b.steps) bs
+all_accesses [] = refl
+all_accesses (b ∷ bs) =
+    let count : CfgBlock → ℕ = λ x. accesses_in x.steps in
+    let p : sum_by count (map trimmed_block (b ∷ bs)) ≡ count (trimmed_block b) + sum_by count (map trimmed_block bs) = sum_by-cons count (trimmed_block b) (map trimmed_block bs) in
+    p ∙ ap (λ n. n + sum_by count (map trimmed_block bs)) (same_accesses b) ∙ ap (λ n. count b + n) (all_accesses bs) ∙ sym (sum_by-cons count b bs)
 
 pub sizes : (g : VarGraph) → TrimSizes g (trimmed g)
 sizes g = record {
@@ -83,7 +84,5 @@ sizes g = record {
   reads = λ n. subst (λ (x : CfgBlock). length x.reads ≤ length (var_block_at g n).reads) (sym (block_at_trimmed g n)) (few_reads (block_uses (var_block_at g n)) 0 (var_block_at g n).reads);
   writes = λ n. subst (λ (x : CfgBlock). length x.writes ≤ length (var_block_at g n).writes) (sym (block_at_trimmed g n)) (few_writes (var_block_at g n));
   all_steps = all_steps g.blocks;
-  most_accesses = λ most h.
-      All-from_recursion (λ b. accesses_in b.steps ≤ most) (map trimmed_block g.blocks)
-      (few_accesses most g.blocks (recursion_from_All (λ b. accesses_in b.steps ≤ most) g.blocks h));
+  all_accesses = all_accesses g.blocks;
 }

@@ -44,7 +44,7 @@ pub record TrimSizes (g h : VarGraph) : Type 0 where
   pub reads : (n : ℕ) → length (var_block_at h n).reads ≤ length (var_block_at g n).reads
   pub writes : (n : ℕ) → length (var_block_at h n).writes ≤ length (var_block_at g n).writes
   pub all_steps : sum_by (λ b. length b.steps) h.blocks ≡ sum_by (λ b. length b.steps) g.blocks
-  pub most_accesses : (most : ℕ) → All (λ b. accesses_in b.steps ≤ most) g.blocks → All (λ b. accesses_in b.steps ≤ most) h.blocks
+  pub all_accesses : sum_by (λ b. accesses_in b.steps) h.blocks ≡ sum_by (λ b. accesses_in b.steps) g.blocks
 
 -- each read is used by a step, a write or the jump; no write gives its variable what the block reads of it, and no two writes are to one variable
 pub record IsTrim (b : CfgBlock) : Type 0 where

@@ -4,8 +4,6 @@
 mod laws;
 mod marks;
 mod numbers;
-#[cfg(test)]
-mod tests;
 mod trimming;
 mod writes;
 

@@ -3,8 +3,6 @@
 
 mod edges;
 mod placing;
-#[cfg(test)]
-mod tests;
 mod timing;
 
 pub use placing::place;

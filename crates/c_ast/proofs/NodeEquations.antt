@@ -32,6 +32,9 @@ expr_name x s = of_expr (expr.Name x) _ s (expr.rolls-Name x) ∙ fold-roll-Expr
 pub expr_element : (x : List ℕ) (es : List Expr) (s : Span) → expr_nodes (expr_at (expr.Element x es) s) ≡ 1 + exprs_nodes es
 expr_element x es s = of_expr (expr.Element x es) _ s (expr.rolls-Element x es) ∙ fold-roll-ExprKind ℕ ℕ expr_step (λ e. e.kind) (layer.Element x es) ∙ ap (λ n. 1 + n) (sum-map expr_nodes es)
 
+pub expr_call : (x : List ℕ) (es : List Expr) (s : Span) → expr_nodes (expr_at (expr.Call x es) s) ≡ 1 + exprs_nodes es
+expr_call x es s = of_expr (expr.Call x es) _ s (expr.rolls-Call x es) ∙ fold-roll-ExprKind ℕ ℕ expr_step (λ e. e.kind) (layer.Call x es) ∙ ap (λ n. 1 + n) (sum-map expr_nodes es)
+
 pub expr_unary : (op : Unary) (e : Expr) (s : Span) → expr_nodes (expr_at (expr.Unary op e) s) ≡ 1 + expr_nodes e
 expr_unary op e s = of_expr (expr.Unary op e) _ s (expr.rolls-Unary op e) ∙ fold-roll-ExprKind ℕ ℕ expr_step (λ e. e.kind) (layer.Unary op e)
 

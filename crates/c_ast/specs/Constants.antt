@@ -32,6 +32,7 @@ abbrev mutual
   NumbersFitKind (expr.Number n t) = IsInRange t (pos n)
   NumbersFitKind (expr.Name x) = Unit {0}
   NumbersFitKind (expr.Element' x n row) = NumbersFitRow row
+  NumbersFitKind (expr.Call' x n row) = NumbersFitRow row
   NumbersFitKind (expr.Unary' op b (more_of-Expr e at end_of-Expr)) = NumbersFitKind e
   NumbersFitKind (expr.Cast' t b (more_of-Expr e at end_of-Expr)) = NumbersFitKind e
   NumbersFitKind (expr.Binary' op b (more_of-Expr e at end_of-Expr) b2 (more_of-Expr e2 at2 end_of-Expr)) = NumbersFitKind e × NumbersFitKind e2

@@ -8,6 +8,8 @@ pub mod Nodes
 pub mod Numerals
 pub mod Pieces
 pub mod Prefixes
+pub mod ProgramCasts
+pub mod Programs
 pub mod ResultTypes
 pub mod Spells
 pub mod Texts

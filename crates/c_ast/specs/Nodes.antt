@@ -7,7 +7,7 @@ use Rattle.c_ast.specs.declared.tree.Target.{Target}
 use Rattle.c_ast.specs.declared.tree.Stmt.{Stmt, fold-Stmt}
 use Rattle.c_ast.specs.declared.tree.StmtKind.TheOpen.{StmtKind-F, Block, Declare, Assign, Step, If, While, DoWhile, For, Break, Continue, Return, Empty}
 use Rattle.c_ast.specs.declared.tree.Expr.{Expr, fold-Expr}
-use Rattle.c_ast.specs.declared.tree.ExprKind.TheOpen.{ExprKind-F, Number, Name, Element, Unary, Cast, Binary, Choose}
+use Rattle.c_ast.specs.declared.tree.ExprKind.TheOpen.{ExprKind-F, Number, Name, Element, Call, Unary, Cast, Binary, Choose}
 use Rattle.c_ast.specs.declared.typed.Typed.{Typed}
 use Rattle.c_ast.specs.declared.typed.TypedTarget.{TypedTarget}
 use Rattle.c_ast.specs.declared.typed.TypedExpr.{TypedExpr}
@@ -24,6 +24,7 @@ abbrev pub expr_step : ExprKind-F ℕ ℕ → ℕ
 expr_step (Number value ty) = 1
 expr_step (Name name) = 1
 expr_step (Element name indices) = 1 + sum indices
+expr_step (Call name args) = 1 + sum args
 expr_step (Unary op arg) = 1 + arg
 expr_step (Cast ty arg) = 1 + arg
 expr_step (Binary op left right) = 1 + left + right

@@ -21,6 +21,8 @@ use Rattle.c_ast.specs.declared.tree.StmtKind as stmt
 pub data Sort : Type 0 where
   a_scalar : Sort
   an_array : ℕ → Sort
+  -- a helper with so many parameters
+  a_helper : ℕ → Sort
 
 -- the names of each scope in force, the innermost scope first
 abbrev pub Names : Type 0
@@ -51,6 +53,14 @@ pub record IsUsable (names : Names) (x : List ℕ) (indices : ℕ) : Type 0 wher
   pub rule_22_scalar_has_none : sort_of names x ≡ Some a_scalar → indices ≡ 0
   pub rule_23_array_has_some : (n : ℕ) → sort_of names x ≡ Some (an_array n) → 0 < indices
   pub rule_24_one_for_each : (n : ℕ) → sort_of names x ≡ Some (an_array n) → 0 < indices → indices ≡ n
+  pub rule_23_no_helper : (n : ℕ) → sort_of names x ≡ Some (a_helper n) → ⊥
+
+-- a name is called with so many arguments
+pub record IsCallable (names : Names) (x : List ℕ) (arguments : ℕ) : Type 0 where
+  pub rule_20_declared : IsSome (sort_of names x)
+  pub rule_17_no_scalar : sort_of names x ≡ Some a_scalar → ⊥
+  pub rule_17_no_array : (n : ℕ) → sort_of names x ≡ Some (an_array n) → ⊥
+  pub rule_29_one_for_each : (n : ℕ) → sort_of names x ≡ Some (a_helper n) → arguments ≡ n
 
 -- 26: a value is returned exactly where there is a result
 abbrev pub IsReturnable : Option Ty → Option Expr → Type 0
@@ -70,6 +80,7 @@ abbrev mutual
   TypingKind names (expr.Number n t) = Unit {0}
   TypingKind names (expr.Name x) = IsUsable names x 0
   TypingKind names (expr.Element' x n row) = IsUsable names x (row_length row) × TypingRow names row
+  TypingKind names (expr.Call' x n row) = IsCallable names x (row_length row) × TypingRow names row
   TypingKind names (expr.Unary' op b (more_of-Expr e at end_of-Expr)) = TypingKind names e
   TypingKind names (expr.Cast' t b (more_of-Expr e at end_of-Expr)) = TypingKind names e
   TypingKind names (expr.Binary' op b (more_of-Expr e at end_of-Expr) b2 (more_of-Expr e2 at2 end_of-Expr)) = TypingKind names e × TypingKind names e2

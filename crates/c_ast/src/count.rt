@@ -11,8 +11,9 @@ ghost use Rattle.c_ast.specs.Nodes.{
   target_nodes,
   tree_nodes,
 };
+ghost use Rattle.c_ast.specs.Programs.{helper_nodes, helpers_nodes, program_nodes};
 
-use crate::tree::{Expr, ExprKind, Param, Stmt, StmtKind, Target, Tree};
+use crate::tree::{Expr, ExprKind, Helper, Param, Program, Stmt, StmtKind, Target, Tree};
 use el_base::Boxed;
 
 /// The number of nodes of a kernel, or 2^64 - 1 where there are more.
@@ -25,6 +26,32 @@ pub fn nodes(tree: &Tree) -> u64
     of_params(tree.params.as_slice())
         .saturating_add(of_stmts(tree.body.as_slice()))
         .saturating_add(2)
+}
+
+/// The number of nodes of a program, or 2^64 - 1 where there are more.
+///
+/// A helper is one node, as are each of its parameters and its block; its `return` is part of it.
+pub fn nodes_program(program: &Program) -> u64
+    ensures { result ≡ min (program_nodes program.now) (2 ^ 64 - 1) }
+{
+    of_helpers(program.helpers.as_slice()).saturating_add(nodes(&program.kernel))
+}
+
+fn of_helpers(helpers: &[Helper]) -> u64
+    ensures { result ≡ min (helpers_nodes helpers.now) (2 ^ 64 - 1) }
+{
+    let mut total: u64 = 0;
+    for helper in helpers {
+        total = total.saturating_add(of_helper(helper));
+    }
+    total
+}
+
+fn of_helper(helper: &Helper) -> u64
+    ensures { result ≡ min (helper_nodes helper.now) (2 ^ 64 - 1) }
+{
+    let block = node(&[of_stmts(helper.body.as_slice()), of_expr(&helper.value)]);
+    node(&[of_params(helper.params.as_slice()), block])
 }
 
 fn of_params(params: &[Param]) -> u64
@@ -140,6 +167,7 @@ fn of_operand(expr: &Expr) -> u64
     match &expr.kind {
         ExprKind::Number { .. } | ExprKind::Name(_) => node(&[]),
         ExprKind::Element { indices, .. } => node(&[of_exprs(indices.as_slice())]),
+        ExprKind::Call { args, .. } => node(&[of_exprs(args.as_slice())]),
         ExprKind::Unary(_, arg) | ExprKind::Cast(_, arg) => node(&[of_expr(arg.get())]),
         ExprKind::Binary(_, left, right) => node(&[of_expr(left.get()), of_expr(right.get())]),
         ExprKind::Choose(cond, then, other) => node(&[

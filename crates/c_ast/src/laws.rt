@@ -42,6 +42,7 @@ pub fn expressions_count_their_parts()
     ensures name { (x : List ℕ) → ExprHas (expr.Name x) 1 }
     ensures element { (x : List ℕ) (es : List Expr)
         → ExprHas (expr.Element x es) (1 + exprs_nodes es) }
+    ensures call { (x : List ℕ) (es : List Expr) → ExprHas (expr.Call x es) (1 + exprs_nodes es) }
     ensures unary { (op : Unary) (e : Expr) → ExprHas (expr.Unary op e) (1 + expr_nodes e) }
     ensures cast { (t : Ty) (e : Expr) → ExprHas (expr.Cast t e) (1 + expr_nodes e) }
     ensures binary { (op : Binary) (a b : Expr)

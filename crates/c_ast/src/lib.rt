@@ -7,11 +7,13 @@ mod key;
 mod laws;
 mod mark;
 mod normal;
+mod program;
+mod results;
 mod token;
 mod tree;
 mod typed;
 
-pub use count::nodes;
+pub use count::{nodes, nodes_program};
 pub use el_base::{Boxed, List, Name, Span, Ty};
 pub use key::Key;
 pub use laws::{
@@ -21,11 +23,14 @@ pub use laws::{
 };
 pub use mark::Mark;
 pub use normal::{Normal, NormalStmt, NormalStmtKind};
+pub use program::{
+    ProgExpr, ProgExprKind, ProgStmt, ProgStmtKind, ProgTarget, ProgTree, TypedHelper, TypedProgram,
+};
+pub use results::{joint_type, promoted, result_type, unary_type, usual};
 pub use token::{Token, Word};
-pub use tree::{Binary, Expr, ExprKind, Param, Stmt, StmtKind, Target, Tree, Unary};
+pub use tree::{
+    Binary, Expr, ExprKind, Helper, Param, Program, Stmt, StmtKind, Target, Tree, Unary,
+};
 pub use typed::{
     ArrayOf, Object, Typed, TypedExpr, TypedExprKind, TypedStmt, TypedStmtKind, TypedTarget,
 };
-
-#[cfg(test)]
-mod tests;

@@ -13,6 +13,24 @@ pub struct Tree {
     pub body: List<Stmt>,
 }
 
+/// A text: helpers in order, and the kernel.
+#[derive(Drop)]
+pub struct Program {
+    pub helpers: List<Helper>,
+    pub kernel: Tree,
+}
+
+/// A helper function: its statements return nothing, and its value is what it returns.
+#[derive(Drop)]
+pub struct Helper {
+    pub name: Name,
+    pub at: Span,
+    pub result: Ty,
+    pub params: List<Param>,
+    pub body: List<Stmt>,
+    pub value: Expr,
+}
+
 /// A parameter of a kernel: an array where it has dimensions.
 #[derive(Drop)]
 pub struct Param {
@@ -116,6 +134,10 @@ impl Drop for Expr {
                     indices.let_go();
                     return;
                 }
+                ExprKind::Call { name: _name, args } => {
+                    args.let_go();
+                    return;
+                }
                 ExprKind::Unary(_op, arg) => self = arg.into_inner(),
                 ExprKind::Cast(_ty, arg) => self = arg.into_inner(),
                 ExprKind::Choose(cond, yes, no) => {
@@ -135,6 +157,8 @@ pub enum ExprKind {
     Number { value: u64, ty: Ty },
     Name(Name),
     Element { name: Name, indices: List<Expr> },
+    /// A call of a helper (ISO/IEC 9899:1999 6.5.2.2).
+    Call { name: Name, args: List<Expr> },
     Unary(Unary, Boxed<Expr>),
     Cast(Ty, Boxed<Expr>),
     Binary(Binary, Boxed<Expr>, Boxed<Expr>),

@@ -13,6 +13,3 @@ mod turn;
 
 pub use lexer::{end_of, lex, texts_have_one_reading};
 pub use refusal::LexRefusal;
-
-#[cfg(test)]
-mod tests;

@@ -10,7 +10,7 @@ use Rattle.el_base.specs.declared.ty.Ty.{Ty}
 use Rattle.c_ast.specs.declared.tree.Param.{Param}
 use Rattle.c_ast.specs.declared.tree.StmtKind.{StmtKind, Row_of-Stmt, end_of-Stmt, more_of-Stmt, Held-StmtKind-If-2}
 use Rattle.c_ast.specs.declared.tree.StmtKind as raw_stmt
-use Rattle.c_ast.specs.Typing.{Sort, Names, a_scalar, sort_of, with_name, IsUsable, names_after, names_after_row, sort_of_dims, scope_of}
+use Rattle.c_ast.specs.Typing.{Sort, Names, a_scalar, sort_of, with_name, IsUsable, IsCallable, names_after, names_after_row, sort_of_dims, scope_of}
 use Rattle.c_ast.specs.Typing as typing
 use Rattle.c_ast.specs.Casts.{Declared, a_var, an_array, Scope, Context, declared_as, into_innermost, with_var, opened, closed, Parameters, with_param, with_params, first_context}
 use Rattle.c_meaning.proofs.Elaboration.{cast_stmt, cast_held, cast_stmts}
@@ -66,6 +66,15 @@ used (Some (an_array k t ds)) p n e some s a d = (a (length ds) e, d (length ds)
 
 pub usable : (c : Context) (x : List ℕ) (n : ℕ) → IsUsable (sorts_of c) x n → UsedAs n (declared_as c x)
 usable c x n h = used (declared_as c x) (sort_of (sorts_of c) x) n (sort_is c x) h.rule_20_declared h.rule_22_scalar_has_none h.rule_23_array_has_some h.rule_24_one_for_each
+
+-- no helper is in scope there, so nothing can be called
+uncallable_as : (o : Option Declared) (p : Option Sort) → p ≡ option_map sort_as o → IsSome p → (p ≡ Some a_scalar → ⊥) → ((m : ℕ) → p ≡ Some (typing.an_array m) → ⊥) → ⊥
+uncallable_as None p e some s a = false≢true (subst IsSome e some)
+uncallable_as (Some (a_var v t)) p e some s a = s e
+uncallable_as (Some (an_array k t ds)) p e some s a = a (length ds) e
+
+pub uncallable : (c : Context) (x : List ℕ) (n : ℕ) → IsCallable (sorts_of c) x n → ⊥
+uncallable c x n h = uncallable_as (declared_as c x) (sort_of (sorts_of c) x) (sort_is c x) h.rule_20_declared h.rule_17_no_scalar h.rule_17_no_array
 
 -- ---- after a statement
 

@@ -60,6 +60,7 @@ abbrev mutual
   cast_kind c (raw.Number n t) s = of_type (typed.Number n) t s
   cast_kind c (raw.Name x) s = name_as (declared_as c x) s
   cast_kind c (raw.Element' x n row) s = element_as (declared_as c x) (cast_row c row) s
+  cast_kind c (raw.Call' x n row) s = no_expr s
   cast_kind c (raw.Unary' op b (more_of-Expr e at end_of-Expr)) s = unary_as op (cast_kind c e at) s
   cast_kind c (raw.Cast' t b (more_of-Expr e at end_of-Expr)) s = of_type (typed.Cast false (cast_kind c e at)) t s
   cast_kind c (raw.Binary' op b (more_of-Expr e at end_of-Expr) b2 (more_of-Expr e2 at2 end_of-Expr)) s = binary_as op (cast_kind c e at) (cast_kind c e2 at2) s

@@ -23,7 +23,7 @@ use Rattle.c_ast.specs.Typing.{Names, IsReturnable, TypingKind, TypingRow, Typin
 use Rattle.c_ast.specs.Casts.{Declared, a_var, an_array, Context, declared_as, with_var, opened, closed, CastsExpr, CastsExprs, CastsTarget, CastsOption, expr_at, CastsStmt, CastsHeld, CastsStmts, stmt_at, act_at, first_context, Casts}
 use Rattle.c_ast.specs.Casts as casts
 use Rattle.c_meaning.proofs.Elaboration.{name_as, element_as, cast_kind, cast_row, cast_expr, cast_exprs, cast_option, target_as, cast_target, value_as, return_as, cast_stmt, cast_held, cast_stmts, cast_body, cast_tree}
-use Rattle.c_meaning.proofs.Contexts.{sorts_in, sorts_of, UsedAs, usable, with_name_is, held_scopes, names_after_is, names_after_row_is, first_names}
+use Rattle.c_meaning.proofs.Contexts.{sorts_in, sorts_of, UsedAs, usable, uncallable, with_name_is, held_scopes, names_after_is, names_after_row_is, first_names}
 use Rattle.c_meaning.proofs.TreeShapes.{exprs_of, stmts_of, element_is, block_is, held_of, if_is, for_is, items_are}
 
 -- ---- lists
@@ -68,6 +68,7 @@ mutual
       subst (λ k. CastsExpr c (record { kind = k; at = s }) (element_as (declared_as c x) (cast_row c row) s)) (element_is x n row)
       (element_casts c x s (exprs_of row) (cast_row c row) (declared_as c x) refl
       (subst (λ m. UsedAs m (declared_as c x)) (row_length_is row) (usable c x (row_length row) h.0)) (row_casts c row h.1))
+  kind_casts c (raw.Call' x n row) s h = absurd (uncallable c x (row_length row) h.0)
   kind_casts c (raw.Unary' op b (more_of-Expr e at end_of-Expr)) s h = casts.unary c op (record { kind = e; at = at }) (cast_kind c e at) s (kind_casts c e at h)
   kind_casts c (raw.Cast' t b (more_of-Expr e at end_of-Expr)) s h = casts.cast c t (record { kind = e; at = at }) (cast_kind c e at) s (kind_casts c e at h)
   kind_casts c (raw.Binary' op b (more_of-Expr e at end_of-Expr) b2 (more_of-Expr e2 at2 end_of-Expr)) s h =

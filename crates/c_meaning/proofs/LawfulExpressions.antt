@@ -25,7 +25,7 @@ use Rattle.c_ast.specs.Constants.{NumbersFitKind, NumbersFitRow, NumbersFitExpr,
 use Rattle.c_ast.specs.Casts.{Declared, a_var, an_array, Scope, Context, declared_as, into_innermost, same_type, of_type, converted, left_type, right_type}
 use Rattle.c_meaning.specs.Lawful.{is_implied, IsElement, IsVar, AreOperands, AreSides, row_length, LawfulRow, LawfulExpr, LawfulOption, LawfulTarget}
 use Rattle.c_meaning.proofs.Elaboration.{name_as, element_as, unary_as, binary_as, choose_as, cast_kind, cast_row, cast_expr, cast_exprs, cast_option, target_as, cast_target}
-use Rattle.c_meaning.proofs.Contexts.{sorts_of, UsedAs, usable}
+use Rattle.c_meaning.proofs.Contexts.{sorts_of, UsedAs, usable, uncallable}
 use Rattle.c_meaning.proofs.Existence.{all_head, all_tail, not_below_zero}
 use Rattle.c_meaning.proofs.TypeLemmas.{promoted_twice, usual_self, operands_are, converted_type}
 
@@ -191,6 +191,7 @@ mutual
   kind_lawful k c v (raw.Element' x n row) s h f =
       element_lawful k s (cast_row c row) (declared_as c x) (subst (λ m. UsedAs m (declared_as c x)) (cast_row_length c row) (usable c x (tree_row_length row) h.0)) (v.means x)
       (exprs_lawful k c v row h.1 f)
+  kind_lawful k c v (raw.Call' x n row) s h f = absurd (uncallable c x (tree_row_length row) h.0)
   kind_lawful k c v (raw.Unary' op b (more_of-Expr e at end_of-Expr)) s h f = unary_lawful k op (cast_kind c e at) s (kind_lawful k c v e at h f)
   kind_lawful k c v (raw.Cast' t b (more_of-Expr e at end_of-Expr)) s h f = cast_lawful k (cast_kind c e at) t s (kind_lawful k c v e at h f).lawful
   kind_lawful k c v (raw.Binary' op b (more_of-Expr e at end_of-Expr) b2 (more_of-Expr e2 at2 end_of-Expr)) s h f =

@@ -35,3 +35,4 @@ pub mod WorkedNumbers
 pub mod WorkedOrder
 pub mod WorkedResults
 pub mod WorkedTrees
+pub mod WorkedTurns

@@ -4,7 +4,7 @@ use denote.Hole.Carrier.{hidden}
 use Rattle.c_ast.specs.declared.typed.TypedExprKind.TheBlock.{shape-the_row-TypedExpr-0, hidden-the_row-TypedExpr-0, shape-the_row-TypedExpr-1, hidden-the_row-TypedExpr-1}
 use Rattle.c_ast.specs.declared.typed.TypedStmtKind.TheBlock.{shape-the_row-TypedStmt-0, hidden-the_row-TypedStmt-0, shape-the_row-TypedStmt-1, hidden-the_row-TypedStmt-1}
 use Rattle.c_ast.specs.declared.normal.NormalStmtKind.TheBlock.{shape-the_row-NormalStmt-0, hidden-the_row-NormalStmt-0, shape-the_row-NormalStmt-1, hidden-the_row-NormalStmt-1}
-use Rattle.c_meaning.specs.Worked.{LeftOperandFirst, RightOperandNext, OperatorLast, IndicesFirst, FirstIndexFirst, ElementOutside, TargetIndicesFirst, TargetBeforeValue, ValueAfterTarget, OldValueFirst, ValueAfterOld, CompoundOperatorLast, CompoundIndicesFirst, CompoundTargetOutside, StepOverflows, StepOfUnset, LeftSideFirst, RightSideUnneeded, OneSideOfChoice, EndOfKernel, UndefinedBeforeTurns, PartIsABlock}
+use Rattle.c_meaning.specs.Worked.{LeftOperandFirst, RightOperandNext, OperatorLast, IndicesFirst, FirstIndexFirst, ElementOutside, TargetIndicesFirst, TargetBeforeValue, ValueAfterTarget, OldValueFirst, ValueAfterOld, CompoundOperatorLast, CompoundIndicesFirst, CompoundTargetOutside, StepOverflows, StepOfUnset, LeftSideFirst, RightSideUnneeded, OneSideOfChoice, EndOfKernel, UndefinedBeforeTurns, PartIsABlock, FirstPartIsAScope}
 
 pub left_operand_first : LeftOperandFirst
 unfolding shape-the_row-TypedExpr-0 hidden-the_row-TypedExpr-0 shape-the_row-TypedExpr-1 hidden-the_row-TypedExpr-1 shape-the_row-TypedStmt-0 hidden-the_row-TypedStmt-0 shape-the_row-TypedStmt-1 hidden-the_row-TypedStmt-1 shape-the_row-NormalStmt-0 hidden-the_row-NormalStmt-0 shape-the_row-NormalStmt-1 hidden-the_row-NormalStmt-1 hidden
@@ -93,3 +93,7 @@ undefined_before_turns = refl
 pub part_is_a_block : PartIsABlock
 unfolding shape-the_row-TypedExpr-0 hidden-the_row-TypedExpr-0 shape-the_row-TypedExpr-1 hidden-the_row-TypedExpr-1 shape-the_row-TypedStmt-0 hidden-the_row-TypedStmt-0 shape-the_row-TypedStmt-1 hidden-the_row-TypedStmt-1 shape-the_row-NormalStmt-0 hidden-the_row-NormalStmt-0 shape-the_row-NormalStmt-1 hidden-the_row-NormalStmt-1 hidden
 part_is_a_block = refl
+
+pub first_part_is_a_scope : FirstPartIsAScope
+unfolding shape-the_row-TypedExpr-0 hidden-the_row-TypedExpr-0 shape-the_row-TypedExpr-1 hidden-the_row-TypedExpr-1 shape-the_row-TypedStmt-0 hidden-the_row-TypedStmt-0 shape-the_row-TypedStmt-1 hidden-the_row-TypedStmt-1 shape-the_row-NormalStmt-0 hidden-the_row-NormalStmt-0 shape-the_row-NormalStmt-1 hidden-the_row-NormalStmt-1 hidden
+first_part_is_a_scope = refl

@@ -117,6 +117,7 @@ name_usable = record {
   rule_22_scalar_has_none = λ e. refl;
   rule_23_array_has_some = λ n e. cc;
   rule_24_one_for_each = λ n e l. absurd (omega arith);
+  rule_23_no_helper = λ n e. cc;
 }
 
 tree_typing : Typing tree

@@ -1,5 +1,5 @@
 -- Kernels and normal forms written as trees, each node at a place of its own, and what is known of them by computation.
-use Rattle.std.specs.Prelude.{◌≡◌, ℕ, ◌+◌, List, [], ◌∷◌, codes, replicate, pos, negsuc, ℤ, true, false, Option, Some, None}
+use Rattle.std.specs.Prelude.{◌≡◌, ℕ, ◌+◌, List, [], ◌∷◌, ◌++◌, codes, replicate, pos, negsuc, ℤ, true, false, Option, Some, None}
 use Rattle.el_base.specs.declared.ty.Ty.{Ty}
 use Rattle.el_base.specs.declared.ty.Ty.TheVariants.{U8, I32, U32, I64}
 use Rattle.el_base.specs.declared.span.Span.{Span}
@@ -27,7 +27,7 @@ use Rattle.c_meaning.specs.Statements.{first, Ends}
 use Rattle.c_meaning.specs.Normals.{normal_objects}
 use Rattle.c_meaning.specs.Counts.{NormalCosts}
 use Rattle.c_meaning.specs.Quiet.{Quiet}
-use Rattle.c_meaning.specs.Lawful.{LawfulExpr, LawfulNormalExpr, LawfulNormalStmt}
+use Rattle.c_meaning.specs.Lawful.{LawfulExpr, LawfulStmt, LawfulNormalExpr, LawfulNormalStmt}
 
 -- ---- trees
 
@@ -69,9 +69,12 @@ arrays = record { name = codes "a"; ty = I32; dims = 4 ∷ 4 ∷ [] } ∷ []
 abbrev pub kernel_of : Option Ty → List TypedStmt → Typed
 kernel_of r body = record { name = codes "f"; at = place 0; result = r; params = params; vars = I32 ∷ I32 ∷ I32 ∷ []; arrays = arrays; body = body }
 
+abbrev pub zeros : ℕ → List ℤ
+zeros n = replicate n (pos 0)
+
 -- n, and zeros
 abbrev pub given : ℤ → Inputs
-given n = record { scalars = n ∷ []; arrays = replicate 16 (pos 0) ∷ [] }
+given n = record { scalars = n ∷ []; arrays = zeros 16 ∷ [] }
 
 abbrev pub greatest_number : ℤ
 greatest_number = pos 2147483647
@@ -178,6 +181,38 @@ PartIsABlock =
     ∷ s_at 18 (stmt.Step (to_var 19 0) false) ∷ []))))
     ∷ []) ≡ Some (place 16)
 
+-- while (1) { for (int32_t u = n ? u : 1; ; ) break; n = 1; } from n = 0: a for is a scope of its own, so in the second round u is unset again
+abbrev pub FirstPartIsAScope : Type 0
+FirstPartIsAScope =
+    first (kernel_of None (s_at 3 (stmt.While (number_at 7 1) (s_at 8 (stmt.Block
+    (s_at 9 (stmt.For (s_at 11 (stmt.Declare 1 (Some (e_at 12 I32 (expr.Choose (var_at 13 0) (var_at 14 1) (number_at 15 1))))) ∷ []) None None (s_at 16 stmt.Break))
+    ∷ s_at 18 (stmt.Assign (to_var 19 0) None (number_at 20 1)) ∷ []))))
+    ∷ [])) Plain (given (pos 0)) 40 ≡ Some (place 14)
+
+-- ---- turns: a void kernel of one statement, with n = 1 and an array of zeros, takes three of them: two are those of its block and of the statement
+
+abbrev pub takes_three : TypedStmtKind → List ℤ → Type 0
+takes_three s elements = Ends (kernel_of None (s_at 3 s ∷ [])) Plain (given (pos 1)) (elements ∷ []) None 3
+
+abbrev pub n_and_one : TypedExpr
+n_and_one = two_at 11 op.Both (var_at 12 0) (number_at 13 1)
+
+-- a[n && 1][0] = 1
+abbrev pub TurnInATarget : Type 0
+TurnInATarget = takes_three (stmt.Assign (to_element 10 n_and_one (number_at 14 0)) None (number_at 15 1)) (zeros 4 ++ pos 1 ∷ zeros 11)
+
+-- n = 1 + (n && 1)
+abbrev pub TurnInAnOperand : Type 0
+TurnInAnOperand = takes_three (stmt.Assign (to_var 4 0) None (two_at 10 op.Add (number_at 14 1) n_and_one)) (zeros 16)
+
+-- n = a[n && 1][0]
+abbrev pub TurnInAnIndex : Type 0
+TurnInAnIndex = takes_three (stmt.Assign (to_var 4 0) None (element_of 10 n_and_one (number_at 14 0))) (zeros 16)
+
+-- do break; while (1);
+abbrev pub NoConditionAfterBreak : Type 0
+NoConditionAfterBreak = takes_three (stmt.DoWhile (s_at 10 stmt.Break) (number_at 11 1)) (zeros 16)
+
 -- ---- compound assignments: the old value is converted to the joint type, the result to that of the target
 
 abbrev pub gives_after : Ty → ℤ → Binary → Ty → ℕ → ℤ → Type 0
@@ -209,7 +244,7 @@ ShiftIsOfTheLeft = gives_after U8 (pos 255) op.Shl I64 1 (pos 254)
 -- ---- wrapping: n + 1 and -n << 1 of the greatest and the least number, and -2147483648 / -1, which stays undefined
 
 abbrev pub wraps_to : TypedExpr → ℤ → ℤ → Type 0
-wraps_to e n z = Ends (kernel_of (Some I32) (s_at 3 (stmt.Return (Some e)) ∷ [])) Wrap (given n) (replicate 16 (pos 0) ∷ []) (Some z) 2
+wraps_to e n z = Ends (kernel_of (Some I32) (s_at 3 (stmt.Return (Some e)) ∷ [])) Wrap (given n) (zeros 16 ∷ []) (Some z) 2
 
 abbrev pub SumWraps : Type 0
 SumWraps = wraps_to (two_at 10 op.Add (var_at 11 0) (number_at 12 1)) greatest_number (negsuc 2147483647)
@@ -317,12 +352,15 @@ kept p = normal_objects p (form_of [])
 abbrev pub StackedCasts : Type 0
 StackedCasts = (p : Profile) → LawfulExpr (kept p) (e_at 10 I32 (expr.Cast true (e_at 11 I32 (expr.Cast true (number_at 12 1))))) → ⊥
 
--- n && a[1][2], and n ? a[1][2] : 0; a[1][2] ? n : 0 is lawful
+-- n && a[1][2], n ? a[1][2] : 0 and n ? 0 : a[1][2]; a[1][2] ? n : 0 is lawful
 abbrev pub ReadInASide : Type 0
 ReadInASide = (p : Profile) → LawfulNormalExpr (kept p) (two_at 10 op.Both (var_at 11 0) (element_of 12 (number_at 13 1) (number_at 14 2))) → ⊥
 
 abbrev pub ReadInASecondPart : Type 0
 ReadInASecondPart = (p : Profile) → LawfulNormalExpr (kept p) (e_at 10 I32 (expr.Choose (var_at 11 0) (element_of 12 (number_at 13 1) (number_at 14 2)) (number_at 15 0))) → ⊥
+
+abbrev pub ReadInAThirdPart : Type 0
+ReadInAThirdPart = (p : Profile) → LawfulNormalExpr (kept p) (e_at 10 I32 (expr.Choose (var_at 11 0) (number_at 15 0) (element_of 12 (number_at 13 1) (number_at 14 2)))) → ⊥
 
 abbrev pub ReadInAFirstPart : Type 0
 ReadInAFirstPart = (p : Profile) → LawfulNormalExpr (kept p) (e_at 10 I32 (expr.Choose (element_of 12 (number_at 13 1) (number_at 14 2)) (var_at 11 0) (number_at 15 0)))
@@ -331,6 +369,19 @@ ReadInAFirstPart = (p : Profile) → LawfulNormalExpr (kept p) (e_at 10 I32 (exp
 abbrev pub BeforeNothing : Type 0
 BeforeNothing = (p : Profile) → LawfulNormalStmt (kept p) None false (normal.For [] (n_at 6 (sets 1 (number_at 7 1)) ∷ []) None None empty) → ⊥
 
--- while (return; n) ;
+-- while (return; n) ; and do ; while (return; n); and for (; return; n; ) ;
 abbrev pub ReturnBefore : Type 0
 ReturnBefore = Quiet true (normal.While (n_at 6 (normal.Return None) ∷ []) (var_at 10 0) empty) → ⊥
+
+abbrev pub ReturnBeforeDo : Type 0
+ReturnBeforeDo = Quiet true (normal.DoWhile empty (n_at 6 (normal.Return None) ∷ []) (var_at 10 0)) → ⊥
+
+abbrev pub ReturnBeforeFor : Type 0
+ReturnBeforeFor = Quiet true (normal.For [] (n_at 6 (normal.Return None) ∷ []) (Some (var_at 10 0)) None empty) → ⊥
+
+-- break; in no loop, of a typed tree and of a normal form
+abbrev pub BreakOutside : Type 0
+BreakOutside = (p : Profile) → LawfulStmt (kept p) None false stmt.Break → ⊥
+
+abbrev pub NormalBreakOutside : Type 0
+NormalBreakOutside = (p : Profile) → LawfulNormalStmt (kept p) None false normal.Break → ⊥

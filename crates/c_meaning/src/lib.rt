@@ -9,8 +9,6 @@ pub mod profile_laws;
 pub mod range_laws;
 pub mod read_laws;
 pub mod size_laws;
-#[cfg(test)]
-mod tests;
 pub mod worked_laws;
 
 pub use profile::Profile;

@@ -1,8 +1,9 @@
 //! Worked trees: what the definitions give for each, by computation.
-ghost use Rattle.c_meaning.specs.Worked.{LeftOperandFirst, RightOperandNext, OperatorLast, IndicesFirst, FirstIndexFirst, ElementOutside, TargetIndicesFirst, TargetBeforeValue, ValueAfterTarget, OldValueFirst, ValueAfterOld, CompoundOperatorLast, CompoundIndicesFirst, CompoundTargetOutside, StepOverflows, StepOfUnset, LeftSideFirst, RightSideUnneeded, OneSideOfChoice, EndOfKernel, UndefinedBeforeTurns, PartIsABlock};
+ghost use Rattle.c_meaning.specs.Worked.{LeftOperandFirst, RightOperandNext, OperatorLast, IndicesFirst, FirstIndexFirst, ElementOutside, TargetIndicesFirst, TargetBeforeValue, ValueAfterTarget, OldValueFirst, ValueAfterOld, CompoundOperatorLast, CompoundIndicesFirst, CompoundTargetOutside, StepOverflows, StepOfUnset, LeftSideFirst, RightSideUnneeded, OneSideOfChoice, EndOfKernel, UndefinedBeforeTurns, PartIsABlock, FirstPartIsAScope};
+ghost use Rattle.c_meaning.specs.Worked.{TurnInATarget, TurnInAnOperand, TurnInAnIndex, NoConditionAfterBreak};
 ghost use Rattle.c_meaning.specs.Worked.{OldValueIsConverted, ResultIsConverted, ShiftIsOfTheLeft, SumWraps, NegativeShiftWraps, QuotientStaysUndefined};
 ghost use Rattle.c_meaning.specs.Worked.{ShiftCosts, RightShiftCosts, SumCosts, BothCosts, EitherCosts, ChoiceCosts, CastCosts, ElementCosts, TargetCosts, DeclarationCosts, IfCosts, ForCosts, DoCosts, BreakCosts, ContinueCosts, AbsentConditionCosts, ReturnCosts};
-ghost use Rattle.c_meaning.specs.Worked.{StackedCasts, ReadInASide, ReadInASecondPart, ReadInAFirstPart, BeforeNothing, ReturnBefore};
+ghost use Rattle.c_meaning.specs.Worked.{StackedCasts, ReadInASide, ReadInASecondPart, ReadInAThirdPart, ReadInAFirstPart, BeforeNothing, ReturnBefore, ReturnBeforeDo, ReturnBeforeFor, BreakOutside, NormalBreakOutside};
 
 /// The order of evaluation: which operation of an expression or statement is the first undefined one.
 pub fn operations_are_ordered()
@@ -28,6 +29,15 @@ pub fn operations_are_ordered()
     ensures end_of_kernel { EndOfKernel }
     ensures turns { UndefinedBeforeTurns }
     ensures parts { PartIsABlock }
+    ensures first_part { FirstPartIsAScope }
+{}
+
+/// The turns of whole kernels: `&&` takes one wherever it stands, and after `break` no condition is evaluated.
+pub fn turns_are_worked()
+    ensures target { TurnInATarget }
+    ensures operand { TurnInAnOperand }
+    ensures index { TurnInAnIndex }
+    ensures leaving { NoConditionAfterBreak }
 {}
 
 /// A compound assignment converts its old value and its result; under `Wrap` a sum and a shift wrap, and a quotient does not.
@@ -66,7 +76,12 @@ pub fn unlawful_trees_are_refused()
     ensures casts { StackedCasts }
     ensures sides { ReadInASide }
     ensures parts { ReadInASecondPart }
+    ensures third_part { ReadInAThirdPart }
     ensures first_part { ReadInAFirstPart }
     ensures absent_condition { BeforeNothing }
     ensures returning { ReturnBefore }
+    ensures returning_in_do { ReturnBeforeDo }
+    ensures returning_in_for { ReturnBeforeFor }
+    ensures leaving { BreakOutside }
+    ensures normal_leaving { NormalBreakOutside }
 {}

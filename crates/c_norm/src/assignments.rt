@@ -11,9 +11,10 @@ ghost use Rattle.c_norm.specs.Forms.{object_kind, cast_to, new_value, target_wit
 
 use crate::expand::{decided_by, expand, expand_all};
 use crate::settings::{fresh, put, setting};
-use crate::types::{joint_type, object_type, result_type};
+use crate::types::object_type;
 use c_ast::{
     Binary, NormalStmt, NormalStmtKind, Object, Typed, TypedExpr, TypedExprKind, TypedTarget,
+    joint_type, result_type,
 };
 use el_base::{Boxed, List, Memory, Span, Ty};
 use std::alloc::Global;

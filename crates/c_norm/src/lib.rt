@@ -8,8 +8,6 @@ mod forms;
 mod kernel;
 pub mod laws;
 mod settings;
-#[cfg(test)]
-mod tests;
 mod types;
 
 pub use kernel::normal;

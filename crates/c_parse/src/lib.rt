@@ -11,8 +11,6 @@ mod params;
 mod refusal;
 mod simple;
 mod stmt;
-#[cfg(test)]
-mod tests;
 mod types;
 
 pub use kernel::{parse, tokens_have_one_tree, trees_have_the_numbers_of_their_tokens};

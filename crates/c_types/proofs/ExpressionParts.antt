@@ -1,5 +1,5 @@
 -- The parts of an expression or target that keeps the typing rules keep them, and its name is declared as it is used.
-use Rattle.std.proofs.Common.{◌≡◌, ℕ, ◌<◌, true, false, List, length, All, Option, Some, None, IsSome, sym, ap, subst, ◌∙◌, get_or}
+use Rattle.std.proofs.Common.{◌≡◌, ℕ, ◌<◌, true, false, List, length, All, Option, Some, None, IsSome, refl, sym, ap, subst, ◌∙◌, get_or}
 use Rattle.std.specs.Prelude.{IfSome, option_map}
 use Rattle.std.proofs.lemmas.List.Elements.{All-weaker, All-get_or}
 use Rattle.el_base.specs.declared.ty.Ty.{Ty}
@@ -8,7 +8,7 @@ use Rattle.c_ast.specs.declared.tree.Binary.{Binary}
 use Rattle.c_ast.specs.declared.tree.Expr.{Expr}
 use Rattle.c_ast.specs.declared.tree.ExprKind.{ExprKind}
 use Rattle.c_ast.specs.declared.tree.ExprKind.TheVariants as expr
-use Rattle.c_ast.specs.Typing.{sort_of, IsUsable, TypingKind, TypingExpr}
+use Rattle.c_ast.specs.Typing.{sort_of, IsUsable, IsCallable, TypingKind, TypingExpr}
 use Rattle.c_ast.specs.declared.typed.Object.{Object}
 use Rattle.c_ast.specs.declared.typed.Object.TheVariants as object
 use Rattle.c_types.specs.declared.known.Binding.{Binding}
@@ -17,7 +17,7 @@ use Rattle.c_types.specs.Scopes.{declared_in, scopes_by}
 use Rattle.c_types.specs.Contexts.{Bindings, declared_by, IsObject, a_variable, an_element}
 use Rattle.c_types.specs.TypingParts.{sort_as, names_in, TypingUseIn, TypingExprIn}
 use Rattle.c_types.proofs.Renamed.{found-scopes_by}
-use Rattle.c_types.proofs.TypingRows.{used_element, in_element, in_unary, in_cast, in_binary, in_choice}
+use Rattle.c_types.proofs.TypingRows.{used_element, used_call, in_element, in_unary, in_cast, in_binary, in_choice}
 
 -- ---- names
 
@@ -51,6 +51,15 @@ kind_typing v e k h is = subst (TypingKind (names_in h.dims v)) is h.typing
 pub element_use : (v : Bindings) (e : Expr) (x : List ℕ) (es : List Expr) (n : ℕ) → TypingExprIn v e → e.kind ≡ expr.Element x es → n ≡ length es → TypingUseIn v x n
 element_use v e x es n h is long =
     record { dims = h.dims; usable = subst (IsUsable (names_in h.dims v) x) (sym long) (used_element (names_in h.dims v) x es (kind_typing v e (expr.Element x es) h is)) }
+
+-- no helper is in scope
+uncalled : (dims : ℕ → List ℕ) (v : Bindings) (x : List ℕ) (n : ℕ) (r : Option Binding) → declared_in v x ≡ r → IsCallable (names_in dims v) x n → ⊥
+uncalled dims v x n None is h = let k = subst IsSome (sort_is dims v x None is) h.rule_20_declared in cc
+uncalled dims v x n (Some (binding.Var i t)) is h = h.rule_17_no_scalar (sort_is dims v x (Some (binding.Var i t)) is)
+uncalled dims v x n (Some (binding.Array i t)) is h = h.rule_17_no_array (length (dims i)) (sort_is dims v x (Some (binding.Array i t)) is)
+
+pub no_call : (v : Bindings) (e : Expr) (x : List ℕ) (es : List Expr) → TypingExprIn v e → e.kind ≡ expr.Call x es → ⊥
+no_call v e x es h is = uncalled h.dims v x (length es) (declared_in v x) refl (used_call (names_in h.dims v) x es (kind_typing v e (expr.Call x es) h is))
 
 pub all_parts : (dims : ℕ → List ℕ) (v : Bindings) (es us : List Expr) → us ≡ es → All (TypingExpr (names_in dims v)) es → All (TypingExprIn v) us
 all_parts dims v es us same h =

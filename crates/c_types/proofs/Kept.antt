@@ -19,7 +19,7 @@ use Rattle.c_ast.specs.declared.tree.Stmt.{Stmt}
 use Rattle.c_ast.specs.declared.tree.StmtKind.{StmtKind, Row_of-Stmt, end_of-Stmt, more_of-Stmt, Held-StmtKind-If-2}
 use Rattle.c_ast.specs.declared.tree.StmtKind as stmt
 use Rattle.c_ast.specs.Typing as typing
-use Rattle.c_ast.specs.Typing.{Names, a_scalar, an_array, sort_in, sort_of, with_name, IsNew, IsUsable, IsReturnable, row_length, TypingKind, TypingRow, TypingExpr, TypingOption, TypingTarget, names_after, names_after_row, TypingStmt, TypingHeld, TypingStmts, TypingList, elements_of, IsParameter, TypingParams, scope_of, Typing}
+use Rattle.c_ast.specs.Typing.{Names, a_scalar, an_array, sort_in, sort_of, with_name, IsNew, IsUsable, IsCallable, a_helper, IsReturnable, row_length, TypingKind, TypingRow, TypingExpr, TypingOption, TypingTarget, names_after, names_after_row, TypingStmt, TypingHeld, TypingStmts, TypingList, elements_of, IsParameter, TypingParams, scope_of, Typing}
 use Rattle.c_types.specs.declared.fault.Rule.{Rule}
 use Rattle.c_types.specs.declared.fault.Rule.TheVariants as rule
 use Rattle.c_types.specs.declared.fault.Fault.{Fault}
@@ -28,7 +28,7 @@ use Rattle.c_types.specs.declared.sort.Sort.TheVariants as sort
 use Rattle.c_types.specs.Places.{first_bytes}
 use Rattle.c_types.specs.Scopes.{declared_in, is_new_in, with_entry, scope_by, scopes_by}
 use Rattle.c_types.proofs.Renamed.{lookup-scope_by, found-scopes_by, none_by, by_none}
-use Rattle.c_types.specs.Faults.{Sorts, broken_by_use, if_broken, use_faults, kind_faults, row_faults, expr_faults, exprs_faults, option_faults, target_faults, unless, is_returnable, sorts_after, sorts_after_row, act_faults, held_faults, acts_faults, stmt_faults, stmts_faults, sort_of_dims, param_faults, params_faults, sorts_after_params, tree_faults}
+use Rattle.c_types.specs.Faults.{Sorts, broken_by_use, broken_by_call, call_faults, if_broken, use_faults, kind_faults, row_faults, expr_faults, exprs_faults, option_faults, target_faults, unless, is_returnable, sorts_after, sorts_after_row, act_faults, held_faults, acts_faults, stmt_faults, stmts_faults, sort_of_dims, param_faults, params_faults, sorts_after_params, tree_faults}
 use Rattle.c_types.proofs.Lookups.{same_name}
 
 -- ---- lists without items
@@ -70,6 +70,7 @@ both_false a b h h2 = rw (h, h2) refl
 abbrev pub sort_for : Sort → typing.Sort
 sort_for sort.Scalar = a_scalar
 sort_for (sort.Array n) = an_array n
+sort_for (sort.Helper n) = a_helper n
 
 abbrev pub scope_for : List (List ℕ × Sort) → List (List ℕ × typing.Sort)
 scope_for s = scope_by sort_for s
@@ -113,6 +114,7 @@ usable names x (Some sort.Scalar) n is h = by (nat_eq n 0) refl
       rule_22_scalar_has_none = λ s. equal n 0 e;
       rule_23_array_has_some = λ m s. absurd (cc);
       rule_24_one_for_each = λ m s lt. absurd (cc);
+      rule_23_no_helper = λ m s. cc;
     }
     by false e = let k = rw e at h in absurd (cc)
 usable names x (Some (sort.Array d)) n is h = by (nat_eq n 0) (nat_eq n d) refl refl
@@ -125,7 +127,9 @@ usable names x (Some (sort.Array d)) n is h = by (nat_eq n 0) (nat_eq n d) refl 
       rule_22_scalar_has_none = λ s. absurd (cc);
       rule_23_array_has_some = λ m s. (let ne : n ≢ 0 = unequal n 0 e in omega arith);
       rule_24_one_for_each = λ m s lt. (let d_is : d ≡ m = cc in equal n d e2 ∙ d_is);
+      rule_23_no_helper = λ m s. cc;
     }
+usable names x (Some (sort.Helper d)) n is h = absurd (cc)
 
 unbroken : (names : Names) (x : List ℕ) (r : Option Sort) (n : ℕ) → sort_of names x ≡ option_map sort_for r → IsUsable names x n → broken_by_use r n ≡ None
 unbroken names x None n is u = let h : false ≡ true = subst IsSome is u.rule_20_declared in absurd (cc)
@@ -138,6 +142,28 @@ unbroken names x (Some (sort.Array d)) n is u = by (nat_eq n 0) refl
     by : (b : Bool) → nat_eq n 0 ≡ b → broken_by_use (Some (sort.Array d)) n ≡ None
     by true e = let z : n ≡ 0 = equal n 0 e in absurd (omega (arith, some))
     by false e = rw (e, equal_is n d (u.rule_24_one_for_each d is some)) refl
+unbroken names x (Some (sort.Helper d)) n is u = absurd (u.rule_23_no_helper d is)
+
+callable : (names : Names) (x : List ℕ) (r : Option Sort) (n : ℕ) → sort_of names x ≡ option_map sort_for r → broken_by_call r n ≡ None → IsCallable names x n
+callable names x None n is h = absurd (cc)
+callable names x (Some sort.Scalar) n is h = absurd (cc)
+callable names x (Some (sort.Array d)) n is h = absurd (cc)
+callable names x (Some (sort.Helper d)) n is h = by (nat_eq n d) refl
+  where
+    by : (b : Bool) → nat_eq n d ≡ b → IsCallable names x n
+    by true e = record {
+      rule_20_declared = subst IsSome (sym is) refl;
+      rule_17_no_scalar = λ s. cc;
+      rule_17_no_array = λ m s. cc;
+      rule_29_one_for_each = λ m s. (let d_is : d ≡ m = cc in equal n d e ∙ d_is);
+    }
+    by false e = let k = rw e at h in absurd (cc)
+
+uncalled : (names : Names) (x : List ℕ) (r : Option Sort) (n : ℕ) → sort_of names x ≡ option_map sort_for r → IsCallable names x n → broken_by_call r n ≡ None
+uncalled names x None n is u = let h : false ≡ true = subst IsSome is u.rule_20_declared in absurd (cc)
+uncalled names x (Some sort.Scalar) n is u = absurd (u.rule_17_no_scalar is)
+uncalled names x (Some (sort.Array d)) n is u = absurd (u.rule_17_no_array d is)
+uncalled names x (Some (sort.Helper d)) n is u = rw (equal_is n d (u.rule_29_one_for_each d is)) refl
 
 unbroken_none : (r : Option Rule) (s : Span) → if_broken r s ≡ [] → r ≡ None
 unbroken_none None s h = refl
@@ -149,6 +175,12 @@ use_kept v x n at h = usable (names_of v) x (declared_in v x) n (sort_for_name v
 pub use_clean : (v : Sorts) (x : List ℕ) (n : ℕ) (at : Span) → IsUsable (names_of v) x n → use_faults v x n at ≡ []
 use_clean v x n at u = rw (unbroken (names_of v) x (declared_in v x) n (sort_for_name v x) u) refl
 
+call_kept : (v : Sorts) (x : List ℕ) (n : ℕ) (at : Span) → call_faults v x n at ≡ [] → IsCallable (names_of v) x n
+call_kept v x n at h = callable (names_of v) x (declared_in v x) n (sort_for_name v x) (unbroken_none (broken_by_call (declared_in v x) n) (first_bytes (length x) at) h)
+
+call_clean : (v : Sorts) (x : List ℕ) (n : ℕ) (at : Span) → IsCallable (names_of v) x n → call_faults v x n at ≡ []
+call_clean v x n at u = rw (uncalled (names_of v) x (declared_in v x) n (sort_for_name v x) u) refl
+
 -- ---- expressions
 
 mutual
@@ -157,6 +189,8 @@ mutual
   kind_kept v (expr.Name x) at h = use_kept v x 0 at h
   kind_kept v (expr.Element' x n row) at h =
       (use_kept v x (row_length row) at (first_empty (use_faults v x (row_length row) at) (row_faults v row) h), row_kept v row (second_empty (use_faults v x (row_length row) at) (row_faults v row) h))
+  kind_kept v (expr.Call' x n row) at h =
+      (call_kept v x (row_length row) at (first_empty (call_faults v x (row_length row) at) (row_faults v row) h), row_kept v row (second_empty (call_faults v x (row_length row) at) (row_faults v row) h))
   kind_kept v (expr.Unary' op b (more_of-Expr e s end_of-Expr)) at h = kind_kept v e s h
   kind_kept v (expr.Cast' t b (more_of-Expr e s end_of-Expr)) at h = kind_kept v e s h
   kind_kept v (expr.Binary' op b (more_of-Expr e s end_of-Expr) b2 (more_of-Expr e2 s2 end_of-Expr)) at h =
@@ -176,6 +210,7 @@ mutual
   kind_clean v (expr.Number n t) at k = refl
   kind_clean v (expr.Name x) at k = use_clean v x 0 at k
   kind_clean v (expr.Element' x n row) at k = both_empty (use_faults v x (row_length row) at) (row_faults v row) (use_clean v x (row_length row) at k.0) (row_clean v row k.1)
+  kind_clean v (expr.Call' x n row) at k = both_empty (call_faults v x (row_length row) at) (row_faults v row) (call_clean v x (row_length row) at k.0) (row_clean v row k.1)
   kind_clean v (expr.Unary' op b (more_of-Expr e s end_of-Expr)) at k = kind_clean v e s k
   kind_clean v (expr.Cast' t b (more_of-Expr e s end_of-Expr)) at k = kind_clean v e s k
   kind_clean v (expr.Binary' op b (more_of-Expr e s end_of-Expr) b2 (more_of-Expr e2 s2 end_of-Expr)) at k =

@@ -12,7 +12,7 @@ use Rattle.c_ast.specs.declared.tree.Stmt.{Stmt}
 use Rattle.c_ast.specs.declared.tree.StmtKind.TheVariants as stmt
 use Rattle.c_ast.specs.declared.tree.StmtKind.TheBlock.{shape-the_row-Stmt-0, hidden-the_row-Stmt-0, shape-the_row-Stmt-1, hidden-the_row-Stmt-1, back-StmtKind-If-2}
 use Rattle.c_ast.specs.Typing.{row_length}
-use Rattle.c_types.specs.Faults.{Sorts, use_faults, kind_faults, row_faults, expr_faults, exprs_faults, option_faults, act_faults, acts_faults, held_faults, stmt_faults, stmts_faults, inner_faults, sorts_after, sorts_after_all, sorts_after_row}
+use Rattle.c_types.specs.Faults.{Sorts, use_faults, call_faults, kind_faults, row_faults, expr_faults, exprs_faults, option_faults, act_faults, acts_faults, held_faults, stmt_faults, stmts_faults, inner_faults, sorts_after, sorts_after_all, sorts_after_row}
 
 -- ---- rows and lists
 
@@ -50,6 +50,11 @@ pub in_element : (names : Sorts) (x : List ℕ) (es : List Expr) (at : Span) →
 unfolding shape-the_row-Expr-0 hidden-the_row-Expr-0 shape-the_row-Expr-1 hidden-the_row-Expr-1 hidden
 in_element names x es at =
     ap (λ n. use_faults names x n at ++ row_faults names (hidden-the_row-Expr-0 es)) (row_is_long es) ∙ ap (λ fs. use_faults names x (length es) at ++ fs) (row_is_list names es)
+
+pub in_call : (names : Sorts) (x : List ℕ) (es : List Expr) (at : Span) → kind_faults names (expr.Call x es) at ≡ call_faults names x (length es) at ++ exprs_faults names es
+unfolding shape-the_row-Expr-0 hidden-the_row-Expr-0 shape-the_row-Expr-1 hidden-the_row-Expr-1 hidden
+in_call names x es at =
+    ap (λ n. call_faults names x n at ++ row_faults names (hidden-the_row-Expr-0 es)) (row_is_long es) ∙ ap (λ fs. call_faults names x (length es) at ++ fs) (row_is_list names es)
 
 pub in_unary : (names : Sorts) (op : Unary) (e : Expr) (at : Span) → kind_faults names (expr.Unary op e) at ≡ expr_faults names e
 unfolding shape-the_row-Expr-0 hidden-the_row-Expr-0 shape-the_row-Expr-1 hidden-the_row-Expr-1 hidden

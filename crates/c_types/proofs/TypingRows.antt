@@ -12,7 +12,7 @@ use Rattle.c_ast.specs.declared.tree.ExprKind.TheBlock.{shape-the_row-Expr-0, hi
 use Rattle.c_ast.specs.declared.tree.Stmt.{Stmt}
 use Rattle.c_ast.specs.declared.tree.StmtKind.TheVariants as stmt
 use Rattle.c_ast.specs.declared.tree.StmtKind.TheBlock.{shape-the_row-Stmt-0, hidden-the_row-Stmt-0, shape-the_row-Stmt-1, hidden-the_row-Stmt-1, back-StmtKind-If-2}
-use Rattle.c_ast.specs.Typing.{Names, IsUsable, TypingKind, TypingRow, TypingExpr, TypingOption, names_after, names_after_row, TypingStmt, TypingHeld, TypingStmts, TypingList}
+use Rattle.c_ast.specs.Typing.{Names, IsUsable, IsCallable, TypingKind, TypingRow, TypingExpr, TypingOption, names_after, names_after_row, TypingStmt, TypingHeld, TypingStmts, TypingList}
 use Rattle.c_types.proofs.AfterCasts.{names_after_all}
 use Rattle.c_types.proofs.Layers.{row_is_long}
 
@@ -27,6 +27,10 @@ all_in_row names (e ∷ es) k = All-cons (TypingExpr names) e es k.0 (all_in_row
 pub used_element : (names : Names) (x : List ℕ) (es : List Expr) → TypingKind names (expr.Element x es) → IsUsable names x (length es)
 unfolding shape-the_row-Expr-0 hidden-the_row-Expr-0 shape-the_row-Expr-1 hidden-the_row-Expr-1 hidden
 used_element names x es k = subst (IsUsable names x) (row_is_long es) k.0
+
+pub used_call : (names : Names) (x : List ℕ) (es : List Expr) → TypingKind names (expr.Call x es) → IsCallable names x (length es)
+unfolding shape-the_row-Expr-0 hidden-the_row-Expr-0 shape-the_row-Expr-1 hidden-the_row-Expr-1 hidden
+used_call names x es k = subst (IsCallable names x) (row_is_long es) k.0
 
 pub in_element : (names : Names) (x : List ℕ) (es : List Expr) → TypingKind names (expr.Element x es) → All (TypingExpr names) es
 unfolding shape-the_row-Expr-0 hidden-the_row-Expr-0 shape-the_row-Expr-1 hidden-the_row-Expr-1 hidden

@@ -34,6 +34,14 @@ abbrev pub broken_by_use : Option Sort → ℕ → Option Rule
 broken_by_use None n = Some rule.Undeclared
 broken_by_use (Some sort.Scalar) n = if nat_eq n 0 then None else Some rule.NotArray
 broken_by_use (Some (sort.Array d)) n = if nat_eq n 0 then Some rule.NotScalar else if nat_eq n d then None else Some rule.Dimensions
+broken_by_use (Some (sort.Helper d)) n = Some rule.NotScalar
+
+-- the rule that a call with so many arguments breaks, if any
+abbrev pub broken_by_call : Option Sort → ℕ → Option Rule
+broken_by_call None n = Some rule.Undeclared
+broken_by_call (Some sort.Scalar) n = Some rule.NotHelper
+broken_by_call (Some (sort.Array d)) n = Some rule.NotHelper
+broken_by_call (Some (sort.Helper d)) n = if nat_eq n d then None else Some rule.Arguments
 
 -- a rule that may be broken at a place
 abbrev pub if_broken : Option Rule → Span → List Fault
@@ -44,11 +52,15 @@ if_broken (Some r) s = fault r s ∷ []
 abbrev pub use_faults : Sorts → List ℕ → ℕ → Span → List Fault
 use_faults names x n at = if_broken (broken_by_use (declared_in names x) n) (first_bytes (length x) at)
 
+abbrev pub call_faults : Sorts → List ℕ → ℕ → Span → List Fault
+call_faults names x n at = if_broken (broken_by_call (declared_in names x) n) (first_bytes (length x) at)
+
 abbrev mutual
   pub kind_faults : Sorts → ExprKind → Span → List Fault
   kind_faults names (expr.Number n t) at = []
   kind_faults names (expr.Name x) at = use_faults names x 0 at
   kind_faults names (expr.Element' x n row) at = use_faults names x (row_length row) at ++ row_faults names row
+  kind_faults names (expr.Call' x n row) at = call_faults names x (row_length row) at ++ row_faults names row
   kind_faults names (expr.Unary' op b (more_of-Expr e s end_of-Expr)) at = kind_faults names e s
   kind_faults names (expr.Cast' t b (more_of-Expr e s end_of-Expr)) at = kind_faults names e s
   kind_faults names (expr.Binary' op b (more_of-Expr e s end_of-Expr) b2 (more_of-Expr e2 s2 end_of-Expr)) at = kind_faults names e s ++ kind_faults names e2 s2

@@ -16,6 +16,8 @@ number_and_word rule.Dimensions = (24, codes "Dimensions")
 number_and_word rule.Length = (25, codes "Length")
 number_and_word rule.ReturnKind = (26, codes "ReturnKind")
 number_and_word rule.OutsideLoop = (27, codes "OutsideLoop")
+number_and_word rule.NotHelper = (17, codes "NotHelper")
+number_and_word rule.Arguments = (29, codes "Arguments")
 
 abbrev pub rule_number : Rule → ℕ
 rule_number r = (number_and_word r).0

@@ -388,6 +388,8 @@ fn cast_expr(
             let indices = cast_exprs(alloc, scopes, indices.as_slice())?;
             cast_element(alloc, scopes, name, indices, at)
         }
+        // No helper is in scope, so nothing that is called keeps the rules.
+        ExprKind::Call { .. } => unreachable!(),
         ExprKind::Unary(op, arg) => {
             let arg = cast_expr(alloc, scopes, arg.get())?;
             unary(alloc, *op, arg, at)

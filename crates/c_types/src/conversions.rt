@@ -1,16 +1,7 @@
 //! The conversions that an expression implies (ISO/IEC 9899:1999 6.3.1), and typed expressions
 //! with them.
 ghost use Rattle.std.specs.Prelude.{◌≡◌, IfOk};
-ghost use Rattle.el_base.specs.declared.ty.Ty.TheVariants.{U32, I64};
 ghost use Rattle.c_ast.specs.declared.typed.TypedExprKind.TheVariants as typed;
-ghost use Rattle.c_ast.specs.ResultTypes.{
-  promoted,
-  common,
-  usual,
-  joint_type,
-  result_type,
-  unary_type,
-};
 ghost use Rattle.c_ast.specs.Casts.{
   same_type,
   of_type,
@@ -21,82 +12,12 @@ ghost use Rattle.c_ast.specs.Casts.{
 };
 ghost use Rattle.c_types.specs.TypedNodes.{unary_of, binary_of, choice_of};
 
-use c_ast::{Binary, Boxed, Span, Ty, TypedExpr, TypedExprKind, Unary};
+use c_ast::{
+    Binary, Boxed, Span, Ty, TypedExpr, TypedExprKind, Unary, joint_type, promoted, result_type,
+    unary_type, usual,
+};
 use el_base::Memory;
 use std::alloc::Global;
-
-fn promoted(ty: Ty) -> Ty
-    ensures { result ≡ promoted ty }
-{
-    match ty {
-        Ty::I8 | Ty::U8 | Ty::I16 | Ty::U16 | Ty::I32 => Ty::I32,
-        Ty::U32 => Ty::U32,
-        Ty::I64 => Ty::I64,
-        Ty::U64 => Ty::U64,
-    }
-}
-
-// The usual arithmetic conversions of two promoted types.
-fn common(left: Ty, right: Ty) -> Ty
-    ensures { result ≡ common left right }
-{
-    match left {
-        Ty::I8 | Ty::U8 | Ty::I16 | Ty::U16 | Ty::I32 => right,
-        Ty::U32 => common_to_u32(right),
-        Ty::I64 => common_to_i64(right),
-        Ty::U64 => Ty::U64,
-    }
-}
-
-fn common_to_u32(right: Ty) -> Ty
-    ensures { result ≡ common U32 right }
-{
-    match right {
-        Ty::U64 => Ty::U64,
-        Ty::I64 => Ty::I64,
-        Ty::I8 | Ty::U8 | Ty::I16 | Ty::U16 | Ty::I32 | Ty::U32 => Ty::U32,
-    }
-}
-
-fn common_to_i64(right: Ty) -> Ty
-    ensures { result ≡ common I64 right }
-{
-    match right {
-        Ty::U64 => Ty::U64,
-        Ty::I8 | Ty::U8 | Ty::I16 | Ty::U16 | Ty::I32 | Ty::U32 | Ty::I64 => Ty::I64,
-    }
-}
-
-fn usual(left: Ty, right: Ty) -> Ty
-    ensures { result ≡ usual left right }
-{
-    common(promoted(left), promoted(right))
-}
-
-// The type in which an operator joins its operands.
-fn joint_type(op: Binary, left: Ty, right: Ty) -> Ty
-    ensures { result ≡ joint_type op left right }
-{
-    match op {
-        Binary::Shl | Binary::Shr => promoted(left),
-        Binary::Mul
-        | Binary::Div
-        | Binary::Rem
-        | Binary::Add
-        | Binary::Sub
-        | Binary::Lt
-        | Binary::Gt
-        | Binary::Le
-        | Binary::Ge
-        | Binary::Eq
-        | Binary::Ne
-        | Binary::And
-        | Binary::Xor
-        | Binary::Or
-        | Binary::Both
-        | Binary::Either => usual(left, right),
-    }
-}
 
 fn left_type(op: Binary, left: Ty, right: Ty) -> Ty
     ensures { result ≡ left_type op left right }
@@ -141,41 +62,6 @@ fn right_type(op: Binary, left: Ty, right: Ty) -> Ty
         | Binary::And
         | Binary::Xor
         | Binary::Or => usual(left, right),
-    }
-}
-
-// The type of a result: that of the operands, or I32 for what is 1 or 0.
-fn result_type(op: Binary, ty: Ty) -> Ty
-    ensures { result ≡ result_type op ty }
-{
-    match op {
-        Binary::Lt
-        | Binary::Gt
-        | Binary::Le
-        | Binary::Ge
-        | Binary::Eq
-        | Binary::Ne
-        | Binary::Both
-        | Binary::Either => Ty::I32,
-        Binary::Mul
-        | Binary::Div
-        | Binary::Rem
-        | Binary::Add
-        | Binary::Sub
-        | Binary::Shl
-        | Binary::Shr
-        | Binary::And
-        | Binary::Xor
-        | Binary::Or => ty,
-    }
-}
-
-fn unary_type(op: Unary, ty: Ty) -> Ty
-    ensures { result ≡ unary_type op ty }
-{
-    match op {
-        Unary::Not => Ty::I32,
-        Unary::Plus | Unary::Minus | Unary::Flip => ty,
     }
 }
 

@@ -16,7 +16,7 @@ pub enum Rule {
     Redeclared,
     /// A scalar has indices.
     NotArray,
-    /// An array has no index.
+    /// An array has no index, or a helper is not called.
     NotScalar,
     /// An array has another number of indices than dimensions, or more dimensions than an array
     /// may have.
@@ -27,10 +27,14 @@ pub enum Rule {
     ReturnKind,
     /// `break` or `continue` stands outside of a loop.
     OutsideLoop,
+    /// A variable or an array is called.
+    NotHelper,
+    /// A helper is called with another number of arguments than it has parameters.
+    Arguments,
 }
 
 impl Rule {
-    /// Its number, from 20 to 27. Takes no memory.
+    /// Its number, from 20 to 27, and of calls 17 and 29. Takes no memory.
     pub fn number(self) -> u32
         ensures { result ≡ rule_number self }
     {
@@ -58,6 +62,8 @@ impl Rule {
             Rule::Length => (25, "Length"),
             Rule::ReturnKind => (26, "ReturnKind"),
             Rule::OutsideLoop => (27, "OutsideLoop"),
+            Rule::NotHelper => (17, "NotHelper"),
+            Rule::Arguments => (29, "Arguments"),
         }
     }
 }

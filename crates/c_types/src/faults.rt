@@ -8,6 +8,8 @@ ghost use Rattle.c_types.specs.Places.{first_of};
 ghost use Rattle.c_types.specs.Scopes.{is_new_in, with_entry};
 ghost use Rattle.c_types.specs.Faults.{
   broken_by_use,
+  broken_by_call,
+  call_faults,
   use_faults,
   expr_faults,
   exprs_faults,
@@ -326,6 +328,10 @@ fn of_expr(scopes: &Scopes<Sort>, expr: &Expr) -> Option<Fault>
             let fault = of_use(scopes, name, indices.len(), expr.at);
             earlier(fault, of_exprs(scopes, indices.as_slice()))
         }
+        ExprKind::Call { name, args } => {
+            let fault = of_call(scopes, name, args.len(), expr.at);
+            earlier(fault, of_exprs(scopes, args.as_slice()))
+        }
         ExprKind::Unary(_, arg) => of_expr(scopes, arg.get()),
         ExprKind::Cast(_, arg) => of_expr(scopes, arg.get()),
         ExprKind::Binary(_, left, right) => {
@@ -365,5 +371,30 @@ fn broken_by_use(sort: Option<Sort>, indices: usize) -> Option<Rule>
         Some(Sort::Array(_)) if indices == 0 => Some(Rule::NotScalar),
         Some(Sort::Array(dims)) if indices == dims => None,
         Some(Sort::Array(_)) => Some(Rule::Dimensions),
+        Some(Sort::Helper(_)) => Some(Rule::NotScalar),
+    }
+}
+
+// A name is called with so many arguments, in a place that begins with it.
+fn of_call(scopes: &Scopes<Sort>, name: &Name, arguments: usize, at: Span) -> Option<Fault>
+    ensures { result ≡ first_of (call_faults scopes.now name.now arguments at) }
+{
+    let rule = broken_by_call(scopes.find(name), arguments)?;
+    Some(Fault {
+        rule,
+        span: first_bytes(name.as_slice().len(), at),
+    })
+}
+
+// The rule that such a call breaks, if any.
+fn broken_by_call(sort: Option<Sort>, arguments: usize) -> Option<Rule>
+    ensures { result ≡ broken_by_call sort arguments }
+{
+    match sort {
+        None => Some(Rule::Undeclared),
+        Some(Sort::Scalar) => Some(Rule::NotHelper),
+        Some(Sort::Array(_)) => Some(Rule::NotHelper),
+        Some(Sort::Helper(params)) if arguments == params => None,
+        Some(Sort::Helper(_)) => Some(Rule::Arguments),
     }
 }

@@ -12,6 +12,3 @@ mod sort;
 
 pub use checker::{check, check_rules};
 pub use fault::{Fault, Rule, TypeRefusal};
-
-#[cfg(test)]
-mod tests;

@@ -5,4 +5,6 @@
 pub(crate) enum Sort {
     Scalar,
     Array(usize),
+    /// A helper with so many parameters.
+    Helper(usize),
 }

@@ -11,7 +11,7 @@ use Rattle.ir.specs.Accesses.{is_on, places_from, access_if, array_accesses, blo
 use Rattle.ir.specs.Graphs.{block_weight}
 use Rattle.net_types.specs.declared.net.Port.{Port}
 use Rattle.net_types.specs.declared.net.Port.TheVariants.{Load, Store}
-use Rattle.circuit_build.specs.Steps.{plus}
+use Rattle.circuit_build.specs.Drafts.{plus}
 use Rattle.circuit_build.specs.Blocks.{after_block}
 use Rattle.circuit_build.specs.Fronts.{port_of, steps_of, ports_at, access_ports, ports_of, groups_from, numbers_from, number_after}
 use Rattle.circuit_build.proofs.CountSteps.{groups_in, step_ports, steps_ports}
@@ -28,7 +28,7 @@ groups_length a p (x ∷ xs) = by (x.array == a) (groups_length a (number_after 
     by true i j = omega (arith, i)
     by false i j = j
 
-groups_append : (a : ℕ) (xs ys : List Access) → groups_in a (xs ++ ys) ≡ groups_in a xs + groups_in a ys
+pub groups_append : (a : ℕ) (xs ys : List Access) → groups_in a (xs ++ ys) ≡ groups_in a xs + groups_in a ys
 groups_append a [] ys = omega arith
 groups_append a (x ∷ xs) ys = by (x.array == a) (groups_append a xs ys)
   where

@@ -1,6 +1,6 @@
 -- Every net that is built keeps the rules.
 use Rattle.std.proofs.Common.{◌≡◌, ◌≢◌, ℕ, ◌<◌, ◌≤◌, ◌^◌, List, [], ◌∷◌, length, ap, refl, sym, subst, arith}
-use Rattle.std.specs.Prelude.{sum_by}
+use Rattle.std.specs.Prelude.{sum_by, All}
 use Rattle.std.proofs.lemmas.List.Elements.{All-nil, All-cons}
 use Rattle.std.proofs.lemmas.List.Kept.{AllPairs-cons}
 use Rattle.ir.specs.declared.groups.Groups.{Groups}
@@ -65,7 +65,8 @@ sample_asked name n a ne =
     let g = sample_graph name n a in
     let R : List ℕ → List ℕ → Type 0 = λ x y. x ≢ y in
     let S : Array → Type 0 = λ (x : Array). 0 < x.len in
-    let F : Block → Type 0 = λ (b : Block). accesses_in b.steps ≤ 1024 in
+    let each : (F : Block → Type 0) → F entry_block → F head_block → F body_block → F end_block → All F g.blocks =
+    λ F a b c d. All-cons F entry_block (head_block ∷ body_block ∷ end_block ∷ []) a (All-cons F head_block (body_block ∷ end_block ∷ []) b (All-cons F body_block (end_block ∷ []) c (All-cons F end_block [] d (All-nil F)))) in
     let size = (samples_run name n a).size_is in
     record {
       graph = is_sample g name n a refl;
@@ -79,7 +80,9 @@ sample_asked name n a ne =
       small = record {
         blocks = omega arith;
         bounded = omega (arith, size);
-        accesses = All-cons F entry_block (head_block ∷ body_block ∷ end_block ∷ []) (omega arith) (All-cons F head_block (body_block ∷ end_block ∷ []) (omega arith) (All-cons F body_block (end_block ∷ []) (omega arith) (All-cons F end_block [] (omega arith) (All-nil F))));
+        accesses = each (λ (b : Block). accesses_in b.steps ≤ 1024) (omega arith) (omega arith) (omega arith) (omega arith);
+        steps = each (λ (b : Block). length b.steps ≤ 14336) (omega arith) (omega arith) (omega arith) (omega arith);
+        args = each (λ (b : Block). length b.args ≤ 1024) (omega arith) (omega arith) (omega arith) (omega arith);
       };
       share = (samples_run name n a).groups;
     }

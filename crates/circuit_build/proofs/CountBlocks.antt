@@ -1,102 +1,38 @@
--- The blocks keep the balance: each brings a head, which waits for its edges, and an edge for each side of its jump.
-use Rattle.std.proofs.Common.{◌≡◌, ℕ, zero, suc, ◌+◌, ◌<◌, ◌^◌, List, [], ◌∷◌, ◌++◌, length, get_or, map, true, false, Option, Some, None, refl, sym, ap, ◌∙◌, subst, arith, append_assoc, append-nil, length-append}
+-- The blocks keep the balance: each brings a head, which waits for its edges or takes the one that stands, and an edge for each side of its jump.
+use Rattle.std.proofs.Common.{◌≡◌, ℕ, suc, ◌+◌, ◌*◌, ◌<◌, ◌≤◌, ◌^◌, List, [], ◌∷◌, ◌++◌, length, get_or, map, Bool, true, false, Option, Some, None, refl, sym, ap, ◌∙◌, subst, arith, length-append}
 use Rattle.std.specs.Prelude.{All, slice_get, cond, ◌==◌}
-use Rattle.std.proofs.lemmas.List.Elements.{All-nil, All-cons, All-head, All-tail, All-append}
+use Rattle.std.proofs.lemmas.List.{length-map}
+use Rattle.std.proofs.lemmas.List.Elements.{All-head, All-tail}
 use Rattle.el_base.specs.declared.ty.Ty.{Ty}
 use Rattle.ir.specs.declared.graph.Block.{Block}
 use Rattle.ir.specs.declared.graph.Jump.{Jump}
 use Rattle.ir.specs.declared.graph.Jump.TheVariants.{Go, Two, Return}
+use Rattle.ir.specs.declared.graph.To.{To}
 use Rattle.ir.specs.declared.groups.Access.{Access}
-use Rattle.ir.specs.Shapes.{Shape, IsWidth}
+use Rattle.ir.specs.declared.instr.Instr.{Instr}
+use Rattle.ir.specs.Shapes.{Shape, step_width, shape_after}
 use Rattle.ir.specs.Graphs.{Graph, AreHanded, IsReturn, IsJump, IsBlock}
-use Rattle.net_types.specs.declared.net.Net.{Net}
 use Rattle.net_types.specs.declared.net.Port.{Port}
-use Rattle.net_types.specs.declared.net.Unit.TheVariants.{Cmerge, Mux, Fork}
-use Rattle.net_types.specs.Nets.{at}
-use Rattle.net_types.specs.Tables.{spots, array_width}
 use Rattle.circuit_build.specs.declared.draft.Draft.{Draft}
-use Rattle.circuit_build.specs.declared.draft.Edge.{Edge}
-use Rattle.circuit_build.specs.Drafts.{number, next, triggered, trigger_of}
-use Rattle.circuit_build.specs.Steps.{plus}
-use Rattle.circuit_build.specs.Jumps.{parted, result_list, jump_laid, swept}
-use Rattle.circuit_build.specs.Blocks.{opened, arg_laid, args_laid, head_laid, ins_of, allocations, after_block, block_laid, blocks_laid}
+use Rattle.circuit_build.specs.Drafts.{number, plus, control_forked, buffered}
+use Rattle.circuit_build.specs.Uses.{zeros, handed_often, uses, constants, steps_added}
+use Rattle.circuit_build.specs.Jumps.{result_list, jump_laid}
+use Rattle.circuit_build.specs.Blocks.{ins_of, after_block, has_access, early_triggers, bare_buffered, block_opened, block_grouped, block_laid, blocks_laid}
 use Rattle.circuit_build.specs.Endings.{result_widths}
-use Rattle.circuit_build.proofs.CountBooks.{Weight, Sum, row, lay_unit}
-use Rattle.circuit_build.proofs.CountItems.{WideIf, Open, shifted, triggered_open, unit1}
-use Rattle.circuit_build.proofs.CountQueues.{queues_in, queues_out}
-use Rattle.circuit_build.proofs.CountSteps.{wide_of, edges, hsum, groups_in, steps_ports, owe_of, rest_of, Within, allocations_within, steps_within}
-use Rattle.circuit_build.proofs.CountJumps.{widths, Same, Between, Adds, gone_between, parted_between}
+use Rattle.circuit_build.proofs.CountBooks.{Weight}
+use Rattle.circuit_build.proofs.CountItems.{buffered_open, forked_open}
+use Rattle.circuit_build.proofs.CountSteps.{groups_in, steps_ports, Within, AllStored, settled, allocations_within, steps_within}
+use Rattle.circuit_build.proofs.CountJumps.{Between, gone_between, parted_between}
+use Rattle.circuit_build.proofs.CountHeads.{head_within}
+use Rattle.circuit_build.proofs.CountKept.{adds, kept_as, waits}
+pub use Rattle.circuit_build.proofs.CountKept.{heading, hsum_more, muxes_left, head_left, occurs, occurs_more, Kept}
+pub use Rattle.circuit_build.proofs.Targets.{one_if, tops_of, top_at, top_last}
+use Rattle.circuit_build.proofs.Remains.{one_own, often, AreBelow, of_width_below, left_table, jump_uses, JumpBelow, handed_many, left_is, left_most, remains_most, all_added_is, all_added_most, below_as, zeros_at, zeros_length, handed_length, jump_added_length, constants_most}
+use Rattle.circuit_build.proofs.Fields as fields
+use Rattle.circuit_build.proofs.Keeps as keeps
+use Rattle.circuit_build.proofs.Keeps.{Laid}
 
--- the header of a graph, as a net
-abbrev pub heading : Graph → Net
-heading g = record { name = g.name; scalars = g.scalars; arrays = g.arrays; result = g.result; units = []; chans = [] }
-
--- ---- heads
-
-pub hsum_more : (K : ℕ → ℕ → ℕ) (hs : List ℕ) (h : ℕ) → hsum K (hs ++ h ∷ []) ≡ hsum K hs + K (length hs) h
-hsum_more K [] h = omega arith
-hsum_more K (x ∷ hs) h = let i = hsum_more (λ t. K (suc t)) hs h in omega (arith, i)
-
--- inputs of a head that wait: of its muxes, and of all its units, those of k edges from number j on
-abbrev pub muxes_left : Weight → ℕ → List ℕ → ℕ → ℕ → ℕ
-muxes_left f m [] j k = 0
-muxes_left f m (w ∷ ws) j k = row f m (spots (suc j) w false k) + muxes_left f (plus m 2) ws j k
-
-abbrev pub head_left : Weight → ℕ → List ℕ → ℕ → ℕ → ℕ
-head_left f h ws j k = row f h (spots j 32 true k) + muxes_left f (plus h 2) ws j k
-
-args_open : {net : Net} {r : Sum} (ins : ℕ) (args : List ℕ) (d : Draft) (ws : Shape) (o : Sum) (m : ℕ) → All IsWidth args → m ≡ number (length d.units + 1) → Open net d o r ws
-    → Open net (args_laid ins args d) (λ f. o f + muxes_left f m args 0 ins) r (ws ++ map Some args)
-args_open {net} {r} ins [] d ws o m a e h =
-    subst (λ v. Open net d (λ f. o f + 0) r v) (sym (append-nil ws)) (shifted (λ f. o f + 0) r h (λ f. omega arith) (λ f. refl))
-args_open {net} {r} ins (w ∷ args) d ws o m a e h =
-    let t = triggered_open h in
-    let k = triggered d in
-    let l = length-append d.units (Fork 32 2 ∷ []) in
-    let z : next k ≡ m = omega (arith, l, e) in
-    let wide = wide_of w (All-head IsWidth w args a) in
-    let u = unit1 (Mux w ins) (trigger_of d) 32 w (λ f. o f + row f m (spots 1 w false ins)) t refl wide wide (λ f. let p = ap (λ n. row f n (spots 1 w false ins)) z in omega (arith, p)) (λ f. omega arith) in
-    let x = arg_laid ins w d in
-    let lx = length-append k.units (Mux w ins ∷ []) in
-    let i = args_open ins args x (ws ++ Some w ∷ []) (λ f. o f + row f m (spots 1 w false ins)) (plus m 2) (All-tail IsWidth w args a) (omega (arith, l, lx, e)) (record { books = u.books; shape = u.shape; wide = u.wide }) in
-    let s = shifted (λ f. o f + muxes_left f m (w ∷ args) 0 ins) r i (λ f. omega arith) (λ f. refl) in
-    subst (λ v. Open net (args_laid ins args x) (λ f. o f + muxes_left f m (w ∷ args) 0 ins) r v) (append_assoc ws (Some w ∷ []) (map Some args)) s
-
-pub args_same : (ins : ℕ) (args : List ℕ) (d : Draft) → Same d (args_laid ins args d)
-args_same ins [] d = record { edges = refl; heads = refl; queues = refl }
-args_same ins (w ∷ args) d = let i = args_same ins args (arg_laid ins w d) in record { edges = i.edges; heads = i.heads; queues = i.queues }
-
-pub head_within : {K : Weight → ℕ → ℕ → ℕ} {J : List Edge → List ℕ → Type 0} {P : ℕ → List Port} {G : ℕ → ℕ} (net : Net) (M : List Edge → List ℕ → Type 0) (ins b : ℕ) (args : List ℕ) (d : Draft) → All IsWidth args → length d.heads ≡ b → ((f : Weight) (h : ℕ) → K f b h ≡ head_left f h args 0 ins)
-    → ((es : List Edge) (hs : List ℕ) (h : ℕ) → J es hs → M es (hs ++ h ∷ [])) → Between net K J P G d → Within net K M P G (head_laid ins args d) (map Some args)
-head_within {K} {J} {P} {G} net M ins b args d a e t j h =
-    let n = next d in
-    let x = opened ins d in
-    let W : ℕ → ℕ = array_width net.arrays in
-    let y = lay_unit (Cmerge ins) false (λ f. owe_of net K P G d f + row f n (spots 0 32 true ins)) (λ f. f (at n 0) 32 true + 0 + rest_of net P G d f) h.books refl (λ f. refl) (λ f. omega arith) in
-    let o : Open net x (λ f. owe_of net K P G d f + row f n (spots 0 32 true ins)) (rest_of net P G d) [] = record { books = y; shape = refl; wide = All-nil WideIf } in
-    let l = length-append d.units (Cmerge ins ∷ []) in
-    let i = args_open ins args x [] (λ f. owe_of net K P G d f + row f n (spots 0 32 true ins)) (plus n 2) a (omega (arith, l)) o in
-    let s = args_same ins args x in
-    let z = head_laid ins args d in
-    record {
-      open_ends = shifted (owe_of net K P G z) (rest_of net P G z) i
-          (λ f. let p = ap (λ hs. hsum (K f) hs) s.heads in let q = ap (λ qs. queues_in f W P G qs) s.queues in let r = hsum_more (K f) d.heads n in let v = ap (λ c. K f c n) e in let w = t f n in omega (arith, p, q, r, v, w))
-          (λ f. let p = ap (λ es. edges f es) s.edges in let q = ap (λ qs. queues_out f W P G qs) s.queues in omega (arith, p, q));
-      kept = subst (λ hs. M z.edges hs) (sym s.heads) (subst (λ es. M es (d.heads ++ n ∷ [])) (sym s.edges) (j d.edges d.heads n h.kept));
-    }
-
--- ---- edges: how many lead to each target, and that each fits the arguments there
-
-abbrev pub one_if : ℕ → ℕ → ℕ
-one_if to t = cond (to == t) 1 0
-
-abbrev pub occurs : ℕ → List Edge → ℕ
-occurs t [] = 0
-occurs t (e ∷ es) = one_if e.to t + occurs t es
-
-pub occurs_more : (t : ℕ) (es : List Edge) (e : Edge) → occurs t (es ++ e ∷ []) ≡ occurs t es + one_if e.to t
-occurs_more t [] e = omega arith
-occurs_more t (x ∷ es) e = let i = occurs_more t es e in omega (arith, i)
+-- ---- edges
 
 abbrev pub jump_edges : ℕ → Jump → ℕ → ℕ
 jump_edges join (Go to) t = one_if to.block t
@@ -106,35 +42,6 @@ jump_edges join (Return v) t = one_if join t
 abbrev pub all_edges : ℕ → List Block → ℕ → ℕ
 all_edges join [] t = 0
 all_edges join (k ∷ ks) t = jump_edges join k.jump t + all_edges join ks t
-
--- tops: the widths of the arguments of each target
-pub record Kept (tops : List (List ℕ)) (H : ℕ) (C : ℕ → ℕ) (es : List Edge) (hs : List ℕ) : Type 0 where
-  pub heads : length hs ≡ H
-  pub fit : All (λ (e : Edge). slice_get tops e.to ≡ Some (widths e.with)) es
-  pub count : (t : ℕ) → occurs t es ≡ C t
-
-pub adds : (tops : List (List ℕ)) (H : ℕ) (C : ℕ → ℕ) (to : ℕ) (args : List ℕ) → slice_get tops to ≡ Some args → Adds (Kept tops H C) to args (Kept tops H (λ t. C t + one_if to t))
-adds tops H C to args here e es hs x y k =
-    let F : Edge → Type 0 = λ (e : Edge). slice_get tops e.to ≡ Some (widths e.with) in
-    record {
-      heads = k.heads;
-      fit = All-append F es (e ∷ []) k.fit (All-cons F e [] (ap (λ n. slice_get tops n) x ∙ here ∙ ap Some (sym y)) (All-nil F));
-      count = λ t. let a = k.count t in let b = occurs_more t es e in let c = ap (λ n. one_if n t) x in omega (arith, a, b, c);
-    }
-
-abbrev pub tops_of : Graph → List (List ℕ)
-tops_of g = map (λ (b : Block). b.args) g.blocks ++ result_widths g.result ∷ []
-
-pub top_at : (ks : List Block) (r : List ℕ) (i : ℕ) (k : Block) → slice_get ks i ≡ Some k → slice_get (map (λ (b : Block). b.args) ks ++ r ∷ []) i ≡ Some k.args
-top_at [] r i k e = absurd (cc)
-top_at (x ∷ ks) r zero k e = let z : x ≡ k = cc in ap (λ (b : Block). Some b.args) z
-top_at (x ∷ ks) r (suc i) k e = top_at ks r i k e
-
-pub top_last : (ks : List Block) (r : List ℕ) (i : ℕ) → i ≡ length ks → slice_get (map (λ (b : Block). b.args) ks ++ r ∷ []) i ≡ Some r
-top_last [] r zero e = refl
-top_last [] r (suc i) e = absurd (omega arith)
-top_last (x ∷ ks) r zero e = absurd (omega arith)
-top_last (x ∷ ks) r (suc i) e = top_last ks r i (omega arith)
 
 returned : (r : Option Ty) (ws : Shape) (v : Option ℕ) → IsReturn r ws v → AreHanded ws (result_list v) (result_widths r)
 returned None ws None i = tt
@@ -151,32 +58,170 @@ abbrev pub all_after : ℕ → List Block → List Access → List Access
 all_after b [] xs = xs
 all_after b (k ∷ ks) xs = all_after (plus b 1) ks (after_block b xs)
 
-module _ (g : Graph) (join : ℕ) (is_join : join ≡ length g.blocks) (K : Weight → ℕ → ℕ → ℕ) where
-  jump_between : {P : ℕ → List Port} {G : ℕ → ℕ} {d : Draft} {ws : Shape} (H : ℕ) (C : ℕ → ℕ) (j : Jump) → IsJump g ws j → Within (heading g) K (Kept (tops_of g) H C) P G d ws → Between (heading g) K (Kept (tops_of g) H (λ t. C t + jump_edges join j t)) P G (swept (jump_laid join j d))
-  jump_between H C (Go to) i h = gone_between to.block to.with i.block.args i.handed (adds (tops_of g) H C to.block i.block.args (top_at g.blocks (result_widths g.result) to.block i.block i.exists)) h
-  jump_between {P} {G} {d} {ws} H C (Two c a b) (i, x, y) h =
-      let p = adds (tops_of g) H C a.block x.block.args (top_at g.blocks (result_widths g.result) a.block x.block x.exists) in
-      let q = adds (tops_of g) H (λ t. C t + one_if a.block t) b.block y.block.args (top_at g.blocks (result_widths g.result) b.block y.block y.exists) in
-      let r : Between (heading g) K (Kept (tops_of g) H (λ t. C t + one_if a.block t + one_if b.block t)) P G (swept (parted c a b d)) = parted_between c a b x.block.args y.block.args i x.handed y.handed p q h in
-      record { books = r.books; kept = record { heads = r.kept.heads; fit = r.kept.fit; count = λ t. let e = r.kept.count t in omega (arith, e) } }
-  jump_between {P} {G} {d} {ws} H C (Return v) i h = gone_between join (result_list v) (result_widths g.result) (returned g.result ws v i) (adds (tops_of g) H C join (result_widths g.result) (top_last g.blocks (result_widths g.result) join is_join)) h
+-- ---- numbers have room
 
-  pub blocks_between : (counts : List ℕ) → ((f : Weight) (t h : ℕ) → K f t h ≡ head_left f h (get_or (tops_of g) t []) 0 (ins_of counts t)) → (ks : List Block) (b : ℕ) (xs : List Access) (d : Draft) (C : ℕ → ℕ) → All (IsBlock g) ks
-      → ((i : ℕ) (k : Block) → slice_get ks i ≡ Some k → get_or (tops_of g) (b + i) [] ≡ k.args) → b + length ks < 2 ^ 32 → Between (heading g) K (Kept (tops_of g) b C) (blocks_ports ks) (λ a. groups_in a xs) d
-      → Between (heading g) K (Kept (tops_of g) (b + length ks) (λ t. C t + all_edges join ks t)) (λ a. []) (λ a. groups_in a (all_after b ks xs)) (blocks_laid g.arrays join counts b ks xs d)
-  blocks_between counts e [] b xs d C a t few h = record { books = h.books; kept = record { heads = let z = h.kept.heads in omega (arith, z); fit = h.kept.fit; count = λ t. let z = h.kept.count t in omega (arith, z) } }
-  blocks_between counts e (k ∷ ks) b xs d C a t few h =
-      let block = All-head (IsBlock g) k ks a in
+abbrev pub handed_all : Jump → ℕ
+handed_all (Go to) = length to.with
+handed_all (Two c a b) = length a.with + length b.with
+handed_all (Return v) = 1
+
+abbrev pub Roomy : Block → Type 0
+Roomy k = 4 * length k.steps + 2 * length k.args + handed_all k.jump + 10 < 2 ^ 32
+
+many_all : (j : Jump) → handed_many j ≤ handed_all j
+many_all (Go to) = omega arith
+many_all (Two c a b) = omega arith
+many_all (Return v) = omega arith
+
+uses_few : (k : Block) → Roomy k → (v : ℕ) → get_or (uses k) v 0 < 2 ^ 32
+uses_few k r v = let a = remains_most k (length k.args) k.steps v (omega arith) (omega (arith, r)) in let b = many_all k.jump in omega (arith, a, b, r)
+
+pub shape_length : (arrays : List _) (ws : Shape) (is : List Instr) → length (shape_after arrays ws is) ≡ length ws + length is
+shape_length arrays ws [] = omega arith
+shape_length arrays ws (i ∷ is) = let a = length-append ws (step_width arrays i ∷ []) in let b = shape_length arrays (ws ++ step_width arrays i ∷ []) is in omega (arith, a, b)
+
+-- ---- values that a jump names
+
+handed_below : (ws : Shape) (vs args : List ℕ) → AreHanded ws vs args → AreBelow (length ws) vs
+handed_below ws [] args a = tt
+handed_below ws (v ∷ vs) [] a = absurd a
+handed_below ws (v ∷ vs) (w ∷ args) (i, x) = (of_width_below ws v w i, handed_below ws vs args x)
+
+pub jump_below : (g : Graph) (ws : Shape) (j : Jump) → IsJump g ws j → JumpBelow j (length ws)
+jump_below g ws (Go to) i = handed_below ws to.with i.block.args i.handed
+jump_below g ws (Two c a b) (i, x, y) = of_width_below ws c 32 i
+jump_below g ws (Return None) i = tt
+jump_below g ws (Return (Some v)) i = by g.result i
+  where
+    by : (r : Option Ty) → IsReturn r ws (Some v) → v < length ws
+    by None i = absurd i
+    by (Some t) i = of_width_below ws v _ i
+
+handed_is : (n : ℕ) (to : To) (u : ℕ) → AreBelow n to.with → length to.with + 2 < 2 ^ 32 → get_or (handed_often n to) u 0 ≡ often u to.with
+handed_is n to u b few =
+    let z = zeros_at n u in
+    let l = zeros_length n in
+    let x = all_added_is to.with u (zeros n) (below_as to.with n (length (zeros n)) (omega (arith, l)) b) (omega (arith, z, few)) in
+    omega (arith, x, z)
+
+handed_few : (n : ℕ) (to : To) (u : ℕ) → length to.with + 2 < 2 ^ 32 → get_or (handed_often n to) u 0 < 2 ^ 32
+handed_few n to u few = let z = zeros_at n u in let x = all_added_most to.with u (zeros n) in omega (arith, x, z, few)
+
+result_uses : (v : Option ℕ) (n u : ℕ) → jump_uses (Return v) n u ≡ often u (result_list v)
+result_uses None n u = refl
+result_uses (Some v) n u = omega arith
+
+-- ---- a block
+
+pub some_kept : (arrays : List _) (join ins b : ℕ) (k : Block) (xs : List Access) (d : Draft) → 0 < length d.units → 0 < length (block_laid arrays join ins b k xs d).units
+some_kept arrays join ins b k xs d s =
+    keeps.block_keeps (λ d. 0 < length d.units) (λ k. Unit {0}) keeps.Free keeps.Free any (λ k d e h. let l = length-append d.units (k ∷ []) in omega (arith, l)) (λ p q w c d h. h) (λ d e u c h. let l = ap length u in omega (arith, l, h)) (λ a. tt) arrays join ins b tt k (keeps.free_block k) xs d s
+  where
+    any : Laid (λ k. Unit {0}) keeps.Free keeps.Free
+    any = record { const = λ w n. tt; op1 = λ op. tt; op2 = λ op. tt; select = λ w. tt; fork1 = λ w. tt; forks = λ w n s o. tt; mux = λ w n i. tt; merge = λ n i. tt; branch = λ w. tt; sink = λ w. tt }
+
+module _ (g : Graph) (join : ℕ) (is_join : join ≡ length g.blocks) (S : ℕ → Type 0) (K : Weight → ℕ → ℕ → ℕ) (T : ℕ → ℕ) where
+  jump_between : {P : ℕ → List Port} {G : ℕ → ℕ} {d : Draft} {ws : Shape} {U : ℕ → ℕ} (H N : ℕ) (C : ℕ → ℕ) (j : Jump) → IsJump g ws j → handed_all j + 2 < 2 ^ 32 → length ws < 2 ^ 32 → ((u : ℕ) → U u ≡ jump_uses j (length ws) u) → ((t : ℕ) → C t + jump_edges join j t ≤ T t) → N + 3 < 2 ^ 32
+      → Within (heading g) S K (Kept (tops_of g) T H N C) P G d ws U 0 → Between (heading g) S K (Kept (tops_of g) T H (N + 2) (λ t. C t + jump_edges join j t)) P G (jump_laid join j d)
+  jump_between {P} {G} {d} {ws} {U} H N C (Go to) i room long t less few h =
+      let l = less to.block in
+      let o = one_own to.block in
+      let r = gone_between to.block to.with i.block.args i.handed t (adds (tops_of g) T H N C to.block i.block.args (top_at g.blocks (result_widths g.result) to.block i.block i.exists) (omega (arith, l, o)) (omega (arith, few))) h in
+      record { books = r.books; kept = kept_as r.kept (omega arith) (λ u. refl); stored = r.stored }
+  jump_between {P} {G} {d} {ws} {U} H N C (Two c a b) (i, x, y) room long t less few h =
+      let l = less a.block in
+      let o = one_own a.block in
+      let m = less b.block in
+      let q = one_own b.block in
+      let p = adds (tops_of g) T H N C a.block x.block.args (top_at g.blocks (result_widths g.result) a.block x.block x.exists) (omega (arith, l, o)) (omega (arith, few)) in
+      let s = adds (tops_of g) T H (suc N) (λ t. C t + one_if a.block t) b.block y.block.args (top_at g.blocks (result_widths g.result) b.block y.block y.exists) (omega (arith, m, q)) (omega (arith, few)) in
+      let n = length d.ends in
+      let e : n ≡ length ws = h.open_ends.fits.long in
+      let below_a = below_as a.with (length ws) n (omega (arith, e)) (handed_below ws a.with x.block.args x.handed) in
+      let below_b = below_as b.with (length ws) n (omega (arith, e)) (handed_below ws b.with y.block.args y.handed) in
+      let r = parted_between c a b x.block.args y.block.args i x.handed y.handed (omega (arith, e, long)) (λ u. handed_is n a u below_a (omega (arith, room))) (λ u. handed_is n b u below_b (omega (arith, room)))
+      (λ u. handed_few n a u (omega (arith, room))) (λ u. handed_few n b u (omega (arith, room))) (handed_length n a) (handed_length n b) (λ u. t u ∙ ap (λ z. jump_uses (Two c a b) z u) (sym e)) p s h in
+      record { books = r.books; kept = kept_as r.kept (omega arith) (λ t. omega arith); stored = r.stored }
+  jump_between {P} {G} {d} {ws} {U} H N C (Return v) i room long t less few h =
+      let l = less join in
+      let o = one_own join in
+      let r = gone_between join (result_list v) (result_widths g.result) (returned g.result ws v i) (λ u. t u ∙ result_uses v (length ws) u) (adds (tops_of g) T H N C join (result_widths g.result) (top_last g.blocks (result_widths g.result) join is_join) (omega (arith, l, o)) (omega (arith, few))) h in
+      record { books = r.books; kept = kept_as r.kept (omega arith) (λ u. refl); stored = r.stored }
+
+  forked_within : {J : _} {P : ℕ → List Port} {G : ℕ → ℕ} {d : Draft} {ws : Shape} {L : ℕ → ℕ} (n : ℕ) → n + 2 < 2 ^ 32 → Within (heading g) S K J P G d ws L 0 → Within (heading g) S K J P G (control_forked n d) ws L n
+  forked_within {J} {P} {G} {d} n few h = let s = fields.forked_still n d in settled d (control_forked n d) s.kept s.queues h.kept h.stored (forked_open n few h.open_ends)
+
+  late_within : {J : _} {P : ℕ → List Port} {G : ℕ → ℕ} {d : Draft} {ws : Shape} {L : ℕ → ℕ} (t : Bool) (n : ℕ) → n + 2 < 2 ^ 32 → Within (heading g) S K J P G d ws L (cond t 0 n) → Within (heading g) S K J P G (control_forked (cond t n 0) d) ws L n
+  late_within true n few h = forked_within n few h
+  late_within false n few h = h
+
+  bare_within : {J : _} {P : ℕ → List Port} {G : ℕ → ℕ} {d : Draft} {ws : Shape} {L : ℕ → ℕ} (n : ℕ) (j : Jump) → Within (heading g) S K J P G d ws L 0 → Within (heading g) S K J P G (bare_buffered n j d) ws L 0
+  bare_within {J} {P} {G} {d} {ws} {L} n (Go to) h = by (length d.chans == n)
+    where
+      by : (t : Bool) → Within (heading g) S K J P G (cond t (buffered d) d) ws L 0
+      by true = let b = buffered_open h.open_ends in record { open_ends = record { books = b.books; fits = b.fits; wide = b.wide; ahead = b.ahead; few = b.few }; kept = h.kept; stored = h.stored }
+      by false = h
+  bare_within n (Two c a b) h = h
+  bare_within n (Return v) h = h
+
+  early_most : (t : Bool) (n m : ℕ) → n ≤ m → cond t 0 n ≤ m
+  early_most true n m l = omega arith
+  early_most false n m l = l
+
+  pub block_between : {P : ℕ → List Port} (ins b : ℕ) (k : Block) (xs : List Access) (d : Draft) (N : ℕ) (C : ℕ → ℕ) → IsBlock g k → Roomy k → AllStored S k.steps → slice_get (tops_of g) b ≡ Some k.args → 0 < length d.units → ((f : Weight) (h : ℕ) → K f b h ≡ waits f h k.args 0 ins) → T b ≡ ins
+      → ((t : ℕ) → C t + jump_edges join k.jump t ≤ T t) → N + 3 < 2 ^ 32 → Between (heading g) S K (Kept (tops_of g) T b N C) (λ a. steps_ports a k.steps (P a)) (λ a. groups_in a xs) d
+      → Between (heading g) S K (Kept (tops_of g) T (suc b) (N + 2) (λ t. C t + jump_edges join k.jump t)) P (λ a. groups_in a (after_block b xs)) (block_laid g.arrays join ins b k xs d)
+  block_between {P} ins b k xs d N C block room stored top some wait total less few h =
+      let us = uses k in
+      let table = left_table k in
+      let n = length k.args in
+      let ws = map Some k.args in
+      let wl : length ws ≡ n = length-map k.args Some in
+      let cs = constants n k.steps us in
+      let cm = constants_most n k.steps us in
+      let num : number cs ≡ cs = omega (arith, cm, room) in
+      let t = has_access b xs in
+      let em = early_most t (number cs) (length k.steps) (omega (arith, cm, num)) in
+      let x = head_within (heading g) ins b k.args us (early_triggers b k xs) d block.args top some (omega (arith, em, room)) (uses_few k room) wait total (let l = less b in omega (arith, l)) h in
+      let e = block_opened ins b k xs d in
+      let y = allocations_within b xs e ws x in
+      let z = late_within t (number cs) (omega (arith, cm, num, room)) y in
+      let G : ℕ → ℕ = λ a. groups_in a (after_block b xs) in
+      let f = block_grouped ins b k xs d in
+      let z1 : Within (heading g) S K (Kept (tops_of g) T (suc b) N C) (λ a. steps_ports a k.steps (P a)) G f ws (λ u. get_or (steps_added (length ws) k.steps table) u 0) (constants (length ws) k.steps us) =
+      subst (λ m. Within (heading g) S K (Kept (tops_of g) T (suc b) N C) (λ a. steps_ports a k.steps (P a)) G f ws (λ u. get_or (steps_added m k.steps table) u 0) (constants m k.steps us)) (sym wl)
+      (subst (λ m. Within (heading g) S K (Kept (tops_of g) T (suc b) N C) (λ a. steps_ports a k.steps (P a)) G f ws (λ u. get_or us u 0) m) num z) in
+      let tl : length table ≡ n + length k.steps = jump_added_length k.jump (zeros (n + length k.steps)) ∙ zeros_length (n + length k.steps) in
+      let q = steps_within P table us k.steps f ws block.steps stored (keeps.grouped_uses ins b k xs d) (omega (arith, tl, wl)) (λ u. let a = left_most k u (omega (arith, room)) in let m = many_all k.jump in omega (arith, a, m, room)) z1 in
+      let v = bare_within (length d.chans) k.jump q in
+      let after = shape_after g.arrays ws k.steps in
+      let al = shape_length g.arrays ws k.steps in
+      let m = many_all k.jump in
+      let lens : length after ≡ n + length k.steps = omega (arith, al, wl) in
+      jump_between (suc b) N C k.jump block.jump (omega (arith, room)) (omega (arith, lens, room))
+      (λ u. left_is k u (subst (λ m. JumpBelow k.jump m) lens (jump_below g after k.jump block.jump)) (omega (arith, room)) (omega (arith, m, room)) ∙ ap (λ m. jump_uses k.jump m u) (sym lens)) less few v
+
+  pub blocks_between : (counts : List ℕ) → (ks : List Block) (b : ℕ) (xs : List Access) (d : Draft) (N : ℕ) (C : ℕ → ℕ) → All (IsBlock g) ks → All Roomy ks → All (λ k. AllStored S k.steps) ks
+      → ((i : ℕ) (k : Block) → slice_get ks i ≡ Some k → slice_get (tops_of g) (b + i) ≡ Some k.args) → ((f : Weight) (t h : ℕ) (args : List ℕ) → slice_get (tops_of g) t ≡ Some args → K f t h ≡ waits f h args 0 (ins_of counts t)) → b + length ks < 2 ^ 32 → ((t : ℕ) → t < b + length ks → T t ≡ ins_of counts t) → 0 < length d.units
+      → ((t : ℕ) → C t + all_edges join ks t ≤ T t) → N + 2 * length ks + 3 < 2 ^ 32 → Between (heading g) S K (Kept (tops_of g) T b N C) (blocks_ports ks) (λ a. groups_in a xs) d
+      → Between (heading g) S K (Kept (tops_of g) T (b + length ks) (N + 2 * length ks) (λ t. C t + all_edges join ks t)) (λ a. []) (λ a. groups_in a (all_after b ks xs)) (blocks_laid g.arrays join counts b ks xs d)
+  blocks_between counts [] b xs d N C a r s t wait few total some less room h =
+      let z : b ≡ b + 0 = omega arith in
+      record { books = h.books; kept = subst (λ n. Kept (tops_of g) T n (N + 2 * 0) (λ t. C t + 0) d.edges d.heads d.tails) z (kept_as h.kept (omega arith) (λ t. omega arith)); stored = h.stored }
+  blocks_between counts (k ∷ ks) b xs d N C a r s t wait few total some less room h =
       let ins = ins_of counts b in
-      let top : get_or (tops_of g) b [] ≡ k.args = ap (λ n. get_or (tops_of g) n []) (let z : b ≡ b + 0 = omega arith in z) ∙ t 0 k refl in
-      let x = head_within (heading g) (Kept (tops_of g) (suc b) C) ins b k.args d block.args h.kept.heads (λ f n. e f b n ∙ ap (λ ws. head_left f n ws 0 ins) top)
-      (λ es hs n j. record { heads = let l = length-append hs (n ∷ []) in let z = j.heads in omega (arith, l, z); fit = j.fit; count = j.count }) h in
-      let y = allocations_within b xs (head_laid ins k.args d) (map Some k.args) x in
-      let z = steps_within (blocks_ports ks) k.steps (allocations b xs (head_laid ins k.args d)) (map Some k.args) block.steps y in
-      let j = jump_between (suc b) C k.jump block.jump z in
-      let next : plus b 1 ≡ suc b = omega arith in
+      let top : slice_get (tops_of g) b ≡ Some k.args = ap (λ n. slice_get (tops_of g) n) (let z : b ≡ b + 0 = omega arith in z) ∙ t 0 k refl in
+      let x = block_between ins b k xs d N C (All-head (IsBlock g) k ks a) (All-head Roomy k ks r) (All-head (λ k. AllStored S k.steps) k ks s) top some (λ f h. wait f b h k.args top) (total b (omega arith)) (λ t. let l = less t in omega (arith, l)) (omega (arith, room)) h in
       let v = block_laid g.arrays join ins b k xs d in
-      let i : Between (heading g) K (Kept (tops_of g) (plus b 1) (λ t. C t + jump_edges join k.jump t)) (blocks_ports ks) (λ a. groups_in a (after_block b xs)) v = subst (λ n. Between (heading g) K (Kept (tops_of g) n (λ t. C t + jump_edges join k.jump t)) (blocks_ports ks) (λ a. groups_in a (after_block b xs)) v) (sym next) j in
-      let r = blocks_between counts e ks (plus b 1) (after_block b xs) v (λ t. C t + jump_edges join k.jump t) (All-tail (IsBlock g) k ks a)
-      (λ i q s. ap (λ n. get_or (tops_of g) n []) (let z : plus b 1 + i ≡ b + suc i = omega arith in z) ∙ t (suc i) q s) (omega arith) i in
-      record { books = r.books; kept = record { heads = let z = r.kept.heads in omega (arith, z); fit = r.kept.fit; count = λ t. let z = r.kept.count t in omega (arith, z) } }
+      let next : suc b ≡ plus b 1 = omega (arith, few) in
+      let C2 : ℕ → ℕ = λ t. C t + jump_edges join k.jump t in
+      let i : Between (heading g) S K (Kept (tops_of g) T (plus b 1) (N + 2) C2) (blocks_ports ks) (λ a. groups_in a (after_block b xs)) v = subst (λ n. Between (heading g) S K (Kept (tops_of g) T n (N + 2) C2) (blocks_ports ks) (λ a. groups_in a (after_block b xs)) v) next x in
+      let q = blocks_between counts ks (plus b 1) (after_block b xs) v (N + 2) C2 (All-tail (IsBlock g) k ks a) (All-tail Roomy k ks r) (All-tail (λ k. AllStored S k.steps) k ks s)
+      (λ i q e. ap (λ n. slice_get (tops_of g) n) (let z : plus b 1 + i ≡ b + suc i = omega (arith, next) in z) ∙ t (suc i) q e) wait (omega (arith, next, few)) (λ t l. total t (omega (arith, next, l))) (some_kept g.arrays join ins b k xs d some) (λ t. let l = less t in omega (arith, l)) (omega (arith, room)) i in
+      let z : plus b 1 + length ks ≡ b + suc (length ks) = omega (arith, next) in
+      record {
+        books = q.books;
+        kept = subst (λ n. Kept (tops_of g) T n (N + 2 * suc (length ks)) (λ t. C t + all_edges join (k ∷ ks) t) (blocks_laid g.arrays join counts b (k ∷ ks) xs d).edges (blocks_laid g.arrays join counts b (k ∷ ks) xs d).heads (blocks_laid g.arrays join counts b (k ∷ ks) xs d).tails) z
+            (kept_as q.kept (omega arith) (λ t. omega arith));
+        stored = q.stored;
+      }

@@ -7,8 +7,11 @@ use Rattle.el_base.specs.declared.ty.Ty.{Ty}
 use Rattle.net_types.specs.declared.net.Place.{Place}
 use Rattle.net_types.specs.declared.net.Chan.{Chan}
 use Rattle.net_types.specs.declared.net.Net.{Net}
+use Rattle.net_types.specs.declared.net.Unit.{Unit as Kind}
+use Rattle.net_types.specs.declared.net.Unit.TheVariants.{Entry, Param, Const, Op1, Op2, Select, Fork, Mux, Cmerge, Branch, Sink, Read, Lsq, Exit}
+use Rattle.net_check.specs.Headers.{is_exit}
 use Rattle.net_types.specs.Nets.{is_at, at, into, out_of, nowhere, kind_of, chan_at}
-use Rattle.net_check.specs.Ends.{end_place, IsEnd, IsAtExit, end_target, EndsWell, source_of, WalksBack, stops, meets, times_met}
+use Rattle.net_check.specs.Ends.{is_lsq, end_place, IsEnd, IsAtExit, IsQueue, end_target, EndsWell, source_of, WalksBack, stops, meets, times_met}
 use Rattle.circuit_build.specs.declared.draft.Draft.{Draft}
 use Rattle.circuit_build.specs.declared.draft.Queue.{Queue}
 use Rattle.circuit_build.specs.Drafts.{next}
@@ -169,3 +172,48 @@ module _ (net : Net) (one_in : (u p : ℕ) → tos (at_place u p) net.chans ≤ 
 
   pub met_once : (ps : List Place) (u : ℕ) → times u ps ≡ 1 → times_met (onto ps []) u ≡ 1
   met_once ps u e = let a = onto_times u ps [] in omega (arith, a, e)
+
+  -- behind an end of the chain stands a later one, or the exit
+  next_in : (ps : List Place) (p e : Place) (u : ℕ) → Linked net.chans p ps e → IsEnd net p → AreEnds net ps → 1 ≤ times u (p ∷ ps) → (end_target net u ≡ e) ⊎ (1 ≤ times (end_target net u).unit ps)
+  next_in [] p e u l a b s = elim (cases_eq p.unit u) [
+    | inl z ↦ subst (λ v. (end_target net v ≡ e) ⊎ (1 ≤ times (end_target net v).unit [])) z (inl (target_is p e a.place l))
+    | inr d ↦ absurd (let z : cond (p.unit == u) 1 0 ≡ (let n : ℕ = 0 in n) = ap (λ b. cond b 1 0) (ne_eqb p.unit u d) in omega (arith, z, s))
+  ]
+  next_in (q ∷ qs) p e u l a b s = elim (cases_eq p.unit u) [
+    | inl z ↦ (let t = ap (λ (r : Place). r.unit) (target_is p q a.place l.0) in
+        let y : cond (q.unit == (end_target net p.unit).unit) 1 0 ≡ (let n : ℕ = 1 in n) = ap (λ b. cond b 1 0) (eq-eqb q.unit (end_target net p.unit).unit (sym t)) in
+        subst (λ v. (end_target net v ≡ e) ⊎ (1 ≤ times (end_target net v).unit (q ∷ qs))) z (inr (omega (arith, y))))
+    | inr d ↦ (let z : cond (p.unit == u) 1 0 ≡ (let n : ℕ = 0 in n) = ap (λ b. cond b 1 0) (ne_eqb p.unit u d) in elim (next_in qs q e u l.1 b.0 b.1 (omega (arith, z, s))) [
+      | inl y ↦ inl y
+      | inr y ↦ inr (omega (arith, y))
+    ])
+  ]
+
+  -- so the chain begins at no end, where it passes each queue once
+  pub begins_at_none : (ps : List Place) (c e : Place) → Linked net.chans c ps e → AreEnds net ps → IsAtExit net e → ((u : ℕ) → IsQueue net u → times u ps ≡ 1) → IsEnd net c → ⊥
+  begins_at_none [] c e l a x once i = let z = once c.unit (record { within = i.within; queue = i.queue }) in absurd (omega (arith, z))
+  begins_at_none (p ∷ ps) c e l a x once i =
+      let o = once c.unit (record { within = i.within; queue = i.queue }) in
+      let t = target_is c p i.place l.0 in
+      let own = once p.unit (record { within = a.0.within; queue = a.0.queue }) in
+      let z : cond (p.unit == p.unit) 1 0 ≡ (let n : ℕ = 1 in n) = ap (λ b. cond b 1 0) (eq-eqb p.unit p.unit refl) in
+      elim (next_in ps p e c.unit l.1 a.0 a.1 (omega (arith, o))) [
+        | inl y ↦ no_exit (kind_of net p.unit) a.0.queue (ap (λ (q : Place). is_exit (kind_of net q.unit)) (sym t ∙ y) ∙ x.exit)
+        | inr y ↦ (let w = ap (λ (q : Place). times q.unit ps) t in absurd (omega (arith, y, w, own, z)))
+      ]
+    where
+      no_exit : (k : Kind) → is_lsq k ≡ true → is_exit k ≡ true → ⊥
+      no_exit Exit e f = absurd (cc)
+      no_exit (Lsq a d qs gs b) e f = absurd (cc)
+      no_exit Entry e f = absurd (cc)
+      no_exit (Param j) e f = absurd (cc)
+      no_exit (Const w n) e f = absurd (cc)
+      no_exit (Op1 op) e f = absurd (cc)
+      no_exit (Op2 op) e f = absurd (cc)
+      no_exit (Select w) e f = absurd (cc)
+      no_exit (Fork w n) e f = absurd (cc)
+      no_exit (Mux w n) e f = absurd (cc)
+      no_exit (Cmerge n) e f = absurd (cc)
+      no_exit (Branch w) e f = absurd (cc)
+      no_exit (Sink w) e f = absurd (cc)
+      no_exit (Read a) e f = absurd (cc)

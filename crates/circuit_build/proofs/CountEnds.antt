@@ -4,27 +4,27 @@ use Rattle.std.specs.Prelude.{cond, ◌==◌, slice_get, set}
 use Rattle.std.proofs.lemmas.Bool.{cases_eq, cases_lt, eq-eqb, ne_eqb, false≢true}
 use Rattle.el_base.specs.declared.ty.Array.{Array}
 use Rattle.ir.specs.declared.graph.Block.{Block}
-use Rattle.ir.specs.declared.graph.Jump.{Jump}
-use Rattle.ir.specs.declared.graph.Jump.TheVariants.{Go, Two, Return}
 use Rattle.ir.specs.declared.groups.Access.{Access}
 use Rattle.ir.specs.declared.instr.Instr.{Instr}
 use Rattle.ir.specs.declared.instr.Instr.TheVariants as step
 use Rattle.net_types.specs.declared.net.Place.{Place}
 use Rattle.net_types.specs.declared.net.Port.{Port}
 use Rattle.net_types.specs.declared.net.Unit.{Unit as Kind}
-use Rattle.net_types.specs.declared.net.Unit.TheVariants.{Sink, Lsq}
+use Rattle.net_types.specs.declared.net.Unit.TheVariants.{Sink, Lsq, Const, Op1, Op2, Select, Read}
 use Rattle.net_types.specs.Nets.{at}
 use Rattle.net_check.specs.Ends.{is_lsq, end_place}
 use Rattle.circuit_build.specs.declared.draft.Draft.{Draft}
 use Rattle.circuit_build.specs.declared.draft.Queue.{Queue}
-use Rattle.circuit_build.specs.Drafts.{number, next, copied}
-use Rattle.circuit_build.specs.Steps.{plus, queue_of, width_at, next_port, next_group, allocated_by, allocated, load_by, store_by, step_laid, steps_laid}
-use Rattle.circuit_build.specs.Jumps.{all_copied, all_branched, result_list, jump_laid}
-use Rattle.circuit_build.specs.Blocks.{opened, head_laid, ins_of, allocations, after_block, block_laid, blocks_laid}
+use Rattle.circuit_build.specs.Drafts.{number, plus, next, with_unit, fed, uses_of_next, undefined, triggered, trigger_of, copied, copy_of}
+use Rattle.circuit_build.specs.Uses.{is_laid, uses}
+use Rattle.circuit_build.specs.Steps.{queue_of, width_at, value_place, addr_place, next_port, next_group, allocated_by, allocated, load_by, store_by, step_made, step_laid, steps_laid}
+use Rattle.circuit_build.specs.Blocks.{ins_of, allocations, after_block, early_triggers, late_triggers, block_opened, block_grouped, block_worked, block_laid, blocks_laid}
+use Rattle.circuit_build.specs.Endings.{feeder_if, feeders_laid}
+use Rattle.el_base.specs.Widths.{op1_out, op2_out}
 use Rattle.circuit_build.specs.Fronts.{ports_of, groups_from, depth_from, queue_if, queues_laid}
 use Rattle.circuit_build.proofs.CountQueues.{queue_some}
-use Rattle.circuit_build.proofs.CountJumps.{all_sunk_same}
-use Rattle.circuit_build.proofs.CountBlocks.{args_same}
+use Rattle.circuit_build.proofs.Fields.{defined_still, forked_still, bare_still, head_headed, jump_queues}
+use Rattle.circuit_build.proofs.CountEndings.{feeder_queues}
 use Rattle.circuit_build.proofs.CountChain.{ends_at, times}
 
 -- ---- the blocks leave the ends of the queues
@@ -51,50 +51,62 @@ allocations_ends b (x ∷ xs) d = by (x.block == b) (allocations_ends b xs (allo
     by true h = h
     by false h = refl
 
-load_ends : (a w p : ℕ) (o : Option Queue) (d : Draft) → queue_of d a ≡ o → EndsKept d (load_by o a w p d)
-load_ends a w p None d e = refl
-load_ends a w p (Some q) d e = set_ends d.queues a q (next_port q) (queue_some d.queues a q e) refl
-
-store_ends : (a p v : ℕ) (o : Option Queue) (d : Draft) → queue_of d a ≡ o → EndsKept d (store_by o a p v d)
-store_ends a p v None d e = refl
-store_ends a p v (Some q) d e = set_ends d.queues a q (next_port q) (queue_some d.queues a q e) refl
+made_ends : (arrays : List Array) (i : Instr) (d : Draft) → EndsKept d (step_made arrays i d)
+made_ends arrays (step.Const w n) d = let e = triggered d in ap ends_at (defined_still (at (next e) 0) w (fed (trigger_of d) (next e) 0 (with_unit (Const w n) e))).queues
+made_ends arrays (step.One op a) d = let e = copied a d in ap ends_at (defined_still (at (next e) 0) (op1_out op) (fed (copy_of a d) (next e) 0 (with_unit (Op1 op) e))).queues
+made_ends arrays (step.Two op a b) d =
+    let e = copied a d in
+    let f = copied b e in
+    ap ends_at (defined_still (at (next f) 0) (op2_out op) (fed (copy_of b e) (next f) 1 (fed (copy_of a d) (next f) 0 (with_unit (Op2 op) f)))).queues
+made_ends arrays (step.Select w c a b) d =
+    let e = copied c d in
+    let f = copied a e in
+    let g = copied b f in
+    ap ends_at (defined_still (at (next g) 0) w (fed (copy_of b f) (next g) 2 (fed (copy_of a e) (next g) 1 (fed (copy_of c d) (next g) 0 (with_unit (Select w) g))))).queues
+made_ends arrays (step.Load a p) d = by (queue_of d a) refl
+  where
+    by : (o : Option Queue) → queue_of d a ≡ o → EndsKept d (load_by o a (width_at arrays a) p d)
+    by None e = let f = copied p d in ap ends_at (defined_still (at (next f) 0) (width_at arrays a) (fed (copy_of p d) (next f) 0 (with_unit (Read a) f))).queues
+    by (Some q) e =
+        let s = defined_still (at q.unit (value_place q)) (width_at arrays a) (fed (copy_of p d) q.unit (addr_place q) (copied p d)) in
+        ap (λ qs. ends_at (set qs a (Some (next_port q)))) s.queues ∙ set_ends d.queues a q (next_port q) (queue_some d.queues a q e) refl
+made_ends arrays (step.Store a p v) d = by (queue_of d a) refl
+  where
+    by : (o : Option Queue) → queue_of d a ≡ o → EndsKept d (store_by o a p v d)
+    by None e = refl
+    by (Some q) e = set_ends d.queues a q (next_port q) (queue_some d.queues a q e) refl
 
 step_ends : (arrays : List Array) (i : Instr) (d : Draft) → EndsKept d (step_laid arrays i d)
-step_ends arrays (step.Const w n) d = refl
-step_ends arrays (step.One op a) d = refl
-step_ends arrays (step.Two op a b) d = refl
-step_ends arrays (step.Select w c a b) d = refl
-step_ends arrays (step.Load a p) d = load_ends a (width_at arrays a) p (queue_of d a) d refl
-step_ends arrays (step.Store a p v) d = store_ends a p v (queue_of d a) d refl
+step_ends arrays i d = by (is_laid i (uses_of_next d)) (made_ends arrays i d)
+  where
+    by : (t : Bool) → EndsKept d (step_made arrays i d) → EndsKept d (cond t (step_made arrays i d) (undefined d))
+    by true h = h
+    by false h = refl
 
 steps_ends : (arrays : List Array) (is : List Instr) (d : Draft) → EndsKept d (steps_laid arrays is d)
 steps_ends arrays [] d = refl
 steps_ends arrays (i ∷ is) d = steps_ends arrays is (step_laid arrays i d) ∙ step_ends arrays i d
 
-copied_queues : (vs : List ℕ) (d : Draft) → (all_copied vs d).queues ≡ d.queues
-copied_queues [] d = refl
-copied_queues (v ∷ vs) d = copied_queues vs (copied v d)
-
-branched_queues : (kept dropped c : ℕ) (vs : List ℕ) (d : Draft) → (all_branched kept dropped c vs d).queues ≡ d.queues
-branched_queues kept dropped c [] d = refl
-branched_queues kept dropped c (v ∷ vs) d = branched_queues kept dropped c vs _
-
-jump_queues : (join : ℕ) (j : Jump) (d : Draft) → (jump_laid join j d).queues ≡ d.queues
-jump_queues join (Go to) d = copied_queues to.with d
-jump_queues join (Two c a b) d = branched_queues 1 0 c b.with (all_branched 0 1 c a.with d) ∙ branched_queues 0 1 c a.with d
-jump_queues join (Return v) d = copied_queues (result_list v) d
-
 block_ends : (arrays : List Array) (join ins b : ℕ) (k : Block) (xs : List Access) (d : Draft) → EndsKept d (block_laid arrays join ins b k xs d)
 block_ends arrays join ins b k xs d =
-    let e = head_laid ins k.args d in
-    let f = allocations b xs e in
+    let e = block_opened ins b k xs d in
+    let f = block_grouped ins b k xs d in
     let g = steps_laid arrays k.steps f in
-    let h = jump_laid join k.jump g in
-    ap ends_at ((all_sunk_same h.ends (record h { ends = [] })).queues ∙ jump_queues join k.jump g) ∙ steps_ends arrays k.steps f ∙ allocations_ends b xs e ∙ ap ends_at (args_same ins k.args (opened ins d)).queues
+    ap ends_at (jump_queues join k.jump (block_worked arrays ins b k xs d) ∙ (bare_still (length d.chans) k.jump g).queues) ∙ steps_ends arrays k.steps f
+    ∙ ap ends_at (forked_still (late_triggers b k xs) (allocations b xs e)).queues ∙ allocations_ends b xs e ∙ ap ends_at (head_headed ins b k.args (uses k) (early_triggers b k xs) d).queues
 
 pub blocks_ends : (arrays : List Array) (join : ℕ) (counts : List ℕ) (b : ℕ) (ks : List Block) (xs : List Access) (d : Draft) → ends_at (blocks_laid arrays join counts b ks xs d).queues ≡ ends_at d.queues
 blocks_ends arrays join counts b [] xs d = refl
 blocks_ends arrays join counts b (k ∷ ks) xs d = blocks_ends arrays join counts (plus b 1) ks (after_block b xs) (block_laid arrays join (ins_of counts b) b k xs d) ∙ block_ends arrays join (ins_of counts b) b k xs d
+
+-- the feeders leave the queues
+pub if_queues : (n t : ℕ) (ws : List ℕ) (d : Draft) → (feeder_if n t ws d).queues ≡ d.queues
+if_queues zero t ws d = feeder_queues t ws d
+if_queues (suc n) t ws d = refl
+
+pub feeders_queues : (counts : List ℕ) (b : ℕ) (ks : List Block) (d : Draft) → (feeders_laid counts b ks d).queues ≡ d.queues
+feeders_queues counts b [] d = refl
+feeders_queues counts b (k ∷ ks) d = feeders_queues counts (plus b 1) ks (feeder_if (get_or counts b 0) b k.args d) ∙ if_queues (get_or counts b 0) b k.args d
 
 -- ---- the queues that are laid
 

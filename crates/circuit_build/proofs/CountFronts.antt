@@ -1,6 +1,6 @@
 -- What stands before the blocks keeps the balance: the entry and the scalars are an edge, and each queue brings its places.
-use Rattle.std.proofs.Common.{◌≡◌, ℕ, zero, suc, ◌+◌, ◌*◌, ◌<◌, ◌^◌, List, [], ◌∷◌, ◌++◌, length, map, true, false, Option, Some, None, refl, sym, ap, ◌∙◌, arith, length-append}
-use Rattle.std.specs.Prelude.{IsTrue, slice_get}
+use Rattle.std.proofs.Common.{◌≡◌, ℕ, zero, suc, ◌+◌, ◌*◌, ◌<◌, ◌^◌, List, [], ◌∷◌, ◌++◌, length, map, Bool, true, false, Option, Some, None, refl, sym, ap, ◌∙◌, arith, length-append}
+use Rattle.std.specs.Prelude.{IsTrue, slice_get, set}
 use Rattle.std.proofs.lemmas.List.Elements.{All-nil, All-cons}
 use Rattle.el_base.specs.declared.ty.Array.{Array}
 use Rattle.el_base.specs.declared.ty.Scalar.{Scalar}
@@ -12,12 +12,14 @@ use Rattle.net_types.specs.declared.net.Port.{Port}
 use Rattle.net_types.specs.declared.net.Port.TheVariants.{Load, Store}
 use Rattle.net_types.specs.declared.net.Unit.TheVariants.{Entry, Param, Lsq}
 use Rattle.net_types.specs.Nets.{at}
-use Rattle.net_types.specs.Tables.{Spot, spots, port_ins, port_outs, array_width, scalar_width}
+use Rattle.net_types.specs.Tables.{Spot, spots, outs, port_ins, port_outs, array_width, scalar_width}
 use Rattle.net_types.specs.Rules.{width_fits}
 use Rattle.circuit_build.specs.declared.draft.Draft.{Draft}
+use Rattle.circuit_build.specs.declared.draft.Edge.{Edge}
 use Rattle.circuit_build.specs.declared.draft.Queue.{Queue}
-use Rattle.circuit_build.specs.Drafts.{number, next, with_unit}
-use Rattle.circuit_build.specs.Steps.{plus, value_place, addr_place, data_place, next_port, next_group}
+use Rattle.circuit_build.specs.Drafts.{number, plus, next, with_unit}
+use Rattle.circuit_build.specs.Uses.{zeros}
+use Rattle.circuit_build.specs.Steps.{value_place, addr_place, data_place, next_port, next_group}
 use Rattle.circuit_build.specs.Fronts.{started, params_laid, param_ends, entered, ports_of, groups_from, depth_from, queue_if, queues_laid}
 use Rattle.circuit_build.proofs.CountBooks.{Weight, Sum, row, Books, moved, lay_unit}
 use Rattle.circuit_build.proofs.CountQueues.{qsum, groups_left, port_values, port_operands, queue_out, queue_in, queues_out, queues_in}
@@ -26,8 +28,8 @@ use Rattle.circuit_build.proofs.CountJumps.{widths, Same}
 
 -- ---- the entry and the scalars
 
-pub started_books : (net : Net) → Books net started.units started.chans (λ f. 0) (λ f. f (at 0 0) 32 true)
-started_books net = record {
+pub started_books : (net : Net) (n : ℕ) → Books net (started n).units (started n).chans (λ f. 0) (λ f. f (at 0 0) 32 true)
+started_books net n = record {
   marks = false ∷ [];
   same = refl;
   out = λ f. omega arith;
@@ -50,6 +52,10 @@ params_same : (ss : List Scalar) (j : ℕ) (d : Draft) → Same d (params_laid j
 params_same [] j d = record { edges = refl; heads = refl; queues = refl }
 params_same (s ∷ ss) j d = let i = params_same ss (plus j 1) (with_unit (Param j) d) in record { edges = i.edges; heads = i.heads; queues = i.queues }
 
+params_tails : (ss : List Scalar) (j : ℕ) (d : Draft) → (params_laid j ss d).tails ≡ d.tails
+params_tails [] j d = refl
+params_tails (s ∷ ss) j d = params_tails ss (plus j 1) (with_unit (Param j) d)
+
 pub params_widths : (ss : List Scalar) (j : ℕ) (d : Draft) → widths (param_ends j ss d) ≡ map (λ s. ty_width s.ty) ss
 params_widths [] j d = refl
 params_widths (s ∷ ss) j d = ap (λ l. ty_width s.ty ∷ l) (params_widths ss (plus j 1) (with_unit (Param j) d))
@@ -60,22 +66,26 @@ scalar_at (x ∷ ss) zero s e = let z : x ≡ s = cc in ap (λ (r : Scalar). ty_
 scalar_at (x ∷ ss) (suc i) s e = scalar_at ss i s e
 
 -- the entry and the scalars are the first edge
-pub record Entered (net : Net) (ss : List Scalar) : Type 0 where
-  pub books : Books net (entered ss started).units (entered ss started).chans (λ f. 0) (λ f. edges f (entered ss started).edges)
-  pub edges_are : (entered ss started).edges ≡ record { to = 0; control = at 0 0; with = param_ends 0 ss started } ∷ []
-  pub heads_are : (entered ss started).heads ≡ []
-  pub queues_are : (entered ss started).queues ≡ []
+pub record Entered (net : Net) (ss : List Scalar) (n : ℕ) : Type 0 where
+  pub books : Books net (entered ss (started n)).units (entered ss (started n)).chans (λ f. 0) (λ f. edges f (entered ss (started n)).heads (entered ss (started n)).edges)
+  pub edges_are : (entered ss (started n)).edges ≡ record { to = 0; control = at 0 0; with = param_ends 0 ss (started n) } ∷ []
+  pub heads_are : (entered ss (started n)).heads ≡ []
+  pub tails_are : (entered ss (started n)).tails ≡ set (zeros n) 0 (number 1)
+  pub queues_are : (entered ss (started n)).queues ≡ []
 
-pub entered_books : (net : Net) → length net.scalars < 2 ^ 32 → Entered net net.scalars
-entered_books net few =
+pub entered_books : (net : Net) (n : ℕ) → length net.scalars < 2 ^ 32 → Entered net net.scalars n
+entered_books net n few =
     let ss = net.scalars in
-    let s = params_same ss 0 started in
-    let b = params_books ss 0 started (λ f. f (at 0 0) 32 true) (λ i t e. ap (λ k. scalar_width net.scalars k) (let z : 0 + i ≡ i = omega arith in z) ∙ scalar_at ss i t e) (omega arith) (started_books net) in
-    let is = ap (λ es. es ++ record { to = 0; control = at 0 0; with = param_ends 0 ss started } ∷ []) s.edges in
+    let d = started n in
+    let s = params_same ss 0 d in
+    let b = params_books ss 0 d (λ f. f (at 0 0) 32 true) (λ i t e. ap (λ k. scalar_width net.scalars k) (let z : 0 + i ≡ i = omega arith in z) ∙ scalar_at ss i t e) (omega arith) (started_books net n) in
+    let x : Edge = record { to = 0; control = at 0 0; with = param_ends 0 ss d } in
+    let is : (entered ss d).edges ≡ x ∷ [] = ap (λ es. es ++ x ∷ []) s.edges in
     record {
-      books = moved (λ f. 0) (λ f. edges f (entered ss started).edges) b (λ f. refl) (λ f. let e = ap (λ es. edges f es) is in omega (arith, e));
+      books = moved (λ f. 0) (λ f. edges f (entered ss d).heads (entered ss d).edges) b (λ f. refl) (λ f. let e = ap (λ es. edges f (entered ss d).heads es) is in let h = ap (λ hs. edges f hs (x ∷ [])) s.heads in omega (arith, e, h));
       edges_are = is;
       heads_are = s.heads;
+      tails_are = ap (λ ts. set ts 0 (number (length (entered ss d).edges))) (params_tails ss 0 d) ∙ ap (λ es. set (zeros n) 0 (number (length es))) is;
       queues_are = s.queues;
     }
 
@@ -130,7 +140,7 @@ qsum_more K (Some x ∷ qs) q = let i = qsum_more (λ a. K (suc a)) qs q in omeg
 
 -- P and G are the ports and groups of each array that has a queue
 pub record Fronted (net : Net) (P : ℕ → List Port) (G : ℕ → ℕ) (d : Draft) (a : ℕ) : Type 0 where
-  pub books : Books net d.units d.chans (λ f. queues_in f (array_width net.arrays) P G d.queues) (λ f. edges f d.edges + queues_out f (array_width net.arrays) P G d.queues)
+  pub books : Books net d.units d.chans (λ f. queues_in f (array_width net.arrays) P G d.queues) (λ f. edges f d.heads d.edges + queues_out f (array_width net.arrays) P G d.queues)
   pub many : length d.queues ≡ a
 
 -- what a queue of the array a is to be
@@ -145,7 +155,7 @@ queue_fronted {net} {P} {G} a ps [] m d s h =
     let K : Weight → ℕ → Queue → ℕ = λ f b q. queue_in f (W b) q (P b) (G b) in
     let L : Weight → ℕ → Queue → ℕ = λ f b q. queue_out f (W b) q (P b) (G b) in
     record {
-      books = moved (λ f. queues_in f W P G (d.queues ++ None ∷ [])) (λ f. edges f d.edges + queues_out f W P G (d.queues ++ None ∷ [])) h.books (λ f. sym (qsum_none_more (K f) d.queues)) (λ f. let x = qsum_none_more (L f) d.queues in omega (arith, x));
+      books = moved (λ f. queues_in f W P G (d.queues ++ None ∷ [])) (λ f. edges f d.heads d.edges + queues_out f W P G (d.queues ++ None ∷ [])) h.books (λ f. sym (qsum_none_more (K f) d.queues)) (λ f. let x = qsum_none_more (L f) d.queues in omega (arith, x));
       many = let l = length-append d.queues (None ∷ []) in let x = h.many in omega (arith, l, x);
     }
 queue_fronted {net} {P} {G} a ps (g ∷ gs) m d s h =
@@ -161,16 +171,29 @@ queue_fronted {net} {P} {G} a ps (g ∷ gs) m d s h =
     let z : 0 + length hs ≡ number (length hs) = omega (arith, few) in
     let g_row : (f : Weight) → row f n (spots 0 32 true (suc (length hs))) ≡ groups_left f q (G a) + f (at n q.groups) 32 true =
     λ f. let x = groups_row f q 0 (length hs) refl (omega (arith, few)) in let y = ap (λ v. f (at n v) 32 true) z in let v = ap (λ c. groups_left f q c) groups in omega (arith, x, y, v) in
-    let b = lay_unit (Lsq a m ps hs false) false (λ f. queues_in f W P G d.queues + queue_in f (W a) q (P a) (G a)) (λ f. edges f d.edges + queues_out f W P G d.queues + queue_out f (W a) q (P a) (G a)) h.books refl
+    let b = lay_unit (Lsq a m ps hs false) false (λ f. queues_in f W P G d.queues + queue_in f (W a) q (P a) (G a)) (λ f. edges f d.heads d.edges + queues_out f W P G d.queues + queue_out f (W a) q (P a) (G a)) h.books refl
     (λ f. let x = row_append f n (spots 0 32 true (suc (length hs))) (port_ins (length hs + 1) (W a) ps) in let y = g_row f in
     let v = operands_row f (W a) ps q (length hs + 1) (omega (arith, few)) (omega (arith, few)) in let w = ap (λ l. port_operands f (W a) q l) t.ports in omega (arith, x, y, v, w))
     (λ f. let x = row_append f n (spots 0 32 true (suc (length hs))) (port_outs (length hs + 1) (W a) ps) in let y = g_row f in
     let v = values_row f (W a) ps q (length hs + 1) (omega (arith, few)) (omega (arith, few)) in let w = ap (λ l. port_values f (W a) q l) t.ports in omega (arith, x, y, v, w)) in
     record {
-      books = moved (λ f. queues_in f W P G (d.queues ++ Some q ∷ [])) (λ f. edges f d.edges + queues_out f W P G (d.queues ++ Some q ∷ [])) b
+      books = moved (λ f. queues_in f W P G (d.queues ++ Some q ∷ [])) (λ f. edges f d.heads d.edges + queues_out f W P G (d.queues ++ Some q ∷ [])) b
           (λ f. let x = qsum_more (K f) d.queues q in let y = ap (λ c. K f c q) h.many in omega (arith, x, y)) (λ f. let x = qsum_more (L f) d.queues q in let y = ap (λ c. L f c q) h.many in omega (arith, x, y));
       many = let l = length-append d.queues (Some q ∷ []) in let x = h.many in omega (arith, l, x);
     }
+
+-- the outputs of a queue that is laid are those that are open at first
+pub queue_outs : (net : Net) (f : Weight) (m : Bool) (a dep : ℕ) (ps : List Port) (hs : List (List ℕ)) (u : ℕ) → length hs + 2 + 2 * length ps < 2 ^ 32
+    → row f u (outs net m (Lsq a dep ps hs false)) ≡ queue_out f (array_width net.arrays a) (record { unit = u; groups = number (length hs); group = 0; port = 0 }) ps (length hs)
+queue_outs net f m a dep ps hs u few =
+    let w = array_width net.arrays a in
+    let q : Queue = record { unit = u; groups = number (length hs); group = 0; port = 0 } in
+    let z : 0 + length hs ≡ number (length hs) = omega (arith, few) in
+    let e = row_append f u (spots 0 32 true (suc (length hs))) (port_outs (length hs + 1) w ps) in
+    let x = groups_row f q 0 (length hs) refl (omega (arith, few)) in
+    let y = ap (λ v. f (at u v) 32 true) z in
+    let v = values_row f w ps q (length hs + 1) (omega (arith, few)) (omega (arith, few)) in
+    omega (arith, e, x, y, v)
 
 pub queues_fronted : {net : Net} {P : ℕ → List Port} {G : ℕ → ℕ} (ks : List Block) (of : List Access) (a : ℕ) (xs : List Array) (d : Draft) → ((b : ℕ) → 0 < length (groups_from b 0 of) → Suits P G b (ports_of b ks of) (groups_from b 0 of)) → a + length xs < 2 ^ 32 → Fronted net P G d a
     → Fronted net P G (queues_laid ks of a xs d) (a + length xs)
@@ -183,14 +206,14 @@ queues_fronted {net} {P} {G} ks of a (x ∷ xs) d s few h =
     record { books = i.books; many = let m = i.many in omega (arith, m) }
 
 -- queues leave the edges and the heads
-if_same : (a : ℕ) (ps : List Port) (gs : List (List ℕ)) (m : ℕ) (d : Draft) → ((queue_if a ps gs m d).edges ≡ d.edges) × ((queue_if a ps gs m d).heads ≡ d.heads)
-if_same a ps [] m d = (refl, refl)
-if_same a ps (g ∷ gs) m d = (refl, refl)
+if_same : (a : ℕ) (ps : List Port) (gs : List (List ℕ)) (m : ℕ) (d : Draft) → ((queue_if a ps gs m d).edges ≡ d.edges) × ((queue_if a ps gs m d).heads ≡ d.heads) × ((queue_if a ps gs m d).tails ≡ d.tails)
+if_same a ps [] m d = (refl, refl, refl)
+if_same a ps (g ∷ gs) m d = (refl, refl, refl)
 
-pub queues_same : (ks : List Block) (of : List Access) (a : ℕ) (xs : List Array) (d : Draft) → ((queues_laid ks of a xs d).edges ≡ d.edges) × ((queues_laid ks of a xs d).heads ≡ d.heads)
-queues_same ks of a [] d = (refl, refl)
+pub queues_same : (ks : List Block) (of : List Access) (a : ℕ) (xs : List Array) (d : Draft) → ((queues_laid ks of a xs d).edges ≡ d.edges) × ((queues_laid ks of a xs d).heads ≡ d.heads) × ((queues_laid ks of a xs d).tails ≡ d.tails)
+queues_same ks of a [] d = (refl, refl, refl)
 queues_same ks of a (x ∷ xs) d =
     let e = queue_if a (ports_of a ks of) (groups_from a 0 of) (depth_from a 16 of) d in
     let y = if_same a (ports_of a ks of) (groups_from a 0 of) (depth_from a 16 of) d in
     let i = queues_same ks of (plus a 1) xs e in
-    (i.0 ∙ y.0, i.1 ∙ y.1)
+    (i.0 ∙ y.0, i.1 ∙ y.1, i.2 ∙ y.2)

@@ -1,33 +1,40 @@
--- The jump of a block and the sinks for what is left keep the balance: what is handed on is an edge.
-use Rattle.std.proofs.Common.{◌≡◌, ℕ, ◌+◌, List, [], ◌∷◌, ◌++◌, true, false, Option, Some, None, refl, sym, ap, ◌∙◌, subst, arith}
-use Rattle.std.specs.Prelude.{All, IsTrue}
-use Rattle.std.proofs.lemmas.List.Elements.{All-head, All-tail}
+-- The jump of a block keeps the balance: what is handed on is an edge, and nothing is left of the block's values.
+use Rattle.std.proofs.Common.{◌≡◌, ℕ, zero, suc, ◌+◌, ◌<◌, ◌^◌, List, [], ◌∷◌, ◌++◌, length, get_or, set, Bool, true, false, Option, None, refl, sym, ap, ◌∙◌, subst, inl, inr, arith}
+use Rattle.std.specs.Prelude.{IsTrue, slice_get, cond}
+use Rattle.std.proofs.lemmas.Bool.{cases_eq}
 use Rattle.ir.specs.declared.graph.To.{To}
 use Rattle.ir.specs.Shapes.{Shape, IsOfWidth}
 use Rattle.ir.specs.Graphs.{AreHanded}
 use Rattle.net_types.specs.declared.net.Net.{Net}
 use Rattle.net_types.specs.declared.net.Port.{Port}
-use Rattle.net_types.specs.declared.net.Unit.TheVariants.{Branch, Sink}
+use Rattle.net_types.specs.declared.net.Unit.TheVariants.{Branch, Fork}
 use Rattle.net_types.specs.Nets.{at}
 use Rattle.net_types.specs.Rules.{is_width}
 use Rattle.net_types.specs.Tables.{array_width}
 use Rattle.circuit_build.specs.declared.draft.Draft.{Draft}
 use Rattle.circuit_build.specs.declared.draft.Edge.{Edge}
 use Rattle.circuit_build.specs.declared.draft.End.{End}
-use Rattle.circuit_build.specs.Drafts.{next, with_unit, fed, buffered, copied, copy_of, sunk}
-use Rattle.circuit_build.specs.Jumps.{all_copied, copies_of, gone, branched, branch_end, all_branched, branch_ends, parted, all_sunk, swept}
+use Rattle.circuit_build.specs.Drafts.{number, plus, next, with_unit, fed, buffered, used, copied, copy_of, spread, spread_end}
+use Rattle.circuit_build.specs.Steps.{queue_of, queue_or}
+use Rattle.circuit_build.specs.Uses.{handed_often}
+use Rattle.circuit_build.specs.Jumps.{with_edge, is_of_head, passed, passed_end, all_passed, passed_ends, gone, branched, branch_ends, branched_if, sides_if, all_branched, all_sides, yes_ends, no_ends, taken, control_branched, parted}
 use Rattle.circuit_build.proofs.CountBooks.{Weight, Sum, Books, moved, lay_unit, lay_chan}
-use Rattle.circuit_build.proofs.CountItems.{ends, widths_of, WideIf, wide_at, Open, shifted, buffered_open, copy_width, copied_open, fed_books}
+use Rattle.circuit_build.proofs.CountItems.{run, end_run, ends, ends_same, ends_none, ends_used, wide_at, Found, Fitting, fitting_used, Open, shifted, leaves, buffered_open, copy_width, copied_open, fed_books, spread_books, SameEnds, spread_ends, spread_found}
 use Rattle.circuit_build.proofs.CountQueues.{queues_in, queues_out}
-use Rattle.circuit_build.proofs.CountSteps.{carried, edges, hsum, owe_of, rest_of, Within}
+use Rattle.circuit_build.proofs.CountSteps.{carried, is_zero, edges, hsum, owe_of, rest_of, EdgesFact, Within}
+use Rattle.circuit_build.proofs.Fields as fields
+use Rattle.circuit_build.proofs.Remains.{one_if, one_own, one_other, often, branch_uses, branches_uses, of_width_below}
 
 abbrev pub widths : List End → List ℕ
 widths [] = []
 widths (e ∷ es) = e.width ∷ widths es
 
-pub edges_more : (f : Weight) (es : List Edge) (e : Edge) → edges f (es ++ e ∷ []) ≡ edges f es + (f e.control 32 true + carried f e.with)
-edges_more f [] e = omega arith
-edges_more f (x ∷ es) e = let i = edges_more f es e in omega (arith, i)
+abbrev pub edge_weight : Weight → List ℕ → Edge → ℕ
+edge_weight f hs e = cond (is_zero (slice_get hs e.to)) 0 (f e.control 32 true + carried f e.with)
+
+pub edges_more : (f : Weight) (hs : List ℕ) (es : List Edge) (e : Edge) → edges f hs (es ++ e ∷ []) ≡ edges f hs es + edge_weight f hs e
+edges_more f hs [] e = omega arith
+edges_more f hs (x ∷ es) e = let i = edges_more f hs es e in omega (arith, i)
 
 -- what is laid in a block leaves the edges, the heads and the queues
 pub record Same (d e : Draft) : Type 0 where
@@ -35,162 +42,348 @@ pub record Same (d e : Draft) : Type 0 where
   pub heads : e.heads ≡ d.heads
   pub queues : e.queues ≡ d.queues
 
-same_own : (d : Draft) → Same d d
-same_own d = record { edges = refl; heads = refl; queues = refl }
+-- between two blocks: nothing of a block is open
+pub record Between (net : Net) (S : ℕ → Type 0) (K : Weight → ℕ → ℕ → ℕ) (J : EdgesFact) (P : ℕ → List Port) (G : ℕ → ℕ) (d : Draft) : Type 0 where
+  pub books : Books net d.units d.chans (owe_of net K P G d) (rest_of net P G d)
+  pub kept : J d.edges d.heads d.tails
+  pub stored : (a : ℕ) → queue_of d a ≡ None → S a → ⊥
 
--- ---- copies for one side
+-- an edge to a target whose arguments have these widths may be added to the edges: its head has not taken one
+pub record Adds (J : EdgesFact) (to : ℕ) (args : List ℕ) (M : EdgesFact) : Type 0 where
+  pub free : (es : List Edge) (hs ts : List ℕ) → J es hs ts → is_zero (slice_get hs to) ≡ false
+  pub more : (e : Edge) (es : List Edge) (hs ts : List ℕ) → e.to ≡ to → widths e.with ≡ args → J es hs ts → M (es ++ e ∷ []) hs (set ts e.to (number (length (es ++ e ∷ []))))
 
-pub record Copied (net : Net) (d : Draft) (owe rest : Sum) (ws : Shape) (vs args : List ℕ) : Type 0 where
-  pub open_ends : Open net (all_copied vs d) owe (λ f. carried f (copies_of vs d) + rest f) ws
-  pub handed : widths (copies_of vs d) ≡ args
-  pub same : Same d (all_copied vs d)
+-- ---- what keeps the ends
 
-pub all_copied_open : {net : Net} {o : Sum} {ws : Shape} (vs args : List ℕ) (d : Draft) (r : Sum) → AreHanded ws vs args → Open net d o r ws → Copied net d o r ws vs args
-all_copied_open {net} {o} {ws} [] [] d r a h = record { open_ends = shifted o (λ f. 0 + r f) h (λ f. refl) (λ f. omega arith); handed = refl; same = same_own d }
-all_copied_open {net} {o} {ws} [] (w ∷ args) d r a h = absurd a
-all_copied_open {net} {o} {ws} (v ∷ vs) [] d r a h = absurd a
-all_copied_open {net} {o} {ws} (v ∷ vs) (w ∷ args) d r (x, y) h =
-    let c = copied_open v w h x in
-    let z = copy_width v w h x in
-    let i = all_copied_open vs args (copied v d) (λ f. f (at (next d) 1) w false + r f) y c in
+-- the ends of d, in e
+open_from : {net : Net} {o r s : Sum} {ws : Shape} {L : ℕ → ℕ} {k : ℕ} (d e : Draft) → SameEnds d e → Open net d o s ws L k → Books net e.units e.chans o (λ f. f d.control 32 true + run f d.trigger 32 k + ends f L d.ends + r f) → Open net e o r ws L k
+open_from {net} {o} {r} {s} {ws} {L} {k} d e h w b = record {
+  books = moved o (λ f. f e.control 32 true + run f e.trigger 32 k + ends f L e.ends + r f) b (λ f. refl)
+      (λ f. let x = ap (λ p. f p 32 true) h.control in let y = ap (λ p. run f p 32 k) h.trigger in let z = ap (λ l. ends f L l) h.ends in omega (arith, x, y, z));
+  fits = subst (λ l. Fitting l ws L) (sym h.ends) w.fits;
+  wide = w.wide;
+  ahead = λ v l. w.ahead v l ∙ ap (λ t. get_or t v 0) (sym h.uses);
+  few = λ v. let x = ap (λ t. get_or t v 0) h.uses in let y = w.few v in omega (arith, x, y);
+}
+
+-- nothing is left of the values
+spent : {net : Net} {d : Draft} {o r : Sum} {ws : Shape} {L : ℕ → ℕ} → Open net d o r ws L 0 → ((u : ℕ) → L u ≡ 0) → Books net d.units d.chans o (λ f. f d.control 32 true + r f)
+spent {net} {d} {o} {r} {ws} {L} h z = moved o (λ f. f d.control 32 true + r f) h.books (λ f. refl) (λ f. let x = ends_none f d.ends L (λ v l. z v) in omega (arith, x))
+
+-- ---- one side: a use of each value, past a buffer where it would lead from a head to itself
+
+passed_open : {net : Net} {d : Draft} {o : Sum} {ws : Shape} {L : ℕ → ℕ} {k : ℕ} (t : Bool) (x : End) (w : ℕ) (r : Sum) → x.width ≡ w → IsTrue (is_width w) → Open net d o (λ f. f x.place w false + r f) ws L k → Open net (passed t x d) o (λ f. f (passed_end t x d).place w false + r f) ws L k
+passed_open {net} {d} {o} {ws} {L} {k} true x w r e wide h =
+    let n = next d in
+    let fits : IsTrue (is_width x.width) = subst (λ y. IsTrue (is_width y)) (sym e) wide in
+    let b = lay_unit (Fork x.width 1) false (λ f. f (at n 0) x.width false + o f) (λ f. f d.control 32 true + run f d.trigger 32 k + ends f L d.ends + (f x.place w false + r f) + f (at n 0) w false) h.books fits (λ f. omega arith)
+    (λ f. let y = ap (λ v. f (at n 0) v false) e in omega (arith, y)) in
     record {
-      open_ends = shifted o (λ f. carried f (copies_of (v ∷ vs) d) + r f) i.open_ends (λ f. refl) (λ f. let t = ap (λ n. f (at (next d) 1) n false) z in omega (arith, t));
-      handed = ap (λ n. n ∷ widths (copies_of vs (copied v d))) z ∙ ap (λ l. w ∷ l) i.handed;
-      same = record { edges = i.same.edges; heads = i.same.heads; queues = i.same.queues };
+      books = fed_books x n 0 x.width o (λ f. f d.control 32 true + run f d.trigger 32 k + ends f L d.ends + (f (at n 0) w false + r f)) b refl (λ f. refl) (λ f. let y = ap (λ v. f x.place v false) e in omega (arith, y));
+      fits = h.fits;
+      wide = h.wide;
+      ahead = h.ahead;
+      few = h.few;
+    }
+passed_open false x w r e wide h = h
+
+passed_width : (t : Bool) (x : End) (d : Draft) → (passed_end t x d).width ≡ x.width
+passed_width true x d = refl
+passed_width false x d = refl
+
+record Passed (net : Net) (h n : ℕ) (d : Draft) (owe rest : Sum) (ws : Shape) (vs args : List ℕ) : Type 0 where
+  open_ends : Open net (all_passed h n vs d) owe (λ f. carried f (passed_ends h n vs d) + rest f) ws (λ u. 0) 0
+  handed : widths (passed_ends h n vs d) ≡ args
+
+all_passed_open : {net : Net} {o : Sum} {ws : Shape} (h n : ℕ) (vs args : List ℕ) (d : Draft) (r : Sum) (L : ℕ → ℕ) → AreHanded ws vs args → ((u : ℕ) → L u ≡ often u vs) → Open net d o r ws L 0 → Passed net h n d o r ws vs args
+all_passed_open {net} {o} {ws} h n [] [] d r L a m x = record { open_ends = leaves (λ u. 0) (shifted o (λ f. 0 + r f) x (λ f. refl) (λ f. omega arith)) m; handed = refl }
+all_passed_open {net} {o} {ws} h n [] (w ∷ args) d r L a m x = absurd a
+all_passed_open {net} {o} {ws} h n (v ∷ vs) [] d r L a m x = absurd a
+all_passed_open {net} {o} {ws} h n (v ∷ vs) (w ∷ args) d r L (i, y) m x =
+    let M : ℕ → ℕ = λ u. often u vs in
+    let t : (u : ℕ) → L u ≡ M u + one_if v u = λ u. let z = m u in omega (arith, z) in
+    let c = copied_open v w M x i t in
+    let z = copy_width v w M x i t in
+    let e = copy_of v d in
+    let b = is_of_head e.place h n in
+    let p = passed_open b e w r z (wide_at ws v w x.wide i) c in
+    let q = passed_width b e (copied v d) in
+    let j = all_passed_open h n vs args (passed b e (copied v d)) (λ f. f (passed_end b e (copied v d)).place w false + r f) M y (λ u. refl) p in
+    record {
+      open_ends = shifted o (λ f. carried f (passed_ends h n (v ∷ vs) d) + r f) j.open_ends (λ f. refl) (λ f. let g = ap (λ k. f (passed_end b e (copied v d)).place k false) (q ∙ z) in omega (arith, g));
+      handed = ap (λ k. k ∷ widths (passed_ends h n vs (passed b e (copied v d)))) (q ∙ z) ∙ ap (λ l. w ∷ l) j.handed;
     }
 
--- ---- branches for one of two sides
+-- ---- a branch for each value that either side hands on
 
-pub record IsSides (kept dropped : ℕ) : Type 0 where
-  pub two : (f : Weight) (n w : ℕ) → f (at n 0) w false + f (at n 1) w false ≡ f (at n kept) w false + f (at n dropped) w false
-
-branched_open : {net : Net} {d : Draft} {o r : Sum} {ws : Shape} (kept dropped c v w : ℕ) → IsSides kept dropped → Open net d o r ws → IsOfWidth ws c 32 → IsOfWidth ws v w → Open net (branched kept dropped c v d) o (λ f. f (branch_end kept c v d).place (branch_end kept c v d).width false + r f) ws
-branched_open {net} {d} {o} {r} {ws} kept dropped c v w sides h i j =
+branched_open : {net : Net} {d : Draft} {o r : Sum} {ws : Shape} {L : ℕ → ℕ} (c v w y n : ℕ) (M : ℕ → ℕ) → Open net d o r ws L 0 → IsOfWidth ws c 32 → IsOfWidth ws v w → ((u : ℕ) → L u ≡ M u + (one_if c u + one_if v u)) → y < 2 ^ 32 → n < 2 ^ 32
+    → Open net (branched c v y n d) o (λ f. end_run f (branch_ends c v y n d).yes_end y + (end_run f (branch_ends c v y n d).no_end n + r f)) ws M 0
+branched_open {net} {d} {o} {r} {ws} {L} c v w y n M h i j t few more =
+    let N : ℕ → ℕ = λ u. M u + one_if v u in
+    let tc : (u : ℕ) → L u ≡ N u + one_if c u = λ u. let z = t u in omega (arith, z) in
     let e = copied c d in
     let g = copied v e in
-    let n = next g in
+    let u = next g in
     let x = (copy_of v e).width in
-    let a = copied_open c 32 h i in
-    let b = copied_open v w a j in
-    let z : x ≡ w = copy_width v w a j in
+    let a = copied_open c 32 N h i tc in
+    let b = copied_open v w M a j (λ u. refl) in
+    let z : x ≡ w = copy_width v w M a j (λ u. refl) in
     let fits : IsTrue (is_width x) = subst (λ y. IsTrue (is_width y)) (sym z) (wide_at ws v w h.wide j) in
-    let l = lay_unit (Branch x) false (λ f. f (at n 0) 32 false + (f (at n 1) x false + o f))
-    (λ f. f d.control 32 true + ends f g.ends + (f (copy_of v e).place x false + (f (copy_of c d).place 32 false + r f)) + f (at n kept) x false + f (at n dropped) x false) b.books fits (λ f. omega arith)
-    (λ f. let s = sides.two f n x in let t = ap (λ y. f (copy_of v e).place y false) z in omega (arith, s, t)) in
-    let m = fed_books (copy_of c d) n 0 32 (λ f. f (at n 1) x false + o f) (λ f. f d.control 32 true + ends f g.ends + (f (copy_of v e).place x false + r f) + f (at n kept) x false + f (at n dropped) x false) l (copy_width c 32 h i) (λ f. refl) (λ f. omega arith) in
-    let k = fed_books (copy_of v e) n 1 x o (λ f. f d.control 32 true + ends f g.ends + r f + f (at n kept) x false + f (at n dropped) x false) m refl (λ f. refl) (λ f. omega arith) in
-    let u = fed (copy_of v e) n 1 (fed (copy_of c d) n 0 (with_unit (Branch x) g)) in
-    let s = lay_unit (Sink x) false (λ f. f (at (next u) 0) x false + o f) (λ f. f d.control 32 true + ends f g.ends + r f + f (at n kept) x false + f (at n dropped) x false) k fits (λ f. omega arith) (λ f. omega arith) in
-    let t = fed_books (record { place = at n dropped; width = x }) (next u) 0 x o (λ f. f d.control 32 true + ends f g.ends + (f (at n kept) x false + r f)) s refl (λ f. refl) (λ f. omega arith) in
-    record { books = t; shape = b.shape; wide = b.wide }
+    let C : Sum = λ f. f g.control 32 true + run f g.trigger 32 0 + ends f M g.ends in
+    let l = lay_unit (Branch x) false (λ f. f (at u 0) 32 false + (f (at u 1) x false + o f))
+    (λ f. C f + (f (copy_of v e).place x false + (f (copy_of c d).place 32 false + r f)) + f (at u 0) x false + f (at u 1) x false) b.books fits (λ f. omega arith)
+    (λ f. let t = ap (λ y. f (copy_of v e).place y false) z in omega (arith, t)) in
+    let m = fed_books (copy_of c d) u 0 32 (λ f. f (at u 1) x false + o f) (λ f. C f + (f (copy_of v e).place x false + r f) + f (at u 0) x false + f (at u 1) x false) l (copy_width c 32 N h i tc) (λ f. refl) (λ f. omega arith) in
+    let k = fed_books (copy_of v e) u 1 x o (λ f. C f + r f + f (at u 0) x false + f (at u 1) x false) m refl (λ f. refl) (λ f. omega arith) in
+    let q = fed (copy_of v e) u 1 (fed (copy_of c d) u 0 (with_unit (Branch x) g)) in
+    let one : End = record { place = at u 0; width = x } in
+    let two : End = record { place = at u 1; width = x } in
+    let s1 = spread_books q one y (λ f. C f + r f + f (at u 1) x false) k fits few (λ f. omega arith) in
+    let p = spread one y q in
+    let s2 = spread_books p two n (λ f. C f + r f + end_run f (spread_end one y q) y) s1 fits more (λ f. omega arith) in
+    let k1 = spread_ends one y q in
+    let k2 = spread_ends two n p in
+    let all = spread two n p in
+    let same : SameEnds g all = record { control = k2.control ∙ k1.control; trigger = k2.trigger ∙ k1.trigger; ends = k2.ends ∙ k1.ends; uses = k2.uses ∙ k1.uses } in
+    open_from g all same b (moved o (λ f. C f + (end_run f (branch_ends c v y n d).yes_end y + (end_run f (branch_ends c v y n d).no_end n + r f))) s2 (λ f. refl) (λ f. omega arith))
 
-branch_width : {net : Net} {d : Draft} {o r : Sum} {ws : Shape} (kept c v w : ℕ) → Open net d o r ws → IsOfWidth ws c 32 → IsOfWidth ws v w → (branch_end kept c v d).width ≡ w
-branch_width {net} {d} {o} {r} {ws} kept c v w h i j = copy_width v w (copied_open c 32 h i) j
+branch_fit : {net : Net} {d : Draft} {o r : Sum} {ws : Shape} {L : ℕ → ℕ} (c v w y n : ℕ) (M : ℕ → ℕ) → Open net d o r ws L 0 → IsOfWidth ws c 32 → IsOfWidth ws v w → ((u : ℕ) → L u ≡ M u + (one_if c u + one_if v u)) → (0 < y → Found ((branch_ends c v y n d).yes_end ∷ []) 0 w) × (0 < n → Found ((branch_ends c v y n d).no_end ∷ []) 0 w)
+branch_fit {net} {d} {o} {r} {ws} {L} c v w y n M h i j t =
+    let N : ℕ → ℕ = λ u. M u + one_if v u in
+    let a = copied_open c 32 N h i (λ u. let z = t u in omega (arith, z)) in
+    let e = copied c d in
+    let z = copy_width v w M a j (λ u. refl) in
+    let x = (copy_of v e).width in
+    let g = copied v e in
+    let u = next g in
+    let q = fed (copy_of v e) u 1 (fed (copy_of c d) u 0 (with_unit (Branch x) g)) in
+    let one : End = record { place = at u 0; width = x } in
+    (λ s. spread_found q one y w z s, λ s. spread_found (spread one y q) (record { place = at u 1; width = x }) n w z s)
 
-pub record Branched (net : Net) (d : Draft) (owe rest : Sum) (ws : Shape) (kept dropped c : ℕ) (vs args : List ℕ) : Type 0 where
-  pub open_ends : Open net (all_branched kept dropped c vs d) owe (λ f. carried f (branch_ends kept dropped c vs d) + rest f) ws
-  pub handed : widths (branch_ends kept dropped c vs d) ≡ args
-  pub same : Same d (all_branched kept dropped c vs d)
+record SidesFit (c v y n : ℕ) (w : ℕ) (d : Draft) : Type 0 where
+  yes : 0 < y → Found ((sides_if c v y n d).yes_end ∷ []) 0 w
+  no : 0 < n → Found ((sides_if c v y n d).no_end ∷ []) 0 w
 
-all_branched_open : {net : Net} {o : Sum} {ws : Shape} (kept dropped c : ℕ) → IsSides kept dropped → IsOfWidth ws c 32 → (vs args : List ℕ) (d : Draft) (r : Sum) → AreHanded ws vs args → Open net d o r ws → Branched net d o r ws kept dropped c vs args
-all_branched_open {net} {o} {ws} kept dropped c sides i [] [] d r a h = record { open_ends = shifted o (λ f. 0 + r f) h (λ f. refl) (λ f. omega arith); handed = refl; same = same_own d }
-all_branched_open {net} {o} {ws} kept dropped c sides i [] (w ∷ args) d r a h = absurd a
-all_branched_open {net} {o} {ws} kept dropped c sides i (v ∷ vs) [] d r a h = absurd a
-all_branched_open {net} {o} {ws} kept dropped c sides i (v ∷ vs) (w ∷ args) d r (x, y) h =
-    let b = branched_open kept dropped c v w sides h i x in
-    let z = branch_width kept c v w h i x in
-    let j = all_branched_open kept dropped c sides i vs args (branched kept dropped c v d) (λ f. f (branch_end kept c v d).place (branch_end kept c v d).width false + r f) y b in
+sides_fit : {net : Net} {d : Draft} {o r : Sum} {ws : Shape} {L : ℕ → ℕ} (c v w y n : ℕ) (M : ℕ → ℕ) → Open net d o r ws L 0 → IsOfWidth ws c 32 → IsOfWidth ws v w → ((u : ℕ) → L u ≡ M u + branch_uses c v y n u) → SidesFit c v y n w d
+sides_fit {net} {d} {o} {r} {ws} {L} c v w zero zero M h i j t = record { yes = λ s. absurd (omega (arith, s)); no = λ s. absurd (omega (arith, s)) }
+sides_fit c v w (suc y) n M h i j t = let f = branch_fit c v w (suc y) n M h i j t in record { yes = f.0; no = f.1 }
+sides_fit c v w zero (suc n) M h i j t = let f = branch_fit c v w zero (suc n) M h i j t in record { yes = f.0; no = f.1 }
+
+branched_if_open : {net : Net} {d : Draft} {o r : Sum} {ws : Shape} {L : ℕ → ℕ} (c v w y n : ℕ) (M : ℕ → ℕ) → Open net d o r ws L 0 → IsOfWidth ws c 32 → (0 < y + n → IsOfWidth ws v w) → ((u : ℕ) → L u ≡ M u + branch_uses c v y n u) → y < 2 ^ 32 → n < 2 ^ 32
+    → Open net (branched_if c v y n d) o (λ f. end_run f (sides_if c v y n d).yes_end y + (end_run f (sides_if c v y n d).no_end n + r f)) ws M 0
+branched_if_open {net} {d} {o} {r} {ws} {L} c v w zero zero M h i j t few more = leaves M (shifted o (λ f. 0 + (0 + r f)) h (λ f. refl) (λ f. omega arith)) (λ u. let z = t u in omega (arith, z))
+branched_if_open c v w (suc y) n M h i j t few more = branched_open c v w (suc y) n M h i (j (omega arith)) t few more
+branched_if_open c v w zero (suc n) M h i j t few more = branched_open c v w zero (suc n) M h i (j (omega arith)) t few more
+
+-- each value that is handed on has a width
+abbrev pub Named : Shape → ℕ → List ℕ → Type 0
+Named ws v ys = (i : ℕ) → 0 < get_or ys i 0 → (w : ℕ) × IsOfWidth ws (v + i) w
+
+abbrev pub FewEach : List ℕ → Type 0
+FewEach ys = (i : ℕ) → get_or ys i 0 < 2 ^ 32
+
+record Branched (net : Net) (d : Draft) (owe rest : Sum) (ws : Shape) (c v : ℕ) (ys ns : List ℕ) : Type 0 where
+  open_ends : Open net (all_branched c v ys ns d) owe (λ f. ends f (λ i. get_or ys i 0) (yes_ends (all_sides c v ys ns d)) + (ends f (λ i. get_or ns (v + i) 0) (no_ends (all_sides c v ys ns d)) + rest f)) ws (one_if c) 0
+  yes_long : length (yes_ends (all_sides c v ys ns d)) ≡ length ys
+  no_long : length (no_ends (all_sides c v ys ns d)) ≡ length ys
+  yes_found : (i w : ℕ) → IsOfWidth ws (v + i) w → 0 < get_or ys i 0 → Found (yes_ends (all_sides c v ys ns d)) i w
+  no_found : (i w : ℕ) → i < length ys → IsOfWidth ws (v + i) w → 0 < get_or ns (v + i) 0 → Found (no_ends (all_sides c v ys ns d)) i w
+
+side_width : (ws : Shape) (v y n : ℕ) → (0 < y → (w : ℕ) × IsOfWidth ws v w) → (0 < n → (w : ℕ) × IsOfWidth ws v w) → (w : ℕ) × (0 < y + n → IsOfWidth ws v w)
+side_width ws v zero zero a b = (0, λ s. absurd (omega (arith, s)))
+side_width ws v (suc y) n a b = let x = a (omega arith) in (x.0, λ s. x.1)
+side_width ws v zero (suc n) a b = let x = b (omega arith) in (x.0, λ s. x.1)
+
+found_cons : (z : Option End) (zs : List (Option End)) (k w : ℕ) → (k ≡ 0 → Found (z ∷ []) 0 w) → ((j : ℕ) → k ≡ suc j → Found zs j w) → Found (z ∷ zs) k w
+found_cons z zs zero w a b = let f = a refl in record { here = f.here; width = f.width }
+found_cons z zs (suc j) w a b = let f = b j refl in record { here = f.here; width = f.width }
+
+all_branched_open : {net : Net} {o : Sum} {ws : Shape} (c v : ℕ) (ys ns : List ℕ) (d : Draft) (r : Sum) (L : ℕ → ℕ) → IsOfWidth ws c 32 → v + length ys < 2 ^ 32 → Named ws v ys → Named ws 0 ns → FewEach ys → FewEach ns → ((u : ℕ) → L u ≡ one_if c u + branches_uses c v ys ns u) → Open net d o r ws L 0
+    → Branched net d o r ws c v ys ns
+all_branched_open {net} {o} {ws} c v [] ns d r L i few a b fa fb t h = record {
+  open_ends = leaves (one_if c) (shifted o (λ f. 0 + (0 + r f)) h (λ f. refl) (λ f. omega arith)) (λ u. let z = t u in omega (arith, z));
+  yes_long = refl;
+  no_long = refl;
+  yes_found = λ i w j s. absurd (omega (arith, s));
+  no_found = λ i w l j s. absurd (omega (arith, l));
+}
+all_branched_open {net} {o} {ws} c v (y ∷ ys) ns d r L i few a b fa fb t h =
+    let n = get_or ns v 0 in
+    let e = branched_if c v y n d in
+    let M : ℕ → ℕ = λ u. one_if c u + branches_uses c (plus v 1) ys ns u in
+    let split : (u : ℕ) → L u ≡ M u + branch_uses c v y n u = λ u. let z = t u in omega (arith, z) in
+    let v0 : v + 0 ≡ v = omega arith in
+    let wj = side_width ws v y n (λ s. let x = a 0 s in (x.0, subst (λ k. IsOfWidth ws k x.0) v0 x.1)) (λ s. let x = b v s in (x.0, subst (λ k. IsOfWidth ws k x.0) (let q : 0 + v ≡ v = omega arith in q) x.1)) in
+    let x = branched_if_open c v wj.0 y n M h i wj.1 split (fa 0) (fb v) in
+    let one = (sides_if c v y n d).yes_end in
+    let two = (sides_if c v y n d).no_end in
+    let p : plus v 1 ≡ suc v = omega (arith, few) in
+    let rest = all_branched_open c (plus v 1) ys ns e (λ f. end_run f one y + (end_run f two n + r f)) M i (omega (arith, few))
+    (λ k s. let z = a (suc k) s in (z.0, subst (λ m. IsOfWidth ws m z.0) (let q : v + suc k ≡ plus v 1 + k = omega (arith, p) in q) z.1)) b (λ k. fa (suc k)) fb (λ u. refl) x in
+    let ss = all_sides c (plus v 1) ys ns e in
+    let shift : (k : ℕ) → plus v 1 + k ≡ v + suc k = λ k. omega (arith, p) in
+    let here : (k w : ℕ) → k ≡ 0 → IsOfWidth ws (v + k) w → SidesFit c v y n w d = λ k w z q. sides_fit c v w y n M h i (subst (λ m. IsOfWidth ws m w) (let g : v + k ≡ v = omega (arith, z) in g) q) split in
     record {
-      open_ends = shifted o (λ f. carried f (branch_ends kept dropped c (v ∷ vs) d) + r f) j.open_ends (λ f. refl) (λ f. omega arith);
-      handed = ap (λ n. n ∷ widths (branch_ends kept dropped c vs (branched kept dropped c v d))) z ∙ ap (λ l. w ∷ l) j.handed;
-      same = record { edges = j.same.edges; heads = j.same.heads; queues = j.same.queues };
+      open_ends = shifted o (λ f. ends f (λ k. get_or (y ∷ ys) k 0) (one ∷ yes_ends ss) + (ends f (λ k. get_or ns (v + k) 0) (two ∷ no_ends ss) + r f)) rest.open_ends (λ f. refl)
+          (λ f. let z = ends_same f (no_ends ss) (λ k. get_or ns (plus v 1 + k) 0) (λ k. get_or ns (v + suc k) 0) (λ k. ap (λ m. get_or ns m 0) (shift k)) in
+          let q = ap (λ m. end_run f two (get_or ns m 0)) v0 in omega (arith, z, q));
+      yes_long = ap suc rest.yes_long;
+      no_long = ap suc rest.no_long;
+      yes_found = λ k w q s. found_cons one (yes_ends ss) k w (λ z. (here k w z q).yes (let g = ap (λ m. get_or (y ∷ ys) m 0) z in omega (arith, g, s)))
+          (λ j z. rest.yes_found j w (subst (λ m. IsOfWidth ws m w) (let g : v + k ≡ plus v 1 + j = omega (arith, z, p) in g) q) (let g = ap (λ m. get_or (y ∷ ys) m 0) z in omega (arith, g, s)));
+      no_found = λ k w l q s. found_cons two (no_ends ss) k w (λ z. (here k w z q).no (let g = ap (λ m. get_or ns m 0) (let g : v + k ≡ v = omega (arith, z) in g) in omega (arith, g, s)))
+          (λ j z. let g : v + k ≡ plus v 1 + j = omega (arith, z, p) in rest.no_found j w (omega (arith, l, z)) (subst (λ m. IsOfWidth ws m w) g q) (let y = ap (λ m. get_or ns m 0) g in omega (arith, y, s)));
     }
 
--- ---- after the jump: the control token's end is an edge's
+-- ---- what a side takes of the branches' ends
 
-pub record Closing (net : Net) (d : Draft) (owe rest : Sum) (es : List (Option End)) : Type 0 where
-  pub books : Books net d.units d.chans owe (λ f. ends f es + rest f)
-  pub wide : All WideIf (widths_of es)
+taken_sum : (f : Weight) (ws : Shape) (vs args : List ℕ) (es : List (Option End)) (L : ℕ → ℕ) → AreHanded ws vs args → Fitting es ws L → ((u : ℕ) → L u ≡ often u vs) → ends f L es ≡ carried f (taken vs es)
+taken_sum f ws [] args es L a h t = ends_none f es L (λ u l. t u)
+taken_sum f ws (v ∷ vs) [] es L a h t = absurd a
+taken_sum f ws (v ∷ vs) (w ∷ args) es L (i, x) h t =
+    let M : ℕ → ℕ = λ u. often u vs in
+    let m : (u : ℕ) → L u ≡ M u + one_if v u = λ u. let z = t u in omega (arith, z) in
+    let o = one_own v in
+    let z = m v in
+    let e = h.found v w i (omega (arith, o, z)) in
+    let y = ends_used f es v L M e.here m in
+    let j = taken_sum f ws vs args (used v es) M x (fitting_used es ws v L M h e.here m) (λ u. refl) in
+    omega (arith, y, j)
 
--- the ends go to sinks
-all_sunk_closing : {net : Net} {o r : Sum} (es : List (Option End)) (d : Draft) → Closing net d o r es → Closing net (all_sunk es d) o r []
-all_sunk_closing [] d h = h
-all_sunk_closing {net} {o} {r} (None ∷ es) d h = all_sunk_closing es d (record { books = h.books; wide = All-tail WideIf None (widths_of es) h.wide })
-all_sunk_closing {net} {o} {r} (Some e ∷ es) d h =
-    let n = next d in
-    let fits : IsTrue (is_width e.width) = All-head WideIf (Some e.width) (widths_of es) h.wide in
-    let s = lay_unit (Sink e.width) false (λ f. f (at n 0) e.width false + o f) (λ f. ends f (Some e ∷ es) + r f) h.books fits (λ f. omega arith) (λ f. omega arith) in
-    let t = fed_books e n 0 e.width o (λ f. ends f es + r f) s refl (λ f. refl) (λ f. omega arith) in
-    all_sunk_closing es (sunk e d) (record { books = t; wide = All-tail WideIf (Some e.width) (widths_of es) h.wide })
+taken_widths : (ws : Shape) (vs args : List ℕ) (es : List (Option End)) (L : ℕ → ℕ) → AreHanded ws vs args → Fitting es ws L → ((u : ℕ) → L u ≡ often u vs) → widths (taken vs es) ≡ args
+taken_widths ws [] [] es L a h t = refl
+taken_widths ws [] (w ∷ args) es L a h t = absurd a
+taken_widths ws (v ∷ vs) [] es L a h t = absurd a
+taken_widths ws (v ∷ vs) (w ∷ args) es L (i, x) h t =
+    let M : ℕ → ℕ = λ u. often u vs in
+    let m : (u : ℕ) → L u ≡ M u + one_if v u = λ u. let z = t u in omega (arith, z) in
+    let o = one_own v in
+    let z = m v in
+    let e = h.found v w i (omega (arith, o, z)) in
+    ap (λ k. k ∷ widths (taken vs (used v es))) e.width ∙ ap (λ l. w ∷ l) (taken_widths ws vs args (used v es) M x (fitting_used es ws v L M h e.here m) (λ u. refl))
 
-pub all_sunk_same : (es : List (Option End)) (d : Draft) → Same d (all_sunk es d)
-all_sunk_same [] d = same_own d
-all_sunk_same (None ∷ es) d = all_sunk_same es d
-all_sunk_same (Some e ∷ es) d = let i = all_sunk_same es (sunk e d) in record { edges = i.edges; heads = i.heads; queues = i.queues }
+pub handed_named : (ws : Shape) (vs args : List ℕ) (u : ℕ) → AreHanded ws vs args → 0 < often u vs → (w : ℕ) × IsOfWidth ws u w
+handed_named ws [] args u a s = absurd (omega (arith, s))
+handed_named ws (v ∷ vs) [] u a s = absurd a
+handed_named ws (v ∷ vs) (w ∷ args) u (i, x) s = elim (cases_eq u v) [
+  | inl e ↦ (w, subst (λ k. IsOfWidth ws k w) (sym e) i)
+  | inr n ↦ handed_named ws vs args u x (let o = one_other v u n in omega (arith, o, s))
+]
 
--- between two blocks: nothing of a block is open
-pub record Between (net : Net) (K : Weight → ℕ → ℕ → ℕ) (J : List Edge → List ℕ → Type 0) (P : ℕ → List Port) (G : ℕ → ℕ) (d : Draft) : Type 0 where
-  pub books : Books net d.units d.chans (owe_of net K P G d) (rest_of net P G d)
-  pub kept : J d.edges d.heads
+-- ---- jumps
 
--- an edge to a target whose arguments have these widths may be added to the edges
-abbrev pub Adds : (List Edge → List ℕ → Type 0) → ℕ → List ℕ → (List Edge → List ℕ → Type 0) → Type 0
-Adds J to args M = (e : Edge) (es : List Edge) (hs : List ℕ) → e.to ≡ to → widths e.with ≡ args → J es hs → M (es ++ e ∷ []) hs
-
-module _ {net : Net} {K : Weight → ℕ → ℕ → ℕ} where
-  swept_between : {J : List Edge → List ℕ → Type 0} {P : ℕ → List Port} {G : ℕ → ℕ} (d : Draft) → Closing net d (owe_of net K P G d) (rest_of net P G d) d.ends → J d.edges d.heads → Between net K J P G (swept d)
-  swept_between {J} {P} {G} d h k =
-      let x = record d { ends = [] } in
-      let c = all_sunk_closing d.ends x (record { books = h.books; wide = h.wide }) in
-      let s = all_sunk_same d.ends x in
+module _ {net : Net} {S : ℕ → Type 0} {K : Weight → ℕ → ℕ → ℕ} where
+  -- an edge stands where all is spent
+  edge_between : {J M : EdgesFact} {P : ℕ → List Port} {G : ℕ → ℕ} {ws : Shape} (d e : Draft) (to : ℕ) (args : List ℕ) (es : List End) → fields.Still d e → Open net e (owe_of net K P G d) (λ f. carried f es + rest_of net P G d f) ws (λ u. 0) 0 → widths es ≡ args → Adds J to args M
+      → J d.edges d.heads d.tails → ((a : ℕ) → queue_of d a ≡ None → S a → ⊥) → Between net S K M P G (with_edge to e.control es e)
+  edge_between {J} {M} {P} {G} {ws} d e to args es s h w add j st =
+      let x : Edge = record { to = to; control = e.control; with = es } in
+      let W : ℕ → ℕ = array_width net.arrays in
+      let g = with_edge to e.control es e in
+      let b = spent h (λ u. refl) in
+      let free = add.free d.edges d.heads d.tails j in
+      let k = s.kept in
       record {
-        books = moved (owe_of net K P G (swept d)) (rest_of net P G (swept d)) c.books
-            (λ f. ap (λ hs. hsum (K f) hs + queues_in f (array_width net.arrays) P G d.queues) (sym s.heads) ∙ ap (λ qs. hsum (K f) (swept d).heads + queues_in f (array_width net.arrays) P G qs) (sym s.queues))
-            (λ f. (let z : 0 + rest_of net P G d f ≡ rest_of net P G d f = omega arith in z) ∙ ap (λ es. edges f es + queues_out f (array_width net.arrays) P G d.queues) (sym s.edges) ∙ ap (λ qs. edges f (swept d).edges + queues_out f (array_width net.arrays) P G qs) (sym s.queues));
-        kept = subst (λ hs. J (swept d).edges hs) (sym s.heads) (subst (λ es. J es d.heads) (sym s.edges) k);
+        books = moved (owe_of net K P G g) (rest_of net P G g) b
+            (λ f. ap (λ hs. hsum (K f) hs + queues_in f W P G d.queues) (sym k.heads) ∙ ap (λ qs. hsum (K f) e.heads + queues_in f W P G qs) (sym s.queues))
+            (λ f. let p = edges_more f e.heads e.edges x in
+            let q = ap (λ t. cond t 0 (f e.control 32 true + carried f es)) (ap (λ hs. is_zero (slice_get hs to)) k.heads ∙ free) in
+            let v = ap (λ hs. edges f hs e.edges) k.heads in
+            let y = ap (λ l. edges f d.heads l) k.edges in
+            let z = ap (λ qs. queues_out f W P G qs) s.queues in
+            omega (arith, p, q, v, y, z));
+        kept = subst (λ ts. M (e.edges ++ x ∷ []) e.heads (set ts to (number (length (e.edges ++ x ∷ []))))) (sym k.tails)
+            (subst (λ hs. M (e.edges ++ x ∷ []) hs (set d.tails to (number (length (e.edges ++ x ∷ []))))) (sym k.heads)
+            (subst (λ l. M (l ++ x ∷ []) d.heads (set d.tails to (number (length (l ++ x ∷ []))))) (sym k.edges) (add.more x d.edges d.heads d.tails refl w j)));
+        stored = λ a n. st a (ap (λ qs. queue_or (slice_get qs a)) (sym s.queues) ∙ n);
       }
 
-  pub gone_between : {J M : List Edge → List ℕ → Type 0} {P : ℕ → List Port} {G : ℕ → ℕ} {d : Draft} {ws : Shape} (to : ℕ) (vs args : List ℕ) → AreHanded ws vs args → Adds J to args M → Within net K J P G d ws → Between net K M P G (swept (gone to vs d))
-  gone_between {J} {M} {P} {G} {d} {ws} to vs args a add h =
-      let c = all_copied_open vs args d (rest_of net P G d) a h.open_ends in
-      let k = all_copied vs d in
-      let b = buffered_open c.open_ends in
-      let e : Edge = record { to = to; control = (buffered k).control; with = copies_of vs d } in
-      let g = gone to vs d in
-      let W : ℕ → ℕ = array_width net.arrays in
-      swept_between g (record {
-        books = moved (owe_of net K P G g) (λ f. ends f g.ends + rest_of net P G g f) b.books
-            (λ f. let x = ap (λ hs. hsum (K f) hs) c.same.heads in let y = ap (λ qs. queues_in f W P G qs) c.same.queues in omega (arith, x, y))
-            (λ f. let x = ap (λ es. edges f es) c.same.edges in let y = ap (λ qs. queues_out f W P G qs) c.same.queues in let z = edges_more f k.edges e in omega (arith, x, y, z));
-        wide = subst (λ s. All WideIf s) (sym b.shape) b.wide;
-      }) (subst (λ hs. M (k.edges ++ e ∷ []) hs) (sym c.same.heads) (subst (λ es. M (es ++ e ∷ []) d.heads) (sym c.same.edges) (add e d.edges d.heads refl c.handed h.kept)))
+  pub gone_between : {J M : EdgesFact} {P : ℕ → List Port} {G : ℕ → ℕ} {d : Draft} {ws : Shape} {L : ℕ → ℕ} (to : ℕ) (vs args : List ℕ) → AreHanded ws vs args → ((u : ℕ) → L u ≡ often u vs) → Adds J to args M → Within net S K J P G d ws L 0 → Between net S K M P G (gone to vs d)
+  gone_between {J} {M} {P} {G} {d} {ws} {L} to vs args a t add h =
+      let m = get_or d.heads to 0 in
+      let n = number (length vs) in
+      let c = all_passed_open m n vs args d (rest_of net P G d) L a t h.open_ends in
+      let e = all_passed m n vs d in
+      let s = fields.all_passed_still m n vs d in
+      by (is_of_head e.control m n) e (passed_ends m n vs d) s c.open_ends c.handed
+    where
+      by : (t : Bool) (e : Draft) (es : List End) → fields.Still d e → Open net e (owe_of net K P G d) (λ f. carried f es + rest_of net P G d f) ws (λ u. 0) 0 → widths es ≡ args → Between net S K M P G (let g = cond t (buffered e) e in with_edge to g.control es g)
+      by true e es s o w = edge_between d (buffered e) to args es (record { kept = record { uses = s.kept.uses; edges = s.kept.edges; heads = s.kept.heads; tails = s.kept.tails }; queues = s.queues }) (buffered_open o) w add h.kept h.stored
+      by false e es s o w = edge_between d e to args es s o w add h.kept h.stored
 
-  pub parted_between : {J L M : List Edge → List ℕ → Type 0} {P : ℕ → List Port} {G : ℕ → ℕ} {d : Draft} {ws : Shape} (c : ℕ) (a b : To) (args brgs : List ℕ) → IsOfWidth ws c 32 → AreHanded ws a.with args → AreHanded ws b.with brgs → Adds J a.block args L → Adds L b.block brgs M
-      → Within net K J P G d ws → Between net K M P G (swept (parted c a b d))
-  parted_between {J} {L} {M} {P} {G} {d} {ws} c a b args brgs i x y add too h =
+  pub parted_between : {J L M : EdgesFact} {P : ℕ → List Port} {G : ℕ → ℕ} {d : Draft} {ws : Shape} {U : ℕ → ℕ} (c : ℕ) (a b : To) (args brgs : List ℕ) → IsOfWidth ws c 32 → AreHanded ws a.with args → AreHanded ws b.with brgs → (let n = length d.ends in n < 2 ^ 32
+      → ((u : ℕ) → get_or (handed_often n a) u 0 ≡ often u a.with) → ((u : ℕ) → get_or (handed_often n b) u 0 ≡ often u b.with) → FewEach (handed_often n a) → FewEach (handed_often n b) → length (handed_often n a) ≡ n → length (handed_often n b) ≡ n
+      → ((u : ℕ) → U u ≡ one_if c u + branches_uses c 0 (handed_often n a) (handed_often n b) u) → Adds J a.block args L → Adds L b.block brgs M → Within net S K J P G d ws U 0 → Between net S K M P G (parted c a b d))
+  parted_between {J} {L} {M} {P} {G} {d} {ws} {U} c a b args brgs i x y few ya nb fa fb la lb t add too h =
       let W : ℕ → ℕ = array_width net.arrays in
-      let k1 = all_branched_open 0 1 c (record { two = λ f n w. refl }) i a.with args d (rest_of net P G d) x h.open_ends in
-      let e = all_branched 0 1 c a.with d in
-      let k2 = all_branched_open 1 0 c (record { two = λ f n w. omega arith }) i b.with brgs e (λ f. carried f (branch_ends 0 1 c a.with d) + rest_of net P G d f) y k1.open_ends in
-      let g = all_branched 1 0 c b.with e in
-      let k3 = copied_open c 32 k2.open_ends i in
-      let t = copied c g in
-      let u = next t in
+      let n = length d.ends in
+      let ys = handed_often n a in
+      let ns = handed_often n b in
+      let long = h.open_ends.fits.long in
       let o = owe_of net K P G d in
-      let A : Sum = λ f. carried f (branch_ends 0 1 c a.with d) in
-      let B : Sum = λ f. carried f (branch_ends 1 0 c b.with e) in
-      let l = lay_unit (Branch 32) true (λ f. f (at u 0) 32 false + (f (at u 1) 32 true + o f)) (λ f. f g.control 32 true + ends f t.ends + (f (copy_of c g).place 32 false + (B f + (A f + rest_of net P G d f))) + f (at u 0) 32 true + f (at u 1) 32 true) k3.books refl (λ f. omega arith) (λ f. omega arith) in
-      let m = fed_books (copy_of c g) u 0 32 (λ f. f (at u 1) 32 true + o f) (λ f. f g.control 32 true + ends f t.ends + (B f + (A f + rest_of net P G d f)) + f (at u 0) 32 true + f (at u 1) 32 true) l (copy_width c 32 k2.open_ends i) (λ f. refl) (λ f. omega arith) in
-      let n = lay_chan t.control (at u 1) 32 true o (λ f. ends f t.ends + (B f + (A f + rest_of net P G d f)) + f (at u 0) 32 true + f (at u 1) 32 true) m (λ f. refl) (λ f. omega arith) in
-      let p : Edge = record { to = a.block; control = at u 0; with = branch_ends 0 1 c a.with d } in
-      let q : Edge = record { to = b.block; control = at u 1; with = branch_ends 1 0 c b.with e } in
+      let R : Sum = rest_of net P G d in
+      let br = all_branched_open c 0 ys ns d R U i (omega (arith, la, few))
+      (λ k s. let z = ya k in let w = handed_named ws a.with args k x (omega (arith, z, s)) in (w.0, subst (λ m. IsOfWidth ws m w.0) (let q : k ≡ 0 + k = omega arith in q) w.1))
+      (λ k s. let z = nb k in let w = handed_named ws b.with brgs k y (omega (arith, z, s)) in (w.0, subst (λ m. IsOfWidth ws m w.0) (let q : k ≡ 0 + k = omega arith in q) w.1)) fa fb t h.open_ends in
+      let e = all_branched c 0 ys ns d in
+      let ss = all_sides c 0 ys ns d in
+      let es = yes_ends ss in
+      let fs = no_ends ss in
+      let Y : ℕ → ℕ = λ k. get_or ys k 0 in
+      let N : ℕ → ℕ = λ k. get_or ns k 0 in
+      let yl = br.yes_long in
+      let nl = br.no_long in
+      let z0 : (k : ℕ) → k ≡ 0 + k = λ k. omega arith in
+      let fit_yes : Fitting es ws Y = record { long = omega (arith, yl, la, long); found = λ k w j s. br.yes_found k w (subst (λ m. IsOfWidth ws m w) (z0 k) j) s } in
+      let fit_no : Fitting fs ws N = record {
+        long = omega (arith, nl, la, long);
+        found = λ k w j s. br.no_found k w (let q = below ws k w j in omega (arith, q, la, long)) (subst (λ m. IsOfWidth ws m w) (z0 k) j) (let q = ap (λ m. get_or ns m 0) (z0 k) in omega (arith, q, s));
+      } in
+      let A : Sum = λ f. carried f (taken a.with es) in
+      let B : Sum = λ f. carried f (taken b.with fs) in
+      let o1 = shifted o (λ f. B f + (A f + R f)) br.open_ends (λ f. refl)
+      (λ f. let p = taken_sum f ws a.with args es Y x fit_yes ya in
+      let q = taken_sum f ws b.with brgs fs N y fit_no nb in
+      let v = ends_same f fs (λ k. get_or ns (0 + k) 0) N (λ k. ap (λ m. get_or ns m 0) (sym (z0 k))) in
+      omega (arith, p, q, v)) in
+      let tc : (u : ℕ) → one_if c u ≡ 0 + one_if c u = λ u. omega arith in
+      let k3 = copied_open c 32 (λ u. 0) o1 i tc in
+      let g = copied c e in
+      let u = next g in
+      let k4 = spent k3 (λ u. refl) in
+      let l = lay_unit (Branch 32) true (λ f. f (at u 0) 32 false + (f (at u 1) 32 true + o f)) (λ f. f e.control 32 true + (f (copy_of c e).place 32 false + (B f + (A f + R f))) + f (at u 0) 32 true + f (at u 1) 32 true) k4 refl (λ f. omega arith) (λ f. omega arith) in
+      let m = fed_books (copy_of c e) u 0 32 (λ f. f (at u 1) 32 true + o f) (λ f. f e.control 32 true + (B f + (A f + R f)) + f (at u 0) 32 true + f (at u 1) 32 true) l (copy_width c 32 (λ u. 0) o1 i tc) (λ f. refl) (λ f. omega arith) in
+      let b3 = lay_chan e.control (at u 1) 32 true o (λ f. (B f + (A f + R f)) + f (at u 0) 32 true + f (at u 1) 32 true) m (λ f. refl) (λ f. omega arith) in
+      let q = control_branched c e in
+      let st = fields.all_branched_still c 0 ys ns d in
+      let p1 : Edge = record { to = a.block; control = at u 0; with = taken a.with es } in
+      let p2 : Edge = record { to = b.block; control = at u 1; with = taken b.with fs } in
       let z = parted c a b d in
-      let se : g.edges ≡ d.edges = k2.same.edges ∙ k1.same.edges in
-      let sh : g.heads ≡ d.heads = k2.same.heads ∙ k1.same.heads in
-      let sq : g.queues ≡ d.queues = k2.same.queues ∙ k1.same.queues in
-      swept_between z (record {
-        books = moved (owe_of net K P G z) (λ f. ends f z.ends + rest_of net P G z f) n
+      let se = st.kept.edges in
+      let sh = st.kept.heads in
+      let ts = st.kept.tails in
+      let sq = st.queues in
+      let t1 = set d.tails a.block (number (length (d.edges ++ p1 ∷ []))) in
+      let j1 = add.more p1 d.edges d.heads d.tails refl (taken_widths ws a.with args es Y x fit_yes ya) h.kept in
+      let j2 = too.more p2 (d.edges ++ p1 ∷ []) d.heads t1 refl (taken_widths ws b.with brgs fs N y fit_no nb) j1 in
+      let free1 = add.free d.edges d.heads d.tails h.kept in
+      let free2 = too.free (d.edges ++ p1 ∷ []) d.heads t1 j1 in
+      record {
+        books = moved (owe_of net K P G z) (rest_of net P G z) b3
             (λ f. let v = ap (λ hs. hsum (K f) hs) sh in let w = ap (λ qs. queues_in f W P G qs) sq in omega (arith, v, w))
-            (λ f. let v = ap (λ es. edges f es) se in let w = ap (λ qs. queues_out f W P G qs) sq in let r = edges_more f g.edges p in let s = edges_more f (g.edges ++ p ∷ []) q in omega (arith, v, w, r, s));
-        wide = subst (λ s. All WideIf s) (sym k3.shape) k3.wide;
-      }) (subst (λ hs. M ((g.edges ++ p ∷ []) ++ q ∷ []) hs) (sym sh) (subst (λ es. M ((es ++ p ∷ []) ++ q ∷ []) d.heads) (sym se) (too q (d.edges ++ p ∷ []) d.heads refl k2.handed (add p d.edges d.heads refl k1.handed h.kept))))
+            (λ f. let v = ap (λ hs. edges f hs e.edges) sh in
+            let v2 = ap (λ es. edges f d.heads es) se in
+            let w = ap (λ qs. queues_out f W P G qs) sq in
+            let r = edges_more f e.heads e.edges p1 in
+            let s = edges_more f e.heads (e.edges ++ p1 ∷ []) p2 in
+            let x1 = ap (λ k. cond k 0 (f (at u 0) 32 true + A f)) (ap (λ hs. is_zero (slice_get hs a.block)) sh ∙ free1) in
+            let x2 = ap (λ k. cond k 0 (f (at u 1) 32 true + B f)) (ap (λ hs. is_zero (slice_get hs b.block)) sh ∙ free2) in
+            omega (arith, v, v2, w, r, s, x1, x2));
+        kept = subst (λ k. M ((e.edges ++ p1 ∷ []) ++ p2 ∷ []) e.heads (set (set k a.block (number (length (e.edges ++ p1 ∷ [])))) b.block (number (length ((e.edges ++ p1 ∷ []) ++ p2 ∷ []))))) (sym ts)
+            (subst (λ hs. M ((e.edges ++ p1 ∷ []) ++ p2 ∷ []) hs (set (set d.tails a.block (number (length (e.edges ++ p1 ∷ [])))) b.block (number (length ((e.edges ++ p1 ∷ []) ++ p2 ∷ []))))) (sym sh)
+            (subst (λ l. M ((l ++ p1 ∷ []) ++ p2 ∷ []) d.heads (set (set d.tails a.block (number (length (l ++ p1 ∷ [])))) b.block (number (length ((l ++ p1 ∷ []) ++ p2 ∷ []))))) (sym se) j2));
+        stored = λ a n. h.stored a (ap (λ qs. queue_or (slice_get qs a)) (sym sq) ∙ n);
+      }
+    where
+      below : (ws : Shape) (k w : ℕ) → IsOfWidth ws k w → k < length ws
+      below ws k w j = of_width_below ws k w j

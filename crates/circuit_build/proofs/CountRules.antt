@@ -349,7 +349,7 @@ marked net f g m (Lsq x d ps gs y) a b = (a, b)
 marked net f g m Exit a b = (a, b)
 
 -- a place stands once in a row, which rises, and at one unit
-place_no : (u p n q : ℕ) → q ≢ p → at_place u p (at n q) 0 false ≡ 0
+pub place_no : (u p n q : ℕ) → q ≢ p → at_place u p (at n q) 0 false ≡ 0
 place_no u p n q h = by (n == u) (ne_eqb q p h)
   where
     by : (b : Bool) → (q == p) ≡ false → cond (b && (q == p)) 1 0 ≡ (let z : ℕ = 0 in z)
@@ -378,7 +378,7 @@ row_most u p n r (s ∷ ss) h = elim (cases_eq s.place p) [
   | inr d ↦ (let a = place_no u p n s.place d in let i = row_most u p n (suc s.place) ss h.1 in omega (arith, a, i))
 ]
 
-row_other : (u p n : ℕ) (ss : List Spot) → n ≢ u → row (at_place u p) n ss ≡ 0
+pub row_other : (u p n : ℕ) (ss : List Spot) → n ≢ u → row (at_place u p) n ss ≡ 0
 row_other u p n [] h = refl
 row_other u p n (s ∷ ss) h =
     let a : at_place u p (at n s.place) s.width s.ctl ≡ 0 = ap (λ b. cond (b && (s.place == p)) 1 0) (ne_eqb n u h) in
@@ -393,7 +393,7 @@ in_before net u p n (k ∷ ks) (m ∷ ms) h l =
     let i = in_before net u p (suc n) ks ms (omega arith) (omega arith) in
     omega (arith, a, i)
 
-out_before : (net : Net) (u p n : ℕ) (ks : List Kind) (ms : List Bool) → Few n ks → u < n → outs_of net (at_place u p) n ks ms ≡ 0
+pub out_before : (net : Net) (u p n : ℕ) (ks : List Kind) (ms : List Bool) → Few n ks → u < n → outs_of net (at_place u p) n ks ms ≡ 0
 out_before net u p n [] ms h l = refl
 out_before net u p n (k ∷ ks) [] h l = refl
 out_before net u p n (k ∷ ks) (m ∷ ms) h l =

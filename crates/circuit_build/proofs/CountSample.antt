@@ -6,7 +6,7 @@ use Rattle.ir.proofs.SampleRuns.{samples_run}
 use Rattle.circuit_build.specs.Built.{built}
 use Rattle.circuit_build.specs.Ports.{SampleHasRoom}
 
-units_of_sample : (name n a : List ℕ) → length (built (sample_graph name n a) sample_groups).units ≡ 78
+units_of_sample : (name n a : List ℕ) → length (built (sample_graph name n a) sample_groups).units ≡ 26
 units_of_sample name n a = refl
 
 pub sample_has_room : SampleHasRoom

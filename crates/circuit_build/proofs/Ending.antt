@@ -16,34 +16,36 @@ use Rattle.net_core.specs.Fire.{State, Own, idle, tokens_at}
 use Rattle.net_core.specs.Laws.{starts, IsSpent}
 use Rattle.net_core.specs.Runs.{Leads, Exited}
 use Rattle.circuit_build.specs.declared.draft.Draft.{Draft}
+use Rattle.circuit_build.specs.declared.draft.End.{End as OpenEnd}
 use Rattle.circuit_build.specs.declared.draft.Queue.{Queue}
 use Rattle.circuit_build.specs.Drafts.{next, end_of}
-use Rattle.circuit_build.specs.Steps.{through_queue}
+use Rattle.circuit_build.specs.Steps.{queue_or, through_queue}
 use Rattle.circuit_build.specs.Blocks.{head_laid}
-use Rattle.circuit_build.specs.Endings.{result_widths, all_ended, exited}
+use Rattle.circuit_build.specs.Endings.{result_widths, ones, all_ended, exited}
 use Rattle.circuit_build.specs.Fronts.{ports_of, groups_from, depth_from}
 use Rattle.circuit_build.specs.Asks.{IsAsked}
-use Rattle.circuit_build.specs.Built.{join_of, front_of, with_blocks, built}
+use Rattle.circuit_build.specs.Built.{join_of, front_of, with_feeders, built}
 use Rattle.circuit_build.specs.Counted.{queue_for}
 use Rattle.circuit_build.proofs.CountBooks.{froms}
 use Rattle.circuit_build.proofs.CountRules.{at_place, one_out}
 use Rattle.circuit_build.proofs.CountChain.{at_own}
 use Rattle.circuit_build.proofs.Marks.{Wired, Aside, with_own, Shows}
-use Rattle.circuit_build.proofs.Stages.{spread, NotIn, Outside}
+use Rattle.circuit_build.proofs.Stages.{spread, NotIn}
 use Rattle.circuit_build.proofs.MarkLemmas.{leads_on, unit_at}
 use Rattle.circuit_build.proofs.SpreadLemmas.{spread_none, spread_front, spread_second, take_front, add_front, pushed_same, popped_same}
 use Rattle.circuit_build.proofs.KindLemmas.{exit_goes, exit_takes}
 use Rattle.circuit_build.proofs.QueueLemmas.{end_goes}
-use Rattle.circuit_build.proofs.LaySections.{Within}
+use Rattle.circuit_build.proofs.LaySections.{Within, Used, AllUsed}
 use Rattle.circuit_build.proofs.LayExtends.{extends_then, within_less, all_ended_extends, exited_extends}
 use Rattle.circuit_build.proofs.LayBlocks.{inputs_of, QueueAt, EndsAt, join_head, JoinAt}
 use Rattle.circuit_build.proofs.LayWires.{net_closed}
-use Rattle.circuit_build.proofs.Growth.{head_grows}
-use Rattle.circuit_build.proofs.Small.{small, blocks_before}
+use Rattle.circuit_build.proofs.Fields.{head_headed}
+use Rattle.circuit_build.proofs.Small.{small, blocks_before, feeders_after}
 use Rattle.circuit_build.proofs.StageParts.{shows_as}
 use Rattle.circuit_build.proofs.StageKinds.{Calm}
-use Rattle.circuit_build.proofs.StageQueues.{before_low}
-use Rattle.circuit_build.proofs.StageUses.{Open, last_wire, second_wire}
+use Rattle.circuit_build.proofs.StageCounts.{table}
+use Rattle.circuit_build.proofs.StageTokens.{Token, token, row, kept, swaps_of}
+use Rattle.circuit_build.proofs.StageUses.{open_tokens, At, at_swapped, last_wire, second_wire}
 use Rattle.circuit_build.proofs.Opening.{slice_kind, last_unit}
 use Rattle.circuit_build.proofs.Waits.{NoneWaits, none_waits_queue}
 
@@ -204,19 +206,36 @@ record Passes (net : Net) (scalars : List ℕ) (s : State) (a : Aside) (k : ℕ)
   shows : Shows net scalars to (spread (Some c ∷ ps) (z ∷ ws)) a
   apart : NotIn c ps
 
-module _ (g : Graph) (gs : Groups) (net : Net) (scalars : List ℕ) (a : Aside) (waits : NoneWaits net a) (r : Option Ty) (low n m : ℕ) (early : length (front_of g gs).units ≤ low) (ps : List (Option Place)) (z : ℕ) (ws : List ℕ)
-    (out : Outside low n m ps) where
+module _ (g : Graph) (gs : Groups) (net : Net) (scalars : List ℕ) (a : Aside) (waits : NoneWaits net a) (r : Option Ty) (low : ℕ) (early : length (front_of g gs).units ≤ low) (all : List (Option Queue)) (ps : List (Option Place)) (z : ℕ) (ws : List ℕ)
+    (out : AllUsed low all ps) where
   -- the control token has passed no queue of the arrays from x on
   abbrev Before : ℕ → Place → Type 0
-  Before x c = (low ≤ c.unit) ⊎ ((b : ℕ) × (b < x) × (slice_get net.units c.unit ≡ Some (queue_for g gs b)))
+  Before x c = Used low all c ⊎ ((b : ℕ) × (b < x) × (slice_get net.units c.unit ≡ Some (queue_for g gs b)))
 
   before_more : (x : ℕ) (c : Place) → Before x c → Before (1 + x) c
   before_more x c (inl l) = inl l
   before_more x c (inr h) = inr (h.0, (let l = h.1 in omega (arith, l)), h.2)
 
-  another : (x : ℕ) (q : Queue) (o : ℕ) (c : Place) → QueueAt g gs net x q [] → Before x c → at q.unit o ≢ c
-  another x q o c h (inl l) e = let k : q.unit ≡ c.unit = ap (λ (p : Place). p.unit) e in let f = h.early in absurd (omega (arith, k, l, f, early))
-  another x q o c h (inr b) e =
+  -- the end of a queue is none of its outputs that are used
+  not_used : (x : ℕ) (q : Queue) (c : Place) → QueueAt g gs net x q [] → slice_get all x ≡ Some (Some q) → Used low all c → at q.unit (length (groups_from x 0 gs.of)) ≢ c
+  not_used x q c h is (inl l) e = let k : q.unit ≡ c.unit = ap (λ (p : Place). p.unit) e in let f = h.early in absurd (omega (arith, k, l, f, early))
+  not_used x q c h is (inr u) e =
+      let k : q.unit ≡ c.unit = ap (λ (p : Place). p.unit) e in
+      let o : length (groups_from x 0 gs.of) ≡ c.place = ap (λ (p : Place). p.place) e in
+      let m = h.many in
+      elim (u x q (ap queue_or is) (sym k)) [
+        | inl y ↦ (let w = y.1 in absurd (omega (arith, o, m, w)))
+        | inr y ↦ (let w = y.0 in absurd (omega (arith, o, m, w)))
+      ]
+
+  none_used : (x : ℕ) (q : Queue) (rs : List (Option Place)) → QueueAt g gs net x q [] → slice_get all x ≡ Some (Some q) → AllUsed low all rs → NotIn (at q.unit (length (groups_from x 0 gs.of))) rs
+  none_used x q [] h is u = tt
+  none_used x q (None ∷ rs) h is u = none_used x q rs h is u
+  none_used x q (Some p ∷ rs) h is u = (not_used x q p h is u.0, none_used x q rs h is u.1)
+
+  another : (x : ℕ) (q : Queue) (c : Place) → QueueAt g gs net x q [] → slice_get all x ≡ Some (Some q) → Before x c → at q.unit (length (groups_from x 0 gs.of)) ≢ c
+  another x q c h is (inl u) e = not_used x q c h is u e
+  another x q c h is (inr b) e =
       let k : Some (queue_for g gs x) ≡ Some (queue_for g gs b.0) = sym h.unit ∙ ap (λ (p : Place). slice_get net.units p.unit) e ∙ b.2 in
       let same : x ≡ b.0 = ap array_of k in
       let l = b.1 in
@@ -230,15 +249,18 @@ module _ (g : Graph) (gs : Groups) (net : Net) (scalars : List ℕ) (a : Aside) 
       array_of None = 0
       array_of (Some k) = number_or (owns k)
 
-  all_pass : (qs : List (Option Queue)) (x : ℕ) (d : Draft) (s : State) → EndsAt g gs net x qs → Within net (exited r (all_ended qs d)) → Shows net scalars s (spread (Some d.control ∷ ps) (z ∷ ws)) a → NotIn d.control ps → Before x d.control
-      → Passes net scalars s a (length qs) (all_ended qs d).control ps z ws
-  all_pass [] x d s ends w h free before = record { firings = []; to = s; run = refl; few = omega arith; shows = h; apart = free }
-  all_pass (None ∷ qs) x d s ends w h free before =
-      let i = all_pass qs (1 + x) d s ends w h free (before_more x d.control before) in
+  all_pass : (qs : List (Option Queue)) (x : ℕ) (d : Draft) (s : State) → ((i : ℕ) (o : Option Queue) → slice_get qs i ≡ Some o → slice_get all (x + i) ≡ Some o) → EndsAt g gs net x qs → Within net (exited r (all_ended qs d)) → Shows net scalars s (spread (Some d.control ∷ ps) (z ∷ ws)) a
+      → NotIn d.control ps → Before x d.control → Passes net scalars s a (length qs) (all_ended qs d).control ps z ws
+  all_pass [] x d s of_all ends w h free before = record { firings = []; to = s; run = refl; few = omega arith; shows = h; apart = free }
+  all_pass (None ∷ qs) x d s of_all ends w h free before =
+      let later : (i : ℕ) (o : Option Queue) → slice_get qs i ≡ Some o → slice_get all ((1 + x) + i) ≡ Some o = (λ i o e. ap (slice_get all) (let z : (1 + x) + i ≡ x + suc i = omega arith in z) ∙ of_all (suc i) o e) in
+      let i = all_pass qs (1 + x) d s later ends w h free (before_more x d.control before) in
       record { firings = i.firings; to = i.to; run = i.run; few = (let l = i.few in omega (arith, l)); shows = i.shows; apart = i.apart }
-  all_pass (Some q ∷ qs) x d s ends w h free before =
+  all_pass (Some q ∷ qs) x d s of_all ends w h free before =
       let here = ends.0 in
       let e = through_queue q q.groups d in
+      let is : slice_get all x ≡ Some (Some q) = ap (slice_get all) (let z : x ≡ x + 0 = omega arith in z) ∙ of_all 0 (Some q) refl in
+      let later : (i : ℕ) (o : Option Queue) → slice_get qs i ≡ Some o → slice_get all ((1 + x) + i) ≡ Some o = (λ i o e. ap (slice_get all) (let z : (1 + x) + i ≡ x + suc i = omega arith in z) ∙ of_all (suc i) o e) in
       let groups = groups_from x 0 gs.of in
       let ports = ports_of x g.blocks gs.of in
       let depth = depth_from x 16 gs.of in
@@ -248,13 +270,13 @@ module _ (g : Graph) (gs : Groups) (net : Net) (scalars : List ℕ) (a : Aside) 
       let wp : Wired net d.control c = subst (λ p. Wired net d.control p) is_c (passing r q qs d w) in
       let next_one = control_goes r qs e w in
       let wr : Wired net c next_one.0 = subst (λ p. Wired net p next_one.0) is_c next_one.1 in
-      let new : NotIn c ps = before_low low n m q.unit (length groups) ps (let f = here.early in omega (arith, f, early)) out in
-      let none = spread_none c (Some d.control ∷ ps) (z ∷ ws) (another x q (length groups) d.control here before, new) in
+      let new : NotIn c ps = none_used x q ps here is out in
+      let none = spread_none c (Some d.control ∷ ps) (z ∷ ws) (another x q d.control here is before, new) in
       let go = end_goes net scalars s (spread (Some d.control ∷ ps) (z ∷ ws)) a h q.unit x depth ports groups here.unit own.0 z d.control next_one.0 own.1 wp wr (spread_front d.control z ps ws) none in
       let shown : Shows net scalars go.to (spread (Some (at q.unit q.groups) ∷ ps) (z ∷ ws)) a =
       shows_as (spread (Some (at q.unit q.groups) ∷ ps) (z ∷ ws))
       (λ y. pushed_same c z _ _ (take_front d.control z ps ws free) y ∙ (add_front c z ps ws new y ∙ ap (λ p. spread (Some p ∷ ps) (z ∷ ws) y) (sym is_c))) go.shows in
-      let i = all_pass qs (1 + x) e go.to ends.1 w shown (subst (λ p. NotIn p ps) (sym is_c) new) (inr (x, omega arith, here.unit)) in
+      let i = all_pass qs (1 + x) e go.to later ends.1 w shown (subst (λ p. NotIn p ps) (sym is_c) new) (inr (x, omega arith, here.unit)) in
       record {
         firings = firing q.unit End ∷ i.firings;
         to = i.to;
@@ -288,8 +310,28 @@ exit_unit {net} r d w = by r w
     by (Some t) w = let n = here (let l = w.less in let k = length-append d.units (Exit ∷ []) in omega (arith, l, k)) w.few in w.unit (next d) Exit (ap (slice_get (d.units ++ Exit ∷ [])) n ∙ last_unit d.units Exit)
 
 -- the head of the return join, with one value where there is a result
-abbrev pub join_top : ℕ → Option Ty → Draft → Draft
-join_top ins r d = head_laid ins (result_widths r) d
+abbrev pub join_top : ℕ → ℕ → Option Ty → Draft → Draft
+join_top ins join r d = head_laid ins join (result_widths r) (ones (result_widths r)) 0 d
+
+-- no value
+no_values : (T : ℕ → ℕ) (es : List (Option OpenEnd)) → length es ≡ 0 → kept T es [] ≡ []
+no_values T [] l = refl
+no_values T (x ∷ es) l = absurd (omega (arith, l))
+
+-- the one value of a list of ends, with one use
+one_token : (T : ℕ → ℕ) (es : List (Option OpenEnd)) (v : ℕ) → length es ≡ 1 → T 0 ≡ 1 → kept T es (v ∷ []) ++ [] ≡ token (end_of es 0).place v ∷ []
+one_token T [] v l t = absurd (omega (arith, l))
+one_token T (None ∷ []) v l t = ap (λ n. (row (at 0 0) n v ++ []) ++ []) t
+one_token T (Some e ∷ []) v l t = ap (λ n. (row e.place n v ++ []) ++ []) t
+one_token T (x ∷ y ∷ es) v l t = absurd (omega (arith, l))
+
+-- the tokens at the join's head: of the control token, and of the result
+pub join_tokens : (r : Option Ty) (d : Draft) (z : ℕ) (vs : List ℕ) → length d.ends ≡ length vs → length vs ≡ length (result_widths r) → length (open_tokens d z 0 (table (ones (result_widths r))) vs []) ≤ 1 + length vs
+join_tokens None d z [] many l = let a = ap (λ (ts : List Token). length (ts ++ [])) (no_values (table []) d.ends many) in omega (arith, a)
+join_tokens None d z (v ∷ vs) many l = absurd (omega (arith, l))
+join_tokens (Some t) d z [] many l = absurd (omega (arith, l))
+join_tokens (Some t) d z (v ∷ []) many l = let a = ap (λ (ts : List Token). length ts) (one_token (table (1 ∷ [])) d.ends v many refl) in omega (arith, a)
+join_tokens (Some t) d z (v ∷ w ∷ vs) many l = absurd (omega (arith, l))
 
 module _ (g : Graph) (gs : Groups) (net : Net) (scalars : List ℕ) (one : OneFrom net) where
   finished_by : (s t : State) (a : Aside) (fs : List Firing) (k x : ℕ) (o : Own) (r : Option ℕ) → Calm net a → NoneWaits net a → ((u : ℕ) → slice_get net.units u ≡ Some Exit → u ≡ x) → Leads net s fs t → length fs ≤ k
@@ -306,16 +348,19 @@ module _ (g : Graph) (gs : Groups) (net : Net) (scalars : List ℕ) (one : OneFr
   }
 
   -- from the head of the return join: one firing for each queue, and that of the exit
-  pub finishes : (ins : ℕ) (b : Draft) (r : Option Ty) → net.result ≡ r → EndsAt g gs net 0 (join_top ins r b).queues → Within net (exited r (all_ended (join_top ins r b).queues (join_top ins r b)))
-      → ((u : ℕ) → slice_get net.units u ≡ Some Exit → u ≡ next (all_ended (join_top ins r b).queues (join_top ins r b)))
-      → (s : State) (a : Aside) (low m z : ℕ) (vs : List ℕ) → length (front_of g gs).units ≤ low → NoneWaits net a → Open net scalars low m s a [] (join_top ins r b) [] [] z vs []
-      → Finished net s (length (join_top ins r b).queues + 1) (taken_result r vs) a.arrays a.strays
-  finishes ins b None none ends w exits s a low m z (v ∷ vs) early waits o = absurd (let l = o.many in omega arith)
-  finishes ins b None none ends w exits s a low m z [] early waits o =
-      let d = join_top ins None b in
+  pub finishes : (ins join : ℕ) (b : Draft) (r : Option Ty) → net.result ≡ r → (let d = join_top ins join r b in EndsAt g gs net 0 d.queues → Within net (exited r (all_ended d.queues d))
+      → ((u : ℕ) → slice_get net.units u ≡ Some Exit → u ≡ next (all_ended d.queues d))
+      → (s : State) (a : Aside) (low m z : ℕ) (vs : List ℕ) → length (front_of g gs).units ≤ low → NoneWaits net a → length d.ends ≡ length vs → length vs ≡ length (result_widths r)
+      → At net scalars low m s a d (open_tokens d z 0 (table (ones (result_widths r))) vs [])
+      → Finished net s (length d.queues + 1) (taken_result r vs) a.arrays a.strays)
+  finishes ins join b None none ends w exits s a low m z (v ∷ vs) early waits many as_many o = absurd (omega (arith, as_many))
+  finishes ins join b None none ends w exits s a low m z [] early waits many as_many o =
+      let d = join_top ins join None b in
       let e = all_ended d.queues d in
-      let st = o.stage in
-      let p = all_pass g gs net scalars a waits None low (next d) m early [] z [] tt d.queues 0 d s ends w st.shows tt (inl st.outside.0) in
+      let none_kept : kept (table []) d.ends [] ≡ [] = no_values (table []) d.ends many in
+      let o1 = at_swapped (swaps_of (ap (λ (l : List Token). token d.control z ∷ (l ++ [])) none_kept)) o in
+      let st = o1.stage in
+      let p = all_pass g gs net scalars a waits None low early d.queues [] z [] tt d.queues 0 d s (λ i q e. ap (slice_get d.queues) (let z : 0 + i ≡ i = omega arith in z) ∙ e) ends w st.shows tt (inl o1.used.0) in
       let x = next e in
       let is : slice_get net.units x ≡ Some Exit = exit_unit None e w in
       let own = o.calm x Exit is refl in
@@ -324,14 +369,15 @@ module _ (g : Graph) (gs : Groups) (net : Net) (scalars : List ℕ) (one : OneFr
       finished_by s go.to a (p.firings ++ firing x Go ∷ []) (length d.queues + 1) x (record (a.own x) { fired = true }) None o.calm waits exits
       (leads_on net s p.firings (firing x Go ∷ []) p.to go.to p.run go.run) (let l = p.few in let k = length-append p.firings (firing x Go ∷ []) in omega (arith, l, k)) shown refl
       (ap (λ (y : Own). y.queue.items) own) (ap (λ (y : Own). y.value) own)
-  finishes ins b (Some t) some ends w exits s a low m z [] early waits o = absurd (let l = o.many in omega arith)
-  finishes ins b (Some t) some ends w exits s a low m z (v ∷ v' ∷ vs) early waits o = absurd (let l = o.many in omega arith)
-  finishes ins b (Some t) some ends w exits s a low m z (v ∷ []) early waits o =
-      let d = join_top ins (Some t) b in
+  finishes ins join b (Some t) some ends w exits s a low m z [] early waits many as_many o = absurd (omega (arith, as_many))
+  finishes ins join b (Some t) some ends w exits s a low m z (v ∷ v' ∷ vs) early waits many as_many o = absurd (omega (arith, as_many))
+  finishes ins join b (Some t) some ends w exits s a low m z (v ∷ []) early waits many as_many o =
+      let d = join_top ins join (Some t) b in
       let e = all_ended d.queues d in
-      let st = o.stage in
       let q = (end_of d.ends 0).place in
-      let p = all_pass g gs net scalars a waits (Some t) low (next d) m early (Some q ∷ []) z (v ∷ []) st.outside.2 d.queues 0 d s ends w st.shows st.apart.0 (inl st.outside.0) in
+      let o1 = at_swapped (swaps_of (ap (λ (l : List Token). token d.control z ∷ l) (one_token (table (1 ∷ [])) d.ends v many refl))) o in
+      let st = o1.stage in
+      let p = all_pass g gs net scalars a waits (Some t) low early d.queues (Some q ∷ []) z (v ∷ []) o1.used.1 d.queues 0 d s (λ i q e. ap (slice_get d.queues) (let z : 0 + i ≡ i = omega arith in z) ∙ e) ends w st.shows st.apart.0 (inl o1.used.0) in
       let x = next e in
       let is : slice_get net.units x ≡ Some Exit = exit_unit (Some t) e w in
       let own = o.calm x Exit is refl in
@@ -349,11 +395,14 @@ module _ (g : Graph) (gs : Groups) (net : Net) (scalars : List ℕ) (one : OneFr
 
 -- so of the net that is built, whose join is laid
 pub ending : (g : Graph) (gs : Groups) → IsAsked g gs → JoinAt g gs (built g gs) → (scalars : List ℕ) (s : State) (a : Aside) (low m z : ℕ) (vs : List ℕ) → length (front_of g gs).units ≤ low → NoneWaits (built g gs) a
-    → Open (built g gs) scalars low m s a [] (join_head g gs) [] [] z vs [] → Finished (built g gs) s (length g.arrays + 1) (taken_result g.result vs) a.arrays a.strays
-ending g gs ask join scalars s a low m z vs early waits o =
+    → length (join_head g gs).ends ≡ length vs → length vs ≡ length (result_widths g.result)
+    → At (built g gs) scalars low m s a (join_head g gs) (open_tokens (join_head g gs) z 0 (table (ones (result_widths g.result))) vs []) → Finished (built g gs) s (length g.arrays + 1) (taken_result g.result vs) a.arrays a.strays
+ending g gs ask join scalars s a low m z vs early waits ends as_many o =
     let net = built g gs in
     let one : OneFrom net = (λ u p. one_out net (small g gs ask).units (net_closed g gs ask) u p) in
     let ins = inputs_of g (join_of g) in
-    let many : length (join_head g gs).queues ≡ length g.arrays = (head_grows ins (result_widths g.result) (with_blocks g gs)).queues ∙ (blocks_before g gs ask).queues in
+    let w = with_feeders g gs in
+    let many : length (join_head g gs).queues ≡ length g.arrays =
+    ap (λ (qs : List (Option Queue)). length qs) (head_headed ins (join_of g) (result_widths g.result) (ones (result_widths g.result)) 0 w).queues ∙ (feeders_after g gs).queues ∙ (blocks_before g gs ask).queues in
     subst (λ k. Finished net s (k + 1) (taken_result g.result vs) a.arrays a.strays) many
-    (finishes g gs net scalars one ins (with_blocks g gs) g.result refl join.queues join.laid join.exits s a low m z vs early waits o)
+    (finishes g gs net scalars one ins (join_of g) w g.result refl join.queues join.laid join.exits s a low m z vs early waits ends as_many o)

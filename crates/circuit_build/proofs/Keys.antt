@@ -1,22 +1,22 @@
 -- Which arrays have a queue, and where its end is, stays as it is before the blocks.
 use Rattle.std.proofs.Common.{◌≡◌, ℕ, zero, suc, List, [], ◌∷◌, Bool, true, false, refl, sym, ap, ◌∙◌}
-use Rattle.std.specs.Prelude.{cond, ◌==◌, slice_get, set, Option, Some, None}
+use Rattle.std.specs.Prelude.{cond, ◌==◌, length, slice_get, set, Option, Some, None}
 use Rattle.el_base.specs.declared.ty.Array.{Array}
 use Rattle.ir.specs.declared.graph.Block.{Block}
 use Rattle.ir.specs.declared.graph.Jump.{Jump}
-use Rattle.ir.specs.declared.graph.Jump.TheVariants.{Go, Two, Return}
 use Rattle.ir.specs.declared.groups.Access.{Access}
 use Rattle.ir.specs.declared.instr.Instr.{Instr}
 use Rattle.ir.specs.declared.instr.Instr.TheVariants as step
 use Rattle.net_types.specs.declared.net.Place.{Place}
 use Rattle.net_types.specs.Nets.{at}
 use Rattle.circuit_build.specs.declared.draft.Draft.{Draft}
-use Rattle.circuit_build.specs.declared.draft.End.{End}
 use Rattle.circuit_build.specs.declared.draft.Queue.{Queue}
-use Rattle.circuit_build.specs.Drafts.{copied, sunk}
-use Rattle.circuit_build.specs.Steps.{plus, queue_or, queue_of, width_at, allocated_by, allocated, next_group, next_port, load_by, store_by, step_laid, steps_laid}
-use Rattle.circuit_build.specs.Jumps.{all_copied, branched, all_branched, result_list, jump_laid, all_sunk, swept}
-use Rattle.circuit_build.specs.Blocks.{opened, arg_laid, args_laid, head_laid, ins_of, allocations, after_block, block_laid, blocks_laid}
+use Rattle.circuit_build.specs.Drafts.{plus, uses_of_next, undefined}
+use Rattle.circuit_build.specs.Steps.{queue_or, queue_of, width_at, allocated_by, allocated, next_group, next_port, load_by, store_by, step_made, step_laid, steps_laid}
+use Rattle.circuit_build.specs.Uses.{uses, is_laid}
+use Rattle.circuit_build.proofs.Fields.{const_still, one_still, two_still, select_still, read_still, loaded_still, forked_still, bare_still, head_headed, jump_queues}
+use Rattle.circuit_build.specs.Jumps.{jump_laid}
+use Rattle.circuit_build.specs.Blocks.{head_laid, ins_of, allocations, after_block, early_triggers, late_triggers, block_opened, block_grouped, block_worked, block_laid, blocks_laid}
 
 -- the end of a queue, where the array has one
 abbrev pub key_of : Option Queue → Option Place
@@ -38,20 +38,27 @@ keys_set (x ∷ qs) (suc a) q r h e = ap (λ ks. key_of x ∷ ks) (keys_set qs a
 -- ---- steps
 
 load_keys : (q : Option Queue) (a w p : ℕ) (d : Draft) → queue_of d a ≡ q → keys_of (load_by q a w p d) ≡ keys_of d
-load_keys None a w p d h = refl
-load_keys (Some q) a w p d h = keys_set d.queues a q (next_port q) h refl
+load_keys None a w p d h = ap keys (read_still a w p d).queues
+load_keys (Some q) a w p d h = ap (λ qs. keys (set qs a (Some (next_port q)))) (loaded_still q w p d).queues ∙ keys_set d.queues a q (next_port q) h refl
 
 store_keys : (q : Option Queue) (a p v : ℕ) (d : Draft) → queue_of d a ≡ q → keys_of (store_by q a p v d) ≡ keys_of d
 store_keys None a p v d h = refl
 store_keys (Some q) a p v d h = keys_set d.queues a q (next_port q) h refl
 
+made_keys : (arrays : List Array) (i : Instr) (d : Draft) → keys_of (step_made arrays i d) ≡ keys_of d
+made_keys arrays (step.Const w n) d = ap keys (const_still w n d).queues
+made_keys arrays (step.One op a) d = ap keys (one_still op a d).queues
+made_keys arrays (step.Two op a b) d = ap keys (two_still op a b d).queues
+made_keys arrays (step.Select w c a b) d = ap keys (select_still w c a b d).queues
+made_keys arrays (step.Load a p) d = load_keys (queue_of d a) a (width_at arrays a) p d refl
+made_keys arrays (step.Store a p v) d = store_keys (queue_of d a) a p v d refl
+
+if_keys : (t : Bool) (d e f : Draft) → keys_of e ≡ keys_of d → keys_of f ≡ keys_of d → keys_of (cond t e f) ≡ keys_of d
+if_keys true d e f h i = h
+if_keys false d e f h i = i
+
 pub step_keys : (arrays : List Array) (i : Instr) (d : Draft) → keys_of (step_laid arrays i d) ≡ keys_of d
-step_keys arrays (step.Const w n) d = refl
-step_keys arrays (step.One op a) d = refl
-step_keys arrays (step.Two op a b) d = refl
-step_keys arrays (step.Select w c a b) d = refl
-step_keys arrays (step.Load a p) d = load_keys (queue_of d a) a (width_at arrays a) p d refl
-step_keys arrays (step.Store a p v) d = store_keys (queue_of d a) a p v d refl
+step_keys arrays i d = if_keys (is_laid i (uses_of_next d)) d (step_made arrays i d) (undefined d) (made_keys arrays i d) refl
 
 pub steps_keys : (arrays : List Array) (is : List Instr) (d : Draft) → keys_of (steps_laid arrays is d) ≡ keys_of d
 steps_keys arrays [] d = refl
@@ -63,53 +70,34 @@ allocated_keys : (q : Option Queue) (a : ℕ) (d : Draft) → queue_of d a ≡ q
 allocated_keys None a d h = refl
 allocated_keys (Some q) a d h = keys_set d.queues a q (next_group q) h refl
 
-if_keys : (t : Bool) (d e : Draft) → keys_of e ≡ keys_of d → keys_of (cond t e d) ≡ keys_of d
-if_keys true d e h = h
-if_keys false d e h = refl
-
 pub allocations_keys : (b : ℕ) (xs : List Access) (d : Draft) → keys_of (allocations b xs d) ≡ keys_of d
 allocations_keys b [] d = refl
 allocations_keys b (x ∷ xs) d =
-    let e = allocated x.array d in if_keys (x.block == b) d (allocations b xs e) (allocations_keys b xs e ∙ allocated_keys (queue_of d x.array) x.array d refl)
+    let e = allocated x.array d in if_keys (x.block == b) d (allocations b xs e) d (allocations_keys b xs e ∙ allocated_keys (queue_of d x.array) x.array d refl) refl
 
--- ---- heads, jumps and sinks
+-- ---- heads and jumps
 
-args_keys : (ins : ℕ) (ws : List ℕ) (d : Draft) → keys_of (args_laid ins ws d) ≡ keys_of d
-args_keys ins [] d = refl
-args_keys ins (w ∷ ws) d = args_keys ins ws (arg_laid ins w d)
-
-pub head_keys : (ins : ℕ) (ws : List ℕ) (d : Draft) → keys_of (head_laid ins ws d) ≡ keys_of d
-head_keys ins ws d = args_keys ins ws (opened ins d)
-
-copies_keys : (vs : List ℕ) (d : Draft) → keys_of (all_copied vs d) ≡ keys_of d
-copies_keys [] d = refl
-copies_keys (v ∷ vs) d = copies_keys vs (copied v d)
-
-branches_keys : (kept dropped c : ℕ) (vs : List ℕ) (d : Draft) → keys_of (all_branched kept dropped c vs d) ≡ keys_of d
-branches_keys kept dropped c [] d = refl
-branches_keys kept dropped c (v ∷ vs) d = branches_keys kept dropped c vs (branched kept dropped c v d)
+pub head_keys : (ins target : ℕ) (ws us : List ℕ) (t : ℕ) (d : Draft) → keys_of (head_laid ins target ws us t d) ≡ keys_of d
+head_keys ins target ws us t d = ap keys (head_headed ins target ws us t d).queues
 
 pub jump_keys : (join : ℕ) (j : Jump) (d : Draft) → keys_of (jump_laid join j d) ≡ keys_of d
-jump_keys join (Go to) d = copies_keys to.with d
-jump_keys join (Two c a b) d = branches_keys 1 0 c b.with (all_branched 0 1 c a.with d) ∙ branches_keys 0 1 c a.with d
-jump_keys join (Return v) d = copies_keys (result_list v) d
-
-sinks_keys : (es : List (Option End)) (d : Draft) → keys_of (all_sunk es d) ≡ keys_of d
-sinks_keys [] d = refl
-sinks_keys (None ∷ es) d = sinks_keys es d
-sinks_keys (Some e ∷ es) d = sinks_keys es (sunk e d)
-
-pub swept_keys : (d : Draft) → keys_of (swept d) ≡ keys_of d
-swept_keys d = sinks_keys d.ends (record d { ends = [] })
+jump_keys join j d = ap keys (jump_queues join j d)
 
 -- ---- blocks
 
-pub block_keys : (arrays : List Array) (join ins b : ℕ) (k : Block) (xs : List Access) (d : Draft) → keys_of (block_laid arrays join ins b k xs d) ≡ keys_of d
-block_keys arrays join ins b k xs d =
-    let e = head_laid ins k.args d in
+pub grouped_keys : (ins b : ℕ) (k : Block) (xs : List Access) (d : Draft) → keys_of (block_grouped ins b k xs d) ≡ keys_of d
+grouped_keys ins b k xs d =
+    let e = block_opened ins b k xs d in
     let f = allocations b xs e in
-    let g = steps_laid arrays k.steps f in
-    swept_keys (jump_laid join k.jump g) ∙ jump_keys join k.jump g ∙ steps_keys arrays k.steps f ∙ allocations_keys b xs e ∙ head_keys ins k.args d
+    ap keys (forked_still (late_triggers b k xs) f).queues ∙ allocations_keys b xs e ∙ head_keys ins b k.args (uses k) (early_triggers b k xs) d
+
+pub worked_keys : (arrays : List Array) (ins b : ℕ) (k : Block) (xs : List Access) (d : Draft) → keys_of (block_worked arrays ins b k xs d) ≡ keys_of d
+worked_keys arrays ins b k xs d =
+    let e = block_grouped ins b k xs d in
+    ap keys (bare_still (length d.chans) k.jump (steps_laid arrays k.steps e)).queues ∙ steps_keys arrays k.steps e ∙ grouped_keys ins b k xs d
+
+pub block_keys : (arrays : List Array) (join ins b : ℕ) (k : Block) (xs : List Access) (d : Draft) → keys_of (block_laid arrays join ins b k xs d) ≡ keys_of d
+block_keys arrays join ins b k xs d = jump_keys join k.jump (block_worked arrays ins b k xs d) ∙ worked_keys arrays ins b k xs d
 
 pub blocks_keys : (arrays : List Array) (join : ℕ) (counts : List ℕ) (b : ℕ) (ks : List Block) (xs : List Access) (d : Draft) → keys_of (blocks_laid arrays join counts b ks xs d) ≡ keys_of d
 blocks_keys arrays join counts b [] xs d = refl

@@ -13,7 +13,7 @@ use Rattle.net_types.specs.Nets.{is_at, uses, owns, at, firing}
 use Rattle.net_core.specs.declared.plan.Put.{Put}
 use Rattle.net_core.specs.Fire.{State, Own, idle, Effect, effect_of, head_at, row, at_array, setting, put_at}
 use Rattle.circuit_build.proofs.Marks.{Marks, Wired, popped, pushed, popped_all, put_mark, Aside, own_set, with_own, Shows, Goes, Fed, Free}
-use Rattle.circuit_build.proofs.MarkLemmas.{of_kind, goes_as, goes_on, own_same, own_here, own_twice, head_is}
+use Rattle.circuit_build.proofs.MarkLemmas.{of_kind, goes_as, own_same, head_is}
 
 -- one for an address past the array
 abbrev pub past : List ℕ → ℕ → ℕ
@@ -32,14 +32,14 @@ module _ (net : Net) (scalars : List ℕ) (s : State) (m : Marks) (a : Aside) (h
       (λ r. refl) (λ v. ap (λ x. own_set u x a.own v) (h.own u) ∙ own_same u a.own v) refl (omega arith)
 
   -- a firing that changes it, and counts no stray
-  changing : (k : Kind) (act : Act) (takes : List ℕ) (put : Option Put) (o : Own) (srcs : List Place) → slice_get net.units u ≡ Some k → owns k ≡ None
+  pub changing : (k : Kind) (act : Act) (takes : List ℕ) (put : Option Put) (o : Own) (srcs : List Place) → slice_get net.units u ≡ Some k → owns k ≡ None
       → effect_of (row k act (get_or s.own u idle) (at_array s.arrays (uses k)) (setting net s)) (head_at net s u) ≡ Some (takes_and_puts takes put o (at_array s.arrays (uses k)))
       → Fed net u m takes srcs → Free net u m put → Goes net scalars s (firing u act ∷ []) (put_mark u put (popped_all srcs m)) (with_own u o a)
   changing k act takes put o srcs is none e fed free =
       goes_as net scalars s (firing u act ∷ []) _ _ _ (with_own u o a) (of_kind net scalars s m a h u k act (takes_and_puts takes put o (at_array s.arrays (uses k))) srcs is none e fed free)
       (λ r. refl) (λ v. refl) refl (omega arith)
 
-  head : (q v : ℕ) (p : Place) → Wired net p (at u q) → m p ≡ v ∷ [] → head_at net s u q ≡ Some v
+  pub head : (q v : ℕ) (p : Place) → Wired net p (at u q) → m p ≡ v ∷ [] → head_at net s u q ≡ Some v
   head q v p w e = head_is net scalars s m a h u q v p w e
 
   pub const_goes : (w n x : ℕ) (p r : Place) → slice_get net.units u ≡ Some (Const w n) → Wired net p (at u 0) → Wired net (at u 0) r → m p ≡ x ∷ [] → m (at u 0) ≡ []
@@ -165,40 +165,3 @@ module _ (net : Net) (scalars : List ℕ) (s : State) (m : Marks) (a : Aside) (h
       let back : record o { sent = false ∷ [] } ≡ o = (λ j. record o { sent = (sym b) j }) in
       keeping (Fork w 1) (Send 0) (0 ∷ []) (put_at 0 x) (p ∷ []) is refl
       (rw (b, i) (ap (λ y. Some (takes_and_puts (0 ∷ []) (put_at 0 x) y (at_array s.arrays (uses (Fork w 1))))) back)) (wp, (x, ex), tt) ((r, wr), eo)
-
-  first_send : (w x : ℕ) (p q : Place) → slice_get net.units u ≡ Some (Fork w 2) → (a.own u).sent ≡ false ∷ false ∷ [] → Wired net p (at u 0) → Wired net (at u 0) q
-      → m p ≡ x ∷ [] → m (at u 0) ≡ [] → Goes net scalars s (firing u (Send 0) ∷ []) (pushed (at u 0) x m) (with_own u (record (a.own u) { sent = true ∷ false ∷ [] }) a)
-  unfolding row
-  first_send w x p q is sent wp wq ex eo =
-      let own : get_or s.own u idle ≡ a.own u = h.own u in
-      let i = head 0 x p wp ex in
-      changing (Fork w 2) (Send 0) [] (put_at 0 x) (record (a.own u) { sent = true ∷ false ∷ [] }) [] is refl (rw (own, sent, i) refl) tt ((q, wq), eo)
-
-  last_send : (w x : ℕ) (p q : Place) → slice_get net.units u ≡ Some (Fork w 2) → (a.own u).sent ≡ true ∷ false ∷ [] → Wired net p (at u 0) → Wired net (at u 1) q
-      → m p ≡ x ∷ [] → m (at u 1) ≡ [] → Goes net scalars s (firing u (Send 1) ∷ []) (pushed (at u 1) x (popped p m)) (with_own u (record (a.own u) { sent = false ∷ false ∷ [] }) a)
-  unfolding row
-  last_send w x p q is sent wp wq ex eo =
-      let own : get_or s.own u idle ≡ a.own u = h.own u in
-      let i = head 0 x p wp ex in
-      changing (Fork w 2) (Send 1) (0 ∷ []) (put_at 1 x) (record (a.own u) { sent = false ∷ false ∷ [] }) (p ∷ []) is refl (rw (own, sent, i) refl) (wp, (x, ex), tt) ((q, wq), eo)
-
--- a fork copies its token to output 0 and then to output 1
-pub fork_goes : (net : Net) (scalars : List ℕ) (s : State) (m : Marks) (a : Aside) → Shows net scalars s m a → (u w x : ℕ) (p q r : Place)
-    → slice_get net.units u ≡ Some (Fork w 2) → (a.own u).sent ≡ false ∷ false ∷ [] → Wired net p (at u 0) → Wired net (at u 0) q → Wired net (at u 1) r
-    → m p ≡ x ∷ [] → m (at u 0) ≡ [] → m (at u 1) ≡ [] → is_at p u 0 ≡ false
-    → Goes net scalars s (firing u (Send 0) ∷ firing u (Send 1) ∷ []) (pushed (at u 1) x (popped p (pushed (at u 0) x m))) a
-fork_goes net scalars s m a h u w x p q r is sent wp wq wr ex eo ez ne =
-    let o1 : Own = record (a.own u) { sent = true ∷ false ∷ [] } in
-    let a1 : Aside = with_own u o1 a in
-    let g1 = first_send net scalars s m a h u w x p q is sent wp wq ex eo in
-    let e1 : a1.own u ≡ o1 = own_here a.own u o1 in
-    let other : is_at (at u 1) u 0 ≡ false = (let c : (1 == 0) ≡ false = refl in ap (λ b. b) (both (u == u))) in
-    let g2 = last_send net scalars g1.to (pushed (at u 0) x m) a1 g1.shows u w x p r is (ap (λ (y : Own). y.sent) e1) wp wr (rw ne ex) (rw other ez) in
-    let back : record (a1.own u) { sent = false ∷ false ∷ [] } ≡ a.own u =
-    ap (λ (y : Own). record y { sent = false ∷ false ∷ [] }) e1 ∙ (λ j. record (a.own u) { sent = (sym sent) j }) in
-    goes_as net scalars s (firing u (Send 0) ∷ firing u (Send 1) ∷ []) _ _ _ a (goes_on net scalars s (firing u (Send 0) ∷ []) (firing u (Send 1) ∷ []) _ _ _ _ g1 g2)
-    (λ y. refl) (λ v. own_twice a.own u o1 (record (a1.own u) { sent = false ∷ false ∷ [] }) v ∙ (ap (λ y. own_set u y a.own v) back ∙ own_same u a.own v)) refl (omega arith)
-  where
-    both : (b : Bool) → (b && false) ≡ false
-    both true = refl
-    both false = refl

@@ -16,7 +16,10 @@ use Rattle.circuit_build.specs.Counted.{queue_for}
 use Rattle.circuit_build.specs.declared.draft.Draft.{Draft}
 use Rattle.circuit_build.specs.declared.draft.Queue.{Queue}
 use Rattle.circuit_build.specs.Fronts.{ports_of, groups_from}
-use Rattle.circuit_build.specs.Steps.{queue_or, queue_of, next_port, next_group, value_place, addr_place, data_place, width_at, load_by, store_by, step_laid, allocated, allocated_by}
+use Rattle.circuit_build.specs.Steps.{queue_or, queue_of, next_port, next_group, value_place, addr_place, data_place, width_at, load_by, store_by, step_made, step_laid, allocated, allocated_by}
+use Rattle.circuit_build.specs.Drafts.{uses_of_next, undefined}
+use Rattle.circuit_build.specs.Uses.{is_laid}
+use Rattle.circuit_build.proofs.Fields.{const_still, one_still, two_still, select_still, read_still, loaded_still}
 use Rattle.circuit_build.proofs.CountSteps.{steps_ports}
 use Rattle.circuit_build.proofs.LayBlocks.{QueueAt, BooksAt, Unstored}
 
@@ -41,7 +44,7 @@ moved_if f t None = None
 moved_if f true (Some q) = Some (f q)
 moved_if f false (Some q) = Some q
 
-abbrev moved_in : (Queue → Queue) → ℕ → Option Queue → List (Option Queue) → List (Option Queue)
+abbrev pub moved_in : (Queue → Queue) → ℕ → Option Queue → List (Option Queue) → List (Option Queue)
 moved_in f b None qs = qs
 moved_in f b (Some q) qs = set qs b (Some (f q))
 
@@ -49,7 +52,7 @@ pub not_moved : (f : Queue → Queue) (o : Option Queue) → o ≡ moved_if f fa
 not_moved f None = refl
 not_moved f (Some q) = refl
 
-touched : (f : Queue → Queue) (d e : Draft) (b a : ℕ) (o : Option Queue) → queue_of d b ≡ o → e.queues ≡ moved_in f b o d.queues → queue_of e a ≡ moved_if f (b == a) (queue_of d a)
+pub touched : (f : Queue → Queue) (d e : Draft) (b a : ℕ) (o : Option Queue) → queue_of d b ≡ o → e.queues ≡ moved_in f b o d.queues → queue_of e a ≡ moved_if f (b == a) (queue_of d a)
 touched f d e b a None h s = elim (cases_eq b a) [
   | inl y ↦ (let z : queue_of d a ≡ None = ap (queue_of d) (sym y) ∙ h in ap (λ qs. queue_or (slice_get qs a)) s ∙ z ∙ sym (ap (moved_if f (b == a)) z))
   | inr n ↦ ap (λ qs. queue_or (slice_get qs a)) s ∙ not_moved f (queue_of d a) ∙ sym (ap (λ t. moved_if f t (queue_of d a)) (ne_eqb b a n))
@@ -70,21 +73,41 @@ pub allocated_queue : (c : ℕ) (d : Draft) (a : ℕ) → queue_of (allocated c 
 allocated_queue c d a = touched next_group d (allocated c d) c a (queue_of d c) refl (allocated_queues c (queue_of d c) d)
 
 load_queues : (b w p : ℕ) (o : Option Queue) (d : Draft) → (load_by o b w p d).queues ≡ moved_in next_port b o d.queues
-load_queues b w p None d = refl
-load_queues b w p (Some q) d = refl
+load_queues b w p None d = (read_still b w p d).queues
+load_queues b w p (Some q) d = ap (λ qs. set qs b (Some (next_port q))) (loaded_still q w p d).queues
 
 store_queues : (b p v : ℕ) (o : Option Queue) (d : Draft) → (store_by o b p v d).queues ≡ moved_in next_port b o d.queues
 store_queues b p v None d = refl
 store_queues b p v (Some q) d = refl
 
+-- a step that leaves the queues
+still_queue : (a : ℕ) (d e : Draft) → e.queues ≡ d.queues → queue_of e a ≡ moved_if next_port false (queue_of d a)
+still_queue a d e s = ap (λ qs. queue_or (slice_get qs a)) s ∙ not_moved next_port (queue_of d a)
+
+made_queue : (arrays : List Array) (i : Instr) (d : Draft) (a : ℕ) → queue_of (step_made arrays i d) a ≡ moved_if next_port (is_on a i) (queue_of d a)
+made_queue arrays (step.Const w n) d a = still_queue a d (step_made arrays (step.Const w n) d) (const_still w n d).queues
+made_queue arrays (step.One op x) d a = still_queue a d (step_made arrays (step.One op x) d) (one_still op x d).queues
+made_queue arrays (step.Two op x y) d a = still_queue a d (step_made arrays (step.Two op x y) d) (two_still op x y d).queues
+made_queue arrays (step.Select w c x y) d a = still_queue a d (step_made arrays (step.Select w c x y) d) (select_still w c x y d).queues
+made_queue arrays (step.Load b p) d a = touched next_port d (step_made arrays (step.Load b p) d) b a (queue_of d b) refl (load_queues b (width_at arrays b) p (queue_of d b) d)
+made_queue arrays (step.Store b p v) d a = touched next_port d (step_made arrays (step.Store b p v) d) b a (queue_of d b) refl (store_queues b p v (queue_of d b) d)
+
+-- a step that is not laid is on no array
+unlaid_on : (a : ℕ) (i : Instr) (n : ℕ) → is_laid i n ≡ false → is_on a i ≡ false
+unlaid_on a (step.Const w m) n e = refl
+unlaid_on a (step.One op x) n e = refl
+unlaid_on a (step.Two op x y) n e = refl
+unlaid_on a (step.Select w c x y) n e = refl
+unlaid_on a (step.Load b p) n e = absurd (cc)
+unlaid_on a (step.Store b p v) n e = absurd (cc)
+
+if_queue : (arrays : List Array) (i : Instr) (d : Draft) (a : ℕ) (t : Bool) → is_laid i (uses_of_next d) ≡ t → queue_of (cond t (step_made arrays i d) (undefined d)) a ≡ moved_if next_port (is_on a i) (queue_of d a)
+if_queue arrays i d a true e = made_queue arrays i d a
+if_queue arrays i d a false e = not_moved next_port (queue_of d a) ∙ sym (ap (λ t. moved_if next_port t (queue_of d a)) (unlaid_on a i (uses_of_next d) e))
+
 -- the queue of an array after a step
 pub step_queue : (arrays : List Array) (i : Instr) (d : Draft) (a : ℕ) → queue_of (step_laid arrays i d) a ≡ moved_if next_port (is_on a i) (queue_of d a)
-step_queue arrays (step.Const w n) d a = not_moved next_port (queue_of d a)
-step_queue arrays (step.One op x) d a = not_moved next_port (queue_of d a)
-step_queue arrays (step.Two op x y) d a = not_moved next_port (queue_of d a)
-step_queue arrays (step.Select w c x y) d a = not_moved next_port (queue_of d a)
-step_queue arrays (step.Load b p) d a = touched next_port d (step_laid arrays (step.Load b p) d) b a (queue_of d b) refl (load_queues b (width_at arrays b) p (queue_of d b) d)
-step_queue arrays (step.Store b p v) d a = touched next_port d (step_laid arrays (step.Store b p v) d) b a (queue_of d b) refl (store_queues b p v (queue_of d b) d)
+step_queue arrays i d a = if_queue arrays i d a (is_laid i (uses_of_next d)) refl
 
 -- ---- the books after a step
 

@@ -9,11 +9,12 @@ use Rattle.ir.specs.declared.instr.Instr.{Instr}
 use Rattle.ir.specs.Accesses.{is_on, accesses_in, places_from, access_if, block_accesses, accesses_from}
 use Rattle.ir.specs.Graphs.{Graph}
 use Rattle.net_types.specs.declared.net.Net.{Net}
+use Rattle.circuit_build.specs.Drafts.{plus}
 use Rattle.circuit_build.specs.Blocks.{allocations}
 use Rattle.circuit_build.specs.declared.draft.Draft.{Draft}
 use Rattle.circuit_build.specs.declared.draft.Queue.{Queue}
 use Rattle.circuit_build.specs.Fronts.{numbers_from, number_after, groups_from}
-use Rattle.circuit_build.specs.Steps.{plus, queue_of, next_group, allocated}
+use Rattle.circuit_build.specs.Steps.{queue_of, next_group, allocated}
 use Rattle.circuit_build.proofs.Accesses.{if_own, if_other, block_many, ons_few}
 use Rattle.circuit_build.proofs.LayBlocks.{left_of, GroupAt, GroupsAt, pending, all_allocated}
 use Rattle.circuit_build.proofs.LayBooks.{moved_if, not_moved, allocated_queue}

@@ -19,14 +19,15 @@ use Rattle.net_types.specs.declared.net.Port.{Port}
 use Rattle.net_types.specs.declared.net.Port.TheVariants.{Load, Store}
 use Rattle.net_types.specs.Queues.{IsGroup, IsQueueShape}
 use Rattle.net_check.specs.Shapes.{HasShape}
+use Rattle.circuit_build.specs.Drafts.{plus}
 use Rattle.circuit_build.specs.Asks.{IsAsked}
-use Rattle.circuit_build.specs.Blocks.{head_laid, allocations, block_laid}
+use Rattle.circuit_build.specs.Blocks.{allocations, early_triggers, late_triggers, block_opened, block_grouped, block_laid}
 use Rattle.circuit_build.specs.Built.{front_of, whole_draft, built}
 use Rattle.circuit_build.specs.Counted.{queue_for}
 use Rattle.circuit_build.specs.declared.draft.Draft.{Draft}
 use Rattle.circuit_build.specs.declared.draft.Queue.{Queue}
 use Rattle.circuit_build.specs.Fronts.{ports_of, groups_from, depth_from, numbers_from, number_after}
-use Rattle.circuit_build.specs.Steps.{plus, queue_or, queue_of, next_port, next_group, step_laid, steps_laid}
+use Rattle.circuit_build.specs.Steps.{queue_or, queue_of, next_port, next_group, step_laid, steps_laid}
 use Rattle.circuit_build.proofs.CountAccess.{steps_more}
 use Rattle.circuit_build.proofs.CountBlocks.{blocks_ports}
 use Rattle.circuit_build.proofs.CountSteps.{steps_ports}
@@ -34,7 +35,9 @@ use Rattle.circuit_build.proofs.LayBlocks.{left_of, QueueAt, BooksAt, Unstored, 
 use Rattle.circuit_build.proofs.LayBooks.{moved_if, step_queue}
 use Rattle.circuit_build.proofs.LayExtends.{extends_unit}
 use Rattle.circuit_build.proofs.LayGroups.{port_after, left_numbers, after_numbers, own_comes, group_moves, moves_queue, grouped, block_moves, group_if, block_groups, pending_nil, pending_own, groups_at}
-use Rattle.circuit_build.proofs.LayLists.{head_queues, block_queues}
+use Rattle.circuit_build.proofs.LayLists.{block_queues}
+use Rattle.circuit_build.specs.Uses.{uses}
+use Rattle.circuit_build.proofs.Fields.{forked_still, bare_still, head_headed}
 use Rattle.circuit_build.proofs.LayQueues.{queue_few, front_whole, QueueKept, QueuesKept}
 use Rattle.circuit_build.proofs.QueueShapes.{units_shaped}
 
@@ -84,12 +87,15 @@ after_grouped a (p ∷ ps) is q = ports_some a is (next_group q)
 module _ (arrays : List Array) (join ins b : ℕ) (k : Block) (rs : List Bool) (ks : List Block) (xs : List Access) (e : xs ≡ accesses_from rs b (k ∷ ks)) (d : Draft) where
   own_queue : (a : ℕ) → queue_of (block_laid arrays join ins b k xs d) a ≡ port_moves a k.steps (group_moves a (block_accesses b k.steps 0 rs) (queue_of d a))
   own_queue a =
-      let h = head_laid ins k.args d in
+      let h = block_opened ins b k xs d in
+      let f = allocations b xs h in
+      let u = block_grouped ins b k xs d in
       let own = block_accesses b k.steps 0 rs in
-      ap (λ qs. queue_or (slice_get qs a)) (block_queues arrays join ins b k xs d)
-      ∙ moves_steps arrays k.steps (allocations b xs h) a
+      ap (λ qs. queue_or (slice_get qs a)) (block_queues arrays join ins b k xs d ∙ (bare_still (length d.chans) k.jump (steps_laid arrays k.steps u)).queues)
+      ∙ moves_steps arrays k.steps u a
+      ∙ ap (λ qs. port_moves a k.steps (queue_or (slice_get qs a))) (forked_still (late_triggers b k xs) f).queues
       ∙ ap (λ f. port_moves a k.steps (queue_of f a)) (ap (λ ys. allocations b ys h) e ∙ own_comes b rs k ks h)
-      ∙ ap (port_moves a k.steps) (moves_queue own h a ∙ ap (λ qs. group_moves a own (queue_or (slice_get qs a))) (head_queues ins k.args d))
+      ∙ ap (port_moves a k.steps) (moves_queue own h a ∙ ap (λ qs. group_moves a own (queue_or (slice_get qs a))) (head_headed ins b k.args (uses k) (early_triggers b k xs) d).queues)
 
   some_queue : (a : ℕ) (q : Queue) → slice_get rs a ≡ Some false → queue_of d a ≡ Some q → queue_of (block_laid arrays join ins b k xs d) a ≡ Some (queue_after (places_from a 0 k.steps) (port_after a q.port k.steps) q)
   some_queue a q s h =

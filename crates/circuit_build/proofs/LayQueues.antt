@@ -11,18 +11,18 @@ use Rattle.net_types.specs.declared.net.Port.{Port}
 use Rattle.net_types.specs.declared.net.Unit.{Unit as Kind}
 use Rattle.net_types.specs.declared.net.Unit.TheVariants.{Lsq}
 use Rattle.circuit_build.specs.Asks.{IsAsked}
-use Rattle.circuit_build.specs.Built.{front_of, whole_draft}
+use Rattle.circuit_build.specs.Built.{front_of, with_blocks, with_feeders, with_join, whole_draft}
 use Rattle.circuit_build.specs.Counted.{queue_for}
 use Rattle.circuit_build.specs.declared.draft.Draft.{Draft}
 use Rattle.circuit_build.specs.declared.draft.Queue.{Queue}
-use Rattle.circuit_build.specs.Drafts.{number, next}
+use Rattle.circuit_build.specs.Drafts.{number, next, plus}
 use Rattle.circuit_build.specs.Fronts.{started, entered, ports_of, groups_from, depth_from, queue_if, queues_laid}
-use Rattle.circuit_build.specs.Steps.{plus, queue_or, queue_of}
+use Rattle.circuit_build.specs.Steps.{queue_or, queue_of}
 use Rattle.circuit_build.proofs.CountAccess.{all_ports}
 use Rattle.circuit_build.proofs.CountBlocks.{blocks_ports}
 use Rattle.circuit_build.proofs.CountQueues.{queue_some}
 use Rattle.circuit_build.proofs.Keeps as keeps
-use Rattle.circuit_build.proofs.LayExtends.{get_front, get_pushed, extends_unit, extends_own, extends_then, extends_long, Any, AnyNumber, any_laid, unit_more, chan_more, same_more, front_blocks, blocks_join, join_whole}
+use Rattle.circuit_build.proofs.LayExtends.{get_front, get_pushed, extends_unit, extends_own, extends_then, extends_long, Any, AnyNumber, any_laid, unit_more, chan_more, same_more, front_blocks, blocks_feeders, feeders_join, join_whole}
 use Rattle.circuit_build.proofs.LaySections.{Extends}
 use Rattle.circuit_build.proofs.QueueShapes.{ports_many, groups_few, mine_few, accesses_fit, places_few}
 use Rattle.circuit_build.proofs.ReadCounts.{is_empty, params_queues, front_queued}
@@ -41,7 +41,7 @@ queue_few g gs ask a =
     omega (arith, p, m, f, s, b)
 
 pub front_whole : (g : Graph) (gs : Groups) → Extends (front_of g gs) (whole_draft g gs)
-front_whole g gs = extends_then (front_of g gs) _ (whole_draft g gs) (extends_then (front_of g gs) _ _ (front_blocks g gs) (blocks_join g gs)) (join_whole g gs)
+front_whole g gs = extends_then (front_of g gs) _ (whole_draft g gs) (extends_then (front_of g gs) _ _ (front_blocks g gs) (extends_then (with_blocks g gs) (with_feeders g gs) (with_join g gs) (blocks_feeders g gs) (feeders_join g gs))) (join_whole g gs)
 
 -- ---- what is laid for an array before the blocks
 
@@ -63,7 +63,7 @@ queues_entry blocks of i [] d b o e = e
 queues_entry blocks of i (x ∷ xs) d b o e = queues_entry blocks of (plus i 1) xs (queue_if i (ports_of i blocks of) (groups_from i 0 of) (depth_from i 16 of) d) b o (if_entry i (ports_of i blocks of) (groups_from i 0 of) (depth_from i 16 of) b o d e)
 
 queues_extend : (blocks : List Block) (of : List Access) (i : ℕ) (xs : List Array) (d : Draft) → Extends d (queues_laid blocks of i xs d)
-queues_extend blocks of i xs d = keeps.queues_keep (Extends d) Any AnyNumber any_laid (unit_more d) (chan_more d) (same_more d) (λ a m ps hs. tt) blocks of i xs d (extends_own d)
+queues_extend blocks of i xs d = keeps.queues_keep (Extends d) Any AnyNumber AnyNumber any_laid (unit_more d) (chan_more d) (same_more d) (λ a m ps hs. tt) blocks of i xs d (extends_own d)
 
 if_long : (a : ℕ) (ps : List Port) (gs : List (List ℕ)) (m : ℕ) (d : Draft) → length (queue_if a ps gs m d).queues ≡ suc (length d.queues)
 if_long a ps [] m d = let l = length-append d.queues (None ∷ []) in omega (arith, l)
@@ -125,7 +125,7 @@ module _ (g : Graph) (gs : Groups) (ask : IsAsked g gs) where
   front_small = let l = extends_long (front_of g gs) (whole_draft g gs) (front_whole g gs) in let s = (small g gs ask).units in omega (arith, l, s)
 
   at_front : (a : ℕ) → a < length g.arrays → AtFront g.blocks gs.of a (front_of g gs)
-  at_front a lt = front_at g.blocks gs.of 0 g.arrays (entered g.scalars started) (ap (λ (qs : List (Option Queue)). length qs) (params_queues 0 g.scalars started)) (let b = arrays_bound g gs ask in omega (arith, b)) front_small a a (omega arith) lt
+  at_front a lt = front_at g.blocks gs.of 0 g.arrays (entered g.scalars (started (length g.blocks + 1))) (ap (λ (qs : List (Option Queue)). length qs) (params_queues 0 g.scalars (started (length g.blocks + 1)))) (let b = arrays_bound g gs ask in omega (arith, b)) front_small a a (omega arith) lt
 
   stored_is : (a : ℕ) (o : Option Bool) → slice_get gs.read_only a ≡ o → a < length g.arrays → is_empty (groups_from a 0 gs.of) ≡ false → slice_get gs.read_only a ≡ Some false
   stored_is a None e lt some = let m = ask.share.as_many in let x = slice_get-get_or gs.read_only a false (omega (arith, m, lt)) in absurd (cc)

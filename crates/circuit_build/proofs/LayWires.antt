@@ -21,7 +21,7 @@ use Rattle.circuit_build.proofs.CountBooks.{froms, tos}
 use Rattle.circuit_build.proofs.CountChain.{Has, at_own, counts_to, counts_from, found_from}
 use Rattle.circuit_build.proofs.CountRules.{Closed, at_place, keeps_c1, one_in, one_out}
 use Rattle.circuit_build.proofs.CountWhole.{closed}
-use Rattle.circuit_build.proofs.LaySections.{Within}
+use Rattle.circuit_build.proofs.LaySections.{Within, HasPlace, Leaves}
 use Rattle.circuit_build.proofs.Marks.{Wired}
 use Rattle.circuit_build.proofs.Plain.{one_slot}
 use Rattle.circuit_build.proofs.Served.{arrays_bound}
@@ -74,14 +74,6 @@ wired_closed net few b plain c h =
     record { joined = joined_has c net.chans k (one_in net few b c.to.unit c.to.place) one; within = out_within c net.chans k; slot = omega (arith, e, s) }
 
 -- ---- the output places of a unit
-
-abbrev pub HasPlace : List Spot → ℕ → Type 0
-HasPlace [] p = ⊥
-HasPlace (s ∷ ss) p = (s.place ≡ p) ⊎ HasPlace ss p
-
--- each output place of a unit of the net is joined to some place
-abbrev pub Leaves : Net → Type 0
-Leaves net = (u p : ℕ) (k : Kind) → slice_get net.units u ≡ Some k → HasPlace (outs net false k) p → (r : Place) × Wired net (at u p) r
 
 row_has : (u p : ℕ) (ss : List Spot) → HasPlace ss p → 1 ≤ times_in (places_at u ss) u p
 row_has u p [] h = absurd h

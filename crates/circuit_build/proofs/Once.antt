@@ -15,16 +15,15 @@ use Rattle.net_types.specs.declared.net.Unit.{Unit as Kind}
 use Rattle.net_types.specs.declared.net.Unit.TheVariants.{Param, Lsq, Exit}
 use Rattle.net_check.specs.Headers.{is_entry, is_exit, is_param, is_queue}
 use Rattle.circuit_build.specs.declared.draft.Draft.{Draft}
-use Rattle.circuit_build.specs.Drafts.{with_unit}
-use Rattle.circuit_build.specs.Steps.{plus}
+use Rattle.circuit_build.specs.Drafts.{with_unit, plus}
 use Rattle.circuit_build.specs.Blocks.{ins_of, head_laid}
 use Rattle.circuit_build.specs.Edges.{edge_counts}
-use Rattle.circuit_build.specs.Endings.{result_widths, all_ended, exited}
+use Rattle.circuit_build.specs.Endings.{result_widths, ones, all_ended, exited}
 use Rattle.circuit_build.specs.Fronts.{started, params_laid, entered, queue_if, queues_laid, ports_of, groups_from, depth_from}
-use Rattle.circuit_build.specs.Built.{join_of, with_blocks, whole_draft}
+use Rattle.circuit_build.specs.Built.{join_of, with_feeders, whole_draft}
 use Rattle.circuit_build.specs.Laws.{UnitsStandOnce}
 use Rattle.circuit_build.proofs.Keeps as keeps
-use Rattle.circuit_build.proofs.Keeps.{Laid}
+use Rattle.circuit_build.proofs.Keeps.{Laid, Free, free, free_few}
 
 -- ---- how many units of a kind a draft has
 
@@ -45,22 +44,22 @@ same_units q n d e u c h = ap (count_by q) u ∙ h
 
 -- no other unit is of the kind
 abbrev Others : (Kind → Bool) → Type 0
-Others q = Laid (λ k. q k ≡ false) (λ n. Unit {0})
+Others q = Laid (λ k. q k ≡ false) (λ n. Unit {0}) Free
 
 entries : Others is_entry
-entries = record { const = λ w n. refl; op1 = λ op. refl; op2 = λ op. refl; select = λ w. refl; fork1 = λ w. refl; fork2 = λ w. refl; mux = λ w n i. refl; merge = λ n i. refl; branch = λ w. refl; sink = λ w. refl }
+entries = record { const = λ w n. refl; op1 = λ op. refl; op2 = λ op. refl; select = λ w. refl; fork1 = λ w. refl; forks = λ w n l o. refl; mux = λ w n i. refl; merge = λ n i. refl; branch = λ w. refl; sink = λ w. refl }
 
 exits : Others is_exit
-exits = record { const = λ w n. refl; op1 = λ op. refl; op2 = λ op. refl; select = λ w. refl; fork1 = λ w. refl; fork2 = λ w. refl; mux = λ w n i. refl; merge = λ n i. refl; branch = λ w. refl; sink = λ w. refl }
+exits = record { const = λ w n. refl; op1 = λ op. refl; op2 = λ op. refl; select = λ w. refl; fork1 = λ w. refl; forks = λ w n l o. refl; mux = λ w n i. refl; merge = λ n i. refl; branch = λ w. refl; sink = λ w. refl }
 
 params : (j : ℕ) → Others (is_param j)
-params j = record { const = λ w n. refl; op1 = λ op. refl; op2 = λ op. refl; select = λ w. refl; fork1 = λ w. refl; fork2 = λ w. refl; mux = λ w n i. refl; merge = λ n i. refl; branch = λ w. refl; sink = λ w. refl }
+params j = record { const = λ w n. refl; op1 = λ op. refl; op2 = λ op. refl; select = λ w. refl; fork1 = λ w. refl; forks = λ w n l o. refl; mux = λ w n i. refl; merge = λ n i. refl; branch = λ w. refl; sink = λ w. refl }
 
 -- ---- the entry and the exit
 
 pub one_entry : (g : Graph) (gs : Groups) → how_many is_entry (whole_draft g gs) ≡ 1
 one_entry g gs =
-    keeps.whole_keeps (λ d. how_many is_entry d ≡ 1) (λ k. is_entry k ≡ false) (λ n. Unit {0}) entries (other_unit is_entry 1) (λ p q w c d h. h) (same_units is_entry 1) (λ a. refl) (λ j. refl) (λ a m ps gs. refl) refl g gs (λ t. tt) refl
+    keeps.whole_keeps (λ d. how_many is_entry d ≡ 1) (λ k. is_entry k ≡ false) (λ n. Unit {0}) Free entries (other_unit is_entry 1) (λ p q w c d h. h) (same_units is_entry 1) (λ a. refl) (λ j. refl) (λ a m ps gs. refl) refl g gs (λ t. tt) (free g.blocks) free_few refl
 
 exited_once : (r : Option Ty) (d : Draft) → how_many is_exit d ≡ 0 → how_many is_exit (exited r d) ≡ 1
 exited_once None d h = this_unit is_exit 0 Exit d refl h
@@ -71,13 +70,14 @@ one_exit g gs =
     let Fits : Kind → Type 0 = λ k. is_exit k ≡ false in
     let Ins : ℕ → Type 0 = λ n. Unit {0} in
     let none : Draft → Type 0 = λ d. how_many is_exit d ≡ 0 in
-    let e = keeps.entered_keeps none Fits Ins exits (other_unit is_exit 0) (λ p q w c d h. h) (same_units is_exit 0) (λ j. refl) g.scalars started refl in
-    let f = keeps.front_keeps none Fits Ins exits (other_unit is_exit 0) (λ p q w c d h. h) (same_units is_exit 0) (λ a m ps gs. refl) g gs e in
-    let b = keeps.blocks_of_keep none Fits Ins exits (other_unit is_exit 0) (λ p q w c d h. h) (same_units is_exit 0) (λ a. refl) g gs (λ t. tt) f in
+    let e = keeps.entered_keeps none Fits Ins Free exits (other_unit is_exit 0) (λ p q w c d h. h) (same_units is_exit 0) (λ j. refl) g.scalars (started (length g.blocks + 1)) refl in
+    let f = keeps.front_keeps none Fits Ins Free exits (other_unit is_exit 0) (λ p q w c d h. h) (same_units is_exit 0) (λ a m ps gs. refl) g gs e in
+    let b = keeps.blocks_of_keep none Fits Ins Free exits (other_unit is_exit 0) (λ p q w c d h. h) (same_units is_exit 0) (λ a. refl) g gs (λ t. tt) (free g.blocks) f in
+    let w = keeps.feeders_of_keep none Fits Ins Free exits (other_unit is_exit 0) (λ p q w c d h. h) (same_units is_exit 0) g gs (free g.blocks) free_few b in
     let ins = ins_of (edge_counts g.blocks) (join_of g) in
-    let j = keeps.before_exit none Fits Ins exits (other_unit is_exit 0) (λ p q w c d h. h) (same_units is_exit 0) ins tt g.result (with_blocks g gs) b in
-    let h = head_laid ins (result_widths g.result) (with_blocks g gs) in
-    keeps.rest_keeps (λ d. how_many is_exit d ≡ 1) Fits Ins exits (other_unit is_exit 1) (λ p q w c d h. h) (same_units is_exit 1) g gs (exited_once g.result (all_ended h.queues h) j)
+    let j = keeps.before_exit none Fits Ins Free exits (other_unit is_exit 0) (λ p q w c d h. h) (same_units is_exit 0) free_few ins (join_of g) tt g.result (with_feeders g gs) w in
+    let h = head_laid ins (join_of g) (result_widths g.result) (ones (result_widths g.result)) 0 (with_feeders g gs) in
+    keeps.rest_keeps (λ d. how_many is_exit d ≡ 1) Fits Ins Free exits (other_unit is_exit 1) (λ p q w c d h. h) (same_units is_exit 1) g gs (exited_once g.result (all_ended h.queues h) j)
 
 -- ---- scalars
 
@@ -102,14 +102,14 @@ one_param g gs few j lt =
     let Fits : Kind → Type 0 = λ k. is_param j k ≡ false in
     let Ins : ℕ → Type 0 = λ n. Unit {0} in
     let I : Draft → Type 0 = λ d. how_many (is_param j) d ≡ 1 in
-    let e : I (entered g.scalars started) = params_once j 0 g.scalars started (omega arith) (omega arith) (omega arith) refl in
-    let f = keeps.front_keeps I Fits Ins (params j) (other_unit (is_param j) 1) (λ p q w c d h. h) (same_units (is_param j) 1) (λ a m ps gs. refl) g gs e in
-    keeps.after_front I Fits Ins (params j) (other_unit (is_param j) 1) (λ p q w c d h. h) (same_units (is_param j) 1) (λ a. refl) refl g gs (λ t. tt) f
+    let e : I (entered g.scalars (started (length g.blocks + 1))) = params_once j 0 g.scalars (started (length g.blocks + 1)) (omega arith) (omega arith) (omega arith) refl in
+    let f = keeps.front_keeps I Fits Ins Free (params j) (other_unit (is_param j) 1) (λ p q w c d h. h) (same_units (is_param j) 1) (λ a m ps gs. refl) g gs e in
+    keeps.after_front I Fits Ins Free (params j) (other_unit (is_param j) 1) (λ p q w c d h. h) (same_units (is_param j) 1) (λ a. refl) refl g gs (λ t. tt) (free g.blocks) free_few f
 
 -- ---- queues
 
 queues : (a : ℕ) → Others (is_queue a)
-queues a = record { const = λ w n. refl; op1 = λ op. refl; op2 = λ op. refl; select = λ w. refl; fork1 = λ w. refl; fork2 = λ w. refl; mux = λ w n i. refl; merge = λ n i. refl; branch = λ w. refl; sink = λ w. refl }
+queues a = record { const = λ w n. refl; op1 = λ op. refl; op2 = λ op. refl; select = λ w. refl; fork1 = λ w. refl; forks = λ w n l o. refl; mux = λ w n i. refl; merge = λ n i. refl; branch = λ w. refl; sink = λ w. refl }
 
 abbrev At_most_one : ℕ → Draft → Type 0
 At_most_one a d = how_many (is_queue a) d ≤ 1
@@ -152,9 +152,9 @@ one_queue g gs few a =
     let Fits : Kind → Type 0 = λ k. is_queue a k ≡ false in
     let Ins : ℕ → Type 0 = λ n. Unit {0} in
     let none : Draft → Type 0 = λ d. how_many (is_queue a) d ≡ 0 in
-    let e = keeps.entered_keeps none Fits Ins (queues a) (other_unit (is_queue a) 0) (λ p q w c d h. h) (same_units (is_queue a) 0) (λ j. refl) g.scalars started refl in
-    let f = queues_most a 0 g.blocks gs.of g.arrays (entered g.scalars started) (omega arith) (omega arith) e in
-    keeps.after_front (At_most_one a) Fits Ins (queues a) (most_other a) (λ p q w c d h. h) (most_same a) (λ b. refl) refl g gs (λ t. tt) f
+    let e = keeps.entered_keeps none Fits Ins Free (queues a) (other_unit (is_queue a) 0) (λ p q w c d h. h) (same_units (is_queue a) 0) (λ j. refl) g.scalars (started (length g.blocks + 1)) refl in
+    let f = queues_most a 0 g.blocks gs.of g.arrays (entered g.scalars (started (length g.blocks + 1))) (omega arith) (omega arith) e in
+    keeps.after_front (At_most_one a) Fits Ins Free (queues a) (most_other a) (λ p q w c d h. h) (most_same a) (λ b. refl) refl g gs (λ t. tt) (free g.blocks) free_few f
 
 pub stand_once : UnitsStandOnce
 stand_once g gs few many = record { one_entry = one_entry g gs; one_exit = one_exit g gs; one_param = one_param g gs few; one_queue = one_queue g gs many }

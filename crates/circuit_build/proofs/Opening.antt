@@ -17,19 +17,18 @@ use Rattle.net_core.specs.Fire.{Own, idle, opened}
 use Rattle.net_core.specs.Runs.{opening}
 use Rattle.circuit_build.specs.declared.draft.Draft.{Draft}
 use Rattle.circuit_build.specs.declared.draft.End.{End}
-use Rattle.circuit_build.specs.Drafts.{next, with_unit}
-use Rattle.circuit_build.specs.Steps.{plus}
+use Rattle.circuit_build.specs.Drafts.{next, with_unit, plus}
 use Rattle.circuit_build.specs.Fronts.{started, params_laid, param_ends, entered}
 use Rattle.circuit_build.proofs.Marks.{pushed, Aside, with_own, Shows, Goes}
 use Rattle.circuit_build.proofs.Stages.{spread, NotIn, Outside, Reaches}
 use Rattle.circuit_build.proofs.MarkLemmas.{unit_at}
 use Rattle.circuit_build.proofs.KindLemmas.{entry_goes, param_goes}
 use Rattle.circuit_build.proofs.SpreadLemmas.{spread_none, add_front, reaches_of_goes, then_reaches}
-use Rattle.circuit_build.proofs.LaySections.{Within}
+use Rattle.circuit_build.proofs.LaySections.{Within, Leaves}
 use Rattle.circuit_build.proofs.LayExtends.{extends_own, same_more, within_less, params_extend}
-use Rattle.circuit_build.proofs.LayWires.{Leaves}
 use Rattle.circuit_build.proofs.LayBlocks.{FrontAt, entry_edge, edge_places}
 use Rattle.circuit_build.proofs.StageKinds.{Calm, settled}
+use Rattle.circuit_build.proofs.StageUses.{gains}
 use Rattle.circuit_build.proofs.Waits.{NoneWaits}
 
 -- ---- the opening state
@@ -211,18 +210,19 @@ pub record Opened (g : Graph) (net : Net) (i : Inputs) (low n m : ℕ) : Type 0 
   pub arrays : aside.arrays ≡ i.arrays
   pub strays : aside.strays ≡ 0
   pub reach : Reaches net i.scalars (opening net i) (1 + length g.scalars) aside low n m (edge_places (entry_edge g)) (0 ∷ i.scalars)
+  pub some : 1 ≤ length reach.firings
 
 pub opens : (g : Graph) (gs : Groups) (net : Net) (i : Inputs) → Leaves net → FrontAt g gs net → length i.scalars ≡ length g.scalars → (low n m : ℕ) → Outside low n m (edge_places (entry_edge g)) → Opened g net i low n m
 opens g gs net i leaves front long low n m out =
     let total = length g.scalars in
     let few : total + 1 < 2 ^ 32 = front.few in
-    let d = params_laid 0 g.scalars started in
-    let w = within_less net d (entered g.scalars started) (same_more d d (entered g.scalars started) refl refl (extends_own d)) front.laid in
-    let f = all_params net i leaves total few front.entries front.params g.scalars started 0 [] i.scalars refl (omega arith) (sym long) refl refl w in
+    let d = params_laid 0 g.scalars (started (length g.blocks + 1)) in
+    let w = within_less net d (entered g.scalars (started (length g.blocks + 1))) (same_more d d (entered g.scalars (started (length g.blocks + 1))) refl refl (extends_own d)) front.laid in
+    let f = all_params net i leaves total few front.entries front.params g.scalars (started (length g.blocks + 1)) 0 [] i.scalars refl (omega arith) (sym long) refl refl w in
     let a = f.aside in
     let st = f.reach.stage in
-    let ps = map place_at (param_ends 0 g.scalars started) in
-    let is : slice_get net.units 0 ≡ Some Entry = (within_less net started d (params_extend started 0 g.scalars) w).unit 0 Entry refl in
+    let ps = map place_at (param_ends 0 g.scalars (started (length g.blocks + 1))) in
+    let is : slice_get net.units 0 ≡ Some Entry = (within_less net (started (length g.blocks + 1)) d (params_extend (started (length g.blocks + 1)) 0 g.scalars) w).unit 0 Entry refl in
     let own : a.own 0 ≡ opened Entry = f.early 0 (omega arith) ∙ ap opened (unit_at net.units 0 Entry is).0 in
     let r = leaves 0 0 Entry is (inl refl) in
     let free = spread_none (at 0 0) ps i.scalars (not_low 0 0 ps st.outside) in
@@ -243,4 +243,5 @@ opens g gs net i leaves front long low n m out =
         few = (let y = x.few in omega (arith, y));
         stage = record { shows = x.stage.shows; apart = x.stage.apart; outside = out; same = x.stage.same };
       };
+      some = gains {low = 0} {n = 0} {m = 0} {p = at 0 0} [] (record { shows = opening_shows net i; apart = tt; outside = tt; same = refl }) tt x;
     }

@@ -19,8 +19,7 @@ use Rattle.net_types.specs.Queues.{IsGroup, IsQueueShape}
 use Rattle.net_check.specs.Shapes.{HasShape, IsCount}
 use Rattle.circuit_build.specs.declared.draft.Draft.{Draft}
 use Rattle.circuit_build.specs.Asks.{IsAsked}
-use Rattle.circuit_build.specs.Drafts.{number, with_unit}
-use Rattle.circuit_build.specs.Steps.{plus}
+use Rattle.circuit_build.specs.Drafts.{number, with_unit, plus}
 use Rattle.circuit_build.specs.Fronts.{started, entered, ports_at, steps_of, access_ports, ports_of, numbers_from, number_after, groups_from, depth_from, queue_if, queues_laid}
 use Rattle.circuit_build.specs.Built.{front_of}
 use Rattle.circuit_build.specs.Shaped.{UnitsAreShaped}
@@ -28,7 +27,7 @@ use Rattle.circuit_build.proofs.Accesses.{places_many, ons_few, places_in, block
 use Rattle.circuit_build.proofs.Growth.{few_accesses}
 use Rattle.circuit_build.proofs.Keeps as keeps
 use Rattle.circuit_build.proofs.Keeps.{Laid}
-use Rattle.circuit_build.proofs.Ways.{heads_fit}
+use Rattle.circuit_build.proofs.Ways.{AtMost, heads_fit, forks_fit, few_fit}
 
 -- ---- how many ports
 
@@ -289,14 +288,14 @@ queues_shaped blocks of a [] d fit few h = h
 queues_shaped blocks of a (x ∷ xs) d fit few h =
     queues_shaped blocks of (plus a 1) xs (queue_if a (ports_of a blocks of) (groups_from a 0 of) (depth_from a 16 of) d) fit few (queue_if_shaped a blocks of (groups_from a 0 of) d fit few refl h)
 
-shaped : Laid HasShape IsCount
+shaped : Laid HasShape IsCount AtMost
 shaped = record {
   const = λ w n. tt;
   op1 = λ op. tt;
   op2 = λ op. tt;
   select = λ w. tt;
   fork1 = λ w. record { some = omega arith; most = omega arith };
-  fork2 = λ w. record { some = omega arith; most = omega arith };
+  forks = λ w n l o. record { some = l; most = o };
   mux = λ w n i. i;
   merge = λ n i. i;
   branch = λ w. tt;
@@ -308,6 +307,6 @@ units_shaped g gs ask =
     let small = places_few g gs ask in
     let bound = ask.small.bounded in
     let same : (d e : Draft) → e.units ≡ d.units → e.chans ≡ d.chans → AreShaped d → AreShaped e = λ d e u c h. subst (All HasShape) (sym u) h in
-    let first : AreShaped (entered g.scalars started) = keeps.entered_keeps AreShaped HasShape IsCount shaped more_shaped (λ p q w c d h. h) same (λ j. tt) g.scalars started (All-cons HasShape Entry [] tt (All-nil HasShape)) in
-    let front : AreShaped (front_of g gs) = queues_shaped g.blocks gs.of 0 g.arrays (entered g.scalars started) (accesses_fit g gs ask) (omega (arith, small, bound)) first in
-    record { units = keeps.after_front AreShaped HasShape IsCount shaped more_shaped (λ p q w c d h. h) same (λ a. tt) tt g gs (heads_fit g ask.graph ask.small.blocks) front }
+    let first : AreShaped (entered g.scalars (started (length g.blocks + 1))) = keeps.entered_keeps AreShaped HasShape IsCount AtMost shaped more_shaped (λ p q w c d h. h) same (λ j. tt) g.scalars (started (length g.blocks + 1)) (All-cons HasShape Entry [] tt (All-nil HasShape)) in
+    let front : AreShaped (front_of g gs) = queues_shaped g.blocks gs.of 0 g.arrays (entered g.scalars (started (length g.blocks + 1))) (accesses_fit g gs ask) (omega (arith, small, bound)) first in
+    record { units = keeps.after_front AreShaped HasShape IsCount AtMost shaped more_shaped (λ p q w c d h. h) same (λ a. tt) tt g gs (heads_fit g ask.graph ask.small.blocks) (forks_fit g ask.graph ask.small) few_fit front }

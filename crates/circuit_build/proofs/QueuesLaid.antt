@@ -14,11 +14,10 @@ use Rattle.net_types.specs.declared.net.Unit.TheVariants.{Lsq}
 use Rattle.circuit_build.specs.declared.draft.Draft.{Draft}
 use Rattle.circuit_build.specs.Built.{front_of, whole_draft}
 use Rattle.circuit_build.specs.Counted.{queue_for}
-use Rattle.circuit_build.specs.Drafts.{with_unit}
+use Rattle.circuit_build.specs.Drafts.{with_unit, plus}
 use Rattle.circuit_build.specs.Fronts.{started, entered, queue_if, queues_laid, ports_of, groups_from, depth_from}
-use Rattle.circuit_build.specs.Steps.{plus}
 use Rattle.circuit_build.proofs.Keeps as keeps
-use Rattle.circuit_build.proofs.Keeps.{Laid}
+use Rattle.circuit_build.proofs.Keeps.{Laid, free, free_few}
 use Rattle.circuit_build.proofs.ReadCounts.{is_empty}
 
 abbrev Any : Kind → Type 0
@@ -27,8 +26,8 @@ Any k = Unit {0}
 abbrev AnyNumber : ℕ → Type 0
 AnyNumber n = Unit {0}
 
-any : Laid Any AnyNumber
-any = record { const = λ w n. tt; op1 = λ op. tt; op2 = λ op. tt; select = λ w. tt; fork1 = λ w. tt; fork2 = λ w. tt; mux = λ w n i. tt; merge = λ n i. tt; branch = λ w. tt; sink = λ w. tt }
+any : Laid Any AnyNumber AnyNumber
+any = record { const = λ w n. tt; op1 = λ op. tt; op2 = λ op. tt; select = λ w. tt; fork1 = λ w. tt; forks = λ w n l o. tt; mux = λ w n i. tt; merge = λ n i. tt; branch = λ w. tt; sink = λ w. tt }
 
 abbrev Has : Kind → Draft → Type 0
 Has x d = Contains d.units x
@@ -53,7 +52,7 @@ laid_in blocks of a i (x ∷ xs) d le lt few e =
     let k = queue_at blocks of a in
     elim (cases_eq i a) [
       | inl here ↦ (let own : Has k f = subst (λ j. Has k (queue_if j (ports_of j blocks of) (groups_from j 0 of) (depth_from j 16 of) d)) (sym here) (own_laid a (depth_from a 16 of) (ports_of a blocks of) (groups_from a 0 of) d e) in
-          keeps.queues_keep (Has k) Any AnyNumber any (more k) (λ p q w c d h. h) (same k) (λ b m ps gs. tt) blocks of (plus i 1) xs f own)
+          keeps.queues_keep (Has k) Any AnyNumber AnyNumber any (more k) (λ p q w c d h. h) (same k) (λ b m ps gs. tt) blocks of (plus i 1) xs f own)
       | inr ne ↦ (let after : i < a = not_last i a le ne in laid_in blocks of a (plus i 1) xs f (omega arith) (omega arith) (omega arith) e)
     ]
   where
@@ -63,5 +62,5 @@ laid_in blocks of a i (x ∷ xs) d le lt few e =
 pub queue_is_laid : (g : Graph) (gs : Groups) (a : ℕ) → length g.arrays < 2 ^ 32 → a < length g.arrays → is_empty (groups_from a 0 gs.of) ≡ false → Contains (whole_draft g gs).units (queue_for g gs a)
 queue_is_laid g gs a few lt e =
     let k = queue_for g gs a in
-    let f : Has k (front_of g gs) = laid_in g.blocks gs.of a 0 g.arrays (entered g.scalars started) (omega arith) (omega arith) (omega (arith, few)) e in
-    keeps.after_front (Has k) Any AnyNumber any (more k) (λ p q w c d h. h) (same k) (λ b. tt) tt g gs (λ t. tt) f
+    let f : Has k (front_of g gs) = laid_in g.blocks gs.of a 0 g.arrays (entered g.scalars (started (length g.blocks + 1))) (omega arith) (omega arith) (omega (arith, few)) e in
+    keeps.after_front (Has k) Any AnyNumber AnyNumber any (more k) (λ p q w c d h. h) (same k) (λ b. tt) tt g gs (λ t. tt) (free g.blocks) free_few f

@@ -15,20 +15,21 @@ use Rattle.net_types.specs.declared.net.Place.{Place}
 use Rattle.net_types.specs.declared.net.Port.{Port}
 use Rattle.net_types.specs.declared.net.Unit.{Unit as Kind}
 use Rattle.net_types.specs.declared.net.Unit.TheVariants.{Param, Read, Lsq}
+use Rattle.net_types.specs.Nets.{at}
 use Rattle.net_check.specs.Headers.{is_read, is_queue}
 use Rattle.circuit_build.specs.declared.draft.Draft.{Draft}
 use Rattle.circuit_build.specs.declared.draft.Queue.{Queue}
 use Rattle.circuit_build.specs.Counted.{is_load, graph_loads}
-use Rattle.circuit_build.specs.Drafts.{number, next, with_unit, copied}
-use Rattle.circuit_build.specs.Steps.{plus, queue_or, queue_of, width_at, load_by, read_laid, step_laid, steps_laid}
-use Rattle.circuit_build.specs.Jumps.{jump_laid}
-use Rattle.circuit_build.specs.Blocks.{ins_of, head_laid, allocations, after_block, block_laid, blocks_laid}
+use Rattle.circuit_build.specs.Drafts.{number, next, with_unit, fed, copied, copy_of, uses_of_next, undefined, plus}
+use Rattle.circuit_build.specs.Steps.{queue_or, queue_of, width_at, load_by, read_laid, step_made, step_laid, steps_laid}
+use Rattle.circuit_build.specs.Uses.{is_laid}
+use Rattle.circuit_build.specs.Blocks.{ins_of, after_block, block_grouped, block_worked, block_laid, blocks_laid}
 use Rattle.circuit_build.specs.Edges.{edge_counts}
 use Rattle.circuit_build.specs.Fronts.{started, params_laid, entered, queue_if, queues_laid, ports_of, groups_from, depth_from}
-use Rattle.circuit_build.specs.Built.{join_of, front_of, with_blocks, whole_draft}
+use Rattle.circuit_build.specs.Built.{join_of, front_of, with_blocks, with_feeders, whole_draft}
 use Rattle.circuit_build.proofs.Keeps as keeps
-use Rattle.circuit_build.proofs.Keeps.{Laid}
-use Rattle.circuit_build.proofs.Keys.{key_of, keys, keys_of, step_keys, allocations_keys, head_keys, block_keys}
+use Rattle.circuit_build.proofs.Keeps.{Laid, Free, free, free_few, free_block, free_jump}
+use Rattle.circuit_build.proofs.Keys.{key_of, keys, keys_of, step_keys, grouped_keys, block_keys}
 use Rattle.circuit_build.proofs.Once.{how_many, other_unit, this_unit, same_units}
 
 -- ---- which arrays have no queue
@@ -55,8 +56,8 @@ lacks_some (Some r ∷ qs) (suc a) q h = lacks_some qs a q h
 
 -- ---- steps
 
-readers : (a : ℕ) → Laid (λ k. is_read a k ≡ false) (λ n. Unit {0})
-readers a = record { const = λ w n. refl; op1 = λ op. refl; op2 = λ op. refl; select = λ w. refl; fork1 = λ w. refl; fork2 = λ w. refl; mux = λ w n i. refl; merge = λ n i. refl; branch = λ w. refl; sink = λ w. refl }
+readers : (a : ℕ) → Laid (λ k. is_read a k ≡ false) (λ n. Unit {0}) Free
+readers a = record { const = λ w n. refl; op1 = λ op. refl; op2 = λ op. refl; select = λ w. refl; fork1 = λ w. refl; forks = λ w n l o. refl; mux = λ w n i. refl; merge = λ n i. refl; branch = λ w. refl; sink = λ w. refl }
 
 abbrev NotRead : ℕ → Kind → Type 0
 NotRead a k = is_read a k ≡ false
@@ -67,21 +68,25 @@ Any m = Unit {0}
 abbrev Reads : ℕ → ℕ → Draft → Type 0
 Reads a n d = how_many (is_read a) d ≡ n
 
+read_fed : (a b n p : ℕ) (d : Draft) → how_many (is_read a) (with_unit (Read b) (copied p d)) ≡ n → (w : ℕ) → how_many (is_read a) (read_laid b w p d) ≡ n
+read_fed a b n p d h w =
+    let e = copied p d in
+    let f = fed (copy_of p d) (next e) 0 (with_unit (Read b) e) in
+    keeps.defined_keeps (Reads a n) (NotRead a) Any Free (readers a) (other_unit (is_read a) n) (λ p q w c d h. h) (same_units (is_read a) n) (at (next e) 0) w f tt h
+
 load_none : (a b w p : ℕ) (d : Draft) (t : Bool) → (b == a) ≡ t → how_many (is_read a) (read_laid b w p d) ≡ how_many (is_read a) d + cond t 1 0
 load_none a b w p d true e =
     let n = how_many (is_read a) d in
-    let c : Reads a n (copied p d) = keeps.copied_keeps (Reads a n) (NotRead a) Any (readers a) (other_unit (is_read a) n) (λ p q w c d h. h) (same_units (is_read a) n) p d refl in
-    this_unit (is_read a) n (Read b) (copied p d) e c
+    read_fed a b (n + 1) p d (this_unit (is_read a) n (Read b) (copied p d) e refl) w
 load_none a b w p d false e =
     let n = how_many (is_read a) d in
-    let c : Reads a n (copied p d) = keeps.copied_keeps (Reads a n) (NotRead a) Any (readers a) (other_unit (is_read a) n) (λ p q w c d h. h) (same_units (is_read a) n) p d refl in
-    let e = other_unit (is_read a) n (Read b) (copied p d) e c in
-    omega (arith, e)
+    let r = read_fed a b n p d (other_unit (is_read a) n (Read b) (copied p d) e refl) w in
+    omega (arith, r)
 
 load_some : (a b w p : ℕ) (q : Queue) (d : Draft) → how_many (is_read a) (load_by (Some q) b w p d) ≡ how_many (is_read a) d
 load_some a b w p q d =
     let n = how_many (is_read a) d in
-    keeps.load_keeps (Reads a n) (NotRead a) Any (readers a) (other_unit (is_read a) n) (λ p q w c d h. h) (same_units (is_read a) n) (Some q) b w p (λ e. absurd (cc)) d refl
+    keeps.load_keeps (Reads a n) (NotRead a) Any Free (readers a) (other_unit (is_read a) n) (λ p q w c d h. h) (same_units (is_read a) n) (Some q) b w p (λ e. absurd (cc)) d (λ i. tt) refl
 
 -- of an array, which is the one that is counted or is not
 counted : (a b n m : ℕ) (l : Bool) → m ≡ n + cond (b == a) (cond l 1 0) 0 → m ≡ n + cond (b == a) (cond l 1 0) 0
@@ -114,23 +119,40 @@ load_reads (Some q) a b w p d h =
           omega (arith, e, v))
     ]
 
+made_reads : (a : ℕ) (arrays : List Array) (i : Instr) (d : Draft) → how_many (is_read a) (step_made arrays i d) ≡ how_many (is_read a) d + cond (is_load a i) (cond (lacks (keys_of d) a) 1 0) 0
+made_reads a arrays (step.Const w m) d =
+    let n = how_many (is_read a) d in
+    let e = keeps.const_keeps (Reads a n) (NotRead a) Any Free (readers a) (other_unit (is_read a) n) (λ p q w c d h. h) (same_units (is_read a) n) w m d (λ i. tt) refl in omega (arith, e)
+made_reads a arrays (step.One op x) d =
+    let n = how_many (is_read a) d in
+    let e = keeps.one_keeps (Reads a n) (NotRead a) Any Free (readers a) (other_unit (is_read a) n) (λ p q w c d h. h) (same_units (is_read a) n) op x d (λ i. tt) refl in omega (arith, e)
+made_reads a arrays (step.Two op x y) d =
+    let n = how_many (is_read a) d in
+    let e = keeps.two_keeps (Reads a n) (NotRead a) Any Free (readers a) (other_unit (is_read a) n) (λ p q w c d h. h) (same_units (is_read a) n) op x y d (λ i. tt) refl in omega (arith, e)
+made_reads a arrays (step.Select w c x y) d =
+    let n = how_many (is_read a) d in
+    let e = keeps.select_keeps (Reads a n) (NotRead a) Any Free (readers a) (other_unit (is_read a) n) (λ p q w c d h. h) (same_units (is_read a) n) w c x y d (λ i. tt) refl in omega (arith, e)
+made_reads a arrays (step.Load b p) d = load_reads (queue_of d b) a b (width_at arrays b) p d refl
+made_reads a arrays (step.Store b p v) d =
+    let n = how_many (is_read a) d in
+    let e = keeps.store_keeps (Reads a n) (NotRead a) Any Free (readers a) (other_unit (is_read a) n) (λ p q w c d h. h) (same_units (is_read a) n) (queue_of d b) b p v d refl in omega (arith, e)
+
+-- a step that is not laid is no load
+unlaid_reads : (a : ℕ) (i : Instr) (n : ℕ) → is_laid i n ≡ false → is_load a i ≡ false
+unlaid_reads a (step.Const w m) n e = refl
+unlaid_reads a (step.One op x) n e = refl
+unlaid_reads a (step.Two op x y) n e = refl
+unlaid_reads a (step.Select w c x y) n e = refl
+unlaid_reads a (step.Load b p) n e = absurd (cc)
+unlaid_reads a (step.Store b p v) n e = refl
+
+if_reads : (a : ℕ) (arrays : List Array) (i : Instr) (d : Draft) (t : Bool) → is_laid i (uses_of_next d) ≡ t
+    → how_many (is_read a) (cond t (step_made arrays i d) (undefined d)) ≡ how_many (is_read a) d + cond (is_load a i) (cond (lacks (keys_of d) a) 1 0) 0
+if_reads a arrays i d true e = made_reads a arrays i d
+if_reads a arrays i d false e = let x = ap {B = ℕ} (λ t. cond t (cond (lacks (keys_of d) a) 1 0) 0) (unlaid_reads a i (uses_of_next d) e) in omega (arith, x)
+
 step_reads : (a : ℕ) (arrays : List Array) (i : Instr) (d : Draft) → how_many (is_read a) (step_laid arrays i d) ≡ how_many (is_read a) d + cond (is_load a i) (cond (lacks (keys_of d) a) 1 0) 0
-step_reads a arrays (step.Const w m) d =
-    let n = how_many (is_read a) d in
-    let e = keeps.const_keeps (Reads a n) (NotRead a) Any (readers a) (other_unit (is_read a) n) (λ p q w c d h. h) (same_units (is_read a) n) w m d refl in omega (arith, e)
-step_reads a arrays (step.One op x) d =
-    let n = how_many (is_read a) d in
-    let e = keeps.one_keeps (Reads a n) (NotRead a) Any (readers a) (other_unit (is_read a) n) (λ p q w c d h. h) (same_units (is_read a) n) op x d refl in omega (arith, e)
-step_reads a arrays (step.Two op x y) d =
-    let n = how_many (is_read a) d in
-    let e = keeps.two_keeps (Reads a n) (NotRead a) Any (readers a) (other_unit (is_read a) n) (λ p q w c d h. h) (same_units (is_read a) n) op x y d refl in omega (arith, e)
-step_reads a arrays (step.Select w c x y) d =
-    let n = how_many (is_read a) d in
-    let e = keeps.select_keeps (Reads a n) (NotRead a) Any (readers a) (other_unit (is_read a) n) (λ p q w c d h. h) (same_units (is_read a) n) w c x y d refl in omega (arith, e)
-step_reads a arrays (step.Load b p) d = load_reads (queue_of d b) a b (width_at arrays b) p d refl
-step_reads a arrays (step.Store b p v) d =
-    let n = how_many (is_read a) d in
-    let e = keeps.store_keeps (Reads a n) (NotRead a) Any (readers a) (other_unit (is_read a) n) (λ p q w c d h. h) (same_units (is_read a) n) (queue_of d b) b p v d refl in omega (arith, e)
+step_reads a arrays i d = if_reads a arrays i d (is_laid i (uses_of_next d)) refl
 
 joined : (t l : Bool) (n : ℕ) → cond t (cond l 1 0) 0 + cond l n 0 ≡ cond l (cond t 1 0 + n) 0
 joined true true n = refl
@@ -161,16 +183,15 @@ block_reads : (a : ℕ) (arrays : List Array) (join ins b : ℕ) (k : Block) (xs
     → how_many (is_read a) (block_laid arrays join ins b k xs d) ≡ how_many (is_read a) d + cond (lacks ks a) (count_by (is_load a) k.steps) 0
 block_reads a arrays join ins b k xs d ks same =
     let n = how_many (is_read a) d in
-    let e = head_laid ins k.args d in
-    let f = allocations b xs e in
+    let f = block_grouped ins b k xs d in
     let g = steps_laid arrays k.steps f in
+    let j = block_worked arrays ins b k xs d in
     let m = how_many (is_read a) g in
-    let x = keeps.head_keeps (Reads a n) (NotRead a) Any (readers a) (other_unit (is_read a) n) (λ p q w c d h. h) (same_units (is_read a) n) ins tt k.args d refl in
-    let y = keeps.allocations_keep (Reads a n) (NotRead a) Any (readers a) (other_unit (is_read a) n) (λ p q w c d h. h) (same_units (is_read a) n) b xs e x in
-    let z = steps_reads a arrays k.steps f ks (allocations_keys b xs e ∙ head_keys ins k.args d ∙ same) in
-    let v = keeps.jump_keeps (Reads a m) (NotRead a) Any (readers a) (other_unit (is_read a) m) (λ p q w c d h. h) (same_units (is_read a) m) join k.jump g refl in
-    let w = keeps.swept_keeps (Reads a m) (NotRead a) Any (readers a) (other_unit (is_read a) m) (λ p q w c d h. h) (same_units (is_read a) m) (jump_laid join k.jump g) v in
-    omega (arith, y, z, w)
+    let y = keeps.block_grouped_keeps (Reads a n) (NotRead a) Any Free (readers a) (other_unit (is_read a) n) (λ p q w c d h. h) (same_units (is_read a) n) ins b tt k (free_block k) xs d refl in
+    let z = steps_reads a arrays k.steps f ks (grouped_keys ins b k xs d ∙ same) in
+    let u = keeps.bare_keeps (Reads a m) (NotRead a) Any Free (readers a) (other_unit (is_read a) m) (λ p q w c d h. h) (same_units (is_read a) m) (length d.chans) k.jump g refl in
+    let v = keeps.jump_keeps (Reads a m) (NotRead a) Any Free (readers a) (other_unit (is_read a) m) (λ p q w c d h. h) (same_units (is_read a) m) join k.jump j (free_jump k.jump) u in
+    omega (arith, y, z, v)
 
 added : (l : Bool) (n m : ℕ) → cond l n 0 + cond l m 0 ≡ cond l (n + m) 0
 added true n m = refl
@@ -198,8 +219,8 @@ blocks_reads a arrays join counts b (k ∷ bs) xs d ks same =
 
 front_reads : (a : ℕ) (g : Graph) (gs : Groups) → how_many (is_read a) (front_of g gs) ≡ 0
 front_reads a g gs =
-    let e = keeps.entered_keeps (Reads a 0) (NotRead a) Any (readers a) (other_unit (is_read a) 0) (λ p q w c d h. h) (same_units (is_read a) 0) (λ j. refl) g.scalars started refl in
-    keeps.front_keeps (Reads a 0) (NotRead a) Any (readers a) (other_unit (is_read a) 0) (λ p q w c d h. h) (same_units (is_read a) 0) (λ b m ps hs. refl) g gs e
+    let e = keeps.entered_keeps (Reads a 0) (NotRead a) Any Free (readers a) (other_unit (is_read a) 0) (λ p q w c d h. h) (same_units (is_read a) 0) (λ j. refl) g.scalars (started (length g.blocks + 1)) refl in
+    keeps.front_keeps (Reads a 0) (NotRead a) Any Free (readers a) (other_unit (is_read a) 0) (λ p q w c d h. h) (same_units (is_read a) 0) (λ b m ps hs. refl) g gs e
 
 abbrev pub front_keys : Graph → Groups → List (Option Place)
 front_keys g gs = keys_of (front_of g gs)
@@ -212,8 +233,9 @@ all_reads a g gs =
     let z = front_reads a g gs in
     let b = blocks_reads a g.arrays (join_of g) (edge_counts g.blocks) 0 g.blocks gs.of (front_of g gs) ks refl in
     let e : Reads a n (with_blocks g gs) = omega (arith, z, b) in
-    let j = keeps.join_keeps (Reads a n) (NotRead a) Any (readers a) (other_unit (is_read a) n) (λ p q w c d h. h) (same_units (is_read a) n) refl ins tt g.result (with_blocks g gs) e in
-    keeps.rest_keeps (Reads a n) (NotRead a) Any (readers a) (other_unit (is_read a) n) (λ p q w c d h. h) (same_units (is_read a) n) g gs j
+    let h = keeps.feeders_of_keep (Reads a n) (NotRead a) Any Free (readers a) (other_unit (is_read a) n) (λ p q w c d h. h) (same_units (is_read a) n) g gs (free g.blocks) free_few e in
+    let j = keeps.join_keeps (Reads a n) (NotRead a) Any Free (readers a) (other_unit (is_read a) n) (λ p q w c d h. h) (same_units (is_read a) n) refl free_few ins (join_of g) tt g.result (with_feeders g gs) h in
+    keeps.rest_keeps (Reads a n) (NotRead a) Any Free (readers a) (other_unit (is_read a) n) (λ p q w c d h. h) (same_units (is_read a) n) g gs j
 
 -- ---- queues
 
@@ -340,8 +362,8 @@ all_queued blocks of n (x ∷ xs) d few h =
     let t : plus n 1 + length xs ≡ n + length (x ∷ xs) = omega arith in
     subst (λ m. Queued of m (queues_laid blocks of (plus n 1) xs e)) t rest
 
-queuers : (a : ℕ) → Laid (λ k. is_queue a k ≡ false) (λ n. Unit {0})
-queuers a = record { const = λ w n. refl; op1 = λ op. refl; op2 = λ op. refl; select = λ w. refl; fork1 = λ w. refl; fork2 = λ w. refl; mux = λ w n i. refl; merge = λ n i. refl; branch = λ w. refl; sink = λ w. refl }
+queuers : (a : ℕ) → Laid (λ k. is_queue a k ≡ false) (λ n. Unit {0}) Free
+queuers a = record { const = λ w n. refl; op1 = λ op. refl; op2 = λ op. refl; select = λ w. refl; fork1 = λ w. refl; forks = λ w n l o. refl; mux = λ w n i. refl; merge = λ n i. refl; branch = λ w. refl; sink = λ w. refl }
 
 pub params_queues : (j : ℕ) (ss : List Scalar) (d : Draft) → (params_laid j ss d).queues ≡ d.queues
 params_queues j [] d = refl
@@ -349,9 +371,9 @@ params_queues j (s ∷ ss) d = params_queues (plus j 1) ss (with_unit (Param j) 
 
 pub front_queued : (g : Graph) (gs : Groups) → length g.arrays < 2 ^ 32 → Queued gs.of (length g.arrays) (front_of g gs)
 front_queued g gs few =
-    let e = entered g.scalars started in
-    let q : e.queues ≡ [] = params_queues 0 g.scalars started in
-    let none : (b : ℕ) → how_many (is_queue b) e ≡ 0 = λ b. keeps.entered_keeps (λ d. how_many (is_queue b) d ≡ 0) (λ k. is_queue b k ≡ false) Any (queuers b) (other_unit (is_queue b) 0) (λ p q w c d h. h) (same_units (is_queue b) 0) (λ j. refl) g.scalars started refl in
+    let e = entered g.scalars (started (length g.blocks + 1)) in
+    let q : e.queues ≡ [] = params_queues 0 g.scalars (started (length g.blocks + 1)) in
+    let none : (b : ℕ) → how_many (is_queue b) e ≡ 0 = λ b. keeps.entered_keeps (λ d. how_many (is_queue b) d ≡ 0) (λ k. is_queue b k ≡ false) Any Free (queuers b) (other_unit (is_queue b) 0) (λ p q w c d h. h) (same_units (is_queue b) 0) (λ j. refl) g.scalars (started (length g.blocks + 1)) refl in
     let same : 0 + length g.arrays ≡ length g.arrays = omega arith in
     subst (λ n. Queued gs.of n (front_of g gs)) same (all_queued g.blocks gs.of 0 g.arrays e (omega (arith, few)) (record {
       many = ap (λ (qs : List (Option Queue)). length qs) q;
@@ -363,5 +385,5 @@ pub all_queues : (g : Graph) (gs : Groups) → length g.arrays < 2 ^ 32 → (a :
 all_queues g gs few a =
     let q = front_queued g gs few in
     let n = how_many (is_queue a) (front_of g gs) in
-    let h = keeps.after_front (λ d. how_many (is_queue a) d ≡ n) (λ k. is_queue a k ≡ false) Any (queuers a) (other_unit (is_queue a) n) (λ p q w c d h. h) (same_units (is_queue a) n) (λ b. refl) refl g gs (λ t. tt) refl in
+    let h = keeps.after_front (λ d. how_many (is_queue a) d ≡ n) (λ k. is_queue a k ≡ false) Any Free (queuers a) (other_unit (is_queue a) n) (λ p q w c d h. h) (same_units (is_queue a) n) (λ b. refl) refl g gs (λ t. tt) (free g.blocks) free_few refl in
     h ∙ q.counts a

@@ -24,11 +24,10 @@ use Rattle.circuit_build.specs.declared.draft.Draft.{Draft}
 use Rattle.circuit_build.specs.Asks.{IsAsked}
 use Rattle.circuit_build.specs.Built.{front_of, whole_draft, built}
 use Rattle.circuit_build.specs.Counted.{is_load, graph_loads, HeadersAreMet, ArraysAreServed}
-use Rattle.circuit_build.specs.Drafts.{with_unit}
+use Rattle.circuit_build.specs.Drafts.{with_unit, plus}
 use Rattle.circuit_build.specs.Fronts.{started, params_laid, entered, numbers_from, number_after, groups_from, queue_if, queues_laid, ports_of, depth_from}
-use Rattle.circuit_build.specs.Steps.{plus}
 use Rattle.circuit_build.proofs.Keeps as keeps
-use Rattle.circuit_build.proofs.Keeps.{Laid}
+use Rattle.circuit_build.proofs.Keeps.{Laid, Free, free, free_few}
 use Rattle.circuit_build.proofs.Accesses.{ons, places_many}
 use Rattle.circuit_build.proofs.Once.{how_many, stand_once}
 use Rattle.circuit_build.proofs.QueueShapes.{mine}
@@ -119,8 +118,8 @@ all_named net (k ∷ us) h r =
     let rest : (b : ℕ) → length net.arrays ≤ b → count_by (is_read b) us ≡ 0 = λ b le. (let s = sum_by-cons (λ x. cond (is_read b x) 1 0) k us in let z = r b le in omega (arith, s, z)) in
     All-cons (IsNamed net) k us (named_kind net k (All-head P k us h) own) (all_named net us (All-tail P k us h) rest)
 
-named : (s a : ℕ) → Laid (NamedUnlessRead s a) (λ n. Unit {0})
-named s a = record { const = λ w n. tt; op1 = λ op. tt; op2 = λ op. tt; select = λ w. tt; fork1 = λ w. tt; fork2 = λ w. tt; mux = λ w n i. tt; merge = λ n i. tt; branch = λ w. tt; sink = λ w. tt }
+named : (s a : ℕ) → Laid (NamedUnlessRead s a) (λ n. Unit {0}) Free
+named s a = record { const = λ w n. tt; op1 = λ op. tt; op2 = λ op. tt; select = λ w. tt; fork1 = λ w. tt; forks = λ w n l o. tt; mux = λ w n i. tt; merge = λ n i. tt; branch = λ w. tt; sink = λ w. tt }
 
 abbrev AreNamed : ℕ → ℕ → Draft → Type 0
 AreNamed s a d = All (NamedUnlessRead s a) d.units
@@ -148,10 +147,10 @@ units_named g gs ask =
     let few = scalars_bound g gs ask in
     let many = arrays_bound g gs ask in
     let P = NamedUnlessRead s a in
-    let first : AreNamed s a started = All-cons P Entry [] tt (All-nil P) in
-    let e : AreNamed s a (entered g.scalars started) = params_named s a 0 g.scalars started (omega arith) few first in
-    let f : AreNamed s a (front_of g gs) = queues_named s a g.blocks gs.of 0 g.arrays (entered g.scalars started) (omega arith) many e in
-    let all = keeps.after_front (AreNamed s a) P (λ n. Unit {0}) (named s a) (more_named s a) (λ p q w c d h. h) (λ d e u c h. subst (All P) (sym u) h) (λ b. tt) tt g gs (λ t. tt) f in
+    let first : AreNamed s a (started (length g.blocks + 1)) = All-cons P Entry [] tt (All-nil P) in
+    let e : AreNamed s a (entered g.scalars (started (length g.blocks + 1))) = params_named s a 0 g.scalars (started (length g.blocks + 1)) (omega arith) few first in
+    let f : AreNamed s a (front_of g gs) = queues_named s a g.blocks gs.of 0 g.arrays (entered g.scalars (started (length g.blocks + 1))) (omega arith) many e in
+    let all = keeps.after_front (AreNamed s a) P (λ n. Unit {0}) Free (named s a) (more_named s a) (λ p q w c d h. h) (λ d e u c h. subst (All P) (sym u) h) (λ b. tt) tt g gs (λ t. tt) (free g.blocks) free_few f in
     let none : (b : ℕ) → a ≤ b → how_many (is_read b) (whole_draft g gs) ≡ 0 = λ b le. all_reads b g gs ∙ nothing (lacks (front_keys g gs) b) (graph_loads b g) (no_loads_of g b g.blocks le ask.graph.blocks) in
     all_named (built g gs) (whole_draft g gs).units all none
   where

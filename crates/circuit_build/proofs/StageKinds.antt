@@ -1,5 +1,6 @@
 -- One unit's firing at a stage: it takes the tokens in front, and puts one in front.
-use Rattle.std.proofs.Common.{◌≡◌, ◌≢◌, ℕ, suc, ◌+◌, ◌<◌, ◌≤◌, ◌==◌, Bool, true, false, cond, Option, Some, None, List, [], ◌∷◌, ◌++◌, length, get_or, refl, sym, ap, ◌∙◌, inl, inr, arith, slice_get}
+use Rattle.std.proofs.Common.{◌≡◌, ◌≢◌, ℕ, suc, zero, ◌+◌, ◌^◌, ◌<◌, ◌≤◌, ◌==◌, Bool, true, false, cond, Option, Some, None, List, [], ◌∷◌, ◌++◌, length, get_or, refl, sym, ap, ◌∙◌, subst, inl, inr, arith, slice_get}
+use Rattle.std.proofs.lemmas.Bool.{cases_eq}
 use Rattle.el_base.specs.declared.operation.Op1.{Op1 as Unary}
 use Rattle.el_base.specs.declared.operation.Op2.{Op2 as Binary}
 use Rattle.word_ops.specs.Operations.{op1_result, op2_result}
@@ -10,15 +11,18 @@ use Rattle.net_types.specs.declared.net.Unit.{Unit as Kind}
 use Rattle.net_types.specs.declared.net.Unit.TheVariants.{Const, Op1, Op2, Select, Fork, Mux, Cmerge, Branch, Sink, Read}
 use Rattle.net_types.specs.declared.firing.Firing.{Firing}
 use Rattle.net_types.specs.Nets.{is_at, owns, at}
-use Rattle.net_types.specs.Tables.{outs}
+use Rattle.net_types.specs.Tables.{spots, outs}
+use Rattle.circuit_build.specs.Drafts.{plus, after_place}
 use Rattle.net_core.specs.Fire.{State, Own, opened}
 use Rattle.net_core.specs.Laws.{starts}
 use Rattle.circuit_build.proofs.Marks.{Marks, Aside, Goes, Wired, popped, pushed}
 use Rattle.circuit_build.proofs.Stages.{spread, NotIn, Apart, Outside, Stage, Reaches}
 use Rattle.circuit_build.proofs.SpreadLemmas.{is_not, fresh, outside_more, spread_none, spread_front, spread_second, take_front, add_front, popped_same, pushed_same}
-use Rattle.circuit_build.proofs.LayWires.{HasPlace, Leaves}
-use Rattle.circuit_build.proofs.StageParts.{spread_to, to_front, from_front, front_swap, by_stage, reached}
-use Rattle.circuit_build.proofs.KindLemmas.{const_goes, op1_goes, op2_goes, select_goes, read_goes, sink_goes, cmerge_goes, mux_goes, branch_goes, buffer_goes, fork_goes}
+use Rattle.circuit_build.proofs.LaySections.{HasPlace, Leaves}
+use Rattle.circuit_build.proofs.StageParts.{spread_to, reached}
+use Rattle.circuit_build.proofs.KindLemmas.{const_goes, op1_goes, op2_goes, select_goes, read_goes, sink_goes, cmerge_goes, mux_goes, branch_goes, buffer_goes}
+use Rattle.circuit_build.proofs.ForkLemmas.{sends, after_sends, Ready, fork_all_goes}
+use Rattle.circuit_build.proofs.StageTokens.{Token, token, places, values, as_many, row, swaps_back, to_first, apart_kept, marks_kept}
 
 -- ---- tokens in front
 
@@ -107,27 +111,6 @@ module _ {net : Net} {scalars : List ℕ} (leaves : Leaves net) {a : Aside} {low
         let go = buffer_goes net scalars s m1 a st.shows n w x p out.0 is (ap (λ (o : Own). o.sent) (calm n (Fork w 1) is refl)) wp out.1 (spread_front p x ps vs) (none1 0) in
         putting above below 0 x ps vs go (omega arith) (take_front p x ps vs st.apart.0) st.apart.1 st.outside.2 same1
 
-    -- the copy in front of what goes on
-    pub fork_front : (w : ℕ) → Calm net a → slice_get net.units n ≡ Some (Fork w 2) → Wired net p (at n 0) → Reaches net scalars s 2 a low (suc n) m (Some (at n 1) ∷ Some (at n 0) ∷ ps) (x ∷ x ∷ vs)
-    fork_front w calm is wp =
-        let out = leaves n 0 (Fork w 2) is (inl refl) in
-        let copy = leaves n 1 (Fork w 2) is (inr (inl refl)) in
-        let free0 = fresh low n m 0 all below st.outside in
-        let free1 = fresh low n m 1 all below st.outside in
-        let other : is_at p n 0 ≡ false = is_not p (at n 0) (λ e. free0.0 (sym e)) in
-        let go = fork_goes net scalars s m1 a st.shows n w x p out.0 copy.0 is (ap (λ (o : Own). o.sent) (calm n (Fork w 2) is refl)) wp out.1 copy.1 (spread_front p x ps vs) (none1 0) (none1 1) other in
-        let two : at n 1 ≢ at n 0 = (λ e. (let k : ◌≡◌ {A = ℕ} 1 0 = ap (λ (r : Place). r.place) e in absurd (omega arith))) in
-        let moved : (r : Place) → popped p (pushed (at n 0) x m1) r ≡ spread (Some (at n 0) ∷ ps) (x ∷ vs) r =
-        (λ r. popped_same p _ (spread (Some p ∷ Some (at n 0) ∷ ps) (x ∷ x ∷ vs))
-        (λ q. add_front (at n 0) x all (x ∷ vs) free0 q ∙ spread_to p x (Some (at n 0) ∷ []) (x ∷ []) ps vs refl ((λ e. free0.0 (sym e)), st.apart.0) q) r
-        ∙ take_front p x (Some (at n 0) ∷ ps) (x ∷ vs) ((λ e. free0.0 (sym e)), st.apart.0) r) in
-        let new : NotIn (at n 1) (Some (at n 0) ∷ ps) = (two, free1.1) in
-        reached (Some (at n 1) ∷ Some (at n 0) ∷ ps) (x ∷ x ∷ vs) go (omega arith)
-        (λ r. pushed_same (at n 1) x _ _ moved r ∙ add_front (at n 1) x (Some (at n 0) ∷ ps) (x ∷ vs) new r)
-        (new, (free0.1, st.apart.1))
-        (above, inl (omega arith), (above, inl (omega arith), outside_more low n (suc n) m ps (omega arith) st.outside.2))
-        (ap (λ l. suc (suc l)) same1)
-
   module _ {s : State} {p q : Place} {x y : ℕ} {ps : List (Option Place)} {vs : List ℕ} (st : Stage net scalars s a low n m (Some p ∷ Some q ∷ ps) (x ∷ y ∷ vs)) where
     abbrev all2 : List (Option Place)
     all2 = Some p ∷ Some q ∷ ps
@@ -184,13 +167,95 @@ module _ {net : Net} {scalars : List ℕ} (leaves : Leaves net) {a : Aside} {low
         let same : length ps ≡ length vs = (let e = st.same in omega arith) in
         putting above below 0 (chosen_of x y z) ps vs go (omega arith) (take_three p q t x y z ps vs d.0 d.1.0 d.1.1.0) d.1.1.1 st.outside.2.2.2 same
 
--- ---- a use of a value anywhere in the list
+-- ---- forks of any number of outputs
+
+-- tokens at outputs j and on
+abbrev outputs : ℕ → ℕ → ℕ → ℕ → List Token
+outputs u j zero v = []
+outputs u j (suc k) v = token (at u j) v ∷ outputs u (suc j) k v
+
+outputs_are : (u j k v : ℕ) → j + k < 2 ^ 32 → row (at u j) k v ≡ outputs u j k v
+outputs_are u j zero v few = refl
+outputs_are u j (suc k) v few =
+    let e : after_place (at u j) ≡ at u (suc j) = ap (at u) (let z : plus j 1 ≡ suc j = omega (arith, few) in z) in
+    ap (λ l. token (at u j) v ∷ l) (ap (λ p. row p k v) e ∙ outputs_are u (suc j) k v (omega (arith, few)))
+
+outputs_free : (u i j k v : ℕ) (ts : List Token) → i < j → NotIn (at u i) (places ts) → NotIn (at u i) (places (outputs u j k v ++ ts))
+outputs_free u i j zero v ts lt h = h
+outputs_free u i j (suc k) v ts lt h = ((λ e. (let x : i ≡ j = ap (λ (r : Place). r.place) e in absurd (omega (arith, x, lt)))), outputs_free u i (suc j) k v ts (omega (arith, lt)) h)
+
+outputs_apart : (u j k v : ℕ) (ts : List Token) → ((i : ℕ) → NotIn (at u i) (places ts)) → Apart (places ts) → Apart (places (outputs u j k v ++ ts))
+outputs_apart u j zero v ts h d = d
+outputs_apart u j (suc k) v ts h d = (outputs_free u j (suc j) k v ts (omega arith) (h j), outputs_apart u (suc j) k v ts h d)
+
+outputs_outside : (low n m u j k v : ℕ) (ts : List Token) → low ≤ u → u < n → Outside low n m (places ts) → Outside low n m (places (outputs u j k v ++ ts))
+outputs_outside low n m u j zero v ts a b h = h
+outputs_outside low n m u j (suc k) v ts a b h = (a, inl b, outputs_outside low n m u (suc j) k v ts a b h)
+
+outputs_many : (u j k v : ℕ) (ts : List Token) → length (outputs u j k v ++ ts) ≡ k + length ts
+outputs_many u j zero v ts = omega arith
+outputs_many u j (suc k) v ts = let i = outputs_many u (suc j) k v ts in omega (arith, i)
+
+sends_many : (u j k : ℕ) → length (sends u j k) ≡ suc k
+sends_many u j zero = refl
+sends_many u j (suc k) = ap suc (sends_many u (suc j) k)
+
+after_same : (u j k x : ℕ) (p : Place) (m m' : Marks) → ((r : Place) → m r ≡ m' r) → (r : Place) → after_sends u j k x p m r ≡ after_sends u j k x p m' r
+after_same u j zero x p m m' h r = pushed_same (at u j) x (popped p m) (popped p m') (popped_same p m m' h) r
+after_same u j (suc k) x p m m' h r = after_same u (suc j) k x p (pushed (at u j) x m) (pushed (at u j) x m') (pushed_same (at u j) x m m' h) r
+
+marks_after : (u j k x : ℕ) (p : Place) (ts : List Token) → ((i : ℕ) → j ≤ i → NotIn (at u i) (places (token p x ∷ ts))) → Apart (places (token p x ∷ ts)) → (r : Place)
+    → after_sends u j k x p (spread (places (token p x ∷ ts)) (values (token p x ∷ ts))) r ≡ spread (places (outputs u j (suc k) x ++ ts)) (values (outputs u j (suc k) x ++ ts)) r
+marks_after u j zero x p ts h d r =
+    pushed_same (at u j) x (popped p (spread (places (token p x ∷ ts)) (values (token p x ∷ ts)))) (spread (places ts) (values ts)) (take_front p x (places ts) (values ts) d.0) r
+    ∙ add_front (at u j) x (places ts) (values ts) (h j (omega arith)).1 r
+marks_after u j (suc k) x p ts h d r =
+    let all = token p x ∷ ts in
+    let us = token (at u j) x ∷ ts in
+    let new : NotIn (at u j) (places all) = h j (omega arith) in
+    let other : p ≢ at u j = (λ e. new.0 (sym e)) in
+    let put : (q : Place) → pushed (at u j) x (spread (places all) (values all)) q ≡ spread (places (token p x ∷ us)) (values (token p x ∷ us)) q =
+    (λ q. add_front (at u j) x (places all) (values all) new q ∙ spread_to p x (Some (at u j) ∷ []) (x ∷ []) (places ts) (values ts) refl (other, d.0) q) in
+    let fresh' : (i : ℕ) → suc j ≤ i → NotIn (at u i) (places (token p x ∷ us)) =
+    (λ i l. let f = h i (omega (arith, l)) in (f.0, ((λ e. (let y : i ≡ j = ap (λ (q : Place). q.place) e in absurd (omega (arith, y, l)))), f.1))) in
+    let i = marks_after u (suc j) k x p us fresh' ((other, d.0), (new.1, d.1)) r in
+    let moved : spread (places (outputs u (suc j) (suc k) x ++ us)) (values (outputs u (suc j) (suc k) x ++ us)) r ≡ spread (places (outputs u j (suc (suc k)) x ++ ts)) (values (outputs u j (suc (suc k)) x ++ ts)) r =
+    marks_kept (to_first (outputs u (suc j) (suc k) x) (token (at u j) x) ts)
+    (apart_kept (swaps_back (to_first (outputs u (suc j) (suc k) x) (token (at u j) x) ts)) (outputs_apart_from u j (suc (suc k)) x ts (λ i l. (h i l).1) d.1)) r in
+    after_same u (suc j) k x p (pushed (at u j) x (spread (places all) (values all))) (spread (places (token p x ∷ us)) (values (token p x ∷ us))) put r ∙ (i ∙ moved)
+  where
+    outputs_apart_from : (u j k v : ℕ) (ts : List Token) → ((i : ℕ) → j ≤ i → NotIn (at u i) (places ts)) → Apart (places ts) → Apart (places (outputs u j k v ++ ts))
+    outputs_apart_from u j zero v ts h d = d
+    outputs_apart_from u j (suc k) v ts h d = (outputs_free u j (suc j) k v ts (omega arith) (h j (omega arith)), outputs_apart_from u (suc j) k v ts (λ i l. h i (omega (arith, l))) d)
+
+pub spots_have : (p k w i : ℕ) (c : Bool) → p ≤ i → i < p + k → HasPlace (spots p w c k) i
+spots_have p zero w i c l m = absurd (omega (arith, l, m))
+spots_have p (suc k) w i c l m = elim (cases_eq p i) [
+  | inl e ↦ inl e
+  | inr n ↦ inr (spots_have (suc p) k w i c (grind (arith, l, n)) (omega (arith, m)))
+]
+
+fork_outs : (net : Net) (w k i : ℕ) → i ≤ k → HasPlace (outs net false (Fork w (suc k))) i
+fork_outs net w k zero l = inl refl
+fork_outs net w k (suc i) l = inr (spots_have 1 k w (suc i) false (omega arith) (omega (arith, l)))
 
 module _ {net : Net} {scalars : List ℕ} (leaves : Leaves net) {a : Aside} {low n m : ℕ} (above : low ≤ n) (below : n < m) where
-  -- the copy waits in front
-  pub use_at : {s : State} (p : Place) (x : ℕ) (xs : List (Option Place)) (us : List ℕ) (ps : List (Option Place)) (vs : List ℕ) → length xs ≡ length us
-      → Stage net scalars s a low n m (xs ++ Some p ∷ ps) (us ++ x ∷ vs) → (w : ℕ) → Calm net a → slice_get net.units n ≡ Some (Fork w 2) → Wired net p (at n 0)
-      → Reaches net scalars s 2 a low (suc n) m (Some (at n 1) ∷ xs ++ Some (at n 0) ∷ ps) (x ∷ us ++ x ∷ vs)
-  use_at p x xs us ps vs l st w calm is wp =
-      by_stage (λ z t. from_front (at n 0) x (Some (at n 1) ∷ xs) (x ∷ us) ps vs (ap suc l) (front_swap (at n 1) (at n 0) x x (xs ++ ps) (us ++ vs) t))
-      (fork_front leaves above below (to_front p x xs us ps vs l st) w calm is wp)
+  -- the token in front goes to all outputs
+  pub fork_front : {s : State} {p : Place} {x : ℕ} (ts : List Token) → Stage net scalars s a low n m (places (token p x ∷ ts)) (values (token p x ∷ ts))
+      → (w k : ℕ) → suc k < 2 ^ 32 → Calm net a → slice_get net.units n ≡ Some (Fork w (suc k)) → Wired net p (at n 0)
+      → Reaches net scalars s (suc k) a low (suc n) m (places (row (at n 0) (suc k) x ++ ts)) (values (row (at n 0) (suc k) x ++ ts))
+  fork_front {s = s} {p = p} {x = x} ts st w k few calm is wp =
+      let all = token p x ∷ ts in
+      let free : (i : ℕ) → NotIn (at n i) (places all) = (λ i. fresh low n m i (places all) below st.outside) in
+      let out : (i : ℕ) → i ≤ k → (q : Place) × Wired net (at n i) q = (λ i l. leaves n i (Fork w (suc k)) is (fork_outs net w k i l)) in
+      let ready : Ready net (spread (places all) (values all)) n 0 k p = record {
+        to = λ i lo hi. out i (omega (arith, hi));
+        empty = λ i lo hi. spread_none (at n i) (places all) (values all) (free i);
+        other = λ i. is_not p (at n i) (λ e. (free i).0 (sym e));
+      } in
+      let go = fork_all_goes net scalars s (spread (places all) (values all)) a st.shows n w k x p is (ap (λ (o : Own). o.sent) (calm n (Fork w (suc k)) is refl)) wp (spread_front p x (places ts) (values ts)) ready in
+      let len = sends_many n 0 k in
+      let r = reached (places (outputs n 0 (suc k) x ++ ts)) (values (outputs n 0 (suc k) x ++ ts)) go (omega (arith, len))
+      (marks_after n 0 k x p ts (λ i l. free i) st.apart) (outputs_apart n 0 (suc k) x ts (λ i. (free i).1) st.apart.1)
+      (outputs_outside low (suc n) m n 0 (suc k) x ts above (omega arith) (outside_more low n (suc n) m (places ts) (omega arith) st.outside.2)) (as_many (outputs n 0 (suc k) x ++ ts)) in
+      subst (λ l. Reaches net scalars s (suc k) a low (suc n) m (places (l ++ ts)) (values (l ++ ts))) (sym (outputs_are n 0 (suc k) x (omega (arith, few)))) r

@@ -1,5 +1,5 @@
 -- Queues at a stage: their places are of units in front of the block, and each waits for the ports of the steps that are left.
-use Rattle.std.proofs.Common.{◌≡◌, ◌≢◌, ℕ, suc, ◌+◌, ◌*◌, ◌<◌, ◌≤◌, ◌==◌, true, false, cond, Option, Some, None, List, [], ◌∷◌, length, get_or, set, refl, sym, ap, ◌∙◌, inl, inr, arith, slice_get, eq-eqb, ne_eqb}
+use Rattle.std.proofs.Common.{◌≡◌, ◌≢◌, ℕ, zero, suc, ◌+◌, ◌*◌, ◌<◌, ◌≤◌, ◌==◌, Bool, true, false, cond, Option, Some, None, List, [], ◌∷◌, ◌++◌, length, get_or, set, refl, sym, ap, subst, ◌∙◌, inl, inr, arith, slice_get, eq-eqb, ne_eqb}
 use Rattle.std.proofs.lemmas.Bool.{cases_eq}
 use Rattle.ir.specs.declared.instr.Instr.{Instr}
 use Rattle.ir.specs.declared.groups.Groups.{Groups}
@@ -11,24 +11,26 @@ use Rattle.net_types.specs.declared.net.Port.{Port}
 use Rattle.net_types.specs.declared.net.Port.TheVariants.{Load, Store}
 use Rattle.net_types.specs.declared.net.Net.{Net}
 use Rattle.net_types.specs.declared.net.Unit.{Unit as Kind}
-use Rattle.net_types.specs.declared.net.Unit.TheVariants.{Lsq, Fork}
+use Rattle.net_types.specs.declared.net.Unit.TheVariants.{Lsq}
 use Rattle.net_types.specs.Nets.{owns, uses, at}
+use Rattle.net_types.specs.Tables.{Spot, spots, port_outs, array_width}
 use Rattle.net_core.specs.Fire.{State, Own}
 use Rattle.circuit_build.specs.declared.draft.Draft.{Draft}
 use Rattle.circuit_build.specs.declared.draft.Queue.{Queue}
 use Rattle.circuit_build.specs.Fronts.{ports_of}
 use Rattle.circuit_build.specs.Counted.{queue_for}
-use Rattle.circuit_build.specs.Steps.{plus, queue_of, next_port, step_laid}
+use Rattle.circuit_build.specs.Drafts.{plus}
+use Rattle.circuit_build.specs.Steps.{queue_or, queue_of, next_port, step_laid}
 use Rattle.circuit_build.proofs.Marks.{Marks, Aside, Wired, own_set, awaits}
 use Rattle.circuit_build.proofs.Stages.{spread, NotIn, Outside, Stage, Reaches}
-use Rattle.circuit_build.proofs.SpreadLemmas.{is_not, outside_more, spread_none, spread_front, take_front, add_front, pushed_same}
+use Rattle.circuit_build.proofs.SpreadLemmas.{is_not, spread_none, spread_front, take_front, add_front, pushed_same}
 use Rattle.circuit_build.proofs.MarkLemmas.{own_here}
 use Rattle.circuit_build.proofs.QueueLemmas.{alloc_goes, load_goes, store_goes}
-use Rattle.circuit_build.proofs.LayWires.{Leaves}
+use Rattle.circuit_build.proofs.LaySections.{HasPlace, Leaves, UsedOf, Used, AllUsed}
 use Rattle.circuit_build.proofs.LayBlocks.{left_of, BooksAt}
 use Rattle.circuit_build.proofs.LayBooks.{moved_if, step_queue}
-use Rattle.circuit_build.proofs.StageParts.{and_then, reached}
-use Rattle.circuit_build.proofs.StageKinds.{Calm, at_second, take_two, buffer_front}
+use Rattle.circuit_build.proofs.StageParts.{reached}
+use Rattle.circuit_build.proofs.StageKinds.{Calm, at_second, take_two, spots_have}
 
 -- ---- what units keep
 
@@ -42,74 +44,82 @@ calm_set net a u x d ps gs o xs k is calm v y e n = elim (cases_eq v u) [
   | inr z ↦ own_other a.own u v o z ∙ calm v y e n
 ]
 
--- ---- places of units in front of the block
+-- ---- places of queues
 
-pub before_low : (low n m q o : ℕ) (ps : List (Option Place)) → q < low → Outside low n m ps → NotIn (at q o) ps
-before_low low n m q o [] lt b = tt
-before_low low n m q o (None ∷ ps) lt b = before_low low n m q o ps lt b
-before_low low n m q o (Some p ∷ ps) lt b = (λ e. (let x : q ≡ p.unit = ap (λ (r : Place). r.unit) e in let l = b.0 in absurd (omega arith)), before_low low n m q o ps lt b.2)
+-- an output of a queue that is still to be used is none of those that are used
+pub unused : (low : ℕ) (qs : List (Option Queue)) (x : ℕ) (q : Queue) (o : ℕ) (ps : List (Option Place)) → queue_or (slice_get qs x) ≡ Some q → q.unit < low → ((p : Place) → UsedOf q p → o ≢ p.place) → AllUsed low qs ps → NotIn (at q.unit o) ps
+unused low qs x q o [] is lt new h = tt
+unused low qs x q o (None ∷ ps) is lt new h = unused low qs x q o ps is lt new h
+unused low qs x q o (Some p ∷ ps) is lt new h = (
+  (λ e. (let u : q.unit ≡ p.unit = ap (λ (r : Place). r.unit) e in
+      elim h.0 [
+        | inl l ↦ absurd (omega (arith, u, l, lt))
+        | inr k ↦ new p (k x q is (sym u)) (ap (λ (r : Place). r.place) e)
+      ])),
+  unused low qs x q o ps is lt new h.1,
+)
 
-from_zero : (low n m : ℕ) (ps : List (Option Place)) → Outside low n m ps → Outside 0 n m ps
-from_zero low n m [] b = tt
-from_zero low n m (None ∷ ps) b = from_zero low n m ps b
-from_zero low n m (Some p ∷ ps) b = (omega arith, b.1, from_zero low n m ps b.2)
+-- what is used stays so where queues move on
+pub used_moves : (low : ℕ) (qs ks : List (Option Queue)) (f : Queue → Queue) (t : ℕ → Bool) → ((x : ℕ) → queue_or (slice_get ks x) ≡ moved_if f (t x) (queue_or (slice_get qs x))) → ((q : Queue) → (f q).unit ≡ q.unit)
+    → ((x : ℕ) (q : Queue) (p : Place) → queue_or (slice_get qs x) ≡ Some q → t x ≡ true → UsedOf q p → UsedOf (f q) p) → (ps : List (Option Place)) → AllUsed low qs ps → AllUsed low ks ps
+used_moves low qs ks f t moves same on [] h = tt
+used_moves low qs ks f t moves same on (None ∷ ps) h = used_moves low qs ks f t moves same on ps h
+used_moves low qs ks f t moves same on (Some p ∷ ps) h = (one h.0, used_moves low qs ks f t moves same on ps h.1)
+  where
+    one : Used low qs p → Used low ks p
+    one (inl l) = inl l
+    one (inr k) = inr (λ x q is u. by x q (queue_or (slice_get qs x)) (t x) refl refl (sym (moves x) ∙ is) u)
+      where
+        by : (x : ℕ) (q : Queue) (o : Option Queue) (b : Bool) → queue_or (slice_get qs x) ≡ o → t x ≡ b → moved_if f b o ≡ Some q → p.unit ≡ q.unit → UsedOf q p
+        by x q None b e c i u = absurd (cc)
+        by x q (Some r) true e c i u = let z : f r ≡ q = cc in subst (λ w. UsedOf w p) z (on x r p e c (k x r e (u ∙ (sym (ap (λ (w : Queue). w.unit) z) ∙ same r))))
+        by x q (Some r) false e c i u = let z : r ≡ q = cc in subst (λ w. UsedOf w p) z (k x r e (u ∙ sym (ap (λ (w : Queue). w.unit) z)))
 
-module _ {net : Net} {scalars : List ℕ} (leaves : Leaves net) {low n m : ℕ} (above : low ≤ n) (below : n < m) where
-  -- a token that passes a buffer from a place in front of the block
-  passed : {s : State} {b : Aside} {k : ℕ} (q o v w : ℕ) (ps : List (Option Place)) (vs : List ℕ) → q < low → Outside low n m ps → Calm net b → slice_get net.units n ≡ Some (Fork w 1) → Wired net (at q o) (at n 0)
-      → Reaches net scalars s k b 0 n m (Some (at q o) ∷ ps) (v ∷ vs) → Reaches net scalars s (k + 1) b low (suc n) m (Some (at n 0) ∷ ps) (v ∷ vs)
-  passed q o v w ps vs lt b calm is wq r =
-      let z : 0 ≤ n = omega arith in
-      let t = and_then r (buffer_front leaves z below r.stage w calm is wq) in
-      record {
-        firings = t.firings;
-        to = t.to;
-        run = t.run;
-        few = t.few;
-        stage = record { shows = t.stage.shows; apart = t.stage.apart; outside = (above, inl (omega arith), outside_more low n (suc n) m ps (omega arith) b); same = t.stage.same };
-      }
+-- ---- outputs of a queue
 
-module _ {net : Net} {scalars : List ℕ} (leaves : Leaves net) {a : Aside} {low n m : ℕ} (above : low ≤ n) (below : n < m) where
-  module _ (u x depth : ℕ) (ports : List Port) (groups : List (List ℕ)) (is : slice_get net.units u ≡ Some (Lsq x depth ports groups false)) (early : u < low) (calm : Calm net a) where
-    module _ {s : State} {p : Place} {v : ℕ} {ps : List (Option Place)} {vs : List ℕ} (st : Stage net scalars s a low n m (Some p ∷ ps) (v ∷ vs)) where
-      abbrev all : List (Option Place)
-      all = Some p ∷ ps
+has_left : (p : ℕ) (xs ys : List Spot) → HasPlace xs p → HasPlace (xs ++ ys) p
+has_left p [] ys h = absurd h
+has_left p (x ∷ xs) ys (inl e) = inl e
+has_left p (x ∷ xs) ys (inr h) = inr (has_left p xs ys h)
 
+has_right : (p : ℕ) (xs ys : List Spot) → HasPlace ys p → HasPlace (xs ++ ys) p
+has_right p [] ys h = h
+has_right p (x ∷ xs) ys h = inr (has_right p xs ys h)
+
+port_has : (p w o : ℕ) (ps : List Port) → slice_get ps o ≡ Some Load → HasPlace (port_outs p w ps) (p + o)
+port_has p w o [] e = absurd (cc)
+port_has p w zero (Load ∷ ps) e = inl (omega arith)
+port_has p w zero (Store ∷ ps) e = absurd (cc)
+port_has p w (suc o) (Load ∷ ps) e = inr (subst (HasPlace (port_outs (p + 1) w ps)) (let z : p + 1 + o ≡ p + suc o = omega arith in z) (port_has (p + 1) w o ps e))
+port_has p w (suc o) (Store ∷ ps) e = subst (HasPlace (port_outs (p + 1) w ps)) (let z : p + 1 + o ≡ p + suc o = omega arith in z) (port_has (p + 1) w o ps e)
+
+module _ {net : Net} {scalars : List ℕ} (leaves : Leaves net) {a : Aside} {n m : ℕ} where
+  module _ (u x depth : ℕ) (ports : List Port) (groups : List (List ℕ)) (is : slice_get net.units u ≡ Some (Lsq x depth ports groups false)) (early : u < n) where
+    module _ {s : State} {p : Place} {v : ℕ} {ps : List (Option Place)} {vs : List ℕ} (st : Stage net scalars s a 0 n m (Some p ∷ ps) (v ∷ vs)) where
       abbrev m1 : Marks
-      m1 = spread all (v ∷ vs)
+      m1 = spread (Some p ∷ ps) (v ∷ vs)
 
-      none1 : (o : ℕ) → m1 (at u o) ≡ []
-      none1 o = spread_none (at u o) all (v ∷ vs) (before_low low n m u o all early st.outside)
-
-      -- the control token takes a group of the queue, and passes a buffer
-      pub alloc_front : (k g w : ℕ) → a.own u ≡ awaits ports k [] → g < length groups → length (get_or groups g []) ≤ depth → Wired net p (at u g) → Wired net (at u g) (at n 0) → slice_get net.units n ≡ Some (Fork w 1)
-          → Reaches net scalars s 2 (record a { own = own_set u (awaits ports k (get_or groups g [])) a.own }) low (suc n) m (Some (at n 0) ∷ ps) (v ∷ vs)
-      alloc_front k g w own lt room wp wq fork =
-          let b : Aside = record a { own = own_set u (awaits ports k (get_or groups g [])) a.own } in
-          let go = alloc_goes net scalars s m1 a st.shows u x depth ports groups is k g v p (at n 0) own lt room wp wq (spread_front p v ps vs) (none1 g) in
-          let new = before_low low n m u g ps early st.outside.2 in
-          let r : Reaches net scalars s 1 b 0 n m (Some (at u g) ∷ ps) (v ∷ vs) =
+      -- the control token takes a group of the queue
+      pub alloc_front : (k g : ℕ) → a.own u ≡ awaits ports k [] → g < length groups → length (get_or groups g []) ≤ depth → Wired net p (at u g) → NotIn (at u g) (Some p ∷ ps)
+          → Reaches net scalars s 1 (record a { own = own_set u (awaits ports k (get_or groups g [])) a.own }) 0 n m (Some (at u g) ∷ ps) (v ∷ vs)
+      alloc_front k g own lt room wp new =
+          let out = leaves u g (Lsq x depth ports groups false) is (has_left g (spots 0 32 true (suc (length groups))) (port_outs (length groups + 1) (array_width net.arrays x) ports) (spots_have 0 (suc (length groups)) 32 g true (omega arith) (omega (arith, lt)))) in
+          let go = alloc_goes net scalars s m1 a st.shows u x depth ports groups is k g v p out.0 own lt room wp out.1 (spread_front p v ps vs) (spread_none (at u g) (Some p ∷ ps) (v ∷ vs) new) in
           reached (Some (at u g) ∷ ps) (v ∷ vs) go (omega arith)
-          (λ r. pushed_same (at u g) v _ _ (take_front p v ps vs st.apart.0) r ∙ add_front (at u g) v ps vs new r)
-          (new, st.apart.1) (omega arith, inl (omega arith), from_zero low n m ps st.outside.2) (let e = st.same in omega arith) in
-          passed leaves above below u g v w ps vs early st.outside.2 (calm_set net a u x depth ports groups (awaits ports k (get_or groups g [])) a.arrays a.strays is calm) fork wq r
+          (λ r. pushed_same (at u g) v _ _ (take_front p v ps vs st.apart.0) r ∙ add_front (at u g) v ps vs new.1 r)
+          (new.1, st.apart.1) (omega arith, inl early, st.outside.2) (let e = st.same in omega arith)
 
       -- a load by the port that waits first
-      pub load_front : (k o w : ℕ) (left : List ℕ) → a.own u ≡ awaits ports k (o ∷ left) → slice_get ports o ≡ Some Load → Wired net p (at u (length groups + 1 + 2 * o)) → Wired net (at u (length groups + 1 + o)) (at n 0)
-          → slice_get net.units n ≡ Some (Fork w 1)
-          → Reaches net scalars s 5 (record { own = own_set u (awaits ports (suc k) left) a.own; arrays = a.arrays; strays = a.strays + strays_past (cells a.arrays x) v }) low (suc n) m (Some (at n 0) ∷ ps) (get_or (cells a.arrays x) v 0 ∷ vs)
-      load_front k o w left own port wp wq fork =
+      pub load_front : (k o : ℕ) (left : List ℕ) → a.own u ≡ awaits ports k (o ∷ left) → slice_get ports o ≡ Some Load → Wired net p (at u (length groups + 1 + 2 * o)) → NotIn (at u (length groups + 1 + o)) (Some p ∷ ps)
+          → Reaches net scalars s 4 (record { own = own_set u (awaits ports (suc k) left) a.own; arrays = a.arrays; strays = a.strays + strays_past (cells a.arrays x) v }) 0 n m (Some (at u (length groups + 1 + o)) ∷ ps) (get_or (cells a.arrays x) v 0 ∷ vs)
+      load_front k o left own port wp new =
           let c : ℕ = length groups + 1 + o in
           let y : ℕ = get_or (cells a.arrays x) v 0 in
-          let late : ℕ = a.strays + strays_past (cells a.arrays x) v in
-          let b : Aside = record { own = own_set u (awaits ports (suc k) left) a.own; arrays = a.arrays; strays = late } in
-          let go = load_goes net scalars s m1 a st.shows u x depth ports groups is k o left v p (at n 0) own port wp wq (spread_front p v ps vs) (none1 c) in
-          let new = before_low low n m u c ps early st.outside.2 in
-          let r : Reaches net scalars s 4 b 0 n m (Some (at u c) ∷ ps) (y ∷ vs) =
+          let out = leaves u c (Lsq x depth ports groups false) is (has_right c (spots 0 32 true (suc (length groups))) (port_outs (length groups + 1) (array_width net.arrays x) ports) (port_has (length groups + 1) (array_width net.arrays x) o ports port)) in
+          let go = load_goes net scalars s m1 a st.shows u x depth ports groups is k o left v p out.0 own port wp out.1 (spread_front p v ps vs) (spread_none (at u c) (Some p ∷ ps) (v ∷ vs) new) in
           reached (Some (at u c) ∷ ps) (y ∷ vs) go (omega arith)
-          (λ r. pushed_same (at u c) y _ _ (take_front p v ps vs st.apart.0) r ∙ add_front (at u c) y ps vs new r)
-          (new, st.apart.1) (omega arith, inl (omega arith), from_zero low n m ps st.outside.2) (let e = st.same in omega arith) in
-          passed leaves above below u c y w ps vs early st.outside.2 (calm_set net a u x depth ports groups (awaits ports (suc k) left) a.arrays late is calm) fork wq r
+          (λ r. pushed_same (at u c) y _ _ (take_front p v ps vs st.apart.0) r ∙ add_front (at u c) y ps vs new.1 r)
+          (new.1, st.apart.1) (omega arith, inl early, st.outside.2) (let e = st.same in omega arith)
 
 module _ {net : Net} {scalars : List ℕ} {a : Aside} {low n m : ℕ} (u x depth : ℕ) (ports : List Port) (groups : List (List ℕ)) (is : slice_get net.units u ≡ Some (Lsq x depth ports groups false)) where
   -- a store by the port that waits first: address and value are in front

@@ -1,6 +1,8 @@
 -- Whole runs: the entry, the visits in order, and the return join.
-use Rattle.std.proofs.Common.{◌≡◌, ℕ, zero, suc, ◌+◌, ◌*◌, ◌<◌, ◌≤◌, Option, Some, None, List, [], ◌∷◌, ◌++◌, length, map, refl, sym, ap, ◌∙◌, subst, arith, slice_get, length-append}
+use Rattle.std.proofs.Common.{◌≡◌, ℕ, zero, suc, ◌+◌, ◌*◌, ◌^◌, ◌<◌, ◌≤◌, ◌⊎◌, Option, Some, None, List, [], ◌∷◌, ◌++◌, length, map, get_or, inl, inr, refl, sym, ap, ◌∙◌, subst, arith, slice_get, length-append}
 use Rattle.std.specs.List.{All}
+use Rattle.std.specs.Prelude.{sum_by}
+use Rattle.std.proofs.lemmas.List.Sums.{sum_by-cons}
 use Rattle.std.proofs.lemmas.List.Elements.{All-head, All-tail}
 use Rattle.std.proofs.lemmas.Slice.Zip.{AllZip-long}
 use Rattle.std.proofs.lemmas.Option.{get_or_from_slice_get}
@@ -10,7 +12,7 @@ use Rattle.ir.specs.declared.graph.Block.{Block}
 use Rattle.ir.specs.declared.graph.Jump.{Jump}
 use Rattle.ir.specs.declared.graph.Jump.TheVariants.{Go, Two, Return}
 use Rattle.ir.specs.declared.groups.Groups.{Groups}
-use Rattle.ir.specs.Graphs.{Graph, IsGraph, IsBlock, IsJump, shape_of, handed, side, onward_of, no_block, block_at, block_weight, passage, first_visit, weight}
+use Rattle.ir.specs.Graphs.{Graph, IsGraph, IsBlock, IsJump, shape_of, handed, side, onward_of, no_block, block_at, block_weight, passage, first_visit, weight, size}
 use Rattle.ir.specs.Shapes.{Shape}
 use Rattle.ir.specs.Steps.{value_at, through, beginning}
 use Rattle.ir.specs.Visits.{Visit, Onward, onto, leaves, Passage, next_of, AreNext, Returns, Finishes, over_visits, strays_of}
@@ -18,6 +20,7 @@ use Rattle.net_types.specs.Inputs.{IsPatternOf}
 use Rattle.net_types.specs.declared.firing.Firing.{Firing}
 use Rattle.net_types.specs.declared.firing.Inputs.{Inputs}
 use Rattle.net_types.specs.declared.net.Net.{Net}
+use Rattle.net_types.specs.declared.net.Place.{Place}
 use Rattle.net_types.specs.Inputs.{InputsFit}
 use Rattle.net_core.specs.Fire.{State}
 use Rattle.net_core.specs.Laws.{SpentIsAtRest}
@@ -25,24 +28,21 @@ use Rattle.net_core.specs.Runs.{opening, Leads, Exited}
 use Rattle.circuit_build.specs.declared.draft.Edge.{Edge}
 use Rattle.circuit_build.specs.declared.draft.End.{End}
 use Rattle.circuit_build.specs.Asks.{IsAsked}
-use Rattle.circuit_build.specs.Blocks.{head_laid}
-use Rattle.circuit_build.specs.Built.{join_of, front_of, with_blocks, with_join, built}
-use Rattle.circuit_build.specs.Drafts.{next}
-use Rattle.circuit_build.specs.Endings.{result_widths, all_ended}
+use Rattle.circuit_build.specs.Built.{join_of, front_of, with_feeders, with_join, built}
+use Rattle.circuit_build.specs.Endings.{result_widths, ones, all_ended}
 use Rattle.circuit_build.specs.Follows.{Follows, FollowsVisits, CompletesVisits, CircuitsFollow, CircuitsComplete, FollowsIfAsked, CompletesIfAsked}
 use Rattle.circuit_build.proofs.Marks.{Aside}
 use Rattle.circuit_build.proofs.MarkLemmas.{leads_on}
-use Rattle.circuit_build.proofs.Stages.{Outside, Stage}
-use Rattle.circuit_build.proofs.CountBlocks.{tops_of, top_last}
-use Rattle.circuit_build.proofs.LaySections.{Extends, EdgeAt}
-use Rattle.circuit_build.proofs.LayExtends.{extends_long, extends_then, within_less, head_extends, all_ended_extends, exited_extends}
-use Rattle.circuit_build.proofs.LayWires.{Leaves, net_leaves}
-use Rattle.circuit_build.proofs.LayBlocks.{edge_places, SideAt, inputs_of, head_of, args_of, entry_edge, NetAt}
+use Rattle.circuit_build.proofs.Stages.{Outside}
+use Rattle.circuit_build.proofs.Targets.{tops_of, top_last}
+use Rattle.circuit_build.proofs.LaySections.{Extends, Leaves}
+use Rattle.circuit_build.proofs.LayExtends.{extends_then, within_less, all_ended_extends, exited_extends}
+use Rattle.circuit_build.proofs.LayWires.{net_leaves}
+use Rattle.circuit_build.proofs.LayBlocks.{edge_places, SideAt, inputs_of, args_of, entry_edge, join_head, NetAt}
 use Rattle.circuit_build.proofs.LayNet.{net_at}
 use Rattle.circuit_build.proofs.Opening.{Opened, opens}
-use Rattle.circuit_build.proofs.Ending.{taken_result, Finished, ending}
-use Rattle.circuit_build.proofs.StageHead.{head_opens}
-use Rattle.circuit_build.proofs.StageVisit.{OnEdge, target_of, handed_values, visited}
+use Rattle.circuit_build.proofs.Ending.{taken_result, Finished, join_tokens, ending}
+use Rattle.circuit_build.proofs.StageVisit.{OnEdge, target_of, handed_values, target_head, visited}
 
 all_at : {X : Type 0} (P : X → Type 0) (xs : List X) (i : ℕ) (x : X) → All P xs → slice_get xs i ≡ Some x → P x
 all_at P [] i x h e = absurd (cc)
@@ -89,7 +89,9 @@ record Ran (g : Graph) (gs : Groups) (net : Net) (scalars : List ℕ) (s : State
   firings : List Firing
   to : State
   run : Leads net s firings to
-  some : length (v ∷ rest) ≤ length firings
+  some : length rest ≤ length firings
+  -- where the last visit leads on it fires, too
+  onward : (b : ℕ) (xs : List ℕ) → (passage g (last_of v rest)).onward ≡ onto b xs → length (v ∷ rest) ≤ length firings
   few : length firings ≤ 12 * over_visits (weight g) (v ∷ rest)
   after : Aside
   edge : Edge
@@ -100,18 +102,30 @@ record Ran (g : Graph) (gs : Groups) (net : Net) (scalars : List ℕ) (s : State
   arrays : after.arrays ≡ (passage g (last_of v rest)).arrays
   strays : after.strays ≡ a.strays + strays_of (passage g) (v ∷ rest)
 
-module _ (g : Graph) (gs : Groups) (fine : IsGraph g) {net : Net} {scalars : List ℕ} (leaves_of : Leaves net) (found : NetAt g gs net) where
+-- a visit that leads on fires
+fires : (n b : ℕ) (xs : List ℕ) (o : Onward) → (1 ≤ n) ⊎ ((r : Option ℕ) × (o ≡ leaves r)) → o ≡ onto b xs → 1 ≤ n
+fires n b xs o (inl l) e = l
+fires n b xs o (inr h) e = let z : onto b xs ≡ leaves h.0 = sym e ∙ h.1 in absurd (cc)
+
+-- no block weighs more than the graph
+weighs : (ks : List Block) (i : ℕ) (k : Block) → slice_get ks i ≡ Some k → block_weight k ≤ sum_by block_weight ks
+weighs [] i k e = absurd (cc)
+weighs (x ∷ ks) zero k e = let z : x ≡ k = cc in let w = ap block_weight z in let s = sum_by-cons block_weight x ks in omega (arith, w, s)
+weighs (x ∷ ks) (suc i) k e = let h = weighs ks i k e in let s = sum_by-cons block_weight x ks in omega (arith, h, s)
+
+module _ (g : Graph) (gs : Groups) (fine : IsGraph g) (light : size g ≤ 8000000) {net : Net} {scalars : List ℕ} (leaves_of : Leaves net) (found : NetAt g gs net) where
   one_visit : (v : Visit) (k : Block) → slice_get g.blocks v.block ≡ Some k → IsBlock g k → (s : State) (a : Aside) (e : Edge) (z : ℕ) → OnEdge net scalars s a e z v.given → SideAt g gs net e → e.to ≡ v.block → a.arrays ≡ v.arrays
       → Ran g gs net scalars s a v []
   one_visit v k h ok s a e z on_edge at_side goes same =
-      let x = visited g gs leaves_of v.block k ok h (found.blocks v.block k h) s a e z v.given v.arrays on_edge at_side goes same in
+      let x = visited g gs leaves_of v.block k ok (let w = weighs g.blocks v.block k h in omega (arith, w, light)) h (found.blocks v.block k h) s a e z v.given v.arrays on_edge at_side goes same in
       let is : block_at g v.block ≡ k = get_or_from_slice_get g.blocks v.block k no_block h in
       let O : Block → Onward = λ b. onward_of b.jump (through b.steps (beginning v.given v.arrays)).values in
       record {
         firings = x.firings;
         to = x.to;
         run = x.run;
-        some = x.some;
+        some = omega arith;
+        onward = λ b xs e. fires (length x.firings) b xs (onward_of k.jump (through k.steps (beginning v.given v.arrays)).values) x.some (ap (λ b. O b) (sym is) ∙ e);
         few = (let w : weight g v ≡ block_weight k = ap block_weight is in let i = x.few in omega (arith, i, w));
         after = x.after;
         edge = x.edge;
@@ -140,7 +154,8 @@ module _ (g : Graph) (gs : Groups) (fine : IsGraph g) {net : Net} {scalars : Lis
         firings = x.firings ++ r.firings;
         to = r.to;
         run = leads_on net s x.firings r.firings x.to r.to x.run r.run;
-        some = (let i = x.some in let j = r.some in omega (arith, i, j, length-append x.firings r.firings));
+        some = (let i = x.onward w.block w.given n.onward in let j = r.some in omega (arith, i, j, length-append x.firings r.firings));
+        onward = λ b xs e. (let i = x.onward w.block w.given n.onward in let j = r.onward b xs e in omega (arith, i, j, length-append x.firings r.firings));
         few = (let i = x.few in let j = r.few in omega (arith, i, j, length-append x.firings r.firings));
         after = r.after;
         edge = r.edge;
@@ -154,9 +169,15 @@ module _ (g : Graph) (gs : Groups) (fine : IsGraph g) {net : Net} {scalars : Lis
 
 -- ---- from the opening state
 
+-- all places are outside of no range
+all_outside : (ps : List (Option Place)) → Outside 0 0 0 ps
+all_outside [] = tt
+all_outside (None ∷ ps) = all_outside ps
+all_outside (Some p ∷ ps) = (omega arith, inr (omega arith), all_outside ps)
+
 -- the entry and the parameters, and then the visits
 record Begun (g : Graph) (gs : Groups) (net : Net) (i : Inputs) (v : Visit) (rest : List Visit) : Type 0 where
-  opened : Opened g net i 0 (head_of g gs 0) (head_of g gs 0 + 1 + 2 * length (entry_edge g).with)
+  opened : Opened g net i 0 0 0
   ran : Ran g gs net i.scalars opened.reach.to opened.aside v rest
 
 module _ (g : Graph) (gs : Groups) (ask : IsAsked g gs) where
@@ -173,7 +194,7 @@ module _ (g : Graph) (gs : Groups) (ask : IsAsked g gs) where
   begun i v rest fit first follow =
       let at_side = found.front.side in
       let long : length i.scalars ≡ length g.scalars = AllZip-long (λ (s : Scalar) n. IsPatternOf s.ty n) g.scalars i.scalars fit.scalars in
-      let o = opens g gs net i leaves_of found.front long 0 (head_of g gs 0) (head_of g gs 0 + 1 + 2 * length (entry_edge g).with) at_side.outside in
+      let o = opens g gs net i leaves_of found.front long 0 0 0 (all_outside (edge_places (entry_edge g))) in
       let st = o.reach.stage in
       let b : OnEdge net i.scalars o.reach.to o.aside (entry_edge g) 0 i.scalars = record { shows = st.shows; apart = st.apart; same = st.same; calm = o.calm; waits = o.waits } in
       let given : i.scalars ≡ v.given = ap (λ (w : Visit). w.given) (sym first) in
@@ -181,7 +202,7 @@ module _ (g : Graph) (gs : Groups) (ask : IsAsked g gs) where
       let arrays : i.arrays ≡ v.arrays = ap (λ (w : Visit). w.arrays) (sym first) in
       record {
         opened = o;
-        ran = runs g gs ask.graph leaves_of found rest v ask.graph.entry (ap (slice_get g.blocks) (sym block) ∙ ask.graph.first) follow o.reach.to o.aside (entry_edge g) 0
+        ran = runs g gs ask.graph ask.small.bounded leaves_of found rest v ask.graph.entry (ap (slice_get g.blocks) (sym block) ∙ ask.graph.first) follow o.reach.to o.aside (entry_edge g) 0
             (subst (OnEdge net i.scalars o.reach.to o.aside (entry_edge g) 0) given b) at_side block (o.arrays ∙ arrays);
       }
 
@@ -195,7 +216,7 @@ module _ (g : Graph) (gs : Groups) (ask : IsAsked g gs) where
         firings = o.firings ++ r.firings;
         to = r.to;
         run = leads_on net (opening net i) o.firings r.firings o.to r.to o.run r.run;
-        some = (let s = r.some in omega (arith, s, length-append o.firings r.firings));
+        some = (let s = r.some in let t = b.opened.some in omega (arith, s, t, length-append o.firings r.firings));
         few = (let s = o.few in let t = r.few in omega (arith, s, t, length-append o.firings r.firings));
       }
 
@@ -208,38 +229,32 @@ module _ (g : Graph) (gs : Groups) (ask : IsAsked g gs) where
   taken_is (Some t) (Some v) l = refl
 
   -- the join's head, the ends of the queues and the exit
-  joined : (scalars : List ℕ) (s : State) (a : Aside) (e : Edge) (z : ℕ) (r : Option ℕ) → OnEdge net scalars s a e z (handed_values (leaves r)) → SideAt g gs net e → e.to ≡ join_of g → Finished net s (length g.arrays + 5) r a.arrays a.strays
+  joined : (scalars : List ℕ) (s : State) (a : Aside) (e : Edge) (z : ℕ) (r : Option ℕ) → OnEdge net scalars s a e z (handed_values (leaves r)) → SideAt g gs net e → e.to ≡ join_of g → Finished net s (length g.arrays + 7) r a.arrays a.strays
   joined scalars s a e z r on_edge at_side goes =
       let join = found.join in
-      let d0 = with_blocks g gs in
+      let d0 = with_feeders g gs in
       let ins = inputs_of g (join_of g) in
       let ws = result_widths g.result in
-      let d1 = head_laid ins ws d0 in
+      let us = ones ws in
+      let d1 = join_head g gs in
       let vs = handed_values (leaves r) in
       let x : Extends d1 (with_join g gs) = extends_then d1 (all_ended d1.queues d1) (with_join g gs) (all_ended_extends d1 d1.queues) (exited_extends (all_ended d1.queues d1) g.result) in
       let w1 = within_less net d1 (with_join g gs) x join.laid in
       let blocks : join_of g ≡ length g.blocks = (let b = ask.small.blocks in omega (arith, b)) in
       let widths : args_of g (join_of g) ≡ ws = get_or_from_slice_get (tops_of g) (join_of g) ws [] (top_last g.blocks ws (join_of g) blocks) in
-      let at_head : head_of g gs e.to ≡ next d0 = ap (head_of g gs) goes ∙ join.head in
-      let less : at_side.number < ins = subst (λ t. at_side.number < inputs_of g t) goes at_side.less in
-      let wires : EdgeAt net (next d0) at_side.number e = subst (λ h. EdgeAt net h at_side.number e) at_head at_side.wires in
-      let many : length e.with ≡ length ws = at_side.many ∙ ap length (ap (args_of g) goes ∙ widths) in
-      let outside : Outside 0 (next d0) (next d0 + 1 + 2 * length ws) (edge_places e) =
-      subst (λ n. Outside 0 (next d0) (next d0 + 1 + 2 * n) (edge_places e)) many (subst (λ h. Outside 0 h (h + 1 + 2 * length e.with) (edge_places e)) at_head at_side.outside) in
-      let st : Stage net scalars s a 0 (next d0) (next d0 + 1 + 2 * length ws) (edge_places e) (z ∷ vs) = record { shows = on_edge.shows; apart = on_edge.apart; outside = outside; same = on_edge.same } in
-      let hd = head_opens leaves_of ins at_side.number ws e z vs d0 w1 on_edge.calm many less wires st in
-      let o1 = hd.opens.open_stage in
-      let early : length (front_of g gs).units ≤ next d0 = (let l = join.late in let p = w1.less in let q = w1.few in let y = extends_long d0 d1 (head_extends d0 ins ws) in omega (arith, l, p, q, y)) in
-      let f = ending g gs ask join scalars hd.opens.to a (next d0) (length net.units) at_side.number vs early on_edge.waits o1 in
-      let as_many : length vs ≡ length ws = (let i = on_edge.same in omega (arith, i, many, length_ends e.with)) in
       let short : length ws ≤ 1 = widths_few g.result in
+      let with_many : length e.with ≡ length ws = at_side.many ∙ ap (λ (xs : List ℕ). length xs) (ap (args_of g) goes ∙ widths) in
+      let h = target_head g gs leaves_of (join_of g) ws us 0 d0 join.head w1 join.late (ones_few ws) (omega (arith, short)) s a e z vs on_edge at_side goes with_many in
+      let many : length vs ≡ length ws = (let i = on_edge.same in omega (arith, i, with_many, length_ends e.with)) in
+      let f = ending g gs ask join scalars h.comes.to a (length (front_of g gs).units) (length net.units) h.z vs (omega arith) on_edge.waits h.many many h.comes.there in
+      let tokens = join_tokens g.result d1 h.z vs h.many many in
       record {
-        firings = hd.first ++ (hd.opens.firings ++ f.firings);
+        firings = h.comes.firings ++ f.firings;
         to = f.to;
-        run = leads_on net s hd.first (hd.opens.firings ++ f.firings) hd.mid f.to hd.run (leads_on net hd.mid hd.opens.firings f.firings hd.opens.to f.to hd.opens.run f.run);
-        few = (let i = hd.few in let j = hd.opens.few in let l = f.few in omega (arith, i, j, l, short, length-append hd.first (hd.opens.firings ++ f.firings), length-append hd.opens.firings f.firings));
+        run = leads_on net s h.comes.firings f.firings h.comes.to f.to h.comes.run f.run;
+        few = (let i = h.comes.few in let l = f.few in omega (arith, i, l, short, many, tokens, length-append h.comes.firings f.firings));
         spent = f.spent;
-        exited = subst (λ q. Exited net q f.to) (taken_is g.result r as_many) f.exited;
+        exited = subst (λ q. Exited net q f.to) (taken_is g.result r many) f.exited;
         arrays_are = f.arrays_are;
         most = f.most;
       }
@@ -251,6 +266,11 @@ module _ (g : Graph) (gs : Groups) (ask : IsAsked g gs) where
       widths_few : (t : Option Ty) → length (result_widths t) ≤ 1
       widths_few None = omega arith
       widths_few (Some t) = omega arith
+
+      ones_few : (ws : List ℕ) (v : ℕ) → get_or (ones ws) v 0 < 2 ^ 32
+      ones_few [] v = omega arith
+      ones_few (w ∷ ws) zero = omega arith
+      ones_few (w ∷ ws) (suc v) = ones_few ws v
 
   pub completes_visits : SpentIsAtRest → CompletesVisits g net
   completes_visits spent_rests i rest r arrays fit done =
@@ -266,7 +286,7 @@ module _ (g : Graph) (gs : Groups) (ask : IsAsked g gs) where
         firings = o.firings ++ (x.firings ++ f.firings);
         to = f.to;
         run = leads_on net (opening net i) o.firings (x.firings ++ f.firings) o.to f.to o.run (leads_on net o.to x.firings f.firings x.to f.to x.run f.run);
-        some = (let s = x.some in omega (arith, s, length-append o.firings (x.firings ++ f.firings), length-append x.firings f.firings));
+        some = (let s = x.some in let t = b.opened.some in omega (arith, s, t, length-append o.firings (x.firings ++ f.firings), length-append x.firings f.firings));
         few = (let s = o.few in let t = x.few in let u = f.few in omega (arith, s, t, u, length-append o.firings (x.firings ++ f.firings), length-append x.firings f.firings));
       } in
       record {
@@ -286,7 +306,7 @@ circuits_complete spent_rests g gs ask = completes_visits g gs ask spent_rests
 
 -- so of a net that is the built one
 pub followed : (g : Graph) (gs : Groups) (net : Net) → net ≡ built g gs → FollowsIfAsked g gs net
-followed g gs net e ask = subst (FollowsVisits g) (sym e) (circuits_follow g gs ask)
+followed g gs n e ask = subst (FollowsVisits g) (sym e) (circuits_follow g gs ask)
 
 pub completed : SpentIsAtRest → (g : Graph) (gs : Groups) (net : Net) → net ≡ built g gs → CompletesIfAsked g gs net
-completed rest g gs net e ask = subst (CompletesVisits g) (sym e) (circuits_complete rest g gs ask)
+completed rest g gs n e ask = subst (CompletesVisits g) (sym e) (circuits_complete rest g gs ask)

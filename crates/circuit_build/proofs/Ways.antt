@@ -3,23 +3,28 @@ use Rattle.std.proofs.Common.{◌≡◌, ◌≢◌, ℕ, zero, suc, ◌+◌, ◌
 use Rattle.std.specs.Prelude.{All}
 use Rattle.std.proofs.lemmas.Bool.{cases_eq, cases_lt}
 use Rattle.std.proofs.lemmas.List.{get_or-set_other, get_or-set_same, set_past}
-use Rattle.std.proofs.lemmas.List.Elements.{All-nil, All-cons, All-head, All-tail, All-append}
-use Rattle.std.proofs.lemmas.Option.{slice_get_within}
+use Rattle.std.proofs.lemmas.List.Elements.{All-nil, All-cons, All-head, All-tail, All-append, All-contains}
+use Rattle.std.proofs.lemmas.Option.{slice_get_within, get_or_from_slice_get}
 use Rattle.ir.specs.declared.graph.Block.{Block}
+use Rattle.ir.specs.declared.graph.To.{To}
 use Rattle.ir.specs.declared.graph.Jump.{Jump}
 use Rattle.ir.specs.declared.graph.Jump.TheVariants.{Go, Two, Return}
-use Rattle.ir.specs.Graphs.{Graph, IsGraph, IsBlock, IsJump, shape_of}
+use Rattle.ir.specs.Graphs.{Graph, IsGraph, IsBlock, IsTarget, IsJump, shape_of}
 use Rattle.ir.specs.Shapes.{Shape}
 use Rattle.net_types.specs.declared.net.Unit.{Unit as Kind}
 use Rattle.net_types.specs.declared.net.Unit.TheVariants.{Entry}
 use Rattle.net_check.specs.Shapes.{IsCount}
 use Rattle.circuit_build.specs.declared.draft.Draft.{Draft}
-use Rattle.circuit_build.specs.Drafts.{number, with_unit}
-use Rattle.circuit_build.specs.Steps.{plus}
+use Rattle.circuit_build.specs.Drafts.{number, plus, with_unit}
+use Rattle.circuit_build.specs.Asks.{IsSmall}
 use Rattle.circuit_build.specs.Blocks.{ins_of}
-use Rattle.circuit_build.specs.Edges.{zeros, raised, sides_counted, jumps_counted, edge_counts}
+use Rattle.circuit_build.specs.Edges.{raised, sides_counted, jumps_counted, edge_counts}
+use Rattle.circuit_build.specs.Uses.{zeros, handed_often}
 use Rattle.circuit_build.specs.Laws.{HasShapeUnlessQueue, UnitsHaveShape}
-use Rattle.circuit_build.proofs.Keeps.{Laid, whole_keeps}
+use Rattle.circuit_build.proofs.Growth.{few_triggers}
+use Rattle.circuit_build.proofs.Keeps.{Laid, Table, Handed, Forks, Few, whole_keeps}
+use Rattle.circuit_build.proofs.LayHeld.{handed_many}
+use Rattle.circuit_build.proofs.Remains as remains
 
 -- ---- tables
 
@@ -91,19 +96,69 @@ heads_fit g fine few (suc t) =
     let c = zeros_at (length g.blocks + 1) (suc t) in
     record { some = omega arith; most = omega arith }
 
+-- ---- forks: at most 14,336 steps and 1,024 arguments in a block leave room for all uses of a value
+
+abbrev pub AtMost : ℕ → Type 0
+AtMost n = n ≤ 65536
+
+pub few_fit : Few AtMost
+few_fit = record { none = omega arith; one = omega arith; two = omega arith; three = omega arith }
+
+handed_most : (n : ℕ) (to : To) → length to.with ≤ 1024 → Table AtMost (handed_often n to)
+handed_most n to few i = let a = remains.all_added_most to.with i (zeros n) in let z = zeros_at n i in omega (arith, a, z, few)
+
+module _ (g : Graph) (small : IsSmall g) where
+  target_few : (ws : Shape) (to : To) → IsTarget g.blocks ws to → length to.with ≤ 1024
+  target_few ws to h =
+      let m = handed_many ws to.with h.block.args h.handed in
+      let f = All-contains (λ (b : Block). length b.args ≤ 1024) g.blocks h.block small.args (to.block, slice_get_within g.blocks to.block h.block h.exists, get_or_from_slice_get g.blocks to.block h.block h.block h.exists) in
+      omega (arith, m, f)
+
+  jump_few : (ws : Shape) (j : Jump) → IsJump g ws j → remains.handed_many j ≤ 1024
+  jump_few ws (Go to) h = target_few ws to h
+  jump_few ws (Two c a b) h = omega arith
+  jump_few ws (Return v) h = omega arith
+
+  sides_few : (ws : Shape) (j : Jump) → IsJump g ws j → Handed AtMost j
+  sides_few ws (Go to) h = tt
+  sides_few ws (Two c a b) h = (λ n. handed_most n a (target_few ws a h.1), λ n. handed_most n b (target_few ws b h.2))
+  sides_few ws (Return v) h = tt
+
+  block_fits : (k : Block) → IsBlock g k → length k.steps ≤ 14336 → length k.args ≤ 1024 → Forks AtMost k
+  block_fits k fine steps args =
+      let j = jump_few (shape_of g k) k.jump fine.jump in
+      record {
+        values = λ i. (let m = remains.remains_most k (length k.args) k.steps i (omega arith) (omega (arith, steps, args)) in omega (arith, m, steps, args, j));
+        merges = λ b xs. (let t = few_triggers b k xs in omega (arith, t, steps, args));
+        leans = λ b xs. (let t = few_triggers b k xs in omega (arith, t, steps));
+        lates = λ b xs. (let t = few_triggers b k xs in omega (arith, t, steps));
+        sides = sides_few (shape_of g k) k.jump fine.jump;
+        feeder = omega (arith, args);
+      }
+
+  all_fit : (ks : List Block) → All (IsBlock g) ks → All (λ (b : Block). length b.steps ≤ 14336) ks → All (λ (b : Block). length b.args ≤ 1024) ks → All (Forks AtMost) ks
+  all_fit [] fine steps args = All-nil (Forks AtMost)
+  all_fit (k ∷ ks) fine steps args =
+      All-cons (Forks AtMost) k ks
+      (block_fits k (All-head (IsBlock g) k ks fine) (All-head (λ (b : Block). length b.steps ≤ 14336) k ks steps) (All-head (λ (b : Block). length b.args ≤ 1024) k ks args))
+      (all_fit ks (All-tail (IsBlock g) k ks fine) (All-tail (λ (b : Block). length b.steps ≤ 14336) k ks steps) (All-tail (λ (b : Block). length b.args ≤ 1024) k ks args))
+
+pub forks_fit : (g : Graph) → IsGraph g → IsSmall g → All (Forks AtMost) g.blocks
+forks_fit g fine small = all_fit g small g.blocks fine.blocks small.steps small.args
+
 -- ---- shapes
 
 no_owner : {A : Type 0} (a : ℕ) → Some a ≡ None → A
 no_owner a e = absurd (cc)
 
-shaped : Laid HasShapeUnlessQueue IsCount
+shaped : Laid HasShapeUnlessQueue IsCount AtMost
 shaped = record {
   const = λ w n e. tt;
   op1 = λ op e. tt;
   op2 = λ op e. tt;
   select = λ w e. tt;
   fork1 = λ w e. record { some = omega arith; most = omega arith };
-  fork2 = λ w e. record { some = omega arith; most = omega arith };
+  forks = λ w n l o e. record { some = l; most = o };
   mux = λ w n i e. i;
   merge = λ n i e. i;
   branch = λ w e. tt;
@@ -117,6 +172,6 @@ more_shaped : (k : Kind) (d : Draft) → HasShapeUnlessQueue k → AreShaped d �
 more_shaped k d f h = All-append HasShapeUnlessQueue d.units (k ∷ []) h (All-cons HasShapeUnlessQueue k [] f (All-nil HasShapeUnlessQueue))
 
 pub units_shaped : UnitsHaveShape
-units_shaped g gs fine few =
-    whole_keeps AreShaped HasShapeUnlessQueue IsCount shaped more_shaped (λ p q w c d h. h) (λ d e u c h. subst (All HasShapeUnlessQueue) (sym u) h) (λ a e. tt) (λ j e. tt) (λ a m ps gs e. no_owner a e) (λ e. tt) g gs (heads_fit g fine few)
-    (All-cons HasShapeUnlessQueue Entry [] (λ e. tt) (All-nil HasShapeUnlessQueue))
+units_shaped g gs fine small =
+    whole_keeps AreShaped HasShapeUnlessQueue IsCount AtMost shaped more_shaped (λ p q w c d h. h) (λ d e u c h. subst (All HasShapeUnlessQueue) (sym u) h) (λ a e. tt) (λ j e. tt) (λ a m ps gs e. no_owner a e) (λ e. tt) g gs (heads_fit g fine small.blocks)
+    (forks_fit g fine small) few_fit (All-cons HasShapeUnlessQueue Entry [] (λ e. tt) (All-nil HasShapeUnlessQueue))

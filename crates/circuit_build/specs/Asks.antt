@@ -15,11 +15,13 @@ pub record IsSound (h : Header) : Type 0 where
   pub names : AllPairs (λ x y. x ≢ y) (map (λ (s : Scalar). s.name) h.scalars ++ map (λ (a : Array). a.name) h.arrays)
   pub arrays : AreSized h.arrays
 
--- so many blocks that a head of all their edges may be laid, and accesses that a queue holds
+-- so many blocks that a head of all their edges may be laid, accesses that a queue holds, and steps and arguments that a value's fork has an output for each of its uses
 pub record IsSmall (g : Graph) : Type 0 where
   pub blocks : length g.blocks ≤ 32768
   pub bounded : size g ≤ 8000000
   pub accesses : All (λ b. accesses_in b.steps ≤ 1024) g.blocks
+  pub steps : All (λ b. length b.steps ≤ 14336) g.blocks
+  pub args : All (λ b. length b.args ≤ 1024) g.blocks
 
 pub record IsAsked (g : Graph) (gs : Groups) : Type 0 where
   pub graph : IsGraph g

@@ -7,14 +7,10 @@ use Rattle.net_types.specs.Nets.{at}
 use Rattle.circuit_build.specs.declared.draft.Draft.{Draft}
 use Rattle.circuit_build.specs.declared.draft.Edge.{Edge}
 use Rattle.circuit_build.specs.declared.draft.End.{End}
-use Rattle.circuit_build.specs.Drafts.{number, with_chan, fed}
-use Rattle.circuit_build.specs.Steps.{plus}
+use Rattle.circuit_build.specs.Drafts.{number, plus, with_chan, fed}
+use Rattle.circuit_build.specs.Uses.{zeros}
 
 -- ---- counts of edges by target; the return join is the target after the blocks
-
-abbrev pub zeros : ℕ → List ℕ
-zeros zero = []
-zeros (suc n) = zeros n ++ 0 ∷ []
 
 -- one more for a target
 abbrev pub raised : ℕ → List ℕ → List ℕ
@@ -35,16 +31,18 @@ edge_counts bs = jumps_counted (number (length bs)) bs (raised 0 (zeros (length 
 
 -- ---- channels
 
--- each value goes to the input of a mux of its own; these stand two units apart
+-- each value goes to the input of a mux of its own; these stand in a row
 abbrev pub data_laid : ℕ → ℕ → List End → Draft → Draft
 data_laid mux place [] d = d
-data_laid mux place (e ∷ es) d = data_laid (plus mux 2) place es (fed e mux place d)
+data_laid mux place (e ∷ es) d = data_laid (plus mux 1) place es (fed e mux place d)
 
--- the edge of number j at its target
+-- the edge of number j at a head; of a target without a merge all is laid
+abbrev pub edge_at : ℕ → ℕ → Edge → Draft → Draft
+edge_at zero j e d = d
+edge_at (suc h) j e d = data_laid (plus (suc h) 2) (plus j 1) e.with (with_chan e.control (at (suc h) j) 32 true d)
+
 abbrev pub edge_laid : ℕ → Edge → Draft → Draft
-edge_laid j e d =
-    let h = get_or d.heads e.to 0 in
-    data_laid (plus h 2) (plus j 1) e.with (with_chan e.control (at h j) 32 true d)
+edge_laid j e d = edge_at (get_or d.heads e.to 0) j e d
 
 -- seen: how many edges of each target are laid
 abbrev pub edges_laid : List ℕ → List Edge → Draft → Draft

@@ -1,5 +1,5 @@
 -- What is laid after the blocks: the return join with the ends of all queues and the exit, and a feeder for each target that no edge leads to.
-use Rattle.std.specs.Prelude.{ℕ, List, [], ◌∷◌, zero, suc, get_or, true, Option, Some, None}
+use Rattle.std.specs.Prelude.{ℕ, List, [], ◌∷◌, zero, suc, length, get_or, true, Option, Some, None}
 use Rattle.el_base.specs.declared.ty.Ty.{Ty}
 use Rattle.el_base.specs.Widths.{ty_width}
 use Rattle.ir.specs.declared.graph.Block.{Block}
@@ -8,8 +8,8 @@ use Rattle.net_types.specs.Nets.{at}
 use Rattle.circuit_build.specs.declared.draft.Draft.{Draft}
 use Rattle.circuit_build.specs.declared.draft.End.{End}
 use Rattle.circuit_build.specs.declared.draft.Queue.{Queue}
-use Rattle.circuit_build.specs.Drafts.{next, end_of, with_unit, with_chan, with_control, fed, triggered, trigger_of}
-use Rattle.circuit_build.specs.Steps.{plus, through_queue}
+use Rattle.circuit_build.specs.Drafts.{number, plus, next, with_unit, with_chan, with_control, fed, control_forked, triggered, trigger_of, copied, copy_of}
+use Rattle.circuit_build.specs.Steps.{through_queue}
 use Rattle.circuit_build.specs.Jumps.{with_edge}
 use Rattle.circuit_build.specs.Blocks.{head_laid}
 
@@ -30,20 +30,25 @@ all_ended (q ∷ qs) d = all_ended qs (ended_by q d)
 
 abbrev pub exited : Option Ty → Draft → Draft
 exited None d = with_chan d.control (at (next d) 0) 32 true (with_unit Exit d)
-exited (Some t) d = fed (end_of d.ends 0) (next d) 1 (with_chan d.control (at (next d) 0) 32 true (with_unit Exit d))
+exited (Some t) d =
+    let e = with_chan d.control (at (next d) 0) 32 true (with_unit Exit d) in
+    fed (copy_of 0 e) (next d) 1 (copied 0 e)
 
-abbrev pub join_laid : ℕ → Option Ty → Draft → Draft
-join_laid ins r d =
-    let e = head_laid ins (result_widths r) d in
+-- each argument has one use
+abbrev pub ones : List ℕ → List ℕ
+ones [] = []
+ones (w ∷ ws) = 1 ∷ ones ws
+
+abbrev pub join_laid : ℕ → ℕ → Option Ty → Draft → Draft
+join_laid ins join r d =
+    let e = head_laid ins join (result_widths r) (ones (result_widths r)) 0 d in
     exited r (all_ended e.queues e)
 
 -- ---- feeders
 
--- a zero, which a copy of the control token triggers
+-- a zero of each width, which a copy of the control token triggers
 abbrev pub zero_laid : ℕ → Draft → Draft
-zero_laid w d =
-    let e = triggered d in
-    fed (trigger_of d) (next e) 0 (with_unit (Const w 0) e)
+zero_laid w d = fed (trigger_of d) (next d) 0 (with_unit (Const w 0) (triggered d))
 
 abbrev pub zeros_laid : List ℕ → Draft → Draft
 zeros_laid [] d = d
@@ -51,17 +56,17 @@ zeros_laid (w ∷ ws) d = zeros_laid ws (zero_laid w d)
 
 abbrev pub zero_ends : List ℕ → Draft → List End
 zero_ends [] d = []
-zero_ends (w ∷ ws) d = record { place = at (next (triggered d)) 0; width = w } ∷ zero_ends ws (zero_laid w d)
+zero_ends (w ∷ ws) d = record { place = at (next d) 0; width = w } ∷ zero_ends ws (zero_laid w d)
 
--- a branch of control that feeds its own data input, so that it never fires, and gives itself its condition
-abbrev pub fed_by_itself : Draft → Draft
-fed_by_itself d =
-    let e = with_control (at (next d) 0) (with_chan (at (next d) 1) (at (next d) 1) 32 true (with_unit (Branch 32) d)) in
+-- a branch of control that feeds its own data input, so that it never fires, and gives itself its condition, and n copies
+abbrev pub fed_by_itself : ℕ → Draft → Draft
+fed_by_itself n d =
+    let e = control_forked (plus n 1) (with_control (at (next d) 0) (with_chan (at (next d) 1) (at (next d) 1) 32 true (with_unit (Branch 32) d))) in
     fed (trigger_of e) (next d) 0 (triggered e)
 
 abbrev pub feeder_laid : ℕ → List ℕ → Draft → Draft
 feeder_laid t args d =
-    let e = fed_by_itself d in
+    let e = fed_by_itself (number (length args)) d in
     let f = zeros_laid args e in
     with_edge t f.control (zero_ends args e) f
 

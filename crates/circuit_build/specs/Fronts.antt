@@ -13,14 +13,15 @@ use Rattle.net_types.specs.declared.net.Unit.TheVariants.{Entry, Param, Lsq}
 use Rattle.net_types.specs.Nets.{at}
 use Rattle.circuit_build.specs.declared.draft.Draft.{Draft}
 use Rattle.circuit_build.specs.declared.draft.End.{End}
-use Rattle.circuit_build.specs.Drafts.{number, next, with_unit}
-use Rattle.circuit_build.specs.Steps.{plus}
+use Rattle.circuit_build.specs.Drafts.{number, plus, next, with_unit}
+use Rattle.circuit_build.specs.Uses.{zeros}
 use Rattle.circuit_build.specs.Jumps.{with_edge}
 
 -- ---- the entry and the scalars: the first edge, into block 0
 
-abbrev pub started : Draft
-started = record { units = Entry ∷ []; chans = []; control = at 0 0; ends = []; edges = []; heads = []; queues = [] }
+-- of a net with so many targets
+abbrev pub started : ℕ → Draft
+started targets = record { units = Entry ∷ []; chans = []; control = at 0 0; trigger = at 0 0; uses = []; ends = []; edges = []; tails = zeros targets; heads = []; queues = [] }
 
 abbrev pub params_laid : ℕ → List Scalar → Draft → Draft
 params_laid j [] d = d
@@ -82,15 +83,7 @@ depth_from a m (x ∷ xs) = cond (x.array == a) (depth_from a (max m (number (le
 -- ---- queues
 
 abbrev pub queue_laid : ℕ → List Port → List (List ℕ) → ℕ → Draft → Draft
-queue_laid a ps gs m d = record {
-  units = d.units ++ Lsq a m ps gs false ∷ [];
-  chans = d.chans;
-  control = d.control;
-  ends = d.ends;
-  edges = d.edges;
-  heads = d.heads;
-  queues = d.queues ++ Some (record { unit = next d; groups = number (length gs); group = 0; port = 0 }) ∷ [];
-}
+queue_laid a ps gs m d = record (with_unit (Lsq a m ps gs false) d) { queues = d.queues ++ Some (record { unit = next d; groups = number (length gs); group = 0; port = 0 }) ∷ [] }
 
 abbrev pub without_queue : Draft → Draft
 without_queue d = record d { queues = d.queues ++ None ∷ [] }

@@ -10,6 +10,7 @@ use Rattle.net_types.specs.Nets.{owns}
 use Rattle.net_check.specs.Shapes.{HasShape}
 use Rattle.net_check.specs.Headers.{is_entry, is_exit, is_param, is_queue}
 use Rattle.net_types.specs.Headers.{net_header}
+use Rattle.circuit_build.specs.Asks.{IsSmall}
 use Rattle.circuit_build.specs.Built.{built}
 
 -- each channel has one slot, and delay 1
@@ -27,7 +28,7 @@ abbrev pub HasShapeUnlessQueue : Kind → Type 0
 HasShapeUnlessQueue k = owns k ≡ None → HasShape k
 
 abbrev pub UnitsHaveShape : Type 0
-UnitsHaveShape = (g : Graph) (gs : Groups) → IsGraph g → length g.blocks ≤ 32768 → All HasShapeUnlessQueue (built g gs).units
+UnitsHaveShape = (g : Graph) (gs : Groups) → IsGraph g → IsSmall g → All HasShapeUnlessQueue (built g gs).units
 
 -- one entry, one exit, one unit for each scalar, and at most one queue for an array: a part of the rule of headers
 pub record StandOnce (net : Net) : Type 0 where

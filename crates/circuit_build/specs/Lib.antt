@@ -15,3 +15,4 @@ pub mod Shaped
 pub mod Sizes
 pub mod Sorting
 pub mod Steps
+pub mod Uses

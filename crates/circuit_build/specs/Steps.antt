@@ -1,20 +1,17 @@
--- What is laid for a step: copies of its operands, and the unit that takes them. A load or a store of an array with a queue uses the queue's next port.
-use Rattle.std.specs.Prelude.{ℕ, ◌+◌, List, [], ◌∷◌, set, slice_get, false, true, Option, Some, None}
+-- What is laid for a step: the unit that takes its operands, where its value is used or it does more. A load or a store of an array with a queue uses the queue's next port.
+use Rattle.std.specs.Prelude.{ℕ, cond, List, [], ◌∷◌, set, slice_get, false, true, Option, Some, None}
 use Rattle.el_base.specs.declared.ty.Array.{Array}
 use Rattle.el_base.specs.declared.operation.Op1.{Op1 as Unary}
 use Rattle.el_base.specs.declared.operation.Op2.{Op2 as Binary}
 use Rattle.el_base.specs.Widths.{ty_width, op1_out, op2_out}
 use Rattle.ir.specs.declared.instr.Instr.{Instr}
 use Rattle.ir.specs.declared.instr.Instr.TheVariants as step
-use Rattle.net_types.specs.declared.net.Unit.TheVariants.{Const, Op1, Op2, Select, Fork, Read}
+use Rattle.net_types.specs.declared.net.Unit.TheVariants.{Const, Op1, Op2, Select, Read}
 use Rattle.net_types.specs.Nets.{at}
 use Rattle.circuit_build.specs.declared.draft.Draft.{Draft}
 use Rattle.circuit_build.specs.declared.draft.Queue.{Queue}
-use Rattle.circuit_build.specs.Drafts.{number, next, with_unit, with_chan, with_control, fed, defined, undefined, triggered, trigger_of, buffered, copied, copy_of}
-
--- a sum of 32 bits; past them the greatest number
-abbrev pub plus : ℕ → ℕ → ℕ
-plus a b = number (a + b)
+use Rattle.circuit_build.specs.Drafts.{plus, next, with_unit, with_chan, with_control, fed, uses_of_next, defined, undefined, triggered, trigger_of, copied, copy_of}
+use Rattle.circuit_build.specs.Uses.{is_laid}
 
 -- ---- queues
 
@@ -49,9 +46,9 @@ next_group q = record q { group = plus q.group 1 }
 abbrev pub through_queue : Queue → ℕ → Draft → Draft
 through_queue q p d = with_control (at q.unit p) (with_chan d.control (at q.unit p) 32 true d)
 
--- the next group of a queue is allocated, and the control token passes a buffer, so that its end is the block's own
+-- the next group of a queue is allocated
 abbrev pub group_taken : ℕ → Queue → Draft → Draft
-group_taken a q d = with_queue a (next_group q) (buffered (through_queue q q.group d))
+group_taken a q d = with_queue a (next_group q) (through_queue q q.group d)
 
 abbrev pub allocated_by : ℕ → Option Queue → Draft → Draft
 allocated_by a None d = d
@@ -65,25 +62,25 @@ allocated a d = allocated_by a (queue_of d a) d
 abbrev pub const_laid : ℕ → ℕ → Draft → Draft
 const_laid w n d =
     let e = triggered d in
-    defined (next e) w (fed (trigger_of d) (next e) 0 (with_unit (Const w n) e))
+    defined (at (next e) 0) w (fed (trigger_of d) (next e) 0 (with_unit (Const w n) e))
 
 abbrev pub one_laid : Unary → ℕ → Draft → Draft
 one_laid op a d =
     let e = copied a d in
-    defined (next e) (op1_out op) (fed (copy_of a d) (next e) 0 (with_unit (Op1 op) e))
+    defined (at (next e) 0) (op1_out op) (fed (copy_of a d) (next e) 0 (with_unit (Op1 op) e))
 
 abbrev pub two_laid : Binary → ℕ → ℕ → Draft → Draft
 two_laid op a b d =
     let e = copied a d in
     let f = copied b e in
-    defined (next f) (op2_out op) (fed (copy_of b e) (next f) 1 (fed (copy_of a d) (next f) 0 (with_unit (Op2 op) f)))
+    defined (at (next f) 0) (op2_out op) (fed (copy_of b e) (next f) 1 (fed (copy_of a d) (next f) 0 (with_unit (Op2 op) f)))
 
 abbrev pub select_laid : ℕ → ℕ → ℕ → ℕ → Draft → Draft
 select_laid w c a b d =
     let e = copied c d in
     let f = copied a e in
     let g = copied b f in
-    defined (next g) w (fed (copy_of b f) (next g) 2 (fed (copy_of a e) (next g) 1 (fed (copy_of c d) (next g) 0 (with_unit (Select w) g))))
+    defined (at (next g) 0) w (fed (copy_of b f) (next g) 2 (fed (copy_of a e) (next g) 1 (fed (copy_of c d) (next g) 0 (with_unit (Select w) g))))
 
 -- ---- loads and stores
 
@@ -97,13 +94,13 @@ width_at arrays a = element_width (slice_get arrays a)
 abbrev pub read_laid : ℕ → ℕ → ℕ → Draft → Draft
 read_laid a w p d =
     let e = copied p d in
-    defined (next e) w (fed (copy_of p d) (next e) 0 (with_unit (Read a) e))
+    defined (at (next e) 0) w (fed (copy_of p d) (next e) 0 (with_unit (Read a) e))
 
--- the address goes to the port, and the port's value passes a buffer
+-- the address goes to the port, whose output has the value
 abbrev pub load_taken : Queue → ℕ → ℕ → ℕ → Draft → Draft
 load_taken q a w p d =
     let e = fed (copy_of p d) q.unit (addr_place q) (copied p d) in
-    with_queue a (next_port q) (defined (next e) w (with_chan (at q.unit (value_place q)) (at (next e) 0) w false (with_unit (Fork w 1) e)))
+    with_queue a (next_port q) (defined (at q.unit (value_place q)) w e)
 
 -- an array without a queue is only read
 abbrev pub load_by : Option Queue → ℕ → ℕ → ℕ → Draft → Draft
@@ -130,13 +127,16 @@ store_laid a p v d = store_by (queue_of d a) a p v d
 
 -- ---- all steps of a block, in order
 
+abbrev pub step_made : List Array → Instr → Draft → Draft
+step_made arrays (step.Const w n) d = const_laid w n d
+step_made arrays (step.One op a) d = one_laid op a d
+step_made arrays (step.Two op a b) d = two_laid op a b d
+step_made arrays (step.Select w c a b) d = select_laid w c a b d
+step_made arrays (step.Load a p) d = load_laid arrays a p d
+step_made arrays (step.Store a p v) d = store_laid a p v d
+
 abbrev pub step_laid : List Array → Instr → Draft → Draft
-step_laid arrays (step.Const w n) d = const_laid w n d
-step_laid arrays (step.One op a) d = one_laid op a d
-step_laid arrays (step.Two op a b) d = two_laid op a b d
-step_laid arrays (step.Select w c a b) d = select_laid w c a b d
-step_laid arrays (step.Load a p) d = load_laid arrays a p d
-step_laid arrays (step.Store a p v) d = store_laid a p v d
+step_laid arrays i d = cond (is_laid i (uses_of_next d)) (step_made arrays i d) (undefined d)
 
 abbrev pub steps_laid : List Array → List Instr → Draft → Draft
 steps_laid arrays [] d = d

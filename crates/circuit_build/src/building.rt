@@ -1,6 +1,7 @@
 //! The net of a block graph.
 ghost use Rattle.std.specs.Prelude.{◌≡◌, IfOk};
-ghost use Rattle.circuit_build.specs.Built.{whole_draft, built};
+ghost use Rattle.circuit_build.specs.Built.{front_of, with_blocks, whole_draft, built};
+ghost use Rattle.circuit_build.specs.Edges.{edge_counts};
 ghost use Rattle.circuit_build.specs.Follows.{CompletesIfAsked, FollowsIfAsked};
 ghost use Rattle.circuit_build.specs.Kept.{SharesIfAsked};
 
@@ -8,30 +9,39 @@ use crate::blocks::ins_of;
 use crate::draft::{Draft, number};
 use crate::edges::{count_at, edge_counts};
 use crate::fronts::start;
-use el_base::{Array, List, Memory, Scalar};
+use el_base::{Memory, copy_arrays, copy_scalars};
 use ir::{Groups, Ir};
 use net_core::spent_is_at_rest;
 use net_types::Net;
 use std::alloc::Global;
 
-fn copy_scalars(alloc: Global, scalars: &[Scalar]) -> Result<List<Scalar>, Memory>
-    ensures { IfOk result (λ ss. ss ≡ scalars.now) }
+// What stands before the blocks.
+fn lay_front(alloc: Global, graph: &Ir, groups: &Groups) -> Result<Draft, Memory>
+    ensures { IfOk result (λ d. d ≡ front_of graph.now groups.now) }
 {
-    let mut copies = List::new(alloc);
-    for scalar in scalars {
-        copies.push(scalar.copy()?)?;
-    }
-    Ok(copies)
+    let blocks = graph.blocks.as_slice();
+    let mut draft = start(alloc, blocks.len() + 1)?;
+    draft.enter(alloc, graph.scalars.as_slice())?;
+    draft.lay_queues(alloc, blocks, groups.of.as_slice(), graph.arrays.as_slice())?;
+    Ok(draft)
 }
 
-fn copy_arrays(alloc: Global, arrays: &[Array]) -> Result<List<Array>, Memory>
-    ensures { IfOk result (λ xs. xs ≡ arrays.now) }
+// That and the blocks, by the counts of edges.
+fn lay_to_blocks(
+    alloc: Global,
+    graph: &Ir,
+    groups: &Groups,
+    counts: &[u32],
+) -> Result<Draft, Memory>
+    requires { counts.now ≡ edge_counts graph.now.blocks }
+    ensures { IfOk result (λ d. d ≡ with_blocks graph.now groups.now) }
 {
-    let mut copies = List::new(alloc);
-    for array in arrays {
-        copies.push(array.copy()?)?;
-    }
-    Ok(copies)
+    let blocks = graph.blocks.as_slice();
+    let arrays = graph.arrays.as_slice();
+    let join = number(blocks.len());
+    let mut draft = lay_front(alloc, graph, groups)?;
+    draft.lay_blocks(alloc, arrays, join, counts, blocks, groups.of.as_slice())?;
+    Ok(draft)
 }
 
 // All units and channels.
@@ -39,18 +49,13 @@ fn lay_all(alloc: Global, graph: &Ir, groups: &Groups) -> Result<Draft, Memory>
     ensures { IfOk result (λ d. d ≡ whole_draft graph.now groups.now) }
 {
     let blocks = graph.blocks.as_slice();
-    let arrays = graph.arrays.as_slice();
-    let accesses = groups.of.as_slice();
     let join = number(blocks.len());
     let counts = edge_counts(alloc, blocks)?;
     let counts = counts.as_slice();
-    let mut draft = start(alloc)?;
-    draft.enter(alloc, graph.scalars.as_slice())?;
-    draft.lay_queues(alloc, blocks, accesses, arrays)?;
-    draft.lay_blocks(alloc, arrays, join, counts, blocks, accesses)?;
-    draft.lay_join(alloc, ins_of(counts, join), graph.result)?;
+    let mut draft = lay_to_blocks(alloc, graph, groups, counts)?;
     draft.lay_feeders(alloc, counts, blocks)?;
     draft.lay_last_feeder(alloc, count_at(counts, join), join, graph.result)?;
+    draft.lay_join(alloc, ins_of(counts, join), join, graph.result)?;
     draft.connect(alloc, blocks.len() + 1)?;
     Ok(draft)
 }

@@ -1,23 +1,6 @@
 //! A net under construction.
 ghost use Rattle.std.specs.Prelude.{◌≡◌, ◌++◌, ◌∷◌, [], IfOk, OnOk, Some};
-ghost use Rattle.circuit_build.specs.Drafts.{
-  number,
-  next,
-  end_of,
-  with_unit,
-  with_chan,
-  with_control,
-  with_end,
-  fed,
-  defined,
-  undefined,
-  triggered,
-  trigger_of,
-  buffered,
-  copied,
-  copy_of,
-  sunk,
-};
+ghost use Rattle.circuit_build.specs.Drafts.{number, next, end_of, with_unit, with_chan, used, fed, undefined, buffered, sunk, spread, spread_end, uses_of_next, defined, control_forked, triggered, trigger_of, copied, copy_of};
 
 use el_base::{List, Memory};
 use net_types::{Chan, Place, Unit};
@@ -46,16 +29,20 @@ pub struct Queue {
     pub port: u32,
 }
 
-/// A net under construction: its units and channels so far, the ends of the control token and of the values of the open
-/// block, none for a step without a value, the edges that are to be laid, the unit of each head, and the queue of each
-/// array that has one.
+/// A net under construction: its units and channels so far, the end of the control token, the next output of the open
+/// block's control fork, how many uses each value of the open block has and the end of its next use, none for a value
+/// without uses, the edges that are to be laid, for each target 1 and the number of its last edge, the unit of each merge,
+/// and the queue of each array that has one.
 #[derive(Drop)]
 pub struct Draft {
     pub units: List<Unit>,
     pub chans: List<Chan>,
     pub control: Place,
+    pub trigger: Place,
+    pub uses: List<u32>,
     pub ends: List<Option<End>>,
     pub edges: List<Edge>,
+    pub tails: List<u32>,
     pub heads: List<u32>,
     pub queues: List<Option<Queue>>,
 }
@@ -73,22 +60,54 @@ const NO_END: End = End {
     width: 0,
 };
 
+/// A use of a value of these ends: its end, which is the next output of its fork from then on.
+#[tactic(auto, using(std::proofs::lemmas::List::set_past))]
+pub(crate) fn take(ends: &mut List<Option<End>>, value: u32) -> End
+    ensures rest { ends.new ≡ used value ends.old }
+    ensures end { result ≡ end_of ends.old value }
+{
+    let end = end_of(ends.as_slice(), value);
+    let Place { unit, place } = end.place;
+    let place = place.saturating_add(1);
+    let next = End {
+        place: Place { unit, place },
+        width: end.width,
+    };
+    if (value as usize) < ends.len() {
+        ends.set(value as usize, Some(next));
+    }
+    end
+}
+
+// The end of a value.
+fn end_of(ends: &[Option<End>], value: u32) -> End
+    ensures { result ≡ end_of ends.now value }
+{
+    match ends.get(value as usize) {
+        Some(Some(end)) => *end,
+        Some(None) | None => NO_END,
+    }
+}
+
+impl Edge {
+    /// A copy of an edge.
+    pub(crate) fn copy(&self) -> Result<Edge, Memory>
+        ensures { IfOk result (λ edge. edge ≡ self.now) }
+    {
+        Ok(Edge {
+            to: self.to,
+            control: self.control,
+            with: self.with.copy()?,
+        })
+    }
+}
+
 impl Draft {
     /// The number of the next unit.
     pub(crate) fn next(&self) -> u32
         ensures { result ≡ next self.now }
     {
         number(self.units.len())
-    }
-
-    /// The end of a value.
-    pub(crate) fn end(&self, value: u32) -> End
-        ensures { result ≡ end_of self.now.ends value }
-    {
-        match self.ends.as_slice().get(value as usize) {
-            Some(Some(end)) => *end,
-            Some(None) | None => NO_END,
-        }
     }
 
     /// Lays a unit, whose number it returns.
@@ -128,14 +147,43 @@ impl Draft {
         self.wire(end.place, Place { unit, place }, end.width, false)
     }
 
-    /// The next value of the block stands at output 0 of a unit.
-    pub(crate) fn define(&mut self, unit: u32, width: u32) -> Result<(), Memory>
-        ensures { OnOk result (self.new ≡ defined unit width self.old) }
+    /// How many uses the next value of the block has.
+    pub(crate) fn uses_of_next(&self) -> u32
+        ensures { result ≡ uses_of_next self.now }
     {
-        self.ends.push(Some(End {
+        let number = self.ends.len();
+        self.uses.as_slice().get(number).copied().unwrap_or(0)
+    }
+
+    /// The end of a value that has so many uses: a fork with an output for each, where there are more than one, and a sink
+    /// where there is none.
+    pub(crate) fn spread(&mut self, end: End, uses: u32) -> Result<Option<End>, Memory>
+        ensures draft { OnOk result (self.new ≡ spread end uses self.old) }
+        ensures end { IfOk result (λ e. e ≡ spread_end end uses self.old) }
+    {
+        if uses == 0 {
+            self.sink(end)?;
+            return Ok(None);
+        }
+        if uses == 1 {
+            return Ok(Some(end));
+        }
+        let width = end.width;
+        let unit = self.put(Unit::Fork { width, outs: uses })?;
+        self.feed(end, unit, 0)?;
+        Ok(Some(End {
             place: Place { unit, place: 0 },
             width,
         }))
+    }
+
+    /// The next value of the block stands at a place.
+    pub(crate) fn define(&mut self, place: Place, width: u32) -> Result<(), Memory>
+        ensures { OnOk result (self.new ≡ defined place width self.old) }
+    {
+        let uses = self.uses_of_next();
+        let end = self.spread(End { place, width }, uses)?;
+        self.ends.push(end)
     }
 
     /// The next step of the block has no value.
@@ -145,18 +193,32 @@ impl Draft {
         self.ends.push(None)
     }
 
-    /// A copy of the control token for one use: a fork whose output 0 carries the control token from now on.
-    pub(crate) fn trigger(&mut self) -> Result<End, Memory>
-        ensures draft { OnOk result (self.new ≡ triggered self.old) }
-        ensures copy { IfOk result (λ e. e ≡ trigger_of self.old) }
+    /// The control token passes a fork with so many outputs beside the one by which it goes on, where there are any.
+    pub(crate) fn fork_control(&mut self, triggers: u32) -> Result<(), Memory>
+        ensures { OnOk result (self.new ≡ control_forked triggers self.old) }
     {
-        let unit = self.put(Unit::Fork { width: 32, outs: 2 })?;
+        if triggers == 0 {
+            return Ok(());
+        }
+        let outs = triggers.saturating_add(1);
+        let unit = self.put(Unit::Fork { width: 32, outs })?;
         self.wire(self.control, Place { unit, place: 0 }, 32, true)?;
         self.control = Place { unit, place: 0 };
-        Ok(End {
-            place: Place { unit, place: 1 },
-            width: 32,
-        })
+        self.trigger = Place { unit, place: 1 };
+        Ok(())
+    }
+
+    /// The next copy of the control token.
+    pub(crate) fn next_trigger(&mut self) -> End
+        ensures draft { self.new ≡ triggered self.old }
+        ensures end { result ≡ trigger_of self.old }
+    {
+        let place = self.trigger;
+        self.trigger = Place {
+            unit: place.unit,
+            place: place.place.saturating_add(1),
+        };
+        End { place, width: 32 }
     }
 
     /// The control token passes a fork with one output.
@@ -169,35 +231,12 @@ impl Draft {
         Ok(())
     }
 
-    /// A copy of a value for one use: a fork whose output 0 carries the value from now on.
-    pub(crate) fn copy(&mut self, value: u32) -> Result<End, Memory>
-        ensures draft { OnOk result (self.new ≡ copied value self.old) }
-        ensures copy { IfOk result (λ e. e ≡ copy_of value self.old) }
+    /// A use of a value: its end, which is the next output of its fork from then on.
+    pub(crate) fn copy(&mut self, value: u32) -> End
+        ensures draft { self.new ≡ copied value self.old }
+        ensures end { result ≡ copy_of value self.old }
     {
-        let end = self.end(value);
-        let width = end.width;
-        let unit = self.put(Unit::Fork { width, outs: 2 })?;
-        self.feed(end, unit, 0)?;
-        self.set_end(
-            value,
-            End {
-                place: Place { unit, place: 0 },
-                width,
-            },
-        );
-        Ok(End {
-            place: Place { unit, place: 1 },
-            width,
-        })
-    }
-
-    // Another end for a value.
-    fn set_end(&mut self, value: u32, end: End)
-        ensures { self.new ≡ with_end value end self.old }
-    {
-        if (value as usize) < self.ends.len() {
-            self.ends.set(value as usize, Some(end));
-        }
+        take(&mut self.ends, value)
     }
 
     /// An end goes to a sink.

@@ -1,13 +1,13 @@
 //! The edges between blocks.
 ghost use Rattle.std.specs.Prelude.{◌≡◌, get_or, length, IfOk, OnOk};
+ghost use Rattle.circuit_build.specs.Uses.{zeros};
 ghost use Rattle.circuit_build.specs.Edges.{
-  zeros,
-  raised,
-  sides_counted,
-  edge_counts,
   data_laid,
   edge_laid,
   connected,
+  raised,
+  sides_counted,
+  edge_counts,
 };
 
 use crate::draft::{Draft, Edge, End, number};
@@ -17,7 +17,7 @@ use net_types::Place;
 use std::alloc::Global;
 
 #[tactic(auto, using(crate::proofs::Tables::zeros_more))]
-fn zeros(alloc: Global, targets: usize) -> Result<List<u32>, Memory>
+pub(crate) fn zeros(alloc: Global, targets: usize) -> Result<List<u32>, Memory>
     ensures { IfOk result (λ table. table ≡ zeros targets) }
 {
     let mut table = List::new(alloc);
@@ -72,23 +72,26 @@ pub(crate) fn edge_counts(alloc: Global, blocks: &[Block]) -> Result<List<u32>, 
 }
 
 impl Draft {
-    // The channels of the values of an edge.
+    // The channels of the values of an edge, each to a mux of its own.
     fn lay_data(&mut self, mux: u32, place: u32, ends: &[End]) -> Result<(), Memory>
         ensures { OnOk result (self.new ≡ data_laid mux place ends.now self.old) }
     {
         let mut mux = mux;
         for end in ends {
             self.feed(*end, mux, place)?;
-            mux = mux.saturating_add(2);
+            mux = mux.saturating_add(1);
         }
         Ok(())
     }
 
-    // The channels of an edge of a number at its target.
+    // The channels of an edge of a number at the merge of its target, where that has one. No merge is unit 0.
     fn lay_edge(&mut self, number: u32, edge: &Edge) -> Result<(), Memory>
         ensures { OnOk result (self.new ≡ edge_laid number edge.now self.old) }
     {
         let unit = count_at(self.heads.as_slice(), edge.to);
+        if unit == 0 {
+            return Ok(());
+        }
         let head = Place {
             unit,
             place: number,
@@ -101,7 +104,7 @@ impl Draft {
         )
     }
 
-    /// The channels of all edges, of so many targets.
+    /// The channels of all edges to merges, of so many targets.
     pub(crate) fn connect(&mut self, alloc: Global, targets: usize) -> Result<(), Memory>
         ensures { OnOk result (self.new ≡ connected targets self.old) }
     {

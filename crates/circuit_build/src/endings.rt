@@ -6,18 +6,14 @@ ghost use Rattle.circuit_build.specs.Endings.{
   all_ended,
   exited,
   join_laid,
-  zero_laid,
   zeros_laid,
   zero_ends,
-  fed_by_itself,
   feeder_laid,
   feeder_if,
   feeders_laid,
 };
-ghost use Rattle.circuit_build.specs.Drafts.{next, triggered};
-ghost use Rattle.net_types.specs.Nets.{at};
 
-use crate::draft::{Draft, End, Queue};
+use crate::draft::{Draft, End, Queue, number};
 use crate::edges::count_at;
 use el_base::{List, Memory, Ty};
 use ir::Block;
@@ -52,7 +48,7 @@ impl Draft {
         self.wire(self.control, Place { unit, place: 0 }, 32, true)?;
         match returned {
             Some(_) => {
-                let end = self.end(0);
+                let end = self.copy(0);
                 self.feed(end, unit, 1)
             }
             None => Ok(()),
@@ -64,62 +60,54 @@ impl Draft {
         &mut self,
         alloc: Global,
         ins: u32,
+        join: u32,
         returned: Option<Ty>,
     ) -> Result<(), Memory>
-        ensures { OnOk result (self.new ≡ join_laid ins returned self.old) }
+        ensures { OnOk result (self.new ≡ join_laid ins join returned self.old) }
     {
         match returned {
-            Some(ty) => self.lay_head(alloc, ins, &[ty.width()])?,
-            None => self.lay_head(alloc, ins, &[])?,
+            Some(ty) => {
+                let mut uses = List::new(alloc);
+                uses.push(1)?;
+                self.lay_head(alloc, ins, join, &[ty.width()], uses, 0)?;
+            }
+            None => self.lay_head(alloc, ins, join, &[], List::new(alloc), 0)?,
         }
         self.end_queues()?;
         self.lay_exit(returned)
     }
 
-    // A zero, which a copy of the control token triggers.
-    fn lay_zero(&mut self, width: u32) -> Result<End, Memory>
-        ensures draft { OnOk result (self.new ≡ zero_laid width self.old) }
-        ensures end { IfOk result (λ e. e ≡ record {
-          place = at (next (triggered self.old)) 0;
-          width = width;
-        }) }
-    {
-        let trigger = self.trigger()?;
-        let unit = self.put(Unit::Const { width, value: 0 })?;
-        self.feed(trigger, unit, 0)?;
-        Ok(End {
-            place: Place { unit, place: 0 },
-            width,
-        })
-    }
-
+    // A zero for each of these widths, which a copy of the control token triggers.
     fn lay_zeros(&mut self, alloc: Global, args: &[u32]) -> Result<List<End>, Memory>
         ensures draft { OnOk result (self.new ≡ zeros_laid args.now self.old) }
         ensures ends { IfOk result (λ es. es ≡ zero_ends args.now self.old) }
     {
         let mut ends = List::new(alloc);
         for width in args {
-            let end = self.lay_zero(*width)?;
-            ends.push(end)?;
+            let trigger = self.next_trigger();
+            let unit = self.put(Unit::Const {
+                width: *width,
+                value: 0,
+            })?;
+            self.feed(trigger, unit, 0)?;
+            ends.push(End {
+                place: Place { unit, place: 0 },
+                width: *width,
+            })?;
         }
         Ok(ends)
     }
 
-    // A branch of control that never fires, since it feeds itself.
-    fn feed_itself(&mut self) -> Result<(), Memory>
-        ensures { OnOk result (self.new ≡ fed_by_itself self.old) }
+    // A branch of control that never fires, since it feeds itself, and zeros.
+    fn lay_feeder(&mut self, alloc: Global, target: u32, args: &[u32]) -> Result<(), Memory>
+        ensures { OnOk result (self.new ≡ feeder_laid target args.now self.old) }
     {
         let unit = self.put(Unit::Branch { width: 32 })?;
         self.wire(Place { unit, place: 1 }, Place { unit, place: 1 }, 32, true)?;
         self.control = Place { unit, place: 0 };
-        let trigger = self.trigger()?;
-        self.feed(trigger, unit, 0)
-    }
-
-    fn lay_feeder(&mut self, alloc: Global, target: u32, args: &[u32]) -> Result<(), Memory>
-        ensures { OnOk result (self.new ≡ feeder_laid target args.now self.old) }
-    {
-        self.feed_itself()?;
+        self.fork_control(number(args.len()).saturating_add(1))?;
+        let trigger = self.next_trigger();
+        self.feed(trigger, unit, 0)?;
         let ends = self.lay_zeros(alloc, args)?;
         self.lead(target, self.control, ends)
     }
@@ -149,7 +137,8 @@ impl Draft {
         join: u32,
         returned: Option<Ty>,
     ) -> Result<(), Memory>
-        ensures { OnOk result (self.new ≡ feeder_if count join (result_widths returned) self.old) }
+        ensures { OnOk result (self.new
+            ≡ feeder_if count join (result_widths returned) self.old) }
     {
         match returned {
             Some(ty) => self.lay_feeder_if(alloc, count, join, &[ty.width()]),
@@ -164,7 +153,8 @@ impl Draft {
         counts: &[u32],
         blocks: &[Block],
     ) -> Result<(), Memory>
-        ensures { OnOk result (self.new ≡ feeders_laid counts.now 0 blocks.now self.old) }
+        ensures { OnOk result (self.new
+            ≡ feeders_laid counts.now 0 blocks.now self.old) }
     {
         let mut target: u32 = 0;
         for block in blocks {

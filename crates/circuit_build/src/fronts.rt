@@ -27,14 +27,15 @@ ghost use Rattle.circuit_build.specs.Sorting.{
 };
 
 use crate::draft::{Draft, End, Queue, number};
+use crate::edges::zeros;
 use el_base::{Array, List, Memory, Scalar};
 use ir::{Access, Block, Instr};
 use net_types::{Place, Port, Unit};
 use std::alloc::Global;
 
 /// A net with its entry alone.
-pub(crate) fn start(alloc: Global) -> Result<Draft, Memory>
-    ensures { IfOk result (λ d. d ≡ started) }
+pub(crate) fn start(alloc: Global, targets: usize) -> Result<Draft, Memory>
+    ensures { IfOk result (λ d. d ≡ started targets) }
 {
     let mut units = List::new(alloc);
     units.push(Unit::Entry)?;
@@ -42,8 +43,11 @@ pub(crate) fn start(alloc: Global) -> Result<Draft, Memory>
         units,
         chans: List::new(alloc),
         control: Place { unit: 0, place: 0 },
+        trigger: Place { unit: 0, place: 0 },
+        uses: List::new(alloc),
         ends: List::new(alloc),
         edges: List::new(alloc),
+        tails: zeros(alloc, targets)?,
         heads: List::new(alloc),
         queues: List::new(alloc),
     })

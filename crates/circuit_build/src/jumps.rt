@@ -1,102 +1,165 @@
-//! The jumps of blocks, and what is left after them.
-ghost use Rattle.std.specs.Prelude.{◌≡◌, IfOk, OnOk};
-ghost use Rattle.circuit_build.specs.Drafts.{next, copied};
+//! The jumps of blocks.
+ghost use Rattle.std.specs.Prelude.{◌≡◌, cond, true, length, IfOk, OnOk};
+ghost use Rattle.circuit_build.specs.Drafts.{number, next, buffered, copied};
 ghost use Rattle.circuit_build.specs.Jumps.{
   with_edge,
-  all_copied,
-  copies_of,
+  head_end,
+  is_of_head,
+  passed,
+  passed_end,
+  all_passed,
+  passed_ends,
   gone,
   branched,
-  branch_end,
-  all_branched,
   branch_ends,
+  branched_if,
+  sides_if,
+  all_branched,
+  all_sides,
+  yes_ends,
+  no_ends,
+  taken,
   control_branched,
   parted,
   jump_laid,
-  sunk_if_any,
-  swept,
 };
 
-use crate::draft::{Draft, Edge, End};
+use crate::draft::{Draft, Edge, End, number, take};
+use crate::edges::count_at;
+use crate::uses::handed;
 use el_base::{List, Memory};
 use ir::{Jump, To};
 use net_types::{Place, Unit};
 use std::alloc::Global;
 
+/// What stands for a value that a side does not hand on.
+const NO_END: Option<End> = None;
+
+// Past the units of a head with so many arguments: the merge, and where there are arguments the fork of its token and the
+// muxes.
+fn head_end(head: u32, args: u32) -> u32
+    ensures { result ≡ head_end head args }
+{
+    if args == 0 {
+        head.saturating_add(1)
+    } else {
+        head.saturating_add(2).saturating_add(args)
+    }
+}
+
+// Whether a place is of a unit of a head with so many arguments.
+fn is_of_head(place: Place, head: u32, args: u32) -> bool
+    ensures { result ≡ is_of_head place head args }
+{
+    head > 0 && head <= place.unit && place.unit < head_end(head, args)
+}
+
+// The ends that a side hands on, a use of each value in order.
+fn take_all(alloc: Global, ends: List<Option<End>>, values: &[u32]) -> Result<List<End>, Memory>
+    ensures { IfOk result (λ es. es ≡ taken values.now ends) }
+{
+    let mut rest = ends;
+    let mut with = List::new(alloc);
+    for value in values {
+        let end = take(&mut rest, *value);
+        with.push(end)?;
+    }
+    Ok(with)
+}
+
 impl Draft {
     /// An edge to a target.
+    #[tactic(auto, using(std::proofs::lemmas::List::set_past))]
     pub(crate) fn lead(&mut self, to: u32, control: Place, with: List<End>) -> Result<(), Memory>
         ensures { OnOk result (self.new ≡ with_edge to control with self.old) }
     {
-        self.edges.push(Edge { to, control, with })
+        self.edges.push(Edge { to, control, with })?;
+        let count = number(self.edges.len());
+        if (to as usize) < self.tails.len() {
+            self.tails.set(to as usize, count);
+        }
+        Ok(())
     }
 
-    // A copy of each value.
-    fn copy_all(&mut self, alloc: Global, values: &[u32]) -> Result<List<End>, Memory>
-        ensures draft { OnOk result (self.new ≡ all_copied values.now self.old) }
-        ensures copies { IfOk result (λ es. es ≡ copies_of values.now self.old) }
+    // A value passes a fork with one output.
+    fn buffered(&mut self, end: End) -> Result<End, Memory>
+        ensures draft { OnOk result (self.new ≡ passed true end self.old) }
+        ensures end { IfOk result (λ e. e ≡ passed_end true end self.old) }
     {
-        let mut copies = List::new(alloc);
+        let width = end.width;
+        let unit = self.put(Unit::Fork { width, outs: 1 })?;
+        self.feed(end, unit, 0)?;
+        Ok(End {
+            place: Place { unit, place: 0 },
+            width,
+        })
+    }
+
+    // What would lead from a unit of a target's head to one passes a buffer, since no unit fires while its output is full.
+    fn pass_if(&mut self, passes: bool, end: End) -> Result<End, Memory>
+        ensures draft { OnOk result (self.new ≡ passed passes end self.old) }
+        ensures end { IfOk result (λ e. e ≡ passed_end passes end self.old) }
+    {
+        if passes { self.buffered(end) } else { Ok(end) }
+    }
+
+    // The ends of the values that are handed on to a target with a head.
+    fn pass_all(&mut self, alloc: Global, head: u32, values: &[u32]) -> Result<List<End>, Memory>
+        ensures draft { OnOk result (self.new
+            ≡ all_passed head (number (length values.now)) values.now self.old) }
+        ensures ends { IfOk result (λ es. es
+            ≡ passed_ends head (number (length values.now)) values.now self.old) }
+    {
+        let args = number(values.len());
+        let mut ends = List::new(alloc);
         for value in values {
-            let copy = self.copy(*value)?;
-            copies.push(copy)?;
+            let end = self.copy(*value);
+            let end = self.pass_if(is_of_head(end.place, head, args), end)?;
+            ends.push(end)?;
         }
-        Ok(copies)
+        Ok(ends)
+    }
+
+    // The control token, too, passes a buffer where it would lead from the target's head to that.
+    fn buffer_if(&mut self, passes: bool) -> Result<(), Memory>
+        ensures { OnOk result (self.new ≡ cond passes (buffered self.old) self.old) }
+    {
+        if passes { self.buffer() } else { Ok(()) }
     }
 
     // To one target.
     fn go(&mut self, alloc: Global, to: u32, values: &[u32]) -> Result<(), Memory>
         ensures { OnOk result (self.new ≡ gone to values.now self.old) }
     {
-        let copies = self.copy_all(alloc, values)?;
-        self.buffer()?;
-        self.lead(to, self.control, copies)
+        let head = count_at(self.heads.as_slice(), to);
+        let ends = self.pass_all(alloc, head, values)?;
+        self.buffer_if(is_of_head(self.control, head, number(values.len())))?;
+        self.lead(to, self.control, ends)
     }
 
-    // A value for the side of one output of a branch; for the other side it goes to a sink.
-    fn branch(&mut self, kept: u32, dropped: u32, cond: u32, value: u32) -> Result<End, Memory>
-        ensures draft { OnOk result (self.new ≡ branched kept dropped cond value self.old) }
-        ensures end { IfOk result (λ e. e ≡ branch_end kept cond value self.old) }
+    // A branch of a value, whose outputs go to the sides that hand it on so often.
+    fn branch(
+        &mut self,
+        cond: u32,
+        value: u32,
+        for_yes: u32,
+        for_no: u32,
+    ) -> Result<(Option<End>, Option<End>), Memory>
+        ensures draft { OnOk result (self.new ≡ branched cond value for_yes for_no self.old) }
+        ensures yes { IfOk result (λ es. es.0 ≡ (branch_ends cond value for_yes for_no self.old).yes_end) }
+        ensures no { IfOk result (λ es. es.1 ≡ (branch_ends cond value for_yes for_no self.old).no_end) }
     {
-        let cond = self.copy(cond)?;
-        let value = self.copy(value)?;
+        let cond = self.copy(cond);
+        let value = self.copy(value);
         let width = value.width;
         let unit = self.put(Unit::Branch { width })?;
         self.feed(cond, unit, 0)?;
         self.feed(value, unit, 1)?;
-        self.sink(End {
-            place: Place {
-                unit,
-                place: dropped,
-            },
-            width,
-        })?;
-        Ok(End {
-            place: Place { unit, place: kept },
-            width,
-        })
-    }
-
-    // The values for one side of a jump.
-    fn branch_all(
-        &mut self,
-        alloc: Global,
-        kept: u32,
-        dropped: u32,
-        cond: u32,
-        values: &[u32],
-    ) -> Result<List<End>, Memory>
-        ensures draft { OnOk result (self.new
-            ≡ all_branched kept dropped cond values.now self.old) }
-        ensures ends { IfOk result (λ es. es
-            ≡ branch_ends kept dropped cond values.now self.old) }
-    {
-        let mut ends = List::new(alloc);
-        for value in values {
-            let end = self.branch(kept, dropped, cond, *value)?;
-            ends.push(end)?;
-        }
-        Ok(ends)
+        let place = Place { unit, place: 0 };
+        let yes = self.spread(End { place, width }, for_yes)?;
+        let place = Place { unit, place: 1 };
+        let no = self.spread(End { place, width }, for_no)?;
+        Ok((yes, no))
     }
 
     // The control token passes a branch, whose number is returned.
@@ -104,22 +167,78 @@ impl Draft {
         ensures draft { OnOk result (self.new ≡ control_branched cond self.old) }
         ensures unit { IfOk result (λ u. u ≡ next (copied cond self.old)) }
     {
-        let cond = self.copy(cond)?;
+        let cond = self.copy(cond);
         let unit = self.put(Unit::Branch { width: 32 })?;
         self.feed(cond, unit, 0)?;
         self.wire(self.control, Place { unit, place: 1 }, 32, true)?;
         Ok(unit)
     }
 
+    // A branch of a value, where a side hands it on.
+    fn branch_if(
+        &mut self,
+        cond: u32,
+        value: u32,
+        for_yes: u32,
+        for_no: u32,
+    ) -> Result<(Option<End>, Option<End>), Memory>
+        ensures draft { OnOk result (self.new ≡ branched_if cond value for_yes for_no self.old) }
+        ensures yes { IfOk result (λ es. es.0
+            ≡ (sides_if cond value for_yes for_no self.old).yes_end) }
+        ensures no { IfOk result (λ es. es.1
+            ≡ (sides_if cond value for_yes for_no self.old).no_end) }
+    {
+        if for_yes == 0 && for_no == 0 {
+            return Ok((NO_END, NO_END));
+        }
+        self.branch(cond, value, for_yes, for_no)
+    }
+
+    // A branch of each value that a side hands on; the ends of the values for both sides.
+    fn branch_all(
+        &mut self,
+        alloc: Global,
+        cond: u32,
+        for_yes: &[u32],
+        for_no: &[u32],
+    ) -> Result<(List<Option<End>>, List<Option<End>>), Memory>
+        ensures draft { OnOk result (self.new
+            ≡ all_branched cond 0 for_yes.now for_no.now self.old) }
+        ensures yes { IfOk result (λ es. es.0
+            ≡ yes_ends (all_sides cond 0 for_yes.now for_no.now self.old)) }
+        ensures no { IfOk result (λ es. es.1
+            ≡ no_ends (all_sides cond 0 for_yes.now for_no.now self.old)) }
+    {
+        let mut yes = List::new(alloc);
+        let mut no = List::new(alloc);
+        let mut value: u32 = 0;
+        for count in for_yes {
+            let (yes_end, no_end) = self.branch_if(cond, value, *count, count_at(for_no, value))?;
+            yes.push(yes_end)?;
+            no.push(no_end)?;
+            value = value.saturating_add(1);
+        }
+        Ok((yes, no))
+    }
+
     // To one of two targets.
     fn part(&mut self, alloc: Global, cond: u32, yes: &To, no: &To) -> Result<(), Memory>
         ensures { OnOk result (self.new ≡ parted cond yes.now no.now self.old) }
     {
-        let yes_ends = self.branch_all(alloc, 0, 1, cond, yes.with.as_slice())?;
-        let no_ends = self.branch_all(alloc, 1, 0, cond, no.with.as_slice())?;
+        let values = self.ends.len();
+        let for_yes = handed(alloc, values, yes)?;
+        let for_no = handed(alloc, values, no)?;
+        let (yes_ends, no_ends) = self.branch_all(
+            alloc,
+            cond,
+            for_yes.as_slice(),
+            for_no.as_slice(),
+        )?;
         let unit = self.branch_control(cond)?;
-        self.lead(yes.block, Place { unit, place: 0 }, yes_ends)?;
-        self.lead(no.block, Place { unit, place: 1 }, no_ends)
+        let yes_with = take_all(alloc, yes_ends, yes.with.as_slice())?;
+        let no_with = take_all(alloc, no_ends, no.with.as_slice())?;
+        self.lead(yes.block, Place { unit, place: 0 }, yes_with)?;
+        self.lead(no.block, Place { unit, place: 1 }, no_with)
     }
 
     /// A jump; a return leads to the target `join`.
@@ -132,25 +251,5 @@ impl Draft {
             Jump::Return(Some(value)) => self.go(alloc, join, &[*value]),
             Jump::Return(None) => self.go(alloc, join, &[]),
         }
-    }
-
-    fn sink_if_any(&mut self, end: Option<End>) -> Result<(), Memory>
-        ensures { OnOk result (self.new ≡ sunk_if_any end self.old) }
-    {
-        match end {
-            Some(end) => self.sink(end),
-            None => Ok(()),
-        }
-    }
-
-    /// Each end that is left goes to a sink.
-    pub(crate) fn sweep(&mut self, alloc: Global) -> Result<(), Memory>
-        ensures { OnOk result (self.new ≡ swept self.old) }
-    {
-        let ends = std::mem::replace(&mut self.ends, List::new(alloc));
-        for end in ends.as_slice() {
-            self.sink_if_any(*end)?;
-        }
-        Ok(())
     }
 }

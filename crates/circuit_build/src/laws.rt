@@ -10,8 +10,8 @@ pub fn nets_are_plain()
     ensures slots { ChannelsHaveOneSlot }
 {}
 
-/// In the net of a graph of at most 32,768 blocks each fork, mux and control merge has 1 to 65,536 outputs or inputs:
-/// the rule of shapes holds of each unit that is no queue.
+/// In the net of a graph of at most 32,768 blocks, each of at most 14,336 steps and 1,024 arguments, each fork, mux and
+/// control merge has 1 to 65,536 outputs or inputs: the rule of shapes holds of each unit that is no queue.
 pub fn units_have_their_shape()
     ensures { UnitsHaveShape }
 {}

@@ -1,4 +1,5 @@
-//! From block graphs to nets: each use of a value is a fork, each jump an edge to the head of its target.
+//! From block graphs to nets: a value that is used more than once is a fork with an output for each use, and each jump an
+//! edge to the head of its target.
 #![tactic(auto)]
 
 mod blocks;
@@ -13,8 +14,7 @@ mod laws;
 mod port_laws;
 mod queues;
 mod steps;
-#[cfg(test)]
-mod tests;
+mod uses;
 
 pub use building::build;
 pub use follow_laws::circuits_follow;

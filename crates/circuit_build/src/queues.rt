@@ -1,7 +1,7 @@
 //! The places of queues that blocks use.
 ghost use Rattle.std.specs.Prelude.{◌≡◌, OnOk};
+ghost use Rattle.circuit_build.specs.Drafts.{plus};
 ghost use Rattle.circuit_build.specs.Steps.{
-  plus,
   queue_of,
   with_queue,
   value_place,
@@ -100,7 +100,6 @@ impl Draft {
         ensures { OnOk result (self.new ≡ group_taken array queue self.old) }
     {
         self.pass(queue, queue.group)?;
-        self.buffer()?;
         self.set_queue(array, queue.next_group());
         Ok(())
     }

@@ -16,6 +16,7 @@ ghost use Rattle.circuit_build.specs.Steps.{
 };
 
 use crate::draft::{Draft, Queue};
+use crate::uses::is_pure;
 use el_base::{Array, Memory, Op1, Op2};
 use ir::Instr;
 use net_types::{Place, Unit};
@@ -35,68 +36,66 @@ impl Draft {
     fn lay_const(&mut self, width: u32, value: u64) -> Result<(), Memory>
         ensures { OnOk result (self.new ≡ const_laid width value self.old) }
     {
-        let trigger = self.trigger()?;
+        let trigger = self.next_trigger();
         let unit = self.put(Unit::Const { width, value })?;
         self.feed(trigger, unit, 0)?;
-        self.define(unit, width)
+        self.define(Place { unit, place: 0 }, width)
     }
 
     fn lay_one(&mut self, op: Op1, a: u32) -> Result<(), Memory>
         ensures { OnOk result (self.new ≡ one_laid op a self.old) }
     {
-        let a = self.copy(a)?;
+        let a = self.copy(a);
         let unit = self.put(Unit::Op1(op))?;
         self.feed(a, unit, 0)?;
-        self.define(unit, op.result_width())
+        self.define(Place { unit, place: 0 }, op.result_width())
     }
 
     fn lay_two(&mut self, op: Op2, a: u32, b: u32) -> Result<(), Memory>
         ensures { OnOk result (self.new ≡ two_laid op a b self.old) }
     {
-        let a = self.copy(a)?;
-        let b = self.copy(b)?;
+        let a = self.copy(a);
+        let b = self.copy(b);
         let unit = self.put(Unit::Op2(op))?;
         self.feed(a, unit, 0)?;
         self.feed(b, unit, 1)?;
-        self.define(unit, op.result_width())
+        self.define(Place { unit, place: 0 }, op.result_width())
     }
 
     fn lay_select(&mut self, width: u32, cond: u32, yes: u32, no: u32) -> Result<(), Memory>
         ensures { OnOk result (self.new ≡ select_laid width cond yes no self.old) }
     {
-        let cond = self.copy(cond)?;
-        let yes = self.copy(yes)?;
-        let no = self.copy(no)?;
+        let cond = self.copy(cond);
+        let yes = self.copy(yes);
+        let no = self.copy(no);
         let unit = self.put(Unit::Select { width })?;
         self.feed(cond, unit, 0)?;
         self.feed(yes, unit, 1)?;
         self.feed(no, unit, 2)?;
-        self.define(unit, width)
+        self.define(Place { unit, place: 0 }, width)
     }
 
     // A load of an array that is only read.
     fn lay_read(&mut self, array: u32, width: u32, addr: u32) -> Result<(), Memory>
         ensures { OnOk result (self.new ≡ read_laid array width addr self.old) }
     {
-        let addr = self.copy(addr)?;
+        let addr = self.copy(addr);
         let unit = self.put(Unit::Read(array))?;
         self.feed(addr, unit, 0)?;
-        self.define(unit, width)
+        self.define(Place { unit, place: 0 }, width)
     }
 
     // A load by the next port of a queue.
     fn take_load(&mut self, queue: Queue, array: u32, width: u32, addr: u32) -> Result<(), Memory>
         ensures { OnOk result (self.new ≡ load_taken queue array width addr self.old) }
     {
-        let addr = self.copy(addr)?;
+        let addr = self.copy(addr);
         self.feed(addr, queue.unit, queue.addr_place())?;
-        let unit = self.put(Unit::Fork { width, outs: 1 })?;
         let value = Place {
             unit: queue.unit,
             place: queue.value_place(),
         };
-        self.wire(value, Place { unit, place: 0 }, width, false)?;
-        self.define(unit, width)?;
+        self.define(value, width)?;
         self.set_queue(array, queue.next_port());
         Ok(())
     }
@@ -115,8 +114,8 @@ impl Draft {
     fn take_store(&mut self, queue: Queue, array: u32, addr: u32, value: u32) -> Result<(), Memory>
         ensures { OnOk result (self.new ≡ store_taken queue array addr value self.old) }
     {
-        let addr = self.copy(addr)?;
-        let value = self.copy(value)?;
+        let addr = self.copy(addr);
+        let value = self.copy(value);
         self.feed(addr, queue.unit, queue.addr_place())?;
         self.feed(value, queue.unit, queue.data_place())?;
         self.define_nothing()?;
@@ -133,9 +132,13 @@ impl Draft {
         }
     }
 
+    // A step without a use that has no effect is left out.
     fn lay_step(&mut self, arrays: &[Array], step: &Instr) -> Result<(), Memory>
         ensures { OnOk result (self.new ≡ step_laid arrays.now step.now self.old) }
     {
+        if self.uses_of_next() == 0 && is_pure(step) {
+            return self.define_nothing();
+        }
         match *step {
             Instr::Const { width, value } => self.lay_const(width, value),
             Instr::One(op, a) => self.lay_one(op, a),

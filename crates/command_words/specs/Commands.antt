@@ -3,11 +3,11 @@ use Rattle.std.specs.Prelude.{◌≡◌, ◌≤◌, ◌<◌, ◌^◌, ℕ, Bool,
 use Rattle.std.specs.Borrow.{Bor}
 use Rattle.std.specs.declared.string.String.{String}
 use Rattle.std.specs.declared.alloc.Global.{Global}
+use Rattle.el_base.specs.Limits.{max_shared_firings}
 use Rattle.command_words.specs.declared.verb.Verb.{Verb}
 use Rattle.command_words.specs.declared.verb.PlainKind.{PlainKind}
 use Rattle.command_words.specs.declared.verb.PlainKind.TheVariants.{File, Seed}
 use Rattle.command_words.specs.declared.choice.Choice.TheVariants.{Delay, Slots, Workers, Limit, Turns, At, Count, Cycles, Log, Forward, Wrap}
-use Rattle.command_words.specs.declared.choice.TheConstants.{MAX_SHARED_FIRINGS}
 use Rattle.command_words.specs.declared.command.Chosen.{Chosen}
 use Rattle.command_words.specs.declared.command.Command.{Command as Read}
 use Rattle.command_words.specs.Tables.{Text, is_built, verb_word, plain_of, kind_of}
@@ -60,8 +60,8 @@ pub record AreChosen (items : List Item) (c : Chosen) : Type 0 where
 -- with workers no cycles are counted; with workers or a log the limit is lower
 pub record GoTogether (c : Chosen) : Type 0 where
   pub cycles : c.cycles ≡ true → c.workers ≡ None
-  pub logged : (n : ℕ) → c.limit ≡ Some n → c.log ≡ true → n ≤ MAX_SHARED_FIRINGS
-  pub shared : (n w : ℕ) → c.limit ≡ Some n → c.workers ≡ Some w → n ≤ MAX_SHARED_FIRINGS
+  pub logged : (n : ℕ) → c.limit ≡ Some n → c.log ≡ true → n ≤ max_shared_firings
+  pub shared : (n w : ℕ) → c.limit ≡ Some n → c.workers ≡ Some w → n ≤ max_shared_firings
 
 -- a plain word names a file, or is a number below 2 ^ 64
 abbrev pub IsPlainWord : PlainKind → Text → Type 0

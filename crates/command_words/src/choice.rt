@@ -84,9 +84,6 @@ pub struct ClassDelay {
     pub cycles: u64,
 }
 
-/// The greatest limit of a run by workers or with a log, in firings.
-pub const MAX_SHARED_FIRINGS: u64 = 16_000_000;
-
 /// All options.
 pub const CHOICES: [Choice; 11] = [
     Choice::Delay,

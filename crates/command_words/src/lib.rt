@@ -7,15 +7,10 @@ mod delays;
 mod items;
 mod laws;
 mod reading;
-#[cfg(test)]
-mod tests;
 mod values;
 mod verb;
 
-pub use choice::{
-    CHOICES, CLASSES, Choice, Class, ClassDelay, MAX_SHARED_FIRINGS, ValueKind, built_choices,
-    choices,
-};
+pub use choice::{CHOICES, CLASSES, Choice, Class, ClassDelay, ValueKind, built_choices, choices};
 pub use command::{Chosen, Command};
 pub use laws::words_spell_one_command;
 pub use reading::read_words;

@@ -9,12 +9,12 @@ ghost use Rattle.command_words.specs.declared.choice.ClassDelay.{ClassDelay};
 ghost use Rattle.command_words.specs.Values.{AreDelays};
 ghost use Rattle.command_words.specs.Steps.{with_delay};
 
-use crate::choice::{Choice, MAX_SHARED_FIRINGS};
+use crate::choice::Choice;
 use crate::command::{Chosen, Command};
 use crate::items::{Written, item_at, read_items};
 use crate::values::{delays, flag, number, numeral};
 use crate::verb::{PlainKind, Verb};
-use el_base::Memory;
+use el_base::{MAX_SHARED_FIRINGS, Memory};
 use std::alloc::Global;
 
 /// Reads the whole list of words as a command; `None` exactly where they spell none.

@@ -5,14 +5,14 @@ use Rattle.net_types.specs.declared.firing.Firing.{Firing}
 use Rattle.net_types.specs.Nets.{into, out_of, kind_of, uses, owns, chan_at}
 use Rattle.net_core.specs.Fire.{State, Row, Stop, Look, Take, Fires, Effect, effect_of, idle, row, setting, at_array, head_at, tokens_at, first, effect, has_room, moved, applied, changed_from, puts_on, takes_from, added, taken, written}
 use Rattle.net_core.specs.declared.plan.Put.{Put}
-use Rattle.net_core.specs.Uses.{used_by, then_used, AllSame}
+use Rattle.net_core.specs.Uses.{used_by, then_used, AllSame, used}
 use Rattle.net_core.proofs.Premises.{Alone}
 use Rattle.net_core.proofs.RowLemmas.{length-changed, get-changed}
 use Rattle.net_core.proofs.ApartLemmas.{not_taken, read_past}
 use Rattle.net_core.proofs.UsesLemmas.{rows_use_only}
 use Rattle.cycle_engine.specs.Rousing.{Could}
 use Rattle.std.specs.List.{AllByRecursion}
-use Rattle.cycle_engine.specs.Cycles.{Dated, dated, used, IsRipe, May, AreDated}
+use Rattle.cycle_engine.specs.Cycles.{Dated, dated, IsRipe, May, AreDated}
 
 -- the state after an effect of the unit v in the cycle c
 abbrev pub after_of : Net → ℕ → Dated → ℕ → Effect → Dated

@@ -11,10 +11,10 @@ use Rattle.net_types.specs.declared.firing.Firing.{Firing}
 use Rattle.net_types.specs.Nets.{into, out_of, kind_of, uses, chan_at}
 use Rattle.net_core.specs.Fire.{State, Own, Row, Stop, Look, Take, Fires, Effect, effect_of, with_head, taking, idle, row, setting, at_array, head_at, tokens_at, first, effect, has_room, enabled, moved, applied, changed_from, puts_on, takes_from, added, taken}
 use Rattle.net_core.specs.declared.plan.Put.{Put}
-use Rattle.net_core.specs.Uses.{used_by, then_used}
+use Rattle.net_core.specs.Uses.{used_by, then_used, used}
 use Rattle.net_core.proofs.RowLemmas.{length-changed, get-changed}
 use Rattle.std.specs.List.{AllByRecursion}
-use Rattle.cycle_engine.specs.Cycles.{Dated, dated, after_by, after_in, used, IsRipe, HasDepth, May, Makes, AreDated}
+use Rattle.cycle_engine.specs.Cycles.{Dated, dated, after_by, after_in, IsRipe, HasDepth, May, Makes, AreDated}
 use Rattle.cycle_engine.proofs.BeforeLemmas.{after_of, dated_put}
 
 -- each date is at most m

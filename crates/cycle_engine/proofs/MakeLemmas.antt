@@ -18,7 +18,8 @@ use Rattle.net_core.proofs.MoveLemmas.{chans_are, distinct_of, moves_are, slots_
 use Rattle.net_replay.specs.Finishes.{IsLogged}
 use Rattle.cycle_engine.specs.declared.engine.Engine.{Engine}
 use Rattle.cycle_engine.specs.declared.engine.Bounds.{Bounds}
-use Rattle.cycle_engine.specs.Cycles.{Dated, dated, after_by, after_in, AreDated, May, Makes, Once, InOrder, IsUnused, IsOldest, phase, place_of}
+use Rattle.lsq_core.specs.Laws.{phase}
+use Rattle.cycle_engine.specs.Cycles.{Dated, dated, after_by, after_in, AreDated, May, Makes, Once, InOrder, IsUnused, IsOldest, place_of}
 use Rattle.cycle_engine.specs.Cuts.{joined}
 use Rattle.cycle_engine.specs.private.Trials.{dated_of, IsEngine, IsBegun, dated_laid, dated_moves, dates_after}
 use Rattle.cycle_engine.specs.private.Goings.{Past, IsReady, InCycle, MayFollow, IsMade}

@@ -10,11 +10,13 @@ use Rattle.net_types.specs.declared.firing.Act.{Act}
 use Rattle.net_types.specs.declared.firing.Act.TheVariants.{Go, From, Send, Alloc, Addr, Data, Exec, Reply, Retire, End}
 use Rattle.net_types.specs.Nets.{into, out_of, kind_of, uses, chan_at, firing}
 use Rattle.net_core.specs.Fire.{State, Own, Row, Look, Take, Fires, Effect, Setting, effect_of, with_head, taking, on_go, when, put_at, idle, row, cmerge_row, fork_row, send_row, sent_to, setting, at_array, head_at, tokens_at, effect, has_room, moved, puts_on, takes_from, among, added, taken}
-use Rattle.net_core.specs.Uses.{used_by}
+use Rattle.net_core.specs.Uses.{used_by, used}
 use Rattle.net_core.proofs.RowLemmas.{get-changed}
 use Rattle.net_core.proofs.ApartLemmas.{same_in, same_out}
 use Rattle.net_core.proofs.ForkLemmas.{send_eff, send_inv}
-use Rattle.cycle_engine.specs.Cycles.{Dated, after_by, after_in, used, IsRipe, May, act_place, AreDated}
+use Rattle.net_core.proofs.PlanUses.{fork_act, fork_effect, fork_uses, send_does}
+use Rattle.lsq_core.specs.Laws.{act_place}
+use Rattle.cycle_engine.specs.Cycles.{Dated, after_by, after_in, IsRipe, May, AreDated}
 use Rattle.cycle_engine.specs.Rousing.{GoesTo, Stirs, OwnRouses}
 use Rattle.cycle_engine.proofs.BeforeLemmas.{after_of, IsLate, kept_free}
 use Rattle.cycle_engine.proofs.DateLemmas.{effect_there}
@@ -177,39 +179,6 @@ merge_own net c start s u ins a b e is ok ea ne late m =
             omega arith
 
 -- forks: a send that is not the last
-pub fork_act : (outs : ℕ) (a : Act) (o : Own) (xs : List ℕ) (h : ℕ → Option ℕ) (e : Effect) → effect_of (fork_row outs a o xs) h ≡ Some e → (j : ℕ) × (a ≡ Send j) × (effect_of (send_row outs j o xs) h ≡ Some e)
-fork_act outs (Send j) o xs h e q = (j, refl, q)
-fork_act outs Go o xs h e q = cc
-fork_act outs (From j) o xs h e q = cc
-fork_act outs (Alloc g) o xs h e q = cc
-fork_act outs (Addr p) o xs h e q = cc
-fork_act outs (Data p) o xs h e q = cc
-fork_act outs (Exec x) o xs h e q = cc
-fork_act outs (Reply p) o xs h e q = cc
-fork_act outs Retire o xs h e q = cc
-fork_act outs End o xs h e q = cc
-
-pub fork_effect : (net : Net) (u w outs : ℕ) → kind_of net u ≡ Fork w outs → (t : State) (a : Act) → effect net t (firing u a) ≡ effect_of (fork_row outs a (get_or t.own u idle) []) (head_at net t u)
-unfolding row
-fork_effect net u w outs is t a = ap (λ k. effect_of (row k a (get_or t.own u idle) (at_array t.arrays (uses k)) (setting net t)) (head_at net t u)) is
-
-pub fork_uses : (net : Net) (u w outs : ℕ) → kind_of net u ≡ Fork w outs → (t : State) (a : Act) → used net t (firing u a) ≡ used_by (fork_row outs a (get_or t.own u idle) []) (head_at net t u)
-unfolding row
-fork_uses net u w outs is t a = ap (λ k. used_by (row k a (get_or t.own u idle) (at_array t.arrays (uses k)) (setting net t)) (head_at net t u)) is
-
-pub send_does : (outs j : ℕ) (o : Own) (xs : List ℕ) (h : ℕ → Option ℕ) (v : ℕ) → (nat_lt j outs && not (get_or o.sent j true)) ≡ true → h 0 ≡ Some v
-    → (effect_of (send_row outs j o xs) h ≡ Some (send_eff j o xs v)) × (used_by (send_row outs j o xs) h ≡ 0 ∷ [])
-send_does outs j o xs h v g e = (rw g (does (list_all (λ b. b) (set o.sent j true))), rw g (uses_it (list_all (λ b. b) (set o.sent j true))))
-  where
-    does : (b : Bool) → effect_of (cond b (Take 0 (λ v. Fires (put_at j v) (record o { sent = sent_to j o.sent }) xs 0)) (Look 0 (λ v. Fires (put_at j v) (record o { sent = sent_to j o.sent }) xs 0))) h
-        ≡ Some (record { takes = cond b (0 ∷ []) []; put = put_at j v; own = record o { sent = sent_to j o.sent }; array = xs; strays = 0 })
-    does true = rw e refl
-    does false = rw e refl
-
-    uses_it : (b : Bool) → used_by (cond b (Take 0 (λ v. Fires (put_at j v) (record o { sent = sent_to j o.sent }) xs 0)) (Look 0 (λ v. Fires (put_at j v) (record o { sent = sent_to j o.sent }) xs 0))) h ≡ 0 ∷ []
-    uses_it true = rw e refl
-    uses_it false = rw e refl
-
 abbrev zero_if : Bool → List ℕ
 zero_if b = cond b (0 ∷ []) []
 

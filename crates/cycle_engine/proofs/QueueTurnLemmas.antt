@@ -16,13 +16,13 @@ use Rattle.net_check.specs.Cycles.{WaitsAfter, IsDelayed}
 use Rattle.net_check.specs.Ends.{is_lsq}
 use Rattle.lsq_core.specs.declared.entry.Entry.{Entry as Item}
 use Rattle.lsq_core.specs.Acts.{QueueState, can, step, exec, exec_value, in_place, out_place, is_serial, executed, rest}
-use Rattle.lsq_core.specs.Laws.{phase as lsq_phase, act_place as lsq_place}
+use Rattle.lsq_core.specs.Laws.{phase as lsq_phase, act_place as lsq_place, act_place, phase}
 use Rattle.lsq_core.proofs.JoinLemmas.{acts_join, stays_consistent}
 use Rattle.lsq_core.proofs.StayLemmas.{stays_refused}
 use Rattle.lsq_core.proofs.EntryLemmas.{length-first_changed}
 use Rattle.net_core.specs.declared.plan.Put.{Put}
 use Rattle.net_core.specs.Fire.{State, Own, Row, Take, Fires, Setting, Effect, effect_of, with_head, idle, row, go_row, on_go, queue_fires, gate, when, put_at, put_out, setting, at_array, head_at, tokens_at, first, effect, has_room, enabled, moved, applied, puts_on, takes_from, among, added, taken}
-use Rattle.net_core.specs.Uses.{used_by, then_used}
+use Rattle.net_core.specs.Uses.{used_by, then_used, used}
 use Rattle.net_core.proofs.Premises.{Steers, QueueLaws}
 use Rattle.net_core.proofs.CheckedLemmas.{premises_of}
 use Rattle.net_core.proofs.RowLemmas.{get-changed}
@@ -34,14 +34,14 @@ use Rattle.net_core.proofs.QueueActLemmas.{place_list, queue_effect, Given, queu
 use Rattle.net_core.proofs.EffectLemmas.{QueueGoes, queue_goes_on}
 use Rattle.net_core.proofs.RegularLemmas.{IsRegular, own_kept}
 use Rattle.net_core.proofs.TakerLemmas.{counted_head, one_held}
-use Rattle.cycle_engine.specs.Cycles.{Dated, used, IsRipe, HasDepth, May, Makes, act_place, place_of, IsUnused, phase, after_in, after_by, AreDated}
+use Rattle.cycle_engine.specs.Cycles.{Dated, IsRipe, HasDepth, May, Makes, place_of, IsUnused, after_in, after_by, AreDated}
 use Rattle.cycle_engine.specs.Rousing.{Could, GoesTo, ComesFrom}
 use Rattle.cycle_engine.specs.private.Marking.{is_merge}
 use Rattle.cycle_engine.specs.private.Places.{AllocsOnce}
 use Rattle.cycle_engine.proofs.BeforeLemmas.{after_of, IsLate, before, may_could, kept_free}
 use Rattle.cycle_engine.proofs.RousingLemmas.{slots_within, room_before, rouses, late_or}
 use Rattle.cycle_engine.proofs.DateLemmas.{some_effect, effect_there, dated_after}
-use Rattle.cycle_engine.proofs.OwnLemmas.{fork_act}
+use Rattle.net_core.proofs.PlanUses.{fork_act}
 use Rattle.cycle_engine.proofs.MakeLemmas.{all_snoc}
 
 pub laws : QueueLaws

@@ -11,7 +11,8 @@ use Rattle.net_core.proofs.Premises.{Alone}
 use Rattle.net_core.proofs.RowLemmas.{get-changed}
 use Rattle.net_core.proofs.ApartLemmas.{into-at, is_at-inv, puts-inv, not_put}
 use Rattle.std.specs.List.{AllByRecursion}
-use Rattle.cycle_engine.specs.Cycles.{Dated, after_by, after_in, used, IsRipe, HasDepth, May, AreDated}
+use Rattle.cycle_engine.specs.Cycles.{Dated, after_by, after_in, IsRipe, HasDepth, May, AreDated}
+use Rattle.net_core.specs.Uses.{used}
 use Rattle.cycle_engine.specs.Rousing.{Could, GoesTo, ComesFrom, Rouses, NextRouses}
 use Rattle.cycle_engine.proofs.BeforeLemmas.{after_of, IsLate, before, may_could}
 

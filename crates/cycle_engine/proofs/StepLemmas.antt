@@ -17,7 +17,8 @@ use Rattle.cycle_engine.specs.declared.engine.Engine.{Engine}
 use Rattle.cycle_engine.specs.declared.engine.Bounds.{Bounds}
 use Rattle.cycle_engine.specs.declared.marks.Marks.{Marks}
 use Rattle.cycle_engine.specs.declared.trial.Planned.{Planned}
-use Rattle.cycle_engine.specs.Cycles.{Dated, IsOldest, act_place}
+use Rattle.lsq_core.specs.Laws.{act_place}
+use Rattle.cycle_engine.specs.Cycles.{Dated, IsOldest}
 use Rattle.cycle_engine.specs.private.Marking.{KeepsMarks, IsRoused}
 use Rattle.cycle_engine.specs.private.Goings.{Past, IsReady, IsMade, IsTried}
 use Rattle.cycle_engine.specs.private.Places.{IsNextAct, IsTurn, HasNoExec, count_in, numbered}

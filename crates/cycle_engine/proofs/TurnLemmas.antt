@@ -30,11 +30,12 @@ use Rattle.net_core.proofs.RegularLemmas.{IsRegular, regular_kept, regular_openi
 use Rattle.cycle_engine.specs.declared.engine.Engine.{Engine}
 use Rattle.cycle_engine.specs.declared.engine.Bounds.{Bounds}
 use Rattle.cycle_engine.specs.declared.marks.Marks.{Marks}
-use Rattle.cycle_engine.specs.Cycles.{Dated, dated_opening, IsRipe, HasDepth, May, IsOldest, Makes, act_place, place_of, IsUnused, phase, Cycles, after_in, after_by, AreDated}
+use Rattle.lsq_core.specs.Laws.{act_place, phase}
+use Rattle.cycle_engine.specs.Cycles.{Dated, dated_opening, IsRipe, HasDepth, May, IsOldest, Makes, place_of, IsUnused, Cycles, after_in, after_by, AreDated}
 use Rattle.cycle_engine.specs.Rousing.{GoesTo, ComesFrom, Stirs}
 use Rattle.cycle_engine.specs.private.Trials.{dated_of, IsEngine, IsFollowed}
 use Rattle.cycle_engine.specs.private.Marking.{IsMarked, IsListed, KeepsMarks, IsRoused, IsTaken, IsMergeMarked, IsPutMarked, is_merge}
-use Rattle.cycle_engine.specs.private.Kinds.{is_fork}
+use Rattle.net_core.specs.Uses.{is_fork}
 use Rattle.cycle_engine.specs.private.Goings.{Past, IsReady, InCycle, MayFollow, IsMade, AllPlain, IsBegunIn}
 use Rattle.cycle_engine.specs.private.Places.{IsOpen, IsNextAct, AllocsOnce, IsQueueTurn, IsTurnOf, IsTurn, IsOpenTurn, IsSettled, AreQueues, IsServed, IsFull, first_of}
 use Rattle.cycle_engine.proofs.BeforeLemmas.{after_of}

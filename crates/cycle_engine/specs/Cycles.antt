@@ -1,5 +1,6 @@
 -- Cycles: which firings are made together, and what tokens have to be old enough for.
 use Rattle.std.specs.Prelude.{◌≡◌, ◌≢◌, ℕ, suc, ◌+◌, ◌<◌, ◌≤◌, Option, Some, None, List, [], ◌∷◌, map, length, get_or, IsSomeAnd}
+use Rattle.lsq_core.specs.Laws.{act_place, phase}
 use Rattle.std.specs.List.{AllByRecursion}
 use Rattle.net_types.specs.declared.net.Net.{Net}
 use Rattle.net_types.specs.declared.net.Unit.{Unit as Kind}
@@ -11,7 +12,7 @@ use Rattle.net_types.specs.declared.firing.Inputs.{Inputs}
 use Rattle.net_types.specs.Nets.{into, kind_of, uses, chan_at, firing}
 use Rattle.net_core.specs.Fire.{State, Own, Effect, idle, row, setting, at_array, head_at, tokens_at, first, effect, has_room, enabled, moved, applied, changed_from, put_at}
 use Rattle.net_core.specs.declared.plan.Put.{Put}
-use Rattle.net_core.specs.Uses.{used_by}
+use Rattle.net_core.specs.Uses.{used}
 use Rattle.net_core.specs.Runs.{opening}
 
 -- a state, and beside the tokens of each channel the cycles in which they were put
@@ -37,13 +38,6 @@ after_by net c s u (Some e) = record { state = applied net u e s.state; dates = 
 -- after a firing in the cycle c: the state after it, in which its token has the date c
 abbrev pub after_in : Net → ℕ → Dated → Firing → Dated
 after_in net c s f = after_by net c s f.unit (effect net s.state f)
-
--- the places whose heads a firing takes or looks at
-abbrev pub used : Net → State → Firing → List ℕ
-used net s f =
-    used_by
-    (row (kind_of net f.unit) f.act (get_or s.own f.unit idle) (at_array s.arrays (uses (kind_of net f.unit))) (setting net s))
-    (head_at net s f.unit)
 
 -- the head of the channel d was put in a cycle of at most c less the channel's delay
 abbrev pub IsRipe : Net → ℕ → Dated → ℕ → Type 0
@@ -106,19 +100,6 @@ Makes net c start s (f ∷ fs) t = May net c start s f × IsOldest net s.state f
 
 -- ---- a cycle
 
--- all Execs of a queue are one
-abbrev pub act_place : Act → Act
-act_place Go = Go
-act_place (From j) = From j
-act_place (Send j) = Send j
-act_place (Alloc g) = Alloc g
-act_place (Addr p) = Addr p
-act_place (Data p) = Data p
-act_place (Exec e) = Exec 0
-act_place (Reply p) = Reply p
-act_place Retire = Retire
-act_place End = End
-
 abbrev pub place_of : Firing → Firing
 place_of f = firing f.unit (act_place f.act)
 
@@ -130,19 +111,6 @@ IsUnused fs f = AllByRecursion (λ g. place_of g ≢ place_of f) fs
 abbrev pub Once : List Firing → Type 0
 Once [] = Unit {0}
 Once (f ∷ fs) = IsUnused fs f × Once fs
-
--- the acts of a queue go by their phases
-abbrev pub phase : Act → ℕ
-phase Go = 0
-phase (From j) = 0
-phase (Send j) = 0
-phase (Alloc g) = 0
-phase (Addr p) = 1
-phase (Data p) = 1
-phase (Exec e) = 2
-phase (Reply p) = 3
-phase Retire = 4
-phase End = 5
 
 -- no act of a unit comes after one of a later phase of that unit
 abbrev pub InOrder : List Firing → Type 0

@@ -9,7 +9,9 @@ use Rattle.net_types.specs.declared.firing.Firing.{Firing}
 use Rattle.net_types.specs.Nets.{into, out_of, kind_of, chan_at, firing}
 use Rattle.net_check.specs.Checks.{IsChecked}
 use Rattle.net_core.specs.Fire.{Effect, idle, effect, has_room, tokens_at, takes_from}
-use Rattle.cycle_engine.specs.Cycles.{Dated, May, used, IsRipe, HasDepth, after_in, act_place, AreDated}
+use Rattle.lsq_core.specs.Laws.{act_place}
+use Rattle.cycle_engine.specs.Cycles.{Dated, May, IsRipe, HasDepth, after_in, AreDated}
+use Rattle.net_core.specs.Uses.{used}
 
 -- the effect of the unit v puts on a channel of delay 0 into the unit u
 abbrev pub GoesTo : Net → ℕ → Effect → ℕ → Type 0

@@ -11,8 +11,6 @@ mod marks;
 mod notes;
 mod places;
 mod runs;
-#[cfg(test)]
-mod tests;
 mod trial;
 mod turns;
 

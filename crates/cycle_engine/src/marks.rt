@@ -6,7 +6,7 @@ ghost use Rattle.net_types.specs.Nets.{kind_of};
 ghost use Rattle.net_core.specs.Plans.{chans_of};
 ghost use Rattle.net_core.specs.States.{IsOf, state_of};
 ghost use Rattle.cycle_engine.specs.private.Marking.{Holds, IsMarked, IsListed, IsStarved, KeepsMarks, IsSourceMarked, IsMergeMarked, IsTargetMarked, IsPutMarked, IsRoused, IsTaken, IsEmptied};
-ghost use Rattle.cycle_engine.specs.private.Kinds.{is_fork};
+ghost use Rattle.net_core.specs.Uses.{is_fork};
 
 use crate::dates::delay_of;
 use crate::places::{is_fork, is_merge, is_queue, is_starved};

@@ -5,7 +5,7 @@ ghost use Rattle.net_types.specs.Nets.{kind_of};
 ghost use Rattle.net_check.specs.Ends.{is_lsq};
 ghost use Rattle.net_core.specs.States.{IsOf, state_of};
 ghost use Rattle.cycle_engine.specs.private.Marking.{Holds, IsStarved, asks_first, is_merge};
-ghost use Rattle.cycle_engine.specs.private.Kinds.{is_fork};
+ghost use Rattle.net_core.specs.Uses.{is_fork};
 ghost use Rattle.cycle_engine.specs.private.Places.{HasView, HasNoExec, IsFirstExec, AreQueues, first_of, count_in, inputs_in, outputs_in, groups_in, ports_in, numbered};
 
 use lsq_core::Queue;

@@ -9,8 +9,8 @@ ghost use Rattle.net_core.specs.States.{IsOf, IsPlanOf, CountsWithin, CountsRise
 ghost use Rattle.net_replay.specs.Finishes.{IsLogged};
 ghost use Rattle.net_replay.specs.declared.fault.RunFault.TheVariants as fault;
 ghost use Rattle.cycle_engine.specs.Cycles.{Dated, May, IsUnused, place_of, after_in};
-ghost use Rattle.cycle_engine.specs.private.Trials.{dated_of, AllRipe, HadRoom, HasRoomNow, HadDepth, EntriesFit, Allowed, IsBegun, IsEngine, places_used};
-ghost use Rattle.cycle_engine.specs.private.Kinds.{is_fork};
+ghost use Rattle.cycle_engine.specs.private.Trials.{dated_of, AllRipe, HadRoom, HasRoomNow, HadDepth, EntriesFit, Allowed, IsBegun, IsEngine};
+ghost use Rattle.net_core.specs.Uses.{places_used, is_fork};
 ghost use Rattle.cycle_engine.specs.private.Goings.{Past, IsReady, InCycle, MayFollow, IsTried, IsBroken, IsMore};
 ghost use Rattle.cycle_engine.specs.private.Marking.{IsFreed, IsNoted, AreSince, IsNotBefore, IsSinceNoted};
 ghost use Rattle.std.specs.Prelude.{MatchResult};

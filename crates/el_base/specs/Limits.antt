@@ -1,6 +1,6 @@
 -- The greatest sizes that are accepted, and how many items a `u32` can number.
 use Rattle.std.specs.Prelude.{ℕ, ◌<◌, ◌^◌}
-use Rattle.el_base.specs.declared.limits.TheConstants.{MAX_NODES, MAX_NESTING, MAX_DIMENSIONS, MAX_ELEMENTS, MAX_KERNEL_BYTES, MAX_INPUTS_BYTES, MAX_NETLIST_BYTES, MAX_SCHEDULE_BYTES, MAX_SLOTS, MAX_DELAY, MAX_SUM_OF_SLOTS, MAX_WAYS, MAX_DEPTH, MAX_FIRINGS, MAX_WORKERS}
+use Rattle.el_base.specs.declared.limits.TheConstants.{MAX_NODES, MAX_NESTING, MAX_DIMENSIONS, MAX_ELEMENTS, MAX_KERNEL_BYTES, MAX_INPUTS_BYTES, MAX_NETLIST_BYTES, MAX_SCHEDULE_BYTES, MAX_SLOTS, MAX_DELAY, MAX_SUM_OF_SLOTS, MAX_WAYS, MAX_DEPTH, MAX_FIRINGS, MAX_SHARED_FIRINGS, MAX_WORKERS}
 
 -- the nodes of a kernel
 abbrev pub max_nodes : ℕ
@@ -53,6 +53,10 @@ max_depth = MAX_DEPTH
 -- the firings of a run
 abbrev pub max_firings : ℕ
 max_firings = MAX_FIRINGS
+
+-- the firings of a run whose list of firings is kept
+abbrev pub max_shared_firings : ℕ
+max_shared_firings = MAX_SHARED_FIRINGS
 
 -- the workers that run a net
 abbrev pub max_workers : ℕ

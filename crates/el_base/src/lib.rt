@@ -14,8 +14,6 @@ mod name;
 mod operation;
 mod patterns;
 mod span;
-#[cfg(test)]
-mod tests;
 mod ty;
 
 pub use boxed::Boxed;
@@ -28,8 +26,8 @@ pub use digits::{
 pub use label::Label;
 pub use limits::{
     MAX_DELAY, MAX_DEPTH, MAX_DIMENSIONS, MAX_ELEMENTS, MAX_FIRINGS, MAX_INPUTS_BYTES,
-    MAX_KERNEL_BYTES, MAX_NESTING, MAX_NETLIST_BYTES, MAX_NODES, MAX_SCHEDULE_BYTES, MAX_SLOTS,
-    MAX_SUM_OF_SLOTS, MAX_WAYS, MAX_WORKERS,
+    MAX_KERNEL_BYTES, MAX_NESTING, MAX_NETLIST_BYTES, MAX_NODES, MAX_SCHEDULE_BYTES,
+    MAX_SHARED_FIRINGS, MAX_SLOTS, MAX_SUM_OF_SLOTS, MAX_WAYS, MAX_WORKERS,
 };
 pub use list::List;
 pub use log::Log;
@@ -41,4 +39,4 @@ pub use patterns::{
     patterns_have_their_width, patterns_stand_for_numbers_in_range,
 };
 pub use span::Span;
-pub use ty::{Array, Scalar, Ty};
+pub use ty::{Array, Scalar, Ty, copy_arrays, copy_scalars};

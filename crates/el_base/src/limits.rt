@@ -42,5 +42,8 @@ pub const MAX_DEPTH: u32 = 1_024;
 /// The firings of a run, the greatest number that a caller may ask.
 pub const MAX_FIRINGS: u64 = 400_000_000;
 
+/// The firings of a run whose list of firings is kept, as by workers, the greatest number that a caller may ask.
+pub const MAX_SHARED_FIRINGS: u64 = 16_000_000;
+
 /// The workers that run a net.
 pub const MAX_WORKERS: u32 = 64;

@@ -3,8 +3,10 @@ ghost use Rattle.el_base.specs.declared.ty.Ty.{Ty};
 ghost use Rattle.el_base.specs.Widths.{ty_width, ty_signed};
 ghost use Rattle.el_base.specs.Names.{ty_name};
 
+use crate::list::List;
 use crate::memory::Memory;
 use crate::name::Name;
+use std::alloc::Global;
 
 /// An integer type of fixed width (ISO/IEC 9899:1999 7.18.1.1): signed ones are two's complement.
 #[derive(Clone, Copy, Debug, PartialEq, Eq)]
@@ -130,4 +132,34 @@ impl Array {
             len: self.len,
         })
     }
+}
+
+/// Equal scalars, in their order.
+///
+/// # Errors
+///
+/// [`Memory`] where memory is wanting.
+pub fn copy_scalars(alloc: Global, scalars: &[Scalar]) -> Result<List<Scalar>, Memory>
+    ensures { IfOk result (λ copies. copies ≡ scalars.now) }
+{
+    let mut copies = List::new(alloc);
+    for scalar in scalars {
+        copies.push(scalar.copy()?)?;
+    }
+    Ok(copies)
+}
+
+/// Equal arrays, in their order.
+///
+/// # Errors
+///
+/// [`Memory`] where memory is wanting.
+pub fn copy_arrays(alloc: Global, arrays: &[Array]) -> Result<List<Array>, Memory>
+    ensures { IfOk result (λ copies. copies ≡ arrays.now) }
+{
+    let mut copies = List::new(alloc);
+    for array in arrays {
+        copies.push(array.copy()?)?;
+    }
+    Ok(copies)
 }

@@ -1,5 +1,5 @@
 -- What real files and streams had to give and were given, where it is known.
-use Rattle.std.specs.Prelude.{ℕ, ◌<◌, List, length, Option, Result, Ok, Err}
+use Rattle.std.specs.Prelude.{ℕ, ◌<◌, List, length, Option, None, Result, Ok, Err}
 use Rattle.std.specs.Io.KnownBytes.{Consumes}
 use Rattle.el_io.specs.declared.files.Got.{Got}
 use Rattle.el_io.specs.declared.files.Got.TheVariants as got
@@ -14,6 +14,11 @@ pub record Passes (before now : Option (List ℕ)) (max : ℕ) : Type 0 where
   pub bytes : List ℕ
   pub read : Consumes before now bytes
   pub more : max < length bytes
+
+-- what is left in what was opened, where that is known
+abbrev pub left_in : {F E : Type 0} → (F → Option (List ℕ)) → Result F E → Option (List ℕ)
+left_in left (Ok file) = left file
+left_in left (Err e) = None
 
 -- the stream of a sink
 abbrev pub stream_of : {W : Type 0} → HostSink W → W

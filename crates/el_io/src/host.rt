@@ -1,13 +1,14 @@
 //! The adapters over the real files and streams. They tell nothing of content.
-ghost use Rattle.std.specs.Prelude.{◌≡◌, ◌≢◌, ◌<◌, ◌≤◌, [], IfOk, IsOk, Ok, length};
+ghost use Rattle.std.specs.Prelude.{◌≡◌, ◌≢◌, ◌<◌, ◌≤◌, [], IfErr, IfOk, IsOk, Ok, Err, length};
 ghost use Rattle.std.specs.Io.KnownBytes.{Consumes, IsAtEnd, WriteAppends};
-ghost use Rattle.el_io.specs.Hosts.{Passes, host_counts, host_counts_after};
+ghost use Rattle.el_io.specs.Hosts.{Passes, host_counts, host_counts_after, left_in};
 ghost use Rattle.el_io.specs.declared.files.Got.TheVariants as got;
+ghost use Rattle.el_io.specs.declared.files.FileFail.TheVariants as fail;
 
 use crate::files::{FileFail, Files, Got};
 use crate::sink::{Sink, SinkFail};
 use std::fs;
-use std::io::{Read, Write};
+use std::io::{self, Read, Write};
 
 /// The real files.
 #[derive(Drop)]
@@ -33,28 +34,35 @@ impl<R: std::rt::Files> HostFiles<R> {
         }
     }
 
-    // Reads an opened file where it has at most `max` bytes, and else nothing, and counts how that ended.
+    // Reads what was opened where it has at most `max` bytes, and else nothing, and counts how that ended.
+    // What could not be opened is a failure.
     fn read_opened<F: Read>(
         &mut self,
-        file: &mut F,
+        opened: &mut io::Result<F>,
         max: u64,
         into: &mut Vec<u8>,
     ) -> Result<Got, FileFail>
         requires { into.old.items ≡ [] }
+        ensures unopened { IfErr opened.old (λ _. result ≡ Err fail.Failed) }
         ensures bound { result ≡ Ok got.Whole → length into.new.items ≤ max }
-        ensures bytes { result ≡ Ok got.Whole
-            → Consumes (F.remaining file.old) (F.remaining file.new) into.new.items }
-        ensures end { result ≡ Ok got.Whole → IsAtEnd (F.remaining file.new) }
+        ensures bytes { result ≡ Ok got.Whole → Consumes (left_in F.remaining opened.old)
+            (left_in F.remaining opened.new) into.new.items }
+        ensures end { result ≡ Ok got.Whole → IsAtEnd (left_in F.remaining opened.new) }
         ensures longer { result ≡ Ok got.Longer
-            → Passes (F.remaining file.old) (F.remaining file.new) max }
+            → Passes (left_in F.remaining opened.old) (left_in F.remaining opened.new) max }
         ensures nothing { result ≢ Ok got.Whole → into.new.items ≡ [] }
         ensures counts { host_counts self.new
             ≡ host_counts_after (host_counts self.old) max result }
         ensures faults { (host_counts self.old).faults ≤ (host_counts self.new).faults }
         ensures longs { (host_counts self.old).longs ≤ (host_counts self.new).longs }
     {
-        let ended = read_whole(file, max, into);
-        self.count(ended, max)
+        match opened {
+            Ok(file) => {
+                let ended = read_whole(file, max, into);
+                self.count(ended, max)
+            }
+            Err(_) => self.count(Err(FileFail::Failed), max),
+        }
     }
 
     // Counts how a read of at most `max` bytes ended.
@@ -91,10 +99,8 @@ impl<R: std::rt::Files> Files for HostFiles<R> {
     ghost steady = { λ s. ⊥ };
 
     fn read(&mut self, name: &str, max: u64, into: &mut Vec<u8>) -> Result<Got, FileFail> {
-        match fs::open(&self.rt, name) {
-            Ok(mut file) => self.read_opened(&mut file, max, into),
-            Err(_) => self.count(Err(FileFail::Failed), max),
-        }
+        let mut opened = fs::open(&self.rt, name);
+        self.read_opened(&mut opened, max, into)
     }
 }
 

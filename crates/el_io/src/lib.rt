@@ -17,6 +17,3 @@ pub use host::{HostFiles, HostSink};
 pub use memory_files::MemFiles;
 pub use memory_sink::MemSink;
 pub use sink::{Sink, SinkFail, WriteFault, write_all};
-
-#[cfg(test)]
-mod tests;

@@ -6,7 +6,7 @@ use Rattle.elastic_link.specs.declared.message.Credit.{Credit}
 use Rattle.elastic_link.specs.declared.put_end.PutEnd.{PutEnd}
 use Rattle.elastic_link.specs.declared.take_end.TakeEnd.{TakeEnd}
 use Rattle.el_base.specs.Rises.{Rose}
-use Rattle.elastic_link.specs.Rings.{items_out, items_in, full_count, empty_count, SameOut, SameIn, IsRing}
+use Rattle.elastic_link.specs.Rings.{room_out, items_out, items_in, full_count, empty_count, SameOut, SameIn, IsRing}
 use Rattle.elastic_link.specs.Held.{without_held, tokens_of}
 use Rattle.elastic_link.specs.Credits.{credits_in, owed_message, never_falls}
 
@@ -33,6 +33,10 @@ no_slot_count p = full_count p.tokens
 -- how often the ring of credits showed no message
 abbrev pub no_message_count : PutEnd → ℕ
 no_message_count p = empty_count p.credits
+
+-- how many free slots the ring of tokens is known to have
+abbrev pub token_room : PutEnd → ℕ
+token_room p = room_out p.tokens
 
 -- the put end of the same link
 pub record SamePutEnd (a b : PutEnd) : Type 0 where
@@ -91,6 +95,10 @@ no_token_count t = empty_count t.tokens
 -- how often the ring of credits showed no free slot
 abbrev pub no_credit_slot_count : TakeEnd → ℕ
 no_credit_slot_count t = full_count t.credits
+
+-- how many free slots the ring of credits is known to have
+abbrev pub credit_room : TakeEnd → ℕ
+credit_room t = room_out t.credits
 
 -- the take end of the same link
 pub record SameTakeEnd (a b : TakeEnd) : Type 0 where

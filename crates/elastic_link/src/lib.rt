@@ -3,15 +3,13 @@
 #![tactic(auto)]
 
 ghost use Rattle.std.specs.Prelude.{◌≡◌, ◌<◌, ◌≤◌, IfOk};
-ghost use Rattle.elastic_link.specs.Ends.{IsNewPut, IsNewTake, IsLink};
+ghost use Rattle.elastic_link.specs.Ends.{token_room, credit_room, IsNewPut, IsNewTake, IsLink};
 ghost use Rattle.el_base.specs.Limits.{max_slots};
 
 mod message;
 mod put_end;
 mod rings;
 mod take_end;
-#[cfg(test)]
-mod tests;
 
 use el_base::Memory;
 pub use message::{Credit, Token};
@@ -33,6 +31,8 @@ pub fn link(alloc: Global, slots: u32) -> Result<(PutEnd, TakeEnd), Memory>
     ensures link { IfOk result (λ ends. IsLink ends.0 ends.1) }
     ensures put { IfOk result (λ ends. IsNewPut slots ends.0) }
     ensures take { IfOk result (λ ends. IsNewTake ends.1) }
+    ensures token_room { IfOk result (λ ends. token_room ends.0 ≡ slots) }
+    ensures credit_room { IfOk result (λ ends. credit_room ends.1 ≡ slots) }
 {
     let (tokens_out, tokens_in) = ring::<Token, Stamped>(alloc, slots as usize)?;
     let (credits_out, credits_in) = ring::<Credit, Counted>(alloc, slots as usize)?;

@@ -22,13 +22,13 @@ pub struct PutEnd {
 
 #[tactic(auto, using(crate::proofs::CreditLemmas::credit_steps))]
 impl PutEnd {
-    ghost use Rattle.std.specs.Prelude.{◌≡◌, ◌+◌, ◌<◌, ◌≤◌, ◌^◌, [], ◌∷◌, ◌++◌, length, OnOk, IfErr, IfSome, IfNone, IsTrue, IsFalse};
+    ghost use Rattle.std.specs.Prelude.{◌≡◌, ◌⊎◌, ◌+◌, ◌<◌, ◌≤◌, ◌^◌, [], ◌∷◌, ◌++◌, length, IsOk, OnOk, IfErr, IfSome, IfNone, IsTrue, IsFalse};
     ghost use mathlib.Core.List.{IsPrefix};
     ghost use Rattle.el_base.specs.Rises.{Rose};
     ghost use Rattle.el_base.specs.Limits.{max_slots};
     ghost use Rattle.elastic_link.specs.Rings.{items_out, items_in, room_out, items_known};
     ghost use Rattle.elastic_link.specs.Credits.{IsStamp, newest_stamp};
-    ghost use Rattle.elastic_link.specs.Ends.{tokens_put, messages_received, credits_in_hand, slots_of, no_slot_count, no_message_count, SamePutEnd, KeptPutEnd, KeptTakeEnd, IsLink, IsSound};
+    ghost use Rattle.elastic_link.specs.Ends.{token_room, tokens_put, messages_received, credits_in_hand, slots_of, no_slot_count, no_message_count, SamePutEnd, KeptPutEnd, KeptTakeEnd, IsLink, IsSound};
 
     pub(crate) fn new(
         tokens: RingOut<Token, Stamped>,
@@ -66,6 +66,8 @@ impl PutEnd {
         ensures none { IfNone result (credits_in_hand self.new ≡ 0) }
         ensures empty { IfNone result
             (Rose (no_message_count self.old) (no_message_count self.new)) }
+        ensures all { (slots_of self.new ≤ credits_in_hand self.new)
+            ⊎ Rose (no_message_count self.old) (no_message_count self.new) }
         ensures count { no_message_count self.old ≤ no_message_count self.new }
         ensures other_count { no_slot_count self.new ≡ no_slot_count self.old }
     {
@@ -114,6 +116,7 @@ impl PutEnd {
         ensures kept { IfErr result (λ _. tokens_put self.new ≡ tokens_put self.old) }
         ensures unspent { IfErr result (λ _. credits_in_hand self.new ≡ credits_in_hand self.old) }
         ensures full { IfErr result (λ _. Rose (no_slot_count self.old) (no_slot_count self.new)) }
+        ensures succeeds { 0 < token_room self.old → IsOk result }
         ensures count { no_slot_count self.old ≤ no_slot_count self.new }
         ensures other_count { no_message_count self.new ≡ no_message_count self.old }
     {

@@ -15,8 +15,6 @@ mod program;
 mod reading;
 mod runs;
 mod status;
-#[cfg(test)]
-mod tests;
 mod upgrade;
 
 pub use call::top;

@@ -1,13 +1,13 @@
 //! What reading the inputs of a net answers, and how what was read is printed.
 ghost use Rattle.net_types.specs.Inputs.{InputsFit};
 
-use crate::field::unescaped;
 use anyhow::{Context, Result, anyhow, bail, ensure};
-use el_base::number;
+use el_base::{MAX_INPUTS_BYTES, MAX_NETLIST_BYTES, number};
 use inputs_text::{InputRefusal, print_results_of, read_inputs};
 use net_check::{Checked, check_net};
 use net_text::read;
 use net_types::{Inputs, Net, Scalar};
+use row_fields::text_within;
 use std::alloc::Global;
 use std::io::Write;
 
@@ -16,25 +16,18 @@ pub fn put_reading<W: Write>(alloc: Global, line: &str, out: &mut W) -> Result<(
     let (net, inputs) = line
         .split_once('\t')
         .context("a line is a net text and an inputs text")?;
-    let net = checked(alloc, unescaped(alloc, net)?.as_slice())?;
-    let text = unescaped(alloc, inputs)?;
-    ensure!(
-        u32::try_from(text.len()).is_ok(),
-        "an inputs text that is too long"
-    );
+    let net = checked(alloc, net)?;
+    let text = text_within(alloc, inputs, MAX_INPUTS_BYTES)?;
     match read_inputs(alloc, &net, text.as_slice()) {
         Ok(inputs) => put_inputs(alloc, net.net(), &inputs, out),
         Err(refusal) => put_refusal(&refusal, out),
     }
 }
 
-/// The net of a text that keeps the rules.
-fn checked(alloc: Global, text: &[u8]) -> Result<Checked> {
-    ensure!(
-        u32::try_from(text.len()).is_ok(),
-        "a net text that is too long"
-    );
-    let net = read(alloc, text).map_err(|_| anyhow!("no text of a net"))?;
+/// The net of a field's text that keeps the rules.
+fn checked(alloc: Global, field: &str) -> Result<Checked> {
+    let text = text_within(alloc, field, MAX_NETLIST_BYTES)?;
+    let net = read(alloc, text.as_slice()).map_err(|_| anyhow!("no text of a net"))?;
     ensure!(net.is_numbered(), "a net of too many units or channels");
     check_net(alloc, net).map_err(|_| anyhow!("a net that breaks a rule"))
 }

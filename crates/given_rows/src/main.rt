@@ -3,10 +3,8 @@
 //! With no word it answers all files in turn, each below its name. With the path of a file it answers that one.
 #![tactic(auto)]
 
-mod field;
 mod inputs;
 mod kernels;
-mod links;
 mod nets;
 mod operations;
 mod pairs;

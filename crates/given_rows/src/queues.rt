@@ -8,6 +8,7 @@ use lsq_core::{ListLsq, Lsq, Queue, run_acts};
 use net_check::check_shapes;
 use net_text::read;
 use net_types::{Act, Net, Unit};
+use row_fields::numbers_of;
 use std::alloc::Global;
 use std::fmt::Write as _;
 use std::io::Write;
@@ -21,7 +22,8 @@ pub fn put_run<W: Write>(alloc: Global, line: &str, out: &mut W) -> Result<()> {
     let [elements, queue, acts] = fields.as_slice() else {
         bail!("a line is an array, a queue and acts");
     };
-    let array = numbers(alloc, elements)?;
+    let elements: Vec<&str> = elements.split(' ').collect(alloc)?;
+    let array: Vec<u64> = numbers_of(alloc, elements.as_slice())?;
     let acts = acts_of(alloc, acts)?;
     let net = net_of(alloc, queue)?;
     ensure!(net.is_numbered(), "a net of too many units or channels");
@@ -30,15 +32,6 @@ pub fn put_run<W: Write>(alloc: Global, line: &str, out: &mut W) -> Result<()> {
         Ok(Some(_)) => bail!("no shape of a queue"),
         Ok(None) => put_bodies(alloc, array.as_slice(), &net, acts.as_slice(), out),
     }
-}
-
-/// Numbers with a blank between two.
-fn numbers(alloc: Global, text: &str) -> Result<Vec<u64>> {
-    let mut numbers = Vec::new(alloc);
-    for word in text.split(' ') {
-        numbers.push(word.parse()?)?;
-    }
-    Ok(numbers)
 }
 
 /// Acts with `;` between two.

@@ -1,6 +1,7 @@
 //! Kernel texts that repeat a piece, so that they nest deep or are long.
-use crate::field::unescaped;
 use anyhow::{Result, bail};
+use el_base::MAX_KERNEL_BYTES;
+use row_fields::text_within;
 use std::alloc::Global;
 
 /// A text: the opening, the piece some times, the middle, as many times the return piece, and the closing.
@@ -37,11 +38,11 @@ pub fn text_of(alloc: Global, line: &str) -> Result<Vec<u8>> {
         bail!("a line is a number and five parts");
     };
     let repeat = Repeat {
-        opening: unescaped(alloc, opening)?,
-        piece: unescaped(alloc, piece)?,
-        middle: unescaped(alloc, middle)?,
-        back: unescaped(alloc, back)?,
-        closing: unescaped(alloc, closing)?,
+        opening: text_within(alloc, opening, MAX_KERNEL_BYTES)?,
+        piece: text_within(alloc, piece, MAX_KERNEL_BYTES)?,
+        middle: text_within(alloc, middle, MAX_KERNEL_BYTES)?,
+        back: text_within(alloc, back, MAX_KERNEL_BYTES)?,
+        closing: text_within(alloc, closing, MAX_KERNEL_BYTES)?,
     };
     repeat.text(alloc, times.parse()?)
 }

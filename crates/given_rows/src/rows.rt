@@ -1,8 +1,6 @@
 //! The files of rows and what their lines are.
-use crate::field::unescaped;
 use crate::inputs::put_reading;
 use crate::kernels::read;
-use crate::links::put_answers;
 use crate::nets::verdict_on;
 use crate::operations::result_of;
 use crate::pairs::whole_of;
@@ -11,6 +9,8 @@ use crate::repeats::text_of;
 use crate::trees::put_returned;
 use crate::words::put_words;
 use anyhow::Result;
+use el_base::{MAX_KERNEL_BYTES, MAX_NETLIST_BYTES};
+use row_fields::text_within;
 use std::alloc::Global;
 use std::io::Write;
 
@@ -31,8 +31,6 @@ pub enum Rows {
     Nets,
     /// An operation's name, its first operand, and its second or nothing.
     Operations,
-    /// The slots of a link, and calls on its two ends in one thread.
-    Links,
     /// An array, a queue and a list of acts.
     Queues,
     /// A net text and the text of its inputs.
@@ -40,7 +38,7 @@ pub enum Rows {
 }
 
 /// The files, in the order in which they are answered.
-pub const FILES: [(&str, Rows); 17] = [
+pub const FILES: [(&str, Rows); 16] = [
     ("kernels.tsv", Rows::Kernels),
     ("guide.tsv", Rows::Kernels),
     ("lexer.tsv", Rows::Kernels),
@@ -55,7 +53,6 @@ pub const FILES: [(&str, Rows); 17] = [
     ("marked.tsv", Rows::Nets),
     ("edited.tsv", Rows::Nets),
     ("operations.tsv", Rows::Operations),
-    ("links.tsv", Rows::Links),
     ("queues.tsv", Rows::Queues),
     ("inputs.tsv", Rows::Inputs),
 ];
@@ -84,12 +81,12 @@ impl Rows {
     fn put_answer<W: Write>(self, alloc: Global, line: &str, out: &mut W) -> Result<()> {
         match self {
             Rows::Kernels => {
-                let text = unescaped(alloc, line)?;
+                let text = text_within(alloc, line, MAX_KERNEL_BYTES)?;
                 let reading = read(alloc, text.as_slice())?;
                 write!(out, "{reading}")?;
             }
             Rows::Words => {
-                let text = unescaped(alloc, line)?;
+                let text = text_within(alloc, line, MAX_KERNEL_BYTES)?;
                 put_words(alloc, text.as_slice(), out)?;
             }
             Rows::Pairs => {
@@ -97,7 +94,7 @@ impl Rows {
                 write!(out, "{side}")?;
             }
             Rows::Trees => {
-                let text = unescaped(alloc, line)?;
+                let text = text_within(alloc, line, MAX_KERNEL_BYTES)?;
                 put_returned(alloc, text.as_slice(), out)?;
             }
             Rows::Repeats => {
@@ -106,7 +103,7 @@ impl Rows {
                 write!(out, "{reading}")?;
             }
             Rows::Nets => {
-                let text = unescaped(alloc, line)?;
+                let text = text_within(alloc, line, MAX_NETLIST_BYTES)?;
                 let verdict = verdict_on(alloc, text.as_slice())?;
                 write!(out, "{verdict}")?;
             }
@@ -114,7 +111,6 @@ impl Rows {
                 let result = result_of(alloc, line)?;
                 write!(out, "{result}")?;
             }
-            Rows::Links => put_answers(alloc, line, out)?,
             Rows::Queues => put_run(alloc, line, out)?,
             Rows::Inputs => put_reading(alloc, line, out)?,
         }

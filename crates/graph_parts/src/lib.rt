@@ -5,7 +5,5 @@ mod marking;
 mod order;
 mod searching;
 mod tables;
-#[cfg(test)]
-mod tests;
 
 pub use marking::parts;

@@ -8,8 +8,6 @@ mod numerals;
 mod reader;
 mod refusal;
 mod results;
-#[cfg(test)]
-mod tests;
 
 pub use laws::inputs_texts_have_one_reading;
 pub use reader::{read_inputs, read_inputs_of};

@@ -7,8 +7,6 @@ mod groups;
 mod instr;
 mod laws;
 mod perform;
-#[cfg(test)]
-mod tests;
 mod walk;
 mod weight;
 mod worked;

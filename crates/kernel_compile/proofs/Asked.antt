@@ -27,7 +27,7 @@ module _ (k : Typed) (g : Graph) (lawful : Lawful k) (share : GraphShare k g) wh
   asked gs graph groups = record {
     graph = graph;
     sound = subst IsSound (sym share.header) (headers_sound k lawful);
-    small = record { blocks = share.small.blocks; bounded = share.small.bounded; accesses = share.small.accesses };
+    small = record { blocks = share.small.blocks; bounded = share.small.bounded; accesses = share.small.accesses; steps = share.small.steps; args = share.small.args };
     share = groups;
   }
 

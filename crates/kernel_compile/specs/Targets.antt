@@ -1,7 +1,7 @@
 -- Which arrays of a kernel have a queue in its circuit.
 use Rattle.std.specs.Prelude.{◌≡◌, ◌↔◌, ℕ, Bool, List}
 use Rattle.c_ast.specs.declared.typed.Typed.{Typed}
-use Rattle.array_targets.specs.Targets.{IsAssignedTo}
+use Rattle.kernel_graph.specs.Targets.{IsAssignedTo}
 use Rattle.net_types.specs.declared.net.Net.{Net}
 use Rattle.net_types.specs.declared.net.Port.{Port}
 use Rattle.net_types.specs.declared.net.Unit.TheVariants.{Lsq}

@@ -4,8 +4,6 @@
 
 mod compiling;
 mod laws;
-#[cfg(test)]
-mod tests;
 
 pub use compiling::{Compiled, compile};
 pub use laws::{good_nets_stay_good, inputs_are_patterns, kernel_nets_are_good};

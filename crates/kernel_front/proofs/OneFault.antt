@@ -21,7 +21,7 @@ use Rattle.kernel_front.proofs.FaultPlaces.{ArePlaced, tree_placed}
 rule_by : ℕ → Rule
 rule_by n =
     if n == 20 then rule.Undeclared else (if n == 21 then rule.Redeclared else (if n == 22 then rule.NotArray else (if n == 23 then rule.NotScalar
-    else (if n == 24 then rule.Dimensions else (if n == 25 then rule.Length else (if n == 26 then rule.ReturnKind else rule.OutsideLoop))))))
+    else (if n == 24 then rule.Dimensions else (if n == 25 then rule.Length else (if n == 26 then rule.ReturnKind else (if n == 27 then rule.OutsideLoop else (if n == 17 then rule.NotHelper else rule.Arguments))))))))
 
 rule_back : (r : Rule) → rule_by (rule_number r) ≡ r
 unfolding rule_by
@@ -33,6 +33,8 @@ rule_back rule.Dimensions = refl
 rule_back rule.Length = refl
 rule_back rule.ReturnKind = refl
 rule_back rule.OutsideLoop = refl
+rule_back rule.NotHelper = refl
+rule_back rule.Arguments = refl
 
 same_rule : (r q : Rule) → rule_number r ≡ rule_number q → r ≡ q
 same_rule r q e = sym (rule_back r) ∙ ap rule_by e ∙ rule_back q

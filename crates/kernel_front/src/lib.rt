@@ -3,8 +3,6 @@
 
 mod reading;
 mod refusal;
-#[cfg(test)]
-mod tests;
 
 pub use reading::{Kernel, one_text_has_one_answer, places_count_lines_and_columns, read_kernel};
 pub use refusal::KernelRefusal;

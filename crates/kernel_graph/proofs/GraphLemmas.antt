@@ -1,9 +1,10 @@
 -- The shares of normal forms, graphs over variables and graphs over arguments, joined.
 use Rattle.std.proofs.Common.{◌≡◌, ℕ, suc, ◌+◌, ◌*◌, ◌^◌, ◌<◌, ◌≤◌, List, [], ◌∷◌, Option, length, refl, sym, ap, subst, ◌∙◌, arith, length-append}
-use Rattle.std.specs.Prelude.{◌↔◌, ℤ, Result, Ok, Err, IfOk}
+use Rattle.std.specs.Prelude.{◌↔◌, ℤ, Result, Ok, Err, IfOk, All, sum_by}
 use Rattle.std.proofs.lemmas.List.{length-map}
 use Rattle.std.proofs.Math.Nat.{mul-le-mul}
-use Rattle.std.proofs.lemmas.List.Elements.{All-weaker}
+use Rattle.std.proofs.lemmas.List.Elements.{All-weaker, All-from_get_or}
+use Rattle.std.proofs.lemmas.List.Sums.{get_or-le-sum_by}
 use Rattle.el_base.specs.declared.ty.Ty.{Ty}
 use Rattle.el_base.specs.declared.memory.Memory.{Memory}
 use Rattle.el_base.specs.Headers.{Header}
@@ -19,7 +20,9 @@ use Rattle.c_meaning.specs.KernelPatterns.{scalar_patterns, array_patterns, resu
 use Rattle.c_meaning.specs.Sizes.{Sizes, form_sizes}
 use Rattle.ir.specs.Accesses.{accesses_in, IsStoredTo}
 use Rattle.ir.specs.Finished.{Finished}
-use Rattle.ir.specs.Graphs.{Graph, passage, weight}
+use Rattle.ir.specs.declared.graph.Block.{Block}
+use Rattle.ir.specs.Graphs.{Graph, no_block, passage, weight, size}
+use Rattle.block_merge.specs.Shares.{MergeShare}
 use Rattle.ir.specs.Variables.{VarGraph}
 use Rattle.ir.specs.Visits.{Visit, Passing}
 use Rattle.c_norm.specs.Kernels.{normal_form}
@@ -29,8 +32,8 @@ use Rattle.struct_cfg.specs.Kernels.{IsSmallForm, form_graph}
 use Rattle.block_trim.specs.Trimming.{trimmed}
 use Rattle.block_args.specs.Shares.{ArgsShare, ArgsSizes}
 use Rattle.block_args.specs.Made.{IsArgued, parts}
-use Rattle.array_targets.specs.Laws.{StoresAreAssignments}
-use Rattle.array_targets.specs.Targets.{IsAssignedTo}
+use Rattle.kernel_graph.specs.Laws.{StoresAreAssignments}
+use Rattle.kernel_graph.specs.Targets.{IsAssignedTo}
 use Rattle.kernel_graph.specs.Shares.{first_on, KernelRunsFollow, IsSmallGraph, GraphShare}
 
 -- ---- bounds
@@ -76,10 +79,26 @@ pattern_lengths (t ∷ ts) (z ∷ zs) h = ap suc (pattern_lengths ts zs h.1)
 
 -- ---- what the graph keeps
 
+abbrev steps_of : Block → ℕ
+steps_of x = length x.steps
+
+abbrev accesses_of : Block → ℕ
+accesses_of x = accesses_in x.steps
+
 module _ (k : Typed) (c : VarGraph) (g : Graph) (n : NormalShare k (normal_form k)) (z : NormalSizes (typed_nodes k) (length (normal_form k).vars) (form_sizes (normal_form k)))
-    (a : CfgShare (normal_form k) c) (b : CfgSizes c (length (normal_form k).vars) (form_sizes (normal_form k))) (d : ArgsShare c g) (e : ArgsSizes c g) where
+    (a : CfgShare (normal_form k) c) (b : CfgSizes c (form_sizes (normal_form k))) (d : ArgsShare c g) (e : ArgsSizes c g) where
   vars_same : length c.vars ≡ length (normal_form k).vars
   vars_same = ap length a.vars ∙ length-map (normal_form k).vars ty_width
+
+  small_size : SmallSizes (length (normal_form k).vars) (form_sizes (normal_form k)) → size g ≤ 8000000
+  small_size h =
+      let v = length (normal_form k).vars in
+      let s = form_sizes (normal_form k) in
+      let u : length c.blocks * (2 + 3 * length c.vars) ≡ s.blocks * (2 + 3 * v) = ap (λ x. x * (2 + 3 * length c.vars)) b.blocks ∙ ap (λ x. s.blocks * (2 + 3 * x)) vars_same in
+      let x = e.bounded in
+      let y = b.steps in
+      let w = h.bounded in
+      omega (arith, x, y, w, u)
 
   runs : KernelRunsFollow k g
   runs p i out r t fit ends =
@@ -94,19 +113,48 @@ module _ (k : Typed) (c : VarGraph) (g : Graph) (n : NormalShare k (normal_form 
       let q = joined_shares (typed_nodes k) v t m.jumps m.price n.few_vars m.few m.cheap in
       finished_within (passage g) (first_on k i) (result_pattern k.result r) (array_patterns k.arrays out) (weight g) m.jumps _ (2 * t) (20 * typed_nodes k * (t + 1)) m.few (omega arith) w
 
-  small : SmallSizes (length (normal_form k).vars) (form_sizes (normal_form k)) → IsSmallGraph g
-  small h =
-      let v = length (normal_form k).vars in
-      let s = form_sizes (normal_form k) in
-      let u : length c.blocks * (2 + 3 * length c.vars) ≡ s.blocks * (2 + 3 * v) = ap (λ x. x * (2 + 3 * length c.vars)) b.blocks ∙ ap (λ x. s.blocks * (2 + 3 * x)) vars_same in
-      record {
-        blocks = (let x = e.blocks in let y = b.blocks in let w = h.blocks in omega arith);
-        bounded = (let x = e.bounded in let y = b.steps in let w = h.bounded in omega arith);
-        accesses = e.accesses 1024 (All-weaker (λ x. accesses_in x.steps ≤ s.accesses) (λ x. accesses_in x.steps ≤ 1024) (λ x l. (let w = h.accesses in omega arith)) c.blocks b.accesses);
-      }
+  -- all steps, accesses and arguments, whatever their block
+  few_steps : typed_nodes k ≤ max_nodes → sum_by steps_of g.blocks ≤ 14336
+  few_steps le = let x = e.steps in let y = b.steps in let w = z.few_steps in let u = z.few_vars in omega (arith, x, y, w, u, le, vars_same)
 
-  pub kept : SmallSizes (length (normal_form k).vars) (form_sizes (normal_form k)) → ((x : ℕ) → IsStoredTo g x ↔ IsAssignedTo k x) → GraphShare k g
-  kept h s = record { header = d.header ∙ a.header; runs = runs; small = small h; stored = s }
+  few_accesses : typed_nodes k ≤ max_nodes → sum_by accesses_of g.blocks ≤ 1024
+  few_accesses le = let x = e.accesses in let y = b.accesses in let w = z.few_accesses in omega (arith, x, y, w, le)
+
+  few_args : typed_nodes k ≤ max_nodes → All (λ (x : Block). length x.args ≤ 1024) g.blocks
+  few_args le =
+      All-weaker (λ (x : Block). length x.args ≤ length c.vars) (λ (x : Block). length x.args ≤ 1024) (λ x l. (let u = z.few_vars in omega (arith, l, u, le, vars_same))) g.blocks e.args
+
+  -- what the merged graph keeps
+  module _ (m : Graph) (share : MergeShare g m) where
+    merged_runs : KernelRunsFollow k m
+    merged_runs p i out r t fit ends =
+        let xs = scalar_patterns (scalar_types k.params) i.scalars in
+        let s : length g.scalars ≡ length (scalars_of k.params) = ap (λ (h : Header). length h.scalars) (d.header ∙ a.header) in
+        let l : length xs ≡ length g.scalars = pattern_lengths (scalar_types k.params) i.scalars fit.each_scalar ∙ scalar_lengths k.params ∙ sym s in
+        share.runs xs (array_patterns k.arrays i.arrays) (result_pattern k.result r) (array_patterns k.arrays out) (2 * t) (20 * typed_nodes k * (t + 1)) l (runs p i out r t fit ends)
+
+    each_within : (w : Block → ℕ) (most : ℕ) → sum_by w m.blocks ≤ most → All (λ x. w x ≤ most) m.blocks
+    each_within w most le = All-from_get_or (λ x. w x ≤ most) m.blocks no_block (λ i lt. (let x = get_or-le-sum_by w m.blocks i no_block lt in omega (arith, x, le)))
+
+    small : typed_nodes k ≤ max_nodes → SmallSizes (length (normal_form k).vars) (form_sizes (normal_form k)) → IsSmallGraph m
+    small le h =
+        let y = small_size h in
+        let n = share.sizes in
+        record {
+          blocks = (let x = e.blocks in let q = b.blocks in let w = h.blocks in let o = n.blocks in omega (arith, x, q, w, o));
+          bounded = (let o = n.bounded in omega (arith, y, o));
+          steps = each_within steps_of 14336 (let x = few_steps le in let o = n.steps in omega (arith, x, o));
+          args = n.few_args 1024 (few_args le);
+          accesses = each_within accesses_of 1024 (let x = few_accesses le in let o = n.accesses in omega (arith, x, o));
+        }
+
+    pub kept : typed_nodes k ≤ max_nodes → SmallSizes (length (normal_form k).vars) (form_sizes (normal_form k)) → ((x : ℕ) → IsStoredTo g x ↔ IsAssignedTo k x) → GraphShare k m
+    kept le h s = record {
+      header = share.header ∙ (d.header ∙ a.header);
+      runs = merged_runs;
+      small = small le h;
+      stored = λ x. (λ q. (s x).0 ((share.stored x).0 q), λ q. (share.stored x).1 ((s x).1 q));
+    }
 
 pub small_form : (n : ℕ) (f : Normal) → n ≤ max_nodes → NormalSizes n (length f.vars) (form_sizes f) → IsSmallForm f
 small_form n f l z =
@@ -116,7 +164,7 @@ small_form n f l z =
     omega arith
 
 -- the variables, blocks and steps of the graph can be numbered
-pub small_parts : (n : ℕ) (f : Normal) (c : VarGraph) → n ≤ max_nodes → NormalSizes n (length f.vars) (form_sizes f) → CfgShare f c → CfgSizes c (length f.vars) (form_sizes f) → parts c < 2 ^ 32
+pub small_parts : (n : ℕ) (f : Normal) (c : VarGraph) → n ≤ max_nodes → NormalSizes n (length f.vars) (form_sizes f) → CfgShare f c → CfgSizes c (form_sizes f) → parts c < 2 ^ 32
 small_parts n f c l z a s =
     let v : length c.vars ≡ length f.vars = ap length a.vars ∙ length-map f.vars ty_width in
     let x = z.few_blocks in
@@ -128,17 +176,25 @@ small_parts n f c l z a s =
 
 -- the layers' answers, whatever the last one is
 abbrev Layers : Typed → VarGraph → Normal → Type 0
-Layers k c f = NormalShare k f × NormalSizes (typed_nodes k) (length f.vars) (form_sizes f) × CfgShare f c × CfgSizes c (length f.vars) (form_sizes f)
+Layers k c f = NormalShare k f × NormalSizes (typed_nodes k) (length f.vars) (form_sizes f) × CfgShare f c × CfgSizes c (form_sizes f)
 
 -- the stores of the graph, where each layer is what its definition says
 stores_kept : (k : Typed) (f : Normal) (c : VarGraph) (g : Graph) → StoresAreAssignments → f ≡ normal_form k → c ≡ trimmed (form_graph f) → IsArgued c g → (a : ℕ) → IsStoredTo g a ↔ IsAssignedTo k a
 stores_kept k f c g law is cut made = law k g (subst (λ x. IsArgued x g) (cut ∙ ap (λ x. trimmed (form_graph x)) is) made)
 
-pub all_kept : (k : Typed) (f : Normal) (c : VarGraph) (r : Result Graph Memory) → f ≡ normal_form k → c ≡ trimmed (form_graph f) → typed_nodes k ≤ max_nodes
+pub all_kept : (k : Typed) (f : Normal) (c : VarGraph) (g : Graph) (r : Result Graph Memory) → f ≡ normal_form k → c ≡ trimmed (form_graph f) → typed_nodes k ≤ max_nodes
     → ((n v : ℕ) (z : Sizes) → n ≤ max_nodes → NormalSizes n v z → SmallSizes v z) → StoresAreAssignments
-    → NormalShare k f → NormalSizes (typed_nodes k) (length f.vars) (form_sizes f) → CfgShare f c → CfgSizes c (length f.vars) (form_sizes f)
-    → IfOk r (IsArgued c) → IfOk r (ArgsShare c) → IfOk r (ArgsSizes c) → IfOk r (GraphShare k)
-all_kept k f c (Ok g) is cut few law stores n z a b made d e =
+    → NormalShare k f → NormalSizes (typed_nodes k) (length f.vars) (form_sizes f) → CfgShare f c → CfgSizes c (form_sizes f)
+    → IsArgued c g → ArgsShare c g → ArgsSizes c g → IfOk r (MergeShare g) → IfOk r (GraphShare k)
+all_kept k f c g (Ok m) is cut few law stores n z a b made d e share =
     let all = subst (Layers k c) is (n, z, a, b) in
-    kept k c g all.0 all.1 all.2 all.3 d e (law (typed_nodes k) (length (normal_form k).vars) (form_sizes (normal_form k)) few all.1) (stores_kept k f c g stores is cut made)
-all_kept k f c (Err x) is cut few law stores n z a b made d e = tt
+    kept k c g all.0 all.1 all.2 all.3 d e m share few (law (typed_nodes k) (length (normal_form k).vars) (form_sizes (normal_form k)) few all.1) (stores_kept k f c g stores is cut made)
+all_kept k f c g (Err x) is cut few law stores n z a b made d e share = tt
+
+-- the graph's values can be numbered
+pub can_merge : (k : Typed) (f : Normal) (c : VarGraph) (g : Graph) → f ≡ normal_form k → typed_nodes k ≤ max_nodes → ((n v : ℕ) (z : Sizes) → n ≤ max_nodes → NormalSizes n v z → SmallSizes v z)
+    → NormalShare k f → NormalSizes (typed_nodes k) (length f.vars) (form_sizes f) → CfgShare f c → CfgSizes c (form_sizes f) → ArgsShare c g → ArgsSizes c g → size g < 2 ^ 32
+can_merge k f c g is few law n z a b d e =
+    let all = subst (Layers k c) is (n, z, a, b) in
+    let s = small_size k c g all.0 all.1 all.2 all.3 d e (law (typed_nodes k) (length (normal_form k).vars) (form_sizes (normal_form k)) few all.1) in
+    omega (arith, s)

@@ -1,1 +1,10 @@
+pub mod Elements
+pub mod Laid
+pub mod Expressions
+pub mod Normals
+pub mod Expanded
+pub mod Forms
+pub mod Blocks
+pub mod Made
+pub mod Worked
 pub mod GraphLemmas

@@ -1,1 +1,4 @@
+pub mod Targets
+pub mod Laws
+pub mod Worked
 pub mod Shares

@@ -4,8 +4,9 @@ ghost use Rattle.c_ast.specs.Nodes.{typed_nodes};
 ghost use Rattle.c_meaning.specs.Lawful.{Lawful};
 ghost use Rattle.kernel_graph.specs.Shares.{GraphShare};
 
-use array_targets::stores_are_assignments;
+use crate::laws::stores_are_assignments;
 use block_args::arguments;
+use block_merge::merge;
 use c_ast::Typed;
 use c_norm::laws::small_forms_can_be_built;
 use c_norm::normal;
@@ -15,8 +16,9 @@ use std::alloc::Global;
 use struct_cfg::cfg;
 
 /// The block graph of a kernel: where the kernel ends, under either profile, the graph's run returns with the same arrays
-/// and result, within bounds that a circuit keeps. It has at most 32,768 blocks and a size of at most 8,000,000, and its
-/// steps store to exactly the arrays that the kernel assigns to.
+/// and result, within bounds that a circuit keeps. It has at most 32,768 blocks and a size of at most 8,000,000, and each
+/// block at most 14,336 steps, 1,024 arguments and 1,024 accesses. Its steps store to exactly the arrays that the kernel
+/// assigns to. Blocks in a row are one block, and no edge leads into a block that only leads on.
 ///
 /// # Errors
 ///
@@ -30,5 +32,6 @@ pub fn block_graph(alloc: Global, typed: &Typed) -> Result<Ir, Memory>
     stores_are_assignments();
     let form = normal(alloc, typed)?;
     let graph = cfg(alloc, &form)?;
-    arguments(alloc, &graph)
+    let argued = arguments(alloc, &graph)?;
+    merge(alloc, &argued)
 }

@@ -1,6 +1,9 @@
-//! From the typed tree of a kernel to its block graph, in one call over the layers of the middle.
+//! From the typed tree of a kernel to its block graph, in one call over the layers of the middle; which arrays a kernel
+//! assigns to, and that its block graph stores to these and to no others.
 #![tactic(auto)]
 
 mod graph;
+mod laws;
 
 pub use graph::block_graph;
+pub use laws::stores_are_assignments;

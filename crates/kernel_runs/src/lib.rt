@@ -10,8 +10,6 @@ mod going;
 mod laws;
 mod options;
 mod refusal;
-#[cfg(test)]
-mod tests;
 
 pub use compilation::compile_text;
 pub use going::go_text;

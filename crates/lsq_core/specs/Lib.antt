@@ -1,5 +1,6 @@
 pub mod Acts
 pub mod Views
+pub mod Parts
 pub mod Wants
 pub mod Runs
 pub mod Laws

@@ -4,6 +4,7 @@ ghost use Rattle.std.specs.Prelude.{◌≡◌, ◌+◌, ◌<◌, ◌≤◌, ◌^
 ghost use Rattle.std.specs.List.{find, list_all};
 ghost use Rattle.lsq_core.specs.Acts.{first_changed, is_nil, lets, known, waiting, last_such, source_ok, order_ok, executes, rest, fresh_entry};
 ghost use Rattle.lsq_core.specs.Views.{InOrder, InPorts, no_entries, oldest_of, front_of, entry_at};
+ghost use Rattle.lsq_core.specs.Parts.{none_from};
 ghost use Rattle.lsq_core.specs.Wants.{wanted, changed_by, IsFirst, HasNone};
 ghost use Rattle.lsq_core.specs.declared.entry.Want.TheVariants as want;
 
@@ -57,6 +58,15 @@ impl Entries {
             ports,
             items,
         })
+    }
+
+    /// Gives the next entry this serial number, where there is none yet.
+    pub(crate) fn restart(&mut self, next: u64)
+        requires { self.old.queue.items ≡ [] }
+        ensures { self.new
+            ≡ none_from next self.old.depth self.old.ports self.old.queue.forward }
+    {
+        self.next = next;
     }
 
     /// How many entries there are.
@@ -292,6 +302,22 @@ impl Entries {
         ensures ports { self.new.ports ≡ self.old.ports }
     {
         self.items.push_back(Entry::fresh(self.next, port, store));
+        self.next += 1;
+    }
+
+    /// Adds an entry whose serial number is the next one.
+    pub(crate) fn push(&mut self, entry: Entry)
+        requires room { length self.old.queue.items < self.old.depth }
+        requires serial { entry.serial ≡ self.old.queue.next }
+        requires next { self.old.queue.next < 2 ^ 63 }
+        requires port { entry.port < self.old.ports }
+        ensures items { self.new.queue.items ≡ self.old.queue.items ++ entry ∷ [] }
+        ensures mark { self.new.queue.forward ≡ self.old.queue.forward }
+        ensures next { self.new.queue.next ≡ self.old.queue.next + 1 }
+        ensures depth { self.new.depth ≡ self.old.depth }
+        ensures ports { self.new.ports ≡ self.old.ports }
+    {
+        self.items.push_back(entry);
         self.next += 1;
     }
 }

@@ -4,6 +4,7 @@ ghost use Rattle.std.specs.Prelude.{◌≡◌, ◌+◌, ◌<◌, ◌≤◌, ◌^
 ghost use Rattle.std.specs.List.{find, list_all};
 ghost use Rattle.lsq_core.specs.Acts.{first_changed, is_nil, executes, last_such, waiting, lets, source_ok, order_ok, rest, fresh_entry};
 ghost use Rattle.lsq_core.specs.Views.{InOrder, InPorts, no_entries, oldest_of, front_of, entry_at, count_of};
+ghost use Rattle.lsq_core.specs.Parts.{none_from, IsPartOf};
 ghost use Rattle.lsq_core.specs.Wants.{wanted, changed_by, IsFirst, HasNone};
 ghost use Rattle.lsq_core.specs.Index.{filled, clear, reached, runs, wrapped};
 ghost use Rattle.lsq_core.specs.declared.entry.Want.TheVariants as want;
@@ -11,7 +12,8 @@ ghost use Rattle.lsq_core.specs.declared.entry.Want.TheVariants as want;
 use crate::entries::Entries;
 use crate::entry::{Entry, Made, Want};
 use crate::index::Index;
-use net_types::Memory;
+use crate::part::QueuePart;
+use net_types::{List, Memory};
 use std::alloc::Global;
 use std::marker::Model;
 
@@ -68,6 +70,15 @@ impl Indexed {
             width: 64 * blocks,
             index,
         })
+    }
+
+    /// Gives the next entry this serial number, where there is none yet.
+    pub(crate) fn restart(&mut self, next: u64)
+        requires { self.old.queue.items ≡ [] }
+        ensures { self.new
+            ≡ none_from next self.old.depth self.old.ports self.old.queue.forward }
+    {
+        self.entries.restart(next);
     }
 
     /// How many entries there are.
@@ -358,6 +369,39 @@ impl Indexed {
         let entry = Entry::fresh(self.entries.next(), port, store);
         self.index.add(self.head, self.entries.len(), &entry);
         self.entries.add(port, store);
+    }
+
+    /// Adds an entry whose serial number is the next one.
+    pub(crate) fn push(&mut self, entry: Entry)
+        requires room { length self.old.queue.items < self.old.depth }
+        requires serial { entry.serial ≡ self.old.queue.next }
+        requires next { self.old.queue.next < 2 ^ 63 }
+        requires port { entry.port < self.old.ports }
+        ensures items { self.new.queue.items ≡ self.old.queue.items ++ entry ∷ [] }
+        ensures mark { self.new.queue.forward ≡ self.old.queue.forward }
+        ensures next { self.new.queue.next ≡ self.old.queue.next + 1 }
+        ensures depth { self.new.depth ≡ self.old.depth }
+        ensures ports { self.new.ports ≡ self.old.ports }
+    {
+        self.index.add(self.head, self.entries.len(), &entry);
+        self.entries.push(entry);
+    }
+
+    /// The entries, oldest first, with the next serial number.
+    pub(crate) fn part(&self, alloc: Global) -> Result<QueuePart, Memory>
+        ensures part { IfOk result (λ p. IsPartOf self.now.queue p) }
+        ensures order { InOrder self.now.queue }
+        ensures ports { InPorts self.now.ports self.now.queue.items }
+    {
+        let len = self.len();
+        let mut entries = List::new(alloc);
+        for at in 0..len {
+            entries.push(self.at(at))?;
+        }
+        Ok(QueuePart {
+            next: self.entries.next(),
+            entries,
+        })
     }
 }
 

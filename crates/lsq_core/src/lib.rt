@@ -10,14 +10,14 @@ mod laws;
 mod list_lsq;
 mod lsq;
 mod marks;
+mod part;
 mod queue;
 mod runs;
-#[cfg(test)]
-mod tests;
 
 pub use entry::Entry;
 pub use laws::{acts_join, acts_keep_a_queue, acts_stay_refused, mark_allows_more, rows_hold};
 pub use list_lsq::ListLsq;
 pub use lsq::Lsq;
+pub use part::QueuePart;
 pub use queue::{Outcome, Queue};
 pub use runs::run_acts;

@@ -5,11 +5,13 @@ ghost use Rattle.net_types.specs.declared.net.Port.TheVariants.{Load};
 ghost use Rattle.net_types.specs.Queues.{IsQueueShape};
 ghost use Rattle.net_types.specs.declared.firing.Act.TheVariants.{Alloc, Exec, Retire};
 ghost use Rattle.lsq_core.specs.Acts.{is_store, fresh, or_zero, exec_value, exec_array, load_value, stray_of};
-ghost use Rattle.lsq_core.specs.Views.{QueueView, IsNumberBelow, allows, acted, given, shaped, count_of};
+ghost use Rattle.lsq_core.specs.Views.{QueueView, InOrder, InPorts, IsNumberBelow, allows, acted, given, shaped, count_of};
+ghost use Rattle.lsq_core.specs.Parts.{IsPartOf, MayStand, queue_of, holding};
 
 use crate::entry::{Entry, Made, Want};
 use crate::indexed::Indexed;
 use crate::list_lsq::{is_store_at, is_stray, list_of, lists_of, load, number_within, write};
+use crate::part::QueuePart;
 use crate::queue::{Outcome, Queue};
 use net_types::{Act, List, Memory, Port};
 use std::alloc::Global;
@@ -74,6 +76,31 @@ impl Lsq {
             groups: lists_of(alloc, groups)?,
             entries: Indexed::new(alloc, depth, ports.len(), forward)?,
         })
+    }
+
+    /// The next serial number and the entries, oldest first.
+    ///
+    /// # Errors
+    ///
+    /// [`Memory`] where memory is wanting.
+    pub fn part(&self, alloc: Global) -> Result<QueuePart, Memory>
+        ensures part { IfOk result (λ p. IsPartOf self.now.queue p) }
+        ensures order { InOrder self.now.queue }
+        ensures ports { InPorts (length self.now.ports) self.now.queue.items }
+    {
+        let _ = &self.depth;
+        self.entries.part(alloc)
+    }
+
+    /// Puts entries, oldest first, into a queue that has none, with the next serial number. It takes no memory.
+    pub fn restore(&mut self, part: &QueuePart)
+        requires empty { self.old.queue.items ≡ [] }
+        requires stands { MayStand self.old.depth (length self.old.ports)
+            (queue_of self.old.queue.forward part.now) }
+        ensures { self.new ≡ holding (queue_of self.old.queue.forward part.now) self.old }
+    {
+        let _ = &self.depth;
+        fill(&mut self.entries, part);
     }
 
     /// Whether the free depth holds a group.
@@ -244,5 +271,21 @@ fn add_group(entries: &mut Indexed, ports: &[Port], group: &[u32])
 {
     for port in group {
         entries.add(*port, is_store_at(ports, *port));
+    }
+}
+
+/// Puts the entries of a part into a queue that has none, with the next serial number.
+fn fill(entries: &mut Indexed, part: &QueuePart)
+    requires deep { entries.old.depth < 2 ^ 32 }
+    requires empty { entries.old.queue.items ≡ [] }
+    requires stands { MayStand entries.old.depth entries.old.ports
+        (queue_of entries.old.queue.forward part.now) }
+    ensures { entries.new
+        ≡ record entries.old { queue = queue_of entries.old.queue.forward part.now } }
+{
+    let list = part.entries.as_slice();
+    entries.restart(part.next - list.len() as u64);
+    for entry in list {
+        entries.push(*entry);
     }
 }

@@ -4,8 +4,6 @@
 mod accesses;
 mod grouping;
 mod read_only;
-#[cfg(test)]
-mod tests;
 
 pub use grouping::groups;
 pub use ir::{Access, Groups, Ir, List, Memory};

@@ -18,8 +18,6 @@ mod refusal;
 mod retiming;
 mod shapes;
 mod sizes;
-#[cfg(test)]
-mod tests;
 mod widths;
 mod wires;
 

@@ -10,12 +10,12 @@ use Rattle.net_types.specs.declared.firing.Act.{Act}
 use Rattle.net_types.specs.declared.firing.Act.TheVariants.{Go, Send}
 use Rattle.net_types.specs.declared.firing.Firing.{Firing}
 use Rattle.net_types.specs.Nets.{kind_of, firing, into, chan_at, uses}
-use Rattle.net_types.specs.Order.{act_rank, act_number, is_before}
+use Rattle.net_types.specs.Order.{act_rank, act_number, is_before, ActLe, FiringLe}
 use Rattle.net_check.specs.Checks.{IsChecked}
 use Rattle.net_core.specs.declared.find.Family.TheVariants as family
 use Rattle.net_core.specs.Fire.{State, Effect, idle, enabled, with_head, effect, effect_of, row, head_at, at_array, setting}
-use Rattle.net_core.specs.Finds.{IsLeastFiring, IsLeastFrom, IsQuietFrom}
-use Rattle.net_core.specs.private.Searches.{ActLe, FiringLe, start_from, act_from, NoneIn, IsFirstIn, IsQuiet, IsLeastAct}
+use Rattle.net_core.specs.Finds.{IsLeastFiring, IsLeastFrom, IsQuietFrom, IsQuiet, IsLeastAct}
+use Rattle.net_core.specs.private.Searches.{start_from, act_from, NoneIn, IsFirstIn}
 use Rattle.net_core.proofs.GoesLemmas.{goes}
 use Rattle.net_core.proofs.ForkLemmas.{fork_is, send_inv}
 use Rattle.net_core.proofs.ApartLemmas.{into-at, is_at-inv, first_within}

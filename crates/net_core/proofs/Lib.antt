@@ -23,6 +23,7 @@ pub mod LawLemmas
 pub mod RetimedLemmas
 pub mod RestLemmas
 pub mod UsesLemmas
+pub mod PlanUses
 pub mod AtRestTests
 pub mod UncheckedLemmas
 pub mod SentLemmas
@@ -37,3 +38,4 @@ pub mod OrderLemmas
 pub mod SearchLemmas
 pub mod FindLemmas
 pub mod QueueFindLemmas
+pub mod NumberedLemmas

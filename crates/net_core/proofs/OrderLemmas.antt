@@ -8,8 +8,7 @@ use Rattle.std.specs.declared.cmp.Ordering.TheVariants.{Less, Equal, Greater}
 use Rattle.net_types.specs.declared.firing.Act.{Act}
 use Rattle.net_types.specs.declared.firing.Act.TheVariants.{Go, From, Send, Alloc, Addr, Data, Exec, Reply, Retire, End}
 use Rattle.net_types.specs.declared.firing.Firing.{Firing}
-use Rattle.net_types.specs.Order.{act_rank, act_number, is_before}
-use Rattle.net_core.specs.private.Searches.{ActLe, FiringLe}
+use Rattle.net_types.specs.Order.{act_rank, act_number, is_before, ActLe, FiringLe}
 
 -- how two numbers stand to each other
 data Stand (a b : ℕ) : Ordering → Type 0 where

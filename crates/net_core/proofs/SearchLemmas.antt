@@ -5,11 +5,12 @@ use Rattle.net_types.specs.declared.net.Net.{Net}
 use Rattle.net_types.specs.declared.firing.Act.{Act}
 use Rattle.net_types.specs.declared.firing.Act.TheVariants.{Go, From, Send, Alloc, Addr, Data, Exec, Reply, Retire, End}
 use Rattle.net_types.specs.Nets.{firing}
-use Rattle.net_types.specs.Order.{act_rank, act_number}
+use Rattle.net_types.specs.Order.{act_rank, act_number, ActLe}
 use Rattle.net_core.specs.declared.find.Family.{Family}
 use Rattle.net_core.specs.declared.find.Family.TheVariants as family
 use Rattle.net_core.specs.Fire.{State, enabled}
-use Rattle.net_core.specs.private.Searches.{ActLe, act_of, family_rank, start_from, NoneIn, IsFirstIn, IsQuiet, IsLeastAct}
+use Rattle.net_core.specs.Finds.{IsQuiet, IsLeastAct}
+use Rattle.net_core.specs.private.Searches.{act_of, family_rank, start_from, NoneIn, IsFirstIn}
 
 -- the family of a rank
 family_of : ℕ → Family

@@ -1,5 +1,5 @@
 -- The laws of the runs of checked nets.
-use Rattle.std.specs.Prelude.{◌≡◌, ◌≢◌, ◌↔◌, ℕ, ◌+◌, ◌<◌, ◌≤◌, Bool, true, false, Option, List, [], length, get_or}
+use Rattle.std.specs.Prelude.{◌≡◌, ◌≢◌, ◌↔◌, ℕ, ◌+◌, ◌<◌, ◌≤◌, Bool, true, false, Option, Some, List, [], length, get_or}
 use Rattle.std.specs.List.{All}
 use Rattle.net_types.specs.declared.net.Chan.{Chan}
 use Rattle.net_types.specs.declared.net.Net.{Net}
@@ -9,14 +9,16 @@ use Rattle.net_types.specs.declared.firing.Act.{Act}
 use Rattle.net_types.specs.declared.firing.Act.TheVariants.{Go, From, Send, Alloc, Addr, Data, Exec, Reply, Retire, End}
 use Rattle.net_types.specs.declared.firing.Firing.{Firing}
 use Rattle.net_types.specs.declared.firing.Inputs.{Inputs}
-use Rattle.net_types.specs.Nets.{chan_at, kind_of}
+use Rattle.net_types.specs.Nets.{chan_at, kind_of, firing}
 use Rattle.net_check.specs.Checks.{IsChecked}
 use Rattle.net_check.specs.Retimed.{SamePlain, Retimed}
 use Rattle.net_core.specs.Machine.{Commute}
-use Rattle.net_core.specs.Fire.{State, Row, effect_of, idle, tokens_at, enabled, after}
+use Rattle.net_core.specs.Fire.{State, Row, Effect, effect, effect_of, idle, tokens_at, enabled, after}
 use Rattle.net_core.specs.Control.{control_tokens}
 use Rattle.net_core.specs.Runs.{opening, Leads, Run, AtRest, Long, HasExited}
-use Rattle.net_core.specs.Uses.{used_by, AllSame}
+use Rattle.net_core.specs.declared.plan.Takes.{Takes}
+use Rattle.net_core.specs.Plans.{places_of}
+use Rattle.net_core.specs.Uses.{used_by, AllSame, used, is_fork, places_used}
 
 -- ---- one control token
 
@@ -149,3 +151,8 @@ SpentIsAtRest = (net : Net) (s : State) → IsSpent net s → AtRest net s
 -- an effect rests on the heads that its row uses
 abbrev pub RowsUseOnly : Type 0
 RowsUseOnly = (r : Row) (h g : ℕ → Option ℕ) → AllSame h g (used_by r h) → effect_of r g ≡ effect_of r h
+
+-- a firing looks at the heads that its plan takes, and a fork at its one input, taken or not
+abbrev pub PlansUse : Type 0
+PlansUse = (net : Net) (s : State) (u : ℕ) (a : Act) (e : Effect) (takes : Takes) → effect net s (firing u a) ≡ Some e → e.takes ≡ places_of takes
+    → used net s (firing u a) ≡ places_used (is_fork (kind_of net u)) takes

@@ -41,6 +41,10 @@ state_of s = record {
   strays = s.strays.items;
 }
 
+-- the state with other tokens on its channels
+abbrev pub with_tokens : List (List ℕ) → State → State
+with_tokens xss s = record s { tokens = xss }
+
 -- the cell of a unit; past the units a plain one
 abbrev pub cell_at : Stored → ℕ → Cell
 cell_at s u = get_or s.cells.items u cell.Plain

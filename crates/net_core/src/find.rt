@@ -6,8 +6,8 @@ ghost use Rattle.lsq_core.specs.Views.{oldest_of};
 ghost use Rattle.net_types.specs.Order.{act_rank, act_number};
 ghost use Rattle.net_core.specs.Runs.{AtRest};
 ghost use Rattle.net_core.specs.States.{IsOf, IsQueueAt, state_of};
-ghost use Rattle.net_core.specs.Finds.{IsLeastFiring, IsLeastFrom, IsQuietFrom};
-ghost use Rattle.net_core.specs.private.Searches.{AreNumbersOf, IsFirstIn, IsLeastAct, IsNumberOf, IsQuiet, NoneIn, act_from, act_of, family_rank, numbers_from, queue_families, queue_numbers, serials_from, start_from};
+ghost use Rattle.net_core.specs.Finds.{IsLeastFiring, IsLeastFrom, IsQuietFrom, IsLeastAct, IsQuiet};
+ghost use Rattle.net_core.specs.private.Searches.{AreNumbersOf, IsFirstIn, IsNumberOf, NoneIn, act_from, act_of, family_rank, numbers_from, queue_families, queue_numbers, serials_from, start_from};
 
 use crate::cell::UnitQueue;
 use crate::state::State;
@@ -233,15 +233,17 @@ impl State {
         let count = net.net().units.as_slice().len();
         for at in place.unit as usize..count {
             let unit = at as u32;
-            if let Some(act) = self.first_act(net, unit, act_from(place, unit)) {
+            if let Some(act) = self.find_act(net, unit, act_from(place, unit)) {
                 return Some(Firing { unit, act });
             }
         }
         None
     }
 
-    /// The least enabled act of a unit that is not before another act.
-    fn first_act(&self, net: &Checked, unit: u32, from: Act) -> Option<Act>
+    /// The least enabled act of a unit that is not before another act; `None` exactly where all enabled ones are before it.
+    ///
+    /// It costs one test for each act of the unit that may be enabled from that act on.
+    pub fn find_act(&self, net: &Checked, unit: u32, from: Act) -> Option<Act>
         requires of { IsOf net.now self.now }
         requires within { unit < length net.now.units }
         ensures { MatchOption result (IsQuiet net.now (state_of self.now) unit from)

@@ -1,6 +1,6 @@
 //! Laws of runs, as contracts of functions that do nothing.
 ghost use Rattle.net_core.specs.Laws.{OneToken, OneTaker, EitherOrder, Completion, LimitIsLong, RestIsNotLong, Settled};
-ghost use Rattle.net_core.specs.Laws.{MoreSlots, SameOpening, OneSlotServes, StaysAtRest, SpentIsAtRest, RowsUseOnly};
+ghost use Rattle.net_core.specs.Laws.{MoreSlots, SameOpening, OneSlotServes, StaysAtRest, SpentIsAtRest, RowsUseOnly, PlansUse};
 ghost use Rattle.net_core.specs.Unchecked.{LawsNeedRules};
 ghost use Rattle.net_core.specs.Worked.{WorkedNetsRun};
 
@@ -82,4 +82,9 @@ pub fn laws_need_rules()
 /// mark and with it, within its array and past it.
 pub fn worked_nets_run()
     ensures { WorkedNetsRun }
+{}
+
+/// A firing looks at the heads that its plan takes; a fork looks at its one input, taken or not.
+pub fn plans_use()
+    ensures { PlansUse }
 {}

@@ -4,6 +4,7 @@
 //! the count of control tokens (`Control`).
 #![tactic(auto)]
 
+mod acts;
 mod cell;
 mod find;
 mod inputs;
@@ -13,15 +14,13 @@ mod plan;
 mod sent;
 mod state;
 mod steps;
-#[cfg(test)]
-mod tests;
 mod tokens;
 
 pub use cell::{Cell, UnitQueue};
 pub use inputs::inputs_fit;
 pub use laws::{
-    completion, either_order, laws_need_rules, limit_decides, more_slots, one_token, rows_use_only,
-    settled, spent_is_at_rest, worked_nets_run,
+    completion, either_order, laws_need_rules, limit_decides, more_slots, one_token, plans_use,
+    rows_use_only, settled, spent_is_at_rest, worked_nets_run,
 };
 pub use plan::{Change, Heads, Laid, Moves, Plan, Put, Taken, Takes, moves_of, plan_firing};
 pub use sent::Sent;

@@ -8,9 +8,10 @@ ghost use Rattle.net_types.specs.Nets.{chan_at, kind_of, uses};
 ghost use Rattle.net_check.specs.Ends.{is_lsq};
 ghost use Rattle.net_core.specs.declared.cell.Cell.TheVariants.{Plain};
 ghost use Rattle.net_core.specs.Fire.{first, enabled, after, at_array, has_room, tokens_at};
+ghost use Rattle.net_core.specs.Held.{put_at_end, take_at};
 ghost use Rattle.net_core.specs.Plans.{apart, admits, moves_of};
 ghost use Rattle.net_core.specs.Runs.{HasExited, opening};
-ghost use Rattle.net_core.specs.States.{CountsRise, CountsWithin, IsOf, IsPlanOf, IsQueueAt, TookAtExit, after_where, arrays_of, cell_at, elements_at, queue_array, state_of, strays_at};
+ghost use Rattle.net_core.specs.States.{CountsRise, CountsWithin, IsOf, IsPlanOf, IsQueueAt, TookAtExit, after_where, arrays_of, cell_at, elements_at, queue_array, state_of, strays_at, with_tokens};
 
 use crate::cell::{Cell, UnitQueue};
 use crate::opening::{Home, exit_of, fresh_cells, homes, owners};
@@ -309,6 +310,32 @@ impl State {
         let stray = change_cell(&mut self.cells, firing.unit, plan.change);
         count_strays(&mut self.strays, net, firing.unit, stray);
         let _ = net.net();
+    }
+
+    /// Puts a token on a channel that has room, beside any firing. It takes no memory.
+    #[inline(always)]
+    pub fn put_token(&mut self, net: &Checked, chan: u32, value: u64)
+        requires of { IsOf net.now self.old }
+        requires room { length (tokens_at (state_of self.old) chan) < (chan_at net.now chan).slots }
+        ensures of { IsOf net.now self.new }
+        ensures state { state_of self.new ≡ with_tokens
+            (put_at_end chan value (state_of self.old).tokens) (state_of self.old) }
+    {
+        let _ = net;
+        self.tokens.put(chan, value);
+    }
+
+    /// Takes the oldest token of a channel of the net, beside any firing.
+    #[inline(always)]
+    pub fn take_token(&mut self, net: &Checked, chan: u32)
+        requires of { IsOf net.now self.old }
+        requires within { chan < length net.now.chans }
+        ensures of { IsOf net.now self.new }
+        ensures state { state_of self.new ≡ with_tokens
+            (take_at chan (state_of self.old).tokens) (state_of self.old) }
+    {
+        let _ = net;
+        self.tokens.take(chan);
     }
 
     /// Makes a firing. It takes no memory.

@@ -8,7 +8,8 @@ use Rattle.net_types.specs.Order.{act_number}
 use Rattle.net_replay.specs.declared.schedule_words.TheConstants.{ACT_WORDS}
 use Rattle.net_replay.specs.declared.schedule_words.ActWord.{ActWord}
 use Rattle.net_replay.specs.declared.schedule_words.ActWord.TheVariants.{Go, From, Send, Alloc, Addr, Data, Exec, Reply, Retire, End}
-use Rattle.net_replay.specs.Schedules.{ActFits, act_text}
+use Rattle.net_types.specs.Order.{ActFits}
+use Rattle.net_replay.specs.Schedules.{act_text}
 use Rattle.net_replay.specs.Words.{word_text, has_number, act_of, after_word, IsAfterWord, IsActBefore}
 use Rattle.net_replay.proofs.NumberLemmas.{number_one}
 

@@ -1,12 +1,12 @@
 -- The plain runner, one firing after another.
-use Rattle.std.proofs.Common.{◌≡◌, ℕ, ◌+◌, ◌*◌, ◌^◌, ◌<◌, ◌≤◌, ◌∙◌, Bool, true, false, cond, List, [], ◌∷◌, ◌++◌, length, refl, sym, ap, subst, arith, length-append, append_assoc}
+use Rattle.std.proofs.Common.{◌≡◌, ℕ, ◌+◌, ◌*◌, ◌^◌, ◌<◌, ◌≤◌, ◌∙◌, Bool, true, false, List, [], ◌∷◌, ◌++◌, refl, sym, ap, arith, length-append, append_assoc}
 use Rattle.std.proofs.lemmas.List.{append-nil}
 use Rattle.el_base.specs.Limits.{max_depth, max_firings}
 use Rattle.el_base.specs.Logs.{Logged}
 use Rattle.net_types.specs.declared.net.Net.{Net}
 use Rattle.net_types.specs.declared.firing.Firing.{Firing}
 use Rattle.net_core.specs.Fire.{State, enabled, after}
-use Rattle.net_core.specs.Runs.{Leads, AtRest}
+use Rattle.net_core.specs.Runs.{AtRest}
 use Rattle.net_core.specs.States.{CountsWithin, CountsRise}
 use Rattle.net_replay.specs.declared.runner.Ended.TheVariants.{Rest, Limit}
 use Rattle.net_replay.specs.Finishes.{Finished, IsLogged}

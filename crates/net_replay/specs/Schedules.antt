@@ -4,6 +4,7 @@ use Rattle.std.specs.List.{flat_map}
 use Rattle.net_types.specs.declared.firing.Act.{Act}
 use Rattle.net_types.specs.declared.firing.Act.TheVariants.{Go, From, Send, Alloc, Addr, Data, Exec, Reply, Retire, End}
 use Rattle.net_types.specs.declared.firing.Firing.{Firing}
+use Rattle.net_types.specs.Order.{ActFits}
 
 -- an act: its word, and the number that it names, where it names one
 abbrev pub act_text : Act → List ℕ
@@ -31,18 +32,6 @@ abbrev pub ScheduleText : List Firing → List ℕ → Type 0
 ScheduleText fs bytes = bytes ≡ schedule_text fs
 
 -- the numbers fit their fields
-abbrev pub ActFits : Act → Type 0
-ActFits Go = Unit {0}
-ActFits (From j) = j < 2 ^ 32
-ActFits (Send j) = j < 2 ^ 32
-ActFits (Alloc g) = g < 2 ^ 32
-ActFits (Addr p) = p < 2 ^ 32
-ActFits (Data p) = p < 2 ^ 32
-ActFits (Exec e) = e < 2 ^ 64
-ActFits (Reply p) = p < 2 ^ 32
-ActFits Retire = Unit {0}
-ActFits End = Unit {0}
-
 pub record FiringFits (f : Firing) : Type 0 where
   pub unit : f.unit < 2 ^ 32
   pub act : ActFits f.act

@@ -5,7 +5,8 @@ use Rattle.net_types.specs.declared.firing.Act.{Act}
 use Rattle.net_types.specs.declared.firing.Act.TheVariants as act
 use Rattle.net_replay.specs.declared.schedule_words.ActWord.{ActWord}
 use Rattle.net_replay.specs.declared.schedule_words.ActWord.TheVariants.{Go, From, Send, Alloc, Addr, Data, Exec, Reply, Retire, End}
-use Rattle.net_replay.specs.Schedules.{ActFits, act_text}
+use Rattle.net_types.specs.Order.{ActFits}
+use Rattle.net_replay.specs.Schedules.{act_text}
 
 -- a word with the byte that follows it: a space before a number, else a line feed
 abbrev pub word_text : ActWord → List ℕ

@@ -15,8 +15,6 @@ mod schedule_printer;
 mod schedule_reader;
 mod schedule_refusal;
 mod schedule_words;
-#[cfg(test)]
-mod tests;
 mod visits;
 
 pub use fault::{ReplayFault, RunFault};

@@ -1,7 +1,8 @@
 ghost use Rattle.std.specs.Prelude.{◌≡◌, ◌++◌, [], ◌∷◌, IfOk, OnOk, decimal};
 ghost use Rattle.std.specs.List.{All};
 ghost use Rattle.net_replay.specs.Readings.{ReadsBack};
-ghost use Rattle.net_replay.specs.Schedules.{ActFits, FiringFits, ScheduleText, act_text, firing_text};
+ghost use Rattle.net_types.specs.Order.{ActFits};
+ghost use Rattle.net_replay.specs.Schedules.{FiringFits, ScheduleText, act_text, firing_text};
 
 use el_base::put_u64;
 use net_types::{Act, Firing, Memory};

@@ -1,6 +1,6 @@
 //! The words of acts in a schedule.
 ghost use Rattle.std.specs.Prelude.{◌≡◌, ◌<◌, ◌^◌, MatchOption, SomeIff};
-ghost use Rattle.net_replay.specs.Schedules.{ActFits};
+ghost use Rattle.net_types.specs.Order.{ActFits};
 ghost use Rattle.net_replay.specs.Words.{act_of, has_number, word_text};
 
 use net_types::Act;

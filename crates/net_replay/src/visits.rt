@@ -7,10 +7,9 @@ ghost use Rattle.net_replay.specs.private.Advances.{Advances, MayAdvance};
 
 use crate::marks::Marks;
 use el_base::Log;
-use lsq_core::Queue;
 use net_check::Checked;
-use net_core::{State, UnitQueue};
-use net_types::{Act, Firing, Unit};
+use net_core::State;
+use net_types::Firing;
 
 /// How many firings there may be in all, and whether they are kept in the log.
 #[derive(Clone, Copy, Debug)]
@@ -94,7 +93,7 @@ fn visit(
 {
     let mut count = made;
     for number in 0..u32::MAX {
-        let Some(act) = act_of(net, state, unit, number) else {
+        let Some(act) = state.act_at(net, unit, number) else {
             return count;
         };
         count = try_act(net, state, marks, log, bounds, count, Firing { unit, act });
@@ -140,51 +139,5 @@ pub(crate) fn note(log: &mut Log<Firing>, keep: bool, firing: Firing)
 {
     if keep {
         log.add(firing);
-    }
-}
-
-/// The acts of a unit, by numbers from 0 on; `None` past the last.
-fn act_of(net: &Checked, state: &State, unit: u32, number: u32) -> Option<Act>
-    requires of { IsOf net.now state.now }
-    requires within { unit < length net.now.units }
-{
-    match &net.net().units.as_slice()[unit as usize] {
-        Unit::Fork { outs, .. } => (number < *outs).then_some(Act::Send(number)),
-        Unit::Cmerge { ins } => (number < *ins).then_some(Act::From(number)),
-        Unit::Lsq { ports, groups, .. } => {
-            let ports = u32::try_from(ports.as_slice().len()).ok()?;
-            let groups = u32::try_from(groups.as_slice().len()).ok()?;
-            queue_act(state.queue(net, unit)?, ports, groups, number)
-        }
-        _ => (number == 0).then_some(Act::Go),
-    }
-}
-
-/// The acts of a queue in their order, by numbers from 0 on. Of its executions only that of the oldest entry that may
-/// execute is there; where there is none, a retirement stands in its place.
-fn queue_act(queue: &UnitQueue, ports: u32, groups: u32, number: u32) -> Option<Act> {
-    if number < groups {
-        return Some(Act::Alloc(number));
-    }
-    let number = number - groups;
-    if number < ports {
-        return Some(Act::Addr(number));
-    }
-    let number = number - ports;
-    if number < ports {
-        return Some(Act::Data(number));
-    }
-    let number = number - ports;
-    if number == 0 {
-        return Some(queue.oldest().map_or(Act::Retire, Act::Exec));
-    }
-    let number = number - 1;
-    if number < ports {
-        return Some(Act::Reply(number));
-    }
-    match number - ports {
-        0 => Some(Act::Retire),
-        1 => Some(Act::End),
-        _ => None,
     }
 }

@@ -11,8 +11,6 @@ mod refusal;
 mod replays;
 mod results;
 mod runs;
-#[cfg(test)]
-mod tests;
 
 pub use laws::sound_runs_are_not_refused;
 pub use options::{DEFAULT_FIRINGS, RunOptions};

@@ -5,9 +5,6 @@ ghost use Rattle.std.specs.Prelude.{◌≡◌, ◌<◌, ◌≤◌, ◌^◌, All,
 ghost use Rattle.el_base.specs.Limits.{max_workers};
 ghost use Rattle.net_split.specs.Owners.{owner, owners_of};
 
-#[cfg(test)]
-mod tests;
-
 use net_check::Checked;
 use net_types::{List, Memory};
 use std::alloc::Global;

@@ -19,7 +19,8 @@ use Rattle.net_types.specs.declared.net.Unit.{Unit as Kind}
 use Rattle.net_types.specs.declared.net.Unit.TheVariants.{Entry, Param, Const, Op1, Op2, Select, Fork, Mux, Cmerge, Branch, Sink, Read, Lsq, Exit}
 use Rattle.net_text.specs.declared.version.Version.{Version}
 use Rattle.net_text.specs.declared.version.Version.TheVariants.{One, Two}
-use Rattle.net_text.specs.Fits.{FitsU32, PlaceFits, GroupsFit, ScalarFits, ArrayFits, UnitFits, ChanFits, NetFits}
+use Rattle.el_base.specs.Limits.{IsNumbered}
+use Rattle.net_text.specs.Fits.{PlaceFits, GroupsFit, ScalarFits, ArrayFits, UnitFits, ChanFits, NetFits}
 use Rattle.net_text.specs.Pieces.{place_text, port_letter, ports_text, groups_text, mark_text, control_parts}
 use Rattle.net_text.specs.Reads.{kernel_text, scalar_text, array_text, result_text, unit_text, queue_end, chan_text}
 use Rattle.net_text.specs.Bodies.{Complete, first_text, texts}
@@ -104,13 +105,13 @@ op2_complete Lts64 = refl
 op2_complete Les32 = refl
 op2_complete Les64 = refl
 
-number : (n : ℕ) → FitsU32 n → Complete (decimal n)
+number : (n : ℕ) → IsNumbered n → Complete (decimal n)
 number n f = decimal_lacks 10 n (lit< tt) (omega (arith, f))
 
 two : (a b : List ℕ) → Complete a → Complete b → Complete (a ++ 32 ∷ b)
 two a b f g = lacks-append 10 a (32 ∷ b) f g
 
-numbers : (w n : ℕ) → FitsU32 w → FitsU32 n → Complete (decimal w ++ 32 ∷ decimal n)
+numbers : (w n : ℕ) → IsNumbered w → IsNumbered n → Complete (decimal w ++ 32 ∷ decimal n)
 numbers w n f g = two (decimal w) (decimal n) (number w f) (number n g)
 
 letters : (ps : List Port) → Complete (map port_letter ps)
@@ -161,7 +162,7 @@ result_complete (Some t) = ty_complete t
 place : (p : Place) → PlaceFits p → Complete (place_text p)
 place p f = lacks-append 10 (decimal p.unit) (46 ∷ decimal p.place) (number p.unit f.unit) (number p.place f.place)
 
-delay : (d : ℕ) (ctl : Bool) → FitsU32 d → Complete (join_with_byte 32 (decimal d ∷ control_parts ctl))
+delay : (d : ℕ) (ctl : Bool) → IsNumbered d → Complete (join_with_byte 32 (decimal d ∷ control_parts ctl))
 delay d true f = two (decimal d) (codes "control") (number d f) refl
 delay d false f = number d f
 

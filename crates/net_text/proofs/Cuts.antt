@@ -4,7 +4,7 @@ use Rattle.std.specs.Str.Parse.{AllDigits}
 use Rattle.std.proofs.lemmas.Bool.{false≢true, ne_eqb}
 use Rattle.std.proofs.lemmas.Fmt.{decimal_is_IsNumeral}
 use Rattle.std.proofs.lemmas.Str.Parse.{digit_from_value}
-use Rattle.net_text.specs.Fits.{FitsU32}
+use Rattle.el_base.specs.Limits.{IsNumbered}
 use Rattle.net_text.specs.Reads.{lacks, pair_text}
 
 pub and_first : (a b : Bool) → (a && b) ≡ true → a ≡ true
@@ -47,7 +47,7 @@ pub decimal_lacks : (c n : ℕ) → c < 48 → n < 2 ^ 64 → lacks c (decimal n
 decimal_lacks c n low small = digits_lack c (decimal n) low (decimal_is_IsNumeral n small).0.1
 
 -- two numbers with a separator between them are cut there
-pub pair_cut : (c : ℕ) (p : ℕ × ℕ) (x y : List ℕ) → c < 48 → FitsU32 p.0 → lacks c x ≡ true → pair_text c p ≡ x ++ c ∷ y → (decimal p.0 ≡ x) × (decimal p.1 ≡ y)
+pub pair_cut : (c : ℕ) (p : ℕ × ℕ) (x y : List ℕ) → c < 48 → IsNumbered p.0 → lacks c x ≡ true → pair_text c p ≡ x ++ c ∷ y → (decimal p.0 ≡ x) × (decimal p.1 ≡ y)
 pair_cut c p x y low fits l e = cut_unique c (decimal p.0) (decimal p.1) x y (decimal_lacks c p.0 low (omega (arith, fits))) l e
 
 pub pair_uncut : (c : ℕ) (p : ℕ × ℕ) (bs : List ℕ) → lacks c bs ≡ true → pair_text c p ≢ bs

@@ -4,7 +4,8 @@ use Rattle.std.specs.List.{join_with_byte}
 use Rattle.std.proofs.lemmas.Bool.{ne_eqb}
 use Rattle.net_types.specs.declared.net.Port.{Port}
 use Rattle.net_types.specs.declared.net.Port.TheVariants.{Load, Store}
-use Rattle.net_text.specs.Fits.{FitsU32, GroupFits, GroupsFit}
+use Rattle.el_base.specs.Limits.{IsNumbered}
+use Rattle.net_text.specs.Fits.{GroupFits, GroupsFit}
 use Rattle.net_text.specs.Pieces.{port_letter, ports_text, group_text, groups_text}
 use Rattle.net_text.specs.Reads.{lacks}
 use Rattle.net_text.proofs.Cuts.{lacks_head, lacks_tail, decimal_lacks, decimal_lacks_above}
@@ -17,11 +18,11 @@ pub lacks-append : (c : ℕ) (xs ys : List ℕ) → lacks c xs ≡ true → lack
 lacks-append c [] ys l m = m
 lacks-append c (x ∷ xs) ys l m = lacks-cons c x (xs ++ ys) (lacks_head c x xs l) (lacks-append c xs ys (lacks_tail c x xs l) m)
 
-pub numbers_lack : (c : ℕ) → ((k : ℕ) → FitsU32 k → lacks c (decimal k) ≡ true) → 44 ≢ c → (n : ℕ) (ns : List ℕ) → GroupFits (n ∷ ns) → lacks c (join_with_byte 44 (map decimal (n ∷ ns))) ≡ true
-numbers_lack c digits comma n [] h = digits n (All_head FitsU32 n [] h)
+pub numbers_lack : (c : ℕ) → ((k : ℕ) → IsNumbered k → lacks c (decimal k) ≡ true) → 44 ≢ c → (n : ℕ) (ns : List ℕ) → GroupFits (n ∷ ns) → lacks c (join_with_byte 44 (map decimal (n ∷ ns))) ≡ true
+numbers_lack c digits comma n [] h = digits n (All_head IsNumbered n [] h)
 numbers_lack c digits comma n (m ∷ ms) h =
-    lacks-append c (decimal n) (44 ∷ join_with_byte 44 (map decimal (m ∷ ms))) (digits n (All_head FitsU32 n (m ∷ ms) h))
-    (lacks-cons c 44 _ comma (numbers_lack c digits comma m ms (All_tail FitsU32 n (m ∷ ms) h)))
+    lacks-append c (decimal n) (44 ∷ join_with_byte 44 (map decimal (m ∷ ms))) (digits n (All_head IsNumbered n (m ∷ ms) h))
+    (lacks-cons c 44 _ comma (numbers_lack c digits comma m ms (All_tail IsNumbered n (m ∷ ms) h)))
 
 ports_lack_letters : (ps : List Port) → lacks 32 (map port_letter ps) ≡ true
 ports_lack_letters [] = refl

@@ -11,7 +11,8 @@ use Rattle.el_base.specs.Names.{ty_name}
 use Rattle.el_base.specs.Words.{is_letter, is_word, is_identifier}
 use Rattle.net_types.specs.declared.net.Chan.{Chan}
 use Rattle.net_types.specs.declared.net.Place.{Place}
-use Rattle.net_text.specs.Fits.{FitsU32, PlaceFits, NameFits, ScalarFits, ArrayFits, ChanFits}
+use Rattle.el_base.specs.Limits.{IsNumbered}
+use Rattle.net_text.specs.Fits.{PlaceFits, NameFits, ScalarFits, ArrayFits, ChanFits}
 use Rattle.net_text.specs.Pieces.{place_text}
 use Rattle.net_text.specs.Reads.{lacks, scalar_text, array_text, chan_text, DelayFits, delay_text}
 use Rattle.net_text.proofs.Cuts.{and_first, and_second, cut_unique, cut_present, decimal_lacks}
@@ -110,7 +111,7 @@ pub slots_uncut : (c : Chan) (rest : List ℕ) → from_slots c ≡ rest → lac
 slots_uncut c rest e l = cut_present 32 (decimal c.slots) (delay_text (c.delay, c.ctl)) (ap (lacks 32) e ∙ l)
 
 -- a delay's text that is cut at a space is a control channel's
-delay_parts : (d : ℕ) (ctl : Bool) (text x y : List ℕ) → FitsU32 d → delay_text (d, ctl) ≡ text → (text ≡ x ++ 32 ∷ y) × (lacks 32 x ≡ true) → (decimal d ≡ x) × (codes "control" ≡ y)
+delay_parts : (d : ℕ) (ctl : Bool) (text x y : List ℕ) → IsNumbered d → delay_text (d, ctl) ≡ text → (text ≡ x ++ 32 ∷ y) × (lacks 32 x ≡ true) → (decimal d ≡ x) × (codes "control" ≡ y)
 delay_parts d true text x y f e s = cut_unique 32 (decimal d) (codes "control") x y (decimal_lacks 32 d (lit< tt) (omega (arith, f))) s.1 (e ∙ s.0)
 delay_parts d false text x y f e s = absurd (cut_present 32 x y (ap (lacks 32) (sym (e ∙ s.0)) ∙ decimal_lacks 32 d (lit< tt) (omega (arith, f))))
 

@@ -18,7 +18,8 @@ use Rattle.net_types.specs.declared.net.Unit.{Unit as Kind}
 use Rattle.net_types.specs.declared.net.Unit.TheVariants.{Entry, Param, Const, Op1, Op2, Select, Fork, Mux, Cmerge, Branch, Sink, Read, Lsq, Exit}
 use Rattle.net_text.specs.declared.version.Version.{Version}
 use Rattle.net_text.specs.declared.version.Version.TheVariants.{One, Two}
-use Rattle.net_text.specs.Fits.{FitsU32, PlaceFits, GroupFits, GroupsFit, ScalarFits, ArrayFits, ChanFits, QueueFits, MarkFits, WritesUnit, Writes}
+use Rattle.el_base.specs.Limits.{IsNumbered}
+use Rattle.net_text.specs.Fits.{PlaceFits, GroupFits, GroupsFit, ScalarFits, ArrayFits, ChanFits, QueueFits, MarkFits, WritesUnit, Writes}
 use Rattle.net_text.specs.Pieces.{place_text, port_letter, ports_text, group_text, groups_text, mark_text}
 use Rattle.net_text.specs.Reads.{lacks, scalar_text, array_text, result_text, unit_text, kind_text, QueueEndFits, queue_end, chan_text, delay_text}
 use Rattle.net_text.specs.Bodies.{texts}
@@ -30,10 +31,10 @@ use Rattle.net_text.proofs.Paths.{result_letter}
 use Rattle.net_text.proofs.ReadLemmas.{after_word}
 use Rattle.net_text.proofs.UnitKinds.{unit_kind, queue_text}
 
-number : (m n : ℕ) → FitsU32 m → FitsU32 n → decimal m ≡ decimal n → m ≡ n
+number : (m n : ℕ) → IsNumbered m → IsNumbered n → decimal m ≡ decimal n → m ≡ n
 number m n f g e = decimal_injective m n (omega (arith, f)) (omega (arith, g)) e
 
-no_space : (n : ℕ) → FitsU32 n → lacks 32 (decimal n) ≡ true
+no_space : (n : ℕ) → IsNumbered n → lacks 32 (decimal n) ≡ true
 no_space n f = decimal_lacks 32 n (lit< tt) (omega (arith, f))
 
 map_one : {X : Type 0} (Fits : X → Type 0) (f : X → List ℕ) → ((x y : X) → Fits x → Fits y → f x ≡ f y → x ≡ y) → (xs ys : List X) → All Fits xs → All Fits ys → map f xs ≡ map f ys → xs ≡ ys
@@ -82,13 +83,13 @@ no_dash : (n : ℕ) (ns : List ℕ) → GroupFits (n ∷ ns) → codes "-" ≡ g
 no_dash n ns h e = false≢true (ap (lacks 45) e ∙ numbers_lack 45 (λ k f. decimal_lacks 45 k (lit< tt) (omega (arith, f))) (λ z. omega arith) n ns h)
 
 numbers_split : (n : ℕ) (ns : List ℕ) → GroupFits (n ∷ ns) → slice_split (λ b. b == 44) (group_text (n ∷ ns)) ≡ map decimal (n ∷ ns)
-numbers_split n ns h = split_map FitsU32 44 decimal (λ k f. decimal_lacks 44 k (lit< tt) (omega (arith, f))) n ns h
+numbers_split n ns h = split_map IsNumbered 44 decimal (λ k f. decimal_lacks 44 k (lit< tt) (omega (arith, f))) n ns h
 
 group_one : (g h : List ℕ) → GroupFits g → GroupFits h → group_text g ≡ group_text h → g ≡ h
 group_one [] [] f k e = refl
 group_one [] (n ∷ ns) f k e = absurd (no_dash n ns k e)
 group_one (n ∷ ns) [] f k e = absurd (no_dash n ns f (sym e))
-group_one (n ∷ ns) (m ∷ ms) f k e = map_one FitsU32 decimal number (n ∷ ns) (m ∷ ms) f k (sym (numbers_split n ns f) ∙ ap (slice_split (λ b. b == 44)) e ∙ numbers_split m ms k)
+group_one (n ∷ ns) (m ∷ ms) f k e = map_one IsNumbered decimal number (n ∷ ns) (m ∷ ms) f k (sym (numbers_split n ns f) ∙ ap (slice_split (λ b. b == 44)) e ∙ numbers_split m ms k)
 
 no_word : (g : List ℕ) → GroupFits g → lacks 110 (group_text g) ≡ true
 no_word [] h = refl
@@ -110,7 +111,7 @@ groups_one [] (h ∷ hs) f k e = absurd (no_none h hs k e)
 groups_one (g ∷ gs) [] f k e = absurd (no_none g gs f (sym e))
 groups_one (g ∷ gs) (h ∷ hs) f k e = map_one GroupFits group_text group_one (g ∷ gs) (h ∷ hs) f k (sym (groups_split g gs f) ∙ ap (slice_split (λ b. b == 59)) e ∙ groups_split h hs k)
 
-numbers : (w n x m : ℕ) → FitsU32 w → FitsU32 n → FitsU32 x → FitsU32 m → decimal w ++ 32 ∷ decimal n ≡ decimal x ++ 32 ∷ decimal m → (w ≡ x) × (n ≡ m)
+numbers : (w n x m : ℕ) → IsNumbered w → IsNumbered n → IsNumbered x → IsNumbered m → decimal w ++ 32 ∷ decimal n ≡ decimal x ++ 32 ∷ decimal m → (w ≡ x) × (n ≡ m)
 numbers w n x m fw fn fx fm e =
     let cut = cut_unique 32 (decimal w) (decimal n) (decimal x) (decimal m) (no_space w fw) (no_space x fx) e in
     (number w x fw fx cut.0, number n m fn fm cut.1)
@@ -197,7 +198,7 @@ place_one p q f g e =
     let one : p ≡ record p { unit = q.unit } = ap (λ n. record p { unit = n }) (number p.unit q.unit f.unit g.unit cut.0) in
     one ∙ ap (λ n. record q { place = n }) (number p.place q.place f.place g.place cut.1)
 
-delay_one : (d : ℕ) (b : Bool) (n : ℕ) (c : Bool) → FitsU32 d → FitsU32 n → delay_text (d, b) ≡ delay_text (n, c) → (d ≡ n) × (b ≡ c)
+delay_one : (d : ℕ) (b : Bool) (n : ℕ) (c : Bool) → IsNumbered d → IsNumbered n → delay_text (d, b) ≡ delay_text (n, c) → (d ≡ n) × (b ≡ c)
 delay_one d true n true f g e = (number d n f g (cut_unique 32 (decimal d) (codes "control") (decimal n) (codes "control") (no_space d f) (no_space n g) e).0, refl)
 delay_one d false n false f g e = (number d n f g e, refl)
 delay_one d true n false f g e = absurd (cut_present 32 (decimal d) (codes "control") (ap (lacks 32) e ∙ no_space n g))

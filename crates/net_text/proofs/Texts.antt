@@ -14,7 +14,8 @@ use Rattle.net_text.specs.declared.body.Stage.TheVariants.{Scalars, Arrays, Unit
 use Rattle.net_text.specs.declared.version.Version.{Version}
 use Rattle.net_text.specs.declared.version.Version.TheVariants.{One, Two}
 use Rattle.net_text.specs.declared.refusal.TextRefusal.TheVariants as refusal
-use Rattle.net_text.specs.Fits.{FitsU32, NameFits, NetFits, ScalarFits, ArrayFits, UnitFits, ChanFits, IsWritten, Writes}
+use Rattle.el_base.specs.Limits.{IsNumbered}
+use Rattle.net_text.specs.Fits.{NameFits, NetFits, ScalarFits, ArrayFits, UnitFits, ChanFits, IsWritten, Writes}
 use Rattle.net_text.specs.Pieces.{line}
 use Rattle.net_text.specs.Texts.{NetText, OldText, version_number, version_parts, kernel_parts, scalar_parts, array_parts, result_parts, unit_parts, chan_parts, end_parts, net_lines, net_text}
 use Rattle.net_text.specs.Reads.{version_text, kernel_text, scalar_text, array_text, result_text, unit_text, chan_text}
@@ -73,11 +74,11 @@ identifier_complete bs h = identifier_lacks 10 refl refl bs h
 pub kernel_complete : (name : List ℕ) → NameFits name → Complete (kernel_text name)
 kernel_complete name h = identifier_complete name h
 
-pub version_complete : (n : ℕ) → FitsU32 n → Complete (version_text n)
+pub version_complete : (n : ℕ) → IsNumbered n → Complete (version_text n)
 version_complete n h = decimal_lacks 10 n (lit< tt) (omega (arith, h))
 
 -- the number of a version fits, and is of no other version
-number_fits : (ver : Version) → FitsU32 (version_number ver)
+number_fits : (ver : Version) → IsNumbered (version_number ver)
 number_fits One = lit< tt
 number_fits Two = lit< tt
 
@@ -90,7 +91,7 @@ numbered_once Two Two e = refl
 numbered_once One Two e = absurd (omega (arith, e))
 numbered_once Two One e = absurd (omega (arith, e))
 
-same_number : (ver : Version) (n : ℕ) → FitsU32 n → first_text ver ≡ version_text n → version_number ver ≡ n
+same_number : (ver : Version) (n : ℕ) → IsNumbered n → first_text ver ≡ version_text n → version_number ver ≡ n
 same_number ver n f e = decimal_injective (version_number ver) n (omega (arith, number_fits ver)) (omega (arith, f)) (after_word (codes "elastic ") (decimal (version_number ver)) (decimal n) e)
 
 -- a first line is of one version
@@ -267,7 +268,7 @@ begins_version ver = record { version = ver; net = blank; writes = blank_written
 pub says_no_first : (bytes : List ℕ) → Complete bytes → Says bytes (Err refusal.Ends)
 says_no_first bytes h = record { before = []; complete = All-nil Complete; rest = bytes; whole = refl; incomplete = h; begins = begins_none; unended = λ w. omega (arith, ap length w.whole) }
 
-pub says_first : (bytes text rest : List ℕ) → bytes ≡ text ++ 10 ∷ rest → Complete text → ((n : ℕ) → FitsU32 n → version_text n ≡ text → ⊥) → Says bytes (Err (refusal.Line 1))
+pub says_first : (bytes text rest : List ℕ) → bytes ≡ text ++ 10 ∷ rest → Complete text → ((n : ℕ) → IsNumbered n → version_text n ≡ text → ⊥) → Says bytes (Err (refusal.Line 1))
 says_first bytes text rest e one none = (
   λ o. none o.number o.fits (sym (cut_unique 10 text rest (version_text o.number) o.more one (version_complete o.number o.fits) (sym e ∙ o.whole)).0),
   record {
@@ -280,7 +281,7 @@ says_first bytes text rest e one none = (
   },
 )
 
-pub says_version : (bytes text rest : List ℕ) (n : ℕ) → bytes ≡ text ++ 10 ∷ rest → FitsU32 n × (version_text n ≡ text) → ((v : Version) → n ≢ version_number v) → Says bytes (Err refusal.Version)
+pub says_version : (bytes text rest : List ℕ) (n : ℕ) → bytes ≡ text ++ 10 ∷ rest → IsNumbered n × (version_text n ≡ text) → ((v : Version) → n ≢ version_number v) → Says bytes (Err refusal.Version)
 says_version bytes text rest n e r other = record { number = n; fits = r.0; other = other; more = rest; whole = e ∙ ap (λ l. l ++ 10 ∷ rest) (sym r.1) }
 
 pub says_on : {R : Type 0} (says : List ℕ → R → Type 0) (ver : Version) (bytes text rest : List ℕ) (n : ℕ) (r : R) → bytes ≡ text ++ 10 ∷ rest → version_text n ≡ text → version_number ver ≡ n → says (first_text ver ++ 10 ∷ rest) r → says bytes r

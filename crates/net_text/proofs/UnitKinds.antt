@@ -9,7 +9,8 @@ use Rattle.net_types.specs.declared.net.Unit.{Unit as Kind}
 use Rattle.net_types.specs.declared.net.Unit.TheVariants.{Entry, Param, Const, Op1, Op2, Select, Fork, Mux, Cmerge, Branch, Sink, Read, Lsq, Exit}
 use Rattle.net_text.specs.declared.version.Version.{Version}
 use Rattle.net_text.specs.declared.version.Version.TheVariants.{Two}
-use Rattle.net_text.specs.Fits.{FitsU32, GroupsFit, QueueFits, MarkFits, UnitFits, IsWritten, WritesUnit}
+use Rattle.el_base.specs.Limits.{IsNumbered}
+use Rattle.net_text.specs.Fits.{GroupsFit, QueueFits, MarkFits, UnitFits, IsWritten, WritesUnit}
 use Rattle.net_text.specs.Pieces.{ports_text, groups_text}
 use Rattle.net_text.proofs.Cuts.{cut_unique, decimal_lacks}
 use Rattle.net_text.proofs.GroupTexts.{ports_lack, groups_lack}
@@ -40,14 +41,14 @@ queue_only ver Q args f u e = absurd (false≢true (ap (λ l. eqb (get_or l 0 0)
 
 -- where no kind but a queue's reads a text, no other unit has it
 pub plain_none : (text : List ℕ) → (text ≡ codes "entry" → ⊥) → (text ≡ codes "exit" → ⊥)
-    → ((n : ℕ) → FitsU32 n → codes "param " ++ decimal n ≡ text → ⊥)
-    → ((n : ℕ) → FitsU32 n → codes "select " ++ decimal n ≡ text → ⊥)
+    → ((n : ℕ) → IsNumbered n → codes "param " ++ decimal n ≡ text → ⊥)
+    → ((n : ℕ) → IsNumbered n → codes "select " ++ decimal n ≡ text → ⊥)
     → ((p : ℕ × ℕ) → PairFits p → codes "fork " ++ pair_text 32 p ≡ text → ⊥)
     → ((p : ℕ × ℕ) → PairFits p → codes "mux " ++ pair_text 32 p ≡ text → ⊥)
-    → ((n : ℕ) → FitsU32 n → codes "cmerge " ++ decimal n ≡ text → ⊥)
-    → ((n : ℕ) → FitsU32 n → codes "branch " ++ decimal n ≡ text → ⊥)
-    → ((n : ℕ) → FitsU32 n → codes "sink " ++ decimal n ≡ text → ⊥)
-    → ((n : ℕ) → FitsU32 n → codes "read " ++ decimal n ≡ text → ⊥)
+    → ((n : ℕ) → IsNumbered n → codes "cmerge " ++ decimal n ≡ text → ⊥)
+    → ((n : ℕ) → IsNumbered n → codes "branch " ++ decimal n ≡ text → ⊥)
+    → ((n : ℕ) → IsNumbered n → codes "sink " ++ decimal n ≡ text → ⊥)
+    → ((n : ℕ) → IsNumbered n → codes "read " ++ decimal n ≡ text → ⊥)
     → ((p : ℕ × ℕ) → ConstFits p → codes "const " ++ pair_text 32 p ≡ text → ⊥)
     → ((op : First) → Unit {0} → codes "op1 " ++ op1_name op ≡ text → ⊥)
     → ((op : Second) → Unit {0} → codes "op2 " ++ op2_name op ≡ text → ⊥)
@@ -105,7 +106,7 @@ no_queue ver args none u f e =
     queue_only ver Q args (λ a d ps gs m f e. none a d ps gs m f (after_word (codes "lsq ") (queue_text ver a d ps gs m) args e)) u e f e
 
 -- a queue's text is cut at its spaces
-pub number_cut : (n : ℕ) (more args x r : List ℕ) → FitsU32 n → decimal n ++ 32 ∷ more ≡ args → (args ≡ x ++ 32 ∷ r) × (lacks 32 x ≡ true) → (decimal n ≡ x) × (more ≡ r)
+pub number_cut : (n : ℕ) (more args x r : List ℕ) → IsNumbered n → decimal n ++ 32 ∷ more ≡ args → (args ≡ x ++ 32 ∷ r) × (lacks 32 x ≡ true) → (decimal n ≡ x) × (more ≡ r)
 number_cut n more args x r f e s = cut_unique 32 (decimal n) more x r (decimal_lacks 32 n (lit< tt) (omega (arith, f))) s.1 (e ∙ s.0)
 
 pub ports_cut : (ps : List Port) (more args x r : List ℕ) → ports_text ps ++ 32 ∷ more ≡ args → (args ≡ x ++ 32 ∷ r) × (lacks 32 x ≡ true) → (ports_text ps ≡ x) × (more ≡ r)

@@ -1,5 +1,6 @@
 -- Nets whose numbers fit their fields, and whose names are names; and what a version has words for.
 use Rattle.std.specs.Prelude.{◌≡◌, ℕ, ◌<◌, ◌^◌, Bool, false, List, IsTrue}
+use Rattle.el_base.specs.Limits.{IsNumbered}
 use Rattle.std.specs.List.{All}
 use Rattle.el_base.specs.Words.{is_identifier}
 use Rattle.el_base.specs.declared.ty.Array.{Array}
@@ -12,9 +13,6 @@ use Rattle.net_types.specs.declared.net.Unit.TheVariants.{Entry, Param, Const, O
 use Rattle.net_text.specs.declared.version.Version.{Version}
 use Rattle.net_text.specs.declared.version.Version.TheVariants.{One, Two}
 
-abbrev pub FitsU32 : ℕ → Type 0
-FitsU32 n = n < 2 ^ 32
-
 abbrev pub FitsU64 : ℕ → Type 0
 FitsU64 n = n < 2 ^ 64
 
@@ -23,11 +21,11 @@ abbrev pub Always : {V : Type 0} → V → Type 0
 Always v = Unit {0}
 
 pub record PlaceFits (p : Place) : Type 0 where
-  pub unit : FitsU32 p.unit
-  pub place : FitsU32 p.place
+  pub unit : IsNumbered p.unit
+  pub place : IsNumbered p.place
 
 abbrev pub GroupFits : List ℕ → Type 0
-GroupFits = All FitsU32
+GroupFits = All IsNumbered
 
 abbrev pub GroupsFit : List (List ℕ) → Type 0
 GroupsFit = All GroupFits
@@ -44,32 +42,32 @@ pub record ArrayFits (a : Array) : Type 0 where
 
 -- the numbers of a queue
 pub record QueueFits (a d : ℕ) (gs : List (List ℕ)) : Type 0 where
-  pub array : FitsU32 a
-  pub depth : FitsU32 d
+  pub array : IsNumbered a
+  pub depth : IsNumbered d
   pub groups : GroupsFit gs
 
 abbrev pub UnitFits : Kind → Type 0
 UnitFits Entry = Unit {0}
-UnitFits (Param j) = FitsU32 j
-UnitFits (Const w v) = FitsU32 w × FitsU64 v
+UnitFits (Param j) = IsNumbered j
+UnitFits (Const w v) = IsNumbered w × FitsU64 v
 UnitFits (Op1 op) = Unit {0}
 UnitFits (Op2 op) = Unit {0}
-UnitFits (Select w) = FitsU32 w
-UnitFits (Fork w n) = FitsU32 w × FitsU32 n
-UnitFits (Mux w n) = FitsU32 w × FitsU32 n
-UnitFits (Cmerge n) = FitsU32 n
-UnitFits (Branch w) = FitsU32 w
-UnitFits (Sink w) = FitsU32 w
-UnitFits (Read a) = FitsU32 a
+UnitFits (Select w) = IsNumbered w
+UnitFits (Fork w n) = IsNumbered w × IsNumbered n
+UnitFits (Mux w n) = IsNumbered w × IsNumbered n
+UnitFits (Cmerge n) = IsNumbered n
+UnitFits (Branch w) = IsNumbered w
+UnitFits (Sink w) = IsNumbered w
+UnitFits (Read a) = IsNumbered a
 UnitFits (Lsq a d ps gs f) = QueueFits a d gs
 UnitFits Exit = Unit {0}
 
 pub record ChanFits (c : Chan) : Type 0 where
   pub from : PlaceFits c.from
   pub to : PlaceFits c.to
-  pub width : FitsU32 c.width
-  pub slots : FitsU32 c.slots
-  pub delay : FitsU32 c.delay
+  pub width : IsNumbered c.width
+  pub slots : IsNumbered c.slots
+  pub delay : IsNumbered c.delay
 
 -- a net's header: the names and the sizes of its parameters
 pub record HeaderFits (net : Net) : Type 0 where

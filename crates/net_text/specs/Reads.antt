@@ -8,7 +8,8 @@ use Rattle.net_types.specs.declared.net.Chan.{Chan}
 use Rattle.net_types.specs.declared.net.Unit.{Unit as Kind}
 use Rattle.net_types.specs.declared.net.Unit.TheVariants.{Entry, Param, Const, Op1, Op2, Select, Fork, Mux, Cmerge, Branch, Sink, Read, Lsq, Exit}
 use Rattle.net_text.specs.declared.version.Version.{Version}
-use Rattle.net_text.specs.Fits.{FitsU32, FitsU64, GroupsFit, MarkFits, UnitFits}
+use Rattle.el_base.specs.Limits.{IsNumbered}
+use Rattle.net_text.specs.Fits.{FitsU64, GroupsFit, MarkFits, UnitFits}
 use Rattle.net_text.specs.Pieces.{groups_text, mark_parts, control_parts}
 use Rattle.net_text.specs.Texts.{kernel_parts, scalar_parts, array_parts, result_parts, unit_parts, chan_parts}
 
@@ -34,7 +35,7 @@ lacks c bs = list_all (λ b. not (b == c)) bs
 
 -- two numbers with a separator between them
 abbrev pub PairFits : ℕ × ℕ → Type 0
-PairFits p = FitsU32 p.0 × FitsU32 p.1
+PairFits p = IsNumbered p.0 × IsNumbered p.1
 
 abbrev pub pair_text : ℕ → ℕ × ℕ → List ℕ
 pair_text c p = decimal p.0 ++ c ∷ decimal p.1
@@ -72,7 +73,7 @@ PlainFits Exit = UnitFits Exit
 
 -- a width and a value with a space between them
 abbrev pub ConstFits : ℕ × ℕ → Type 0
-ConstFits p = FitsU32 p.0 × FitsU64 p.1
+ConstFits p = IsNumbered p.0 × FitsU64 p.1
 
 -- each kind of line without its line feed
 abbrev pub version_text : ℕ → List ℕ
@@ -95,7 +96,7 @@ chan_text c = join_with_byte 32 (chan_parts c)
 
 -- the delay of a channel, and whether it is control
 abbrev pub DelayFits : ℕ × Bool → Type 0
-DelayFits p = FitsU32 p.0
+DelayFits p = IsNumbered p.0
 
 abbrev pub delay_text : ℕ × Bool → List ℕ
 delay_text p = join_with_byte 32 (decimal p.0 ∷ control_parts p.1)

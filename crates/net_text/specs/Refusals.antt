@@ -6,7 +6,8 @@ use Rattle.net_types.specs.declared.net.Net.{Net}
 use Rattle.net_text.specs.declared.refusal.TextRefusal.{TextRefusal}
 use Rattle.net_text.specs.declared.refusal.TextRefusal.TheVariants as refusal
 use Rattle.net_text.specs.declared.version.Version.{Version}
-use Rattle.net_text.specs.Fits.{FitsU32, NetFits, Writes}
+use Rattle.el_base.specs.Limits.{IsNumbered}
+use Rattle.net_text.specs.Fits.{NetFits, Writes}
 use Rattle.net_text.specs.Texts.{NetText, OldText, version_number}
 use Rattle.net_text.specs.Reads.{version_text}
 use Rattle.net_text.specs.Bodies.{Complete, text_of, texts}
@@ -52,7 +53,7 @@ pub record Spells (ls : List (List ℕ)) : Type 0 where
 -- the first line is complete and is `elastic` and a number that is no version's
 pub record IsOtherVersion (bytes : List ℕ) : Type 0 where
   pub number : ℕ
-  pub fits : FitsU32 number
+  pub fits : IsNumbered number
   pub other : (v : Version) → number ≢ version_number v
   pub more : List ℕ
   pub whole : bytes ≡ version_text number ++ 10 ∷ more

@@ -10,8 +10,6 @@ mod read_pieces;
 mod read_units;
 mod reader;
 mod refusal;
-#[cfg(test)]
-mod tests;
 mod units;
 mod version;
 

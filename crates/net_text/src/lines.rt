@@ -1,7 +1,8 @@
 //! Readers of single lines of a net's text, each without its line feed. Each gives a value exactly where the line is the
 //! text of one: no line has two texts of a number, more or fewer spaces, or more or fewer pieces.
 ghost use Rattle.std.specs.Prelude.{◌≡◌, ◌↔◌, codes, IsTrue, IfOk};
-ghost use Rattle.net_text.specs.Fits.{FitsU32, NameFits, ScalarFits, ArrayFits, ChanFits, Always};
+ghost use Rattle.el_base.specs.Limits.{IsNumbered};
+ghost use Rattle.net_text.specs.Fits.{NameFits, ScalarFits, ArrayFits, ChanFits, Always};
 ghost use Rattle.net_text.specs.Reads.{Reads, version_text, kernel_text, scalar_text, array_text, result_text, chan_text, DelayFits, delay_text};
 
 use crate::read_pieces::{after, cut, number_after, read_place, read_u32, read_u64};
@@ -10,7 +11,7 @@ use std::alloc::Global;
 
 /// The version that a first line names; `None` where it is no such line.
 pub(crate) fn read_version(line: &[u8]) -> Option<u32>
-    ensures { Reads FitsU32 version_text line.now result }
+    ensures { Reads IsNumbered version_text line.now result }
 {
     number_after(line, b"elastic ")
 }

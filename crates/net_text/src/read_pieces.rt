@@ -1,6 +1,7 @@
 ghost use Rattle.std.specs.Prelude.{◌≡◌, ◌≢◌, ◌==◌, ◌∷◌, ◌++◌, ◌<◌, true, decimal, map, IfOk, MatchOption, List, ℕ};
 ghost use Rattle.std.specs.List.{slice_split};
-ghost use Rattle.net_text.specs.Fits.{FitsU32, FitsU64, PlaceFits, GroupFits, GroupsFit, Always};
+ghost use Rattle.el_base.specs.Limits.{IsNumbered};
+ghost use Rattle.net_text.specs.Fits.{FitsU64, PlaceFits, GroupFits, GroupsFit, Always};
 ghost use Rattle.net_text.specs.Pieces.{place_text, port_letter, ports_text, group_text, groups_text, mark_text};
 ghost use Rattle.net_text.specs.Reads.{Named, Every, Reads, PairFits, pair_text, lacks, starts_plain};
 
@@ -37,8 +38,8 @@ fn starts_plain(bytes: &[u8]) -> bool
 
 /// The number that bytes write, where it is below 2^32.
 pub(crate) fn read_u32(bytes: &[u8]) -> Option<u32>
-    ensures named { Named FitsU32 decimal bytes.now result }
-    ensures every { Every FitsU32 decimal bytes.now result }
+    ensures named { Named IsNumbered decimal bytes.now result }
+    ensures every { Every IsNumbered decimal bytes.now result }
 {
     match read_u64(bytes) {
         Some(number) => u32::try_from(number).ok(),
@@ -78,7 +79,7 @@ pub(crate) fn read_two(bytes: &[u8], separator: u8) -> Option<(u32, u32)>
 
 /// A number after a word.
 pub(crate) fn number_after(text: &[u8], word: &[u8]) -> Option<u32>
-    ensures { Reads FitsU32 (λ n. word.now ++ decimal n) text.now result }
+    ensures { Reads IsNumbered (λ n. word.now ++ decimal n) text.now result }
 {
     match after(text, word) {
         Some(number) => read_u32(number),

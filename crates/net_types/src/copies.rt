@@ -2,7 +2,7 @@ ghost use Rattle.std.specs.Prelude.{◌≡◌, IfOk};
 
 use crate::firing::Inputs;
 use crate::net::{Net, Unit};
-use el_base::{Array, List, Memory, Scalar};
+use el_base::{List, Memory, copy_arrays, copy_scalars};
 use std::alloc::Global;
 
 impl Net {
@@ -96,26 +96,6 @@ fn copy_lists<T: Copy>(alloc: Global, lists: &[List<T>]) -> Result<List<List<T>>
     let mut copies = List::new(alloc);
     for list in lists {
         copies.push(list.copy()?)?;
-    }
-    Ok(copies)
-}
-
-fn copy_scalars(alloc: Global, scalars: &[Scalar]) -> Result<List<Scalar>, Memory>
-    ensures { IfOk result (λ copies. copies ≡ scalars.now) }
-{
-    let mut copies = List::new(alloc);
-    for scalar in scalars {
-        copies.push(scalar.copy()?)?;
-    }
-    Ok(copies)
-}
-
-fn copy_arrays(alloc: Global, arrays: &[Array]) -> Result<List<Array>, Memory>
-    ensures { IfOk result (λ copies. copies ≡ arrays.now) }
-{
-    let mut copies = List::new(alloc);
-    for array in arrays {
-        copies.push(array.copy()?)?;
     }
     Ok(copies)
 }

@@ -7,8 +7,6 @@
 
 mod laws;
 mod marking;
-#[cfg(test)]
-mod tests;
 
 pub use laws::{marks_allow_runs, marks_keep_rules, queues_have_the_mark};
 pub use marking::mark_queues;

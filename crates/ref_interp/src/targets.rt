@@ -3,14 +3,15 @@ ghost use Rattle.std.specs.Prelude.{◌≡◌};
 ghost use Rattle.c_meaning.specs.Statements.{objects, object_type};
 ghost use Rattle.ref_interp.specs.Targets.{TargetGives, OldGives, StoreGives, UpdateGives};
 ghost use Rattle.ref_interp.specs.Statements.{AssignGives, UpdatedGives, StepGives};
-ghost use Rattle.c_ast.specs.ResultTypes.{promoted, usual, joint_type, result_type};
 ghost use Rattle.c_meaning.specs.declared.profile.Profile.{Profile};
 
 use crate::cells::{Cells, Trace};
 use crate::expressions::{element, eval, place_of, read, strict};
 use crate::machine::{Ending, Machine, put_element, put_var};
 use crate::operators::converted;
-use c_ast::{Binary, Object, Span, Ty, Typed, TypedExpr, TypedTarget};
+use c_ast::{
+    Binary, Object, Span, Ty, Typed, TypedExpr, TypedTarget, joint_type, result_type, usual,
+};
 use c_meaning::Profile;
 
 /// The place of a target: of an element by its indices, and 0 of a variable.
@@ -90,56 +91,6 @@ pub(crate) fn store(
     Ending::Normally
 }
 
-fn promoted(ty: Ty) -> Ty
-    ensures { result ≡ promoted ty }
-{
-    match ty {
-        Ty::I8 | Ty::U8 | Ty::I16 | Ty::U16 | Ty::I32 => Ty::I32,
-        Ty::U32 => Ty::U32,
-        Ty::I64 => Ty::I64,
-        Ty::U64 => Ty::U64,
-    }
-}
-
-/// The type in which two operands are joined.
-fn usual(a: Ty, b: Ty) -> Ty
-    ensures { result ≡ usual a b }
-{
-    match (promoted(a), promoted(b)) {
-        (Ty::U64, _) | (_, Ty::U64) => Ty::U64,
-        (Ty::I64, _) | (_, Ty::I64) => Ty::I64,
-        (Ty::U32, _) | (_, Ty::U32) => Ty::U32,
-        _ => Ty::I32,
-    }
-}
-
-/// The type in which an operator joins operands of two types.
-fn joint(op: Binary, a: Ty, b: Ty) -> Ty
-    ensures { result ≡ joint_type op a b }
-{
-    match op {
-        Binary::Shl | Binary::Shr => promoted(a),
-        _ => usual(a, b),
-    }
-}
-
-/// The type of a result.
-fn result_of(op: Binary, ty: Ty) -> Ty
-    ensures { result ≡ result_type op ty }
-{
-    match op {
-        Binary::Lt
-        | Binary::Gt
-        | Binary::Le
-        | Binary::Ge
-        | Binary::Eq
-        | Binary::Ne
-        | Binary::Both
-        | Binary::Either => Ty::I32,
-        _ => ty,
-    }
-}
-
 /// Joins what a target holds with a value of a type, and stores the result. `joint` is the type in which they are joined.
 fn join_into(
     typed: &Typed,
@@ -158,7 +109,7 @@ fn join_into(
 {
     let x = converted(type_of(typed, target.to), joint, old);
     let z = strict(profile, &mut m.trace, op, joint, by, x, y, target.at);
-    store(typed, m, target.to, place, result_of(op, joint), z)
+    store(typed, m, target.to, place, result_type(op, joint), z)
 }
 
 /// `target = value`.
@@ -203,7 +154,7 @@ pub(crate) fn update(
         return Ending::Undefined;
     }
     let y = eval(typed, profile, &m.cells, &mut m.trace, value);
-    let joint = joint(op, type_of(typed, target.to), value.ty);
+    let joint = joint_type(op, type_of(typed, target.to), value.ty);
     join_into(
         typed, profile, m, target, place, old, op, joint, value.ty, y,
     )

@@ -11,7 +11,7 @@ use Rattle.struct_cfg.specs.declared.draft.Draft.{Draft}
 use Rattle.struct_cfg.specs.Code.{draft_size, HasSpace, HasGrown}
 use Rattle.struct_cfg.specs.Drafts.{with_value, close}
 use Rattle.struct_cfg.specs.Kernels.{empty, IsSmallForm}
-use Rattle.struct_cfg.specs.Lists.{closes_all, steps_all}
+use Rattle.c_meaning.specs.PartLaws.{blocks_of, steps_of}
 use Rattle.struct_cfg.specs.Lowering.{lower}
 use Rattle.struct_cfg.proofs.Blocks.{length_count_from}
 use Rattle.struct_cfg.proofs.Lays.{grown_close, grown_kind}
@@ -38,14 +38,14 @@ kind_grows arrays x y k d e is =
 empty_size : (n : ℕ) → draft_size (empty n) ≡ n
 empty_size n = omega (arith, length_count_from 0 n)
 
-pub body_space : (f : Normal) (n : ℕ) (d : Draft) (ss : List NormalStmt) → IsSmallForm f → n ≡ length f.vars → d ≡ empty n → ss ≡ f.body → HasSpace d (closes_all ss) (steps_all ss)
+pub body_space : (f : Normal) (n : ℕ) (d : Draft) (ss : List NormalStmt) → IsSmallForm f → n ≡ length f.vars → d ≡ empty n → ss ≡ f.body → HasSpace d (blocks_of ss) (steps_of ss)
 body_space f n d ss small is e b =
     let a = empty_size n in
     rw (e, b) (omega arith)
 
-pub end_space : (f : Normal) (n : ℕ) (d e : Draft) (ss : List NormalStmt) → IsSmallForm f → n ≡ length f.vars → d ≡ empty n → ss ≡ f.body → HasGrown d e (closes_all ss) (steps_all ss) → HasSpace e 1 1
+pub end_space : (f : Normal) (n : ℕ) (d e : Draft) (ss : List NormalStmt) → IsSmallForm f → n ≡ length f.vars → d ≡ empty n → ss ≡ f.body → HasGrown d e (blocks_of ss) (steps_of ss) → HasSpace e 1 1
 end_space f n d e ss small is i b few =
     let a : draft_size d ≡ n = ap draft_size i ∙ empty_size n in
-    let c : closes_all ss ≡ closes_all f.body = ap closes_all b in
-    let g : steps_all ss ≡ steps_all f.body = ap steps_all b in
+    let c : blocks_of ss ≡ blocks_of f.body = ap blocks_of b in
+    let g : steps_of ss ≡ steps_of f.body = ap steps_of b in
     omega arith

@@ -304,11 +304,7 @@ accesses_cost = record {
   returned = λ e. refl;
 }
 
-each_below : (f : CfgBlock → ℕ) (bs : List CfgBlock) (m : ℕ) → sum_by f bs ≤ m → All (λ b. f b ≤ m) bs
-each_below f [] m h = All-nil (λ b. f b ≤ m)
-each_below f (b ∷ bs) m h = let n = sum_by-cons f b bs in All-cons (λ b. f b ≤ m) b bs (omega (arith, n)) (each_below f bs m (omega (arith, n)))
-
-pub sizes_kept : (f : Normal) → CfgSizes (form_graph f) (length f.vars) (form_sizes f)
+pub sizes_kept : (f : Normal) → CfgSizes (form_graph f) (form_sizes f)
 unfolding steps_cost accesses_cost
 sizes_kept f =
     let a : sum_by (λ (b : CfgBlock). length b.steps) (form_graph f).blocks ≤ (form_sizes f).steps + 1 = more_whole length steps_cost f.arrays f.result 1 (length f.vars) f.body (λ w m. omega arith) in
@@ -316,5 +312,5 @@ sizes_kept f =
     record {
       blocks = form_blocks f;
       steps = omega (arith, a);
-      accesses = each_below (λ (b : CfgBlock). accesses_in b.steps) (form_graph f).blocks (form_sizes f).accesses (omega (arith, b));
+      accesses = omega (arith, b);
     }

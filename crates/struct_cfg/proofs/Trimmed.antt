@@ -32,18 +32,18 @@ trim_shares f g h same share = record {
       subst (ShowsVariables f.vars (normal_run f p z e.bound).store) (sym last) shown;
 }
 
-trim_sizes : (g h : VarGraph) (v : ℕ) (z : Sizes) → TrimSizes g h → CfgSizes g v z → CfgSizes h v z
-trim_sizes g h v z same sizes = record {
+trim_sizes : (g h : VarGraph) (z : Sizes) → TrimSizes g h → CfgSizes g z → CfgSizes h z
+trim_sizes g h z same sizes = record {
   blocks = same.blocks ∙ sizes.blocks;
   steps = omega (arith, same.all_steps, sizes.steps);
-  accesses = same.most_accesses z.accesses sizes.accesses;
+  accesses = omega (arith, same.all_accesses, sizes.accesses);
 }
 
 pub trimmed_share : (f : Normal) (g h : VarGraph) → TrimmedGraphsRunTheSame → IsVarGraph g → h ≡ trimmed g → CfgShare f g → CfgShare f h
 trimmed_share f g h law fit is share = subst (CfgShare f) (sym is) (trim_shares f g (trimmed g) (law g fit) share)
 
-pub trimmed_sizes : (g h : VarGraph) (v : ℕ) (z : Sizes) → TrimmedSizesAreKept → h ≡ trimmed g → CfgSizes g v z → CfgSizes h v z
-trimmed_sizes g h v z law is sizes = subst (λ (h : VarGraph). CfgSizes h v z) (sym is) (trim_sizes g (trimmed g) v z (law g) sizes)
+pub trimmed_sizes : (g h : VarGraph) (z : Sizes) → TrimmedSizesAreKept → h ≡ trimmed g → CfgSizes g z → CfgSizes h z
+trimmed_sizes g h z law is sizes = subst (λ (h : VarGraph). CfgSizes h z) (sym is) (trim_sizes g (trimmed g) z (law g) sizes)
 
 pub trimmed_trim : (g h : VarGraph) → TrimmedBlocksAreTrim → h ≡ trimmed g → All IsTrim h.blocks
 trimmed_trim g h law is = subst (λ (h : VarGraph). All IsTrim h.blocks) (sym is) (law g)

@@ -20,7 +20,7 @@ abbrev pub FormVariablesAreShown : Type 0
 FormVariablesAreShown = (f : Normal) → LawfulNormal f → VariablesFollow f (form_graph f)
 
 abbrev pub FormSizesAreKept : Type 0
-FormSizesAreKept = (f : Normal) → CfgSizes (form_graph f) (length f.vars) (form_sizes f)
+FormSizesAreKept = (f : Normal) → CfgSizes (form_graph f) (form_sizes f)
 
 abbrev pub FormHeadersAreKept : Type 0
 FormHeadersAreKept = (f : Normal) → var_graph_header (form_graph f) ≡ normal_header f

@@ -1,5 +1,6 @@
 -- The blocks of lists of statements, of statements that may be absent, and of statements by their parts, as the code takes them apart.
 use Rattle.std.specs.Prelude.{ℕ, ◌+◌, List, [], ◌∷◌, sum_by, Option, Some, None}
+use Rattle.c_meaning.specs.PartLaws.{blocks_of, blocks_if_any, blocks_of_step}
 use Rattle.c_ast.specs.declared.typed.ArrayOf.{ArrayOf}
 use Rattle.c_ast.specs.declared.typed.TypedExpr.{TypedExpr}
 use Rattle.c_ast.specs.declared.normal.NormalStmt.{NormalStmt}
@@ -10,25 +11,6 @@ use Rattle.struct_cfg.specs.Drafts.{here, close}
 use Rattle.struct_cfg.specs.Lowering.{with_condition, condition_of, if_parts, lower}
 
 -- ---- sizes
-
-abbrev pub closes_all : List NormalStmt → ℕ
-closes_all ss = sum_by (λ s. closes s.kind) ss
-
-abbrev pub closes_any : Option NormalStmt → ℕ
-closes_any None = 0
-closes_any (Some s) = closes s.kind
-
--- the step of a for has a block of its own
-abbrev pub closes_any_step : Option NormalStmt → ℕ
-closes_any_step None = 0
-closes_any_step (Some s) = closes s.kind + 1
-
-abbrev pub steps_all : List NormalStmt → ℕ
-steps_all ss = sum_by (λ s. steps s.kind) ss
-
-abbrev pub steps_any : Option NormalStmt → ℕ
-steps_any None = 0
-steps_any (Some s) = steps s.kind
 
 -- ---- blocks
 
@@ -56,12 +38,12 @@ module _ (arrays : List ArrayOf) where
   entered (Some cond) x d = branched cond (here d + 1) x d
 
   abbrev pub lower_if : ℕ → ℕ → List NormalStmt → TypedExpr → NormalStmt → Option NormalStmt → Draft → Draft
-  lower_if x y before cond s o d = if_parts arrays (lower_all x y before) cond (closes s.kind) (lower arrays x y s.kind) (closes_any o) (lower_any x y o) d
+  lower_if x y before cond s o d = if_parts arrays (lower_all x y before) cond (closes s.kind) (lower arrays x y s.kind) (blocks_if_any o) (lower_any x y o) d
 
   abbrev pub lower_while : ℕ → ℕ → List NormalStmt → TypedExpr → NormalStmt → Draft → Draft
   lower_while x y before cond s d =
       let head = here d + 1 in
-      let exit = head + closes_all before + 1 + closes s.kind + 1 in
+      let exit = head + blocks_of before + 1 + closes s.kind + 1 in
       let d1 = lower_all x y before (close (Go head) d) in
       close (Go head) (lower arrays exit head s.kind (branched cond (here d1 + 1) exit d1))
 
@@ -69,7 +51,7 @@ module _ (arrays : List ArrayOf) where
   lower_do x y s before cond d =
       let first = here d + 1 in
       let head = first + closes s.kind + 1 in
-      let exit = head + closes_all before + 1 in
+      let exit = head + blocks_of before + 1 in
       branched cond first exit (lower_all x y before (close (Go head) (lower arrays exit head s.kind (close (Go first) d))))
 
   -- the step of a for
@@ -81,7 +63,7 @@ module _ (arrays : List ArrayOf) where
   abbrev pub lower_for : ℕ → ℕ → List NormalStmt → Option TypedExpr → Option NormalStmt → NormalStmt → Draft → Draft
   lower_for x y before cond o s d =
       let head = here d + 1 in
-      let after = head + closes_all before + 1 + closes s.kind + 1 in
-      let exit = after + closes_any_step o in
+      let after = head + blocks_of before + 1 + closes s.kind + 1 in
+      let exit = after + blocks_of_step o in
       let d1 = entered cond exit (lower_all x y before (close (Go head) d)) in
       close (Go head) (stepped x y o after (lower arrays exit (again_in o head after) s.kind d1))

@@ -1,5 +1,5 @@
 -- What the graph of a normal form is made to keep: its runs, its variables and its sizes.
-use Rattle.std.specs.Prelude.{◌≡◌, ℕ, ◌+◌, ◌≤◌, List, [], ◌∷◌, length, map, get_or, sum_by, All, ℤ, Option, Some, None}
+use Rattle.std.specs.Prelude.{◌≡◌, ℕ, ◌+◌, ◌≤◌, List, [], ◌∷◌, length, map, get_or, sum_by, ℤ, Option, Some, None}
 use Rattle.el_base.specs.declared.ty.Ty.{Ty}
 use Rattle.el_base.specs.declared.ty.Ty.TheVariants.{I32}
 use Rattle.el_base.specs.Numbers.{pattern}
@@ -56,9 +56,9 @@ pub record CfgShare (f : Normal) (g : VarGraph) : Type 0 where
 
 -- ---- sizes
 
--- as many blocks as the form's size says; steps and accesses that are written at most as many, and one step for each variable and one more:
+-- as many blocks as the form's size says; steps and accesses that are written, all blocks together, at most as many, and one step more:
 -- the last block of a kernel with a result has a constant that no run comes to
-pub record CfgSizes (g : VarGraph) (v : ℕ) (z : Sizes) : Type 0 where
+pub record CfgSizes (g : VarGraph) (z : Sizes) : Type 0 where
   pub blocks : length g.blocks ≡ z.blocks
-  pub steps : sum_by (λ b. length b.steps) g.blocks ≤ z.steps + v + 1
-  pub accesses : All (λ b. accesses_in b.steps ≤ z.accesses) g.blocks
+  pub steps : sum_by (λ b. length b.steps) g.blocks ≤ z.steps + 1
+  pub accesses : sum_by (λ b. accesses_in b.steps) g.blocks ≤ z.accesses

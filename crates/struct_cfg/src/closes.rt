@@ -1,7 +1,7 @@
 //! How many blocks statements close.
 ghost use Rattle.std.specs.Prelude.{◌≡◌, ◌<◌, ◌^◌};
 ghost use Rattle.c_meaning.specs.Sizes.{closes};
-ghost use Rattle.struct_cfg.specs.Lists.{closes_all, closes_any, closes_any_step};
+ghost use Rattle.c_meaning.specs.PartLaws.{blocks_of, blocks_if_any, blocks_of_step};
 
 use c_ast::{NormalStmt, NormalStmtKind};
 use el_base::Boxed;
@@ -17,23 +17,23 @@ pub(crate) fn closes(stmt: &NormalStmt) -> u32
     ensures { result ≡ closes stmt.now.kind }
 {
     match &stmt.kind {
-        NormalStmtKind::Block(stmts) => closes_all(stmts.as_slice()),
+        NormalStmtKind::Block(stmts) => blocks_of(stmts.as_slice()),
         NormalStmtKind::If {
             before,
             cond: _,
             then,
             other,
-        } => closes_all(before.as_slice()) + closes(then.get()) + closes_any(other) + 3,
+        } => blocks_of(before.as_slice()) + closes(then.get()) + blocks_if_any(other) + 3,
         NormalStmtKind::While {
             before,
             cond: _,
             body,
-        } => closes_all(before.as_slice()) + closes(body.get()) + 3,
+        } => blocks_of(before.as_slice()) + closes(body.get()) + 3,
         NormalStmtKind::DoWhile {
             body,
             before,
             cond: _,
-        } => closes(body.get()) + closes_all(before.as_slice()) + 3,
+        } => closes(body.get()) + blocks_of(before.as_slice()) + 3,
         NormalStmtKind::For {
             first,
             before,
@@ -41,8 +41,8 @@ pub(crate) fn closes(stmt: &NormalStmt) -> u32
             step,
             body,
         } => {
-            let outside = closes_all(first.as_slice()) + closes_all(before.as_slice());
-            outside + closes(body.get()) + closes_any_step(step) + 3
+            let outside = blocks_of(first.as_slice()) + blocks_of(before.as_slice());
+            outside + closes(body.get()) + blocks_of_step(step) + 3
         }
         NormalStmtKind::Break | NormalStmtKind::Continue | NormalStmtKind::Return(_) => 1,
         NormalStmtKind::Declare { var: _, init: _ }
@@ -55,9 +55,9 @@ pub(crate) fn closes(stmt: &NormalStmt) -> u32
 }
 
 #[cycle(closes)]
-pub(crate) fn closes_all(stmts: &[NormalStmt]) -> u32
-    requires { closes_all stmts.now < 2 ^ 32 }
-    ensures { result ≡ closes_all stmts.now }
+pub(crate) fn blocks_of(stmts: &[NormalStmt]) -> u32
+    requires { blocks_of stmts.now < 2 ^ 32 }
+    ensures { result ≡ blocks_of stmts.now }
 {
     let mut total = 0;
     for stmt in stmts {
@@ -67,9 +67,9 @@ pub(crate) fn closes_all(stmts: &[NormalStmt]) -> u32
 }
 
 #[cycle(closes)]
-pub(crate) fn closes_any(stmt: &Option<Boxed<NormalStmt>>) -> u32
-    requires { closes_any stmt.now < 2 ^ 32 }
-    ensures { result ≡ closes_any stmt.now }
+pub(crate) fn blocks_if_any(stmt: &Option<Boxed<NormalStmt>>) -> u32
+    requires { blocks_if_any stmt.now < 2 ^ 32 }
+    ensures { result ≡ blocks_if_any stmt.now }
 {
     match stmt {
         None => 0,
@@ -79,9 +79,9 @@ pub(crate) fn closes_any(stmt: &Option<Boxed<NormalStmt>>) -> u32
 
 /// How many blocks the step of a `for` closes, with the way to it.
 #[cycle(closes)]
-pub(crate) fn closes_any_step(step: &Option<Boxed<NormalStmt>>) -> u32
-    requires { closes_any_step step.now < 2 ^ 32 }
-    ensures { result ≡ closes_any_step step.now }
+pub(crate) fn blocks_of_step(step: &Option<Boxed<NormalStmt>>) -> u32
+    requires { blocks_of_step step.now < 2 ^ 32 }
+    ensures { result ≡ blocks_of_step step.now }
 {
     match step {
         None => 0,

@@ -39,8 +39,7 @@ pub fn cfg(alloc: Global, normal: &Normal) -> Result<Cfg, Memory>
     requires small { IsSmallForm normal.now }
     ensures graph { IfOk result (λ g. g ≡ trimmed (form_graph normal.now)) }
     ensures share { IfOk result (CfgShare normal.now) }
-    ensures sizes { IfOk result
-        (λ g. CfgSizes g (length normal.now.vars) (form_sizes normal.now)) }
+    ensures sizes { IfOk result (λ g. CfgSizes g (form_sizes normal.now)) }
     ensures trim { IfOk result (λ g. All IsTrim g.blocks) }
 {
     trimmed_graphs_run_the_same();
@@ -58,8 +57,7 @@ fn wide_cfg(alloc: Global, normal: &Normal) -> Result<Cfg, Memory>
     ensures graph { IfOk result (λ g. g ≡ form_graph normal.now) }
     ensures fit { IfOk result IsVarGraph }
     ensures share { IfOk result (CfgShare normal.now) }
-    ensures sizes { IfOk result
-        (λ g. CfgSizes g (length normal.now.vars) (form_sizes normal.now)) }
+    ensures sizes { IfOk result (λ g. CfgSizes g (form_sizes normal.now)) }
 {
     graphs_follow_their_forms();
     Ok(Cfg {

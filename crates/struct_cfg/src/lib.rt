@@ -11,7 +11,5 @@ mod joins;
 pub mod laws;
 mod operators;
 mod statements;
-#[cfg(test)]
-mod tests;
 
 pub use graph::cfg;

@@ -6,9 +6,10 @@ ghost use Rattle.c_meaning.specs.Sizes.{closes, steps};
 ghost use Rattle.struct_cfg.specs.Code.{HasSpace, HasGrown};
 ghost use Rattle.struct_cfg.specs.Drafts.{close, with_steps};
 ghost use Rattle.struct_cfg.specs.Lowering.{with_expr, value_of, assign_var, assign_to, assign_element, declare, returning, lower};
-ghost use Rattle.struct_cfg.specs.Lists.{closes_all, closes_any, closes_any_step, steps_all, steps_any, lower_all, lower_any, branched, entered, lower_if, lower_while, lower_do, lower_for, again_in, stepped};
+ghost use Rattle.c_meaning.specs.PartLaws.{blocks_of, blocks_if_any, blocks_of_step, steps_of, steps_if_any};
+ghost use Rattle.struct_cfg.specs.Lists.{lower_all, lower_any, branched, entered, lower_if, lower_while, lower_do, lower_for, again_in, stepped};
 
-use crate::closes::{closes, closes_all, closes_any, closes_any_step};
+use crate::closes::{blocks_if_any, blocks_of, blocks_of_step, closes};
 use crate::draft::Draft;
 use crate::exprs::{condition, expr, store};
 use c_ast::{ArrayOf, NormalStmt, NormalStmtKind, Object, TypedExpr, TypedTarget};
@@ -277,15 +278,15 @@ fn lower_if(
 ) -> Result<(), Memory>
     requires is { stmt.now.kind ≡ normal.If before.now cond.now then.now other.now }
     requires room { HasSpace draft.old
-        (closes_all before.now + closes then.now.kind + closes_any other.now + 3)
-        (steps_all before.now + (expr_price cond.now + 2) + steps then.now.kind + steps_any other.now) }
+        (blocks_of before.now + closes then.now.kind + blocks_if_any other.now + 3)
+        (steps_of before.now + (expr_price cond.now + 2) + steps then.now.kind + steps_if_any other.now) }
     ensures { OnOk result (draft.new
         ≡ lower_if arrays.now to.exit to.again before.now cond.now then.now other.now draft.old) }
 {
     lower_all(alloc, draft, arrays, to, before)?;
     let yes = draft.here() + 1;
     let no = yes + closes(then) + 1;
-    let join = no + closes_any(other) + 1;
+    let join = no + blocks_if_any(other) + 1;
     branch(alloc, draft, arrays, cond, yes, no)?;
     lower(alloc, draft, arrays, to, then)?;
     draft.close(alloc, CfgJump::Go(join))?;
@@ -307,13 +308,13 @@ fn lower_while(
     body: &NormalStmt,
 ) -> Result<(), Memory>
     requires is { stmt.now.kind ≡ normal.While before.now cond.now body.now }
-    requires room { HasSpace draft.old (closes_all before.now + closes body.now.kind + 3)
-        (steps_all before.now + (expr_price cond.now + 2) + steps body.now.kind) }
+    requires room { HasSpace draft.old (blocks_of before.now + closes body.now.kind + 3)
+        (steps_of before.now + (expr_price cond.now + 2) + steps body.now.kind) }
     ensures { OnOk result (draft.new
         ≡ lower_while arrays.now to.exit to.again before.now cond.now body.now draft.old) }
 {
     let head = draft.here() + 1;
-    let exit = head + closes_all(before) + 1 + closes(body) + 1;
+    let exit = head + blocks_of(before) + 1 + closes(body) + 1;
     draft.close(alloc, CfgJump::Go(head))?;
     lower_all(alloc, draft, arrays, to, before)?;
     let yes = draft.here() + 1;
@@ -336,14 +337,14 @@ fn lower_do(
     cond: &TypedExpr,
 ) -> Result<(), Memory>
     requires is { stmt.now.kind ≡ normal.DoWhile body.now before.now cond.now }
-    requires room { HasSpace draft.old (closes body.now.kind + closes_all before.now + 3)
-        (steps body.now.kind + steps_all before.now + (expr_price cond.now + 2)) }
+    requires room { HasSpace draft.old (closes body.now.kind + blocks_of before.now + 3)
+        (steps body.now.kind + steps_of before.now + (expr_price cond.now + 2)) }
     ensures { OnOk result (draft.new
         ≡ lower_do arrays.now to.exit to.again body.now before.now cond.now draft.old) }
 {
     let first = draft.here() + 1;
     let head = first + closes(body) + 1;
-    let exit = head + closes_all(before) + 1;
+    let exit = head + blocks_of(before) + 1;
     draft.close(alloc, CfgJump::Go(first))?;
     lower(alloc, draft, arrays, Targets { exit, again: head }, body)?;
     draft.close(alloc, CfgJump::Go(head))?;
@@ -367,17 +368,17 @@ fn lower_for(
     body: &NormalStmt,
 ) -> Result<(), Memory>
     requires is { stmt.now.kind ≡ normal.For first.now before.now cond.now step.now body.now }
-    requires room { HasSpace draft.old (closes_all first.now + closes_all before.now
-        + closes body.now.kind + closes_any_step step.now + 3)
-        (steps_all first.now + steps_all before.now + (option_price cond.now + 2)
-        + steps body.now.kind + steps_any step.now) }
+    requires room { HasSpace draft.old (blocks_of first.now + blocks_of before.now
+        + closes body.now.kind + blocks_of_step step.now + 3)
+        (steps_of first.now + steps_of before.now + (option_price cond.now + 2)
+        + steps body.now.kind + steps_if_any step.now) }
     ensures { OnOk result (draft.new ≡ lower_for arrays.now to.exit to.again before.now cond.now
         step.now body.now (lower_all arrays.now to.exit to.again first.now draft.old)) }
 {
     lower_all(alloc, draft, arrays, to, first)?;
     let head = draft.here() + 1;
-    let after = head + closes_all(before) + 1 + closes(body) + 1;
-    let exit = after + closes_any_step(step);
+    let after = head + blocks_of(before) + 1 + closes(body) + 1;
+    let exit = after + blocks_of_step(step);
     draft.close(alloc, CfgJump::Go(head))?;
     lower_all(alloc, draft, arrays, to, before)?;
     enter(alloc, draft, arrays, cond, exit)?;
@@ -408,11 +409,11 @@ fn lower_step(
     step: &Option<Boxed<NormalStmt>>,
     after: u32,
 ) -> Result<(), Memory>
-    requires { HasSpace draft.old (closes_any_step step.now) (steps_any step.now) }
+    requires { HasSpace draft.old (blocks_of_step step.now) (steps_if_any step.now) }
     ensures made { OnOk result
         (draft.new ≡ stepped arrays.now to.exit to.again step.now after draft.old) }
     ensures few { OnOk result
-        (HasGrown draft.old draft.new (closes_any_step step.now) (steps_any step.now)) }
+        (HasGrown draft.old draft.new (blocks_of_step step.now) (steps_if_any step.now)) }
 {
     match step {
         None => Ok(()),
@@ -431,11 +432,11 @@ pub(crate) fn lower_all(
     to: Targets,
     stmts: &[NormalStmt],
 ) -> Result<(), Memory>
-    requires { HasSpace draft.old (closes_all stmts.now) (steps_all stmts.now) }
+    requires { HasSpace draft.old (blocks_of stmts.now) (steps_of stmts.now) }
     ensures made { OnOk result
         (draft.new ≡ lower_all arrays.now to.exit to.again stmts.now draft.old) }
     ensures few { OnOk result
-        (HasGrown draft.old draft.new (closes_all stmts.now) (steps_all stmts.now)) }
+        (HasGrown draft.old draft.new (blocks_of stmts.now) (steps_of stmts.now)) }
 {
     for stmt in stmts {
         lower(alloc, draft, arrays, to, stmt)?;
@@ -451,11 +452,11 @@ fn lower_any(
     to: Targets,
     stmt: &Option<Boxed<NormalStmt>>,
 ) -> Result<(), Memory>
-    requires { HasSpace draft.old (closes_any stmt.now) (steps_any stmt.now) }
+    requires { HasSpace draft.old (blocks_if_any stmt.now) (steps_if_any stmt.now) }
     ensures made { OnOk result
         (draft.new ≡ lower_any arrays.now to.exit to.again stmt.now draft.old) }
     ensures few { OnOk result
-        (HasGrown draft.old draft.new (closes_any stmt.now) (steps_any stmt.now)) }
+        (HasGrown draft.old draft.new (blocks_if_any stmt.now) (steps_if_any stmt.now)) }
 {
     match stmt {
         None => Ok(()),

@@ -9,8 +9,6 @@ mod division;
 pub mod laws;
 mod reading;
 mod shifts;
-#[cfg(test)]
-mod tests;
 
 pub use apply::{apply1, apply2};
 pub use el_base::{Op1, Op2};

@@ -12,7 +12,8 @@ use Rattle.net_replay.specs.declared.fault.RunFault.{RunFault}
 use Rattle.net_replay.specs.declared.fault.RunFault.TheVariants as fault
 use Rattle.cycle_engine.specs.declared.engine.Engine.{Engine}
 use Rattle.cycle_engine.specs.declared.engine.Bounds.{Bounds}
-use Rattle.cycle_engine.specs.Cycles.{Dated, dated_opening, May, IsOldest, IsUnused, Makes, Once, InOrder, Cycles, phase, after_in}
+use Rattle.lsq_core.specs.Laws.{phase}
+use Rattle.cycle_engine.specs.Cycles.{Dated, dated_opening, May, IsOldest, IsUnused, Makes, Once, InOrder, Cycles, after_in}
 use Rattle.cycle_engine.specs.Bounds.{firing_count}
 use Rattle.cycle_engine.specs.Cuts.{joined, IsCut}
 use Rattle.cycle_engine.specs.private.Trials.{dated_of, IsBegun, IsEngine}

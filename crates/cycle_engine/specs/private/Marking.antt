@@ -19,7 +19,7 @@ use Rattle.net_core.specs.Plans.{chans_of}
 use Rattle.cycle_engine.specs.declared.marks.Marks.{Marks}
 use Rattle.cycle_engine.specs.declared.notes.Notes.{Notes}
 use Rattle.cycle_engine.specs.declared.freed.Freed.{Freed}
-use Rattle.cycle_engine.specs.private.Kinds.{is_fork}
+use Rattle.net_core.specs.Uses.{is_fork}
 
 -- ---- lists
 

@@ -21,7 +21,8 @@ use Rattle.net_core.specs.States.{state_of}
 use Rattle.cycle_engine.specs.declared.engine.Engine.{Engine}
 use Rattle.cycle_engine.specs.declared.engine.Bounds.{Bounds}
 use Rattle.cycle_engine.specs.declared.marks.Marks.{Marks}
-use Rattle.cycle_engine.specs.Cycles.{Dated, May, IsOldest, IsRipe, IsUnused, act_place}
+use Rattle.lsq_core.specs.Laws.{act_place}
+use Rattle.cycle_engine.specs.Cycles.{Dated, May, IsOldest, IsRipe, IsUnused}
 use Rattle.cycle_engine.specs.private.Trials.{dated_of}
 use Rattle.cycle_engine.specs.private.Marking.{Holds, IsMarked}
 use Rattle.cycle_engine.specs.private.Goings.{Past, IsReady, InCycle, HasDone, AllPlain, IsWatching, all_made}

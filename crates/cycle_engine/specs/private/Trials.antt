@@ -22,7 +22,7 @@ use Rattle.circular_buffer.specs.Buffer.{last_item}
 use Rattle.net_core.specs.States.{state_of, IsOf}
 use Rattle.cycle_engine.specs.declared.engine.Engine.{Engine}
 use Rattle.cycle_engine.specs.Cycles.{Dated, AreDated, dated}
-use Rattle.cycle_engine.specs.private.Kinds.{is_fork}
+use Rattle.net_core.specs.Uses.{is_fork, places_used}
 
 -- the state of the engine with the dates of its tokens
 abbrev pub dated_of : Engine → Dated
@@ -52,11 +52,6 @@ dates_after net u takes put c dates =
     changed_from (moved net u (effect_by (Sink 0) idle [] (record { takes = takes; put = dated c put; change = change.Keep }))) 0 dates
 
 -- ---- the start of the cycle
-
--- the places whose heads a plan uses
-abbrev pub places_used : Bool → Takes → List ℕ
-places_used true takes = 0 ∷ []
-places_used false takes = places_of takes
 
 -- the channel on which is put is not among those that were full at the start and from which tokens were taken
 abbrev pub HadRoom : List Bool → Option Laid → Type 0

@@ -1,5 +1,5 @@
 -- Private: only contracts of this crate cite it. Acts that are looked for one after another.
-use Rattle.std.specs.Prelude.{◌≡◌, ◌⊎◌, ℕ, ◌+◌, ◌<◌, ◌≤◌, ◌^◌, ◌==◌, nat_lt, cond, Option, Some, None, List, [], ◌∷◌, length}
+use Rattle.std.specs.Prelude.{◌≡◌, ℕ, ◌+◌, ◌<◌, ◌≤◌, ◌^◌, ◌==◌, nat_lt, cond, Option, Some, None, List, [], ◌∷◌, length}
 use Rattle.net_types.specs.declared.net.Net.{Net}
 use Rattle.net_types.specs.declared.firing.Act.{Act}
 use Rattle.net_types.specs.declared.firing.Act.TheVariants.{Go, From, Send, Alloc, Addr, Data, Exec, Reply, Retire, End}
@@ -11,14 +11,6 @@ use Rattle.net_core.specs.declared.find.Family.{Family}
 use Rattle.net_core.specs.declared.find.Family.TheVariants as family
 use Rattle.net_core.specs.declared.find.Numbers.{Numbers}
 use Rattle.net_core.specs.Fire.{State, enabled}
-
--- the act a stands before b, or is b
-abbrev pub ActLe : Act → Act → Type 0
-ActLe a b = (act_rank a < act_rank b) ⊎ ((act_rank a ≡ act_rank b) × (act_number a ≤ act_number b))
-
--- the firing f stands before g, or is g
-abbrev pub FiringLe : Firing → Firing → Type 0
-FiringLe f g = (f.unit < g.unit) ⊎ ((f.unit ≡ g.unit) × ActLe f.act g.act)
 
 -- the acts of a family
 abbrev pub act_of : Family → ℕ → Act
@@ -106,16 +98,6 @@ pub record IsFirstIn (net : Net) (s : State) (u : ℕ) (f : Family) (start end :
   pub is : act ≡ act_of f number
   pub fires : enabled net s (firing u act)
   pub before : NoneIn net s u f start number
-
--- no act of the unit is enabled but those before an act
-abbrev pub IsQuiet : Net → State → ℕ → Act → Type 0
-IsQuiet net s u from = (b : Act) → enabled net s (firing u b) → ActLe from b → ⊥
-
--- the act is the least enabled one of the unit that is not before an act
-pub record IsLeastAct (net : Net) (s : State) (u : ℕ) (from act : Act) : Type 0 where
-  pub fires : enabled net s (firing u act)
-  pub after : ActLe from act
-  pub least : (b : Act) → enabled net s (firing u b) → ActLe from b → ActLe act b
 
 -- the act from which on the acts of the unit u are looked at
 abbrev pub act_from : Firing → ℕ → Act

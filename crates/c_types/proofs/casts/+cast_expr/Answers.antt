@@ -3,7 +3,7 @@ use Rattle.std.proofs.lemmas.Result.{IfOk-weaker}
 use Rattle.c_types.proofs.FirstFaults.{item_more}
 use Rattle.c_types.proofs.CastLemmas.{number_arm, unary_arm, cast_arm, binary_arm, choose_arm, no_exprs, one_more_expr}
 use Rattle.c_types.proofs.CastLemmas.{long_as}
-use Rattle.c_types.proofs.ExpressionParts.{element_use, element_parts, unary_part, cast_part, left_part, right_part, cond_part, then_part, other_part}
+use Rattle.c_types.proofs.ExpressionParts.{element_use, no_call, element_parts, unary_part, cast_part, left_part, right_part, cond_part, then_part, other_part}
 use Rattle.c_types.specs.Contexts.{IsCastExpr}
 use Rattle.c_ast.specs.declared.tree.ExprKind.TheViews.{the_lemmas}
 use Rattle.c_types.proofs.casts.+cast_expr.Goals as goal
@@ -41,6 +41,9 @@ cast_exprs-loop-expr-preserved t c =
 
 pub cast_expr-cast_exprs-requires : goal.cast_expr-cast_exprs-requires
 cast_expr-cast_exprs-requires t c = (search (rules, the_lemmas), element_parts c.args.scopes.now c.args.expr.now _ _ c.as_slice.result.now c.requires c.in-Element.is c.as_slice.ensures)
+
+pub cast_expr-unreachable-requires : goal.cast_expr-unreachable-requires
+cast_expr-unreachable-requires t c = no_call c.args.scopes.now c.args.expr.now _ _ c.requires c.in-Call.is
 
 pub cast_expr-cast_element-requires : goal.cast_expr-cast_element-requires
 cast_expr-cast_element-requires t c =

@@ -1,8 +1,8 @@
 use Rattle.std.proofs.Common.{length, sym, ap, ◌∙◌, take}
 use Rattle.c_types.specs.Places.{first_of}
-use Rattle.c_types.specs.Faults.{use_faults, kind_faults, expr_faults, exprs_faults}
+use Rattle.c_types.specs.Faults.{use_faults, call_faults, kind_faults, expr_faults, exprs_faults}
 use Rattle.c_types.proofs.FirstFaults.{of_two, of_three, item_more}
-use Rattle.c_types.proofs.Layers.{in_element, in_unary, in_cast, in_binary, in_choice}
+use Rattle.c_types.proofs.Layers.{in_element, in_call, in_unary, in_cast, in_binary, in_choice}
 use Rattle.c_types.proofs.Arms.{one_more_expr}
 use Rattle.c_types.proofs.faults.+expr_faults.Goals as goal
 
@@ -18,6 +18,14 @@ of_expr-returns-in-Element t c =
     (c.of_use-fault.ensures ∙ ap (λ n. first_of (use_faults c.args.scopes.now c.in-Element.name n c.args.expr.now.at)) c.len.ensures)
     (c.of_exprs.ensures ∙ ap (λ es. first_of (exprs_faults c.args.scopes.now es)) c.as_slice.ensures)
     c.earlier.ensures
+
+pub of_expr-returns-in-Call : goal.of_expr-returns-in-Call
+of_expr-returns-in-Call t c =
+    of_two (call_faults c.args.scopes.now c.in-Call.name (length c.in-Call.args) c.args.expr.now.at) (exprs_faults c.args.scopes.now c.in-Call.args) (expr_faults c.args.scopes.now c.args.expr.now) _ _ _
+    (ap (λ k. kind_faults c.args.scopes.now k c.args.expr.now.at) c.in-Call.is ∙ in_call c.args.scopes.now c.in-Call.name c.in-Call.args c.args.expr.now.at)
+    (c.of_call-fault.ensures ∙ ap (λ n. first_of (call_faults c.args.scopes.now c.in-Call.name n c.args.expr.now.at)) c.len-in-Call.ensures)
+    (c.of_exprs-in-Call.ensures ∙ ap (λ es. first_of (exprs_faults c.args.scopes.now es)) c.as_slice-in-Call.ensures)
+    c.earlier-in-Call.ensures
 
 pub of_expr-returns-in-Binary : goal.of_expr-returns-in-Binary
 of_expr-returns-in-Binary t c =

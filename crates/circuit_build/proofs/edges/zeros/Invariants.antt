@@ -1,5 +1,5 @@
 use Rattle.std.proofs.Common.{◌≡◌}
-use Rattle.circuit_build.specs.Edges.{zeros}
+use Rattle.circuit_build.specs.Uses.{zeros}
 use Rattle.circuit_build.proofs.edges.zeros.Given as goal
 
 abbrev pub invariant-loop-i : goal.invariant-loop-i

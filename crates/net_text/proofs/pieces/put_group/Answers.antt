@@ -1,6 +1,6 @@
 use Rattle.std.proofs.Common.{◌++◌, decimal, ap, sym, ◌∙◌, arith}
 use Rattle.std.proofs.lemmas.List.Elements.{All-from_get_or}
-use Rattle.net_text.specs.Fits.{FitsU32}
+use Rattle.el_base.specs.Limits.{IsNumbered}
 use Rattle.net_text.specs.Pieces.{group_text}
 use Rattle.net_text.proofs.PrintedLines.{loop_written}
 use Rattle.net_text.proofs.pieces.put_group.Goals as goal
@@ -11,4 +11,4 @@ returns-after-loop-number-clause-ok c =
     ∙ ap (λ g. c.args.text.now.items ++ group_text g) (sym c.in-Some.ensures.cases.0)
 
 pub returns-after-loop-number-clause-fits : goal.returns-after-loop-number-clause-fits
-returns-after-loop-number-clause-fits c = All-from_get_or FitsU32 c.args.group.now 0 (λ i within. omega (arith, c.type_inv.group i))
+returns-after-loop-number-clause-fits c = All-from_get_or IsNumbered c.args.group.now 0 (λ i within. omega (arith, c.type_inv.group i))

@@ -17,5 +17,5 @@ returns c n t p w u m is can seen pj rt g used an =
     let cast = c.converted-x.ensures ∙ ap (λ t. converted_by (conversion_op t c.args.joint) c.args.old) ty in
     let v = later u (joined_with at (joined_in k.profile c.args.op c.args.joint) (read_place s p) w) in
     let it = join_answers k t c.args.joint c.args.by at c.args.op p w u m c.args.old c.args.y c.strict-z.result c.converted-x.result s c.args.m.now.trace new can.laws cast pj rt g used an c.strict-z.ensures in
-    let h = c.store.ensures c.args.profile n t p v is (record { laws = can.laws; parts = can.parts; cells = can.cells; few = can.few }) seen (subst (λ ty. Answered new.failed ty v 0 new c.strict-z.result) (sym c.result_of.ensures) it) in
+    let h = c.store.ensures c.args.profile n t p v is (record { laws = can.laws; parts = can.parts; cells = can.cells; few = can.few }) seen (subst (λ ty. Answered new.failed ty v 0 new c.strict-z.result) (sym c.result_type.ensures) it) in
     record { is = h.is; cells = h.cells; few = h.few; given = h.given }

@@ -50,7 +50,7 @@ returns c h can =
     let used : n.turns ≡ plus_turns 0 g.turns = old_turns at h.0 c.old_of-old.result t.turns n.turns g.turns (read_place s g.place) (g.used ∙ ap (λ z. plus_turns z g.turns) c.start.ensures.turns) og in
     let w = c.eval-y.ensures h.3 (ready_after k c.args.m.now.cells h.0 (after_turns at 0 (read_place s g.place)) t n c.old_of-old.result ready c.if-m-2.false og) in
     let ty = c.type_of.ensures c.args.profile ∙ type_is k c.args.target.now.to _ h.0 h.1.0 in
-    let j : c.joint-joint.result ≡ joint_type c.args.op h.0 e.ty = c.joint-joint.ensures ∙ ap (λ t. joint_type c.args.op t e.ty) ty in
+    let j : c.joint_type-joint.result ≡ joint_type c.args.op h.0 e.ty = c.joint_type-joint.ensures ∙ ap (λ t. joint_type c.args.op t e.ty) ty in
     let old : Machine = record { cells = c.args.m.now.cells; trace = y; left = c.args.m.now.left; value = c.args.m.now.value } in
     let ran = c.join_into.ensures _ h.0 g.place (meaning k e s) g.turns n.turns h.1.0 (record { laws = can.laws; parts = can.parts; cells = can.cells; few = can.few }) g.seen
     (subst (λ j. j ≡ promoted j) (sym j) (joint_promoted c.args.op h.0 e.ty)) (subst (λ j. IsRightType c.args.op j e.ty) (sym j) (right_of c.args.op h.0 e.ty h.2)) (old_gives at h.0 c.old_of-old.result t.turns n.turns (read_place s g.place) og) used w in

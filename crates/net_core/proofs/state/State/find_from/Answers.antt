@@ -1,6 +1,6 @@
 use Rattle.std.proofs.Common.{◌∙◌, ap, subst, length, arith}
 use Rattle.net_core.specs.States.{state_of}
-use Rattle.net_core.specs.private.Searches.{IsQuiet, IsLeastAct}
+use Rattle.net_core.specs.Finds.{IsQuiet, IsLeastAct}
 use Rattle.net_core.proofs.FindLemmas.{least_from, quiet_next, quiet_from}
 use Rattle.net_core.proofs.state.State.find_from.Goals as goal
 

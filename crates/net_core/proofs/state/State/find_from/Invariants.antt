@@ -1,6 +1,7 @@
 use Rattle.std.proofs.Common.{ℕ, ◌<◌, ◌≤◌}
 use Rattle.net_core.specs.States.{state_of}
-use Rattle.net_core.specs.private.Searches.{IsQuiet, act_from}
+use Rattle.net_core.specs.Finds.{IsQuiet}
+use Rattle.net_core.specs.private.Searches.{act_from}
 use Rattle.net_core.proofs.state.State.find_from.Given as goal
 
 abbrev pub invariant-loop-at : goal.invariant-loop-at

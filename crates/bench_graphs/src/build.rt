@@ -1,0 +1,71 @@
+//! The bench of circuits of block graphs makes graphs of a hundredth, a tenth and all of a size, with steps of all kinds, and
+//! prints how long the circuit of each takes for a unit of size, with its ratio to that of the first.
+
+use crate::block_graphs::{PIECE, graph};
+use anyhow::{Context, Result, bail, ensure};
+use circuit_build::build;
+use ir::Ir;
+use lsq_groups::groups;
+use std::io::Write;
+use std::time::Instant;
+
+/// The part of the size that each graph has.
+const PARTS: [u32; 3] = [100, 10, 1];
+
+/// How many pieces a block has.
+const PIECES: u32 = 16;
+
+/// The greatest size.
+const MOST: u32 = 4_000_000;
+
+/// Times the circuits of the three graphs.
+pub fn run<W: Write>(rt: &HostRuntime, words: &[&str], out: &mut W) -> Result<()> {
+    let [size] = words else {
+        bail!("write bench_graphs build SIZE");
+    };
+    let size: u32 = size.parse().context("SIZE is a number")?;
+    ensure!(size <= MOST, "SIZE is too great");
+    let mut first = 0;
+    for part in PARTS {
+        let graph = graph(rt.alloc(), size / part / (PIECE * PIECES + 7), PIECES)?;
+        let nanos = time(rt, &graph)?;
+        let count = size_of(&graph).max(1);
+        let each = nanos / count;
+        if first == 0 {
+            first = each.max(1);
+        }
+        let percent = each.saturating_mul(100) / first;
+        let (whole, rest) = (percent / 100, percent % 100);
+        writeln!(
+            out,
+            "size {count}: {each} ns a unit of size, ratio {whole}.{rest:02}"
+        )?;
+    }
+    Ok(())
+}
+
+/// The size of a graph: the weights of its blocks together.
+fn size_of(graph: &Ir) -> u128 {
+    let mut size: u128 = 0;
+    for block in graph.look() {
+        size = size.saturating_add(block.weight() as u128);
+    }
+    size
+}
+
+/// The nanoseconds that the circuit of a graph takes.
+fn time(rt: &HostRuntime, graph: &Ir) -> Result<u128> {
+    ensure!(
+        graph.has_size_within(8_000_000),
+        "a graph that is too great"
+    );
+    ensure!(u32::try_from(graph.arrays.len()).is_ok(), "too many arrays");
+    let Ok(groups) = groups(rt.alloc(), graph) else {
+        bail!("want of memory");
+    };
+    let start = Instant::now(rt)?;
+    let built = build(rt.alloc(), graph, &groups);
+    let nanos = start.elapsed(rt)?.as_nanos();
+    ensure!(built.is_ok(), "want of memory");
+    Ok(nanos)
+}

@@ -1,0 +1,66 @@
+//! The bench of the compiler compiles the kernel of a file so many times with the usual timing, and prints how great its
+//! circuit is and the least times, of the whole and of its parts, in microseconds.
+ghost use Rattle.std.specs.Prelude.{◌≤◌, length};
+ghost use Rattle.el_base.specs.Limits.{max_kernel_bytes};
+
+use crate::parts::{Parts, measured, text_of};
+use anyhow::{Context, Result, bail, ensure};
+use el_base::MAX_KERNEL_BYTES;
+use std::fs;
+use std::io::Write;
+
+/// How often a kernel may be compiled.
+const MOST: u32 = 1_000;
+
+/// Times the kernel of a file.
+pub fn run<W: Write>(rt: &HostRuntime, words: &[&str], out: &mut W) -> Result<()> {
+    let [kernel, times] = words else {
+        bail!("write bench_graphs compile KERNEL TIMES");
+    };
+    let kernel = fs::read(rt, kernel)?;
+    let times: u32 = times.parse().context("TIMES is a number")?;
+    ensure!(0 < times && times <= MOST, "TIMES is 1 to 1000");
+    ensure!(
+        kernel.len() as u64 <= MAX_KERNEL_BYTES,
+        "the kernel is too long"
+    );
+    time(rt, kernel.as_slice(), times, out)
+}
+
+/// Prints the size of a kernel's circuit, and the least times of so many.
+fn time<W: Write>(rt: &HostRuntime, kernel: &[u8], times: u32, out: &mut W) -> Result<()>
+    requires { length kernel.now ≤ max_kernel_bytes }
+{
+    let text = text_of(rt.alloc(), kernel)?;
+    let mut least = measured(rt, kernel)?;
+    for _ in 1..times {
+        let parts = measured(rt, kernel)?;
+        least = least.at_most(parts);
+    }
+    put_size(least.nodes, text.as_slice(), out)?;
+    put_parts(least, out)
+}
+
+/// Prints how many nodes a kernel has, and how many lines of units and of channels its circuit.
+fn put_size<W: Write>(nodes: u64, text: &[u8], out: &mut W) -> Result<()> {
+    let text = std::str::from_utf8(text).ok().context("other bytes")?;
+    let mut units: u64 = 0;
+    let mut channels: u64 = 0;
+    for line in text.lines() {
+        units = units.saturating_add(u64::from(line.starts_with("unit ")));
+        channels = channels.saturating_add(u64::from(line.starts_with("chan ")));
+    }
+    writeln!(out, "{nodes} nodes, {units} units, {channels} channels")?;
+    Ok(())
+}
+
+/// Prints times.
+fn put_parts<W: Write>(parts: Parts, out: &mut W) -> Result<()> {
+    let (whole, rest) = (parts.whole, parts.rest());
+    let (read, graph, circuit) = (parts.read, parts.graph, parts.circuit);
+    writeln!(
+        out,
+        "{whole} us: read {read}, graph {graph}, circuit {circuit}, place, check and print {rest}"
+    )?;
+    Ok(())
+}

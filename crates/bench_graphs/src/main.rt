@@ -1,0 +1,55 @@
+//! Times graphs and circuits. The first word names the bench, and its own words follow:
+//!
+//! - `bench_graphs args BLOCKS VARIABLES`: live variables and block arguments.
+//! - `bench_graphs build SIZE`: circuits of block graphs.
+//! - `bench_graphs compile KERNEL TIMES`: the compiler and its parts.
+//! - `bench_graphs place CHANNELS`: buffer placement.
+//! - `bench_graphs each FILE`: the benches of the lines of a file, without the digits of what they print, as times differ.
+#![tactic(auto)]
+
+mod args;
+mod block_graphs;
+mod build;
+mod compile;
+mod parts;
+mod place;
+mod variable_graphs;
+
+use anyhow::{Result, bail};
+use std::io::Write;
+use std::{env, fs, io};
+
+fn main(rt: HostRuntime) -> Result<()> {
+    let words: Vec<String> = env::args(&rt)?.skip(1).collect(rt.alloc())?;
+    let words: Vec<&str> = words.iter().map(|word| word.as_str()).collect(rt.alloc())?;
+    let mut out = io::writer(&rt);
+    match words.as_slice() {
+        ["each", file] => run_each(&rt, file, &mut out),
+        words => run(&rt, words, &mut out),
+    }
+}
+
+/// Runs the benches of the lines of a file, and writes each line and what its bench writes, without digits.
+fn run_each<W: Write>(rt: &HostRuntime, file: &str, out: &mut W) -> Result<()> {
+    let lines = fs::read_to_string(rt, file)?;
+    for line in lines.as_str().lines() {
+        let words: Vec<&str> = line.split(' ').collect(rt.alloc())?;
+        let mut text = Vec::new(rt.alloc());
+        run(rt, words.as_slice(), &mut text)?;
+        text.retain(|byte| !byte.is_ascii_digit());
+        writeln!(out, "== {line}")?;
+        out.write_all(text.as_slice())?;
+    }
+    Ok(())
+}
+
+/// Runs the bench that the first word names on the words after it.
+fn run<W: Write>(rt: &HostRuntime, words: &[&str], out: &mut W) -> Result<()> {
+    match words {
+        ["args", words @ ..] => args::run(rt, words, out),
+        ["build", words @ ..] => build::run(rt, words, out),
+        ["compile", words @ ..] => compile::run(rt, words, out),
+        ["place", words @ ..] => place::run(rt, words, out),
+        _ => bail!("write bench_graphs args, build, compile or place, and the words of the bench"),
+    }
+}

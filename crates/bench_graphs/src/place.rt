@@ -1,0 +1,123 @@
+//! The bench of buffer placement places the usual timing on three nets, of a hundredth, a tenth and all of so many channels,
+//! loops of three lengths beside one another, and prints the time of a channel and its ratio to that of the first net.
+
+use anyhow::{Context, Result, bail, ensure};
+use buffer_place::{Timing, place};
+use el_base::MAX_SUM_OF_SLOTS;
+use net_check::{Checked, check_net};
+use net_types::{Chan, List, Memory, Name, Net, Op1, Op2, Place, Unit};
+use std::alloc::Global;
+use std::io::Write;
+use std::time::Instant;
+
+/// The part of the channels that each net has.
+const PARTS: [u32; 3] = [100, 10, 1];
+
+/// The channels of three loops: one of two units, one of three and one of five.
+const CHANNELS_A_GROUP: u32 = 13;
+
+/// Times the placements on the three nets.
+pub fn run<W: Write>(rt: &HostRuntime, words: &[&str], out: &mut W) -> Result<()> {
+    let [channels] = words else {
+        bail!("write bench_graphs place CHANNELS");
+    };
+    let channels: u32 = channels.parse().context("CHANNELS is a number")?;
+    let mut first = 0;
+    for part in PARTS {
+        let Ok(Some(net)) = loops(rt.alloc(), channels / part / CHANNELS_A_GROUP) else {
+            bail!("want of memory");
+        };
+        ensure!(net.is_numbered(), "a net of too many units or channels");
+        let Ok(checked) = check_net(rt.alloc(), net) else {
+            bail!("a net that breaks a rule");
+        };
+        let nanos = time(rt, &checked)?;
+        let count = checked.net().chans.as_slice().len().max(1) as u128;
+        let each = nanos / count;
+        if first == 0 {
+            first = each.max(1);
+        }
+        let percent = each.saturating_mul(100) / first;
+        let (whole, rest) = (percent / 100, percent % 100);
+        writeln!(
+            out,
+            "{count} channels: {each} ns a channel, ratio {whole}.{rest:02}"
+        )?;
+    }
+    Ok(())
+}
+
+/// The nanoseconds that a placement takes on a copy of the net.
+fn time(rt: &HostRuntime, checked: &Checked) -> Result<u128> {
+    let Ok(mut net) = checked.net().copy(rt.alloc()) else {
+        bail!("want of memory");
+    };
+    ensure!(
+        net.chans.as_slice().len() as u64 <= MAX_SUM_OF_SLOTS,
+        "too many channels"
+    );
+    let start = Instant::now(rt)?;
+    let placed = place(rt.alloc(), &mut net, Timing::usual());
+    let nanos = start.elapsed(rt)?.as_nanos();
+    ensure!(placed.is_ok(), "want of memory");
+    Ok(nanos)
+}
+
+/// The control token's way from the entry to the exit, and so many groups of loops beside it.
+fn loops(alloc: Global, groups: u32) -> Result<Option<Net>, Memory> {
+    let Some(name) = Name::new(alloc, b"loops")? else {
+        return Ok(None);
+    };
+    let mut net = Net {
+        name,
+        scalars: List::new(alloc),
+        arrays: List::new(alloc),
+        result: None,
+        units: List::new(alloc),
+        chans: List::new(alloc),
+    };
+    net.units.push(Unit::Entry)?;
+    net.units.push(Unit::Exit)?;
+    connect(&mut net, (0, 0), (1, 0), true)?;
+    for _ in 0..groups {
+        add_loop(&mut net, 0)?;
+        add_loop(&mut net, 1)?;
+        add_loop(&mut net, 3)?;
+    }
+    Ok(Some(net))
+}
+
+/// A fork whose two outputs are added, with so many units between the sum and the fork.
+fn add_loop(net: &mut Net, between: u32) -> Result<(), Memory> {
+    let fork = u32::try_from(net.units.as_slice().len()).unwrap_or(u32::MAX);
+    net.units.push(Unit::Fork { width: 32, outs: 2 })?;
+    net.units.push(Unit::Op2(Op2::Add32))?;
+    let mut last = fork.saturating_add(1);
+    connect(net, (fork, 0), (last, 0), false)?;
+    connect(net, (fork, 1), (last, 1), false)?;
+    for _ in 0..between {
+        net.units.push(Unit::Op1(Op1::Neg32))?;
+        let next = last.saturating_add(1);
+        connect(net, (last, 0), (next, 0), false)?;
+        last = next;
+    }
+    connect(net, (last, 0), (fork, 0), false)
+}
+
+/// A channel of one slot and delay 1.
+fn connect(net: &mut Net, from: (u32, u32), to: (u32, u32), ctl: bool) -> Result<(), Memory> {
+    net.chans.push(Chan {
+        from: Place {
+            unit: from.0,
+            place: from.1,
+        },
+        to: Place {
+            unit: to.0,
+            place: to.1,
+        },
+        width: 32,
+        slots: 1,
+        delay: 1,
+        ctl,
+    })
+}

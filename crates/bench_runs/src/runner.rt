@@ -1,0 +1,67 @@
+//! The bench of the core makes so many firings of a net, or all that it has, from its opening state, and then, from the
+//! opening state again, so many by plain sweeps over its units, and prints for each how long a firing takes, in tenths of a
+//! nanosecond, and how many firings there are in a second.
+
+ghost use Rattle.net_types.specs.Inputs.{InputsFit};
+
+use crate::nets::{Timed, read_file, read_net, time_finish};
+use crate::sweeps::{Tally, all_firings, sweep_all};
+use anyhow::{Context, Result, bail, ensure};
+use el_base::MAX_FIRINGS;
+use inputs_text::read_inputs;
+use net_check::Checked;
+use net_core::State;
+use net_types::Inputs;
+use std::io::Write;
+use std::time::Instant;
+
+/// Times both ways on the net of a file and the inputs of a file.
+pub fn run<W: Write>(rt: &HostRuntime, words: &[&str], out: &mut W) -> Result<()> {
+    let [netlist, inputs, firings, swept] = words else {
+        bail!("write bench_runs core NETLIST INPUTS FIRINGS SWEPT");
+    };
+    let limit: u64 = firings.parse().context("FIRINGS is a number")?;
+    ensure!(limit <= MAX_FIRINGS, "too many firings");
+    let swept: u64 = swept.parse().context("SWEPT is a number")?;
+    let net = read_net(rt, netlist)?;
+    let text = read_file(rt, inputs)?;
+    let inputs = read_inputs(rt.alloc(), &net, text.as_slice())?;
+    put_pace("finish", time_finish(rt, &net, &inputs, limit)?, out)?;
+    put_pace("sweeps", time_sweeps(rt, &net, &inputs, swept)?, out)
+}
+
+/// Times plain sweeps.
+fn time_sweeps(rt: &HostRuntime, net: &Checked, inputs: &Inputs, limit: u64) -> Result<Timed>
+    requires fit { InputsFit net.now inputs.now }
+{
+    let firings = all_firings(rt.alloc(), net)?;
+    let Ok(mut state) = State::new(rt.alloc(), net, inputs) else {
+        bail!("want of memory");
+    };
+    let mut tally = Tally {
+        made: 0,
+        tries: 0,
+        limit,
+    };
+    let start = Instant::now(rt)?;
+    sweep_all(net, &mut state, firings.as_slice(), &mut tally);
+    let nanos = start.elapsed(rt)?.as_nanos();
+    Ok(Timed {
+        made: tally.made,
+        nanos,
+    })
+}
+
+/// Prints a line of times.
+fn put_pace<W: Write>(name: &str, timed: Timed, out: &mut W) -> Result<()> {
+    let Timed { made, nanos } = timed;
+    let count = u128::from(made.max(1));
+    let tenths = nanos.saturating_mul(10) / count;
+    let (whole, rest) = (tenths / 10, tenths % 10);
+    let pace = u128::from(made).saturating_mul(1000) / nanos.max(1);
+    writeln!(
+        out,
+        "{name}: {made} firings, {whole}.{rest} ns a firing, {pace} million a second"
+    )?;
+    Ok(())
+}

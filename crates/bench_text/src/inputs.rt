@@ -1,0 +1,99 @@
+//! The bench of texts of inputs prints how long reading the text of a file takes, for an array `a` of `int32_t` and of a
+//! given length, and printing it again, in milliseconds and megabytes a second, each as the least of so many runs.
+ghost use Rattle.el_base.specs.Limits.{IsNumbered};
+ghost use Rattle.std.specs.Prelude.{[], ◌∷◌, IfOk, length};
+ghost use Rattle.inputs_text.specs.Texts.{FitHeader};
+
+use crate::read_file;
+use anyhow::{Context, Result, bail, ensure};
+use inputs_text::{print_results_of, read_inputs_of};
+use net_types::{Array, Inputs, Name, Ty};
+use std::alloc::Global;
+use std::io::Write;
+use std::time::Instant;
+use std::{fmt, slice};
+
+/// A time in microseconds for a number of bytes, printed as milliseconds and megabytes a second.
+#[derive(Clone, Copy, Debug)]
+struct Pace {
+    micros: u64,
+    bytes: u64,
+}
+
+impl fmt::Display for Pace {
+    fn fmt<W: fmt::Write>(&self, f: &mut fmt::Formatter<W>) -> fmt::Result {
+        let whole = self.micros / 1000;
+        let rest = self.micros % 1000;
+        let pace = self.bytes / self.micros.max(1);
+        write!(f, "{whole}.{rest:03} ms, {pace} MB/s")
+    }
+}
+
+/// Times the text of a file.
+pub fn run<W: Write>(rt: &HostRuntime, words: &[&str], out: &mut W) -> Result<()> {
+    let [name, len, runs] = words else {
+        bail!("write bench_text inputs FILE LENGTH RUNS");
+    };
+    let text = read_file(rt, name)?;
+    let len: u64 = len.parse().context("LENGTH is a number")?;
+    let runs: u32 = runs.parse().context("RUNS is a number")?;
+    ensure!(runs > 0, "RUNS is above 0");
+    let name = named(rt.alloc(), b"a")?;
+    let array = Array {
+        name,
+        ty: Ty::I32,
+        len,
+    };
+    let mut reading = u64::MAX;
+    let mut printing = u64::MAX;
+    let mut printed = 0;
+    for _ in 0..runs {
+        let start = Instant::now(rt)?;
+        let inputs = read(rt.alloc(), &array, text.as_slice())?;
+        reading = reading.min(u64::try_from(start.elapsed(rt)?.as_micros())?);
+        let start = Instant::now(rt)?;
+        printed = print(rt.alloc(), &array, &inputs)?;
+        printing = printing.min(u64::try_from(start.elapsed(rt)?.as_micros())?);
+    }
+    let read = Pace {
+        micros: reading,
+        bytes: text.len() as u64,
+    };
+    let print = Pace {
+        micros: printing,
+        bytes: printed,
+    };
+    writeln!(out, "read {read}; print {print}")?;
+    Ok(())
+}
+
+/// The name of those bytes.
+fn named(alloc: Global, bytes: &[u8]) -> Result<Name> {
+    match Name::new(alloc, bytes) {
+        Ok(Some(name)) => Ok(name),
+        Ok(None) => bail!("no name"),
+        Err(_) => bail!("memory ran out"),
+    }
+}
+
+/// The inputs of a text for one array.
+fn read(alloc: Global, array: &Array, text: &[u8]) -> Result<Inputs>
+    requires { IsNumbered (length text.now) }
+    ensures { IfOk result (FitHeader [] (array.now ∷ [])) }
+{
+    match read_inputs_of(alloc, &[], slice::from_ref(array), text) {
+        Ok(inputs) => Ok(inputs),
+        Err(refusal) => bail!("{refusal}"),
+    }
+}
+
+/// How many bytes the printed text of the elements of one array has.
+fn print(alloc: Global, array: &Array, inputs: &Inputs) -> Result<u64>
+    requires { FitHeader [] (array.now ∷ []) inputs.now }
+{
+    let arrays = slice::from_ref(array);
+    match print_results_of(alloc, arrays, None, inputs.arrays.as_slice(), None) {
+        Ok(text) => Ok(text.len() as u64),
+        Err(_) => bail!("memory ran out"),
+    }
+}

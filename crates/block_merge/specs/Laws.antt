@@ -1,0 +1,7 @@
+-- The law of merged graphs.
+use Rattle.ir.specs.Graphs.{Graph, IsGraph}
+use Rattle.block_merge.specs.Merged.{merged}
+use Rattle.block_merge.specs.Shares.{MergeShare}
+
+abbrev pub MergedGraphsKeep : Type 0
+MergedGraphsKeep = (g : Graph) → IsGraph g → MergeShare g (merged g)

@@ -1,0 +1,13 @@
+pub mod Renamed
+pub mod Threaded
+pub mod Joined
+pub mod Found
+pub mod Numbered
+pub mod Merged
+pub mod Shares
+pub mod Laws
+pub mod Moves
+pub mod Jumps
+pub mod Edges
+pub mod Parts
+pub mod Orders

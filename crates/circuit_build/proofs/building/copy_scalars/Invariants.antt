@@ -1,5 +1,0 @@
-use Rattle.std.proofs.Common.{◌≡◌, take}
-use Rattle.circuit_build.proofs.building.copy_scalars.Given as goal
-
-abbrev pub invariant-loop-scalar : goal.invariant-loop-scalar
-invariant-loop-scalar l = l.copies ≡ take l.scalar-index l.scalars

@@ -1,0 +1,86 @@
+//! Calls of the program on files in memory.
+use anyhow::{Result, bail, ensure};
+use el_io::{MemFiles, MemSink, Open};
+use elastic_top::top;
+use std::alloc::Global;
+use std::thread::Threads;
+
+/// How many bytes an output takes.
+pub const ROOM: u64 = 1_000_000;
+
+/// What a call comes to: its status, and what was written to the output and to the error output.
+#[derive(Drop)]
+pub struct Answered {
+    pub code: u8,
+    pub out: MemSink,
+    pub err: MemSink,
+}
+
+/// Which calls of the devices fail, by their numbers from 0, and how many bytes the output takes at once.
+#[derive(Clone, Copy)]
+pub struct Failing {
+    pub read: Option<u64>,
+    pub piece: u64,
+    pub put: Option<u64>,
+    pub told: Option<u64>,
+}
+
+/// Sound devices, whose output takes all at once.
+pub const SOUND: Failing = Failing {
+    read: None,
+    piece: ROOM,
+    put: None,
+    told: None,
+};
+
+/// The answer of the call of these words, with spaces between them.
+pub fn answer<R: Threads + Sync>(
+    rt: &R,
+    alloc: Global,
+    words: &str,
+    mut files: MemFiles,
+    failing: &Failing,
+) -> Result<Answered> {
+    let mut given = Vec::new(alloc);
+    for word in words.split(' ') {
+        if !word.is_empty() {
+            given.push(String::from_str(alloc, word)?)?;
+        }
+    }
+    if let Some(call) = failing.read {
+        if files.fail_at(call).is_err() {
+            bail!("want of memory");
+        }
+    }
+    let mut out = sink(alloc, failing.piece, failing.put)?;
+    let mut err = sink(alloc, ROOM, failing.told)?;
+    let status = top(rt, alloc, &given, &mut files, &mut out, &mut err, &Open);
+    Ok(Answered {
+        code: status.code,
+        out,
+        err,
+    })
+}
+
+/// Adds a file.
+pub fn add_file(files: &mut MemFiles, name: &str, content: &[u8]) -> Result<()> {
+    match files.add(name, content) {
+        Ok(()) => Ok(()),
+        Err(_) => bail!("want of memory"),
+    }
+}
+
+/// An output that takes so many bytes at once, and fails at a call.
+fn sink(alloc: Global, piece: u64, failing: Option<u64>) -> Result<MemSink> {
+    ensure!(piece > 0, "a piece has bytes");
+    let mut sink = MemSink::new(alloc, piece);
+    if sink.reserve(ROOM).is_err() {
+        bail!("want of memory");
+    }
+    if let Some(call) = failing {
+        if sink.fail_at(call).is_err() {
+            bail!("want of memory");
+        }
+    }
+    Ok(sink)
+}

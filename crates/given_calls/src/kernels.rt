@@ -1,0 +1,96 @@
+//! Calls on kernels, whose circuits are free as long as they are right.
+use crate::calls::{Answered, SOUND, add_file, answer};
+use anyhow::{Context, Result};
+use el_base::{MAX_INPUTS_BYTES, MAX_KERNEL_BYTES};
+use el_io::MemFiles;
+use row_fields::text_within;
+use std::alloc::Global;
+use std::io::Write;
+use std::thread::Threads;
+
+/// Runs a kernel by `go` and writes whether all is as it has to be: the results are those by C, the text is the same with
+/// `--wrap`, and the circuit is read and printed as it was.
+pub fn put_agreement<R, W>(
+    rt: &R,
+    alloc: Global,
+    kernel: &str,
+    inputs: &str,
+    results: &str,
+    out: &mut W,
+) -> Result<()>
+where
+    R: Threads + Sync,
+    W: Write,
+{
+    let kernel = text_within(alloc, kernel, MAX_KERNEL_BYTES)?;
+    let inputs = text_within(alloc, inputs, MAX_INPUTS_BYTES)?;
+    let results = text_within(alloc, results, MAX_INPUTS_BYTES)?;
+    let files = [("k", kernel.as_slice()), ("i", inputs.as_slice())];
+    let plain = sound(rt, alloc, "go k i --limit 2000000", &files)?;
+    let wrap = sound(rt, alloc, "go k i --limit 2000000 --wrap", &files)?;
+    let circuit = without_results(plain.out.bytes(), results.as_slice());
+    let again = sound(rt, alloc, "upgrade n", &[("n", circuit)])?;
+    let is_right = plain.code == 0 && !circuit.is_empty();
+    let is_alike = wrap.code == plain.code && wrap.out.bytes() == plain.out.bytes();
+    let is_back = again.code == 0 && again.out.bytes() == circuit;
+    put_word(is_right, "results", out)?;
+    put_word(is_alike, " wrap", out)?;
+    put_word(is_back, " circuit", out)
+}
+
+/// Writes a word, or that it is otherwise.
+fn put_word<W: Write>(holds: bool, word: &str, out: &mut W) -> Result<()> {
+    let otherwise = if holds { "" } else { " differs" };
+    write!(out, "{word}{otherwise}")?;
+    Ok(())
+}
+
+/// Writes how many lines of what a call on a kernel writes begin with these words.
+pub fn put_count<R, W>(
+    rt: &R,
+    alloc: Global,
+    words: &str,
+    front: &str,
+    kernel: &str,
+    out: &mut W,
+) -> Result<()>
+where
+    R: Threads + Sync,
+    W: Write,
+{
+    let kernel = text_within(alloc, kernel, MAX_KERNEL_BYTES)?;
+    let compiled = sound(rt, alloc, words, &[("k", kernel.as_slice())])?;
+    let text = std::str::from_utf8(compiled.out.bytes())
+        .ok()
+        .context("a text of other bytes")?;
+    let mut count: u64 = 0;
+    for line in text.lines() {
+        if line.starts_with(front) {
+            count = count.saturating_add(1);
+        }
+    }
+    write!(out, "{}: {count} lines of '{front}'", compiled.code)?;
+    Ok(())
+}
+
+/// The answer of a call on sound devices with these files.
+fn sound<R: Threads + Sync>(
+    rt: &R,
+    alloc: Global,
+    words: &str,
+    files: &[(&str, &[u8])],
+) -> Result<Answered> {
+    let mut held = MemFiles::new(alloc);
+    for (name, content) in files {
+        add_file(&mut held, name, content)?;
+    }
+    answer(rt, alloc, words, held, &SOUND)
+}
+
+/// The text of a circuit: what stands before the line `%%` and these results. It is empty where a text does not end so.
+fn without_results<'a>(text: &'a [u8], results: &[u8]) -> &'a [u8] {
+    match text.strip_suffix(results) {
+        None => b"",
+        Some(rest) => rest.strip_suffix(b"%%\n").unwrap_or(b""),
+    }
+}

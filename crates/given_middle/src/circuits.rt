@@ -1,0 +1,102 @@
+//! The circuits of graphs, with their counts and their runs.
+use crate::graphs::read_graph;
+use crate::kernels::graph_of;
+use anyhow::{Result, bail, ensure};
+use circuit_build::build;
+use el_base::MAX_INPUTS_BYTES;
+use ir::Ir;
+use lsq_groups::groups;
+use net_check::{Checked, check_net};
+use net_runs::{RunOptions, RunRefusal, run_text};
+use net_types::Net;
+use row_fields::{escaped, text_within};
+use std::alloc::Global;
+use std::io::Write;
+
+/// What a run is asked for.
+const OPTIONS: RunOptions = RunOptions {
+    limit: 20_000,
+    count: true,
+    cycles: false,
+    log: false,
+};
+
+/// Writes what the circuit of a kernel comes to on inputs.
+pub fn put_kernel<W: Write>(alloc: Global, kernel: &str, inputs: &str, out: &mut W) -> Result<()> {
+    let graph = graph_of(alloc, kernel)?;
+    put_circuit(alloc, &graph, inputs, out)
+}
+
+/// Writes what the circuit of a graph comes to on inputs.
+pub fn put_graph<W: Write>(alloc: Global, graph: &[&str], inputs: &str, out: &mut W) -> Result<()> {
+    let graph = read_graph(alloc, graph)?;
+    put_circuit(alloc, &graph, inputs, out)
+}
+
+/// Writes the counts of a graph and of its circuit, and how its run on inputs ends.
+fn put_circuit<W: Write>(alloc: Global, graph: &Ir, inputs: &str, out: &mut W) -> Result<()> {
+    let net = circuit(alloc, graph)?;
+    put_counts(graph, &net, out)?;
+    ensure!(net.is_numbered(), "a net of too many units or channels");
+    let net = check_net(alloc, net)?;
+    put_run(alloc, &net, inputs, out)
+}
+
+/// The circuit of a graph.
+fn circuit(alloc: Global, graph: &Ir) -> Result<Net> {
+    let within = graph.has_size_within(8_000_000);
+    ensure!(within, "a graph that is too great");
+    ensure!(u32::try_from(graph.arrays.len()).is_ok(), "too many arrays");
+    let Ok(groups) = groups(alloc, graph) else {
+        bail!("want of memory");
+    };
+    match build(alloc, graph, &groups) {
+        Ok(net) => Ok(net),
+        Err(_) => bail!("want of memory"),
+    }
+}
+
+/// Writes how many blocks and which size the graph has, and how many units and channels the net has, with the bound of the
+/// channels.
+fn put_counts<W: Write>(graph: &Ir, net: &Net, out: &mut W) -> Result<()> {
+    let blocks = graph.look();
+    let mut size: u64 = 0;
+    for block in blocks {
+        size = size.saturating_add(u64::try_from(block.weight())?);
+    }
+    let parameters = (graph.scalars.len() as u64).saturating_add(graph.arrays.len() as u64);
+    let bound = size
+        .saturating_add(parameters)
+        .saturating_mul(8)
+        .saturating_add(64);
+    let channels = net.chans.len() as u64;
+    ensure!(channels <= bound, "too many channels");
+    write!(out, "blocks {} size {size} ", blocks.len())?;
+    write!(
+        out,
+        "units {} channels {channels} of {bound} / ",
+        net.units.len()
+    )?;
+    Ok(())
+}
+
+/// Writes a status, and the results of a run with the number of its firings, or what is wrong with it.
+fn put_run<W: Write>(alloc: Global, net: &Checked, inputs: &str, out: &mut W) -> Result<()> {
+    let text = text_within(alloc, inputs, MAX_INPUTS_BYTES)?;
+    match run_text(alloc, net, text.as_slice(), OPTIONS) {
+        Ok(results) => {
+            write!(out, "0 ")?;
+            out.write_all(escaped(alloc, results.as_slice())?.as_slice())?;
+        }
+        Err(RunRefusal::Limit { limit }) => write!(out, "8 70 Limit {limit}")?,
+        Err(RunRefusal::Stuck) => write!(out, "9 71 Stuck")?,
+        Err(RunRefusal::Stray { name }) => {
+            write!(out, "10 72 Stray ")?;
+            out.write_all(name.as_slice())?;
+        }
+        Err(RunRefusal::Inputs(refusal)) => bail!("{refusal}"),
+        Err(RunRefusal::Schedule(_) | RunRefusal::NotEnabled { .. }) => bail!("no replay"),
+        Err(RunRefusal::Memory) => bail!("want of memory"),
+    }
+    Ok(())
+}

@@ -1,0 +1,32 @@
+//! Answers given rows on kernels and on block graphs, one a line of the files of its folder, each file below its name: normal
+//! forms as text, walks along block graphs, ends by the plain interpreter, and runs of circuits.
+#![tactic(auto)]
+
+mod circuits;
+mod ends;
+mod exprs;
+mod forms;
+mod graphs;
+mod kernels;
+mod rows;
+mod stmts;
+mod walks;
+
+use crate::rows::FILES;
+use anyhow::Result;
+use std::io::{BufWriter, Write};
+use std::{fs, io};
+
+fn main(rt: HostRuntime) -> Result<()> {
+    let mut out = BufWriter::new(rt.alloc(), io::writer(&rt))?;
+    for (name, rows) in FILES {
+        let text = fs::read_to_string(&rt, name)?;
+        writeln!(out, "== {name}")?;
+        for line in text.as_str().lines().skip(1) {
+            rows.put_answer(rt.alloc(), line, &mut out)?;
+            writeln!(out)?;
+        }
+    }
+    out.flush()?;
+    Ok(())
+}

@@ -1,0 +1,56 @@
+//! The files of rows and what their lines are.
+use crate::circuits::{put_graph, put_kernel};
+use crate::ends::put_both;
+use crate::exprs::Places;
+use crate::forms::put_form;
+use crate::walks::{put_arguments, put_walk};
+use anyhow::{Result, bail};
+use std::alloc::Global;
+use std::io::Write;
+
+/// What the lines of a file are, after the first, which says so in words.
+#[derive(Clone, Copy, Debug, PartialEq, Eq)]
+pub enum Rows {
+    /// A kernel, whose normal form is printed.
+    Forms(Places),
+    /// A kernel and inputs, for a walk along its block graph.
+    Walks,
+    /// A kernel, the arguments of whose blocks are counted.
+    Arguments,
+    /// Turns, a kernel and inputs, for the plain interpreter.
+    Programs,
+    /// A kernel and inputs, for a run of its circuit.
+    Circuits,
+    /// What it is, a block graph and inputs, for a run of its circuit.
+    Graphs,
+}
+
+/// The files, in the order in which they are answered.
+pub const FILES: [(&str, Rows); 8] = [
+    ("forms.tsv", Rows::Forms(Places::Hidden)),
+    ("places.tsv", Rows::Forms(Places::Written)),
+    ("walks.tsv", Rows::Walks),
+    ("live.tsv", Rows::Arguments),
+    ("programs.tsv", Rows::Programs),
+    ("worked.tsv", Rows::Programs),
+    ("circuits.tsv", Rows::Circuits),
+    ("graphs.tsv", Rows::Graphs),
+];
+
+impl Rows {
+    /// Writes the answer to a line.
+    pub fn put_answer<W: Write>(self, alloc: Global, line: &str, out: &mut W) -> Result<()> {
+        let fields: Vec<&str> = line.split('\t').collect(alloc)?;
+        match (self, fields.as_slice()) {
+            (Rows::Forms(places), [kernel]) => put_form(alloc, kernel, places, out),
+            (Rows::Walks, [kernel, inputs]) => put_walk(alloc, kernel, inputs, out),
+            (Rows::Arguments, [kernel]) => put_arguments(alloc, kernel, out),
+            (Rows::Programs, [turns, kernel, inputs]) => {
+                put_both(alloc, turns.parse()?, kernel, inputs, out)
+            }
+            (Rows::Circuits, [kernel, inputs]) => put_kernel(alloc, kernel, inputs, out),
+            (Rows::Graphs, [_, graph @ .., inputs]) => put_graph(alloc, graph, inputs, out),
+            (rows, _) => bail!("a line of {rows:?} of other fields"),
+        }
+    }
+}

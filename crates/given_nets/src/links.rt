@@ -1,0 +1,114 @@
+//! What the two ends of a link answer, both in one thread.
+ghost use Rattle.std.specs.Prelude.{◌≡◌, ◌≤◌};
+ghost use Rattle.elastic_link.specs.Ends.{credits_repaid, repaid_stamp};
+
+use anyhow::{Result, bail};
+use elastic_link::{PutEnd, TakeEnd, Token, link};
+use std::alloc::Global;
+use std::io::Write;
+
+/// Stamps and numbers of credits stay below it.
+const BOUND: u64 = 1 << 62;
+
+/// Both ends of a link, the greatest stamp of a credit so far, and how many were repaid.
+#[derive(Drop)]
+struct Ends {
+    put: PutEnd,
+    take: TakeEnd,
+    last: u64,
+    repaid: u64,
+    ghost last_stamp: { repaid_stamp take ≤ last },
+    ghost repaid_is: { credits_repaid take ≡ repaid },
+}
+
+impl Ends {
+    /// Puts a token where a credit is in hand and the ring has a free slot, and says whether it did.
+    fn put(&mut self, token: Token) -> bool {
+        if token.stamp >= BOUND || self.put.ready().is_none() {
+            return false;
+        }
+        self.put.put(token).is_ok()
+    }
+
+    /// Takes the next token, where there is one, and repays its credit with a stamp that is not below the last one.
+    fn take(&mut self, stamp: u64) -> Option<Token> {
+        let now = stamp.max(self.last);
+        if now >= BOUND || self.repaid >= BOUND || self.take.peek().is_none() {
+            return None;
+        }
+        let token = self.take.take();
+        self.take.repay(now);
+        self.last = now;
+        self.repaid += 1;
+        Some(token)
+    }
+}
+
+/// Writes what each call on the ends of a link of so many slots answers. Calls stand with `;` between two.
+pub fn put_calls<W: Write>(alloc: Global, slots: &str, calls: &str, out: &mut W) -> Result<()> {
+    let slots: u32 = slots.parse()?;
+    if slots == 0 || slots > 1_024 {
+        bail!("a link has 1 to 1,024 slots");
+    }
+    let Ok((put, take)) = link(alloc, slots) else {
+        bail!("want of memory");
+    };
+    let mut ends = Ends {
+        put,
+        take,
+        last: 0,
+        repaid: 0,
+    };
+    let mut first = true;
+    for call in calls.split(';') {
+        if !first {
+            write!(out, " ")?;
+        }
+        let words: Vec<&str> = call.split(' ').collect(alloc)?;
+        put_answer(&mut ends, words.as_slice(), out)?;
+        first = false;
+    }
+    Ok(())
+}
+
+/// Makes one call and writes its answer.
+fn put_answer<W: Write>(ends: &mut Ends, call: &[&str], out: &mut W) -> Result<()> {
+    match call {
+        ["ready"] => put_stamp(ends.put.ready(), out),
+        ["peek"] => put_token(ends.take.peek(), out),
+        ["take", stamp] => put_token(ends.take(stamp.parse()?), out),
+        ["flush"] => {
+            ends.take.flush();
+            write!(out, ".")?;
+            Ok(())
+        }
+        ["put", value, stamp] => {
+            let token = Token {
+                value: value.parse()?,
+                stamp: stamp.parse()?,
+            };
+            let word = if ends.put(token) { "ok" } else { "no" };
+            write!(out, "{word}")?;
+            Ok(())
+        }
+        _ => bail!("no such call"),
+    }
+}
+
+/// Writes a stamp.
+fn put_stamp<W: Write>(stamp: Option<u64>, out: &mut W) -> Result<()> {
+    match stamp {
+        Some(stamp) => write!(out, "{stamp}")?,
+        None => write!(out, "none")?,
+    }
+    Ok(())
+}
+
+/// Writes a token.
+fn put_token<W: Write>(token: Option<Token>, out: &mut W) -> Result<()> {
+    match token {
+        Some(Token { value, stamp }) => write!(out, "{value}@{stamp}")?,
+        None => write!(out, "none")?,
+    }
+    Ok(())
+}

@@ -1,0 +1,223 @@
+//! Runs of nets on inputs, by the plain runner, by cycles and by given schedules.
+ghost use Rattle.net_types.specs.Inputs.{InputsFit};
+ghost use Rattle.net_core.specs.Runs.{AtRest};
+ghost use Rattle.net_core.specs.States.{IsOf, state_of};
+
+use crate::nets::{inputs_of, net_of};
+use anyhow::{Context, Result, bail};
+use cycle_engine::run_cycles;
+use el_base::{Array, Log, MAX_SCHEDULE_BYTES, number};
+use inputs_text::InputRefusal;
+use lsq_core::Queue;
+use net_check::Checked;
+use net_core::State;
+use net_replay::{
+    Ended, Replay, ReplayFault, RunFault, finish, judge, print_schedule, read_schedule, replay,
+};
+use net_types::{Firing, Inputs};
+use row_fields::text_within;
+use std::alloc::Global;
+use std::io::Write;
+
+/// How many firings a run may have.
+const LIMIT: u64 = 20_000;
+
+/// What a run at rest is told by, where nothing is wrong with it.
+#[derive(Clone, Copy)]
+enum Told {
+    /// The results, and how many firings were made.
+    Results { made: u64 },
+    /// How many firings were made in how many cycles.
+    Cycles { made: u64, cycles: u64 },
+}
+
+/// Writes what a run of a net on inputs ends with: a status, and the results with the number of firings, or what is wrong.
+pub fn put_run<W: Write>(alloc: Global, net: &str, inputs: &str, out: &mut W) -> Result<()> {
+    let net = net_of(alloc, net)?;
+    match inputs_of(alloc, &net, inputs)? {
+        Ok(inputs) => put_end(alloc, &net, &inputs, out),
+        Err(refusal) => put_refusal(&refusal, out),
+    }
+}
+
+/// Writes the line or the name of a refusal after its number and its word.
+fn put_refusal<W: Write>(refusal: &InputRefusal, out: &mut W) -> Result<()> {
+    write!(out, "6 {refusal}")?;
+    if let Some(line) = refusal.line() {
+        write!(out, " {line}")?;
+    }
+    if let Some(name) = refusal.name() {
+        out.write_all(b" ")?;
+        out.write_all(name.as_slice())?;
+    }
+    Ok(())
+}
+
+/// Runs the net on fitting inputs and writes how the run ends.
+#[tactic(auto, using(crate::proofs::Counts::counts_within))]
+fn put_end<W: Write>(alloc: Global, net: &Checked, inputs: &Inputs, out: &mut W) -> Result<()>
+    requires { InputsFit net.now inputs.now }
+{
+    let Ok(mut state) = State::new(alloc, net, inputs) else {
+        bail!("want of memory");
+    };
+    let Ok(mut log) = Log::<Firing>::with_room(alloc, 0) else {
+        bail!("want of memory");
+    };
+    match finish(net, &mut state, 0, LIMIT, false, &mut log) {
+        Ended::Limit => put_fault(net, &RunFault::Limit { limit: LIMIT }, out),
+        Ended::Rest { made } => put_rest(net, &state, Told::Results { made }, out),
+    }
+}
+
+/// Writes how many firings and cycles a run by cycles of a net on inputs has, or what is wrong.
+pub fn put_cycles<W: Write>(alloc: Global, net: &str, inputs: &str, out: &mut W) -> Result<()> {
+    let net = net_of(alloc, net)?;
+    let inputs = inputs_of(alloc, &net, inputs)??;
+    match run_cycles(alloc, &net, &inputs, LIMIT, true) {
+        Ok(timed) => {
+            let told = Told::Cycles {
+                made: timed.firings,
+                cycles: timed.cycles,
+            };
+            put_rest(&net, &timed.state, told, out)
+        }
+        Err(fault) => put_fault(&net, &fault, out),
+    }
+}
+
+/// Writes what a net on inputs comes to by a schedule: what it ends with where it is at rest, the least enabled firing and
+/// what is held where it goes on, or why it is no run.
+pub fn put_replay<W: Write>(
+    alloc: Global,
+    net: &str,
+    inputs: &str,
+    schedule: &str,
+    out: &mut W,
+) -> Result<()> {
+    let net = net_of(alloc, net)?;
+    let inputs = inputs_of(alloc, &net, inputs)??;
+    let schedule = text_within(alloc, schedule, MAX_SCHEDULE_BYTES)?;
+    match read_schedule(alloc, schedule.as_slice()) {
+        Ok(firings) => put_replayed(alloc, &net, &inputs, firings.as_slice(), out),
+        Err(refusal) => {
+            write!(out, "7 {refusal}")?;
+            if let Some(line) = refusal.line() {
+                write!(out, " {line}")?;
+            }
+            Ok(())
+        }
+    }
+}
+
+/// Writes where firings lead.
+fn put_replayed<W: Write>(
+    alloc: Global,
+    net: &Checked,
+    inputs: &Inputs,
+    firings: &[Firing],
+    out: &mut W,
+) -> Result<()>
+    requires { InputsFit net.now inputs.now }
+{
+    let Ok(made) = u32::try_from(firings.len()) else {
+        bail!("a schedule that is too long");
+    };
+    match replay(alloc, net, inputs, firings) {
+        Ok(Replay::AtRest(state)) => {
+            put_rest(net, &state, Told::Results { made: made as u64 }, out)
+        }
+        Ok(Replay::Goes { state, next }) => {
+            let Ok(text) = print_schedule(alloc, &[next]) else {
+                bail!("want of memory");
+            };
+            write!(out, "0 next ")?;
+            out.write_all(text.as_slice().trim_ascii_end())?;
+            write!(out, "\\n")?;
+            put_held(net, &state, out)
+        }
+        Err(ReplayFault::NotEnabled { index }) => {
+            write!(out, "7 61 NotEnabled {index}")?;
+            Ok(())
+        }
+        Err(ReplayFault::Memory) => bail!("want of memory"),
+    }
+}
+
+/// Writes how many tokens each channel holds, and how many entries each queue, a line each.
+fn put_held<W: Write>(net: &Checked, state: &State, out: &mut W) -> Result<()>
+    requires { IsOf net.now state.now }
+{
+    write!(out, "held")?;
+    for at in 0..net.net().chans.as_slice().len() {
+        write!(out, " {}", state.held(net, at as u32))?;
+    }
+    for at in 0..net.net().units.as_slice().len() {
+        if let Some(queue) = state.queue(net, at as u32) {
+            write!(out, "\\nentries {}", queue.len())?;
+        }
+    }
+    write!(out, "\\n")?;
+    Ok(())
+}
+
+/// Writes what a run at rest ends with.
+fn put_rest<W: Write>(net: &Checked, state: &State, told: Told, out: &mut W) -> Result<()>
+    requires of { IsOf net.now state.now }
+    requires rest { AtRest net.now (state_of state.now) }
+{
+    match (judge(net, state), told) {
+        (Err(fault), _) => put_fault(net, &fault, out),
+        (Ok(()), Told::Results { made }) => put_results(net, state, made, out),
+        (Ok(()), Told::Cycles { made, cycles }) => {
+            write!(out, "0 firings {made} cycles {cycles}")?;
+            Ok(())
+        }
+    }
+}
+
+/// Writes a status and a fault, with the limit of a run that is too long, and with the name of the array of a stray.
+fn put_fault<W: Write>(net: &Checked, fault: &RunFault, out: &mut W) -> Result<()> {
+    match fault {
+        RunFault::Limit { limit } => write!(out, "8 {fault} {limit}")?,
+        RunFault::Stuck => write!(out, "9 {fault}")?,
+        RunFault::Stray { array } => {
+            let arrays = net.net().arrays.as_slice();
+            let array = arrays.get(*array as usize).context("no such array")?;
+            write!(out, "10 {fault} ")?;
+            out.write_all(array.name.as_slice())?;
+        }
+        RunFault::Memory => bail!("want of memory"),
+    }
+    Ok(())
+}
+
+/// Writes the arrays, the result and the number of firings of a run, a line each.
+fn put_results<W: Write>(net: &Checked, state: &State, made: u64, out: &mut W) -> Result<()>
+    requires { IsOf net.now state.now }
+{
+    write!(out, "0 ")?;
+    let arrays = net.net().arrays.as_slice();
+    for at in 0..arrays.len() {
+        let Ok(number) = u32::try_from(at) else {
+            bail!("too many arrays");
+        };
+        put_array(&arrays[at], state.arrays(net, number), out)?;
+    }
+    if let (Some(ty), Some(value)) = (net.net().result, state.value()) {
+        write!(out, "return = {}\\n", number(ty, value))?;
+    }
+    write!(out, "# firings {made}\\n")?;
+    Ok(())
+}
+
+/// Writes an array's name and its numbers.
+fn put_array<W: Write>(array: &Array, elements: &[u64], out: &mut W) -> Result<()> {
+    out.write_all(array.name.as_slice())?;
+    write!(out, " =")?;
+    for element in elements {
+        write!(out, " {}", number(array.ty, *element))?;
+    }
+    write!(out, "\\n")?;
+    Ok(())
+}

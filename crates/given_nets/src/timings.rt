@@ -1,0 +1,125 @@
+//! Placements of timings and changes of checked nets.
+ghost use Rattle.std.specs.Prelude.{◌<◌, IfOk, length};
+ghost use Rattle.net_check.specs.Retimed.{NameChannels};
+ghost use Rattle.buffer_place.specs.Timings.{IsTiming};
+
+use crate::nets::net_of;
+use anyhow::{Result, bail, ensure};
+use buffer_place::{Timing, place};
+use el_base::{MAX_DELAY, MAX_SLOTS, MAX_SUM_OF_SLOTS};
+use net_check::{At, Change, Checked, NetRefusal};
+use net_types::Chan;
+use row_fields::numbers_of;
+use std::alloc::Global;
+use std::io::Write;
+
+/// Writes the slots and the delay of each channel of a net where a timing is placed.
+pub fn put_placed<W: Write>(alloc: Global, net: &str, timing: &str, out: &mut W) -> Result<()> {
+    let net = net_of(alloc, net)?;
+    let timing = timing_of(alloc, timing)?;
+    let Ok(mut placed) = net.net().copy(alloc) else {
+        bail!("want of memory");
+    };
+    ensure!(
+        placed.chans.as_slice().len() as u64 <= MAX_SUM_OF_SLOTS,
+        "too many channels"
+    );
+    if place(alloc, &mut placed, timing).is_err() {
+        bail!("want of memory");
+    }
+    put_times(placed.chans.as_slice(), out)
+}
+
+/// Writes `ok` or the refusal of changes of a net, and the slots and the delays that the net then has.
+pub fn put_retimed<W: Write>(alloc: Global, net: &str, changes: &str, out: &mut W) -> Result<()> {
+    let mut net = net_of(alloc, net)?;
+    let changes = changes_of(alloc, changes, &net)?;
+    match net.retime(alloc, changes.as_slice()) {
+        Ok(()) => write!(out, "ok")?,
+        Err(refusal) => put_refusal(&refusal, out)?,
+    }
+    write!(out, " / ")?;
+    put_times(net.net().chans.as_slice(), out)
+}
+
+/// Writes the number and the word of a broken rule, and what it names.
+fn put_refusal<W: Write>(refusal: &NetRefusal, out: &mut W) -> Result<()> {
+    match refusal.at() {
+        Some(At::Unit(unit)) => write!(out, "{refusal} unit {unit}")?,
+        Some(At::Chan(chan)) => write!(out, "{refusal} chan {chan}")?,
+        Some(At::Net) => write!(out, "{refusal} net")?,
+        None => bail!("want of memory"),
+    }
+    Ok(())
+}
+
+/// The timing that a field tells: `usual`, or the delays of logic, multiplications, divisions, reads and queues, and the
+/// slots.
+fn timing_of(alloc: Global, field: &str) -> Result<Timing>
+    ensures { IfOk result IsTiming }
+{
+    if field == "usual" {
+        return Ok(Timing::usual());
+    }
+    let numbers = words_as_numbers(alloc, field)?;
+    let [logic, mul, div, read, lsq, slots] = *numbers.as_slice() else {
+        bail!("a timing is six numbers");
+    };
+    ensure!(
+        logic <= MAX_DELAY && mul <= MAX_DELAY && div <= MAX_DELAY && read <= MAX_DELAY,
+        "a delay is too great"
+    );
+    ensure!(
+        0 < lsq && lsq <= MAX_DELAY,
+        "a delay of queues is 1 and more"
+    );
+    ensure!(0 < slots && slots <= MAX_SLOTS, "slots are 1 and more");
+    Ok(Timing {
+        logic,
+        mul,
+        div,
+        read,
+        lsq,
+        slots,
+    })
+}
+
+/// The changes of a net's channels that a field tells, each a channel, slots and a delay, with `;` between two.
+fn changes_of(alloc: Global, field: &str, net: &Checked) -> Result<Vec<Change>>
+    ensures { IfOk result (λ changes. NameChannels changes.items net.now) }
+{
+    let mut changes = Vec::new(alloc);
+    for words in field.split(';') {
+        let change = change_of(alloc, words, net)?;
+        changes.push(change)?;
+    }
+    Ok(changes)
+}
+
+fn change_of(alloc: Global, words: &str, net: &Checked) -> Result<Change>
+    ensures { IfOk result (λ (x : Change). x.chan < length net.now.chans) }
+{
+    let numbers = words_as_numbers(alloc, words)?;
+    let [chan, slots, delay] = *numbers.as_slice() else {
+        bail!("a change is three numbers");
+    };
+    let count = net.net().chans.as_slice().len();
+    ensure!((chan as usize) < count, "no such channel");
+    Ok(Change { chan, slots, delay })
+}
+
+/// Numbers with a space between two.
+fn words_as_numbers(alloc: Global, text: &str) -> Result<Vec<u32>> {
+    let words: Vec<&str> = text.split(' ').collect(alloc)?;
+    Ok(numbers_of(alloc, words.as_slice())?)
+}
+
+/// Writes the slots and the delay of each channel, with `;` between two.
+fn put_times<W: Write>(chans: &[Chan], out: &mut W) -> Result<()> {
+    let mut mark = "";
+    for chan in chans {
+        write!(out, "{mark}{} {}", chan.slots, chan.delay)?;
+        mark = "; ";
+    }
+    Ok(())
+}

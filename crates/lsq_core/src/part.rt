@@ -1,0 +1,11 @@
+//! A queue as plain data.
+
+use crate::entry::Entry;
+use net_types::List;
+
+/// The next serial number of a queue and its entries, oldest first.
+#[derive(Debug, Drop)]
+pub struct QueuePart {
+    pub next: u64,
+    pub entries: List<Entry>,
+}
