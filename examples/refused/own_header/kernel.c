@@ -1,0 +1,5 @@
+#include <stdint.h>
+#include "gain.h"
+int32_t amplify(int32_t x) {
+  return x * GAIN;
+}

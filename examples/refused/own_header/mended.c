@@ -1,0 +1,5 @@
+#include <stdint.h>
+#define GAIN 12
+int32_t amplify(int32_t x) {
+  return x * GAIN;
+}

@@ -1,0 +1,28 @@
+# Completion of elastic for bash, made by tools/manual.py: change its table, and say `tools/manual.py write`.
+_elastic() {
+  local current=${COMP_WORDS[COMP_CWORD]} before=${COMP_WORDS[COMP_CWORD - 1]} options=
+  COMPREPLY=()
+  if [ "$COMP_CWORD" -eq 1 ]; then
+    COMPREPLY=($(compgen -W "compile go ref run replay upgrade" -- "$current"))
+    return
+  fi
+  case $before in
+    --slots|--limit|--turns) return ;;
+    --delay) compopt -o nospace 2> /dev/null; COMPREPLY=($(compgen -W "logic= mul= div= read= lsq=" -- "$current")); return ;;
+  esac
+  case ${COMP_WORDS[1]} in
+    compile) options="--delay --slots --forward --wrap" ;;
+    go) options="--delay --slots --forward --wrap --limit --count --cycles" ;;
+    ref) options="--wrap --turns --count" ;;
+    run) options="--limit --count --cycles --log" ;;
+    replay) options="" ;;
+    upgrade) options="" ;;
+  esac
+  if [[ $current == -* ]]; then
+    COMPREPLY=($(compgen -W "$options" -- "$current"))
+  else
+    compopt -o filenames 2> /dev/null
+    COMPREPLY=($(compgen -f -- "$current"))
+  fi
+}
+complete -F _elastic elastic
