@@ -30,12 +30,14 @@ pub fn graph(alloc: Global, blocks: u32, pieces: u32) -> Result<Ir> {
     }
 }
 
-fn add<T: Drop>(list: &mut List<T>, item: T) -> Result<()> {
+/// Adds an item.
+pub fn add<T: Drop>(list: &mut List<T>, item: T) -> Result<()> {
     ensure!(list.push(item).is_ok(), "want of memory");
     Ok(())
 }
 
-fn name(alloc: Global, letters: &[u8]) -> Result<Name> {
+/// The name of these letters.
+pub fn name(alloc: Global, letters: &[u8]) -> Result<Name> {
     match Name::new(alloc, letters) {
         Ok(Some(name)) => Ok(name),
         Ok(None) => bail!("no name"),
@@ -43,7 +45,8 @@ fn name(alloc: Global, letters: &[u8]) -> Result<Name> {
     }
 }
 
-fn scalars(alloc: Global) -> Result<List<Scalar>> {
+/// Two scalars of 32 bits.
+pub fn scalars(alloc: Global) -> Result<List<Scalar>> {
     let mut scalars = List::new(alloc);
     for letters in [b"n", b"m"] {
         let name = name(alloc, letters)?;
@@ -81,7 +84,8 @@ fn first(alloc: Global) -> Result<Block> {
     })
 }
 
-fn both(alloc: Global, one: u32, other: u32) -> Result<List<u32>> {
+/// A list of two numbers.
+pub fn both(alloc: Global, one: u32, other: u32) -> Result<List<u32>> {
     let mut numbers = List::new(alloc);
     add(&mut numbers, one)?;
     add(&mut numbers, other)?;

@@ -3,6 +3,7 @@
 //! - `bench_graphs args BLOCKS VARIABLES`: live variables and block arguments.
 //! - `bench_graphs build SIZE`: circuits of block graphs.
 //! - `bench_graphs compile KERNEL TIMES`: the compiler and its parts.
+//! - `bench_graphs merge BLOCKS`: merging blocks in a row.
 //! - `bench_graphs place CHANNELS`: buffer placement.
 //! - `bench_graphs each FILE`: the benches of the lines of a file, without the digits of what they print, as times differ.
 #![tactic(auto)]
@@ -11,6 +12,7 @@ mod args;
 mod block_graphs;
 mod build;
 mod compile;
+mod merge;
 mod parts;
 mod place;
 mod variable_graphs;
@@ -49,7 +51,10 @@ fn run<W: Write>(rt: &HostRuntime, words: &[&str], out: &mut W) -> Result<()> {
         ["args", words @ ..] => args::run(rt, words, out),
         ["build", words @ ..] => build::run(rt, words, out),
         ["compile", words @ ..] => compile::run(rt, words, out),
+        ["merge", words @ ..] => merge::run(rt, words, out),
         ["place", words @ ..] => place::run(rt, words, out),
-        _ => bail!("write bench_graphs args, build, compile or place, and the words of the bench"),
+        _ => bail!(
+            "write bench_graphs args, build, compile, merge or place, and the words of the bench"
+        ),
     }
 }

@@ -5,6 +5,7 @@
 ghost use Rattle.net_types.specs.Inputs.{InputsFit};
 
 use crate::nets::{Timed, read_file, read_net, time_finish};
+use crate::put;
 use anyhow::{Result, bail};
 use cycle_engine::run_cycles;
 use el_base::MAX_FIRINGS;
@@ -12,6 +13,7 @@ use inputs_text::read_inputs;
 use net_check::Checked;
 use net_replay::RunFault;
 use net_types::Inputs;
+use row_fields::Output;
 use std::io::Write;
 use std::time::Instant;
 
@@ -23,15 +25,40 @@ pub fn run<W: Write>(rt: &HostRuntime, words: &[&str], out: &mut W) -> Result<()
     let net = read_net(rt, netlist)?;
     let text = read_file(rt, inputs)?;
     let inputs = read_inputs(rt.alloc(), &net, text.as_slice())?;
-    let timed = time_finish(rt, &net, &inputs, MAX_FIRINGS)?;
-    let plain = put_pace("finish", "firings", timed, out)?;
-    let cycled = time_cycles(rt, &net, &inputs, out)?;
-    let percent = cycled.saturating_mul(100) / plain.max(1);
-    writeln!(
-        out,
-        "a firing by cycles takes {percent} % of the time of a plain one"
-    )?;
-    Ok(())
+    compare(rt, &net, &inputs, out)
+}
+
+/// Times both ways.
+fn compare<W: Write>(rt: &HostRuntime, net: &Checked, inputs: &Inputs, out: &mut W) -> Result<()>
+    requires { InputsFit net.now inputs.now }
+{
+    let plain = time_finish(rt, net, inputs, MAX_FIRINGS)?;
+    put(pace_told(rt, "finish", "firings", plain), out)?;
+    let opening = time_openings(rt, net, inputs)?;
+    put(opening_told(rt, opening), out)?;
+    let (cycles, firings) = time_cycles(rt, net, inputs, opening)?;
+    put(pace_told(rt, "cycles", "cycles", cycles), out)?;
+    put(pace_told(rt, "cycles", "firings", firings), out)?;
+    let percent = picoseconds(firings).saturating_mul(100) / picoseconds(plain).max(1);
+    put(percent_told(rt, percent), out)
+}
+
+/// A line of the nanoseconds that an opening takes.
+fn opening_told(rt: &HostRuntime, nanos: u128) -> Output {
+    let mut out = Output::new(rt.alloc());
+    out.word("cycles: opened in ");
+    out.number(nanos / 1000);
+    out.word(" microseconds\n");
+    out
+}
+
+/// A line of the time that a firing by cycles takes in hundredths of that of a plain one.
+fn percent_told(rt: &HostRuntime, percent: u128) -> Output {
+    let mut out = Output::new(rt.alloc());
+    out.word("a firing by cycles takes ");
+    out.number(percent);
+    out.word(" % of the time of a plain one\n");
+    out
 }
 
 /// Times the opening of a run by cycles, up to its first firing, in nanoseconds: the lesser of two times, since the first one
@@ -59,18 +86,15 @@ fn time_opening(rt: &HostRuntime, net: &Checked, inputs: &Inputs) -> Result<u128
     Ok(nanos)
 }
 
-/// Times a run by cycles, and gives the picoseconds that a firing takes once it is opened.
-fn time_cycles<W: Write>(
+/// Times the cycles and the firings of a run by cycles, less the nanoseconds of its opening.
+fn time_cycles(
     rt: &HostRuntime,
     net: &Checked,
     inputs: &Inputs,
-    out: &mut W,
-) -> Result<u128>
+    opening: u128,
+) -> Result<(Timed, Timed)>
     requires { InputsFit net.now inputs.now }
 {
-    let opening = time_openings(rt, net, inputs)?;
-    let micros = opening / 1000;
-    writeln!(out, "cycles: opened in {micros} microseconds")?;
     let start = Instant::now(rt)?;
     let Ok(timed) = run_cycles(rt.alloc(), net, inputs, MAX_FIRINGS, false) else {
         bail!("want of memory");
@@ -80,23 +104,34 @@ fn time_cycles<W: Write>(
         made: timed.cycles,
         nanos,
     };
-    put_pace("cycles", "cycles", cycles, out)?;
     let firings = Timed {
         made: timed.firings,
         nanos,
     };
-    put_pace("cycles", "firings", firings, out)
+    Ok((cycles, firings))
 }
 
-/// Prints a line of times, and gives the picoseconds that one takes.
-fn put_pace<W: Write>(name: &str, what: &str, timed: Timed, out: &mut W) -> Result<u128> {
+/// The picoseconds that one takes.
+fn picoseconds(timed: Timed) -> u128 {
+    timed.nanos.saturating_mul(1000) / u128::from(timed.made.max(1))
+}
+
+/// A line of times.
+fn pace_told(rt: &HostRuntime, name: &str, what: &str, timed: Timed) -> Output {
     let Timed { made, nanos } = timed;
-    let pico = nanos.saturating_mul(1000) / u128::from(made.max(1));
-    let (whole, rest) = (pico / 1000, pico % 1000 / 100);
-    let pace = u128::from(made).saturating_mul(1_000_000) / nanos.max(1);
-    writeln!(
-        out,
-        "{name}: {made} {what}, {whole}.{rest} ns each, {pace} thousand a second"
-    )?;
-    Ok(pico)
+    let pico = picoseconds(timed);
+    let mut out = Output::new(rt.alloc());
+    out.word(name);
+    out.word(": ");
+    out.number(made);
+    out.word(" ");
+    out.word(what);
+    out.word(", ");
+    out.number(pico / 1000);
+    out.word(".");
+    out.number(pico % 1000 / 100);
+    out.word(" ns each, ");
+    out.number(u128::from(made).saturating_mul(1_000_000) / nanos.max(1));
+    out.word(" thousand a second\n");
+    out
 }

@@ -6,6 +6,7 @@ ghost use Rattle.c_meaning.specs.Lawful.{Lawful};
 ghost use Rattle.ref_interp.specs.Outcomes.{InputsFit};
 
 use crate::nets::read_file;
+use crate::put;
 use anyhow::{Context, Result, bail, ensure};
 use c_ast::Typed;
 use c_meaning::Profile;
@@ -14,6 +15,7 @@ use inputs_text::read_inputs_of;
 use kernel_front::read_kernel;
 use net_types::Inputs;
 use ref_interp::{Outcome, flat_arrays, interpret, names_of_parameters_differ, scalars};
+use row_fields::Output;
 use std::io::Write;
 use std::time::Instant;
 
@@ -75,23 +77,26 @@ fn time<W: Write>(
         bail!("memory ran out");
     };
     let micros = u64::try_from(start.elapsed(rt)?.as_micros())?;
+    let mut told = Output::new(rt.alloc());
     let made = match outcome {
         Outcome::Ends {
             arrays: _,
             value,
             turns,
         } => {
-            writeln!(out, "result {value:?}")?;
+            told.word("result ");
+            told.debug(&value);
+            told.word("\n");
             turns
         }
         Outcome::Undefined { span } => bail!("undefined at {}:{}", span.line, span.column),
         Outcome::OutOfTurns => turns,
     };
-    let pace = made / micros.max(1);
-    let millis = micros / 1000;
-    writeln!(
-        out,
-        "{made} turns in {millis} ms: {pace} million turns a second"
-    )?;
-    Ok(())
+    told.number(made);
+    told.word(" turns in ");
+    told.number(micros / 1000);
+    told.word(" ms: ");
+    told.number(made / micros.max(1));
+    told.word(" million turns a second\n");
+    put(told, out)
 }

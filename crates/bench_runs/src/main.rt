@@ -16,6 +16,7 @@ mod runner;
 mod sweeps;
 
 use anyhow::{Result, bail};
+use row_fields::Output;
 use std::io::Write;
 use std::{env, fs, io};
 
@@ -33,13 +34,29 @@ fn main(rt: HostRuntime) -> Result<()> {
 fn run_each<W: Write>(rt: &HostRuntime, file: &str, out: &mut W) -> Result<()> {
     let lines = fs::read_to_string(rt, file)?;
     for line in lines.as_str().lines() {
-        let words: Vec<&str> = line.split(' ').collect(rt.alloc())?;
-        let mut text = Vec::new(rt.alloc());
-        run(rt, words.as_slice(), &mut text)?;
-        text.retain(|byte| !byte.is_ascii_digit());
-        writeln!(out, "== {line}")?;
-        out.write_all(text.as_slice())?;
+        put(line_told(rt, line)?, out)?;
     }
+    Ok(())
+}
+
+/// The line of a bench, and what the bench writes without digits.
+fn line_told(rt: &HostRuntime, line: &str) -> Result<Output> {
+    let words: Vec<&str> = line.split(' ').collect(rt.alloc())?;
+    let mut text = Vec::new(rt.alloc());
+    run(rt, words.as_slice(), &mut text)?;
+    text.retain(|byte| !byte.is_ascii_digit());
+    let mut told = Output::new(rt.alloc());
+    told.word("== ");
+    told.word(line);
+    told.word("\n");
+    told.bytes(text.as_slice());
+    Ok(told)
+}
+
+/// Writes what was told so far, so that it stands there while the bench goes on.
+pub fn put<W: Write>(told: Output, out: &mut W) -> Result<()> {
+    let text = told.finish()?;
+    out.write_all(text.as_slice())?;
     Ok(())
 }
 

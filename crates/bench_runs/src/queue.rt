@@ -4,9 +4,11 @@ ghost use Rattle.std.specs.Prelude.{◌≡◌, ◌<◌, ◌≤◌, ◌∷◌, []
 ghost use Rattle.el_base.specs.Limits.{max_depth};
 
 use crate::drive::{Driver, drive};
+use crate::put;
 use anyhow::{Context, Result, bail, ensure};
 use lsq_core::{ListLsq, Lsq, Queue};
 use net_types::{List, Memory, Port};
+use row_fields::Output;
 use std::alloc::Global;
 use std::io::Write;
 use std::time::Instant;
@@ -52,30 +54,48 @@ fn compare<W: Write>(
 {
     let mut least = 0;
     for depth in DEPTHS {
-        let nanos = match body {
-            Body::List => match new_list(rt.alloc(), depth, forward) {
-                Err(_) => bail!("memory ran out"),
-                Ok(queue) => time(rt, queue, acts)?,
-            },
-            Body::Indexed => match new_indexed(rt.alloc(), depth, forward) {
-                Err(_) => bail!("memory ran out"),
-                Ok(queue) => time(rt, queue, acts)?,
-            },
-        };
+        let nanos = time_body(rt, body, depth, forward, acts)?;
         if least == 0 {
             least = nanos.max(1);
         }
-        let mark = if forward { "forward" } else { "plain" };
-        let each = nanos / u128::from(acts);
-        let percent = nanos.saturating_mul(100) / least;
-        let whole = percent / 100;
-        let part = percent % 100;
-        writeln!(
-            out,
-            "{body:?} {mark} depth {depth}: {each} ns an act, ratio {whole}.{part:02}"
-        )?;
+        let mut told = Output::new(rt.alloc());
+        told.debug(&body);
+        told.word(if forward { " forward" } else { " plain" });
+        told.word(" depth ");
+        told.number(depth);
+        told.word(": ");
+        told.number(nanos / u128::from(acts));
+        told.word(" ns an act, ratio ");
+        put_ratio(nanos.saturating_mul(100) / least, &mut told);
+        told.word("\n");
+        put(told, out)?;
     }
     Ok(())
+}
+
+/// Writes hundredths as a number with two digits behind its point.
+fn put_ratio(hundredths: u128, out: &mut Output) {
+    out.number(hundredths / 100);
+    out.word(".");
+    out.number(hundredths / 10 % 10);
+    out.number(hundredths % 10);
+}
+
+/// The nanoseconds that so many acts take on a new queue of a body.
+fn time_body(rt: &HostRuntime, body: Body, depth: u32, forward: bool, acts: u32) -> Result<u128>
+    requires room { 4 ≤ depth }
+    requires most { depth ≤ max_depth }
+{
+    match body {
+        Body::List => match new_list(rt.alloc(), depth, forward) {
+            Err(_) => bail!("memory ran out"),
+            Ok(queue) => time(rt, queue, acts),
+        },
+        Body::Indexed => match new_indexed(rt.alloc(), depth, forward) {
+            Err(_) => bail!("memory ran out"),
+            Ok(queue) => time(rt, queue, acts),
+        },
+    }
 }
 
 /// The nanoseconds that so many acts take on a queue that is new.

@@ -2,9 +2,12 @@
 //! opening state again, so many by plain sweeps over its units, and prints for each how long a firing takes, in tenths of a
 //! nanosecond, and how many firings there are in a second.
 
+ghost use Rattle.std.specs.Prelude.{◌≤◌};
+ghost use Rattle.el_base.specs.Limits.{max_firings};
 ghost use Rattle.net_types.specs.Inputs.{InputsFit};
 
 use crate::nets::{Timed, read_file, read_net, time_finish};
+use crate::put;
 use crate::sweeps::{Tally, all_firings, sweep_all};
 use anyhow::{Context, Result, bail, ensure};
 use el_base::MAX_FIRINGS;
@@ -12,6 +15,7 @@ use inputs_text::read_inputs;
 use net_check::Checked;
 use net_core::State;
 use net_types::Inputs;
+use row_fields::Output;
 use std::io::Write;
 use std::time::Instant;
 
@@ -26,8 +30,25 @@ pub fn run<W: Write>(rt: &HostRuntime, words: &[&str], out: &mut W) -> Result<()
     let net = read_net(rt, netlist)?;
     let text = read_file(rt, inputs)?;
     let inputs = read_inputs(rt.alloc(), &net, text.as_slice())?;
-    put_pace("finish", time_finish(rt, &net, &inputs, limit)?, out)?;
-    put_pace("sweeps", time_sweeps(rt, &net, &inputs, swept)?, out)
+    compare(rt, &net, &inputs, limit, swept, out)
+}
+
+/// Times both ways, so many firings by the first and so many by the second.
+fn compare<W: Write>(
+    rt: &HostRuntime,
+    net: &Checked,
+    inputs: &Inputs,
+    limit: u64,
+    swept: u64,
+    out: &mut W,
+) -> Result<()>
+    requires fit { InputsFit net.now inputs.now }
+    requires limit { limit ≤ max_firings }
+{
+    let plain = time_finish(rt, net, inputs, limit)?;
+    put(pace_told(rt, "finish", plain), out)?;
+    let sweeps = time_sweeps(rt, net, inputs, swept)?;
+    put(pace_told(rt, "sweeps", sweeps), out)
 }
 
 /// Times plain sweeps.
@@ -52,16 +73,21 @@ fn time_sweeps(rt: &HostRuntime, net: &Checked, inputs: &Inputs, limit: u64) -> 
     })
 }
 
-/// Prints a line of times.
-fn put_pace<W: Write>(name: &str, timed: Timed, out: &mut W) -> Result<()> {
+/// A line of times.
+fn pace_told(rt: &HostRuntime, name: &str, timed: Timed) -> Output {
     let Timed { made, nanos } = timed;
+    let mut out = Output::new(rt.alloc());
     let count = u128::from(made.max(1));
     let tenths = nanos.saturating_mul(10) / count;
-    let (whole, rest) = (tenths / 10, tenths % 10);
-    let pace = u128::from(made).saturating_mul(1000) / nanos.max(1);
-    writeln!(
-        out,
-        "{name}: {made} firings, {whole}.{rest} ns a firing, {pace} million a second"
-    )?;
-    Ok(())
+    out.word(name);
+    out.word(": ");
+    out.number(made);
+    out.word(" firings, ");
+    out.number(tenths / 10);
+    out.word(".");
+    out.number(tenths % 10);
+    out.word(" ns a firing, ");
+    out.number(u128::from(made).saturating_mul(1000) / nanos.max(1));
+    out.word(" million a second\n");
+    out
 }

@@ -9,9 +9,8 @@ use c_ast::Span;
 use c_lex::{LexRefusal, lex};
 use c_parse::{ParseRefusal, parse};
 use el_base::MAX_KERNEL_BYTES;
+use row_fields::Output;
 use std::alloc::Global;
-use std::fmt;
-use std::io::Write;
 use std::time::Instant;
 
 /// A place for texts that end too early; which one is no matter here.
@@ -29,20 +28,18 @@ enum Pass {
     LexAndParse,
 }
 
-/// Microseconds, printed as milliseconds.
-#[derive(Clone, Copy, Debug)]
-struct Micros(u128);
-
-impl fmt::Display for Micros {
-    fn fmt<W: fmt::Write>(&self, f: &mut fmt::Formatter<W>) -> fmt::Result {
-        let whole = self.0 / 1000;
-        let rest = self.0 % 1000;
-        write!(f, "{whole}.{rest:03} ms")
-    }
+/// Writes microseconds as milliseconds.
+pub fn put_millis(micros: u128, out: &mut Output) {
+    out.number(micros / 1000);
+    out.word(".");
+    out.number(micros / 100 % 10);
+    out.number(micros / 10 % 10);
+    out.number(micros % 10);
+    out.word(" ms");
 }
 
 /// Times the text of a file, of at most as many bytes as a kernel may have.
-pub fn run<W: Write>(rt: &HostRuntime, words: &[&str], out: &mut W) -> Result<()> {
+pub fn run(rt: &HostRuntime, words: &[&str], out: &mut Output) -> Result<()> {
     let [name, runs] = words else {
         bail!("write bench_text front FILE RUNS");
     };
@@ -55,12 +52,16 @@ pub fn run<W: Write>(rt: &HostRuntime, words: &[&str], out: &mut W) -> Result<()
     ensure!(runs > 0, "RUNS is above 0");
     let lexing = least(rt, runs, Pass::Lex, text.as_slice())?;
     let reading = least(rt, runs, Pass::LexAndParse, text.as_slice())?;
-    writeln!(out, "lex {lexing}, lex and parse {reading}")?;
+    out.word("lex ");
+    put_millis(lexing, out);
+    out.word(", lex and parse ");
+    put_millis(reading, out);
+    out.word("\n");
     Ok(())
 }
 
-/// The time that reading a text so far takes, as the least of so many runs.
-fn least(rt: &HostRuntime, runs: u32, pass: Pass, text: &[u8]) -> Result<Micros>
+/// The microseconds that reading a text so far takes, as the least of so many runs.
+fn least(rt: &HostRuntime, runs: u32, pass: Pass, text: &[u8]) -> Result<u128>
     requires { length text.now ≤ max_kernel_bytes }
 {
     let mut least = u128::MAX;
@@ -69,7 +70,7 @@ fn least(rt: &HostRuntime, runs: u32, pass: Pass, text: &[u8]) -> Result<Micros>
         read(rt.alloc(), pass, text)?;
         least = least.min(start.elapsed(rt)?.as_micros());
     }
-    Ok(Micros(least))
+    Ok(least)
 }
 
 /// Reads a text so far. A text that is refused is read as well.

@@ -4,33 +4,26 @@ ghost use Rattle.el_base.specs.Limits.{IsNumbered};
 ghost use Rattle.std.specs.Prelude.{[], ◌∷◌, IfOk, length};
 ghost use Rattle.inputs_text.specs.Texts.{FitHeader};
 
+use crate::front::put_millis;
 use crate::read_file;
 use anyhow::{Context, Result, bail, ensure};
 use inputs_text::{print_results_of, read_inputs_of};
 use net_types::{Array, Inputs, Name, Ty};
+use row_fields::Output;
 use std::alloc::Global;
-use std::io::Write;
+use std::slice;
 use std::time::Instant;
-use std::{fmt, slice};
 
-/// A time in microseconds for a number of bytes, printed as milliseconds and megabytes a second.
-#[derive(Clone, Copy, Debug)]
-struct Pace {
-    micros: u64,
-    bytes: u64,
-}
-
-impl fmt::Display for Pace {
-    fn fmt<W: fmt::Write>(&self, f: &mut fmt::Formatter<W>) -> fmt::Result {
-        let whole = self.micros / 1000;
-        let rest = self.micros % 1000;
-        let pace = self.bytes / self.micros.max(1);
-        write!(f, "{whole}.{rest:03} ms, {pace} MB/s")
-    }
+/// Writes a time in microseconds for a number of bytes as milliseconds and megabytes a second.
+fn put_pace(micros: u64, bytes: u64, out: &mut Output) {
+    put_millis(u128::from(micros), out);
+    out.word(", ");
+    out.number(bytes / micros.max(1));
+    out.word(" MB/s");
 }
 
 /// Times the text of a file.
-pub fn run<W: Write>(rt: &HostRuntime, words: &[&str], out: &mut W) -> Result<()> {
+pub fn run(rt: &HostRuntime, words: &[&str], out: &mut Output) -> Result<()> {
     let [name, len, runs] = words else {
         bail!("write bench_text inputs FILE LENGTH RUNS");
     };
@@ -55,15 +48,11 @@ pub fn run<W: Write>(rt: &HostRuntime, words: &[&str], out: &mut W) -> Result<()
         printed = print(rt.alloc(), &array, &inputs)?;
         printing = printing.min(u64::try_from(start.elapsed(rt)?.as_micros())?);
     }
-    let read = Pace {
-        micros: reading,
-        bytes: text.len() as u64,
-    };
-    let print = Pace {
-        micros: printing,
-        bytes: printed,
-    };
-    writeln!(out, "read {read}; print {print}")?;
+    out.word("read ");
+    put_pace(reading, text.len() as u64, out);
+    out.word("; print ");
+    put_pace(printing, printed, out);
+    out.word("\n");
     Ok(())
 }
 

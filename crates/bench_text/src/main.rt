@@ -13,6 +13,7 @@ mod front;
 mod inputs;
 
 use anyhow::{Result, bail, ensure};
+use row_fields::Output;
 use std::io::Write;
 use std::{env, fs, io};
 
@@ -22,7 +23,7 @@ fn main(rt: HostRuntime) -> Result<()> {
     let mut out = io::writer(&rt);
     match words.as_slice() {
         ["each", file] => run_each(&rt, file, &mut out),
-        words => run(&rt, words, &mut out),
+        words => put(told(&rt, words)?, &mut out),
     }
 }
 
@@ -30,23 +31,40 @@ fn main(rt: HostRuntime) -> Result<()> {
 fn run_each<W: Write>(rt: &HostRuntime, file: &str, out: &mut W) -> Result<()> {
     let lines = fs::read_to_string(rt, file)?;
     for line in lines.as_str().lines() {
-        let words: Vec<&str> = line.split(' ').collect(rt.alloc())?;
-        let mut text = Vec::new(rt.alloc());
-        run(rt, words.as_slice(), &mut text)?;
-        text.retain(|byte| !byte.is_ascii_digit());
-        writeln!(out, "== {line}")?;
-        out.write_all(text.as_slice())?;
+        put(line_told(rt, line)?, out)?;
     }
     Ok(())
 }
 
-/// Runs the bench that the first word names on the words after it.
-fn run<W: Write>(rt: &HostRuntime, words: &[&str], out: &mut W) -> Result<()> {
+/// The line of a bench, and what the bench writes without digits.
+fn line_told(rt: &HostRuntime, line: &str) -> Result<Output> {
+    let words: Vec<&str> = line.split(' ').collect(rt.alloc())?;
+    let mut text = told(rt, words.as_slice())?.finish()?;
+    text.retain(|byte| !byte.is_ascii_digit());
+    let mut out = Output::new(rt.alloc());
+    out.word("== ");
+    out.word(line);
+    out.word("\n");
+    out.bytes(text.as_slice());
+    Ok(out)
+}
+
+/// Writes what was told.
+fn put<W: Write>(told: Output, out: &mut W) -> Result<()> {
+    let text = told.finish()?;
+    out.write_all(text.as_slice())?;
+    Ok(())
+}
+
+/// Runs the bench that the first word names on the words after it, and gives what it writes.
+fn told(rt: &HostRuntime, words: &[&str]) -> Result<Output> {
+    let mut out = Output::new(rt.alloc());
     match words {
-        ["front", words @ ..] => front::run(rt, words, out),
-        ["inputs", words @ ..] => inputs::run(rt, words, out),
+        ["front", words @ ..] => front::run(rt, words, &mut out)?,
+        ["inputs", words @ ..] => inputs::run(rt, words, &mut out)?,
         _ => bail!("write bench_text front or inputs, and the words of the bench"),
     }
+    Ok(out)
 }
 
 /// The bytes of a file, of fewer than 2^32.

@@ -15,6 +15,9 @@ pub mod ListedFits
 pub mod Stored
 pub mod Passes
 pub mod Rounds
+pub mod WithEdges
+pub mod Onward
+pub mod Remade
 pub mod JoinLemmas
 pub mod EdgeLemmas
 pub mod PartLemmas

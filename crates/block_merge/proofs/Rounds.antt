@@ -49,10 +49,10 @@ stays (suc n) bs e = ap (threaded n) e ∙ stays n bs e
 
 -- ---- the loop
 
-pub first_round : (made bs : List Block) → made ≡ threaded_once bs → threaded (rounds - 1) made ≡ threaded rounds bs
+pub first_round : (made bs : List Block) → made ≡ bs → threaded (rounds - 0) made ≡ threaded rounds bs
 first_round made bs e =
-    let k : rounds ≡ suc (rounds - 1) = omega (arith, rounds_are) in
-    ap (threaded (rounds - 1)) e ∙ sym (ap (λ n. threaded n bs) k)
+    let k : rounds - 0 ≡ rounds = omega arith in
+    ap (threaded (rounds - 0)) e ∙ ap (λ n. threaded n bs) k
 
 pub next_round : (r : ℕ) (made new all : List Block) → r < 16 → threaded (rounds - r) made ≡ all → new ≡ threaded_once made → threaded (rounds - (r + 1)) new ≡ all
 next_round r made new all lt h e =

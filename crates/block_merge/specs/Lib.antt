@@ -8,6 +8,7 @@ pub mod Shares
 pub mod Laws
 pub mod Moves
 pub mod Jumps
+pub mod OutEdges
 pub mod Edges
 pub mod Parts
 pub mod Orders

@@ -2,6 +2,7 @@
 //! that no run comes to.
 #![tactic(auto)]
 
+mod edges;
 mod joining;
 mod laws;
 mod merging;

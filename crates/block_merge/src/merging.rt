@@ -16,7 +16,7 @@ use std::alloc::Global;
 /// blocks that no walk finds left out, in the order in which the walk finds them.
 ///
 /// It asks that the size of the graph, which [`Ir::has_size_within`] tests, is below 2^32. The time is that of copying the
-/// graph, up to sixteen times where long rows of blocks only lead on.
+/// graph some times, and of going over its edges up to sixteen times where long rows of blocks only lead on.
 ///
 /// # Errors
 ///

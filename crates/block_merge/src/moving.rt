@@ -1,7 +1,8 @@
 //! Steps and jumps of a block whose arguments become the values that another block hands on for them.
-ghost use Rattle.std.specs.Prelude.{◌≡◌, ◌++◌, map, IfOk};
+ghost use Rattle.std.specs.Prelude.{◌≡◌, ◌++◌, ◌+◌, ◌-◌, length, map, IfOk};
+ghost use Rattle.el_base.specs.Limits.{IsNumbered};
 ghost use Rattle.ir.specs.Renaming.{renamed, operands};
-ghost use Rattle.block_merge.specs.Renamed.{renamed_to, renamed_jump};
+ghost use Rattle.block_merge.specs.Renamed.{moved_to, renamed_to, renamed_jump};
 ghost use Rattle.block_merge.specs.Moves.{
   new_number,
   IsMovable,
@@ -12,6 +13,19 @@ ghost use Rattle.block_merge.specs.Moves.{
 
 use ir::{Instr, Jump, List, Memory, To};
 use std::alloc::Global;
+
+/// The new number of a value, where an argument is what is handed on for it, and the values of steps stand from one on.
+pub(crate) fn moved(args: &[u32], steps: u32, value: u32) -> u32
+    requires { IsNumbered (steps + (value - length args.now)) }
+    ensures { result ≡ moved_to args.now steps value }
+{
+    let at = value as usize;
+    if at < args.len() {
+        args[at]
+    } else {
+        steps + (at - args.len()) as u32
+    }
+}
 
 /// The new numbers of a block's values: those of its arguments, and of its first step.
 #[derive(Debug, Drop)]
@@ -26,12 +40,7 @@ impl Numbers {
         requires { IsMovable self.now value }
         ensures { result ≡ new_number self.now value }
     {
-        let at = value as usize;
-        if at < self.args.len() {
-            self.args.as_slice()[at]
-        } else {
-            self.steps + (at - self.args.len()) as u32
-        }
+        moved(self.args.as_slice(), self.steps, value)
     }
 
     /// The step on the same values under their new numbers.

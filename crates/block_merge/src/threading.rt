@@ -1,31 +1,34 @@
 //! Edges into blocks that only lead on lead one further.
-ghost use Rattle.std.specs.Prelude.{◌≡◌, IfOk};
+ghost use Rattle.std.specs.Prelude.{◌≡◌, length, option_map, IfOk, OnOk};
 ghost use Rattle.std.specs.Option.{option_copied};
-ghost use Rattle.block_merge.specs.Renamed.{moved_to, renamed_to};
 ghost use Rattle.block_merge.specs.Merged.{rounds};
 ghost use Rattle.block_merge.specs.Threaded.{
+  onward_of_parts,
   only_onward,
   threaded_to,
   threaded_jump,
   threaded_once,
   threaded,
 };
-ghost use Rattle.block_merge.specs.Jumps.{leads_by_way, some_lead_by_way};
+ghost use Rattle.block_merge.specs.Jumps.{is_some_to, leads_by_way, some_lead_by_way};
+ghost use Rattle.block_merge.specs.OutEdges.{to_of, jump_along, with_edges};
 
-use crate::moving::Numbers;
-use ir::{Block, Jump, List, Memory, To};
+use crate::edges::{Edge, OutEdges, out_edges, with_edges};
+use ir::{Block, Jump, List, Memory};
 use std::alloc::Global;
+use std::mem;
 
 /// How often edges lead one further: each time an edge passes twice as many blocks in a row as before.
 const ROUNDS: u32 = 16;
 
-/// Where a block only leads on to another.
-fn only_onward(blocks: &[Block], number: u32) -> Option<&To>
-    ensures { option_copied result ≡ only_onward blocks.now number }
+/// The edge along which a block of that number only leads on to another.
+fn onward_along<'a>(block: &Block, along: &'a OutEdges, number: u32) -> Option<&'a Edge>
+    ensures { option_map to_of (option_copied result) ≡ onward_of_parts
+        number (length block.now.args) block.now.steps (jump_along along.now block.now.jump) }
 {
-    let block = blocks.get(number as usize)?;
+    let to = &along.yes;
     match &block.jump {
-        Jump::Go(to) => {
+        Jump::Go(_) => {
             if block.steps.is_empty() && to.block != number && to.with.len() <= block.args.len() {
                 Some(to)
             } else {
@@ -41,105 +44,150 @@ fn only_onward(blocks: &[Block], number: u32) -> Option<&To>
     }
 }
 
-/// The target of a block that only leads on, handed what is handed to that block.
-fn handed_further(alloc: Global, with: List<u32>, to: &To) -> Result<To, Memory>
-    ensures { IfOk result (λ t. t ≡ renamed_to (moved_to with 0) to.now) }
+/// Where a block only leads on to another.
+#[tactic(auto, using(crate::proofs::Onward::onward_here, crate::proofs::Onward::past_blocks, crate::proofs::Onward::past_edges,))]
+fn only_onward<'a>(blocks: &[Block], edges: &'a [OutEdges], number: u32) -> Option<&'a Edge>
+    ensures { option_map to_of (option_copied result)
+        ≡ only_onward (with_edges blocks.now edges.now) number }
 {
-    let numbers = Numbers {
-        args: with,
-        steps: 0,
-    };
-    let values = to.with.as_slice();
-    let mut handed = List::new(alloc);
-    for value in values {
-        handed.push(numbers.number(*value))?;
+    let at = number as usize;
+    if at >= blocks.len() || at >= edges.len() {
+        return None;
     }
-    Ok(To {
-        block: to.block,
-        with: handed,
-    })
+    onward_along(&blocks[at], &edges[at], number)
 }
 
-/// The edge, one further if its target only leads on.
-fn threaded_to(alloc: Global, blocks: &[Block], to: &To) -> Result<To, Memory>
-    ensures { IfOk result (λ t. t ≡ threaded_to blocks.now to.now) }
+/// Fills `into` with an edge, one further if its target only leads on.
+fn thread_edge(
+    blocks: &[Block],
+    edges: &[OutEdges],
+    edge: &Edge,
+    into: &mut Edge,
+) -> Result<(), Memory>
+    ensures { OnOk result (to_of into.new
+        ≡ threaded_to (with_edges blocks.now edges.now) (to_of edge.now)) }
 {
-    let with = to.with.copy()?;
-    match only_onward(blocks, to.block) {
-        Some(next) => handed_further(alloc, with, next),
-        None => Ok(To {
-            block: to.block,
-            with,
-        }),
+    match only_onward(blocks, edges, edge.block) {
+        Some(next) => into.fill_past(edge, next),
+        None => into.fill(edge),
     }
 }
 
-/// The jump with each of its edges one further.
-fn threaded_jump(alloc: Global, blocks: &[Block], jump: &Jump) -> Result<Jump, Memory>
-    ensures { IfOk result (λ j. j ≡ threaded_jump blocks.now jump.now) }
+/// Fills `into` with the edges of a jump, each one further.
+fn thread_jump(
+    blocks: &[Block],
+    edges: &[OutEdges],
+    jump: &Jump,
+    along: &OutEdges,
+    into: &mut OutEdges,
+) -> Result<(), Memory>
+    ensures { OnOk result (jump_along into.new jump.now
+        ≡ threaded_jump (with_edges blocks.now edges.now) (jump_along along.now jump.now)) }
 {
     match jump {
-        Jump::Go(to) => Ok(Jump::Go(threaded_to(alloc, blocks, to)?)),
-        Jump::Two { cond, yes, no } => Ok(Jump::Two {
-            cond: *cond,
-            yes: threaded_to(alloc, blocks, yes)?,
-            no: threaded_to(alloc, blocks, no)?,
-        }),
-        Jump::Return(value) => Ok(Jump::Return(*value)),
+        Jump::Go(_) => thread_edge(blocks, edges, &along.yes, &mut into.yes),
+        Jump::Two {
+            cond: _,
+            yes: _,
+            no: _,
+        } => {
+            thread_edge(blocks, edges, &along.yes, &mut into.yes)?;
+            thread_edge(blocks, edges, &along.no, &mut into.no)
+        }
+        Jump::Return(_) => Ok(()),
     }
+}
+
+/// Fills `into` with the edges of all blocks, each one further.
+#[tactic(auto, using(crate::proofs::WithEdges::none_threaded, crate::proofs::WithEdges::more_threaded, crate::proofs::WithEdges::all_threaded,))]
+fn thread_once(blocks: &[Block], edges: &[OutEdges], into: &mut [OutEdges]) -> Result<(), Memory>
+    requires edges { length edges.now ≡ length blocks.now }
+    requires into { length into.old ≡ length blocks.now }
+    ensures long { length into.new ≡ length into.old }
+    ensures threaded { OnOk result (with_edges blocks.now into.new
+        ≡ threaded_once (with_edges blocks.now edges.now)) }
+{
+    let count = blocks.len();
+    for at in 0..count {
+        thread_jump(blocks, edges, &blocks[at].jump, &edges[at], &mut into[at])?;
+    }
+    Ok(())
 }
 
 /// Whether an edge leads into a block that only leads on.
-fn leads_by_way(blocks: &[Block], jump: &Jump) -> bool
-    ensures { result ≡ leads_by_way blocks.now jump.now }
+fn leads_by_way(blocks: &[Block], edges: &[OutEdges], jump: &Jump, along: &OutEdges) -> bool
+    ensures { result
+        ≡ leads_by_way (with_edges blocks.now edges.now) (jump_along along.now jump.now) }
 {
     match jump {
-        Jump::Go(to) => only_onward(blocks, to.block).is_some(),
-        Jump::Two { cond: _, yes, no } => {
-            only_onward(blocks, yes.block).is_some() || only_onward(blocks, no.block).is_some()
+        Jump::Go(_) => only_onward(blocks, edges, along.yes.block).is_some(),
+        Jump::Two {
+            cond: _,
+            yes: _,
+            no: _,
+        } => {
+            only_onward(blocks, edges, along.yes.block).is_some()
+                || only_onward(blocks, edges, along.no.block).is_some()
         }
         Jump::Return(_) => false,
     }
 }
 
 /// Whether an edge of some block does.
-fn some_lead_by_way(blocks: &[Block]) -> bool
-    ensures { result ≡ some_lead_by_way blocks.now }
+#[tactic(auto, using(crate::proofs::WithEdges::next_along, crate::proofs::WithEdges::none_left))]
+fn some_lead_by_way(blocks: &[Block], edges: &[OutEdges]) -> bool
+    requires { length edges.now ≡ length blocks.now }
+    ensures { result ≡ some_lead_by_way (with_edges blocks.now edges.now) }
 {
-    for block in blocks {
-        if leads_by_way(blocks, &block.jump) {
+    let count = blocks.len();
+    for at in 0..count {
+        if leads_by_way(blocks, edges, &blocks[at].jump, &edges[at]) {
             return true;
         }
     }
     false
 }
 
-/// The blocks with each edge one further.
-fn threaded_once(alloc: Global, blocks: &[Block]) -> Result<List<Block>, Memory>
-    ensures { IfOk result (λ bs. bs ≡ threaded_once blocks.now) }
+/// Takes all edges one further, by way of a second list of edges that is filled.
+fn advance(
+    blocks: &[Block],
+    edges: &mut Vec<OutEdges>,
+    further: &mut Vec<OutEdges>,
+) -> Result<(), Memory>
+    requires edges { length edges.old.items ≡ length blocks.now }
+    requires further { length further.old.items ≡ length blocks.now }
+    ensures edges { OnOk result (length edges.new.items ≡ length blocks.now) }
+    ensures further { OnOk result (length further.new.items ≡ length blocks.now) }
+    ensures threaded { OnOk result (with_edges blocks.now edges.new.items
+        ≡ threaded_once (with_edges blocks.now edges.old.items)) }
 {
-    let mut made = List::new(alloc);
-    for block in blocks {
-        made.push(Block {
-            args: block.args.copy()?,
-            steps: block.steps.copy()?,
-            jump: threaded_jump(alloc, blocks, &block.jump)?,
-        })?;
+    thread_once(blocks, edges.as_slice(), further.as_mut_slice())?;
+    mem::swap(edges, further);
+    Ok(())
+}
+
+/// The edges of all blocks, each past the blocks that only lead on.
+#[tactic(auto, using(crate::proofs::Rounds::first_round))]
+fn threaded_edges(alloc: Global, blocks: &[Block]) -> Result<Vec<OutEdges>, Memory>
+    ensures long { IfOk result (λ edges. length edges.items ≡ length blocks.now) }
+    ensures threaded { IfOk result (λ edges. with_edges blocks.now edges.items
+        ≡ threaded rounds blocks.now) }
+{
+    let mut edges = out_edges(alloc, blocks)?;
+    let mut further = out_edges(alloc, blocks)?;
+    for round in 0..ROUNDS {
+        if !some_lead_by_way(blocks, edges.as_slice()) {
+            return Ok(edges);
+        }
+        advance(blocks, &mut edges, &mut further)?;
     }
-    Ok(made)
+    Ok(edges)
 }
 
 /// The blocks with each edge past the blocks that only lead on.
-#[tactic(auto, using(crate::proofs::Rounds::first_round))]
 pub(crate) fn threaded(alloc: Global, blocks: &[Block]) -> Result<List<Block>, Memory>
     ensures { IfOk result (λ bs. bs ≡ threaded rounds blocks.now) }
 {
-    let mut made = threaded_once(alloc, blocks)?;
-    for round in 1..ROUNDS {
-        if !some_lead_by_way(made.as_slice()) {
-            return Ok(made);
-        }
-        made = threaded_once(alloc, made.as_slice())?;
-    }
-    Ok(made)
+    let edges = threaded_edges(alloc, blocks)?;
+    with_edges(alloc, blocks, edges.as_slice())
 }

@@ -7,132 +7,24 @@ use Rattle.command_words.specs.declared.verb.Verb.{Verb}
 use Rattle.command_words.specs.declared.verb.Verb.TheVariants.{Compile, Go, Run, Replay, Bench, Upgrade, Ref, Save, Resume}
 use Rattle.command_words.specs.Tables.{Text, is_built}
 use Rattle.command_words.specs.Commands.{Asked}
-use Rattle.command_words.specs.declared.command.Chosen.{Chosen}
 use Rattle.elastic_top.specs.Files.{Wanted}
 use Rattle.elastic_top.specs.Reading.{AreHeld}
-use Rattle.elastic_top.specs.Answers.{Answers, AnswersBy}
-use Rattle.elastic_top.specs.Faults.{refusal_code, fault_code, fault_line, write_line, memory_line}
+use Rattle.elastic_top.specs.Answers.{Answers}
+use Rattle.elastic_top.specs.Faults.{fault_code, fault_line, write_line, memory_line}
 use Rattle.elastic_top.specs.Statuses.{statuses, statuses_of}
 use Rattle.elastic_top.specs.Causes.{IsCauseOf, IsOwn, Unread, Writes, RefusesWith, AreKept, AreSound, TooLong as TooLongOf}
 use Rattle.elastic_top.specs.declared.fault.Fault.{Fault}
 use Rattle.elastic_top.specs.declared.fault.Fault.TheVariants.{Usage, Read, Write, Memory, TooLong, Refused}
-use Rattle.elastic_top.specs.declared.fault.Refusal.{Refusal}
-use Rattle.elastic_top.specs.declared.fault.Refusal.TheVariants.{Kernel, NetText, NetRule, Inputs, Schedule, NotEnabled, Limit, Stuck, Stray, Undefined, OutOfTurns}
-
--- a command's own refusals have its statuses
-own : (v : Verb) (plain : List Text) (chosen : Chosen) (contents : List Text) (r : Refusal) → AnswersBy v plain chosen contents (Err r) → Contains (statuses_of v) (refusal_code r)
-own Compile plain chosen contents (Kernel f x) a = (3, omega arith, refl)
-own Compile plain chosen contents (NetText f x) a = absurd a
-own Compile plain chosen contents (NetRule f x) a = absurd a
-own Compile plain chosen contents (Inputs f x) a = absurd a
-own Compile plain chosen contents (Schedule f x) a = absurd a
-own Compile plain chosen contents (NotEnabled f i) a = absurd a
-own Compile plain chosen contents (Limit n) a = absurd a
-own Compile plain chosen contents Stuck a = absurd a
-own Compile plain chosen contents (Stray name) a = absurd a
-own Compile plain chosen contents (Undefined f place) a = absurd a
-own Compile plain chosen contents (OutOfTurns n) a = absurd a
-own Go plain chosen contents (Kernel f x) a = (3, omega arith, refl)
-own Go plain chosen contents (NetText f x) a = absurd a
-own Go plain chosen contents (NetRule f x) a = absurd a
-own Go plain chosen contents (Inputs f x) a = (4, omega arith, refl)
-own Go plain chosen contents (Schedule f x) a = absurd a
-own Go plain chosen contents (NotEnabled f i) a = absurd a
-own Go plain chosen contents (Limit n) a = (5, omega arith, refl)
-own Go plain chosen contents Stuck a = absurd a
-own Go plain chosen contents (Stray name) a = (6, omega arith, refl)
-own Go plain chosen contents (Undefined f place) a = absurd a
-own Go plain chosen contents (OutOfTurns n) a = absurd a
-own Run plain chosen contents (Kernel f x) a = absurd a
-own Run plain chosen contents (NetText f x) a = (3, omega arith, refl)
-own Run plain chosen contents (NetRule f x) a = (3, omega arith, refl)
-own Run plain chosen contents (Inputs f x) a = (4, omega arith, refl)
-own Run plain chosen contents (Schedule f x) a = absurd a
-own Run plain chosen contents (NotEnabled f i) a = absurd a
-own Run plain chosen contents (Limit n) a = (5, omega arith, refl)
-own Run plain chosen contents Stuck a = (6, omega arith, refl)
-own Run plain chosen contents (Stray name) a = (7, omega arith, refl)
-own Run plain chosen contents (Undefined f place) a = absurd a
-own Run plain chosen contents (OutOfTurns n) a = absurd a
-own Replay plain chosen contents (Kernel f x) a = absurd a
-own Replay plain chosen contents (NetText f x) a = (3, omega arith, refl)
-own Replay plain chosen contents (NetRule f x) a = (3, omega arith, refl)
-own Replay plain chosen contents (Inputs f x) a = (4, omega arith, refl)
-own Replay plain chosen contents (Schedule f x) a = (5, omega arith, refl)
-own Replay plain chosen contents (NotEnabled f i) a = (5, omega arith, refl)
-own Replay plain chosen contents (Limit n) a = absurd a
-own Replay plain chosen contents Stuck a = (6, omega arith, refl)
-own Replay plain chosen contents (Stray name) a = (7, omega arith, refl)
-own Replay plain chosen contents (Undefined f place) a = absurd a
-own Replay plain chosen contents (OutOfTurns n) a = absurd a
-own Bench plain chosen contents r a = absurd a
-own Upgrade plain chosen contents (Kernel f x) a = absurd a
-own Upgrade plain chosen contents (NetText f x) a = (3, omega arith, refl)
-own Upgrade plain chosen contents (NetRule f x) a = (3, omega arith, refl)
-own Upgrade plain chosen contents (Inputs f x) a = absurd a
-own Upgrade plain chosen contents (Schedule f x) a = absurd a
-own Upgrade plain chosen contents (NotEnabled f i) a = absurd a
-own Upgrade plain chosen contents (Limit n) a = absurd a
-own Upgrade plain chosen contents Stuck a = absurd a
-own Upgrade plain chosen contents (Stray name) a = absurd a
-own Upgrade plain chosen contents (Undefined f place) a = absurd a
-own Upgrade plain chosen contents (OutOfTurns n) a = absurd a
-own Ref plain chosen contents (Kernel f x) a = (3, omega arith, refl)
-own Ref plain chosen contents (NetText f x) a = absurd a
-own Ref plain chosen contents (NetRule f x) a = absurd a
-own Ref plain chosen contents (Inputs f x) a = (4, omega arith, refl)
-own Ref plain chosen contents (Schedule f x) a = absurd a
-own Ref plain chosen contents (NotEnabled f i) a = absurd a
-own Ref plain chosen contents (Limit n) a = absurd a
-own Ref plain chosen contents Stuck a = absurd a
-own Ref plain chosen contents (Stray name) a = absurd a
-own Ref plain chosen contents (Undefined f place) a = (7, omega arith, refl)
-own Ref plain chosen contents (OutOfTurns n) a = (8, omega arith, refl)
-own Save plain chosen contents r a = absurd a
-own Resume plain chosen contents r a = absurd a
+use Rattle.elastic_top.proofs.RefusalLemmas.{judged, own}
 
 -- each fault has one of the statuses
-refusal_status : (r : Refusal) → Contains statuses (refusal_code r)
-refusal_status (Kernel f x) = (4, omega arith, refl)
-refusal_status (NetText f x) = (5, omega arith, refl)
-refusal_status (NetRule f x) = (5, omega arith, refl)
-refusal_status (Inputs f x) = (6, omega arith, refl)
-refusal_status (Schedule f x) = (7, omega arith, refl)
-refusal_status (NotEnabled f i) = (7, omega arith, refl)
-refusal_status (Limit n) = (8, omega arith, refl)
-refusal_status Stuck = (9, omega arith, refl)
-refusal_status (Stray name) = (10, omega arith, refl)
-refusal_status (Undefined f place) = (13, omega arith, refl)
-refusal_status (OutOfTurns n) = (14, omega arith, refl)
-
 pub any_status : (f : Fault) → Contains statuses (fault_code f)
 any_status Usage = (1, omega arith, refl)
 any_status (Read x) = (2, omega arith, refl)
 any_status Write = (3, omega arith, refl)
 any_status Memory = (11, omega arith, refl)
 any_status (TooLong x) = (12, omega arith, refl)
-any_status (Refused r) = refusal_status r
-
--- a refusal has no status of words, of the outside or of memory
-record IsInside (code : ℕ) : Type 0 where
-  pub spelled : code ≢ 1
-  pub unread : code ≢ 2
-  pub unwritten : code ≢ 3
-  pub memory : code ≢ 11
-  pub long : code ≢ 12
-
-inside : (r : Refusal) → IsInside (refusal_code r)
-inside (Kernel f x) = record { spelled = λ e. absurd (omega (arith, e)); unread = λ e. absurd (omega (arith, e)); unwritten = λ e. absurd (omega (arith, e)); memory = λ e. absurd (omega (arith, e)); long = λ e. absurd (omega (arith, e)) }
-inside (NetText f x) = record { spelled = λ e. absurd (omega (arith, e)); unread = λ e. absurd (omega (arith, e)); unwritten = λ e. absurd (omega (arith, e)); memory = λ e. absurd (omega (arith, e)); long = λ e. absurd (omega (arith, e)) }
-inside (NetRule f x) = record { spelled = λ e. absurd (omega (arith, e)); unread = λ e. absurd (omega (arith, e)); unwritten = λ e. absurd (omega (arith, e)); memory = λ e. absurd (omega (arith, e)); long = λ e. absurd (omega (arith, e)) }
-inside (Inputs f x) = record { spelled = λ e. absurd (omega (arith, e)); unread = λ e. absurd (omega (arith, e)); unwritten = λ e. absurd (omega (arith, e)); memory = λ e. absurd (omega (arith, e)); long = λ e. absurd (omega (arith, e)) }
-inside (Schedule f x) = record { spelled = λ e. absurd (omega (arith, e)); unread = λ e. absurd (omega (arith, e)); unwritten = λ e. absurd (omega (arith, e)); memory = λ e. absurd (omega (arith, e)); long = λ e. absurd (omega (arith, e)) }
-inside (NotEnabled f i) = record { spelled = λ e. absurd (omega (arith, e)); unread = λ e. absurd (omega (arith, e)); unwritten = λ e. absurd (omega (arith, e)); memory = λ e. absurd (omega (arith, e)); long = λ e. absurd (omega (arith, e)) }
-inside (Limit n) = record { spelled = λ e. absurd (omega (arith, e)); unread = λ e. absurd (omega (arith, e)); unwritten = λ e. absurd (omega (arith, e)); memory = λ e. absurd (omega (arith, e)); long = λ e. absurd (omega (arith, e)) }
-inside Stuck = record { spelled = λ e. absurd (omega (arith, e)); unread = λ e. absurd (omega (arith, e)); unwritten = λ e. absurd (omega (arith, e)); memory = λ e. absurd (omega (arith, e)); long = λ e. absurd (omega (arith, e)) }
-inside (Stray name) = record { spelled = λ e. absurd (omega (arith, e)); unread = λ e. absurd (omega (arith, e)); unwritten = λ e. absurd (omega (arith, e)); memory = λ e. absurd (omega (arith, e)); long = λ e. absurd (omega (arith, e)) }
-inside (Undefined f place) = record { spelled = λ e. absurd (omega (arith, e)); unread = λ e. absurd (omega (arith, e)); unwritten = λ e. absurd (omega (arith, e)); memory = λ e. absurd (omega (arith, e)); long = λ e. absurd (omega (arith, e)) }
-inside (OutOfTurns n) = record { spelled = λ e. absurd (omega (arith, e)); unread = λ e. absurd (omega (arith, e)); unwritten = λ e. absurd (omega (arith, e)); memory = λ e. absurd (omega (arith, e)); long = λ e. absurd (omega (arith, e)) }
+any_status (Refused r) = (judged r).listed
 
 -- those of the outside stand in the list of each command that is built
 pub record HasOutside (list : List ℕ) : Type 0 where
@@ -160,7 +52,7 @@ module _ (holds : Text → Told) (steady : Type 0) (long : ℕ) (Cut : Text → 
   status_of c Write b is = (outside c.verb b).unwritten
   status_of c Memory b is = (outside c.verb b).memory
   status_of c (TooLong x) b is = (outside c.verb b).long
-  status_of c (Refused r) b is = own c.verb c.plain c.chosen is.contents r is.answer
+  status_of c (Refused r) b is = own c.verb c.plain c.chosen is.contents r is.answer.1
 
   pub spelled_of : (c : Asked) (f : Fault) → IsCauseOf holds steady long Cut c f → fault_code f ≢ 1
   spelled_of c Usage is = absurd is
@@ -168,7 +60,7 @@ module _ (holds : Text → Told) (steady : Type 0) (long : ℕ) (Cut : Text → 
   spelled_of c Write is = λ e. absurd (omega (arith, e))
   spelled_of c Memory is = λ e. absurd (omega (arith, e))
   spelled_of c (TooLong x) is = λ e. absurd (omega (arith, e))
-  spelled_of c (Refused r) is = (inside r).spelled
+  spelled_of c (Refused r) is = (judged r).spelled
 
   pub unread_of : (c : Asked) (f : Fault) (Tells : Text → Type 0) → IsCauseOf holds steady long Cut c f → fault_code f ≡ 2 → Tells (fault_line f) → Unread holds steady c Tells
   unread_of c (Read x) Tells is e told = record { name = x.now; cause = is; told = told }
@@ -176,7 +68,7 @@ module _ (holds : Text → Told) (steady : Type 0) (long : ℕ) (Cut : Text → 
   unread_of c Write Tells is e told = absurd (omega (arith, e))
   unread_of c Memory Tells is e told = absurd (omega (arith, e))
   unread_of c (TooLong x) Tells is e told = absurd (omega (arith, e))
-  unread_of c (Refused r) Tells is e told = absurd ((inside r).unread e)
+  unread_of c (Refused r) Tells is e told = absurd ((judged r).unread e)
 
   pub long_of : (c : Asked) (f : Fault) (Tells : Text → Type 0) → IsCauseOf holds steady long Cut c f → fault_code f ≡ 12 → Tells (fault_line f) → TooLongOf holds long c Tells
   long_of c (TooLong x) Tells is e told = record { name = x.now; cause = is; told = told }
@@ -184,7 +76,7 @@ module _ (holds : Text → Told) (steady : Type 0) (long : ℕ) (Cut : Text → 
   long_of c (Read x) Tells is e told = absurd (omega (arith, e))
   long_of c Write Tells is e told = absurd (omega (arith, e))
   long_of c Memory Tells is e told = absurd (omega (arith, e))
-  long_of c (Refused r) Tells is e told = absurd ((inside r).long e)
+  long_of c (Refused r) Tells is e told = absurd ((judged r).long e)
 
   pub cut_of : (c : Asked) (f : Fault) → IsCauseOf holds steady long Cut c f → fault_code f ≡ 3 → Writes holds c Cut
   cut_of c Write is e = is
@@ -192,7 +84,7 @@ module _ (holds : Text → Told) (steady : Type 0) (long : ℕ) (Cut : Text → 
   cut_of c (Read x) is e = absurd (omega (arith, e))
   cut_of c Memory is e = absurd (omega (arith, e))
   cut_of c (TooLong x) is e = absurd (omega (arith, e))
-  cut_of c (Refused r) is e = absurd ((inside r).unwritten e)
+  cut_of c (Refused r) is e = absurd ((judged r).unwritten e)
 
   pub refused_of : (c : Asked) (f : Fault) (Tells : Text → Type 0) → IsCauseOf holds steady long Cut c f → IsOwn (fault_code f) → Tells (fault_line f)
       → RefusesWith holds c (fault_code f) Tells
@@ -209,7 +101,7 @@ module _ (holds : Text → Told) (steady : Type 0) (long : ℕ) (Cut : Text → 
   unwritten_of c (Read x) is e = absurd (omega (arith, e))
   unwritten_of c Memory is e = absurd (omega (arith, e))
   unwritten_of c (TooLong x) is e = absurd (omega (arith, e))
-  unwritten_of c (Refused r) is e = absurd ((inside r).unwritten e)
+  unwritten_of c (Refused r) is e = absurd ((judged r).unwritten e)
 
   pub memory_of : (c : Asked) (f : Fault) → IsCauseOf holds steady long Cut c f → fault_code f ≡ 11 → fault_line f ≡ memory_line
   memory_of c Memory is e = refl
@@ -217,7 +109,7 @@ module _ (holds : Text → Told) (steady : Type 0) (long : ℕ) (Cut : Text → 
   memory_of c (Read x) is e = absurd (omega (arith, e))
   memory_of c Write is e = absurd (omega (arith, e))
   memory_of c (TooLong x) is e = absurd (omega (arith, e))
-  memory_of c (Refused r) is e = absurd ((inside r).memory e)
+  memory_of c (Refused r) is e = absurd ((judged r).memory is.answer.0 e)
 
 record KeptFile (holds : Text → Told) (file : Wanted) : Type 0 where
   pub bytes : Text

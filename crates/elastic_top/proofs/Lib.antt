@@ -5,4 +5,7 @@ pub mod PieceLemmas
 pub mod PlanLemmas
 pub mod RangeLemmas
 pub mod ReadingLemmas
+pub mod RefusalLemmas
 pub mod SoundLemmas
+pub mod OneAnswerLemmas
+pub mod PrintedLemmas

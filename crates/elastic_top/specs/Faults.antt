@@ -1,54 +1,116 @@
 -- What a call that printed nothing says: its status and its line on the error output.
 use Rattle.std.specs.Prelude.{◌≡◌, ◌⊎◌, ℕ, List, [], ◌∷◌, Option, Some, None, codes, decimal}
 use Rattle.std.specs.List.{concat}
+use Rattle.std.specs.Option.{option_copied}
 use Rattle.std.specs.Io.KnownBytes.{append_known}
 use Rattle.el_io.specs.Outside.{Rose, IsCut}
+use Rattle.el_base.specs.Labels.{printed}
 use Rattle.el_base.specs.declared.span.Span.{Span}
-use Rattle.kernel_front.specs.Refusals.{refusal_text as kernel_label, refusal_span as kernel_span}
-use Rattle.net_text.specs.Refusals.{refusal_text as text_label, refusal_line as text_line}
-use Rattle.net_check.specs.Refusals.{refusal_text as rule_label, refusal_at as rule_at}
-use Rattle.inputs_text.specs.declared.refusal.InputRefusal.{InputRefusal}
-use Rattle.inputs_text.specs.Refusals.{refusal_text as input_label, refusal_line as input_line, refusal_name as input_name}
-use Rattle.net_replay.specs.Readings.{refusal_text as schedule_label, refusal_line as schedule_line}
+use Rattle.kernel_front.specs.Refusals.{refusal_number as kernel_number, refusal_word as kernel_word, refusal_span as kernel_span}
+use Rattle.net_text.specs.Refusals.{refusal_line as text_line}
 use Rattle.net_check.specs.declared.refusal.At.{At}
 use Rattle.net_check.specs.declared.refusal.At.TheVariants as at
+use Rattle.net_check.specs.Refusals.{refusal_at as rule_at}
+use Rattle.net_front.specs.declared.refusal.NetlistRefusal.{NetlistRefusal}
+use Rattle.net_front.specs.declared.refusal.NetlistRefusal.TheVariants as netlist
+use Rattle.net_front.specs.Refusals.{netlist_number, netlist_word}
+use Rattle.inputs_text.specs.declared.refusal.InputRefusal.{InputRefusal}
+use Rattle.inputs_text.specs.Refusals.{refusal_line as input_line, refusal_name as input_name}
+use Rattle.net_replay.specs.Readings.{refusal_line as schedule_line}
+use Rattle.net_runs.specs.declared.refusal.RunRefusal.{RunRefusal}
+use Rattle.net_runs.specs.declared.refusal.RunRefusal.TheVariants as run
+use Rattle.net_runs.specs.Refusals.{run_refusal_number, run_refusal_word}
+use Rattle.kernel_ref.specs.declared.refusal.InterpretRefusal.{InterpretRefusal}
+use Rattle.kernel_ref.specs.declared.refusal.InterpretRefusal.TheVariants as interpret
+use Rattle.kernel_ref.specs.Refusals.{interpret_number, interpret_word}
+use Rattle.kernel_runs.specs.declared.refusal.GoRefusal.{GoRefusal}
+use Rattle.kernel_runs.specs.declared.refusal.GoRefusal.TheVariants as go
+use Rattle.kernel_runs.specs.Refusals.{go_number, go_word}
+use Rattle.elastic_top.specs.declared.status.TheConstants.{INPUTS_REFUSED, KERNEL_REFUSED, WANT_OF_MEMORY}
+use Rattle.elastic_top.specs.declared.fault.KernelFiles.{KernelFiles}
+use Rattle.elastic_top.specs.declared.fault.RunFiles.{RunFiles}
 use Rattle.elastic_top.specs.declared.fault.Fault.{Fault}
 use Rattle.elastic_top.specs.declared.fault.Fault.TheVariants.{Usage, Read, Write, Memory, TooLong, Refused}
 use Rattle.elastic_top.specs.declared.fault.Refusal.{Refusal}
-use Rattle.elastic_top.specs.declared.fault.Refusal.TheVariants.{Kernel, NetText, NetRule, Inputs, Schedule, NotEnabled, Limit, Stuck, Stray, Undefined, OutOfTurns}
+use Rattle.elastic_top.specs.declared.fault.Refusal.TheVariants.{Kernel, Net, Run, Go, Interpret}
 
--- ---- refusals
+-- ---- refusals: the number, the word and the status of each kind of work
+
+-- the number; want of memory, whichever work wanted it, has none
+abbrev pub label_number : Refusal → Option ℕ
+label_number (Kernel file r) = kernel_number r
+label_number (Net file r) = netlist_number r
+label_number (Run files r) = run_refusal_number r
+label_number (Go files r) = go_number r
+label_number (Interpret files r) = interpret_number r
+
+abbrev pub label_word : Refusal → List ℕ
+label_word (Kernel file r) = kernel_word r
+label_word (Net file r) = netlist_word r
+label_word (Run files r) = run_refusal_word r
+label_word (Go files r) = go_word r
+label_word (Interpret files r) = interpret_word r
+
+-- what is printed: the number, a space (32) and the word
+abbrev pub refusal_label : Refusal → List ℕ
+refusal_label r = printed (label_number r) (label_word r)
+
+abbrev pub run_code : RunRefusal → ℕ
+run_code (run.Inputs r) = INPUTS_REFUSED
+run_code (run.Schedule r) = 7
+run_code (run.NotEnabled i) = 7
+run_code (run.Limit n) = 8
+run_code run.Stuck = 9
+run_code (run.Stray array name) = 10
+run_code run.Memory = WANT_OF_MEMORY
+
+abbrev pub go_code : GoRefusal → ℕ
+go_code (go.Kernel r) = KERNEL_REFUSED
+go_code (go.Run r) = run_code r
+go_code go.Memory = WANT_OF_MEMORY
+
+abbrev pub interpret_code : InterpretRefusal → ℕ
+interpret_code (interpret.Inputs r) = INPUTS_REFUSED
+interpret_code (interpret.Undefined place) = 13
+interpret_code (interpret.OutOfTurns n) = 14
+interpret_code interpret.Memory = WANT_OF_MEMORY
 
 -- the status of a refusal
 abbrev pub refusal_code : Refusal → ℕ
-refusal_code (Kernel file r) = 4
-refusal_code (NetText file r) = 5
-refusal_code (NetRule file r) = 5
-refusal_code (Inputs file r) = 6
-refusal_code (Schedule file r) = 7
-refusal_code (NotEnabled file i) = 7
-refusal_code (Limit n) = 8
-refusal_code Stuck = 9
-refusal_code (Stray name) = 10
-refusal_code (Undefined file place) = 13
-refusal_code (OutOfTurns n) = 14
+refusal_code (Kernel file r) = KERNEL_REFUSED
+refusal_code (Net file r) = 5
+refusal_code (Run files r) = run_code r
+refusal_code (Go files r) = go_code r
+refusal_code (Interpret files r) = interpret_code r
 
--- a line that names a file, the number and the word of a refusal, and where there is one the number of a line
+-- ---- forms of lines
+
+-- the name of the program, with which a line begins that names no file
+abbrev pub program : List ℕ
+program = codes "elastic"
+
+-- what a line begins with
+abbrev pub front : Option (List ℕ) → List ℕ
+front None = program
+front (Some file) = file
+
+-- a line that names a file, the number and the word of a refusal, and where there is one the number of a line, or another number
 abbrev pub line_parts : List ℕ → List ℕ → Option ℕ → List (List ℕ)
 line_parts file label None = file ∷ codes ": " ∷ label ∷ codes "\n" ∷ []
 line_parts file label (Some n) = file ∷ codes ": " ∷ label ∷ codes " " ∷ decimal n ∷ codes "\n" ∷ []
 
--- and a line that names a name, where there is one
+-- and a line that names a name
+abbrev pub name_parts : List ℕ → List ℕ → List ℕ → List (List ℕ)
+name_parts file label name = file ∷ codes ": " ∷ label ∷ codes " " ∷ name ∷ codes "\n" ∷ []
+
+-- a name, where there is one
 abbrev pub named_parts : List ℕ → List ℕ → Option ℕ → Option (List ℕ) → List (List ℕ)
 named_parts file label line None = line_parts file label line
-named_parts file label line (Some name) = file ∷ codes ": " ∷ label ∷ codes " " ∷ name ∷ codes "\n" ∷ []
-
-abbrev pub input_parts : List ℕ → InputRefusal → List (List ℕ)
-input_parts file r = named_parts file (input_label r) (input_line r) (input_name r)
+named_parts file label line (Some name) = name_parts file label name
 
 -- and a line that names the line and the column of a place, where there is one
 abbrev pub span_parts : List ℕ → List ℕ → Option Span → List (List ℕ)
-span_parts file label None = file ∷ codes ": " ∷ label ∷ codes "\n" ∷ []
+span_parts file label None = line_parts file label None
 span_parts file label (Some span) = file ∷ codes ":" ∷ decimal span.line ∷ codes ":" ∷ decimal span.column ∷ codes ": " ∷ label ∷ codes "\n" ∷ []
 
 -- and a line that names a unit, a channel or the net
@@ -56,24 +118,50 @@ abbrev pub part_parts : List ℕ → List ℕ → List ℕ → ℕ → List (Lis
 part_parts file label part n = file ∷ codes ": " ∷ label ∷ part ∷ decimal n ∷ codes "\n" ∷ []
 
 abbrev pub place_parts : List ℕ → List ℕ → Option At → List (List ℕ)
-place_parts file label None = file ∷ codes ": " ∷ label ∷ codes "\n" ∷ []
+place_parts file label None = line_parts file label None
 place_parts file label (Some (at.Unit u)) = part_parts file label (codes " unit ") u
 place_parts file label (Some (at.Chan c)) = part_parts file label (codes " chan ") c
 place_parts file label (Some at.Net) = file ∷ codes ": " ∷ label ∷ codes " net\n" ∷ []
 
--- the line of a refusal in parts, with the line feed; a file is named by the word that named it
+-- ---- the line of each kind of work, with its number and its word, in parts, with the line feed; a file is named by the word that named it
+
+abbrev pub input_parts : List ℕ → List ℕ → InputRefusal → List (List ℕ)
+input_parts file label r = named_parts file label (input_line r) (input_name r)
+
+abbrev pub net_parts : List ℕ → List ℕ → NetlistRefusal → List (List ℕ)
+net_parts file label (netlist.Text r) = line_parts file label (text_line r)
+net_parts file label (netlist.Rule r) = place_parts file label (rule_at r)
+net_parts file label netlist.Memory = line_parts file label None
+
+abbrev pub run_parts : RunFiles → List ℕ → RunRefusal → List (List ℕ)
+run_parts files label (run.Inputs r) = input_parts files.inputs.now label r
+run_parts files label (run.Schedule r) = line_parts (front (option_copied files.schedule)) label (schedule_line r)
+run_parts files label (run.NotEnabled i) = line_parts (front (option_copied files.schedule)) label (Some i)
+run_parts files label (run.Limit n) = line_parts program label (Some n)
+run_parts files label run.Stuck = line_parts program label None
+run_parts files label (run.Stray array name) = name_parts program label name
+run_parts files label run.Memory = line_parts program label None
+
+abbrev pub go_parts : KernelFiles → List ℕ → GoRefusal → List (List ℕ)
+go_parts files label (go.Kernel r) = span_parts files.kernel.now label (kernel_span r)
+go_parts files label (go.Run r) = run_parts (record { inputs = files.inputs; schedule = None }) label r
+go_parts files label go.Memory = line_parts program label None
+
+abbrev pub interpret_parts : KernelFiles → List ℕ → InterpretRefusal → List (List ℕ)
+interpret_parts files label (interpret.Inputs r) = input_parts files.inputs.now label r
+interpret_parts files label (interpret.Undefined place) = span_parts files.kernel.now label (Some place)
+interpret_parts files label (interpret.OutOfTurns n) = line_parts program label (Some n)
+interpret_parts files label interpret.Memory = line_parts program label None
+
+abbrev pub labelled_parts : List ℕ → Refusal → List (List ℕ)
+labelled_parts label (Kernel file r) = span_parts file.now label (kernel_span r)
+labelled_parts label (Net file r) = net_parts file.now label r
+labelled_parts label (Run files r) = run_parts files label r
+labelled_parts label (Go files r) = go_parts files label r
+labelled_parts label (Interpret files r) = interpret_parts files label r
+
 abbrev pub refusal_parts : Refusal → List (List ℕ)
-refusal_parts (Kernel file r) = span_parts file.now (kernel_label r) (kernel_span r)
-refusal_parts (NetText file r) = line_parts file.now (text_label r) (text_line r)
-refusal_parts (NetRule file r) = place_parts file.now (rule_label r) (rule_at r)
-refusal_parts (Inputs file r) = input_parts file.now r
-refusal_parts (Schedule file r) = line_parts file.now (schedule_label r) (schedule_line r)
-refusal_parts (NotEnabled file i) = file.now ∷ codes ": 61 NotEnabled " ∷ decimal i ∷ codes "\n" ∷ []
-refusal_parts (Limit n) = codes "elastic: 70 Limit " ∷ decimal n ∷ codes "\n" ∷ []
-refusal_parts Stuck = codes "elastic: 71 Stuck\n" ∷ []
-refusal_parts (Stray name) = codes "elastic: 72 Stray " ∷ name ∷ codes "\n" ∷ []
-refusal_parts (Undefined file place) = file.now ∷ codes ":" ∷ decimal place.line ∷ codes ":" ∷ decimal place.column ∷ codes ": 80 Undefined\n" ∷ []
-refusal_parts (OutOfTurns n) = codes "elastic: 81 Turns " ∷ decimal n ∷ codes "\n" ∷ []
+refusal_parts refusal = labelled_parts (refusal_label refusal) refusal
 
 -- ---- faults
 
@@ -82,7 +170,7 @@ abbrev pub fault_code : Fault → ℕ
 fault_code Usage = 1
 fault_code (Read file) = 2
 fault_code Write = 3
-fault_code Memory = 11
+fault_code Memory = WANT_OF_MEMORY
 fault_code (TooLong file) = 12
 fault_code (Refused refusal) = refusal_code refusal
 
@@ -113,6 +201,14 @@ fault_parts (Refused refusal) = refusal_parts refusal
 
 abbrev pub fault_line : Fault → List ℕ
 fault_line fault = concat (fault_parts fault)
+
+-- a refusal is a fault of its own where it has a number, and else it is want of memory
+abbrev pub numbered_fault : Option ℕ → Refusal → Fault
+numbered_fault None refusal = Memory
+numbered_fault (Some number) refusal = Refused refusal
+
+abbrev pub call_fault : Refusal → Fault
+call_fault refusal = numbered_fault (label_number refusal) refusal
 
 -- a sink has grown by exactly the line, or by a proper prefix of it, which comes only where its count of faults rose
 abbrev pub IsTold : Option (List ℕ) → Option (List ℕ) → ℕ → ℕ → List ℕ → Type 0

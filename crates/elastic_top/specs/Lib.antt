@@ -7,3 +7,6 @@ pub mod Lines
 pub mod Options
 pub mod Reading
 pub mod Statuses
+pub mod OneAnswer
+pub mod Printed
+pub mod Words

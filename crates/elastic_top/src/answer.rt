@@ -1,14 +1,14 @@
 //! What each command answers, without an outside.
-ghost use Rattle.std.specs.Prelude.{◌≡◌, IsTrue, length, Ok, IfOk, IfErr};
+ghost use Rattle.std.specs.Prelude.{◌≡◌, IsTrue, length, Ok, Err, IfOk, IfErr};
 ghost use Rattle.command_words.specs.Tables.{is_built, plain_of};
 ghost use Rattle.command_words.specs.Commands.{asked};
-ghost use Rattle.elastic_top.specs.Answers.{Answers, Refuses};
+ghost use Rattle.elastic_top.specs.Answers.{IsSaid};
 ghost use Rattle.elastic_top.specs.Files.{limits_of, AreWithin};
 ghost use Rattle.elastic_top.specs.Options.{IsWithin};
 ghost use Rattle.elastic_top.specs.Reading.{contents_of};
 
 use crate::compiling::compile;
-use crate::fault::Fault;
+use crate::fault::Refusal;
 use crate::going::go;
 use crate::interpretation::interpret;
 use crate::options::{circuit_of, interpretation_of, options_of};
@@ -22,16 +22,16 @@ pub fn answer<'a>(
     alloc: Global,
     command: &Command<'a>,
     contents: &[Vec<u8>],
-) -> Result<Vec<u8>, Fault<'a>>
+) -> Result<Vec<u8>, Refusal<'a>>
     requires built { IsTrue (is_built command.now.verb) }
     requires plain { length command.now.plain.items ≡ length (plain_of command.now.verb) }
     requires chosen { IsWithin command.now.chosen }
     requires count { length contents.now ≡ length (limits_of (plain_of command.now.verb)) }
     requires within { AreWithin (limits_of (plain_of command.now.verb)) (contents_of contents.now) }
     ensures ok { IfOk result (λ text.
-        Answers (asked command.now) (contents_of contents.now) (Ok text.items)) }
-    ensures err { IfErr result (Refuses
-        (Answers (asked command.now) (contents_of contents.now))) }
+        IsSaid (asked command.now) (contents_of contents.now) (Ok text.items)) }
+    ensures err { IfErr result (λ refusal.
+        IsSaid (asked command.now) (contents_of contents.now) (Err refusal)) }
 {
     let words = command.plain.as_slice();
     match command.verb {

@@ -13,9 +13,10 @@ ghost use Rattle.elastic_top.specs.Statuses.{statuses, statuses_of};
 ghost use Rattle.elastic_top.specs.Causes.{Writes, IsCauseOf, Unread, TooLong, RefusesWith, IsOwn, AreSound};
 
 use crate::answer::answer;
-use crate::fault::{Fault, tell};
+use crate::fault::{Fault, call_fault};
 use crate::reading::{File, files_of, read_all};
 use crate::status::Status;
+use crate::telling::tell;
 use command_words::{Command, read_words, words_spell_one_command};
 use el_base::Memory;
 use el_io::{Files, Gate, Sink, WriteFault, write_all};
@@ -162,7 +163,7 @@ fn run_files<'a, F: Files, O: Sink>(
     match read_all(alloc, files, plan) {
         Err(fault) => Err(fault),
         Ok(contents) => match answer(alloc, command, contents.as_slice()) {
-            Err(fault) => Err(fault),
+            Err(refusal) => Err(call_fault(refusal)),
             Ok(text) => match write_all(out, text.as_slice()) {
                 Ok(()) => Ok(()),
                 Err(WriteFault) => Err(Fault::Write),

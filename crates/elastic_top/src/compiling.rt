@@ -1,11 +1,10 @@
 //! The circuit of the kernel that a file spells.
-ghost use Rattle.std.specs.Prelude.{◌≤◌, Ok, length, IfOk, IfErr};
+ghost use Rattle.std.specs.Prelude.{◌≤◌, Ok, Err, length, IfOk, IfErr};
 ghost use Rattle.el_base.specs.Limits.{max_kernel_bytes};
 ghost use Rattle.buffer_place.specs.Timings.{IsTiming};
-ghost use Rattle.elastic_top.specs.Answers.{CompilesKernel, Refuses};
+ghost use Rattle.elastic_top.specs.Answers.{CompilesKernel};
 
-use crate::fault::Fault;
-use crate::kernels::kernel_fault;
+use crate::fault::Refusal;
 use kernel_runs::{CircuitOptions, compile_text};
 use std::alloc::Global;
 
@@ -15,15 +14,16 @@ pub fn compile<'a>(
     kernel: &'a str,
     bytes: &[u8],
     options: CircuitOptions,
-) -> Result<Vec<u8>, Fault<'a>>
+) -> Result<Vec<u8>, Refusal<'a>>
     requires kernel { length bytes.now ≤ max_kernel_bytes }
     requires timing { IsTiming options.timing }
     ensures ok { IfOk result (λ text. CompilesKernel kernel.entry.now options
         bytes.now (Ok text.items)) }
-    ensures err { IfErr result (Refuses (CompilesKernel kernel.entry.now options bytes.now)) }
+    ensures err { IfErr result (λ refusal. CompilesKernel kernel.entry.now options
+        bytes.now (Err refusal)) }
 {
     match compile_text(alloc, bytes, options) {
         Ok(text) => Ok(text),
-        Err(refused) => Err(kernel_fault(kernel, refused)),
+        Err(refused) => Err(Refusal::Kernel(kernel, refused)),
     }
 }

@@ -1,11 +1,11 @@
 //! Runs of the circuit of the kernel that a file spells, on the inputs of another.
-ghost use Rattle.std.specs.Prelude.{◌≤◌, Ok, length, IfOk, IfErr};
+ghost use Rattle.std.specs.Prelude.{◌≤◌, Ok, Err, length, IfOk, IfErr};
 ghost use Rattle.el_base.specs.Limits.{max_firings, max_inputs_bytes, max_kernel_bytes};
 ghost use Rattle.buffer_place.specs.Timings.{IsTiming};
-ghost use Rattle.elastic_top.specs.Answers.{GoesKernel, Refuses};
+ghost use Rattle.elastic_top.specs.Answers.{GoesKernel};
 
-use crate::fault::{Fault, Refusal};
-use kernel_runs::{CircuitOptions, GoRefusal, go_text};
+use crate::fault::{KernelFiles, Refusal};
+use kernel_runs::{CircuitOptions, go_text};
 use net_runs::RunOptions;
 use std::alloc::Global;
 
@@ -18,22 +18,18 @@ pub fn go<'a>(
     input_bytes: &[u8],
     circuit: CircuitOptions,
     run: RunOptions,
-) -> Result<Vec<u8>, Fault<'a>>
+) -> Result<Vec<u8>, Refusal<'a>>
     requires kernel { length kernel_bytes.now ≤ max_kernel_bytes }
     requires inputs { length input_bytes.now ≤ max_inputs_bytes }
     requires timing { IsTiming circuit.timing }
     requires limit { run.limit ≤ max_firings }
     ensures ok { IfOk result (λ text. GoesKernel kernel.entry.now inputs.entry.now circuit run
         kernel_bytes.now input_bytes.now (Ok text.items)) }
-    ensures err { IfErr result (Refuses (GoesKernel kernel.entry.now inputs.entry.now circuit run
-        kernel_bytes.now input_bytes.now)) }
+    ensures err { IfErr result (λ refusal. GoesKernel kernel.entry.now inputs.entry.now
+        circuit run kernel_bytes.now input_bytes.now (Err refusal)) }
 {
     match go_text(alloc, kernel_bytes, input_bytes, circuit, run) {
         Ok(text) => Ok(text),
-        Err(GoRefusal::Kernel(refused)) => Err(Fault::Refused(Refusal::Kernel(kernel, refused))),
-        Err(GoRefusal::Inputs(refused)) => Err(Fault::Refused(Refusal::Inputs(inputs, refused))),
-        Err(GoRefusal::Limit { limit }) => Err(Fault::Refused(Refusal::Limit(limit))),
-        Err(GoRefusal::Stray { name }) => Err(Fault::Refused(Refusal::Stray(name))),
-        Err(GoRefusal::Memory) => Err(Fault::Memory),
+        Err(refused) => Err(Refusal::Go(KernelFiles { kernel, inputs }, refused)),
     }
 }

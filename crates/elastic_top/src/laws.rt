@@ -1,8 +1,30 @@
-//! When a call has nothing to refuse, as contracts of functions that do nothing. If its files are steady and within their
+//! Laws of calls, as contracts of functions that do nothing. Where a call has nothing to refuse, and if its files are steady and within their
 //! limits and the output takes all bytes, the status is then 0 or 11 by the clause `complete` of [`top`](crate::top).
 ghost use Rattle.elastic_top.specs.Laws.{EndingKernelsGo, KernelsAreCompiled};
+ghost use Rattle.elastic_top.specs.OneAnswer.{
+  CompilesPrintOnce,
+  GoesPrintOnce,
+  OneNetIsShown,
+  StatusEightIsLong,
+  WrapChangesNothing,
+};
+ghost use Rattle.elastic_top.specs.Printed.{
+  InterpretedKernelsAreRun,
+  ReplaysShowTheEnd,
+  RunsShowTheEnd,
+  SoundRunsAreAnswered,
+  TypedTextsAreCompiled,
+  TypedTextsGo,
+};
 
-use kernel_runs::{ending_kernels_run, kernels_compile};
+use c_meaning::laws::trees_are_typed_in_one_way;
+use kernel_front::texts_that_type_are_kernels;
+use kernel_runs::{
+    answers_are_one, ending_kernels_run, interpreted_kernels_go, kernels_compile,
+    printed_circuits_are_right,
+};
+use net_check::a_net_has_one_refusal;
+use net_runs::sound_runs_are_not_refused;
 
 /// Where its file spells a kernel, a call of `compile` has nothing to refuse.
 pub fn kernels_are_compiled()
@@ -17,4 +39,56 @@ pub fn ending_kernels_go()
     ensures { EndingKernelsGo }
 {
     ending_kernels_run();
+}
+
+/// All answers of a call of `compile` for the same contents print the same, and so do all of a call of `go` that counts no
+/// cycles; `--wrap` changes none of them. The text of `go` is the text of `compile`, by the same options, a line `%%` and the
+/// text of a run of the net that is read from it; the status of `go` is 8 exactly where that net has runs of more firings
+/// than the limit on the inputs.
+pub fn calls_print_once()
+    ensures compile { CompilesPrintOnce }
+    ensures go { GoesPrintOnce }
+    ensures wrap { WrapChangesNothing }
+    ensures net { OneNetIsShown }
+    ensures limit { StatusEightIsLong }
+{
+    answers_are_one();
+}
+
+/// Where a kernel ends on the inputs, what `replay` prints of the circuit that `compile` printed for it is the text of the
+/// kernel's own arrays and result, or names a firing that may come next; and what `run` prints of it begins with that text.
+pub fn printed_circuits_show_the_end()
+    ensures replay { ReplaysShowTheEnd }
+    ensures run { RunsShowTheEnd }
+{
+    printed_circuits_are_right();
+}
+
+/// Where its files spell a net that keeps the rules and inputs on which no run is longer than the limit and some run rests
+/// exited and without strays, a call of `run` has nothing to refuse.
+pub fn sound_runs_are_answered()
+    ensures { SoundRunsAreAnswered }
+{
+    a_net_has_one_refusal();
+    sound_runs_are_not_refused();
+}
+
+/// Where its file spells a tree within the limits that keeps the typing rules, a call of `compile` has nothing to refuse; nor
+/// has one of `go` where the kernel besides ends on the inputs in T turns, and 256·N·(T+1) firings are within the limit.
+pub fn typed_texts_are_answered()
+    ensures compile { TypedTextsAreCompiled }
+    ensures go { TypedTextsGo }
+{
+    kernels_are_compiled();
+    ending_kernels_go();
+    texts_that_type_are_kernels();
+    trees_are_typed_in_one_way();
+}
+
+/// Where a call of `ref` on the same files has a text, after T turns, and 256·N·(T+1) firings are within the limit, N being
+/// the kernel's nodes, a call of `go` has nothing to refuse.
+pub fn interpreted_kernels_are_run()
+    ensures { InterpretedKernelsAreRun }
+{
+    interpreted_kernels_go();
 }

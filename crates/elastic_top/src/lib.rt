@@ -4,10 +4,10 @@
 mod answer;
 mod call;
 mod compiling;
+mod exits;
 mod fault;
 mod going;
 mod interpretation;
-mod kernels;
 mod laws;
 mod line;
 mod options;
@@ -15,9 +15,14 @@ mod program;
 mod reading;
 mod runs;
 mod status;
+mod telling;
 mod upgrade;
 
 pub use call::top;
-pub use laws::{ending_kernels_go, kernels_are_compiled};
+pub use exits::process;
+pub use laws::{
+    calls_print_once, ending_kernels_go, interpreted_kernels_are_run, kernels_are_compiled,
+    printed_circuits_show_the_end, sound_runs_are_answered, typed_texts_are_answered,
+};
 pub use program::run;
 pub use status::Status;

@@ -1,13 +1,17 @@
 //! The body of the program: the words of the command line, the real files and streams.
-ghost use Rattle.std.specs.Prelude.{◌≡◌, Contains};
+ghost use Rattle.std.specs.Prelude.{◌≡◌, drop, Contains, IfOk, IfErr};
 ghost use Rattle.std.specs.Process.{exit_status};
+ghost use Rattle.std.specs.Vec.Iter.{into_iter_items};
 ghost use Rattle.elastic_top.specs.Statuses.{statuses};
+ghost use Rattle.elastic_top.specs.Words.{AreWordsOf, IsErrorFault, IsWordsFault};
 
-use crate::call::top;
-use crate::fault::{Fault, tell};
+use crate::exits::{exit_code, process};
+use crate::fault::Fault;
 use crate::status::Status;
+use crate::telling::tell;
 use el_io::{HostFiles, HostSink, Open};
-use std::env::Env;
+use std::alloc::{AllocError, Global};
+use std::env::{Args, Env};
 use std::io::Write;
 use std::process::ExitCode;
 use std::rt::Files;
@@ -15,7 +19,7 @@ use std::thread::Threads;
 use std::{env, io};
 
 /// Runs the command that the words after the program's name spell, on the real files: its text goes to `out`, and
-/// the line of a fault to `err`. The exit status is the one that [`top`] answers.
+/// the line of a fault to `err`. The exit code is the one that [`process`] answers.
 pub fn run<R, O, E>(rt: &R, out: O, err: E) -> ExitCode
 where
     R: Threads + Sync + Env + Files + AllocGlobal,
@@ -23,46 +27,60 @@ where
     E: Write + Drop,
     ensures { Contains statuses (exit_status result) }
 {
-    exit_code(status(rt, &mut HostSink::new(out), &mut HostSink::new(err)))
-}
-
-fn status<R, O, E>(rt: &R, out: &mut HostSink<O>, err: &mut HostSink<E>) -> Status
-where
-    R: Threads + Sync + Env + Files + AllocGlobal,
-    O: Write + Drop,
-    E: Write + Drop,
-    ensures { Contains statuses result.code }
-{
-    match words(rt) {
+    let mut out = HostSink::new(out);
+    let mut err = HostSink::new(err);
+    match words_of(rt.alloc(), env::args(rt)) {
         Ok(words) => {
             let mut files = HostFiles::new(rt);
-            top(rt, rt.alloc(), &words, &mut files, out, err, &Open)
+            process(
+                rt,
+                rt.alloc(),
+                &words,
+                &mut files,
+                &mut out,
+                &mut err,
+                &Open,
+            )
         }
         Err(fault) => {
-            tell(err, &fault);
-            Status { code: fault.code() }
+            tell(&mut err, &fault);
+            exit_code(Status { code: fault.code() })
         }
     }
 }
 
-fn exit_code(status: Status) -> ExitCode
-    ensures { exit_status result ≡ status.code }
+/// The words after the program's name, of those that the host hands over. Where it hands over none, that is want of memory or
+/// words that are not UTF-8, which are no command.
+fn words_of(alloc: Global, all: io::Result<Args>) -> Result<Vec<String>, Fault<'static>>
+    ensures ok { IfOk result (λ words. AreWordsOf all words.items) }
+    ensures err { IfErr result (IsWordsFault all) }
 {
-    ExitCode::from(status.code)
+    match all {
+        Ok(all) => match after_the_first(alloc, all) {
+            Ok(words) => Ok(words),
+            Err(AllocError) => Err(Fault::Memory),
+        },
+        Err(error) => Err(words_fault(&error)),
+    }
 }
 
-// The words after the program's name. Words that are not UTF-8 are no command.
-fn words<R: Env + AllocGlobal>(rt: &R) -> Result<Vec<String>, Fault<'static>> {
-    let mut words = Vec::new(rt.alloc());
-    let all = match env::args(rt) {
-        Ok(all) => all,
-        Err(error) if error.kind() == io::ErrorKind::OutOfMemory => return Err(Fault::Memory),
-        Err(_) => return Err(Fault::Usage),
-    };
-    for word in all.skip(1) {
-        if words.push(word).is_err() {
-            return Err(Fault::Memory);
-        }
+fn after_the_first(alloc: Global, all: Args) -> Result<Vec<String>, AllocError>
+    ensures { IfOk result (λ words. words.items ≡ drop 1 (into_iter_items all)) }
+{
+    let mut rest = all;
+    let _name = rest.next();
+    let mut words = Vec::new(alloc);
+    for word in rest {
+        words.push(word)?;
     }
     Ok(words)
+}
+
+fn words_fault(error: &io::Error) -> Fault<'static>
+    ensures { IsErrorFault error.now result }
+{
+    match error.kind() {
+        io::ErrorKind::OutOfMemory => Fault::Memory,
+        _ => Fault::Usage,
+    }
 }

@@ -1,11 +1,11 @@
 //! Runs and replays of the net that a file spells.
-ghost use Rattle.std.specs.Prelude.{◌≤◌, Ok, length, IfOk, IfErr};
+ghost use Rattle.std.specs.Prelude.{◌≤◌, Ok, Err, length, IfOk, IfErr};
 ghost use Rattle.el_base.specs.Limits.{max_firings, max_inputs_bytes, max_netlist_bytes, max_schedule_bytes};
-ghost use Rattle.elastic_top.specs.Answers.{ReplaysNet, Refuses, RunsNet};
+ghost use Rattle.elastic_top.specs.Answers.{ReplaysNet, RunsNet};
 
-use crate::fault::{Fault, Refusal};
-use crate::upgrade::checked_net;
-use net_runs::{RunOptions, RunRefusal, replay_text, run_text};
+use crate::fault::{Refusal, RunFiles};
+use net_front::read_net;
+use net_runs::{RunOptions, replay_text, run_text};
 use std::alloc::Global;
 
 /// The text of a run of the net of one file on the inputs of another.
@@ -16,28 +16,26 @@ pub fn run<'a>(
     net_bytes: &[u8],
     input_bytes: &[u8],
     options: RunOptions,
-) -> Result<Vec<u8>, Fault<'a>>
+) -> Result<Vec<u8>, Refusal<'a>>
     requires net { length net_bytes.now ≤ max_netlist_bytes }
     requires inputs { length input_bytes.now ≤ max_inputs_bytes }
     requires limit { options.limit ≤ max_firings }
     ensures ok { IfOk result (λ text. RunsNet netlist.entry.now inputs.entry.now options
         net_bytes.now input_bytes.now (Ok text.items)) }
-    ensures err { IfErr result (Refuses (RunsNet netlist.entry.now inputs.entry.now options
-        net_bytes.now input_bytes.now)) }
+    ensures err { IfErr result (λ refusal. RunsNet netlist.entry.now inputs.entry.now options
+        net_bytes.now input_bytes.now (Err refusal)) }
 {
-    let net = match checked_net(alloc, netlist, net_bytes) {
+    let net = match read_net(alloc, net_bytes) {
         Ok(net) => net,
-        Err(fault) => return Err(fault),
+        Err(refused) => return Err(Refusal::Net(netlist, refused)),
+    };
+    let files = RunFiles {
+        inputs,
+        schedule: None,
     };
     match run_text(alloc, &net, input_bytes, options) {
         Ok(text) => Ok(text),
-        Err(RunRefusal::Inputs(refused)) => Err(Fault::Refused(Refusal::Inputs(inputs, refused))),
-        Err(RunRefusal::Limit { limit }) => Err(Fault::Refused(Refusal::Limit(limit))),
-        Err(RunRefusal::Stuck) => Err(Fault::Refused(Refusal::Stuck)),
-        Err(RunRefusal::Stray { name }) => Err(Fault::Refused(Refusal::Stray(name))),
-        Err(RunRefusal::Memory) => Err(Fault::Memory),
-        Err(RunRefusal::Schedule(_)) => unreachable!(),
-        Err(RunRefusal::NotEnabled { .. }) => unreachable!(),
+        Err(refused) => Err(Refusal::Run(files, refused)),
     }
 }
 
@@ -50,31 +48,25 @@ pub fn replay<'a>(
     net_bytes: &[u8],
     input_bytes: &[u8],
     bytes: &[u8],
-) -> Result<Vec<u8>, Fault<'a>>
+) -> Result<Vec<u8>, Refusal<'a>>
     requires net { length net_bytes.now ≤ max_netlist_bytes }
     requires inputs { length input_bytes.now ≤ max_inputs_bytes }
     requires schedule { length bytes.now ≤ max_schedule_bytes }
     ensures ok { IfOk result (λ text. ReplaysNet netlist.entry.now inputs.entry.now
         schedule.entry.now net_bytes.now input_bytes.now bytes.now (Ok text.items)) }
-    ensures err { IfErr result (Refuses (ReplaysNet netlist.entry.now inputs.entry.now
-        schedule.entry.now net_bytes.now input_bytes.now bytes.now)) }
+    ensures err { IfErr result (λ refusal. ReplaysNet netlist.entry.now inputs.entry.now
+        schedule.entry.now net_bytes.now input_bytes.now bytes.now (Err refusal)) }
 {
-    let net = match checked_net(alloc, netlist, net_bytes) {
+    let net = match read_net(alloc, net_bytes) {
         Ok(net) => net,
-        Err(fault) => return Err(fault),
+        Err(refused) => return Err(Refusal::Net(netlist, refused)),
+    };
+    let files = RunFiles {
+        inputs,
+        schedule: Some(schedule),
     };
     match replay_text(alloc, &net, input_bytes, bytes) {
         Ok(text) => Ok(text),
-        Err(RunRefusal::Inputs(refused)) => Err(Fault::Refused(Refusal::Inputs(inputs, refused))),
-        Err(RunRefusal::Schedule(refused)) => {
-            Err(Fault::Refused(Refusal::Schedule(schedule, refused)))
-        }
-        Err(RunRefusal::NotEnabled { index }) => {
-            Err(Fault::Refused(Refusal::NotEnabled(schedule, index)))
-        }
-        Err(RunRefusal::Stuck) => Err(Fault::Refused(Refusal::Stuck)),
-        Err(RunRefusal::Stray { name }) => Err(Fault::Refused(Refusal::Stray(name))),
-        Err(RunRefusal::Memory) => Err(Fault::Memory),
-        Err(RunRefusal::Limit { .. }) => unreachable!(),
+        Err(refused) => Err(Refusal::Run(files, refused)),
     }
 }

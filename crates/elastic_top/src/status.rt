@@ -4,3 +4,12 @@
 pub struct Status {
     pub code: u8,
 }
+
+/// The status of a kernel that is refused, whichever command reads it.
+pub const KERNEL_REFUSED: u8 = 4;
+
+/// The status of inputs that are refused, whatever they are for.
+pub const INPUTS_REFUSED: u8 = 6;
+
+/// The status of want of memory.
+pub const WANT_OF_MEMORY: u8 = 11;

@@ -1,6 +1,6 @@
 //! The files of rows and what their lines are.
 use crate::kernels::{put_agreement, put_count};
-use crate::tries::{Told, put_failing, put_try};
+use crate::tries::{Told, put_failing, put_long, put_try};
 use anyhow::{Result, bail};
 use std::alloc::Global;
 use std::io::Write;
@@ -17,10 +17,12 @@ pub enum Rows {
     Kernels,
     /// The words of a call on a kernel, the beginning of a line, and the kernel.
     Lines,
+    /// The words of a call, a long file, and other files.
+    Limits,
 }
 
 /// The files, in the order in which they are answered.
-pub const FILES: [(&str, Rows); 9] = [
+pub const FILES: [(&str, Rows); 10] = [
     ("calls.tsv", Rows::Calls(Told::Whole)),
     ("schedules.tsv", Rows::Calls(Told::Whole)),
     ("runs.tsv", Rows::Calls(Told::Whole)),
@@ -30,6 +32,7 @@ pub const FILES: [(&str, Rows); 9] = [
     ("faults.tsv", Rows::Faults),
     ("kernels.tsv", Rows::Kernels),
     ("lines.tsv", Rows::Lines),
+    ("limits.tsv", Rows::Limits),
 ];
 
 impl Rows {
@@ -52,6 +55,9 @@ impl Rows {
             }
             (Rows::Lines, [words, front, kernel]) => {
                 put_count(rt, alloc, words, front, kernel, out)
+            }
+            (Rows::Limits, [words, long, files @ ..]) => {
+                put_long(rt, alloc, words, long, files, out)
             }
             (rows, _) => bail!("a line of {rows:?} of other fields"),
         }

@@ -58,6 +58,38 @@ where
     put_answer(rt, alloc, &failing, words, files, Told::Whole, out)
 }
 
+/// The same of a call on sound devices, one of whose files is long.
+pub fn put_long<R, W>(
+    rt: &R,
+    alloc: Global,
+    words: &str,
+    long: &str,
+    files: &[&str],
+    out: &mut W,
+) -> Result<()>
+where
+    R: Threads + Sync,
+    W: Write,
+{
+    let (name, content) = long.split_once(':').context("a file is NAME:CONTENT")?;
+    let mut held = held_files(alloc, files)?;
+    add_file(&mut held, name, long_text(alloc, content)?.as_slice())?;
+    put_told(rt, alloc, &SOUND, words, held, Told::Whole, out)
+}
+
+/// A text, so many letters x, and another text, with stars between them.
+fn long_text(alloc: Global, field: &str) -> Result<Vec<u8>> {
+    let (front, rest) = field.split_once('*').context("FRONT*COUNT*BACK")?;
+    let (count, back) = rest.split_once('*').context("FRONT*COUNT*BACK")?;
+    let count: u32 = count.parse().ok().context("a count is a number")?;
+    let mut text = text_within(alloc, front, MAX_NETLIST_BYTES)?;
+    for _ in 0..count {
+        text.push(b'x')?;
+    }
+    text.extend_from_slice(text_within(alloc, back, MAX_NETLIST_BYTES)?.as_slice())?;
+    Ok(text)
+}
+
 fn put_answer<R, W>(
     rt: &R,
     alloc: Global,
@@ -71,12 +103,33 @@ where
     R: Threads + Sync,
     W: Write,
 {
+    let held = held_files(alloc, files)?;
+    put_told(rt, alloc, failing, words, held, told, out)
+}
+
+fn held_files(alloc: Global, files: &[&str]) -> Result<MemFiles> {
     let mut held = MemFiles::new(alloc);
     for file in files {
         let (name, content) = file.split_once(':').context("a file is NAME:CONTENT")?;
         let content = text_within(alloc, content, MAX_NETLIST_BYTES)?;
         add_file(&mut held, name, content.as_slice())?;
     }
+    Ok(held)
+}
+
+fn put_told<R, W>(
+    rt: &R,
+    alloc: Global,
+    failing: &Failing,
+    words: &str,
+    held: MemFiles,
+    told: Told,
+    out: &mut W,
+) -> Result<()>
+where
+    R: Threads + Sync,
+    W: Write,
+{
     let answered = answer(rt, alloc, words, held, failing)?;
     let text = escaped(alloc, told_of(told, answered.out.bytes())?)?;
     let lines = escaped(alloc, answered.err.bytes())?;

@@ -9,9 +9,8 @@ use lsq_groups::groups;
 use net_check::{Checked, check_net};
 use net_runs::{RunOptions, RunRefusal, run_text};
 use net_types::Net;
-use row_fields::{escaped, text_within};
+use row_fields::{Output, escaped, text_within};
 use std::alloc::Global;
-use std::io::Write;
 
 /// What a run is asked for.
 const OPTIONS: RunOptions = RunOptions {
@@ -22,19 +21,19 @@ const OPTIONS: RunOptions = RunOptions {
 };
 
 /// Writes what the circuit of a kernel comes to on inputs.
-pub fn put_kernel<W: Write>(alloc: Global, kernel: &str, inputs: &str, out: &mut W) -> Result<()> {
+pub fn put_kernel(alloc: Global, kernel: &str, inputs: &str, out: &mut Output) -> Result<()> {
     let graph = graph_of(alloc, kernel)?;
     put_circuit(alloc, &graph, inputs, out)
 }
 
 /// Writes what the circuit of a graph comes to on inputs.
-pub fn put_graph<W: Write>(alloc: Global, graph: &[&str], inputs: &str, out: &mut W) -> Result<()> {
+pub fn put_graph(alloc: Global, graph: &[&str], inputs: &str, out: &mut Output) -> Result<()> {
     let graph = read_graph(alloc, graph)?;
     put_circuit(alloc, &graph, inputs, out)
 }
 
 /// Writes the counts of a graph and of its circuit, and how its run on inputs ends.
-fn put_circuit<W: Write>(alloc: Global, graph: &Ir, inputs: &str, out: &mut W) -> Result<()> {
+fn put_circuit(alloc: Global, graph: &Ir, inputs: &str, out: &mut Output) -> Result<()> {
     let net = circuit(alloc, graph)?;
     put_counts(graph, &net, out)?;
     ensure!(net.is_numbered(), "a net of too many units or channels");
@@ -58,7 +57,7 @@ fn circuit(alloc: Global, graph: &Ir) -> Result<Net> {
 
 /// Writes how many blocks and which size the graph has, and how many units and channels the net has, with the bound of the
 /// channels.
-fn put_counts<W: Write>(graph: &Ir, net: &Net, out: &mut W) -> Result<()> {
+fn put_counts(graph: &Ir, net: &Net, out: &mut Output) -> Result<()> {
     let blocks = graph.look();
     let mut size: u64 = 0;
     for block in blocks {
@@ -71,32 +70,56 @@ fn put_counts<W: Write>(graph: &Ir, net: &Net, out: &mut W) -> Result<()> {
         .saturating_add(64);
     let channels = net.chans.len() as u64;
     ensure!(channels <= bound, "too many channels");
-    write!(out, "blocks {} size {size} ", blocks.len())?;
-    write!(
-        out,
-        "units {} channels {channels} of {bound} / ",
-        net.units.len()
-    )?;
+    let counts = [
+        ("blocks ", blocks.len() as u64),
+        (" size ", size),
+        (" units ", net.units.len() as u64),
+        (" channels ", channels),
+        (" of ", bound),
+    ];
+    for (word, count) in counts {
+        out.word(word);
+        out.number(count);
+    }
+    out.word(" / ");
     Ok(())
 }
 
 /// Writes a status, and the results of a run with the number of its firings, or what is wrong with it.
-fn put_run<W: Write>(alloc: Global, net: &Checked, inputs: &str, out: &mut W) -> Result<()> {
+fn put_run(alloc: Global, net: &Checked, inputs: &str, out: &mut Output) -> Result<()> {
     let text = text_within(alloc, inputs, MAX_INPUTS_BYTES)?;
     match run_text(alloc, net, text.as_slice(), OPTIONS) {
         Ok(results) => {
-            write!(out, "0 ")?;
-            out.write_all(escaped(alloc, results.as_slice())?.as_slice())?;
+            out.word("0 ");
+            out.bytes(escaped(alloc, results.as_slice())?.as_slice());
         }
-        Err(RunRefusal::Limit { limit }) => write!(out, "8 70 Limit {limit}")?,
-        Err(RunRefusal::Stuck) => write!(out, "9 71 Stuck")?,
-        Err(RunRefusal::Stray { name }) => {
-            write!(out, "10 72 Stray ")?;
-            out.write_all(name.as_slice())?;
+        Err(refused) => put_refused(&refused, out)?,
+    }
+    Ok(())
+}
+
+/// Writes the status, the number and the word of a run's refusal, and what it names.
+fn put_refused(refused: &RunRefusal, out: &mut Output) -> Result<()> {
+    match refused {
+        RunRefusal::Limit { limit } => {
+            out.word("8 ");
+            out.show(refused);
+            out.word(" ");
+            out.number(*limit);
         }
-        Err(RunRefusal::Inputs(refusal)) => bail!("{refusal}"),
-        Err(RunRefusal::Schedule(_) | RunRefusal::NotEnabled { .. }) => bail!("no replay"),
-        Err(RunRefusal::Memory) => bail!("want of memory"),
+        RunRefusal::Stuck => {
+            out.word("9 ");
+            out.show(refused);
+        }
+        RunRefusal::Stray { name, .. } => {
+            out.word("10 ");
+            out.show(refused);
+            out.word(" ");
+            out.bytes(name.as_slice());
+        }
+        RunRefusal::Inputs(_) => bail!("{refused}"),
+        RunRefusal::Schedule(_) | RunRefusal::NotEnabled { .. } => bail!("no replay"),
+        RunRefusal::Memory => bail!("want of memory"),
     }
     Ok(())
 }

@@ -12,18 +12,17 @@ use el_base::Array;
 use inputs_text::print_results_of;
 use net_types::Inputs;
 use ref_interp::{Outcome, flat_arrays, interpret};
-use row_fields::escaped;
+use row_fields::{Output, escaped};
 use std::alloc::Global;
-use std::io::Write;
 
 /// Writes what a kernel comes to on inputs within so many turns, under both profiles with a tab between: a status, and the
 /// results with the number of turns, or what is wrong.
-pub fn put_both<W: Write>(
+pub fn put_both(
     alloc: Global,
     turns: u64,
     kernel: &str,
     inputs: &str,
-    out: &mut W,
+    out: &mut Output,
 ) -> Result<()> {
     let kernel = kernel_of(alloc, kernel)?;
     let typed = &kernel.typed;
@@ -33,19 +32,19 @@ pub fn put_both<W: Write>(
     let arrays = arrays.as_slice();
     let inputs = inputs_of(alloc, typed, arrays, inputs)?;
     put_end(alloc, typed, Profile::Plain, arrays, &inputs, turns, out)?;
-    write!(out, "\t")?;
+    out.word("\t");
     put_end(alloc, typed, Profile::Wrap, arrays, &inputs, turns, out)
 }
 
 /// Writes what a kernel comes to under a profile.
-fn put_end<W: Write>(
+fn put_end(
     alloc: Global,
     typed: &Typed,
     profile: Profile,
     arrays: &[Array],
     inputs: &Inputs,
     turns: u64,
-    out: &mut W,
+    out: &mut Output,
 ) -> Result<()>
     requires lawful { Lawful typed.now }
     requires header { arrays.now ≡ map flat typed.now.arrays }
@@ -61,17 +60,26 @@ fn put_end<W: Write>(
             },
         ) => {
             let values = values.as_slice();
-            let Ok(mut text) = print_results_of(alloc, arrays, typed.result, values, value) else {
+            let Ok(text) = print_results_of(alloc, arrays, typed.result, values, value) else {
                 bail!("want of memory");
             };
-            writeln!(text, "# turns {turns}")?;
-            write!(out, "0 ")?;
-            out.write_all(escaped(alloc, text.as_slice())?.as_slice())?;
+            out.word("0 ");
+            out.bytes(escaped(alloc, text.as_slice())?.as_slice());
+            out.word("# turns ");
+            out.number(turns);
+            out.word("\\n");
         }
         Ok(Outcome::Undefined { span }) => {
-            write!(out, "13 {}:{}: 80 Undefined", span.line, span.column)?;
+            out.word("13 ");
+            out.number(span.line);
+            out.word(":");
+            out.number(span.column);
+            out.word(": 80 Undefined");
         }
-        Ok(Outcome::OutOfTurns) => write!(out, "14 81 Turns {turns}")?,
+        Ok(Outcome::OutOfTurns) => {
+            out.word("14 81 Turns ");
+            out.number(turns);
+        }
     }
     Ok(())
 }

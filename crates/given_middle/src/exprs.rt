@@ -1,7 +1,6 @@
 //! Typed expressions as text.
-use anyhow::Result;
 use c_ast::{Boxed, List, TypedExpr, TypedExprKind};
-use std::io::Write;
+use row_fields::Output;
 
 /// Whether the first byte of each place is written.
 #[derive(Clone, Copy, Debug, PartialEq, Eq)]
@@ -12,62 +11,72 @@ pub enum Places {
 
 /// Writes an expression with its parts, its type, and maybe its place.
 #[cycle(put)]
-pub fn put<W: Write>(expr: &TypedExpr, places: Places, out: &mut W) -> Result<()> {
+pub fn put(expr: &TypedExpr, places: Places, out: &mut Output) {
     match &expr.kind {
-        TypedExprKind::Number(value) => write!(out, "{value}")?,
-        TypedExprKind::Var(var) => write!(out, "v{var}")?,
+        TypedExprKind::Number(value) => out.number(*value),
+        TypedExprKind::Var(var) => {
+            out.word("v");
+            out.number(*var);
+        }
         TypedExprKind::Element { array, indices } => {
-            write!(out, "a{array}")?;
-            put_indices(indices.as_slice(), places, out)?;
+            out.word("a");
+            out.number(*array);
+            put_indices(indices.as_slice(), places, out);
         }
         TypedExprKind::Unary(op, arg) => {
-            write!(out, "({op:?} ")?;
-            put(arg.get(), places, out)?;
-            write!(out, ")")?;
+            out.word("(");
+            out.debug(op);
+            put_part(" ", arg, places, out);
+            out.word(")");
         }
         TypedExprKind::Cast { implied, arg } => {
-            write!(out, "{}", if *implied { "(implied " } else { "(cast " })?;
-            put(arg.get(), places, out)?;
-            write!(out, ")")?;
+            out.word(if *implied { "(implied" } else { "(cast" });
+            put_part(" ", arg, places, out);
+            out.word(")");
         }
         TypedExprKind::Binary(op, left, right) => {
-            write!(out, "({op:?} ")?;
-            put(left.get(), places, out)?;
-            write!(out, " ")?;
-            put(right.get(), places, out)?;
-            write!(out, ")")?;
+            out.word("(");
+            out.debug(op);
+            put_part(" ", left, places, out);
+            put_part(" ", right, places, out);
+            out.word(")");
         }
         TypedExprKind::Choose(cond, then, other) => {
-            write!(out, "(")?;
-            put(cond.get(), places, out)?;
-            write!(out, " ? ")?;
-            put(then.get(), places, out)?;
-            write!(out, " : ")?;
-            put(other.get(), places, out)?;
-            write!(out, ")")?;
+            put_part("(", cond, places, out);
+            put_part(" ? ", then, places, out);
+            put_part(" : ", other, places, out);
+            out.word(")");
         }
     }
-    let ty = expr.ty;
-    write!(out, ":{ty:?}")?;
-    put_place(expr.at.start, places, out)
+    out.word(":");
+    out.debug(&expr.ty);
+    put_place(expr.at.start, places, out);
+}
+
+/// Writes a part behind a word.
+#[cycle(put)]
+fn put_part(before: &str, part: &Boxed<TypedExpr>, places: Places, out: &mut Output) {
+    out.word(before);
+    put(part.get(), places, out);
 }
 
 /// Writes each index in brackets.
 #[cycle(put)]
-pub fn put_indices<W: Write>(indices: &[TypedExpr], places: Places, out: &mut W) -> Result<()> {
+pub fn put_indices(indices: &[TypedExpr], places: Places, out: &mut Output) {
     for index in indices {
-        write!(out, "[")?;
-        put(index, places, out)?;
-        write!(out, "]")?;
+        out.word("[");
+        put(index, places, out);
+        out.word("]");
     }
-    Ok(())
 }
 
 /// Writes the first byte of a place, where places are written.
-pub fn put_place<W: Write>(start: u32, places: Places, out: &mut W) -> Result<()> {
+pub fn put_place(start: u32, places: Places, out: &mut Output) {
     match places {
         Places::Hidden => {}
-        Places::Written => write!(out, "@{start}")?,
+        Places::Written => {
+            out.word("@");
+            out.number(start);
+        }
     }
-    Ok(())
 }

@@ -103,8 +103,12 @@ fn block_of(alloc: Global, text: &str) -> Result<Block> {
         match words.as_slice() {
             ["block", widths @ ..] => args = numbers_of(alloc, widths)?,
             ["go" | "if" | "return", ..] => jump = jump_of(alloc, words.as_slice())?,
-            ["times", count, step @ ..] => add_times(&mut steps, count.parse()?, step_of(step)?)?,
-            step => add(&mut steps, step_of(step)?)?,
+            ["times", count, step @ ..] => add_times(
+                &mut steps,
+                count.parse()?,
+                step_of(alloc, step)?,
+            )?,
+            step => add(&mut steps, step_of(alloc, step)?)?,
         }
     }
     Ok(Block { args, steps, jump })
@@ -132,7 +136,7 @@ fn numbers_of(alloc: Global, words: &[&str]) -> Result<List<u32>> {
     Ok(numbers)
 }
 
-fn step_of(words: &[&str]) -> Result<Instr> {
+fn step_of(alloc: Global, words: &[&str]) -> Result<Instr> {
     match words {
         ["const", width, value] => Ok(Instr::Const {
             width: width.parse()?,
@@ -140,22 +144,33 @@ fn step_of(words: &[&str]) -> Result<Instr> {
         }),
         ["one", op, a] => Ok(Instr::One(unary(op)?, a.parse()?)),
         ["two", op, a, b] => Ok(Instr::Two(binary(op)?, a.parse()?, b.parse()?)),
-        ["select", width, cond, yes, no] => Ok(Instr::Select {
-            width: width.parse()?,
-            cond: cond.parse()?,
-            yes: yes.parse()?,
-            no: no.parse()?,
+        [word, numbers @ ..] => {
+            let numbers: Vec<u32> = row_fields::numbers_of(alloc, numbers)?;
+            step_by(word, numbers.as_slice()).context("no step")
+        }
+        [] => bail!("no step"),
+    }
+}
+
+/// The step of a word and its numbers.
+fn step_by(word: &str, numbers: &[u32]) -> Option<Instr> {
+    match (word, numbers) {
+        ("select", [width, cond, yes, no]) => Some(Instr::Select {
+            width: *width,
+            cond: *cond,
+            yes: *yes,
+            no: *no,
         }),
-        ["load", array, addr] => Ok(Instr::Load {
-            array: array.parse()?,
-            addr: addr.parse()?,
+        ("load", [array, addr]) => Some(Instr::Load {
+            array: *array,
+            addr: *addr,
         }),
-        ["store", array, addr, value] => Ok(Instr::Store {
-            array: array.parse()?,
-            addr: addr.parse()?,
-            value: value.parse()?,
+        ("store", [array, addr, value]) => Some(Instr::Store {
+            array: *array,
+            addr: *addr,
+            value: *value,
         }),
-        _ => bail!("no step"),
+        _ => None,
     }
 }
 

@@ -5,8 +5,8 @@ use crate::exprs::Places;
 use crate::forms::put_form;
 use crate::walks::{put_arguments, put_walk};
 use anyhow::{Result, bail};
+use row_fields::Output;
 use std::alloc::Global;
-use std::io::Write;
 
 /// What the lines of a file are, after the first, which says so in words.
 #[derive(Clone, Copy, Debug, PartialEq, Eq)]
@@ -39,7 +39,7 @@ pub const FILES: [(&str, Rows); 8] = [
 
 impl Rows {
     /// Writes the answer to a line.
-    pub fn put_answer<W: Write>(self, alloc: Global, line: &str, out: &mut W) -> Result<()> {
+    pub fn put_answer(self, alloc: Global, line: &str, out: &mut Output) -> Result<()> {
         let fields: Vec<&str> = line.split('\t').collect(alloc)?;
         match (self, fields.as_slice()) {
             (Rows::Forms(places), [kernel]) => put_form(alloc, kernel, places, out),

@@ -5,14 +5,14 @@ use el_base::{Array, number};
 use ir::{Ending, Ir, Walk};
 use kernel_graph::block_graph;
 use ref_interp::flat_arrays;
+use row_fields::Output;
 use std::alloc::Global;
-use std::io::Write;
 
 /// How many visits a walk may have.
 const LIMIT: u32 = 40_000;
 
 /// Writes what the graph of a kernel returns on inputs.
-pub fn put_walk<W: Write>(alloc: Global, kernel: &str, inputs: &str, out: &mut W) -> Result<()> {
+pub fn put_walk(alloc: Global, kernel: &str, inputs: &str, out: &mut Output) -> Result<()> {
     let kernel = kernel_of(alloc, kernel)?;
     let Ok(arrays) = flat_arrays(alloc, &kernel.typed) else {
         bail!("want of memory");
@@ -24,46 +24,50 @@ pub fn put_walk<W: Write>(alloc: Global, kernel: &str, inputs: &str, out: &mut W
     let Ok(walk) = graph.walk(alloc, inputs.scalars, inputs.arrays, LIMIT) else {
         bail!("want of memory");
     };
-    put_end(&graph, &walk, out)
+    put_end(&graph, &walk, out);
+    Ok(())
 }
 
 /// Writes how many arguments each block of the graph of a kernel has, but block 0.
-pub fn put_arguments<W: Write>(alloc: Global, kernel: &str, out: &mut W) -> Result<()> {
+pub fn put_arguments(alloc: Global, kernel: &str, out: &mut Output) -> Result<()> {
     let graph = graph_of(alloc, kernel)?;
-    let mut first = true;
+    let mut is_first = true;
     for block in graph.look().iter().skip(1) {
-        if !first {
-            write!(out, " ")?;
+        if !is_first {
+            out.word(" ");
         }
-        write!(out, "{}", block.args.as_slice().len())?;
-        first = false;
+        is_first = false;
+        out.number(block.args.as_slice().len());
     }
     Ok(())
 }
 
 /// Writes how a walk ended: its strays, the arrays and the result, a line each.
-fn put_end<W: Write>(graph: &Ir, walk: &Walk, out: &mut W) -> Result<()> {
+fn put_end(graph: &Ir, walk: &Walk, out: &mut Output) {
     let Ending::Returned(value) = walk.ending else {
-        write!(out, "unfinished")?;
-        return Ok(());
+        out.word("unfinished");
+        return;
     };
-    write!(out, "strays {}\\n", walk.strays)?;
+    out.word("strays ");
+    out.number(walk.strays);
+    out.word("\\n");
     for (array, elements) in graph.arrays.as_slice().iter().zip(walk.arrays.as_slice()) {
-        put_array(array, elements.as_slice(), out)?;
+        put_array(array, elements.as_slice(), out);
     }
     if let (Some(ty), Some(value)) = (graph.result, value) {
-        write!(out, "return = {}\\n", number(ty, value))?;
+        out.word("return = ");
+        out.number(number(ty, value));
+        out.word("\\n");
     }
-    Ok(())
 }
 
 /// Writes an array's name and its numbers.
-fn put_array<W: Write>(array: &Array, elements: &[u64], out: &mut W) -> Result<()> {
-    out.write_all(array.name.as_slice())?;
-    write!(out, " =")?;
+fn put_array(array: &Array, elements: &[u64], out: &mut Output) {
+    out.bytes(array.name.as_slice());
+    out.word(" =");
     for element in elements {
-        write!(out, " {}", number(array.ty, *element))?;
+        out.word(" ");
+        out.number(number(array.ty, *element));
     }
-    write!(out, "\\n")?;
-    Ok(())
+    out.word("\\n");
 }

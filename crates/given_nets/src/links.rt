@@ -4,8 +4,8 @@ ghost use Rattle.elastic_link.specs.Ends.{credits_repaid, repaid_stamp};
 
 use anyhow::{Result, bail};
 use elastic_link::{PutEnd, TakeEnd, Token, link};
+use row_fields::Output;
 use std::alloc::Global;
-use std::io::Write;
 
 /// Stamps and numbers of credits stay below it.
 const BOUND: u64 = 1 << 62;
@@ -45,7 +45,7 @@ impl Ends {
 }
 
 /// Writes what each call on the ends of a link of so many slots answers. Calls stand with `;` between two.
-pub fn put_calls<W: Write>(alloc: Global, slots: &str, calls: &str, out: &mut W) -> Result<()> {
+pub fn put_calls(alloc: Global, slots: &str, calls: &str, out: &mut Output) -> Result<()> {
     let slots: u32 = slots.parse()?;
     if slots == 0 || slots > 1_024 {
         bail!("a link has 1 to 1,024 slots");
@@ -59,56 +59,56 @@ pub fn put_calls<W: Write>(alloc: Global, slots: &str, calls: &str, out: &mut W)
         last: 0,
         repaid: 0,
     };
-    let mut first = true;
+    let mut is_first = true;
     for call in calls.split(';') {
-        if !first {
-            write!(out, " ")?;
+        if !is_first {
+            out.word(" ");
         }
+        is_first = false;
         let words: Vec<&str> = call.split(' ').collect(alloc)?;
         put_answer(&mut ends, words.as_slice(), out)?;
-        first = false;
     }
     Ok(())
 }
 
 /// Makes one call and writes its answer.
-fn put_answer<W: Write>(ends: &mut Ends, call: &[&str], out: &mut W) -> Result<()> {
+fn put_answer(ends: &mut Ends, call: &[&str], out: &mut Output) -> Result<()> {
     match call {
         ["ready"] => put_stamp(ends.put.ready(), out),
         ["peek"] => put_token(ends.take.peek(), out),
         ["take", stamp] => put_token(ends.take(stamp.parse()?), out),
         ["flush"] => {
             ends.take.flush();
-            write!(out, ".")?;
-            Ok(())
+            out.word(".");
         }
         ["put", value, stamp] => {
             let token = Token {
                 value: value.parse()?,
                 stamp: stamp.parse()?,
             };
-            let word = if ends.put(token) { "ok" } else { "no" };
-            write!(out, "{word}")?;
-            Ok(())
+            out.word(if ends.put(token) { "ok" } else { "no" });
         }
         _ => bail!("no such call"),
     }
+    Ok(())
 }
 
 /// Writes a stamp.
-fn put_stamp<W: Write>(stamp: Option<u64>, out: &mut W) -> Result<()> {
+fn put_stamp(stamp: Option<u64>, out: &mut Output) {
     match stamp {
-        Some(stamp) => write!(out, "{stamp}")?,
-        None => write!(out, "none")?,
+        Some(stamp) => out.number(stamp),
+        None => out.word("none"),
     }
-    Ok(())
 }
 
 /// Writes a token.
-fn put_token<W: Write>(token: Option<Token>, out: &mut W) -> Result<()> {
+fn put_token(token: Option<Token>, out: &mut Output) {
     match token {
-        Some(Token { value, stamp }) => write!(out, "{value}@{stamp}")?,
-        None => write!(out, "none")?,
+        Some(Token { value, stamp }) => {
+            out.number(value);
+            out.word("@");
+            out.number(stamp);
+        }
+        None => out.word("none"),
     }
-    Ok(())
 }

@@ -3,8 +3,8 @@ use crate::links::put_calls;
 use crate::runs::{put_cycles, put_replay, put_run};
 use crate::timings::{put_placed, put_retimed};
 use anyhow::{Result, bail};
+use row_fields::Output;
 use std::alloc::Global;
-use std::io::Write;
 
 /// What the lines of a file are, after the first, which says so in words.
 #[derive(Clone, Copy, Debug, PartialEq, Eq)]
@@ -35,7 +35,7 @@ pub const FILES: [(&str, Rows); 6] = [
 
 impl Rows {
     /// Writes the answer to a line.
-    pub fn put_answer<W: Write>(self, alloc: Global, line: &str, out: &mut W) -> Result<()> {
+    pub fn put_answer(self, alloc: Global, line: &str, out: &mut Output) -> Result<()> {
         let fields: Vec<&str> = line.split('\t').collect(alloc)?;
         match (self, fields.as_slice()) {
             (Rows::Runs, [net, inputs]) => put_run(alloc, net, inputs, out),

@@ -15,9 +15,8 @@ use net_replay::{
     Ended, Replay, ReplayFault, RunFault, finish, judge, print_schedule, read_schedule, replay,
 };
 use net_types::{Firing, Inputs};
-use row_fields::text_within;
+use row_fields::{Output, text_within};
 use std::alloc::Global;
-use std::io::Write;
 
 /// How many firings a run may have.
 const LIMIT: u64 = 20_000;
@@ -32,30 +31,34 @@ enum Told {
 }
 
 /// Writes what a run of a net on inputs ends with: a status, and the results with the number of firings, or what is wrong.
-pub fn put_run<W: Write>(alloc: Global, net: &str, inputs: &str, out: &mut W) -> Result<()> {
+pub fn put_run(alloc: Global, net: &str, inputs: &str, out: &mut Output) -> Result<()> {
     let net = net_of(alloc, net)?;
     match inputs_of(alloc, &net, inputs)? {
         Ok(inputs) => put_end(alloc, &net, &inputs, out),
-        Err(refusal) => put_refusal(&refusal, out),
+        Err(refusal) => {
+            put_refusal(&refusal, out);
+            Ok(())
+        }
     }
 }
 
 /// Writes the line or the name of a refusal after its number and its word.
-fn put_refusal<W: Write>(refusal: &InputRefusal, out: &mut W) -> Result<()> {
-    write!(out, "6 {refusal}")?;
+fn put_refusal(refusal: &InputRefusal, out: &mut Output) {
+    out.word("6 ");
+    out.show(refusal);
     if let Some(line) = refusal.line() {
-        write!(out, " {line}")?;
+        out.word(" ");
+        out.number(line);
     }
     if let Some(name) = refusal.name() {
-        out.write_all(b" ")?;
-        out.write_all(name.as_slice())?;
+        out.word(" ");
+        out.bytes(name.as_slice());
     }
-    Ok(())
 }
 
 /// Runs the net on fitting inputs and writes how the run ends.
 #[tactic(auto, using(crate::proofs::Counts::counts_within))]
-fn put_end<W: Write>(alloc: Global, net: &Checked, inputs: &Inputs, out: &mut W) -> Result<()>
+fn put_end(alloc: Global, net: &Checked, inputs: &Inputs, out: &mut Output) -> Result<()>
     requires { InputsFit net.now inputs.now }
 {
     let Ok(mut state) = State::new(alloc, net, inputs) else {
@@ -71,7 +74,7 @@ fn put_end<W: Write>(alloc: Global, net: &Checked, inputs: &Inputs, out: &mut W)
 }
 
 /// Writes how many firings and cycles a run by cycles of a net on inputs has, or what is wrong.
-pub fn put_cycles<W: Write>(alloc: Global, net: &str, inputs: &str, out: &mut W) -> Result<()> {
+pub fn put_cycles(alloc: Global, net: &str, inputs: &str, out: &mut Output) -> Result<()> {
     let net = net_of(alloc, net)?;
     let inputs = inputs_of(alloc, &net, inputs)??;
     match run_cycles(alloc, &net, &inputs, LIMIT, true) {
@@ -88,12 +91,12 @@ pub fn put_cycles<W: Write>(alloc: Global, net: &str, inputs: &str, out: &mut W)
 
 /// Writes what a net on inputs comes to by a schedule: what it ends with where it is at rest, the least enabled firing and
 /// what is held where it goes on, or why it is no run.
-pub fn put_replay<W: Write>(
+pub fn put_replay(
     alloc: Global,
     net: &str,
     inputs: &str,
     schedule: &str,
-    out: &mut W,
+    out: &mut Output,
 ) -> Result<()> {
     let net = net_of(alloc, net)?;
     let inputs = inputs_of(alloc, &net, inputs)??;
@@ -101,9 +104,11 @@ pub fn put_replay<W: Write>(
     match read_schedule(alloc, schedule.as_slice()) {
         Ok(firings) => put_replayed(alloc, &net, &inputs, firings.as_slice(), out),
         Err(refusal) => {
-            write!(out, "7 {refusal}")?;
+            out.word("7 ");
+            out.show(&refusal);
             if let Some(line) = refusal.line() {
-                write!(out, " {line}")?;
+                out.word(" ");
+                out.number(line);
             }
             Ok(())
         }
@@ -111,12 +116,12 @@ pub fn put_replay<W: Write>(
 }
 
 /// Writes where firings lead.
-fn put_replayed<W: Write>(
+fn put_replayed(
     alloc: Global,
     net: &Checked,
     inputs: &Inputs,
     firings: &[Firing],
-    out: &mut W,
+    out: &mut Output,
 ) -> Result<()>
     requires { InputsFit net.now inputs.now }
 {
@@ -131,13 +136,15 @@ fn put_replayed<W: Write>(
             let Ok(text) = print_schedule(alloc, &[next]) else {
                 bail!("want of memory");
             };
-            write!(out, "0 next ")?;
-            out.write_all(text.as_slice().trim_ascii_end())?;
-            write!(out, "\\n")?;
-            put_held(net, &state, out)
+            out.word("0 next ");
+            out.bytes(text.as_slice().trim_ascii_end());
+            out.word("\\n");
+            put_held(net, &state, out);
+            Ok(())
         }
         Err(ReplayFault::NotEnabled { index }) => {
-            write!(out, "7 61 NotEnabled {index}")?;
+            out.word("7 61 NotEnabled ");
+            out.number(index);
             Ok(())
         }
         Err(ReplayFault::Memory) => bail!("want of memory"),
@@ -145,24 +152,25 @@ fn put_replayed<W: Write>(
 }
 
 /// Writes how many tokens each channel holds, and how many entries each queue, a line each.
-fn put_held<W: Write>(net: &Checked, state: &State, out: &mut W) -> Result<()>
+fn put_held(net: &Checked, state: &State, out: &mut Output)
     requires { IsOf net.now state.now }
 {
-    write!(out, "held")?;
+    out.word("held");
     for at in 0..net.net().chans.as_slice().len() {
-        write!(out, " {}", state.held(net, at as u32))?;
+        out.word(" ");
+        out.number(state.held(net, at as u32));
     }
     for at in 0..net.net().units.as_slice().len() {
         if let Some(queue) = state.queue(net, at as u32) {
-            write!(out, "\\nentries {}", queue.len())?;
+            out.word("\\nentries ");
+            out.number(queue.len());
         }
     }
-    write!(out, "\\n")?;
-    Ok(())
+    out.word("\\n");
 }
 
 /// Writes what a run at rest ends with.
-fn put_rest<W: Write>(net: &Checked, state: &State, told: Told, out: &mut W) -> Result<()>
+fn put_rest(net: &Checked, state: &State, told: Told, out: &mut Output) -> Result<()>
     requires of { IsOf net.now state.now }
     requires rest { AtRest net.now (state_of state.now) }
 {
@@ -170,22 +178,35 @@ fn put_rest<W: Write>(net: &Checked, state: &State, told: Told, out: &mut W) -> 
         (Err(fault), _) => put_fault(net, &fault, out),
         (Ok(()), Told::Results { made }) => put_results(net, state, made, out),
         (Ok(()), Told::Cycles { made, cycles }) => {
-            write!(out, "0 firings {made} cycles {cycles}")?;
+            out.word("0 firings ");
+            out.number(made);
+            out.word(" cycles ");
+            out.number(cycles);
             Ok(())
         }
     }
 }
 
 /// Writes a status and a fault, with the limit of a run that is too long, and with the name of the array of a stray.
-fn put_fault<W: Write>(net: &Checked, fault: &RunFault, out: &mut W) -> Result<()> {
+fn put_fault(net: &Checked, fault: &RunFault, out: &mut Output) -> Result<()> {
     match fault {
-        RunFault::Limit { limit } => write!(out, "8 {fault} {limit}")?,
-        RunFault::Stuck => write!(out, "9 {fault}")?,
+        RunFault::Limit { limit } => {
+            out.word("8 ");
+            out.show(fault);
+            out.word(" ");
+            out.number(*limit);
+        }
+        RunFault::Stuck => {
+            out.word("9 ");
+            out.show(fault);
+        }
         RunFault::Stray { array } => {
             let arrays = net.net().arrays.as_slice();
             let array = arrays.get(*array as usize).context("no such array")?;
-            write!(out, "10 {fault} ")?;
-            out.write_all(array.name.as_slice())?;
+            out.word("10 ");
+            out.show(fault);
+            out.word(" ");
+            out.bytes(array.name.as_slice());
         }
         RunFault::Memory => bail!("want of memory"),
     }
@@ -193,31 +214,35 @@ fn put_fault<W: Write>(net: &Checked, fault: &RunFault, out: &mut W) -> Result<(
 }
 
 /// Writes the arrays, the result and the number of firings of a run, a line each.
-fn put_results<W: Write>(net: &Checked, state: &State, made: u64, out: &mut W) -> Result<()>
+fn put_results(net: &Checked, state: &State, made: u64, out: &mut Output) -> Result<()>
     requires { IsOf net.now state.now }
 {
-    write!(out, "0 ")?;
+    out.word("0 ");
     let arrays = net.net().arrays.as_slice();
     for at in 0..arrays.len() {
         let Ok(number) = u32::try_from(at) else {
             bail!("too many arrays");
         };
-        put_array(&arrays[at], state.arrays(net, number), out)?;
+        put_array(&arrays[at], state.arrays(net, number), out);
     }
     if let (Some(ty), Some(value)) = (net.net().result, state.value()) {
-        write!(out, "return = {}\\n", number(ty, value))?;
+        out.word("return = ");
+        out.number(number(ty, value));
+        out.word("\\n");
     }
-    write!(out, "# firings {made}\\n")?;
+    out.word("# firings ");
+    out.number(made);
+    out.word("\\n");
     Ok(())
 }
 
 /// Writes an array's name and its numbers.
-fn put_array<W: Write>(array: &Array, elements: &[u64], out: &mut W) -> Result<()> {
-    out.write_all(array.name.as_slice())?;
-    write!(out, " =")?;
+fn put_array(array: &Array, elements: &[u64], out: &mut Output) {
+    out.bytes(array.name.as_slice());
+    out.word(" =");
     for element in elements {
-        write!(out, " {}", number(array.ty, *element))?;
+        out.word(" ");
+        out.number(number(array.ty, *element));
     }
-    write!(out, "\\n")?;
-    Ok(())
+    out.word("\\n");
 }

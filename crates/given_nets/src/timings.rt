@@ -9,12 +9,11 @@ use buffer_place::{Timing, place};
 use el_base::{MAX_DELAY, MAX_SLOTS, MAX_SUM_OF_SLOTS};
 use net_check::{At, Change, Checked, NetRefusal};
 use net_types::Chan;
-use row_fields::numbers_of;
+use row_fields::{Output, numbers_of};
 use std::alloc::Global;
-use std::io::Write;
 
 /// Writes the slots and the delay of each channel of a net where a timing is placed.
-pub fn put_placed<W: Write>(alloc: Global, net: &str, timing: &str, out: &mut W) -> Result<()> {
+pub fn put_placed(alloc: Global, net: &str, timing: &str, out: &mut Output) -> Result<()> {
     let net = net_of(alloc, net)?;
     let timing = timing_of(alloc, timing)?;
     let Ok(mut placed) = net.net().copy(alloc) else {
@@ -27,28 +26,39 @@ pub fn put_placed<W: Write>(alloc: Global, net: &str, timing: &str, out: &mut W)
     if place(alloc, &mut placed, timing).is_err() {
         bail!("want of memory");
     }
-    put_times(placed.chans.as_slice(), out)
+    put_times(placed.chans.as_slice(), out);
+    Ok(())
 }
 
 /// Writes `ok` or the refusal of changes of a net, and the slots and the delays that the net then has.
-pub fn put_retimed<W: Write>(alloc: Global, net: &str, changes: &str, out: &mut W) -> Result<()> {
+pub fn put_retimed(alloc: Global, net: &str, changes: &str, out: &mut Output) -> Result<()> {
     let mut net = net_of(alloc, net)?;
     let changes = changes_of(alloc, changes, &net)?;
     match net.retime(alloc, changes.as_slice()) {
-        Ok(()) => write!(out, "ok")?,
+        Ok(()) => out.word("ok"),
         Err(refusal) => put_refusal(&refusal, out)?,
     }
-    write!(out, " / ")?;
-    put_times(net.net().chans.as_slice(), out)
+    out.word(" / ");
+    put_times(net.net().chans.as_slice(), out);
+    Ok(())
 }
 
 /// Writes the number and the word of a broken rule, and what it names.
-fn put_refusal<W: Write>(refusal: &NetRefusal, out: &mut W) -> Result<()> {
-    match refusal.at() {
-        Some(At::Unit(unit)) => write!(out, "{refusal} unit {unit}")?,
-        Some(At::Chan(chan)) => write!(out, "{refusal} chan {chan}")?,
-        Some(At::Net) => write!(out, "{refusal} net")?,
-        None => bail!("want of memory"),
+fn put_refusal(refusal: &NetRefusal, out: &mut Output) -> Result<()> {
+    let Some(at) = refusal.at() else {
+        bail!("want of memory");
+    };
+    out.show(refusal);
+    match at {
+        At::Unit(unit) => {
+            out.word(" unit ");
+            out.number(unit);
+        }
+        At::Chan(chan) => {
+            out.word(" chan ");
+            out.number(chan);
+        }
+        At::Net => out.word(" net"),
     }
     Ok(())
 }
@@ -115,11 +125,13 @@ fn words_as_numbers(alloc: Global, text: &str) -> Result<Vec<u32>> {
 }
 
 /// Writes the slots and the delay of each channel, with `;` between two.
-fn put_times<W: Write>(chans: &[Chan], out: &mut W) -> Result<()> {
+fn put_times(chans: &[Chan], out: &mut Output) {
     let mut mark = "";
     for chan in chans {
-        write!(out, "{mark}{} {}", chan.slots, chan.delay)?;
+        out.word(mark);
+        out.number(chan.slots);
+        out.word(" ");
+        out.number(chan.delay);
         mark = "; ";
     }
-    Ok(())
 }

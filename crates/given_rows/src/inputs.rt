@@ -7,12 +7,11 @@ use inputs_text::{InputRefusal, print_results_of, read_inputs};
 use net_check::{Checked, check_net};
 use net_text::read;
 use net_types::{Inputs, Net, Scalar};
-use row_fields::text_within;
+use row_fields::{Output, text_within};
 use std::alloc::Global;
-use std::io::Write;
 
 /// Writes what reading answers to a line: a net text, a tab and an inputs text.
-pub fn put_reading<W: Write>(alloc: Global, line: &str, out: &mut W) -> Result<()> {
+pub fn put_reading(alloc: Global, line: &str, out: &mut Output) -> Result<()> {
     let (net, inputs) = line
         .split_once('\t')
         .context("a line is a net text and an inputs text")?;
@@ -33,11 +32,11 @@ fn checked(alloc: Global, field: &str) -> Result<Checked> {
 }
 
 /// Writes the number of each scalar and the printed lines of the arrays, each with a slash after it.
-fn put_inputs<W: Write>(alloc: Global, net: &Net, inputs: &Inputs, out: &mut W) -> Result<()>
+fn put_inputs(alloc: Global, net: &Net, inputs: &Inputs, out: &mut Output) -> Result<()>
     requires { InputsFit net.now inputs.now }
 {
-    write!(out, "ok ")?;
-    put_scalars(net.scalars.as_slice(), inputs.scalars.as_slice(), out)?;
+    out.word("ok ");
+    put_scalars(net.scalars.as_slice(), inputs.scalars.as_slice(), out);
     let Ok(arrays) = print_results_of(
         alloc,
         net.arrays.as_slice(),
@@ -47,36 +46,42 @@ fn put_inputs<W: Write>(alloc: Global, net: &Net, inputs: &Inputs, out: &mut W) 
     ) else {
         bail!("memory ran out");
     };
-    for byte in arrays {
+    put_lines(arrays.as_slice(), out);
+    Ok(())
+}
+
+/// Writes lines, each with a slash for its line feed.
+fn put_lines(lines: &[u8], out: &mut Output) {
+    for byte in lines {
         match byte {
-            b'\n' => out.write_all(b" /")?,
-            _ => out.write_all(&[byte])?,
+            b'\n' => out.word(" /"),
+            byte => out.bytes(&[*byte]),
         }
     }
-    Ok(())
 }
 
 /// Writes the number of each scalar.
-fn put_scalars<W: Write>(scalars: &[Scalar], patterns: &[u64], out: &mut W) -> Result<()> {
+fn put_scalars(scalars: &[Scalar], patterns: &[u64], out: &mut Output) {
     for (scalar, pattern) in scalars.iter().zip(patterns) {
-        out.write_all(scalar.name.as_slice())?;
-        let number = number(scalar.ty, *pattern);
-        write!(out, " = {number} /")?;
+        out.bytes(scalar.name.as_slice());
+        out.word(" = ");
+        out.number(number(scalar.ty, *pattern));
+        out.word(" /");
     }
-    Ok(())
 }
 
 /// Writes a refusal and its line, or the name that it names.
-fn put_refusal<W: Write>(refusal: &InputRefusal, out: &mut W) -> Result<()> {
+fn put_refusal(refusal: &InputRefusal, out: &mut Output) -> Result<()> {
     if refusal.number().is_none() {
         bail!("memory ran out");
     }
-    write!(out, "{refusal} ")?;
+    out.show(refusal);
+    out.word(" ");
     if let Some(line) = refusal.line() {
-        write!(out, "{line}")?;
+        out.number(line);
     }
     if let Some(name) = refusal.name() {
-        out.write_all(name.as_slice())?;
+        out.bytes(name.as_slice());
     }
     Ok(())
 }

@@ -1,43 +1,21 @@
 //! What the front end answers to a kernel text.
-use crate::refusals::{Cause, cause_of};
-use anyhow::{Result, anyhow, bail, ensure};
-use c_ast::{List, Span, Token, Tree};
+ghost use Rattle.std.specs.Prelude.{◌≤◌, IfOk, length};
+ghost use Rattle.el_base.specs.Limits.{max_kernel_bytes};
+
+use crate::refusals::put_cause;
+use anyhow::{Context, Result, anyhow, bail, ensure};
+use c_ast::{List, Token, Tree};
 use c_lex::{end_of, lex};
 use c_parse::parse;
 use el_base::MAX_KERNEL_BYTES;
-use kernel_front::{Kernel, read_kernel};
+use kernel_front::read_kernel;
+use row_fields::Output;
 use std::alloc::Global;
-use std::fmt;
-
-/// What the front end gives for a kernel text.
-#[derive(Drop)]
-pub enum Reading {
-    /// Its typed tree, and its number of nodes.
-    Kernel(Kernel),
-    /// Why there is none.
-    Refused(Cause<Span>),
-}
-
-impl fmt::Display for Reading {
-    fn fmt<W: fmt::Write>(&self, f: &mut fmt::Formatter<W>) -> fmt::Result {
-        match self {
-            Reading::Kernel(kernel) => {
-                let nodes = kernel.nodes;
-                write!(f, "ok N={nodes}")
-            }
-            Reading::Refused(cause) => {
-                let line = cause.at.line;
-                let column = cause.at.column;
-                let number = cause.number;
-                let word = cause.word;
-                write!(f, "{line}:{column}: {number} {word}")
-            }
-        }
-    }
-}
 
 /// The tokens of a kernel text that has some.
-pub fn tokens_of(alloc: Global, text: &[u8]) -> Result<List<Token>> {
+pub fn tokens_of(alloc: Global, text: &[u8]) -> Result<List<Token>>
+    ensures { IfOk result (λ _. length text.now ≤ max_kernel_bytes) }
+{
     ensure!(
         text.len() as u64 <= MAX_KERNEL_BYTES,
         "a kernel text that is too long"
@@ -47,27 +25,32 @@ pub fn tokens_of(alloc: Global, text: &[u8]) -> Result<List<Token>> {
 
 /// The tree of a kernel text that has one.
 pub fn tree_of(alloc: Global, text: &[u8]) -> Result<Tree> {
-    ensure!(
-        text.len() as u64 <= MAX_KERNEL_BYTES,
-        "a kernel text that is too long"
-    );
-    let Ok(tokens) = lex(alloc, text) else {
-        bail!("a kernel text without tokens");
-    };
+    let tokens = tokens_of(alloc, text)?;
     let Ok(tree) = parse(alloc, tokens.as_slice(), end_of(text)) else {
         bail!("a kernel text without a tree");
     };
     Ok(tree)
 }
 
-/// What the front end gives.
-pub fn read(alloc: Global, text: &[u8]) -> Result<Reading> {
+/// Writes how many nodes the kernel of a text has, or where the text is refused and why.
+pub fn put_kernel(alloc: Global, text: &[u8], out: &mut Output) -> Result<()> {
     ensure!(
         text.len() as u64 <= MAX_KERNEL_BYTES,
         "a kernel text that is too long"
     );
     match read_kernel(alloc, text) {
-        Ok(kernel) => Ok(Reading::Kernel(kernel)),
-        Err(e) => Ok(Reading::Refused(cause_of(e.span(), e.number(), e.word())?)),
+        Ok(kernel) => {
+            out.word("ok N=");
+            out.number(kernel.nodes);
+            Ok(())
+        }
+        Err(refusal) => {
+            let at = refusal.span().context("memory ran out")?;
+            out.number(at.line);
+            out.word(":");
+            out.number(at.column);
+            out.word(": ");
+            put_cause(refusal.number(), refusal.word(), out)
+        }
     }
 }

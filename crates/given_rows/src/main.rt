@@ -17,12 +17,13 @@ mod words;
 
 use crate::rows::{FILES, Rows, rows_of};
 use anyhow::{Context, Result};
-use std::io::{BufWriter, Write};
+use row_fields::Output;
+use std::io::Write;
 use std::path::Path;
 use std::{env, fs, io};
 
 fn main(rt: HostRuntime) -> Result<()> {
-    let mut out = BufWriter::new(rt.alloc(), io::writer(&rt))?;
+    let mut out = Output::new(rt.alloc());
     match env::args(&rt)?.nth(1) {
         None => {
             for (name, rows) in FILES {
@@ -35,19 +36,15 @@ fn main(rt: HostRuntime) -> Result<()> {
             answer(&rt, path.as_str(), name, rows, &mut out)?;
         }
     }
-    out.flush()?;
+    io::writer(&rt).write_all(out.finish()?.as_slice())?;
     Ok(())
 }
 
 /// Writes the answers to a file below its name.
-fn answer<W: Write>(
-    rt: &HostRuntime,
-    path: &str,
-    name: &str,
-    rows: Rows,
-    out: &mut W,
-) -> Result<()> {
+fn answer(rt: &HostRuntime, path: &str, name: &str, rows: Rows, out: &mut Output) -> Result<()> {
     let text = fs::read_to_string(rt, path)?;
-    writeln!(out, "== {name}")?;
+    out.word("== ");
+    out.word(name);
+    out.word("\n");
     rows.answer(rt.alloc(), text.as_str(), out)
 }

@@ -1,23 +1,22 @@
 //! Lists of acts on load-store queues.
-ghost use Rattle.std.specs.Prelude.{◌≡◌, ◌≤◌, ◌^◌};
-ghost use Rattle.net_check.specs.Shapes.{KeepsC7};
+ghost use Rattle.std.specs.Prelude.{◌≤◌, ◌^◌, IfSome};
+ghost use Rattle.net_check.specs.Shapes.{HasShape, KeepsC7};
+ghost use Rattle.net_types.specs.Queues.{IsQueueShape};
 
 use anyhow::{Context, Result, bail, ensure};
 use el_base::Log;
 use lsq_core::{ListLsq, Lsq, Queue, run_acts};
 use net_check::check_shapes;
 use net_text::read;
-use net_types::{Act, Net, Unit};
-use row_fields::numbers_of;
+use net_types::{Act, List, Net, Port, Unit};
+use row_fields::{Output, numbers_of};
 use std::alloc::Global;
-use std::fmt::Write as _;
-use std::io::Write;
 
 /// Writes what a queue answers to a list of acts: how many it makes, what they put, the array after them, how many
 /// entries are left, and the oldest that may execute or `-`.
 ///
 /// A line is the elements of the array, the queue as in the text of a net, and the acts, each with its token.
-pub fn put_run<W: Write>(alloc: Global, line: &str, out: &mut W) -> Result<()> {
+pub fn put_run(alloc: Global, line: &str, out: &mut Output) -> Result<()> {
     let fields: Vec<&str> = line.split('\t').collect(alloc)?;
     let [elements, queue, acts] = fields.as_slice() else {
         bail!("a line is an array, a queue and acts");
@@ -30,7 +29,7 @@ pub fn put_run<W: Write>(alloc: Global, line: &str, out: &mut W) -> Result<()> {
     match check_shapes(alloc, &net) {
         Err(_) => bail!("memory ran out"),
         Ok(Some(_)) => bail!("no shape of a queue"),
-        Ok(None) => put_bodies(alloc, array.as_slice(), &net, acts.as_slice(), out),
+        Ok(None) => put_queues(alloc, array.as_slice(), &net, acts.as_slice(), out),
     }
 }
 
@@ -46,17 +45,33 @@ fn acts_of(alloc: Global, text: &str) -> Result<Vec<(Act, u64)>> {
 /// An act: its word, its number where it has one, and its token where it takes one.
 fn act_of(alloc: Global, text: &str) -> Result<(Act, u64)> {
     let words: Vec<&str> = text.split(' ').collect(alloc)?;
-    let act = match words.as_slice() {
-        ["alloc", group, token] => (Act::Alloc(group.parse()?), token.parse()?),
-        ["addr", port, token] => (Act::Addr(port.parse()?), token.parse()?),
-        ["data", port, token] => (Act::Data(port.parse()?), token.parse()?),
-        ["exec", serial] => (Act::Exec(serial.parse()?), 0),
-        ["reply", port] => (Act::Reply(port.parse()?), 0),
-        ["retire"] => (Act::Retire, 0),
-        ["end", token] => (Act::End, token.parse()?),
-        _ => bail!("no act of a queue"),
+    let [word, numbers @ ..] = words.as_slice() else {
+        bail!("no act of a queue");
     };
-    Ok(act)
+    let numbers: Vec<u64> = numbers_of(alloc, numbers)?;
+    match act_by(word, numbers.as_slice()) {
+        Some(act) => Ok(act),
+        None => bail!("no act of a queue"),
+    }
+}
+
+/// The act of a word and its numbers.
+fn act_by(word: &str, numbers: &[u64]) -> Option<(Act, u64)> {
+    match (word, numbers) {
+        ("alloc", [group, token]) => Some((Act::Alloc(narrow(*group)?), *token)),
+        ("addr", [port, token]) => Some((Act::Addr(narrow(*port)?), *token)),
+        ("data", [port, token]) => Some((Act::Data(narrow(*port)?), *token)),
+        ("exec", [serial]) => Some((Act::Exec(*serial), 0)),
+        ("reply", [port]) => Some((Act::Reply(narrow(*port)?), 0)),
+        ("retire", []) => Some((Act::Retire, 0)),
+        ("end", [token]) => Some((Act::End, *token)),
+        _ => None,
+    }
+}
+
+/// The number of a group or of a port, where it is none that is too great.
+fn narrow(number: u64) -> Option<u32> {
+    u32::try_from(number).ok()
 }
 
 /// A net of one array and one queue.
@@ -75,46 +90,120 @@ fn net_of(alloc: Global, queue: &str) -> Result<Net> {
     }
 }
 
-/// Writes what each queue of a net answers: one answer, or those of both bodies where they differ.
-fn put_bodies<W: Write>(
+/// Writes what each queue of a net answers.
+fn put_queues(
     alloc: Global,
     array: &[u64],
     net: &Net,
     acts: &[(Act, u64)],
-    out: &mut W,
+    out: &mut Output,
 ) -> Result<()>
     requires { KeepsC7 net.now }
 {
     for unit in net.units.as_slice() {
-        if let Unit::Lsq {
+        put_unit(alloc, array, unit, acts, out)?;
+    }
+    Ok(())
+}
+
+/// Writes what a unit answers where it is a queue: one answer, or those of both bodies where they differ.
+fn put_unit(
+    alloc: Global,
+    array: &[u64],
+    unit: &Unit,
+    acts: &[(Act, u64)],
+    out: &mut Output,
+) -> Result<()>
+    requires { HasShape unit.now }
+{
+    let Some(shape) = shape_of(unit) else {
+        return Ok(());
+    };
+    let list = answer_of_list(alloc, array, &shape, acts)?;
+    let indexed = answer_of_indexed(alloc, array, &shape, acts)?;
+    out.bytes(list.as_slice());
+    if list != indexed {
+        out.word(" and ");
+        out.bytes(indexed.as_slice());
+    }
+    Ok(())
+}
+
+/// The shape of a queue.
+#[derive(Clone, Copy)]
+struct Shape<'a> {
+    depth: u32,
+    ports: &'a [Port],
+    groups: &'a [List<u32>],
+    forward: bool,
+}
+
+/// The shape of a unit that is a queue.
+fn shape_of(unit: &Unit) -> Option<Shape<'_>>
+    requires { HasShape unit.now }
+    ensures { IfSome result (λ shape. IsQueueShape shape.depth shape.ports.now shape.groups.now) }
+{
+    match unit {
+        Unit::Lsq {
             depth,
             ports,
             groups,
             forward,
             ..
-        } = unit
-        {
-            let ports = ports.as_slice();
-            let groups = groups.as_slice();
-            let list = match ListLsq::new(alloc, array, *depth, ports, groups, *forward) {
-                Err(_) => bail!("memory ran out"),
-                Ok(mut queue) => answer_of(alloc, &mut queue, acts)?,
-            };
-            let indexed = match Lsq::new(alloc, array, *depth, ports, groups, *forward) {
-                Err(_) => bail!("memory ran out"),
-                Ok(mut queue) => answer_of(alloc, &mut queue, acts)?,
-            };
-            write!(out, "{list}")?;
-            if list.as_str() != indexed.as_str() {
-                write!(out, " and {indexed}")?;
-            }
-        }
+        } => Some(Shape {
+            depth: *depth,
+            ports: ports.as_slice(),
+            groups: groups.as_slice(),
+            forward: *forward,
+        }),
+        _ => None,
     }
-    Ok(())
+}
+
+/// What the body of one list answers.
+fn answer_of_list(
+    alloc: Global,
+    array: &[u64],
+    shape: &Shape<'_>,
+    acts: &[(Act, u64)],
+) -> Result<Vec<u8>>
+    requires { IsQueueShape shape.now.depth shape.now.ports.now shape.now.groups.now }
+{
+    let Shape {
+        depth,
+        ports,
+        groups,
+        forward,
+    } = *shape;
+    match ListLsq::new(alloc, array, depth, ports, groups, forward) {
+        Ok(mut queue) => answer_of(alloc, &mut queue, acts),
+        Err(_) => bail!("memory ran out"),
+    }
+}
+
+/// What the body with an index answers.
+fn answer_of_indexed(
+    alloc: Global,
+    array: &[u64],
+    shape: &Shape<'_>,
+    acts: &[(Act, u64)],
+) -> Result<Vec<u8>>
+    requires { IsQueueShape shape.now.depth shape.now.ports.now shape.now.groups.now }
+{
+    let Shape {
+        depth,
+        ports,
+        groups,
+        forward,
+    } = *shape;
+    match Lsq::new(alloc, array, depth, ports, groups, forward) {
+        Ok(mut queue) => answer_of(alloc, &mut queue, acts),
+        Err(_) => bail!("memory ran out"),
+    }
 }
 
 /// What a queue that is new answers.
-fn answer_of<Q: Queue>(alloc: Global, queue: &mut Q, acts: &[(Act, u64)]) -> Result<String>
+fn answer_of<Q: Queue>(alloc: Global, queue: &mut Q, acts: &[(Act, u64)]) -> Result<Vec<u8>>
     requires { (Q.state queue.old).queue.next ≤ 2 ^ 60 }
 {
     ensure!(u32::try_from(acts.len()).is_ok(), "too many acts");
@@ -122,23 +211,27 @@ fn answer_of<Q: Queue>(alloc: Global, queue: &mut Q, acts: &[(Act, u64)]) -> Res
         bail!("memory ran out");
     };
     let made = run_acts(queue, acts, &mut puts);
-    let mut text = format!(in alloc; "made {made} puts")?;
-    add_numbers(puts.as_slice(), &mut text)?;
-    text.push_str(" array")?;
-    add_numbers(queue.array(), &mut text)?;
-    let len = queue.len();
-    write!(text, " len {len} oldest ")?;
+    let mut out = Output::new(alloc);
+    out.word("made ");
+    out.number(made);
+    out.word(" puts");
+    put_numbers(puts.as_slice(), &mut out);
+    out.word(" array");
+    put_numbers(queue.array(), &mut out);
+    out.word(" len ");
+    out.number(queue.len());
+    out.word(" oldest ");
     match queue.oldest() {
-        None => text.push_str("-")?,
-        Some(serial) => write!(text, "{serial}")?,
+        None => out.word("-"),
+        Some(serial) => out.number(serial),
     }
-    Ok(text)
+    Ok(out.finish()?)
 }
 
-/// Adds numbers, a blank before each.
-fn add_numbers(numbers: &[u64], text: &mut String) -> Result<()> {
+/// Writes numbers, a blank before each.
+fn put_numbers(numbers: &[u64], out: &mut Output) {
     for number in numbers {
-        write!(text, " {number}")?;
+        out.word(" ");
+        out.number(*number);
     }
-    Ok(())
 }

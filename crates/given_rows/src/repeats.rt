@@ -4,45 +4,28 @@ use el_base::MAX_KERNEL_BYTES;
 use row_fields::text_within;
 use std::alloc::Global;
 
-/// A text: the opening, the piece some times, the middle, as many times the return piece, and the closing.
-#[derive(Drop)]
-struct Repeat {
-    opening: Vec<u8>,
-    piece: Vec<u8>,
-    middle: Vec<u8>,
-    back: Vec<u8>,
-    closing: Vec<u8>,
-}
-
-impl Repeat {
-    /// The text with this many pieces.
-    fn text(&self, alloc: Global, times: usize) -> Result<Vec<u8>> {
-        let mut text = Vec::new(alloc);
-        text.extend_from_slice(self.opening.as_slice())?;
-        for _ in 0..times {
-            text.extend_from_slice(self.piece.as_slice())?;
-        }
-        text.extend_from_slice(self.middle.as_slice())?;
-        for _ in 0..times {
-            text.extend_from_slice(self.back.as_slice())?;
-        }
-        text.extend_from_slice(self.closing.as_slice())?;
-        Ok(text)
-    }
-}
-
-/// The text that a line describes: how many times the piece stands, and the five parts.
+/// The text that a line describes by a number and five parts: the opening, the piece so many times, the middle, as many
+/// times the return piece, and the closing.
 pub fn text_of(alloc: Global, line: &str) -> Result<Vec<u8>> {
     let fields: Vec<&str> = line.split('\t').collect(alloc)?;
     let [times, opening, piece, middle, back, closing] = fields.as_slice() else {
         bail!("a line is a number and five parts");
     };
-    let repeat = Repeat {
-        opening: text_within(alloc, opening, MAX_KERNEL_BYTES)?,
-        piece: text_within(alloc, piece, MAX_KERNEL_BYTES)?,
-        middle: text_within(alloc, middle, MAX_KERNEL_BYTES)?,
-        back: text_within(alloc, back, MAX_KERNEL_BYTES)?,
-        closing: text_within(alloc, closing, MAX_KERNEL_BYTES)?,
-    };
-    repeat.text(alloc, times.parse()?)
+    let times: u32 = times.parse()?;
+    let mut text = Vec::new(alloc);
+    add_times(alloc, 1, opening, &mut text)?;
+    add_times(alloc, times, piece, &mut text)?;
+    add_times(alloc, 1, middle, &mut text)?;
+    add_times(alloc, times, back, &mut text)?;
+    add_times(alloc, 1, closing, &mut text)?;
+    Ok(text)
+}
+
+/// Adds what a field stands for so many times.
+fn add_times(alloc: Global, times: u32, field: &str, text: &mut Vec<u8>) -> Result<()> {
+    let part = text_within(alloc, field, MAX_KERNEL_BYTES)?;
+    for _ in 0..times {
+        text.extend_from_slice(part.as_slice())?;
+    }
+    Ok(())
 }

@@ -1,18 +1,17 @@
 //! The files of rows and what their lines are.
 use crate::inputs::put_reading;
-use crate::kernels::read;
-use crate::nets::verdict_on;
-use crate::operations::result_of;
-use crate::pairs::whole_of;
+use crate::kernels::put_kernel;
+use crate::nets::put_verdict;
+use crate::operations::put_result;
+use crate::pairs::put_whole;
 use crate::queues::put_run;
 use crate::repeats::text_of;
 use crate::trees::put_returned;
 use crate::words::put_words;
 use anyhow::Result;
 use el_base::{MAX_KERNEL_BYTES, MAX_NETLIST_BYTES};
-use row_fields::text_within;
+use row_fields::{Output, text_within};
 use std::alloc::Global;
-use std::io::Write;
 
 /// What the lines of a file are, after the first, which says so in words.
 #[derive(Clone, Copy, Debug, PartialEq, Eq)]
@@ -69,51 +68,41 @@ pub fn rows_of(file: &str) -> Option<Rows> {
 
 impl Rows {
     /// Writes the answers to the lines of a text after its first, one a line.
-    pub fn answer<W: Write>(self, alloc: Global, text: &str, out: &mut W) -> Result<()> {
+    pub fn answer(self, alloc: Global, text: &str, out: &mut Output) -> Result<()> {
         for line in text.lines().skip(1) {
             self.put_answer(alloc, line, out)?;
-            writeln!(out)?;
+            out.word("\n");
         }
         Ok(())
     }
 
     /// Writes the answer to a line.
-    fn put_answer<W: Write>(self, alloc: Global, line: &str, out: &mut W) -> Result<()> {
+    fn put_answer(self, alloc: Global, line: &str, out: &mut Output) -> Result<()> {
         match self {
             Rows::Kernels => {
                 let text = text_within(alloc, line, MAX_KERNEL_BYTES)?;
-                let reading = read(alloc, text.as_slice())?;
-                write!(out, "{reading}")?;
-            }
-            Rows::Words => {
-                let text = text_within(alloc, line, MAX_KERNEL_BYTES)?;
-                put_words(alloc, text.as_slice(), out)?;
-            }
-            Rows::Pairs => {
-                let side = whole_of(alloc, line)?;
-                write!(out, "{side}")?;
-            }
-            Rows::Trees => {
-                let text = text_within(alloc, line, MAX_KERNEL_BYTES)?;
-                put_returned(alloc, text.as_slice(), out)?;
+                put_kernel(alloc, text.as_slice(), out)
             }
             Rows::Repeats => {
                 let text = text_of(alloc, line)?;
-                let reading = read(alloc, text.as_slice())?;
-                write!(out, "{reading}")?;
+                put_kernel(alloc, text.as_slice(), out)
+            }
+            Rows::Words => {
+                let text = text_within(alloc, line, MAX_KERNEL_BYTES)?;
+                put_words(alloc, text.as_slice(), out)
+            }
+            Rows::Trees => {
+                let text = text_within(alloc, line, MAX_KERNEL_BYTES)?;
+                put_returned(alloc, text.as_slice(), out)
             }
             Rows::Nets => {
                 let text = text_within(alloc, line, MAX_NETLIST_BYTES)?;
-                let verdict = verdict_on(alloc, text.as_slice())?;
-                write!(out, "{verdict}")?;
+                put_verdict(alloc, text.as_slice(), out)
             }
-            Rows::Operations => {
-                let result = result_of(alloc, line)?;
-                write!(out, "{result}")?;
-            }
-            Rows::Queues => put_run(alloc, line, out)?,
-            Rows::Inputs => put_reading(alloc, line, out)?,
+            Rows::Pairs => put_whole(alloc, line, out),
+            Rows::Operations => put_result(alloc, line, out),
+            Rows::Queues => put_run(alloc, line, out),
+            Rows::Inputs => put_reading(alloc, line, out),
         }
-        Ok(())
     }
 }

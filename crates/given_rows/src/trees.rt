@@ -1,18 +1,26 @@
 //! Typed expressions as text.
-use crate::kernels::{Reading, read};
-use anyhow::{Result, bail};
+use anyhow::{Result, bail, ensure};
 use c_ast::{Boxed, List, Typed, TypedExpr, TypedExprKind, TypedStmtKind};
+use el_base::MAX_KERNEL_BYTES;
+use kernel_front::read_kernel;
+use row_fields::Output;
 use std::alloc::Global;
-use std::io::Write;
 
 /// Writes the typed expression of the one `return` of a kernel text.
-pub fn put_returned<W: Write>(alloc: Global, text: &[u8], out: &mut W) -> Result<()> {
-    let Reading::Kernel(kernel) = read(alloc, text)? else {
+pub fn put_returned(alloc: Global, text: &[u8], out: &mut Output) -> Result<()> {
+    ensure!(
+        text.len() as u64 <= MAX_KERNEL_BYTES,
+        "a kernel text that is too long"
+    );
+    let Ok(kernel) = read_kernel(alloc, text) else {
         bail!("a kernel text that is refused");
     };
     match kernel.typed.body.as_slice() {
         [only] => match &only.kind {
-            TypedStmtKind::Return(Some(value)) => put(value, out),
+            TypedStmtKind::Return(Some(value)) => {
+                put(value, out);
+                Ok(())
+            }
             _ => bail!("a kernel of another statement"),
         },
         _ => bail!("a kernel of more than one statement"),
@@ -20,43 +28,59 @@ pub fn put_returned<W: Write>(alloc: Global, text: &[u8], out: &mut W) -> Result
 }
 
 /// Writes an expression: its kind with its parts, its type, and the first byte of its place.
-fn put<W: Write>(expr: &TypedExpr, out: &mut W) -> Result<()> {
-    write!(out, "(")?;
+#[cycle(put)]
+fn put(expr: &TypedExpr, out: &mut Output) {
+    out.word("(");
     match &expr.kind {
-        TypedExprKind::Number(value) => write!(out, "{value}")?,
-        TypedExprKind::Var(var) => write!(out, "v{var}")?,
+        TypedExprKind::Number(value) => out.number(*value),
+        TypedExprKind::Var(var) => {
+            out.word("v");
+            out.number(*var);
+        }
         TypedExprKind::Element { array, indices } => {
-            write!(out, "a{array}")?;
-            for index in indices.as_slice() {
-                write!(out, " ")?;
-                put(index, out)?;
-            }
+            out.word("a");
+            out.number(*array);
+            put_indices(indices.as_slice(), out);
         }
         TypedExprKind::Unary(op, arg) => {
-            write!(out, "{op:?} ")?;
-            put(arg.get(), out)?;
+            out.debug(op);
+            put_part(arg, out);
         }
         TypedExprKind::Cast { implied, arg } => {
-            write!(out, "{}", if *implied { "cast! " } else { "cast " })?;
-            put(arg.get(), out)?;
+            out.word(if *implied { "cast!" } else { "cast" });
+            put_part(arg, out);
         }
         TypedExprKind::Binary(op, left, right) => {
-            write!(out, "{op:?} ")?;
-            put(left.get(), out)?;
-            write!(out, " ")?;
-            put(right.get(), out)?;
+            out.debug(op);
+            put_part(left, out);
+            put_part(right, out);
         }
         TypedExprKind::Choose(cond, then, other) => {
-            write!(out, "choose ")?;
-            put(cond.get(), out)?;
-            write!(out, " ")?;
-            put(then.get(), out)?;
-            write!(out, " ")?;
-            put(other.get(), out)?;
+            out.word("choose");
+            put_part(cond, out);
+            put_part(then, out);
+            put_part(other, out);
         }
     }
-    let ty = expr.ty;
-    let start = expr.at.start;
-    write!(out, " {ty:?}@{start})")?;
-    Ok(())
+    out.word(" ");
+    out.debug(&expr.ty);
+    out.word("@");
+    out.number(expr.at.start);
+    out.word(")");
+}
+
+/// Writes a part behind a space.
+#[cycle(put)]
+fn put_part(part: &Boxed<TypedExpr>, out: &mut Output) {
+    out.word(" ");
+    put(part.get(), out);
+}
+
+/// Writes each index behind a space.
+#[cycle(put)]
+fn put_indices(indices: &[TypedExpr], out: &mut Output) {
+    for index in indices {
+        out.word(" ");
+        put(index, out);
+    }
 }

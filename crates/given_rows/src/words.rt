@@ -2,31 +2,31 @@
 use crate::kernels::tokens_of;
 use anyhow::Result;
 use c_ast::Word;
+use row_fields::Output;
 use std::alloc::Global;
-use std::io::Write;
 
 /// Writes the words of the tokens of a kernel text with a space between two, each number with its type.
-pub fn put_words<W: Write>(alloc: Global, text: &[u8], out: &mut W) -> Result<()> {
+pub fn put_words(alloc: Global, text: &[u8], out: &mut Output) -> Result<()> {
     let tokens = tokens_of(alloc, text)?;
-    for (at, token) in tokens.as_slice().iter().enumerate() {
-        if at > 0 {
-            write!(out, " ")?;
-        }
-        put(&token.word, out)?;
+    let mut before = "";
+    for token in tokens.as_slice() {
+        out.word(before);
+        put(&token.word, out);
+        before = " ";
     }
     Ok(())
 }
 
 /// Writes a word.
-fn put<W: Write>(word: &Word, out: &mut W) -> Result<()> {
+fn put(word: &Word, out: &mut Output) {
     match word {
-        Word::Name(name) => out.write_all(name.as_slice())?,
+        Word::Name(name) => out.bytes(name.as_slice()),
         Word::Number { value, ty } => {
-            let ty = ty.name();
-            write!(out, "{value}:{ty}")?;
+            out.number(*value);
+            out.word(":");
+            out.word(ty.name());
         }
-        Word::Key(key) => out.write_all(key.text().as_bytes())?,
-        Word::Mark(mark) => out.write_all(mark.text().as_bytes())?,
+        Word::Key(key) => out.word(key.text()),
+        Word::Mark(mark) => out.word(mark.text()),
     }
-    Ok(())
 }

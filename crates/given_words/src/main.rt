@@ -8,103 +8,103 @@ use crate::second::ordered;
 use anyhow::{Result, bail};
 use command_words::{Chosen, Command, read_words};
 use el_base::Memory;
+use row_fields::Output;
 use std::alloc::Global;
-use std::io::{BufWriter, Write};
+use std::io::Write;
 use std::{fs, io};
 
 fn main(rt: HostRuntime) -> Result<()> {
-    let mut out = BufWriter::new(rt.alloc(), io::writer(&rt))?;
+    let mut out = Output::new(rt.alloc());
     let lists = fs::read_to_string(&rt, "words.tsv")?;
     for line in lists.as_str().lines().skip(1) {
         put_answer(rt.alloc(), line, &mut out)?;
-        writeln!(out)?;
+        out.word("\n");
     }
-    out.flush()?;
+    io::writer(&rt).write_all(out.finish()?.as_slice())?;
     Ok(())
 }
 
 /// Writes what the words of a line spell: the command with its plain words and its options in the order of the table.
-fn put_answer<W: Write>(alloc: Global, line: &str, out: &mut W) -> Result<()> {
+fn put_answer(alloc: Global, line: &str, out: &mut Output) -> Result<()> {
     let mut words = Vec::new(alloc);
     for word in line.split('\t').skip(1) {
         words.push(String::from_str(alloc, word)?)?;
     }
-    put_words(alloc, words.as_slice(), out)?;
-    let mut first = Vec::new(alloc);
-    put_words(alloc, words.as_slice(), &mut first)?;
-    let mut second = Vec::new(alloc);
-    match ordered(alloc, words.as_slice())? {
-        Some(ordered) => put_words(alloc, ordered.as_slice(), &mut second)?,
-        None => write!(second, "usage")?,
-    }
+    let first = told(alloc, words.as_slice())?;
+    out.bytes(first.as_slice());
+    let second = match ordered(alloc, words.as_slice())? {
+        Some(ordered) => told(alloc, ordered.as_slice())?,
+        None => told(alloc, &[])?,
+    };
     if first != second {
-        write!(out, " and otherwise by clap: ")?;
-        out.write_all(second.as_slice())?;
+        out.word(" and otherwise by clap: ");
+        out.bytes(second.as_slice());
     }
     Ok(())
 }
 
-fn put_words<W: Write>(alloc: Global, words: &[String], out: &mut W) -> Result<()> {
+/// What words spell, as text: `usage` where they spell nothing, as no words do.
+fn told(alloc: Global, words: &[String]) -> Result<Vec<u8>> {
+    let mut out = Output::new(alloc);
     match read_words(alloc, words) {
-        Ok(Some(command)) => put_command(&command, out),
-        Ok(None) => Ok(write!(out, "usage")?),
+        Ok(Some(command)) => put_command(&command, &mut out),
+        Ok(None) => out.word("usage"),
         Err(Memory) => bail!("want of memory"),
     }
+    Ok(out.finish()?)
 }
 
-fn put_command<W: Write>(command: &Command<'_>, out: &mut W) -> Result<()> {
-    let verb = command.verb.word();
-    write!(out, "{verb}")?;
+fn put_command(command: &Command<'_>, out: &mut Output) {
+    out.word(command.verb.word());
     for word in command.plain.iter() {
-        write!(out, " {word}")?;
+        out.word(" ");
+        out.word(word);
     }
-    put_delays(&command.chosen, out)?;
-    put_numbers(&command.chosen, out)?;
-    put_flags(&command.chosen, out)
+    put_delays(&command.chosen, out);
+    put_numbers(&command.chosen, out);
+    put_flags(&command.chosen, out);
 }
 
-fn put_delays<W: Write>(chosen: &Chosen, out: &mut W) -> Result<()> {
-    let Some(delays) = &chosen.delay else {
-        return Ok(());
-    };
-    let mut before = " delay ";
-    for delay in delays.as_slice() {
-        let class = delay.class.word();
-        let cycles = delay.cycles;
-        write!(out, "{before}{class}={cycles}")?;
-        before = ",";
+fn put_delays(chosen: &Chosen, out: &mut Output) {
+    if let Some(delays) = &chosen.delay {
+        let mut before = " delay ";
+        for delay in delays.as_slice() {
+            out.word(before);
+            out.word(delay.class.word());
+            out.word("=");
+            out.number(delay.cycles);
+            before = ",";
+        }
     }
-    Ok(())
 }
 
-fn put_numbers<W: Write>(chosen: &Chosen, out: &mut W) -> Result<()> {
+fn put_numbers(chosen: &Chosen, out: &mut Output) {
     let numbers = [
-        ("slots", chosen.slots),
-        ("workers", chosen.workers),
-        ("limit", chosen.limit),
-        ("turns", chosen.turns),
-        ("at", chosen.at),
+        (" slots ", chosen.slots),
+        (" workers ", chosen.workers),
+        (" limit ", chosen.limit),
+        (" turns ", chosen.turns),
+        (" at ", chosen.at),
     ];
-    for (name, number) in numbers {
+    for (word, number) in numbers {
         if let Some(number) = number {
-            write!(out, " {name} {number}")?;
+            out.word(word);
+            out.number(number);
         }
     }
-    Ok(())
 }
 
-fn put_flags<W: Write>(chosen: &Chosen, out: &mut W) -> Result<()> {
+fn put_flags(chosen: &Chosen, out: &mut Output) {
     let flags = [
-        ("count", chosen.count),
-        ("cycles", chosen.cycles),
-        ("log", chosen.log),
-        ("forward", chosen.forward),
-        ("wrap", chosen.wrap),
+        (" count", chosen.count),
+        (" cycles", chosen.cycles),
+        (" log", chosen.log),
+        (" forward", chosen.forward),
+        (" wrap", chosen.wrap),
     ];
-    for (name, is_used) in flags {
+    for (word, is_used) in flags {
         if is_used {
-            write!(out, " {name}")?;
+            out.word(word);
         }
     }
-    Ok(())
 }

@@ -16,7 +16,9 @@ use Rattle.net_check.specs.Checks.{IsChecked}
 use Rattle.net_check.specs.Cycles.{KeepsC4}
 use Rattle.net_check.specs.Laws.{AllRulesCheck, TimesBreakTwoRules}
 use Rattle.net_check.specs.Sizes.{KeepsC3}
+use Rattle.kernel_graph.specs.Composed.{IsGraphOf}
 use Rattle.kernel_graph.specs.Shares.{GraphShare}
+use Rattle.circuit_build.specs.Built.{built}
 use Rattle.circuit_build.specs.Kept.{KeepsRules, SharesIfAsked}
 use Rattle.circuit_build.specs.Follows.{FollowsIfAsked, CompletesIfAsked}
 use Rattle.buffer_place.specs.declared.timing.Timing.{Timing}
@@ -31,12 +33,23 @@ use Rattle.kernel_compile.proofs.Marking.{rules_marked, numbered_marked, chans_m
 use Rattle.kernel_compile.proofs.Queues.{marks_asked}
 use Rattle.kernel_compile.proofs.Targets.{targets_laid, targets_kept}
 
-pub net_kept : (k : Typed) (g : Graph) (gs : Groups) (r : Result Net Memory) → Lawful k → GraphShare k g → GroupsShare g gs → IsGraph g
-    → IfOk r (SharesIfAsked g gs) → IfOk r (FollowsIfAsked g gs) → IfOk r (CompletesIfAsked g gs) → IfOk r (IsKernelNet k)
-net_kept k g gs (Ok net) lawful share groups graph laid follows completes =
+pub net_kept : (k : Typed) (g : Graph) (gs : Groups) (r : Result Net Memory) → Lawful k → IsGraphOf k g → GraphShare k g → GroupsShare g gs → IsGraph g
+    → IfOk r (λ net. net ≡ built g gs) → IfOk r (SharesIfAsked g gs) → IfOk r (FollowsIfAsked g gs) → IfOk r (CompletesIfAsked g gs) → IfOk r (IsKernelNet k)
+net_kept k g gs (Ok net) lawful made share groups graph is laid follows completes =
     let ask = asked k g lawful share gs graph groups in
-    record { graph = g; groups = gs; of_kernel = share; accesses = groups; laid = laid ask; follows = follows ask; completes = completes ask; targets = targets_laid k g gs net share graph groups (laid ask) }
-net_kept k g gs (Err e) lawful share groups graph laid follows completes = tt
+    record {
+      graph = g;
+      groups = gs;
+      made = made;
+      of_kernel = share;
+      accesses = groups;
+      is = is;
+      laid = laid ask;
+      follows = follows ask;
+      completes = completes ask;
+      targets = targets_laid k g gs net share graph groups (laid ask);
+    }
+net_kept k g gs (Err e) lawful made share groups graph is laid follows completes = tt
 
 module _ (k : Typed) (net : Net) (lawful : Lawful k) (few : typed_nodes k ≤ max_nodes) (is : IsKernelNet k net) where
   channels_few : length net.chans ≤ max_sum_of_slots

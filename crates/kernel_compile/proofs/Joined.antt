@@ -24,7 +24,8 @@ use Rattle.net_core.specs.Runs.{Run, AtRest, HasExited}
 use Rattle.net_core.specs.Laws.{Completion, OneSlotServes, StaysAtRest, SpentIsAtRest}
 use Rattle.queue_marks.specs.Laws.{MarksAllowRuns, MarksEndAlike}
 use Rattle.queue_marks.specs.Marked.{marked}
-use Rattle.kernel_compile.specs.Goods.{HoldsEnd, Computes, input_patterns, PatternsFit}
+use Rattle.kernel_compile.specs.Compiling.{CircuitsRest}
+use Rattle.kernel_compile.specs.Goods.{HoldsEnd, RestsInTime, Computes, input_patterns, PatternsFit}
 use Rattle.kernel_compile.specs.Layers.{KernelNetsAreGood}
 use Rattle.kernel_compile.proofs.Counting.{joined_firings}
 use Rattle.kernel_compile.proofs.Asked.{parameters_few}
@@ -60,15 +61,6 @@ walk f v (suc n) = walk_by f v n (λ w. walk f w n) (f v).onward refl
 
 -- ---- runs of a net
 
--- where a kernel ends, a list of firings that ends as it does
-record Ending (net : Net) (k : Typed) (z : Numbers) (out : List (List ℤ)) (r : Option ℤ) (t : ℕ) : Type 0 where
-  firings : List Firing
-  to : State
-  run : Run net (input_patterns k z) firings to
-  rests : AtRest net to
-  few : length firings ≤ 256 * typed_nodes k * (t + 1)
-  holds : HoldsEnd net k out r to
-
 module _ (law : Completion) (serves : OneSlotServes) (stays : StaysAtRest) (fit_law : PatternsFit) (k : Typed) (net : Net) (lawful : Lawful k) (is : Runner k net) where
   header_is : net_header net ≡ kernel_header k
   header_is = is.header ∙ is.of_kernel.header
@@ -101,7 +93,7 @@ module _ (law : Completion) (serves : OneSlotServes) (stays : StaysAtRest) (fit_
             subst (λ q. HasExited net2 q) (sym y.0) (λ x e. w.exited.fired x (kind_laid x e))
 
     -- both the bound and the end come of one list
-    ending : (p : Profile) (z : Numbers) (out : List (List ℤ)) (r : Option ℤ) (t : ℕ) → AreFitting k.params k.arrays z → Ends k p z out r t → Ending net2 k z out r t
+    pub ending : (p : Profile) (z : Numbers) (out : List (List ℤ)) (r : Option ℤ) (t : ℕ) → AreFitting k.params k.arrays z → Ends k p z out r t → RestsInTime net2 k z out r t
     ending p z out r t fit ends =
         let g = is.graph in
         let i = input_patterns k z in
@@ -145,3 +137,8 @@ kernel_nets_good law serves stays fit runs ends spent k net net2 forward p lawfu
       header = ap net_header ret.same ∙ header_is law serves stays fit k m lawful r;
       retimed = λ net3 again. computes law serves stays fit k m lawful r net3 (record { same = again.same ∙ ret.same; checked = again.checked }) p;
     }
+
+pub circuits_rest : Completion → OneSlotServes → StaysAtRest → PatternsFit → MarksAllowRuns → MarksEndAlike → SpentIsAtRest → CircuitsRest
+circuits_rest law serves stays fit runs ends spent t forward k m n lawful is ret =
+    let laid = runner_marked runs ends spent forward k is.plain is.of_graph in
+    ending law serves stays fit k (marked forward is.plain) lawful laid n (record { same = ret.same ∙ is.placed.same; checked = ret.checked })

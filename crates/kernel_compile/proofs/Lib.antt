@@ -8,6 +8,7 @@ pub mod HeaderLemmas
 pub mod Inputs
 pub mod Joined
 pub mod Marking
+pub mod Ones
 pub mod Queues
 pub mod Slots
 pub mod SoundHeaders

@@ -32,7 +32,7 @@ module _ (net net2 : Net) (same : SamePlain net net2) where
   pub kinds_same : (u : ℕ) → kind_of net2 u ≡ kind_of net u
   kinds_same u = ap (λ (n : Net). kind_of n u) same
 
-  chans_same : length net2.chans ≡ length net.chans
+  pub chans_same : length net2.chans ≡ length net.chans
   chans_same =
       let e : length (map untimed net2.chans) ≡ length (map untimed net.chans) = ap (λ (n : Net). length n.chans) same in
       omega (arith, length-map net2.chans untimed, length-map net.chans untimed)

@@ -1,8 +1,12 @@
 -- What each answer of the compiler says of the bytes of a kernel.
-use Rattle.std.specs.Prelude.{◌≡◌, ◌≢◌, ◌⊎◌, ℕ, Bool, List, Result, Ok, Err}
+use Rattle.std.specs.Prelude.{◌≡◌, ◌≢◌, ◌⊎◌, ℕ, ℤ, Bool, List, Option, Result, Ok, Err}
 use Rattle.c_ast.specs.declared.typed.Typed.{Typed}
 use Rattle.c_meaning.specs.declared.profile.Profile.{Profile}
+use Rattle.c_meaning.specs.Lawful.{Lawful}
+use Rattle.c_meaning.specs.Statements.{Ends}
+use Rattle.c_meaning.specs.Stores.{Inputs as Numbers, AreFitting}
 use Rattle.net_types.specs.declared.net.Net.{Net}
+use Rattle.net_check.specs.Retimed.{Retimed}
 use Rattle.kernel_front.specs.Answers.{Says, IsKernel}
 use Rattle.kernel_front.specs.declared.reading.Kernel.{Kernel}
 use Rattle.kernel_front.specs.declared.refusal.KernelRefusal.{KernelRefusal}
@@ -11,7 +15,7 @@ use Rattle.buffer_place.specs.declared.timing.Timing.{Timing}
 use Rattle.buffer_place.specs.Placing.{IsPlaced}
 use Rattle.queue_marks.specs.Marked.{marked, HasMark}
 use Rattle.kernel_compile.specs.declared.compiling.Compiled.{Compiled}
-use Rattle.kernel_compile.specs.Goods.{Good}
+use Rattle.kernel_compile.specs.Goods.{Good, RestsInTime}
 use Rattle.kernel_compile.specs.Layers.{IsKernelNet}
 use Rattle.kernel_compile.specs.Targets.{TargetsHaveQueues}
 
@@ -24,6 +28,15 @@ pub record IsCircuit (t : Timing) (forward : Bool) (k : Typed) (net : Net) : Typ
   pub placed : IsPlaced t (marked forward plain) net
   pub marks : HasMark forward net
   pub targets : TargetsHaveQueues k net
+
+-- two circuits of a kernel with the same timing and the same marks are one net
+abbrev pub CircuitsAreOne : Type 0
+CircuitsAreOne = (t : Timing) (forward : Bool) (k : Typed) (m n : Net) → IsCircuit t forward k m → IsCircuit t forward k n → m ≡ n
+
+-- where a kernel ends, a circuit of it, with whatever other slots and delays it is checked, has firings to rest in which it ends as the kernel does
+abbrev pub CircuitsRest : Type 0
+CircuitsRest = (t : Timing) (forward : Bool) (k : Typed) (m n : Net) → Lawful k → IsCircuit t forward k m → Retimed m n
+    → (p : Profile) (z : Numbers) (out : List (List ℤ)) (r : Option ℤ) (turns : ℕ) → AreFitting k.params k.arrays z → Ends k p z out r turns → RestsInTime n k z out r turns
 
 -- the bytes spell and type the kernel, which has so many nodes, and the net is its circuit
 pub record IsCompiled (bytes : List ℕ) (t : Timing) (forward : Bool) (c : Compiled) : Type 0 where

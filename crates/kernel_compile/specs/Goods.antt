@@ -27,6 +27,15 @@ pub record HoldsEnd (net : Net) (k : Typed) (out : List (List ℤ)) (r : Option 
   pub arrays : s.arrays ≡ array_patterns k.arrays out
   pub clean : NoStrays s
 
+-- where a kernel ends in t turns, a list of firings to rest that ends as it does, of no more than 256 firings for each of its nodes, once for each turn and once more
+pub record RestsInTime (net : Net) (k : Typed) (z : Numbers) (out : List (List ℤ)) (r : Option ℤ) (t : ℕ) : Type 0 where
+  pub firings : List Firing
+  pub to : State
+  pub run : Run net (input_patterns k z) firings to
+  pub rests : AtRest net to
+  pub few : length firings ≤ 256 * typed_nodes k * (t + 1)
+  pub holds : HoldsEnd net k out r to
+
 -- The runs of a net, in whatever order its units fire. On all inputs that fit, a run at rest has exited. Where the kernel ends under the profile on its inputs in
 -- t turns, no run on their patterns is longer than 256 firings for each of its nodes, once for each turn and once more; and one at rest holds the kernel's end.
 pub record Computes (net : Net) (k : Typed) (p : Profile) : Type 0 where

@@ -1,4 +1,5 @@
 //! Laws of the nets of kernels, each as the contract of a function that does nothing.
+ghost use Rattle.kernel_compile.specs.Compiling.{CircuitsAreOne, CircuitsRest};
 ghost use Rattle.kernel_compile.specs.Goods.{EndsInTime, GoodNetsCompute, GoodWhenRetimed, InputsAreNumbers, PatternsFit};
 ghost use Rattle.kernel_compile.specs.Layers.{KernelNetsAreGood};
 
@@ -6,6 +7,7 @@ use el_base::{
     patterns_are_those_of_their_numbers, patterns_have_their_width,
     patterns_stand_for_numbers_in_range,
 };
+use kernel_graph::graphs_are_one;
 use net_core::{completion, more_slots, spent_is_at_rest};
 use queue_marks::marks_allow_runs;
 
@@ -38,3 +40,23 @@ pub fn good_nets_stay_good()
     ensures retimed { GoodWhenRetimed }
     ensures in_time { EndsInTime }
 {}
+
+/// A kernel has one circuit by a timing, with the mark on its queues or without: the net of its graph and of the graph's
+/// accesses, each of which is one.
+pub fn circuits_are_one()
+    ensures { CircuitsAreOne }
+{
+    graphs_are_one();
+}
+
+/// Where a kernel ends in T turns, under whichever profile, its circuit, with whatever other slots and delays it is checked,
+/// has a list of at most 256·N·(T+1) firings to rest with the kernel's arrays and result, N being the kernel's nodes.
+pub fn circuits_come_to_rest()
+    ensures { CircuitsRest }
+{
+    inputs_are_patterns();
+    completion();
+    more_slots();
+    spent_is_at_rest();
+    marks_allow_runs();
+}

@@ -1,9 +1,12 @@
 //! From the bytes of a kernel to its circuit, in one call: a checked net that computes the kernel with whatever slots and
-//! delays.
+//! delays, and the only one by the same options.
 #![tactic(auto)]
 
 mod compiling;
 mod laws;
 
 pub use compiling::{Compiled, compile};
-pub use laws::{good_nets_stay_good, inputs_are_patterns, kernel_nets_are_good};
+pub use laws::{
+    circuits_are_one, circuits_come_to_rest, good_nets_stay_good, inputs_are_patterns,
+    kernel_nets_are_good,
+};

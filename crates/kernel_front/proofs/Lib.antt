@@ -5,3 +5,4 @@ pub mod Laid
 pub mod OneAnswer
 pub mod OneFault
 pub mod Words
+pub mod TypedTexts

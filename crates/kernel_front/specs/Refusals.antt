@@ -1,5 +1,5 @@
 -- The number, the word and the place by which refusals of kernels are printed, each by the table of the lexer, the parser or the type checker.
-use Rattle.std.specs.Prelude.{ℕ, List, Option, Some, None, codes}
+use Rattle.std.specs.Prelude.{ℕ, List, Option, None, codes}
 use Rattle.el_base.specs.Labels.{printed}
 use Rattle.el_base.specs.declared.span.Span.{Span}
 use Rattle.c_lex.specs.Refusals as lexer

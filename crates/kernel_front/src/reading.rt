@@ -4,12 +4,13 @@ ghost use Rattle.el_base.specs.Limits.{max_kernel_bytes};
 ghost use Rattle.c_ast.specs.Tokens.{span_at};
 ghost use Rattle.kernel_front.specs.Places.{IsPlace};
 ghost use Rattle.kernel_front.specs.Answers.{Says, IsOnly, HasOneAnswer};
+ghost use Rattle.kernel_front.specs.Laws.{TextsThatTypeAreKernels};
 
 use crate::refusal::KernelRefusal;
 use c_ast::{Typed, nodes, typed_trees_have_as_many_nodes};
 use c_lex::{end_of, lex, texts_have_one_reading};
 use c_meaning::laws::trees_are_typed_in_one_way;
-use c_parse::parse;
+use c_parse::{parse, trees_have_the_numbers_of_their_tokens};
 use c_types::check;
 use std::alloc::Global;
 
@@ -49,6 +50,15 @@ pub fn one_text_has_one_answer()
 {
     texts_have_one_reading();
     trees_are_typed_in_one_way();
+}
+
+/// A text that spells a tree within the limits on nesting and nodes, and whose tree keeps the typing rules, is a kernel.
+pub fn texts_that_type_are_kernels()
+    ensures { TextsThatTypeAreKernels }
+{
+    typed_trees_have_as_many_nodes();
+    trees_are_typed_in_one_way();
+    trees_have_the_numbers_of_their_tokens();
 }
 
 /// A place of some bytes of a text, the empty one after its last byte too, tells the line and the column of its first

@@ -22,6 +22,7 @@ use Rattle.ir.specs.Accesses.{accesses_in, IsStoredTo}
 use Rattle.ir.specs.Finished.{Finished}
 use Rattle.ir.specs.declared.graph.Block.{Block}
 use Rattle.ir.specs.Graphs.{Graph, no_block, passage, weight, size}
+use Rattle.block_merge.specs.Merged.{merged}
 use Rattle.block_merge.specs.Shares.{MergeShare}
 use Rattle.ir.specs.Variables.{VarGraph}
 use Rattle.ir.specs.Visits.{Visit, Passing}
@@ -32,6 +33,7 @@ use Rattle.struct_cfg.specs.Kernels.{IsSmallForm, form_graph}
 use Rattle.block_trim.specs.Trimming.{trimmed}
 use Rattle.block_args.specs.Shares.{ArgsShare, ArgsSizes}
 use Rattle.block_args.specs.Made.{IsArgued, parts}
+use Rattle.kernel_graph.specs.Composed.{kernel_var_graph, IsGraphOf}
 use Rattle.kernel_graph.specs.Laws.{StoresAreAssignments}
 use Rattle.kernel_graph.specs.Targets.{IsAssignedTo}
 use Rattle.kernel_graph.specs.Shares.{first_on, KernelRunsFollow, IsSmallGraph, GraphShare}
@@ -178,9 +180,18 @@ small_parts n f c l z a s =
 abbrev Layers : Typed → VarGraph → Normal → Type 0
 Layers k c f = NormalShare k f × NormalSizes (typed_nodes k) (length f.vars) (form_sizes f) × CfgShare f c × CfgSizes c (form_sizes f)
 
--- the stores of the graph, where each layer is what its definition says
+-- where each layer is what its definition says, so is the graph over arguments
+argued_of : (k : Typed) (f : Normal) (c : VarGraph) (g : Graph) → f ≡ normal_form k → c ≡ trimmed (form_graph f) → IsArgued c g → IsArgued (kernel_var_graph k) g
+argued_of k f c g is cut made = subst (λ x. IsArgued x g) (cut ∙ ap (λ x. trimmed (form_graph x)) is) made
+
+-- and so the merged graph, and the stores
+pub graph_is : (k : Typed) (f : Normal) (c : VarGraph) (g : Graph) (r : Result Graph Memory) → f ≡ normal_form k → c ≡ trimmed (form_graph f) → IsArgued c g → IfOk r (λ m. m ≡ merged g)
+    → IfOk r (IsGraphOf k)
+graph_is k f c g (Ok m) is cut made same = record { unmerged = g; argued = argued_of k f c g is cut made; is = same }
+graph_is k f c g (Err e) is cut made same = tt
+
 stores_kept : (k : Typed) (f : Normal) (c : VarGraph) (g : Graph) → StoresAreAssignments → f ≡ normal_form k → c ≡ trimmed (form_graph f) → IsArgued c g → (a : ℕ) → IsStoredTo g a ↔ IsAssignedTo k a
-stores_kept k f c g law is cut made = law k g (subst (λ x. IsArgued x g) (cut ∙ ap (λ x. trimmed (form_graph x)) is) made)
+stores_kept k f c g law is cut made = law k g (argued_of k f c g is cut made)
 
 pub all_kept : (k : Typed) (f : Normal) (c : VarGraph) (g : Graph) (r : Result Graph Memory) → f ≡ normal_form k → c ≡ trimmed (form_graph f) → typed_nodes k ≤ max_nodes
     → ((n v : ℕ) (z : Sizes) → n ≤ max_nodes → NormalSizes n v z → SmallSizes v z) → StoresAreAssignments

@@ -6,5 +6,6 @@ pub mod Expanded
 pub mod Forms
 pub mod Blocks
 pub mod Made
+pub mod Tables
 pub mod Worked
 pub mod GraphLemmas

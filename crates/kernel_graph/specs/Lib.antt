@@ -1,4 +1,5 @@
 pub mod Targets
+pub mod Composed
 pub mod Laws
 pub mod Worked
 pub mod Shares

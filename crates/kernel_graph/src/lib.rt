@@ -1,9 +1,9 @@
-//! From the typed tree of a kernel to its block graph, in one call over the layers of the middle; which arrays a kernel
-//! assigns to, and that its block graph stores to these and to no others.
+//! From the typed tree of a kernel to its block graph, in one call over the layers of the middle: which graph that is, and
+//! that a kernel has one; which arrays a kernel assigns to, and that its block graph stores to these and to no others.
 #![tactic(auto)]
 
 mod graph;
 mod laws;
 
 pub use graph::block_graph;
-pub use laws::stores_are_assignments;
+pub use laws::{graphs_are_one, stores_are_assignments};

@@ -25,7 +25,8 @@ use Rattle.kernel_ref.specs.Texts.{On, Gives}
 use Rattle.kernel_ref.specs.Results.{EndsWith}
 use Rattle.net_runs.specs.Given.{Bytes}
 use Rattle.kernel_runs.specs.Goes.{GivesNumbers, Begins, BeginsWithEnd, IsRight}
-use Rattle.kernel_runs.specs.Laws.{GoesAsInterpreted}
+use Rattle.kernel_runs.specs.Laws.{EndingKernelsRun, GoesAsInterpreted}
+use Rattle.kernel_runs.specs.Printed.{InterpretedKernelsGo}
 use Rattle.kernel_runs.proofs.RefusedLemmas.{one_kernel}
 
 -- ---- inputs are the patterns of the numbers that they stand for
@@ -84,3 +85,21 @@ module _ (again : (t : Ty) (p : ℕ) → p < 2 ^ ty_width t → pattern t (numbe
         let same : goes.kernel ≡ kernel = one_kernel one bytes goes.kernel kernel goes.read read in
         let right = subst (λ (k : Kernel). IsRight k.typed inputs goes.holds.run_text made) same goes.holds.right in
         begins kernel.typed inputs goes.holds.run_text made i told right ends
+
+    pub go_on : EndingKernelsRun → InterpretedKernelsGo
+    go_on law bytes inputs told kernel c o i r is on within some goes =
+        let so = on.holds.ends in
+        law bytes inputs c o r (record {
+          kernel = kernel;
+          read = is;
+          ends = record {
+            profile = i.profile;
+            numbers = input_numbers kernel.typed on.inputs;
+            given = given_numbers kernel.typed inputs on.inputs on.given on.fit;
+            out = so.out;
+            r = so.r;
+            turns = on.holds.turns;
+            ends = so.ends;
+            within = within;
+          };
+        }) some goes

@@ -1,5 +1,5 @@
 -- A run of a kernel's circuit at rest shows the kernel's own arrays and result.
-use Rattle.std.proofs.Common.{◌≡◌, ℕ, suc, ◌<◌, List, [], ◌∷◌, ◌++◌, length, get_or, map, Option, true, refl, sym, ap, ◌∙◌, subst, append_assoc}
+use Rattle.std.proofs.Common.{◌≡◌, ◌≢◌, ℕ, suc, ◌<◌, List, [], ◌∷◌, ◌++◌, length, get_or, map, Option, true, refl, sym, ap, ◌∙◌, subst, append_assoc}
 use Rattle.std.specs.Prelude.{ℤ, Ok, Err}
 use Rattle.std.proofs.lemmas.List.{length-map, ext_get_or}
 use Rattle.el_base.specs.Headers.{Header}
@@ -33,10 +33,10 @@ use Rattle.net_runs.specs.declared.refusal.RunRefusal.TheVariants as run
 use Rattle.net_runs.specs.Given.{Bytes, Gives, On}
 use Rattle.net_runs.specs.Results.{AreElementsIn, IsTextOf, count_line, cycles_line, log_lines}
 use Rattle.net_runs.specs.Runs.{Runs, Sticks}
-use Rattle.kernel_runs.specs.Faults.{IsJoined, MayCome}
 use Rattle.kernel_runs.specs.Goes.{GivesNumbers, Begins, IsRight, GoesTo}
+use Rattle.kernel_runs.specs.Joined.{IsJoined}
 
-exit_kind : (u : Kind) → is_exit u ≡ true → u ≡ Exit
+pub exit_kind : (u : Kind) → is_exit u ≡ true → u ≡ Exit
 exit_kind Entry e = absurd (cc)
 exit_kind (Param j) e = absurd (cc)
 exit_kind (Const w n) e = absurd (cc)
@@ -97,7 +97,7 @@ module _ (one : IsOfOneInputs) (computing : GoodNetsCompute) (fits : ResultsFit)
       ext_get_or [] values (array_patterns k.arrays out) long (λ a l. are.each a (subst (λ n. a < n) are.count l) ∙ ap (λ xs. get_or xs a []) holds.arrays)
 
   -- and so its text is that of the end
-  text_is : (out : List (List ℤ)) (r : Option ℤ) (s : State) (text : Bytes) → AreArraysOf k.arrays out → HoldsEnd net k out r s → IsTextOf net s text
+  pub text_is : (out : List (List ℤ)) (r : Option ℤ) (s : State) (text : Bytes) → AreArraysOf k.arrays out → HoldsEnd net k out r s → IsTextOf net s text
       → ResultText (map flat k.arrays) k.result (array_patterns k.arrays out) (result_pattern k.result r) text
   text_is out r s text fit holds is =
       let exit = (good Plain).checked.one_exit in
@@ -138,11 +138,5 @@ module _ (computing : GoodNetsCompute) (k : Typed) (net : Net) (good : Good net 
       let one = on.holds.one.run in
       on.holds.holds ((computing net k Plain good).exits on.inputs on.holds.firings on.holds.state on.fit one.run one.rest)
 
-  pub may_come : (r : RunRefusal) → Runs net bytes o (Err r) → MayCome r
-  may_come (run.Inputs r) is = tt
-  may_come (run.Schedule r) is = is
-  may_come (run.NotEnabled i) is = is
-  may_come (run.Limit n) is = tt
-  may_come run.Stuck is = absurd (never_stuck is)
-  may_come (run.Stray name) is = tt
-  may_come run.Memory is = tt
+  pub moves : (r : RunRefusal) → Runs net bytes o (Err r) → r ≢ run.Stuck
+  moves r is stuck = never_stuck (subst (λ (x : RunRefusal). Runs net bytes o (Err x)) stuck is)

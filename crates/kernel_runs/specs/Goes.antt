@@ -1,5 +1,5 @@
 -- What the compilation of a kernel and a run of its circuit on a text of inputs answer.
-use Rattle.std.specs.Prelude.{◌≡◌, ◌≤◌, ◌*◌, ◌+◌, ◌++◌, ℕ, ℤ, List, length, map, codes, Option, Result, Ok, Err}
+use Rattle.std.specs.Prelude.{◌≡◌, ◌≢◌, ◌≤◌, ◌*◌, ◌+◌, ◌++◌, ℕ, ℤ, List, length, map, codes, Option, Result, Ok, Err}
 use Rattle.c_ast.specs.declared.typed.Typed.{Typed}
 use Rattle.c_ast.specs.Nodes.{typed_nodes}
 use Rattle.c_meaning.specs.declared.profile.Profile.{Profile}
@@ -12,6 +12,7 @@ use Rattle.inputs_text.specs.Results.{ResultText}
 use Rattle.kernel_compile.specs.Goods.{input_patterns}
 use Rattle.kernel_ref.specs.Texts.{Gives}
 use Rattle.net_runs.specs.declared.options.RunOptions.{RunOptions}
+use Rattle.net_runs.specs.declared.refusal.RunRefusal.{RunRefusal}
 use Rattle.net_runs.specs.declared.refusal.RunRefusal.TheVariants as run
 use Rattle.net_runs.specs.Given.{Bytes}
 use Rattle.net_runs.specs.Runs.{Runs}
@@ -55,11 +56,15 @@ pub record GoesTo (k : Typed) (net : Net) (bytes : Bytes) (o : RunOptions) (text
   pub whole : text ≡ net_text ++ codes "%%\n" ++ run_text
   pub right : IsRight k bytes run_text (length runs.holds.firings)
 
--- What is answered for the bytes of a kernel and of its inputs; want of memory says nothing. A circuit of a kernel is never stuck, so no answer tells that.
+-- A run of a kernel's circuit is refused so. The circuit is never stuck, so no answer tells that; and want of memory is told apart.
+pub record IsNoRun (net : Net) (bytes : Bytes) (o : RunOptions) (r : RunRefusal) : Type 0 where
+  pub moves : r ≢ run.Stuck
+  pub cause : r ≢ run.Memory
+  pub runs : Runs net bytes o (Err r)
+
+-- what is answered for the bytes of a kernel and of its inputs; want of memory says nothing
 abbrev pub Goes : Bytes → Bytes → CircuitOptions → RunOptions → Result Bytes GoRefusal → Type 0
 Goes kernel inputs c o (Ok text) = OfCircuit kernel c (λ k net. GoesTo k net inputs o text)
 Goes kernel inputs c o (Err (refusal.Kernel r)) = IsNoKernel kernel r
-Goes kernel inputs c o (Err (refusal.Inputs r)) = OfCircuit kernel c (λ k net. Runs net inputs o (Err (run.Inputs r)))
-Goes kernel inputs c o (Err (refusal.Limit n)) = OfCircuit kernel c (λ k net. Runs net inputs o (Err (run.Limit n)))
-Goes kernel inputs c o (Err (refusal.Stray name)) = OfCircuit kernel c (λ k net. Runs net inputs o (Err (run.Stray name)))
+Goes kernel inputs c o (Err (refusal.Run r)) = OfCircuit kernel c (λ k net. IsNoRun net inputs o r)
 Goes kernel inputs c o (Err refusal.Memory) = Unit {0}

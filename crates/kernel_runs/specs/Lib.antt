@@ -1,4 +1,7 @@
 pub mod Circuits
 pub mod Goes
 pub mod Laws
-pub mod Faults
+pub mod OneAnswer
+pub mod Printed
+pub mod Joined
+pub mod Refusals

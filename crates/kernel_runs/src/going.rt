@@ -1,20 +1,20 @@
 //! From the bytes of a kernel and of its inputs to the text of its circuit and of a run of it.
-ghost use Rattle.std.specs.Prelude.{◌≤◌, length, Ok, Err, IfOk, IfErr};
+ghost use Rattle.std.specs.Prelude.{◌≢◌, ◌≤◌, length, Ok, Err, IfOk, IfErr};
 ghost use Rattle.el_base.specs.Limits.{IsNumbered, max_firings, max_kernel_bytes};
 ghost use Rattle.c_meaning.specs.Lawful.{Lawful};
 ghost use Rattle.c_meaning.specs.declared.profile.Profile.{Profile};
 ghost use Rattle.buffer_place.specs.Timings.{IsTiming};
 ghost use Rattle.kernel_compile.specs.Goods.{Good};
-ghost use Rattle.kernel_runs.specs.Faults.{IsGoFault, IsJoined};
+ghost use Rattle.net_runs.specs.Runs.{Runs};
 ghost use Rattle.kernel_runs.specs.Goes.{Goes, GoesTo};
+ghost use Rattle.kernel_runs.specs.Joined.{IsJoined};
 
-use crate::given::{kernel_fault, run_fault};
 use crate::options::CircuitOptions;
 use crate::refusal::GoRefusal;
 use c_meaning::range_laws::numbers_stay_in_range;
 use inputs_text::inputs_texts_have_one_reading;
 use kernel_compile::{Compiled, compile, good_nets_stay_good};
-use net_runs::{RunOptions, run_text};
+use net_runs::{RunOptions, RunRefusal, run_text};
 use net_text::print;
 use net_types::{Memory, Net};
 use std::alloc::Global;
@@ -28,9 +28,9 @@ use std::alloc::Global;
 ///
 /// # Errors
 ///
-/// `Kernel` where the bytes are no kernel, then `Inputs` where the others are no text of inputs of it. `Limit` exactly where
-/// there are runs of the circuit of more firings than the limit. Else `Stray` exactly where in the state at rest an address
-/// lay past an array, with the name of the first such array. `Memory` where memory ran out.
+/// `Kernel` where the bytes are no kernel, then `Run`: `Inputs` where the others are no text of inputs of it, `Limit` exactly
+/// where there are runs of the circuit of more firings than the limit, and else `Stray` exactly where in the state at rest an
+/// address lay past an array, with the first such array. `Memory` where memory ran out.
 pub fn go_text(
     alloc: Global,
     kernel: &[u8],
@@ -45,37 +45,33 @@ pub fn go_text(
     ensures ok { IfOk result (λ text. Goes kernel.now inputs.now circuit run (Ok text.items)) }
     ensures err { IfErr result (λ refused. Goes kernel.now inputs.now circuit run (Err refused)) }
 {
-    match compile(alloc, kernel, circuit.timing, circuit.forward) {
-        Ok(compiled) => go_on(alloc, &compiled, inputs, run),
-        Err(refused) => Err(kernel_fault(refused)),
-    }
+    let compiled = compile(alloc, kernel, circuit.timing, circuit.forward)?;
+    let text = go_on(alloc, &compiled, inputs, run)?;
+    Ok(text)
 }
 
-/// The same of a kernel with its circuit.
+/// The same of a kernel with its circuit, which is never stuck.
 fn go_on(
     alloc: Global,
     compiled: &Compiled,
     inputs: &[u8],
     run: RunOptions,
-) -> Result<Vec<u8>, GoRefusal>
+) -> Result<Vec<u8>, RunRefusal>
     requires lawful { Lawful compiled.now.typed }
     requires good { (p : Profile) → Good compiled.now.net compiled.now.typed p }
     requires short { IsNumbered (length inputs.now) }
     requires limit { run.limit ≤ max_firings }
     ensures ok { IfOk result (λ text.
         GoesTo compiled.now.typed compiled.now.net inputs.now run text.items) }
-    ensures err { IfErr result (IsGoFault compiled.now.net inputs.now run) }
+    ensures err { IfErr result (λ refused. Runs compiled.now.net inputs.now run (Err refused)) }
+    ensures moves { IfErr result (λ refused. refused ≢ RunRefusal.Stuck) }
 {
     good_nets_stay_good();
     inputs_texts_have_one_reading();
     numbers_stay_in_range();
-    match run_text(alloc, &compiled.net, inputs, run) {
-        Ok(results) => match joined(alloc, compiled.net.net(), results.as_slice()) {
-            Ok(text) => Ok(text),
-            Err(Memory) => Err(GoRefusal::Memory),
-        },
-        Err(refused) => Err(run_fault(refused)),
-    }
+    let results = run_text(alloc, &compiled.net, inputs, run)?;
+    let text = joined(alloc, compiled.net.net(), results.as_slice())?;
+    Ok(text)
 }
 
 /// The text of a net, a line `%%`, and what follows.

@@ -5,7 +5,6 @@
 #![tactic(auto)]
 
 mod compilation;
-mod given;
 mod going;
 mod laws;
 mod options;
@@ -13,6 +12,9 @@ mod refusal;
 
 pub use compilation::compile_text;
 pub use going::go_text;
-pub use laws::{circuits_show_what_is_interpreted, ending_kernels_run, kernels_compile};
+pub use laws::{
+    answers_are_one, circuits_show_what_is_interpreted, ending_kernels_run, interpreted_kernels_go,
+    kernels_compile, printed_circuits_are_right,
+};
 pub use options::CircuitOptions;
 pub use refusal::GoRefusal;

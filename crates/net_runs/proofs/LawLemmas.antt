@@ -41,8 +41,8 @@ complete net bytes o (refusal.Limit n) checked sound some is =
     sound.short (subst (λ i. Long net i o.limit) one (subst (Long net is.1.inputs) is.0 is.1.holds))
 complete net bytes o refusal.Stuck checked sound some is =
     same_state net bytes o sound is.inputs is.given (λ s. HasExited net s → ⊥) is.holds sound.sound.exited
-complete net bytes o (refusal.Stray name) checked sound some is =
-    let stray : IsStrayIn net sound.state name = same_state net bytes o sound is.inputs is.given (λ s. IsStrayIn net s name) is.holds in
-    let none : strays_at sound.state stray.array ≡ 0 = sound.sound.clean stray.array stray.first.within in
+complete net bytes o (refusal.Stray array name) checked sound some is =
+    let stray : IsStrayIn net sound.state array name = same_state net bytes o sound is.inputs is.given (λ s. IsStrayIn net s array name) is.holds in
+    let none : strays_at sound.state array ≡ 0 = sound.sound.clean array stray.first.within in
     absurd (omega (arith, stray.first.has, none))
 complete net bytes o refusal.Memory checked sound some is = some refl

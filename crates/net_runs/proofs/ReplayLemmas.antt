@@ -35,7 +35,7 @@ rest_refused net inputs firings s one (refusal.Schedule r) is = absurd is
 rest_refused net inputs firings s one (refusal.NotEnabled i) is = absurd is
 rest_refused net inputs firings s one (refusal.Limit n) is = absurd is
 rest_refused net inputs firings s one refusal.Stuck is = record { state = s; one = one; holds = is }
-rest_refused net inputs firings s one (refusal.Stray name) is = record { state = s; one = one; holds = is }
+rest_refused net inputs firings s one (refusal.Stray array name) is = record { state = s; one = one; holds = is }
 rest_refused net inputs firings s one refusal.Memory is = tt
 
 module _ (net : Net) (bytes schedule : Bytes) where
@@ -45,7 +45,7 @@ module _ (net : Net) (bytes schedule : Bytes) where
   inputs_refused (refusal.NotEnabled i) is = absurd is
   inputs_refused (refusal.Limit n) is = absurd is
   inputs_refused refusal.Stuck is = absurd is
-  inputs_refused (refusal.Stray name) is = absurd is
+  inputs_refused (refusal.Stray array name) is = absurd is
   inputs_refused refusal.Memory is = tt
 
   pub schedule_refused : (inputs : Inputs) → Gives net bytes inputs → InputsFit net inputs → (r : RunRefusal) → IsScheduleFault schedule r → Replays net bytes schedule (Err r)
@@ -54,7 +54,7 @@ module _ (net : Net) (bytes schedule : Bytes) where
   schedule_refused inputs given fit (refusal.NotEnabled i) is = absurd is
   schedule_refused inputs given fit (refusal.Limit n) is = absurd is
   schedule_refused inputs given fit refusal.Stuck is = absurd is
-  schedule_refused inputs given fit (refusal.Stray name) is = absurd is
+  schedule_refused inputs given fit (refusal.Stray array name) is = absurd is
   schedule_refused inputs given fit refusal.Memory is = tt
 
   pub replay_refused : (inputs : Inputs) (firings : List Firing) → Gives net bytes inputs → InputsFit net inputs → SaysFirings schedule (Ok firings)
@@ -64,5 +64,5 @@ module _ (net : Net) (bytes schedule : Bytes) where
   replay_refused inputs firings given fit says (refusal.NotEnabled i) is = record { firings = firings; given = says; on = record { inputs = inputs; given = given; fit = fit; holds = is } }
   replay_refused inputs firings given fit says (refusal.Limit n) is = absurd is
   replay_refused inputs firings given fit says refusal.Stuck is = record { firings = firings; given = says; on = record { inputs = inputs; given = given; fit = fit; holds = is } }
-  replay_refused inputs firings given fit says (refusal.Stray name) is = record { firings = firings; given = says; on = record { inputs = inputs; given = given; fit = fit; holds = is } }
+  replay_refused inputs firings given fit says (refusal.Stray array name) is = record { firings = firings; given = says; on = record { inputs = inputs; given = given; fit = fit; holds = is } }
   replay_refused inputs firings given fit says refusal.Memory is = tt

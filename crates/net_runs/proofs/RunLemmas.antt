@@ -85,7 +85,7 @@ module _ (completion : Completion) (runs : CyclesAreRuns) (net : Net) (inputs : 
   refused (refusal.NotEnabled i) is = absurd is
   refused (refusal.Limit n) is = absurd is
   refused refusal.Stuck is = record { firings = joined timed.cycles; state = state_of run.state; one = one; within = within; holds = is }
-  refused (refusal.Stray name) is = record { firings = joined timed.cycles; state = state_of run.state; one = one; within = within; holds = is }
+  refused (refusal.Stray array name) is = record { firings = joined timed.cycles; state = state_of run.state; one = one; within = within; holds = is }
   refused refusal.Memory is = tt
 
 pub limited : CutsAreLong → (net : Net) (inputs : Inputs) (limit : ℕ) (e : RunFault) (n : ℕ) → e ≡ fault.Limit n → IsTimingFault net inputs limit e
@@ -101,7 +101,7 @@ inputs_refused net bytes o (refusal.Schedule r) is = absurd is
 inputs_refused net bytes o (refusal.NotEnabled i) is = absurd is
 inputs_refused net bytes o (refusal.Limit n) is = absurd is
 inputs_refused net bytes o refusal.Stuck is = absurd is
-inputs_refused net bytes o (refusal.Stray name) is = absurd is
+inputs_refused net bytes o (refusal.Stray array name) is = absurd is
 inputs_refused net bytes o refusal.Memory is = tt
 
 pub run_refused : (net : Net) (bytes : Bytes) (inputs : Inputs) (o : RunOptions) (r : RunRefusal) → Gives net bytes inputs → InputsFit net inputs
@@ -111,5 +111,5 @@ run_refused net bytes inputs o (refusal.Schedule r) given fit is = absurd is
 run_refused net bytes inputs o (refusal.NotEnabled i) given fit is = absurd is
 run_refused net bytes inputs o (refusal.Limit n) given fit is = (is.0, record { inputs = inputs; given = given; fit = fit; holds = is.1 })
 run_refused net bytes inputs o refusal.Stuck given fit is = record { inputs = inputs; given = given; fit = fit; holds = is }
-run_refused net bytes inputs o (refusal.Stray name) given fit is = record { inputs = inputs; given = given; fit = fit; holds = is }
+run_refused net bytes inputs o (refusal.Stray array name) given fit is = record { inputs = inputs; given = given; fit = fit; holds = is }
 run_refused net bytes inputs o refusal.Memory given fit is = tt

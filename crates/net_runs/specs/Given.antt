@@ -43,7 +43,7 @@ IsInputsFault net bytes (refusal.Schedule r) = ⊥
 IsInputsFault net bytes (refusal.NotEnabled i) = ⊥
 IsInputsFault net bytes (refusal.Limit n) = ⊥
 IsInputsFault net bytes refusal.Stuck = ⊥
-IsInputsFault net bytes (refusal.Stray name) = ⊥
+IsInputsFault net bytes (refusal.Stray array name) = ⊥
 IsInputsFault net bytes refusal.Memory = Unit {0}
 
 -- a refusal of a schedule, or want of memory
@@ -53,5 +53,5 @@ IsScheduleFault bytes (refusal.Schedule r) = IsNoSchedule bytes r
 IsScheduleFault bytes (refusal.NotEnabled i) = ⊥
 IsScheduleFault bytes (refusal.Limit n) = ⊥
 IsScheduleFault bytes refusal.Stuck = ⊥
-IsScheduleFault bytes (refusal.Stray name) = ⊥
+IsScheduleFault bytes (refusal.Stray array name) = ⊥
 IsScheduleFault bytes refusal.Memory = Unit {0}

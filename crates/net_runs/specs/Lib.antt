@@ -1,4 +1,5 @@
 pub mod Given
+pub mod Refusals
 pub mod Results
 pub mod Runs
 pub mod Replays

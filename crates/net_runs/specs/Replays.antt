@@ -1,5 +1,5 @@
 -- What the replay of a schedule answers.
-use Rattle.std.specs.Prelude.{◌≡◌, ◌++◌, ◌∷◌, [], ◌⊎◌, List, codes, Result, Ok, Err}
+use Rattle.std.specs.Prelude.{◌≡◌, ℕ, ◌++◌, ◌∷◌, [], ◌⊎◌, List, codes, Result, Ok, Err}
 use Rattle.net_types.specs.declared.net.Net.{Net}
 use Rattle.net_types.specs.declared.firing.Firing.{Firing}
 use Rattle.net_types.specs.declared.firing.Inputs.{Inputs}
@@ -34,8 +34,8 @@ ReplaysTo net firings text inputs = RestsSo net inputs firings (λ s. AreResults
 abbrev pub SticksAfter : Net → List Firing → Inputs → Type 0
 SticksAfter net firings inputs = RestsSo net inputs firings (λ s. HasExited net s → ⊥)
 
-abbrev pub StraysAfter : Net → List Firing → Bytes → Inputs → Type 0
-StraysAfter net firings name inputs = RestsSo net inputs firings (λ s. IsStrayIn net s name)
+abbrev pub StraysAfter : Net → List Firing → ℕ → Bytes → Inputs → Type 0
+StraysAfter net firings array name inputs = RestsSo net inputs firings (λ s. IsStrayIn net s array name)
 
 -- why a replay of these firings has no text, or want of memory
 abbrev pub IsReplayFault : Net → Inputs → List Firing → RunRefusal → Type 0
@@ -44,7 +44,7 @@ IsReplayFault net inputs firings (refusal.Schedule r) = ⊥
 IsReplayFault net inputs firings (refusal.NotEnabled i) = FailsAt net (opening net inputs) firings i
 IsReplayFault net inputs firings (refusal.Limit n) = ⊥
 IsReplayFault net inputs firings refusal.Stuck = SticksAfter net firings inputs
-IsReplayFault net inputs firings (refusal.Stray name) = StraysAfter net firings name inputs
+IsReplayFault net inputs firings (refusal.Stray array name) = StraysAfter net firings array name inputs
 IsReplayFault net inputs firings refusal.Memory = Unit {0}
 
 -- the bytes are the schedule of firings, of which, with the inputs, that holds
@@ -61,5 +61,5 @@ Replays net bytes schedule (Err (refusal.Schedule r)) = On net bytes (λ inputs.
 Replays net bytes schedule (Err (refusal.NotEnabled i)) = By net bytes schedule (λ firings inputs. FailsAt net (opening net inputs) firings i)
 Replays net bytes schedule (Err (refusal.Limit n)) = ⊥
 Replays net bytes schedule (Err refusal.Stuck) = By net bytes schedule (SticksAfter net)
-Replays net bytes schedule (Err (refusal.Stray name)) = By net bytes schedule (λ firings. StraysAfter net firings name)
+Replays net bytes schedule (Err (refusal.Stray array name)) = By net bytes schedule (λ firings. StraysAfter net firings array name)
 Replays net bytes schedule (Err refusal.Memory) = Unit {0}

@@ -32,10 +32,9 @@ pub record AreResultsOf (net : Net) (s : State) (text : List ℕ) : Type 0 where
   pub clean : HasNoStrays net s
   pub shown : IsTextOf net s text
 
--- the exit has fired, and the first array of the header with strays has this name
-pub record IsStrayIn (net : Net) (s : State) (name : List ℕ) : Type 0 where
+-- the exit has fired, and this is the first array of the header with strays, which has this name
+pub record IsStrayIn (net : Net) (s : State) (array : ℕ) (name : List ℕ) : Type 0 where
   pub exited : HasExited net s
-  pub array : ℕ
   pub first : IsFirstStray net s array
   pub named : name ≡ get_or (map (λ (a : Array). a.name) net.arrays) array []
 
@@ -46,7 +45,7 @@ IsRestFault net s (refusal.Schedule r) = ⊥
 IsRestFault net s (refusal.NotEnabled i) = ⊥
 IsRestFault net s (refusal.Limit n) = ⊥
 IsRestFault net s refusal.Stuck = HasExited net s → ⊥
-IsRestFault net s (refusal.Stray name) = IsStrayIn net s name
+IsRestFault net s (refusal.Stray array name) = IsStrayIn net s array name
 IsRestFault net s refusal.Memory = Unit {0}
 
 -- ---- after the results

@@ -55,9 +55,9 @@ RunsTo net o text inputs = RestsWithin net inputs o.limit (λ firings s. TellsCy
 abbrev pub Sticks : Net → RunOptions → Inputs → Type 0
 Sticks net o inputs = RestsWithin net inputs o.limit (λ firings s. HasExited net s → ⊥)
 
--- the run ends at rest, the exit has fired, and the first array of the header with strays has this name
-abbrev pub Strays : Net → RunOptions → Bytes → Inputs → Type 0
-Strays net o name inputs = RestsWithin net inputs o.limit (λ firings s. IsStrayIn net s name)
+-- the run ends at rest, the exit has fired, and this is the first array of the header with strays, which has this name
+abbrev pub Strays : Net → RunOptions → ℕ → Bytes → Inputs → Type 0
+Strays net o array name inputs = RestsWithin net inputs o.limit (λ firings s. IsStrayIn net s array name)
 
 -- why a run on these inputs has no text, or want of memory
 abbrev pub IsRunFault : Net → Inputs → RunOptions → RunRefusal → Type 0
@@ -66,7 +66,7 @@ IsRunFault net inputs o (refusal.Schedule r) = ⊥
 IsRunFault net inputs o (refusal.NotEnabled i) = ⊥
 IsRunFault net inputs o (refusal.Limit n) = (n ≡ o.limit) × Long net inputs n
 IsRunFault net inputs o refusal.Stuck = Sticks net o inputs
-IsRunFault net inputs o (refusal.Stray name) = Strays net o name inputs
+IsRunFault net inputs o (refusal.Stray array name) = Strays net o array name inputs
 IsRunFault net inputs o refusal.Memory = Unit {0}
 
 -- what a run answers for the bytes of an inputs text; want of memory says nothing
@@ -77,5 +77,5 @@ Runs net bytes o (Err (refusal.Schedule r)) = ⊥
 Runs net bytes o (Err (refusal.NotEnabled i)) = ⊥
 Runs net bytes o (Err (refusal.Limit n)) = (n ≡ o.limit) × On net bytes (λ inputs. Long net inputs n)
 Runs net bytes o (Err refusal.Stuck) = On net bytes (Sticks net o)
-Runs net bytes o (Err (refusal.Stray name)) = On net bytes (Strays net o name)
+Runs net bytes o (Err (refusal.Stray array name)) = On net bytes (Strays net o array name)
 Runs net bytes o (Err refusal.Memory) = Unit {0}

@@ -1,6 +1,11 @@
-use el_base::{Memory, Name};
+ghost use Rattle.std.specs.Prelude.{◌≡◌};
+ghost use Rattle.net_runs.specs.Refusals.{run_refusal_number, run_refusal_word};
+
+use el_base::{Label, Memory, Name};
 use inputs_text::InputRefusal;
-use net_replay::ScheduleRefusal;
+use net_replay::{ReplayFault, RunFault, ScheduleRefusal};
+use std::error::Error;
+use std::fmt;
 
 /// Why a run of a checked net has no text.
 #[derive(Debug, Drop)]
@@ -15,14 +20,64 @@ pub enum RunRefusal {
     Limit { limit: u64 },
     /// At rest the exit has not fired.
     Stuck,
-    /// At rest the exit has fired, and an address lay past the array of this name, the first such of the header.
-    Stray { name: Name },
+    /// At rest the exit has fired, and an address lay past this array, the first such of the header, of this name.
+    Stray { array: u32, name: Name },
     /// Memory ran out.
     Memory,
 }
 
+impl RunRefusal {
+    /// The number by which it is printed: 50 to 55 of inputs, 60 of a schedule, 61 of a replay and 70 to 72 of a run; none for
+    /// want of memory.
+    pub fn number(&self) -> Option<u32>
+        ensures { result ≡ run_refusal_number self.now }
+    {
+        match self {
+            RunRefusal::Inputs(refused) => refused.number(),
+            RunRefusal::Schedule(refused) => refused.number(),
+            RunRefusal::NotEnabled { index } => ReplayFault::NotEnabled { index: *index }.number(),
+            RunRefusal::Limit { limit } => RunFault::Limit { limit: *limit }.number(),
+            RunRefusal::Stuck => RunFault::Stuck.number(),
+            RunRefusal::Stray { array, .. } => RunFault::Stray { array: *array }.number(),
+            RunRefusal::Memory => None,
+        }
+    }
+
+    /// The word by which it is printed.
+    pub fn word(&self) -> &'static str
+        ensures { result.now ≡ run_refusal_word self.now }
+    {
+        match self {
+            RunRefusal::Inputs(refused) => refused.word(),
+            RunRefusal::Schedule(refused) => refused.word(),
+            RunRefusal::NotEnabled { index } => ReplayFault::NotEnabled { index: *index }.word(),
+            RunRefusal::Limit { limit } => RunFault::Limit { limit: *limit }.word(),
+            RunRefusal::Stuck => RunFault::Stuck.word(),
+            RunRefusal::Stray { array, .. } => RunFault::Stray { array: *array }.word(),
+            RunRefusal::Memory => "Memory",
+        }
+    }
+}
+
+/// The number and the word, as `70 Limit`.
+impl fmt::Display for RunRefusal {
+    ghost use Rattle.std.specs.Prelude.{Some};
+    ghost use Rattle.net_runs.specs.Refusals.{run_refusal_text};
+
+    ghost output = { λ refusal. Some (run_refusal_text refusal) };
+
+    fn fmt<W: fmt::Write>(&self, f: &mut fmt::Formatter<W>) -> fmt::Result {
+        let label = Label {
+            number: self.number(),
+            word: self.word(),
+        };
+        write!(f, "{label}")
+    }
+}
+
+impl Error for RunRefusal {}
+
 impl From<Memory> for RunRefusal {
-    ghost use Rattle.std.specs.Prelude.{◌≡◌};
     ghost use Rattle.net_runs.specs.declared.refusal.RunRefusal.TheVariants as refusal;
 
     ghost from_gives = { λ _ e. e ≡ refusal.Memory };

@@ -134,7 +134,7 @@ fn stray(net: &Checked, state: &State, array: u32) -> RunRefusal
 {
     let _ = state;
     match net.net().arrays.as_slice()[array as usize].name.copy() {
-        Ok(name) => RunRefusal::Stray { name },
+        Ok(name) => RunRefusal::Stray { array, name },
         Err(Memory) => RunRefusal::Memory,
     }
 }

@@ -1,11 +1,13 @@
 use Rattle.std.proofs.Common.{subst}
-use Rattle.std.specs.Prelude.{IfOk, IfErr, Ok}
+use Rattle.std.specs.Prelude.{IfOk, IfErr, Ok, Err}
 use Rattle.net_runs.specs.Runs.{Runs}
 use Rattle.net_runs.specs.Replays.{Replays}
 use Rattle.kernel_ref.specs.Answers.{Interprets}
 use Rattle.kernel_runs.specs.Circuits.{Compiles}
 use Rattle.kernel_runs.specs.Goes.{Goes}
-use Rattle.elastic_top.specs.Answers.{CompilesKernel, GoesKernel, InterpretsKernel, OfKernel, OfNet, Refuses, ReplaysNet, RunsNet}
+use Rattle.command_words.specs.Commands.{word_texts}
+use Rattle.elastic_top.specs.Answers.{CompilesKernel, GoesKernel, InterpretsKernel, OfKernel, OfNet, ReplaysNet, RunsNet, at}
+use Rattle.elastic_top.specs.Reading.{contents_of}
 use Rattle.elastic_top.specs.Options.{circuit_of, interpretation_of, options_of}
 use Rattle.elastic_top.proofs.AnswerLemmas.{bytes_of_one, bytes_of_two, bytes_of_three, of_one, of_two, of_three}
 use Rattle.elastic_top.proofs.answer.answer.Goals as goal
@@ -20,9 +22,10 @@ returns-in-Compile-clause-ok c =
 pub returns-in-Compile-clause-err : goal.returns-in-Compile-clause-err
 returns-in-Compile-clause-err c =
     rw c.in-Compile.is
-    (of_one (λ v a. IfErr c.compile.result (Refuses (CompilesKernel v (circuit_of c.args.command.now.chosen) a))) c.args.command.now.plain.items c.args.contents.now _ _
-    (rw c.in-Compile.is at c.requires.plain) (rw c.in-Compile.is at c.requires.count) c.index-contents-0.is
-    (rw (c.as_slice-words.ensures.value, c.as_slice.ensures.value, c.circuit_of.ensures.value) at c.compile.ensures.err))
+    (subst (λ o. IfErr c.compile.result (λ refusal. CompilesKernel (at (word_texts c.args.command.now.plain.items) 0) o (at (contents_of c.args.contents.now) 0) (Err refusal))) c.circuit_of.ensures.value
+    (of_one (λ v a. IfErr c.compile.result (λ refusal. CompilesKernel v c.circuit_of.result a (Err refusal))) c.args.command.now.plain.items _ c.args.contents.now _ _ _
+    c.as_slice-words.ensures.value c.as_slice.ensures.value
+    (rw c.in-Compile.is at c.requires.plain) (rw c.in-Compile.is at c.requires.count) c.index-contents-0.is c.compile.ensures.err))
 
 pub returns-in-Go-clause-ok : goal.returns-in-Go-clause-ok
 returns-in-Go-clause-ok c =
@@ -34,16 +37,19 @@ returns-in-Go-clause-ok c =
 pub returns-in-Go-clause-err : goal.returns-in-Go-clause-err
 returns-in-Go-clause-err c =
     rw c.in-Go.is
-    (of_two (λ v w a b. IfErr c.go.result (Refuses (GoesKernel v w (circuit_of c.args.command.now.chosen) (options_of c.args.command.now.chosen) a b))) c.args.command.now.plain.items c.args.contents.now _ _ _ _
-    (rw c.in-Go.is at c.requires.plain) (rw c.in-Go.is at c.requires.count) c.index-contents-0-in-Go.is c.index-contents-1.is
-    (rw (c.as_slice-words.ensures.value, c.as_slice-in-Go.ensures.value, c.as_slice-in-Go-2.ensures.value, c.circuit_of-in-Go.ensures.value, c.options_of.ensures) at c.go.ensures.err))
+    (subst (λ o. IfErr c.go.result (λ refusal. GoesKernel (at (word_texts c.args.command.now.plain.items) 0) (at (word_texts c.args.command.now.plain.items) 1) (circuit_of c.args.command.now.chosen) o (at (contents_of c.args.contents.now) 0) (at (contents_of c.args.contents.now) 1) (Err refusal))) c.options_of.ensures
+    (subst (λ o. IfErr c.go.result (λ refusal. GoesKernel (at (word_texts c.args.command.now.plain.items) 0) (at (word_texts c.args.command.now.plain.items) 1) o c.options_of.result (at (contents_of c.args.contents.now) 0) (at (contents_of c.args.contents.now) 1) (Err refusal))) c.circuit_of-in-Go.ensures.value
+    (of_two (λ v w a b. IfErr c.go.result (λ refusal. GoesKernel v w c.circuit_of-in-Go.result c.options_of.result a b (Err refusal))) c.args.command.now.plain.items _ c.args.contents.now _ _ _ _ _ _
+    c.as_slice-words.ensures.value c.as_slice-in-Go.ensures.value c.as_slice-in-Go-2.ensures.value
+    (rw c.in-Go.is at c.requires.plain) (rw c.in-Go.is at c.requires.count) c.index-contents-0-in-Go.is c.index-contents-1.is c.go.ensures.err)))
 
 pub returns-in-Run-clause-err : goal.returns-in-Run-clause-err
 returns-in-Run-clause-err c =
     rw c.in-Run.is
-    (of_two (λ v w a b. IfErr c.run.result (Refuses (RunsNet v w (options_of c.args.command.now.chosen) a b))) c.args.command.now.plain.items c.args.contents.now _ _ _ _
-    (rw c.in-Run.is at c.requires.plain) (rw c.in-Run.is at c.requires.count) c.index-contents-0-in-Run.is c.index-contents-1-in-Run.is
-    (rw (c.as_slice-words.ensures.value, c.as_slice-in-Run.ensures.value, c.as_slice-in-Run-2.ensures.value, c.options_of-in-Run.ensures) at c.run.ensures.err))
+    (subst (λ o. IfErr c.run.result (λ refusal. RunsNet (at (word_texts c.args.command.now.plain.items) 0) (at (word_texts c.args.command.now.plain.items) 1) o (at (contents_of c.args.contents.now) 0) (at (contents_of c.args.contents.now) 1) (Err refusal))) c.options_of-in-Run.ensures
+    (of_two (λ v w a b. IfErr c.run.result (λ refusal. RunsNet v w c.options_of-in-Run.result a b (Err refusal))) c.args.command.now.plain.items _ c.args.contents.now _ _ _ _ _ _
+    c.as_slice-words.ensures.value c.as_slice-in-Run.ensures.value c.as_slice-in-Run-2.ensures.value
+    (rw c.in-Run.is at c.requires.plain) (rw c.in-Run.is at c.requires.count) c.index-contents-0-in-Run.is c.index-contents-1-in-Run.is c.run.ensures.err))
 
 pub returns-in-Run-clause-ok : goal.returns-in-Run-clause-ok
 returns-in-Run-clause-ok c =
@@ -67,9 +73,10 @@ returns-in-Replay-clause-ok c =
 pub returns-in-Replay-clause-err : goal.returns-in-Replay-clause-err
 returns-in-Replay-clause-err c =
     rw c.in-Replay.is
-    (of_three (λ u v w a b d. IfErr c.replay.result (Refuses (ReplaysNet u v w a b d))) c.args.command.now.plain.items c.args.contents.now _ _ _ _ _ _
+    (of_three (λ u v w a b d. IfErr c.replay.result (λ refusal. ReplaysNet u v w a b d (Err refusal))) c.args.command.now.plain.items _ c.args.contents.now _ _ _ _ _ _ _ _ _
+    c.as_slice-words.ensures.value c.as_slice-in-Replay.ensures.value c.as_slice-in-Replay-2.ensures.value c.as_slice-in-Replay-3.ensures.value
     (rw c.in-Replay.is at c.requires.plain) (rw c.in-Replay.is at c.requires.count) c.index-contents-0-in-Replay.is c.index-contents-1-in-Replay.is c.index-contents-2.is
-    (rw (c.as_slice-words.ensures.value, c.as_slice-in-Replay.ensures.value, c.as_slice-in-Replay-2.ensures.value, c.as_slice-in-Replay-3.ensures.value) at c.replay.ensures.err))
+    c.replay.ensures.err)
 
 pub returns-in-Ref-clause-ok : goal.returns-in-Ref-clause-ok
 returns-in-Ref-clause-ok c =
@@ -83,6 +90,7 @@ returns-in-Ref-clause-ok c =
 pub returns-in-Ref-clause-err : goal.returns-in-Ref-clause-err
 returns-in-Ref-clause-err c =
     rw c.in-Ref.is
-    (of_two (λ v w a b. IfErr c.interpret.result (Refuses (InterpretsKernel v w (interpretation_of c.args.command.now.chosen) a b))) c.args.command.now.plain.items c.args.contents.now _ _ _ _
-    (rw c.in-Ref.is at c.requires.plain) (rw c.in-Ref.is at c.requires.count) c.index-contents-0-in-Ref.is c.index-contents-1-in-Ref.is
-    (rw (c.as_slice-words.ensures.value, c.as_slice-in-Ref.ensures.value, c.as_slice-in-Ref-2.ensures.value, c.interpretation_of.ensures) at c.interpret.ensures.err))
+    (subst (λ o. IfErr c.interpret.result (λ refusal. InterpretsKernel (at (word_texts c.args.command.now.plain.items) 0) (at (word_texts c.args.command.now.plain.items) 1) o (at (contents_of c.args.contents.now) 0) (at (contents_of c.args.contents.now) 1) (Err refusal))) c.interpretation_of.ensures
+    (of_two (λ v w a b. IfErr c.interpret.result (λ refusal. InterpretsKernel v w c.interpretation_of.result a b (Err refusal))) c.args.command.now.plain.items _ c.args.contents.now _ _ _ _ _ _
+    c.as_slice-words.ensures.value c.as_slice-in-Ref.ensures.value c.as_slice-in-Ref-2.ensures.value
+    (rw c.in-Ref.is at c.requires.plain) (rw c.in-Ref.is at c.requires.count) c.index-contents-0-in-Ref.is c.index-contents-1-in-Ref.is c.interpret.ensures.err))

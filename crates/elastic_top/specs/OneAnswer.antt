@@ -1,0 +1,69 @@
+-- That a call of `compile` and one of `go` print one thing, whatever is asked of signed results, and that both print one net.
+use Rattle.std.specs.Prelude.{◌≡◌, ◌⊎◌, ◌↔◌, ℕ, Bool, List, Result, Ok, Err}
+use Rattle.net_types.specs.declared.net.Net.{Net}
+use Rattle.net_types.specs.declared.firing.Inputs.{Inputs}
+use Rattle.net_core.specs.Runs.{Long}
+use Rattle.net_text.specs.Refusals.{Says as SaysNet}
+use Rattle.net_runs.specs.Given.{Gives}
+use Rattle.kernel_runs.specs.OneAnswer.{AsksForNoCycles, GoesOnFrom}
+use Rattle.command_words.specs.declared.verb.Verb.TheVariants.{Compile, Go}
+use Rattle.command_words.specs.Tables.{Text}
+use Rattle.command_words.specs.Commands.{Asked}
+use Rattle.elastic_top.specs.Answers.{Answers, at}
+use Rattle.elastic_top.specs.Faults.{refusal_code, refusal_parts}
+use Rattle.elastic_top.specs.Options.{circuit_of, options_of, limit_or}
+use Rattle.elastic_top.specs.declared.fault.Refusal.{Refusal}
+
+-- ---- one call
+
+-- two answers print the same: one text, or one line with one status
+abbrev pub PrintTheSame : Result Text Refusal → Result Text Refusal → Type 0
+PrintTheSame (Ok s) (Ok t) = s ≡ t
+PrintTheSame (Ok s) (Err q) = ⊥
+PrintTheSame (Err r) (Ok t) = ⊥
+PrintTheSame (Err r) (Err q) = (refusal_code r ≡ refusal_code q) × (refusal_parts r ≡ refusal_parts q)
+
+-- all answers of a call of `compile` for the same contents of its file print the same
+abbrev pub CompilesPrintOnce : Type 0
+CompilesPrintOnce = (c : Asked) (contents : List Text) (a b : Result Text Refusal) → c.verb ≡ Compile → Answers c contents a → Answers c contents b → PrintTheSame a b
+
+-- and so do all of a call of `go` that counts no cycles
+abbrev pub GoesPrintOnce : Type 0
+GoesPrintOnce = (c : Asked) (contents : List Text) (a b : Result Text Refusal) → c.verb ≡ Go → AsksForNoCycles (options_of c.chosen) → Answers c contents a → Answers c contents b
+    → PrintTheSame a b
+
+-- ---- signed results out of range
+
+-- the same call, with `--wrap` or without
+abbrev pub with_wrap : Asked → Bool → Asked
+with_wrap c wrap = record c { chosen = record c.chosen { wrap = wrap } }
+
+-- `--wrap` changes no answer of `compile` and `go`
+abbrev pub WrapChangesNothing : Type 0
+WrapChangesNothing = (c : Asked) (contents : List Text) (a : Result Text Refusal) (wrap : Bool) → (c.verb ≡ Compile) ⊎ (c.verb ≡ Go) → Answers c contents a
+    → Answers (with_wrap c wrap) contents a
+
+-- ---- two calls on one kernel
+
+-- the first is of `compile` and has the text, the second is of `go`; both are for the same kernel, with the same slots, delays and marks
+pub record CompilesFor (text : Text) (c : Asked) (compiled : List Text) (d : Asked) (contents : List Text) : Type 0 where
+  pub compiles : c.verb ≡ Compile
+  pub goes : d.verb ≡ Go
+  pub kernel : at compiled 0 ≡ at contents 0
+  pub circuit : circuit_of c.chosen ≡ circuit_of d.chosen
+  pub answer : Answers c compiled (Ok text)
+
+-- then a text of the second is that of the first, a line `%%` and the text of a run of the net that is read from the first
+abbrev pub OneNetIsShown : Type 0
+OneNetIsShown = (c d : Asked) (compiled contents : List Text) (text gone : Text) → CompilesFor text c compiled d contents → Answers d contents (Ok gone)
+    → GoesOnFrom text gone (at contents 1) (options_of d.chosen)
+
+-- the status of an answer
+abbrev pub answer_code : Result Text Refusal → ℕ
+answer_code (Ok text) = 0
+answer_code (Err refusal) = refusal_code refusal
+
+-- and the status of the second is 8 exactly where that net has runs of more firings than the limit on the inputs that its file gives
+abbrev pub StatusEightIsLong : Type 0
+StatusEightIsLong = (c d : Asked) (compiled contents : List Text) (text : Text) (net : Net) (inputs : Inputs) (a : Result Text Refusal) → CompilesFor text c compiled d contents
+    → SaysNet text (Ok net) → Gives net (at contents 1) inputs → Answers d contents a → (answer_code a ≡ 8) ↔ Long net inputs (limit_or d.chosen.limit)

@@ -1,0 +1,288 @@
+-- What holds the firings of an idle sweep back.
+use Rattle.std.proofs.Common.{◌≡◌, ◌≢◌, ◌⊎◌, inl, inr, ℕ, suc, ◌+◌, ◌^◌, ◌<◌, ◌≤◌, max, min, Option, Some, None, IsSome, IsSomeAnd, List, [], ◌∷◌, length, get_or, refl, ap, ◌∙◌, sym, subst, arith}
+use Rattle.std.proofs.lemmas.Bool.{cases_lt, cases_eq}
+use Rattle.elastic_link.specs.declared.message.Token.{Token}
+use Rattle.elastic_link.specs.declared.put_end.PutEnd.{PutEnd}
+use Rattle.elastic_link.specs.declared.take_end.TakeEnd.{TakeEnd}
+use Rattle.elastic_link.specs.Held.{tokens_of}
+use Rattle.elastic_link.specs.Ends.{token_held}
+use Rattle.net_types.specs.declared.net.Net.{Net}
+use Rattle.net_types.specs.declared.firing.Firing.{Firing}
+use Rattle.net_types.specs.Nets.{into, out_of, chan_at, kind_of, uses}
+use Rattle.net_check.specs.Checks.{IsChecked}
+use Rattle.net_core.specs.declared.plan.Put.{Put}
+use Rattle.net_core.specs.Fire.{State, Row, Stop, Look, Take, Fires, Effect, row, idle, at_array, setting, head_at, tokens_at, first, effect, effect_of, with_head, taking, has_room, enabled}
+use Rattle.net_core.specs.States.{state_of}
+use Rattle.net_core.specs.Uses.{used}
+use Rattle.net_worker.specs.Local.{values}
+use Rattle.net_worker.specs.Asking.{PutAsked, TakeAsked, PutsAsked, TakesAsked, IsAsked}
+use Rattle.net_worker.specs.Glances.{NoTokenAt, HoldsNone, IsLooked, IsSeen}
+use Rattle.net_worker.specs.Going.{base_of, IsRefused, IsAllHeld}
+use Rattle.net_worker.specs.Offers.{greatest_in, held_stamp, ToldAt, ToldFor, NoCreditAt, NoSlotAt, IsNotOffered}
+use Rattle.net_worker.specs.Offers as refusal
+use Rattle.net_worker.specs.Plays.{putter, taker}
+use Rattle.net_worker.specs.Sweeps.{asked, waits_at, waits, IsHeldBack, AllHeldBack}
+use Rattle.net_worker.specs.Sweeps as cause
+use Rattle.net_worker.specs.Workers.{owner_in, IsMadeOf, IsWhole, IsInto, IsOutOf, put_end, take_end, held_by}
+use Rattle.net_worker.specs.declared.tables.Tables.{Tables}
+use Rattle.net_worker.specs.declared.worker.Worker.{Worker}
+use Rattle.net_worker.proofs.Asking.{asked_trans, asked_made, puts_asked_trans, held_asked, prefix_trans, none_some}
+use Rattle.net_worker.proofs.Assembly.{room_held}
+use Rattle.net_worker.proofs.Glancing.{asked_looked, looked_same, looked_trans, same_whole}
+
+-- ---- rows without a head
+
+asked_none : (o : Option ℕ) (q p : ℕ) (next : ℕ → Option ℕ) (h : ℕ → Option ℕ) → h q ≡ o → ((v : ℕ) → next v ≡ Some p → h p ≡ None) → asked o q next ≡ Some p → h p ≡ None
+asked_none None q p next h is f k = (let z : q ≡ p = cc in ap h (sym z) ∙ is)
+asked_none (Some v) q p next h is f k = f v k
+
+waits_none : (r : Row) (h : ℕ → Option ℕ) (p : ℕ) → waits_at r h ≡ Some p → h p ≡ None
+waits_none Stop h p w = cc
+waits_none (Look q next) h p w = asked_none (h q) q p (λ v. waits_at (next v) h) h refl (λ v k. waits_none (next v) h p k) w
+waits_none (Take q next) h p w = asked_none (h q) q p (λ v. waits_at (next v) h) h refl (λ v k. waits_none (next v) h p k) w
+waits_none (Fires put own array strays) h p w = cc
+
+asked_effect : (o : Option ℕ) (q p : ℕ) (next : ℕ → Option ℕ) (does : ℕ → Option Effect) → ((v : ℕ) → next v ≡ Some p → does v ≡ None) → asked o q next ≡ Some p → with_head o does ≡ None
+asked_effect None q p next does f k = refl
+asked_effect (Some v) q p next does f k = f v k
+
+pub waits_effect : (r : Row) (h : ℕ → Option ℕ) (p : ℕ) → waits_at r h ≡ Some p → effect_of r h ≡ None
+waits_effect Stop h p w = cc
+waits_effect (Look q next) h p w = asked_effect (h q) q p (λ v. waits_at (next v) h) (λ v. effect_of (next v) h) (λ v k. waits_effect (next v) h p k) w
+waits_effect (Take q next) h p w = asked_effect (h q) q p (λ v. waits_at (next v) h) (λ v. taking q (effect_of (next v) h)) (λ v k. ap (taking q) (waits_effect (next v) h p k)) w
+waits_effect (Fires put own array strays) h p w = cc
+
+-- ---- ends later
+
+no_credit_since : (z o q : Option PutEnd) → PutAsked z o → NoCreditAt o q → NoCreditAt z q
+no_credit_since None None q h k = absurd k
+no_credit_since None (Some o) q h k = absurd h
+no_credit_since (Some z) None q h k = absurd h
+no_credit_since (Some z) (Some o) None h k = absurd k
+no_credit_since (Some z) (Some o) (Some q) h (ms, a, b, is, rose) = (ms, prefix_trans _ _ ms h.received a, b, is, omega (arith, h.messages_shown))
+
+no_slot_since : (z o q : Option PutEnd) → PutAsked z o → NoSlotAt o q → NoSlotAt z q
+no_slot_since None None q h k = absurd k
+no_slot_since None (Some o) q h k = absurd h
+no_slot_since (Some z) None q h k = absurd h
+no_slot_since (Some z) (Some o) None h k = absurd k
+no_slot_since (Some z) (Some o) (Some q) h k = omega (arith, h.slots_shown)
+
+told_at_since : (z o q : Option PutEnd) (r : ℕ) → PutAsked z o → ToldAt o q r → ToldAt z q r
+told_at_since None None q r h k = k
+told_at_since None (Some o) q r h k = absurd h
+told_at_since (Some z) None q r h k = absurd h
+told_at_since (Some z) (Some o) q r h (ms, a, b, is) = (ms, prefix_trans _ _ ms h.received a, b, is)
+
+told_for_since : (net : Net) (u : ℕ) (put : Option Put) (zs os qs : List (Option PutEnd)) (r : ℕ) → PutsAsked zs os → ToldFor net u put os qs r → ToldFor net u put zs qs r
+told_for_since net u None zs os qs r h k = k
+told_for_since net u (Some w) zs os qs r h k = told_at_since (get_or zs (out_of u w.place net.chans) None) (get_or os (out_of u w.place net.chans) None) (get_or qs (out_of u w.place net.chans) None) r (h.each (out_of u w.place net.chans)) k
+
+no_token_on : (z o q : Option TakeEnd) → TakeAsked o q → NoTokenAt z o → NoTokenAt z q
+no_token_on None o q h k = absurd k
+no_token_on (Some z) None q h k = absurd k
+no_token_on (Some z) (Some o) None h k = absurd h
+no_token_on (Some z) (Some o) (Some q) h k = (k.0, omega (arith, k.1, h.tokens_shown))
+
+held_none_back : (o q : Option TakeEnd) → TakeAsked o q → HoldsNone q → HoldsNone o
+held_none_back None q h k = tt
+held_none_back (Some o) None h k = absurd h
+held_none_back (Some o) (Some q) h k = sym h.held ∙ k
+
+greatest_asked : (net : Net) (es es' : List (Option TakeEnd)) (u : ℕ) (ps : List ℕ) → TakesAsked es es' → greatest_in net es' u ps ≡ greatest_in net es u ps
+greatest_asked net es es' u [] h = refl
+greatest_asked net es es' u (p ∷ ps) h =
+    let x = ap held_stamp (held_asked (get_or es (into u p net.chans) None) (get_or es' (into u p net.chans) None) (h.each (into u p net.chans))) in
+    let y = greatest_asked net es es' u ps h in
+    omega arith
+
+none_held : (o : Option TakeEnd) → first (values (held_by o)) ≡ None → HoldsNone o
+none_held None q = tt
+none_held (Some e) q = by (token_held e) refl q
+  where
+    by : (o : Option Token) → token_held e ≡ o → first (values (tokens_of o)) ≡ None → token_held e ≡ None
+    by None is k = is
+    by (Some x) is k = cc
+
+-- a refused end is one of an output to another worker
+no_credit_end : (o q : Option PutEnd) → NoCreditAt o q → IsSome q
+no_credit_end None q k = absurd k
+no_credit_end (Some p) None k = absurd k
+no_credit_end (Some p) (Some q) k = refl
+
+no_slot_end : (o q : Option PutEnd) → NoSlotAt o q → IsSome q
+no_slot_end None q k = absurd k
+no_slot_end (Some p) None k = absurd k
+no_slot_end (Some p) (Some q) k = refl
+
+pub into_or : (t : Tables) (j c : ℕ) → IsInto t j c ⊎ (IsInto t j c → ⊥)
+into_or t j c = by (cases_lt c (length t.net.chans)) (cases_eq (taker t.net (owner_in t) c) j) (cases_eq (putter t.net (owner_in t) c) j)
+  where
+    by : (c < length t.net.chans) ⊎ (length t.net.chans ≤ c) → (taker t.net (owner_in t) c ≡ j) ⊎ (taker t.net (owner_in t) c ≡ j → ⊥) → (putter t.net (owner_in t) c ≡ j) ⊎ (putter t.net (owner_in t) c ≡ j → ⊥)
+        → IsInto t j c ⊎ (IsInto t j c → ⊥)
+    by (inr l) q r = inr (λ i. absurd (omega (arith, i.0)))
+    by (inl l) (inr n) r = inr (λ i. n i.1)
+    by (inl l) (inl q) (inl r) = inr (λ i. i.2 r)
+    by (inl l) (inl q) (inr n) = inl (l, q, n)
+
+-- ---- an idle sweep
+
+module _ (t : Tables) (a m n b : Worker) (checked : IsChecked t.net) (made : IsMadeOf t a) (whole : IsWhole t a) (now : IsMadeOf t b) (looked : IsLooked a m) (seen : (c : ℕ) → IsInto t a.number c → IsSeen c a m) (first_asked : IsAsked m n) (all : IsAllHeld t n b) where
+  abbrev s : State
+  s = state_of b.state
+
+  since_m : IsAsked m b
+  since_m = asked_trans m n b first_asked all.asked
+
+  puts_n : PutsAsked a.puts.items n.puts.items
+  puts_n = puts_asked_trans a.puts.items m.puts.items n.puts.items looked.puts first_asked.puts
+
+  number_n : n.number ≡ a.number
+  number_n = first_asked.number ∙ looked.number
+
+  number_b : b.number ≡ a.number
+  number_b = since_m.number ∙ looked.number
+
+  state_n : state_of n.state ≡ s
+  state_n = ap state_of (sym all.asked.state)
+
+  whole_b : IsWhole t b
+  whole_b = same_whole t a b (looked_same a b (looked_trans a m b looked (asked_looked m b since_m))) whole
+
+  not_out : (c : ℕ) → put_end b c ≡ None → IsOutOf t a.number c → ⊥
+  not_out c is o = none_some PutEnd (subst IsSome is (whole_b.puts c (subst (λ k. IsOutOf t k c) (sym number_b) o)))
+
+  is_out : (c : ℕ) (o : Option PutEnd) → put_end b c ≡ o → IsSome o → IsOutOf t a.number c
+  is_out c None is k = cc
+  is_out c (Some p) is k = subst (λ i. IsOutOf t i c) number_b (now.puts_out c p is).0
+
+  none_b : (c : ℕ) (o q : Option PutEnd) → o ≡ None → put_end b c ≡ q → PutAsked o q → put_end b c ≡ None
+  none_b c o None e is k = is
+  none_b c None (Some q) e is k = absurd k
+  none_b c (Some p) (Some q) e is k = cc
+
+  no_token : (f : Firing) → owner_in t f.unit ≡ a.number → (p : ℕ) → head_at t.net s f.unit p ≡ None → IsInto t a.number (into f.unit p t.net.chans) → NoTokenAt (take_end a (into f.unit p t.net.chans)) (take_end b (into f.unit p t.net.chans))
+  no_token f mine p h i =
+      let c = into f.unit p t.net.chans in
+      let ib = subst (λ k. IsInto t k c) (sym number_b) i in
+      let q : first (values (held_by (take_end b c))) ≡ None = ap first (sym (now.held c ib) ∙ now.sees.into c ib.1) ∙ h in
+      let z = held_none_back (take_end m c) (take_end b c) (since_m.takes.each c) (none_held (take_end b c) q) in
+      no_token_on (take_end a c) (take_end m c) (take_end b c) (since_m.takes.each c) (seen c i z)
+
+  module _ (f : Firing) (mine : owner_in t f.unit ≡ a.number) where
+    abbrev Cause : Type 0
+    Cause = IsHeldBack t a b f
+
+    base_is : base_of t n f ≡ max b.clock (greatest_in t.net b.takes.items f.unit (used t.net s f))
+    base_is =
+        let x = greatest_asked t.net n.takes.items b.takes.items f.unit (used t.net s f) all.asked.takes in
+        let y : base_of t n f ≡ max n.clock (greatest_in t.net n.takes.items f.unit (used t.net s f)) = ap (λ k. max n.clock (greatest_in t.net n.takes.items f.unit (used t.net k f))) state_n in
+        omega (arith, all.asked.clock)
+
+    of_refusal : (x : Effect) → effect t.net s f ≡ Some x → IsNotOffered t.net s f.unit x.put (base_of t n f) n.puts.items b.puts.items → Cause
+    of_refusal x does (refusal.no_room w is e l) =
+        let c = out_of f.unit w.place t.net.chans in
+        cause.inner_output x w does is (not_out c (none_b c (put_end n c) (put_end b c) e refl (all.asked.puts.each c))) l
+    of_refusal x does (refusal.no_credit w is k) =
+        let c = out_of f.unit w.place t.net.chans in
+        cause.no_credit x w does is (is_out c (put_end b c) refl (no_credit_end (put_end n c) (put_end b c) k)) (no_credit_since (put_end a c) (put_end n c) (put_end b c) (puts_n.each c) k)
+    of_refusal x does (refusal.no_slot w is k) =
+        let c = out_of f.unit w.place t.net.chans in
+        cause.no_slot x w does is (is_out c (put_end b c) refl (no_slot_end (put_end n c) (put_end b c) k)) (no_slot_since (put_end a c) (put_end n c) (put_end b c) (puts_n.each c) k)
+    of_refusal x does (refusal.late r told l) =
+        cause.late x r does (told_for_since t.net f.unit x.put a.puts.items n.puts.items b.puts.items r puts_n told) (omega (arith, base_is))
+
+    of_enabled : (x : Effect) → effect t.net s f ≡ Some x → has_room t.net s f.unit x.put → Cause
+    of_enabled x does room =
+        let e : enabled t.net s f = subst (λ o. IsSomeAnd o (λ y. has_room t.net s f.unit y.put)) (sym does) room in
+        let r = all.refused f (mine ∙ sym number_n) (subst (λ k. enabled t.net k f) (sym state_n) e) x (ap (λ k. effect t.net k f) state_n ∙ does) in
+        of_refusal x does (subst (λ k. IsNotOffered t.net k f.unit x.put (base_of t n f) n.puts.items b.puts.items) state_n r)
+
+    of_effect : (x : Effect) → effect t.net s f ≡ Some x → (o : Option Put) → x.put ≡ o → Cause
+    of_effect x does None is = of_enabled x does (subst (has_room t.net s f.unit) (sym is) tt)
+    of_effect x does (Some w) is = by (put_end b c) refl
+      where
+        c : ℕ
+        c = out_of f.unit w.place t.net.chans
+
+        room : (o : Option PutEnd) → put_end b c ≡ o → Rattle.net_worker.specs.Offers.RoomAt t.net s c o → Cause
+        room o e r = of_enabled x does (room_held t b now checked f.unit (mine ∙ sym number_b) x.put (subst (λ p. Rattle.net_worker.specs.Offers.RoomFor t.net s f.unit p b.puts.items) (sym is) (subst (Rattle.net_worker.specs.Offers.RoomAt t.net s c) (sym e) r)))
+
+        by : (o : Option PutEnd) → put_end b c ≡ o → Cause
+        by (Some p) e = room (Some p) e tt
+        by None e =
+            elim (cases_lt (length (tokens_at s c)) (chan_at t.net c).slots) [
+              | inl l ↦ room None e l
+              | inr l ↦ cause.inner_output x w does is (not_out c e) l
+            ]
+
+    of_waits : effect t.net s f ≡ None → (o : Option ℕ) → waits t.net s f ≡ o → Cause
+    of_waits none None is = cause.stops none is
+    of_waits none (Some p) is =
+        let h = waits_none (row (kind_of t.net f.unit) f.act (get_or s.own f.unit idle) (at_array s.arrays (uses (kind_of t.net f.unit))) (setting t.net s)) (head_at t.net s f.unit) p is in
+        elim (into_or t a.number (into f.unit p t.net.chans)) [
+          | inl i ↦ cause.no_token p is i (no_token f mine p h i)
+          | inr i ↦ cause.inner_input p is i
+        ]
+
+    held_back : (o : Option Effect) → effect t.net s f ≡ o → Cause
+    held_back None is = of_waits is (waits t.net s f) refl
+    held_back (Some x) is = of_effect x is x.put refl
+
+pub all_held_back : (t : Tables) (a m n b : Worker) → IsChecked t.net → IsMadeOf t a → IsWhole t a → IsMadeOf t b → IsLooked a m → ((c : ℕ) → IsInto t a.number c → IsSeen c a m) → IsAsked m n → IsAllHeld t n b → AllHeldBack t a b
+all_held_back t a m n b checked made whole now looked seen first_asked all f mine = held_back t a m n b checked made whole now looked seen first_asked all f mine (effect t.net (state_of b.state) f) refl
+
+-- ---- refusals over more asking
+
+no_credit_on : (o q r : Option PutEnd) → PutAsked q r → NoCreditAt o q → NoCreditAt o r
+no_credit_on None q r h k = absurd k
+no_credit_on (Some o) None r h k = absurd k
+no_credit_on (Some o) (Some q) None h k = absurd h
+no_credit_on (Some o) (Some q) (Some r) h (ms, a, b, is, rose) = (ms, a, prefix_trans ms _ _ b h.received, (let e = ap length h.put in let g = h.same.slots in omega arith), omega (arith, h.messages_shown))
+
+no_slot_on : (o q r : Option PutEnd) → PutAsked q r → NoSlotAt o q → NoSlotAt o r
+no_slot_on None q r h k = absurd k
+no_slot_on (Some o) None r h k = absurd k
+no_slot_on (Some o) (Some q) None h k = absurd h
+no_slot_on (Some o) (Some q) (Some r) h k = omega (arith, h.slots_shown)
+
+told_at_on : (o q r : Option PutEnd) (n : ℕ) → PutAsked q r → ToldAt o q n → ToldAt o r n
+told_at_on None q r n h k = k
+told_at_on (Some o) None None n h k = k
+told_at_on (Some o) None (Some r) n h k = absurd h
+told_at_on (Some o) (Some q) None n h k = absurd h
+told_at_on (Some o) (Some q) (Some r) n h (ms, a, b, is) = (ms, a, prefix_trans ms _ _ b h.received, is)
+
+told_for_on : (net : Net) (u : ℕ) (put : Option Put) (os qs rs : List (Option PutEnd)) (n : ℕ) → PutsAsked qs rs → ToldFor net u put os qs n → ToldFor net u put os rs n
+told_for_on net u None os qs rs n h k = k
+told_for_on net u (Some w) os qs rs n h k = told_at_on (get_or os (out_of u w.place net.chans) None) (get_or qs (out_of u w.place net.chans) None) (get_or rs (out_of u w.place net.chans) None) n (h.each (out_of u w.place net.chans)) k
+
+none_since : (z o : Option PutEnd) → PutAsked z o → o ≡ None → z ≡ None
+none_since None o h k = refl
+none_since (Some z) None h k = absurd h
+none_since (Some z) (Some o) h k = cc
+
+not_offered_on : (net : Net) (s : State) (u : ℕ) (put : Option Put) (above : ℕ) (os qs rs : List (Option PutEnd)) → PutsAsked qs rs → IsNotOffered net s u put above os qs → IsNotOffered net s u put above os rs
+not_offered_on net s u put above os qs rs h (refusal.no_room w is e l) = refusal.no_room w is e l
+not_offered_on net s u put above os qs rs h (refusal.no_credit w is k) = refusal.no_credit w is (no_credit_on (get_or os (out_of u w.place net.chans) None) (get_or qs (out_of u w.place net.chans) None) (get_or rs (out_of u w.place net.chans) None) (h.each (out_of u w.place net.chans)) k)
+not_offered_on net s u put above os qs rs h (refusal.no_slot w is k) = refusal.no_slot w is (no_slot_on (get_or os (out_of u w.place net.chans) None) (get_or qs (out_of u w.place net.chans) None) (get_or rs (out_of u w.place net.chans) None) (h.each (out_of u w.place net.chans)) k)
+not_offered_on net s u put above os qs rs h (refusal.late r told l) = refusal.late r (told_for_on net u put os qs rs r h told) l
+
+not_offered_since : (net : Net) (s : State) (u : ℕ) (put : Option Put) (above : ℕ) (zs os qs : List (Option PutEnd)) → PutsAsked zs os → IsNotOffered net s u put above os qs → IsNotOffered net s u put above zs qs
+not_offered_since net s u put above zs os qs h (refusal.no_room w is e l) = refusal.no_room w is (none_since (get_or zs (out_of u w.place net.chans) None) (get_or os (out_of u w.place net.chans) None) (h.each (out_of u w.place net.chans)) e) l
+not_offered_since net s u put above zs os qs h (refusal.no_credit w is k) = refusal.no_credit w is (no_credit_since (get_or zs (out_of u w.place net.chans) None) (get_or os (out_of u w.place net.chans) None) (get_or qs (out_of u w.place net.chans) None) (h.each (out_of u w.place net.chans)) k)
+not_offered_since net s u put above zs os qs h (refusal.no_slot w is k) = refusal.no_slot w is (no_slot_since (get_or zs (out_of u w.place net.chans) None) (get_or os (out_of u w.place net.chans) None) (get_or qs (out_of u w.place net.chans) None) (h.each (out_of u w.place net.chans)) k)
+not_offered_since net s u put above zs os qs h (refusal.late r told l) = refusal.late r (told_for_since net u put zs os qs r h told) l
+
+pub refused_on : (t : Tables) (a b c : Worker) (f : Firing) → IsAsked b c → IsRefused t a b f → IsRefused t a c f
+refused_on t a b c f h r x q = not_offered_on t.net (state_of a.state) f.unit x.put (base_of t a f) a.puts.items b.puts.items c.puts.items h.puts (r x q)
+
+pub refused_since : (t : Tables) (a b c : Worker) (f : Firing) → IsAsked a b → IsRefused t b c f → IsRefused t a c f
+refused_since t a b c f h r x q =
+    let g = greatest_asked t.net a.takes.items b.takes.items f.unit (used t.net (state_of a.state) f) h.takes in
+    let s : state_of b.state ≡ state_of a.state = ap state_of h.state in
+    let k : base_of t b f ≡ max b.clock (greatest_in t.net b.takes.items f.unit (used t.net (state_of a.state) f)) = ap (λ y. max b.clock (greatest_in t.net b.takes.items f.unit (used t.net y f))) s in
+    let e : base_of t b f ≡ base_of t a f = omega (arith, h.clock) in
+    let old = r x (ap (λ y. effect t.net y f) s ∙ q) in
+    not_offered_since t.net (state_of a.state) f.unit x.put (base_of t a f) a.puts.items b.puts.items c.puts.items h.puts
+    (subst (λ y. IsNotOffered t.net y f.unit x.put (base_of t a f) b.puts.items c.puts.items) s (subst (λ y. IsNotOffered t.net (state_of b.state) f.unit x.put y b.puts.items c.puts.items) e old))

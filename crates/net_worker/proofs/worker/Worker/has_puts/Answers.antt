@@ -1,0 +1,6 @@
+use Rattle.std.proofs.Common.{◌<◌, ◌≤◌, length, arith, refl}
+use Rattle.net_worker.proofs.Givings.{puts_all, puts_lack}
+use Rattle.net_worker.proofs.worker.Worker.has_puts.Goals as goal
+
+pub returns : goal.returns
+returns c = λ t m. (λ _. puts_all t c.args.self.now m (λ k l. c.loop-chan.invariant k (omega arith)), λ _. refl)

@@ -1,0 +1,21 @@
+use Rattle.std.proofs.Common.{◌∙◌, ap, refl, length, replicate, None, arith}
+use Rattle.net_worker.proofs.NewWorkers.{begun_made}
+use Rattle.net_worker.proofs.worker.Worker.new.Goals as goal
+
+pub returns-clause-made : goal.returns-clause-made
+returns-clause-made c =
+    let n = c.len-chans.ensures ∙ ap (λ x. length x.chans) c.net.ensures.net in
+    begun_made c.args.tables.now _ (record {
+      of = c.in_ok-state.ensures.of;
+      state = c.in_ok-state.ensures.state;
+      counts = c.in_ok-state.ensures.counts;
+      log = c.in_ok-log.ensures.items;
+      room = c.in_ok-log.ensures.room;
+      clock = refl;
+      puts = c.in_ok-puts.ensures ∙ ap (λ k. replicate k None) n;
+      takes = c.in_ok-takes.ensures ∙ ap (λ k. replicate k None) n;
+      outs = c.in_ok-outs.ensures.all;
+      outs_only = c.in_ok-outs.ensures.only;
+      ins = c.in_ok-ins.ensures.all;
+      ins_only = c.in_ok-ins.ensures.only;
+    })

@@ -1,0 +1,40 @@
+use Rattle.std.proofs.Common.{◌≡◌, Bool, true, false, ℕ, refl, arith}
+use Rattle.net_worker.proofs.Exact.{swept_self}
+use Rattle.net_worker.proofs.Firing.{later_self}
+use Rattle.net_worker.proofs.worker.Worker.sweep.Goals as goal
+
+pub returns-then-exited-clause-stamps : goal.returns-then-exited-clause-stamps
+returns-then-exited-clause-stamps c = swept_self c.args.tables.now c.args.self.now c.requires.made
+
+pub returns-then-is_full-clause-stamps : goal.returns-then-is_full-clause-stamps
+returns-then-is_full-clause-stamps c = swept_self c.args.tables.now c.args.self.now c.requires.made
+
+pub returns-then-exited-2-clause-same : goal.returns-then-exited-2-clause-same
+returns-then-exited-2-clause-same c = (c.go-fired.ensures.later c.args.self.now (later_self c.args.tables.now c.args.self.now c.requires.made)).same
+
+pub returns-then-exited-2-clause-stamps : goal.returns-then-exited-2-clause-stamps
+returns-then-exited-2-clause-stamps c = (c.go-fired.ensures.later c.args.self.now (later_self c.args.tables.now c.args.self.now c.requires.made)).exact
+
+pub returns-then-fired-eq0-clause-same : goal.returns-then-fired-eq0-clause-same
+returns-then-fired-eq0-clause-same c = (c.go-fired.ensures.later c.args.self.now (later_self c.args.tables.now c.args.self.now c.requires.made)).same
+
+pub returns-then-fired-eq0-clause-stamps : goal.returns-then-fired-eq0-clause-stamps
+returns-then-fired-eq0-clause-stamps c = (c.go-fired.ensures.later c.args.self.now (later_self c.args.tables.now c.args.self.now c.requires.made)).exact
+
+pub returns-clause-same : goal.returns-clause-same
+returns-clause-same c = (c.go-fired.ensures.later c.args.self.now (later_self c.args.tables.now c.args.self.now c.requires.made)).same
+
+pub returns-clause-stamps : goal.returns-clause-stamps
+returns-clause-stamps c = (c.go-fired.ensures.later c.args.self.now (later_self c.args.tables.now c.args.self.now c.requires.made)).exact
+
+not_both : (b : Bool) → b ≡ true → b ≡ false → ⊥
+not_both b p q = cc
+
+pub returns-then-fired-eq0-clause-answer : goal.returns-then-fired-eq0-clause-answer
+returns-then-fired-eq0-clause-answer c =
+    let x : c.go-fired.result ≡ 0 = omega arith in (
+      c.go-fired.ensures.none x,
+      c.go-fired.ensures.held x,
+      λ e. not_both c.exited-2.result ((c.exited-2.ensures c.args.tables.now.net c.go-fired.ensures.made.of).1 e) c.if-exited-2.false,
+      λ f. not_both c.is_full.result (c.is_full.ensures.1 f) c.if-is_full.false,
+    )

@@ -1,0 +1,115 @@
+//! A worker looks at the channels from other workers.
+ghost use Rattle.std.specs.Prelude.{◌≡◌, ◌<◌, IsSome, IfNone, IfSome, None, length, get_or};
+ghost use Rattle.net_worker.specs.Asking.{TakesAsked};
+ghost use Rattle.net_worker.specs.Glances.{NoTokenAt, HoldsNone, IsHanded};
+
+use crate::tables::Tables;
+use crate::worker::Worker;
+use elastic_link::{TakeEnd, Token};
+use net_core::Takes;
+
+/// Sends what the end of a channel owes, where it has one.
+fn flush_at(takes: &mut Vec<Option<TakeEnd>>, chan: u32)
+    ensures { TakesAsked takes.old.items takes.new.items }
+{
+    let at = chan as usize;
+    if at < takes.len() {
+        if let Some(end) = &mut takes[at] {
+            end.flush();
+        }
+    }
+}
+
+/// The next token of a channel from another worker, where its end shows one; it is held then.
+fn peek_at(takes: &mut Vec<Option<TakeEnd>>, chan: u32) -> Option<Token>
+    requires within { chan < length takes.old.items }
+    requires end { IsSome (get_or takes.old.items chan None) }
+    requires free { HoldsNone (get_or takes.old.items chan None) }
+    ensures none { IfNone result (TakesAsked takes.old.items takes.new.items) }
+    ensures shown { IfNone result
+        (NoTokenAt (get_or takes.old.items chan None) (get_or takes.new.items chan None)) }
+    ensures some { IfSome result (λ x. IsHanded chan x takes.old.items takes.new.items) }
+{
+    match &mut takes[chan as usize] {
+        Some(end) => end.peek(),
+        None => None,
+    }
+}
+
+impl Worker {
+    ghost use Rattle.std.specs.Prelude.{ℕ, IsSome};
+    ghost use Rattle.net_worker.specs.Glances.{IsLooked, IsSeen};
+    ghost use Rattle.net_worker.specs.Views.{number_of, take_end};
+    ghost use Rattle.net_worker.specs.Workers.{IsMadeOf, IsInto, IsWhole};
+
+    /// Looks at a channel from another worker: sends what its end owes, and lays the next token into the state where none
+    /// lies there.
+    fn look_at(&mut self, tables: &Tables, chan: u32)
+        requires made { IsMadeOf tables.now self.old }
+        requires into { IsInto tables.now (number_of self.old) chan }
+        requires end { IsSome (take_end self.old chan) }
+        ensures made { IsMadeOf tables.now self.new }
+        ensures looked { IsLooked self.old self.new }
+        ensures seen { IsSeen chan self.old self.new }
+    {
+        flush_at(&mut self.takes, chan);
+        if self.state.held(&tables.net, chan) > 0 {
+            return;
+        }
+        let Some(token) = peek_at(&mut self.takes, chan) else {
+            return;
+        };
+        self.state.put_token(&tables.net, chan, token.value);
+        self.ready
+            .mark(tables.net.net().chans.as_slice()[chan as usize].to.unit);
+    }
+
+    /// Looks at all channels from other workers.
+    pub(crate) fn look(&mut self, tables: &Tables)
+        requires made { IsMadeOf tables.now self.old }
+        requires whole { IsWhole tables.now self.old }
+        ensures made { IsMadeOf tables.now self.new }
+        ensures looked { IsLooked self.old self.new }
+        ensures seen { (c : ℕ) → IsInto tables.now (number_of self.old) c
+            → IsSeen c self.old self.new }
+    {
+        for at in 0..self.ins.len() {
+            let chan = self.ins[at];
+            self.look_at(tables, chan);
+        }
+    }
+
+    /// Looks again at the channels from other workers into places of a unit.
+    pub(crate) fn look_again(&mut self, tables: &Tables, unit: u32, places: Takes)
+        requires made { IsMadeOf tables.now self.old }
+        ensures made { IsMadeOf tables.now self.new }
+        ensures looked { IsLooked self.old self.new }
+    {
+        match places {
+            Takes::None => {}
+            Takes::One(p) => self.look_into(tables, unit, p),
+            Takes::Two(p, q) => {
+                self.look_into(tables, unit, p);
+                self.look_into(tables, unit, q);
+            }
+            Takes::Three(p, q, r) => {
+                self.look_into(tables, unit, p);
+                self.look_into(tables, unit, q);
+                self.look_into(tables, unit, r);
+            }
+        }
+    }
+
+    /// Looks at the channel into a place of a unit, where it comes from another worker.
+    fn look_into(&mut self, tables: &Tables, unit: u32, place: u64)
+        requires made { IsMadeOf tables.now self.old }
+        ensures made { IsMadeOf tables.now self.new }
+        ensures looked { IsLooked self.old self.new }
+    {
+        let chan = tables.net.into_place(unit, place);
+        let at = chan as usize;
+        if at < self.takes.len() && self.takes[at].is_some() {
+            self.look_at(tables, chan);
+        }
+    }
+}

@@ -1,0 +1,136 @@
+//! Workers are made.
+ghost use Rattle.std.specs.Prelude.{◌≡◌, ℕ, ◌<◌, ◌≤◌, ◌↔◌, IsTrue, cond, [], ◌∷◌, ◌++◌, None, IfOk, OnOk, length, replicate, All};
+ghost use Rattle.std.specs.List.{Contains};
+ghost use Rattle.el_base.specs.Limits.{max_workers};
+ghost use Rattle.net_types.specs.Inputs.{InputsFit};
+ghost use Rattle.net_worker.specs.Given.{IsFresh};
+ghost use Rattle.net_worker.specs.Shares.{max_share};
+ghost use Rattle.net_worker.specs.Views.{net_of, inputs_of, put_end, take_end};
+ghost use Rattle.net_worker.specs.Workers.{IsMadeOf, IsOutOf, IsInto};
+
+use crate::ready::Ready;
+use crate::tables::Tables;
+use crate::worker::Worker;
+use el_base::Log;
+use net_core::State;
+use net_types::Memory;
+use std::alloc::Global;
+
+impl Worker {
+    /// A worker with its units in their opening state, an empty log with room for its share of entries, and no ends.
+    ///
+    /// # Errors
+    ///
+    /// [`Memory`] where memory is wanting.
+    pub fn new(alloc: Global, tables: &Tables, number: u32, share: u64) -> Result<Worker, Memory>
+        requires fit { InputsFit (net_of tables.now) (inputs_of tables.now) }
+        requires number { number < max_workers }
+        requires share { share ≤ max_share }
+        ensures made { IfOk result (λ w. IsMadeOf tables.now w) }
+        ensures fresh { IfOk result (λ w. IsFresh number share w) }
+        ensures puts { IfOk result (λ w. (c : ℕ) → put_end w c ≡ None) }
+        ensures takes { IfOk result (λ w. (c : ℕ) → take_end w c ≡ None) }
+    {
+        let chans = tables.net.net().chans.len();
+        let state = State::new(alloc, &tables.net, &tables.inputs)?;
+        let log = Log::with_room(alloc, share)?;
+        let puts = nothing(alloc, chans)?;
+        let takes = nothing(alloc, chans)?;
+        let outs = channels_out(alloc, tables, number)?;
+        let ins = channels_in(alloc, tables, number)?;
+        let ready = own_units(alloc, tables, number)?;
+        Ok(Worker {
+            number,
+            share,
+            clock: 0,
+            log,
+            state,
+            puts,
+            takes,
+            outs,
+            ins,
+            ready,
+            closed: false,
+        })
+    }
+}
+
+/// So many places without anything.
+fn nothing<T: Drop>(alloc: Global, count: usize) -> Result<Vec<Option<T>>, Memory>
+    ensures { IfOk result (λ v. v.items ≡ replicate count None) }
+{
+    let mut places = Vec::new(alloc);
+    for _ in 0..count {
+        places.push(None)?;
+    }
+    Ok(places)
+}
+
+/// Whether a channel goes from a unit of a worker to that of another.
+fn is_out(tables: &Tables, number: u32, chan: u32) -> bool
+    requires { chan < length (net_of tables.now).chans }
+    ensures { IsTrue result ↔ IsOutOf tables.now number chan }
+{
+    tables.putter(chan) == number && tables.taker(chan) != number
+}
+
+/// Whether a channel goes to a unit of a worker from that of another.
+fn is_into(tables: &Tables, number: u32, chan: u32) -> bool
+    requires { chan < length (net_of tables.now).chans }
+    ensures { IsTrue result ↔ IsInto tables.now number chan }
+{
+    tables.taker(chan) == number && tables.putter(chan) != number
+}
+
+/// Notes a channel where it is to be noted.
+fn note_if(chans: &mut Vec<u32>, chan: u32, noted: bool) -> Result<(), Memory>
+    ensures { OnOk result (chans.new.items
+        ≡ cond noted (chans.old.items ++ chan ∷ []) chans.old.items) }
+{
+    if noted {
+        chans.push(chan)?;
+    }
+    Ok(())
+}
+
+/// The channels from units of a worker to those of others, ascending.
+fn channels_out(alloc: Global, tables: &Tables, number: u32) -> Result<Vec<u32>, Memory>
+    ensures all { IfOk result (λ v. (c : ℕ) → IsOutOf tables.now number c → Contains v.items c) }
+    ensures only { IfOk result (λ v. All (IsOutOf tables.now number) v.items) }
+{
+    let count = tables.net.net().chans.len();
+    let mut outs = Vec::new(alloc);
+    for at in 0..count {
+        let crosses = is_out(tables, number, at as u32);
+        note_if(&mut outs, at as u32, crosses)?;
+    }
+    Ok(outs)
+}
+
+/// The channels to units of a worker from those of others, ascending.
+fn channels_in(alloc: Global, tables: &Tables, number: u32) -> Result<Vec<u32>, Memory>
+    ensures all { IfOk result (λ v. (c : ℕ) → IsInto tables.now number c → Contains v.items c) }
+    ensures only { IfOk result (λ v. All (IsInto tables.now number) v.items) }
+{
+    let count = tables.net.net().chans.len();
+    let mut ins = Vec::new(alloc);
+    for at in 0..count {
+        let crosses = is_into(tables, number, at as u32);
+        note_if(&mut ins, at as u32, crosses)?;
+    }
+    Ok(ins)
+}
+
+/// Marks at all units of a worker.
+fn own_units(alloc: Global, tables: &Tables, number: u32) -> Result<Ready, Memory> {
+    let owners = tables.owners.as_slice();
+    let mut ready = Ready::new(alloc, owners.len())?;
+    for (unit, owner) in owners.iter().enumerate() {
+        if *owner == number {
+            if let Ok(unit) = u32::try_from(unit) {
+                ready.mark(unit);
+            }
+        }
+    }
+    Ok(ready)
+}

@@ -1,0 +1,170 @@
+//! Passes over the units of a worker.
+ghost use Rattle.std.specs.Prelude.{◌≡◌, ◌<◌, length, IsTrue, IsFalse};
+ghost use Rattle.net_core.specs.States.{IsOf};
+ghost use Rattle.net_worker.specs.Asking.{IsAsked};
+ghost use Rattle.net_worker.specs.Going.{GoesOn, HasAdded, IsUnitHeld, IsOwnHeld, IsAllHeld, ActsFit};
+ghost use Rattle.net_worker.specs.Views.{net_of, number_of, log_room, owner_in, held_state};
+ghost use Rattle.net_worker.specs.Workers.{IsMadeOf, IsWhole};
+
+use crate::tables::Tables;
+use crate::worker::Worker;
+use lsq_core::Queue;
+use net_types::{Act, Firing, acts_follow};
+
+/// How many firings a pass makes before it begins no other visit.
+const PASS_FIRINGS: u32 = 4096;
+
+/// How many units a pass visits at most.
+const PASS_VISITS: u32 = 65_536;
+
+impl Worker {
+    /// Visits marked units in ascending order, going round, until none is marked, the log is full, or it has made as many
+    /// firings as a pass makes; answers how many.
+    pub(crate) fn pass(&mut self, tables: &Tables) -> u32
+        requires made { IsMadeOf tables.now self.old }
+        requires whole { IsWhole tables.now self.old }
+        ensures made { IsMadeOf tables.now self.new }
+        ensures later { GoesOn tables.now self.old self.new }
+        ensures added { HasAdded result self.old self.new }
+        ensures none { result ≡ 0 → IsAsked self.old self.new }
+    {
+        let mut fired = 0;
+        let mut from = 0;
+        'visits: for _ in 0..PASS_VISITS {
+            if fired >= PASS_FIRINGS {
+                return fired;
+            }
+            let Some(unit) = self.ready.next_from(from) else {
+                return fired;
+            };
+            let made = self.visit(tables, unit);
+            fired += made;
+            from = unit;
+        }
+        fired
+    }
+
+    /// Tries the acts of a unit, where it is the worker's own, one after another; answers how many firings it made.
+    fn visit(&mut self, tables: &Tables, unit: u32) -> u32
+        requires made { IsMadeOf tables.now self.old }
+        requires whole { IsWhole tables.now self.old }
+        ensures made { IsMadeOf tables.now self.new }
+        ensures later { GoesOn tables.now self.old self.new }
+        ensures added { HasAdded result self.old self.new }
+        ensures none { result ≡ 0 → IsAsked self.old self.new }
+    {
+        if unit as usize >= tables.net.net().units.len() || tables.owner(unit) != self.number {
+            return 0;
+        }
+        let mut fired = 0;
+        for number in 0..u32::MAX {
+            if self.log.room() == 0 {
+                return fired;
+            }
+            let Some(act) = self.state.act_at(&tables.net, unit, number) else {
+                return fired;
+            };
+            let made = self.try_one(tables, Firing { unit, act });
+            fired += made;
+        }
+        fired
+    }
+
+    /// Tries a firing of one of its own units; answers how many it made, one or none.
+    fn try_one(&mut self, tables: &Tables, firing: Firing) -> u32
+        requires made { IsMadeOf tables.now self.old }
+        requires whole { IsWhole tables.now self.old }
+        requires mine { owner_in tables.now firing.unit ≡ number_of self.old }
+        requires within { firing.unit < length (net_of tables.now).units }
+        requires room { 0 < log_room self.old }
+        ensures made { IsMadeOf tables.now self.new }
+        ensures later { GoesOn tables.now self.old self.new }
+        ensures added { HasAdded result self.old self.new }
+        ensures none { result ≡ 0 → IsAsked self.old self.new }
+    {
+        if self.try_act(tables, firing) {
+            return 1;
+        }
+        0
+    }
+
+    /// Tries all firings of the worker's own units that are enabled in the state that it holds, until it makes one; tells
+    /// whether it did.
+    pub(crate) fn exact_pass(&mut self, tables: &Tables) -> bool
+        requires made { IsMadeOf tables.now self.old }
+        requires whole { IsWhole tables.now self.old }
+        requires room { 0 < log_room self.old }
+        ensures made { IsMadeOf tables.now self.new }
+        ensures later { GoesOn tables.now self.old self.new }
+        ensures fired { IsTrue result → HasAdded 1 self.old self.new }
+        ensures held { IsFalse result → IsAllHeld tables.now self.old self.new }
+    {
+        let count = tables.net.net().units.len();
+        for at in 0..count {
+            if self.try_own(tables, at as u32) {
+                return true;
+            }
+        }
+        false
+    }
+
+    /// The same for one unit, where it is the worker's own.
+    fn try_own(&mut self, tables: &Tables, unit: u32) -> bool
+        requires made { IsMadeOf tables.now self.old }
+        requires whole { IsWhole tables.now self.old }
+        requires within { unit < length (net_of tables.now).units }
+        requires room { 0 < log_room self.old }
+        ensures made { IsMadeOf tables.now self.new }
+        ensures later { GoesOn tables.now self.old self.new }
+        ensures fired { IsTrue result → HasAdded 1 self.old self.new }
+        ensures held { IsFalse result → IsOwnHeld tables.now self.old self.new unit }
+    {
+        if tables.owner(unit) != self.number {
+            return false;
+        }
+        self.try_unit(tables, unit)
+    }
+
+    /// The numbers of a unit's acts that are enabled have their bits.
+    fn acts_fit(&self, tables: &Tables, unit: u32)
+        requires of { IsOf (net_of tables.now) self.now.state }
+        requires within { unit < length (net_of tables.now).units }
+        ensures { ActsFit (net_of tables.now) (held_state self.now) unit }
+    {
+        let _ = tables.net.net();
+        let Some(queue) = self.state.queue(&tables.net, unit) else {
+            return;
+        };
+        let _ = queue.len();
+    }
+
+    /// Tries all firings of one of its own units that are enabled in the state that the worker holds, until it makes one;
+    /// tells whether it did.
+    fn try_unit(&mut self, tables: &Tables, unit: u32) -> bool
+        requires made { IsMadeOf tables.now self.old }
+        requires whole { IsWhole tables.now self.old }
+        requires mine { owner_in tables.now unit ≡ number_of self.old }
+        requires within { unit < length (net_of tables.now).units }
+        requires room { 0 < log_room self.old }
+        ensures made { IsMadeOf tables.now self.new }
+        ensures later { GoesOn tables.now self.old self.new }
+        ensures fired { IsTrue result → HasAdded 1 self.old self.new }
+        ensures held { IsFalse result → IsUnitHeld tables.now self.old self.new unit }
+    {
+        self.acts_fit(tables, unit);
+        acts_follow();
+        let mut from = Act::Go;
+        'acts: loop {
+            let Some(act) = self.state.find_act(&tables.net, unit, from) else {
+                return false;
+            };
+            if self.try_act(tables, Firing { unit, act }) {
+                return true;
+            }
+            let Some(next) = act.next() else {
+                return false;
+            };
+            from = next;
+        }
+    }
+}

@@ -1,0 +1,26 @@
+//! The link between two workers that are in one thread.
+ghost use Rattle.std.specs.Prelude.{IsSome};
+ghost use Rattle.net_worker.specs.Workers.{put_end, take_end, AreLinkedAt, IsSoundAt};
+ghost use Rattle.net_worker.specs.Settles.{IsKeptWith};
+
+use crate::worker::Worker;
+
+impl Worker {
+    /// With both workers in one thread: the link of a channel from this worker to the other is sound, whatever threads swept
+    /// them before. Moves nothing, and takes no memory.
+    pub fn settle(&mut self, other: &mut Worker, chan: u32)
+        requires put { IsSome (put_end self.old chan) }
+        requires take { IsSome (take_end other.old chan) }
+        requires link { AreLinkedAt chan self.old other.old }
+        ensures sound { IsSoundAt chan self.new other.new }
+        ensures this { IsKeptWith self.old self.new }
+        ensures that { IsKeptWith other.old other.new }
+    {
+        let at = chan as usize;
+        if let Some(put) = &mut self.puts[at] {
+            if let Some(take) = &mut other.takes[at] {
+                put.settle(take);
+            }
+        }
+    }
+}

@@ -1,0 +1,70 @@
+//! One sweep of a worker.
+ghost use Rattle.std.specs.Prelude.{◌≡◌, ◌<◌, ◌↔◌, IsTrue};
+ghost use Rattle.net_worker.specs.Going.{GoesOn, HasAdded};
+ghost use Rattle.net_worker.specs.Sweeps.{SweptAs, SweptExactly, AllHeldBack};
+ghost use Rattle.net_worker.specs.Views.{log_room};
+ghost use Rattle.net_worker.specs.Workers.{IsMadeOf, IsWhole, IsFull, SameWorker, HasLoggedExit};
+ghost use Rattle.net_worker.specs.declared.entry.Swept.TheVariants as swept;
+
+use crate::entry::Swept;
+use crate::tables::Tables;
+use crate::worker::Worker;
+
+impl Worker {
+    /// Looks at the channels from other workers and makes firings of the worker's own units: some 4,096 where it sees as
+    /// many that it may make. Takes no memory, and waits for nobody.
+    pub fn sweep(&mut self, tables: &Tables) -> Swept
+        requires made { IsMadeOf tables.now self.old }
+        requires whole { IsWhole tables.now self.old }
+        ensures made { IsMadeOf tables.now self.new }
+        ensures same { SameWorker self.old self.new }
+        ensures answer { SweptAs tables.now result self.old self.new }
+        ensures stamps { SweptExactly tables.now self.old self.new }
+        ensures exited { HasLoggedExit tables.now self.new → result ≡ swept.Exited }
+    {
+        if self.state.exited() {
+            return Swept::Exited;
+        }
+        if self.is_full() {
+            return Swept::Full;
+        }
+        let fired = self.go(tables);
+        if self.state.exited() {
+            return Swept::Exited;
+        }
+        if fired == 0 {
+            return Swept::Idle;
+        }
+        Swept::Fired(fired)
+    }
+
+    /// Whether the log holds its share, or no stamp is left.
+    fn is_full(&self) -> bool
+        ensures { IsTrue result ↔ IsFull self.now }
+    {
+        self.log.room() == 0 || self.clock + 1 == 1 << 62
+    }
+
+    /// Looks, and passes over the units; answers how many firings it made.
+    fn go(&mut self, tables: &Tables) -> u32
+        requires made { IsMadeOf tables.now self.old }
+        requires whole { IsWhole tables.now self.old }
+        requires room { 0 < log_room self.old }
+        ensures made { IsMadeOf tables.now self.new }
+        ensures later { GoesOn tables.now self.old self.new }
+        ensures added { HasAdded result self.old self.new }
+        ensures none { result ≡ 0 → self.new.log ≡ self.old.log }
+        ensures held { result ≡ 0 → AllHeldBack tables.now self.old self.new }
+    {
+        let _ = tables.net.net();
+        self.look(tables);
+        let fired = self.pass(tables);
+        if fired > 0 {
+            return fired;
+        }
+        if self.exact_pass(tables) {
+            return 1;
+        }
+        0
+    }
+}

@@ -1,0 +1,80 @@
+//! What all workers of a net read.
+ghost use Rattle.std.specs.Prelude.{◌≡◌, ◌<◌, length, All};
+ghost use Rattle.el_base.specs.Limits.{max_workers};
+
+use net_check::Checked;
+use net_types::{Inputs, List, Memory};
+use std::alloc::Global;
+
+/// A net, the owner of each of its units, and inputs.
+#[derive(Drop)]
+pub struct Tables {
+    pub(crate) net: Checked,
+    pub(crate) inputs: Inputs,
+    pub(crate) owners: List<u32>,
+    pub ghost owned: { length owners ≡ length net.units },
+    pub ghost few: { All (λ o. o < max_workers) owners },
+}
+
+impl Tables {
+    ghost use Rattle.std.specs.Prelude.{◌≡◌, ◌<◌, length, get_or, IfOk, All};
+    ghost use Rattle.el_base.specs.Limits.{max_workers};
+    ghost use Rattle.net_types.specs.Inputs.{InputsFit};
+    ghost use Rattle.net_worker.specs.Plays.{putter, taker};
+    ghost use Rattle.net_worker.specs.Views.{net_of, inputs_of, unit_owners, owner_in};
+
+    /// Copies of a net, of inputs that fit it, and of one owner for each unit.
+    ///
+    /// # Errors
+    ///
+    /// [`Memory`] where memory is wanting.
+    pub fn new(
+        alloc: Global,
+        net: &Checked,
+        inputs: &Inputs,
+        owners: &[u32],
+    ) -> Result<Tables, Memory>
+        requires fit { InputsFit net.now inputs.now }
+        requires owned { length owners.now ≡ length net.now.units }
+        requires few { All (λ o. o < max_workers) owners.now }
+        ensures net { IfOk result (λ t. net_of t ≡ net.now) }
+        ensures inputs { IfOk result (λ t. inputs_of t ≡ inputs.now) }
+        ensures owners { IfOk result (λ t. unit_owners t ≡ owners.now) }
+    {
+        let net = net.copy(alloc)?;
+        let inputs = inputs.copy(alloc)?;
+        let mut list = List::new(alloc);
+        for owner in owners {
+            list.push(*owner)?;
+        }
+        Ok(Tables {
+            net,
+            inputs,
+            owners: list,
+        })
+    }
+
+    /// The worker that owns a unit of the net. Takes no memory.
+    pub fn owner(&self, unit: u32) -> u32
+        requires { unit < length (net_of self.now).units }
+        ensures { result ≡ owner_in self.now unit }
+    {
+        self.owners.as_slice()[unit as usize]
+    }
+
+    /// The worker that owns the unit from which a channel of the net comes. Takes no memory.
+    pub fn putter(&self, chan: u32) -> u32
+        requires { chan < length (net_of self.now).chans }
+        ensures { result ≡ putter (net_of self.now) (owner_in self.now) chan }
+    {
+        self.owner(self.net.net().chans.as_slice()[chan as usize].from.unit)
+    }
+
+    /// The worker that owns the unit to which a channel of the net goes. Takes no memory.
+    pub fn taker(&self, chan: u32) -> u32
+        requires { chan < length (net_of self.now).chans }
+        ensures { result ≡ taker (net_of self.now) (owner_in self.now) chan }
+    {
+        self.owner(self.net.net().chans.as_slice()[chan as usize].to.unit)
+    }
+}

@@ -1,0 +1,33 @@
+//! A worker.
+ghost use Rattle.std.specs.Prelude.{◌≡◌, ◌≤◌, ◌<◌};
+ghost use Rattle.elastic_link.specs.Credits.{IsStamp};
+ghost use Rattle.net_worker.specs.Shares.{max_share};
+
+use crate::entry::Entry;
+use crate::ready::Ready;
+use el_base::Log;
+use elastic_link::{PutEnd, TakeEnd};
+use net_core::State;
+
+/// The units that one worker owns, its ends of links, and the log of its firings.
+#[derive(Drop)]
+pub struct Worker {
+    pub(crate) number: u32,
+    pub(crate) share: u64,
+    pub(crate) clock: u64,
+    pub(crate) log: Log<Entry>,
+    /// A state of the whole net, in which only the worker's own units fire: of a channel from another worker it holds the token
+    /// that the end holds, and of a channel to another worker none.
+    pub(crate) state: State,
+    /// By channel.
+    pub(crate) puts: Vec<Option<PutEnd>>,
+    pub(crate) takes: Vec<Option<TakeEnd>>,
+    /// The channels to other workers, and those from others.
+    pub(crate) outs: Vec<u32>,
+    pub(crate) ins: Vec<u32>,
+    /// The units that may be able to fire.
+    pub(crate) ready: Ready,
+    pub(crate) closed: bool,
+    pub ghost most: { share ≤ max_share },
+    pub ghost stamp: { IsStamp clock },
+}

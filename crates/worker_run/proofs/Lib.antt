@@ -1,0 +1,10 @@
+pub mod Places
+pub mod TruthLemmas
+pub mod OrderLemmas
+pub mod CrewLemmas
+pub mod KeptLemmas
+pub mod ShareLemmas
+pub mod JoinLemmas
+pub mod RestLemmas
+pub mod GatherLemmas
+pub mod RunLemmas

@@ -1,0 +1,4 @@
+pub mod Crews
+pub mod Gathers
+pub mod Reports
+pub mod private

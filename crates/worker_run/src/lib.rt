@@ -1,0 +1,19 @@
+//! Runs of nets by several workers.
+//!
+//! [`workers`] makes a crew, [`gather`] turns the logs of workers, whatever threads swept them, into one run, and
+//! [`run_workers`] does both, with each worker in a thread of its own between.
+#![tactic(auto)]
+
+mod crew;
+mod gathering;
+mod laws;
+mod making;
+mod order;
+mod running;
+mod settling;
+
+pub use crew::{Crew, Report};
+pub use gathering::{gather, merged_log};
+pub use laws::crew_gathers;
+pub use making::workers;
+pub use running::run_workers;

@@ -1,0 +1,98 @@
+#!/usr/bin/env python3
+"""Counts the instructions of some calls of the proved programs by `valgrind --tool=callgrind`, which counts alike on every
+machine, and compares them with the table of docs/TIMES.md under the heading "Instructions". A call that takes more than
+twice as many as the table says is an alarm, and then this fails. A body that only costs time breaks no clause and changes no
+row: this is what notices it.
+
+usage: tools/instructions.py   (at the top of the repository, after `make build` and the programs of `make bench`)"""
+import pathlib
+import re
+import shutil
+import subprocess
+import sys
+import tempfile
+
+HEADING = "## Instructions"
+ELEMENTS = 65_536
+IDLE_LOOPS = 10_000
+
+
+def program(name):
+    return str(pathlib.Path("crates", name, "out", name).resolve())
+
+
+def with_idle_loops(net, loops):
+    """The netlist with so many loops of a fork and a sum, in which no token ever is, behind its units."""
+    units = sum(line.startswith("unit ") for line in net.splitlines())
+    laid, chans = [], []
+    for loop in range(loops):
+        fork, add = units + 2 * loop, units + 2 * loop + 1
+        laid += ["unit fork 32 2", "unit op2 add32"]
+        chans += [f"chan {fork}.0 {add}.0 32 1 1", f"chan {fork}.1 {add}.1 32 1 1", f"chan {add}.0 {fork}.0 32 1 1"]
+    before, _, after = net.partition("\nchan ")
+    return "\n".join([before, *laid, "chan " + after.removesuffix("end\n").rstrip("\n"), *chans, "end", ""])
+
+
+def histogram_inputs(net, turns):
+    """Inputs of the histogram's netlist."""
+    lengths = {name: int(length) for name, length in re.findall(r"^array (\w+) \w+ (\d+)", net, re.MULTILINE)}
+    values = " ".join(str((place * 37 + 11) % lengths["h"]) for place in range(lengths["x"]))
+    return f"n = {turns}\nx = {values}\nh = {' '.join('0' * lengths['h'])}\n"
+
+
+def calls(folder):
+    """What each call tries, and its words."""
+    histogram = pathlib.Path("examples/histogram/net.txt").read_text()
+    files = {
+        "copy.c": f"void f(int32_t a[{ELEMENTS}]) {{ }}\n",
+        "elements": f"a = {' '.join('0' * ELEMENTS)}\n",
+        "idle.net": with_idle_loops(histogram, IDLE_LOOPS),
+        "idle": histogram_inputs(histogram, 256),
+        "count": "n = 20000\n",
+        "histogram": histogram_inputs(histogram, 4096),
+    }
+    for name, text in files.items():
+        pathlib.Path(folder, name).write_text(text)
+    net, countdown = (str(pathlib.Path("examples", name, "net.txt").resolve()) for name in ("histogram", "countdown"))
+    return {
+        f"printing {ELEMENTS:,} elements": [program("elastic"), "ref", "copy.c", "elements"],
+        "placing buffers on some 20,000 channels": [program("bench_graphs"), "place", "20000"],
+        f"a histogram among {IDLE_LOOPS:,} idle loops, by cycles": [program("bench_runs"), "cycles", "idle.net", "idle"],
+        "a countdown from 20,000, by cycles": [program("bench_runs"), "cycles", countdown, "count"],
+        "a histogram by the plain runner": [program("bench_runs"), "core", net, "histogram", "28672", "1"],
+    }
+
+
+def instructions(words, folder):
+    """How many instructions the call takes."""
+    ran = subprocess.run(["valgrind", "--tool=callgrind", "--callgrind-out-file=/dev/null", *words], cwd=folder, capture_output=True, text=True)
+    counted = re.search(r"Collected : (\d+)", ran.stderr)
+    if ran.returncode or not counted:
+        sys.exit(f"{' '.join(words)} ended with {ran.returncode}:\n{ran.stderr}")
+    return int(counted.group(1))
+
+
+def told():
+    """The numbers of docs/TIMES.md, by call."""
+    section = pathlib.Path("docs/TIMES.md").read_text().partition(HEADING + "\n")[2].partition("\n## ")[0]
+    return {call: int(count.replace(",", "")) for call, count in re.findall(r"^\| (.+?) \| ([\d,]+) \|$", section, re.MULTILINE)}
+
+
+def main():
+    if not shutil.which("valgrind"):
+        print("instructions are counted by valgrind, which is not here")
+        return
+    before, alarms = told(), []
+    print("| Call | Instructions |\n|---|---|")
+    with tempfile.TemporaryDirectory() as folder:
+        for call, words in calls(folder).items():
+            count = instructions(words, folder)
+            print(f"| {call} | {count:,} |", flush=True)
+            if count > 2 * before.get(call, 0):
+                alarms.append(call)
+    if alarms:
+        sys.exit(f"more than twice as many instructions as docs/TIMES.md says: {'; '.join(alarms)}")
+
+
+if __name__ == "__main__":
+    main()
