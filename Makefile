@@ -2,17 +2,20 @@
 # go: compiles your own kernel to a circuit and runs it on your inputs, without the proofs: make go KERNEL=my.c INPUTS=my.txt
 # compile: the circuit of your own kernel alone, without the proofs: make compile KERNEL=my.c
 # ref: your own kernel and inputs, run as C, without the proofs: make ref KERNEL=my.c INPUTS=my.txt
-#   After a refusal go, compile, ref and run say in words why, and what to write instead (tools/explain.py).
+#   After a refusal go, compile, ref and run say in words why, and what to write instead (tools/explain.py). The unproved
+#   program makes some 100,000 firings a second (the proved one some millions); SECONDS, 600 by default, is the time it has.
 # run: a netlist and inputs of your own, without the proofs: make run NETLIST=my.net INPUTS=my.txt
 # build: proves the program and all below it, and leaves it as crates/elastic/out/elastic. From nothing this takes
 #   most of the gate's time (docs/PROVED.md); what an earlier run proved on this machine is not proved again.
 # examples: builds the program, runs the kernels of examples/ by it, by go and by ref, compares with their results, and tells
-#   the units, channels, firings and cycles of each.
+#   the units, channels, firings and cycles of each, and the cycles by each depth of a table, with which nothing else may change.
 # clients: with the program that make build left, tries what stands beside it: the scripts of examples/clients on every example,
 #   tools/explain.py on a row for each number and on the kernels of examples/refused, and the manual page and completions; all are
 #   compared with what is kept. PROGRAM=other tries another program.
 # test: the gate: every proof, program and the wrong bodies of must-fail/.
 # wrong: tries the wrong bodies that the gate leaves out (crates/*/wrong), of one crate with CRATE=NAME.
+# documents: checks README.md and docs/: names that stand nowhere, long sentences, and cells of tables that hold too much.
+# help: these lines.
 # memory: lists the places that answer want of memory where no allocation has failed, and compares them with docs/PROVED.md.
 # bench: times the proved programs: compiling kernels of 1,024 nodes, and how many firings and cycles four kernels take;
 #   reading texts of 65,536 bytes, a million acts on queues of depths 16, 128 and 1,024, buffer placement on nets of up to
@@ -25,13 +28,18 @@
 #   With BEFORE=PROGRAM another bench_text is timed beside this one. BENCH_ACTS, BENCH_SIZE and the like give other sizes.
 # instructions: that count alone.
 # stack: reads long and deep kernel texts with a stack of 1 MiB.
-# fail-alloc: makes each allocation of a run fail in turn.
+# load: runs the proved program on files at each limit and past it, on nets of a million units and on 2^20 elements.
+# fail-alloc: makes each allocation of some calls fail in turn (tools/failing/calls.tsv), and tells how many there are.
 
-.PHONY: demo go compile ref run build examples clients test wrong memory bench instructions stack fail-alloc
+.PHONY: demo go compile ref run build examples clients test wrong documents help memory bench instructions stack load fail-alloc
 
 KERNEL = examples/hist/kernel.c
-INPUTS = examples/hist/inputs.txt
 NETLIST = examples/net/net.txt
+# Inputs go with the kernel or the netlist of the examples; with one of your own they must be named.
+OWN_KERNEL = $(filter-out file default,$(origin KERNEL))
+OWN_NETLIST = $(filter-out file default,$(origin NETLIST))
+INPUTS = $(if $(OWN_KERNEL),,examples/hist/inputs.txt)
+SECONDS = 600
 PROGRAM = crates/elastic/out/elastic
 BEFORE =
 CRATE =
@@ -48,13 +56,11 @@ BENCH_TURNS = 300000
 
 UNPROVED = 'This build is not the proved one: it runs the program before its proofs.'
 
-# What is given to the runner of unproved programs: a kernel or a netlist, and inputs, by their last names.
-KERNEL_DATA = --data $(notdir $(KERNEL))=$(abspath $(KERNEL))
-INPUTS_DATA = --data $(notdir $(INPUTS))=$(abspath $(INPUTS))
-NETLIST_DATA = --data $(notdir $(NETLIST))=$(abspath $(NETLIST))
+# Runs the unproved program: tools/unproved.sh COMMAND FILE.. -- OPTION.. explains an error line after a refusal.
+TRIED = sh tools/unproved.sh --seconds $(SECONDS)
 
-# Runs a command, and after a refusal explains its error line, for which it looks into these files.
-EXPLAINED = sh ../../tools/explained.sh $(abspath $(1)) --
+# Refuses a target whose file is not named.
+NAMED = test -n $(2) || { echo 'elastic: $@ takes $(1)=FILE' >&2; exit 1; }
 
 demo:
 	@echo $(UNPROVED)
@@ -62,21 +68,24 @@ demo:
 	@cd crates/elastic && rt try --data k=../../examples/hist/kernel.c --data i=../../examples/hist/inputs.txt -- go k i --count --cycles
 
 go:
+	@$(call NAMED,INPUTS,"$(INPUTS)")
 	@echo $(UNPROVED)
-	@cd crates/elastic && $(call EXPLAINED,$(KERNEL) $(INPUTS)) rt try $(KERNEL_DATA) $(INPUTS_DATA) -- go $(notdir $(KERNEL)) $(notdir $(INPUTS)) --count --cycles
+	@$(TRIED) go "$(KERNEL)" "$(INPUTS)" -- --count --cycles
 
 compile:
 	@echo $(UNPROVED)
-	@cd crates/elastic && $(call EXPLAINED,$(KERNEL)) rt try $(KERNEL_DATA) -- compile $(notdir $(KERNEL))
+	@$(TRIED) compile "$(KERNEL)" --
 
 ref:
+	@$(call NAMED,INPUTS,"$(INPUTS)")
 	@echo $(UNPROVED)
-	@cd crates/elastic && $(call EXPLAINED,$(KERNEL) $(INPUTS)) rt try $(KERNEL_DATA) $(INPUTS_DATA) -- ref $(notdir $(KERNEL)) $(notdir $(INPUTS)) --count
+	@$(TRIED) ref "$(KERNEL)" "$(INPUTS)" -- --count
 
-run: INPUTS = examples/net/inputs.txt
+run: INPUTS = $(if $(OWN_NETLIST),,examples/net/inputs.txt)
 run:
+	@$(call NAMED,INPUTS,"$(INPUTS)")
 	@echo $(UNPROVED)
-	@cd crates/elastic && $(call EXPLAINED,$(NETLIST) $(INPUTS)) rt try $(NETLIST_DATA) $(INPUTS_DATA) -- run $(notdir $(NETLIST)) $(notdir $(INPUTS)) --count --cycles
+	@$(TRIED) run "$(NETLIST)" "$(INPUTS)" -- --count --cycles
 
 build:
 	cd crates/elastic && rt run -- go ../../examples/sum/kernel.c ../../examples/sum/inputs.txt
@@ -84,6 +93,7 @@ build:
 
 examples: build
 	@sh tools/examples.sh crates/elastic/out/elastic
+	@tools/depths.py crates/elastic/out/elastic
 
 clients:
 	@test -x $(PROGRAM) || { echo '$(PROGRAM) is not there: make build makes it' >&2; exit 1; }
@@ -96,6 +106,13 @@ test:
 
 wrong:
 	@sh tools/wrong.sh $(CRATE)
+
+documents:
+	@python3 tools/map.py names
+	@python3 tools/map.py sentences
+
+help:
+	@sed -n 's/^# \{0,1\}//p' Makefile | sed '/^The sizes of the benches/,$$d'
 
 memory:
 	@python3 tools/memories.py
@@ -123,5 +140,8 @@ stack:
 	@cd crates/given_rows && rt run -- data/repeats.tsv > /dev/null
 	@sh tools/stack.sh crates/given_rows/out/given_rows
 
+load: build
+	@tools/load.py $(PROGRAM)
+
 fail-alloc: build
-	@sh tools/fail_alloc.sh crates/elastic/out/elastic
+	@tools/fail_alloc.py $(PROGRAM)

@@ -21,23 +21,29 @@ DELAY = Option("--delay", "LIST", None, None,
                "cycles that a result takes, by the class of its unit, as `mul=7,lsq=3`: `logic` (0 where "
                "nothing is said), `mul` (4), `div` (36), `read` (2) and `lsq` (1); each from 0, `lsq` from 1, to 1,000")
 SLOTS = Option("--slots", "N", 1, 1024, "how many tokens a channel holds; 2 where nothing is said")
+DEPTH = Option("--depth", "N", 1, 1000,
+               "how many units that work or choose may stand in a row without a delay; with it a loop has a delay once, "
+               "and not on each of its channels")
 FORWARD = Option("--forward", None, None, None, "marks each queue: a load may take the data of a waiting store to the same element")
 WRAP = Option("--wrap", None, None, None,
               "a signed result of `+`, `-`, `*` and `<<` that is out of range wraps, and is not undefined; the "
               "circuit is the same with it and without")
-LIMIT = Option("--limit", "F", 1, FIRINGS, "the most firings; 8,000,000 where nothing is said, and with --log at most 16,000,000")
+WORKERS = Option("--workers", "W", 1, 64, "runs the circuit by so many workers, each in a thread of its own; what is printed is the same, but for the "
+                 "schedule of --log; not with --cycles")
+LIMIT = Option("--limit", "F", 1, FIRINGS,
+               "the most firings; 8,000,000 where nothing is said, and with --log or --workers at most 16,000,000")
 COUNT = Option("--count", None, None, None, "prints `# firings F`, of `ref` `# turns T`, behind the results")
 CYCLES = Option("--cycles", None, None, None, "prints `# cycles C` behind the results")
 LOG = Option("--log", None, None, None, "prints the line `%%` and the firings, one a line, which `replay` reads")
 TURNS = Option("--turns", "T", 1, FIRINGS, "the most turns; 8,000,000 where nothing is said")
-OPTIONS = (DELAY, SLOTS, FORWARD, WRAP, LIMIT, COUNT, CYCLES, LOG, TURNS)
+OPTIONS = (DELAY, SLOTS, DEPTH, FORWARD, WRAP, WORKERS, LIMIT, COUNT, CYCLES, LOG, TURNS)
 
 COMMANDS = (
-    Command("compile", ("KERNEL",), (DELAY, SLOTS, FORWARD, WRAP), "prints the circuit of a kernel, as a netlist"),
-    Command("go", ("KERNEL", "INPUTS"), (DELAY, SLOTS, FORWARD, WRAP, LIMIT, COUNT, CYCLES),
+    Command("compile", ("KERNEL",), (DELAY, SLOTS, DEPTH, FORWARD, WRAP), "prints the circuit of a kernel, as a netlist"),
+    Command("go", ("KERNEL", "INPUTS"), (DELAY, SLOTS, DEPTH, FORWARD, WRAP, WORKERS, LIMIT, COUNT, CYCLES),
             "prints the circuit of a kernel, the line `%%`, and what the circuit gives on the inputs"),
     Command("ref", ("KERNEL", "INPUTS"), (WRAP, TURNS, COUNT), "runs a kernel as C, without a circuit, and prints the results"),
-    Command("run", ("NETLIST", "INPUTS"), (LIMIT, COUNT, CYCLES, LOG), "runs a netlist by cycles, and prints the results"),
+    Command("run", ("NETLIST", "INPUTS"), (WORKERS, LIMIT, COUNT, CYCLES, LOG), "runs a netlist by cycles or by workers, and prints the results"),
     Command("replay", ("NETLIST", "INPUTS", "SCHEDULE"), (),
             "makes the firings of a schedule, and prints the results or the next firing"),
     Command("upgrade", ("NETLIST",), (), "checks a netlist, and prints it in version 2"),
@@ -55,7 +61,8 @@ NONE = (["help"], ["--help"], ["-h"], [], ["bench", "1"], ["save", "n", "i"], ["
         ["go", "k", "i", "x"],
         ["Go", "k", "i"], ["compile", "k", "--slots"], ["compile", "k", "--slots", "1", "--slots", "1"],
         ["compile", "k", "--forward=1"],
-        ["compile", "k", "--delay", "add=1"], ["compile", "k", "--delay", "lsq=0"], ["compile", "k", "--delay", "mul=1001"])
+        ["compile", "k", "--delay", "add=1"], ["compile", "k", "--delay", "lsq=0"], ["compile", "k", "--delay", "mul=1001"],
+        ["run", "n", "i", "--cycles", "--workers", "2"], ["go", "k", "i", "--workers", "2", "--limit", "16000001"])
 
 
 # ---- the texts

@@ -1,16 +1,25 @@
 #!/usr/bin/env python3
-"""Prints the two tables of docs/ARCHITECTURE.md that are counted, and not written, and words that stand twice.
+"""Maps of the repository that are counted, and not written.
 
   tools/map.py sizes                 lines of code, definitions and proofs, and wrong bodies, of each crate
-  tools/map.py definitions FILE..    the definition files that the contracts of these source files reach, each after
-                                     those that it stands on, with their lines
+  tools/map.py definitions FILE..    all that these files rest on: the definition files that a source file's contracts or a
+                                     definition file reach, each after those that it stands on, with their lines, and then
+                                     the Rust types and traits that these and the files cite, with where they stand
   tools/map.py words                 words of specs/ that have two definitions: in a crate, or in it and one below it
+  tools/map.py like NAME             the files that name a variant, a field or another word, by crate, with how often
+  tools/map.py proofs CRATE          the proof files of a crate, with what their first line says
+  tools/map.py names                 backticked names of README.md and docs/ that stand nowhere in the repository
+  tools/map.py sentences             sentences of more than 60 words and cells of tables of more than 400 characters in
+                                     README.md and docs/, and README.md where it has 900 words or more
 """
+import collections
 import pathlib
 import re
+import subprocess
 import sys
 
-CRATES = pathlib.Path(__file__).resolve().parent.parent / "crates"
+TOP = pathlib.Path(__file__).resolve().parent.parent
+CRATES = TOP / "crates"
 
 
 def count(paths):
@@ -90,8 +99,77 @@ def words():
                     print(f"{word}: {file.relative_to(CRATES)}, {second.relative_to(CRATES)}")
 
 
+ITEM = r"^\s*pub (?:struct|enum|trait|type) "
+
+
+def item(file, name):
+    """The text of a type or trait that a source file defines, up to its closing brace, or None."""
+    lines = file.read_text().splitlines()
+    for at, line in enumerate(lines):
+        if re.match(ITEM + name + r"\b", line):
+            depth, taken = 0, []
+            for line in lines[at:]:
+                taken.append(line.split("//")[0])
+                depth += line.count("{") - line.count("}")
+                if depth == 0 and ("}" in line or ";" in line):
+                    break
+            return "\n".join(taken)
+    return None
+
+
+def defining(crate, name):
+    """The source file of a crate that defines a type or trait of this name, or None."""
+    for file in sorted((CRATES / crate).glob("src/**/*.rt")):
+        if item(file, name):
+            return file
+    return None
+
+
+def imported(file):
+    """By name, the crate from which a source file has a type or trait."""
+    own = file.relative_to(CRATES).parts[0]
+    found = {}
+    for crate, names in re.findall(r"^(?:pub )?use (\w+)::([^;]+);", file.read_text(), re.M):
+        for name in re.findall(r"\b[A-Z]\w*", names):
+            found[name] = own if crate in ("crate", "super", "self") else crate
+    return found
+
+
+def cited(file, text):
+    """The types and traits of this repository that a piece of a source file cites."""
+    own = file.relative_to(CRATES).parts[0]
+    known = imported(file)
+    for name in sorted(set(re.findall(r"\b[A-Z]\w*", text))):
+        crate = known.get(name, own)
+        if (CRATES / crate).is_dir():
+            at = file if item(file, name) else defining(crate, name)
+            if at:
+                yield at, name
+
+
+def declared(text):
+    """The types and traits that a definition file cites."""
+    for crate, path in re.findall(r"^(?:pub )?use Rattle\.(\w+)\.specs\.declared\.([\w.]+)", text, re.M):
+        name = next((part for part in path.split(".") if part[:1].isupper()), None)
+        at = name and (CRATES / crate).is_dir() and defining(crate, name)
+        if at:
+            yield at, name
+
+
 def definitions(sources):
-    order = []
+    order, types = [], {}
+
+    def visit_type(file, name):
+        if (file, name) not in types:
+            text = item(file, name)
+            types[file, name] = len(text.splitlines())
+            for found in cited(file, text.split("{", 1)[-1]):
+                visit_type(*found)
+            uses = re.findall(r"^\s*ghost use [^;]+;", file.read_text(), re.M)
+            for use in uses:
+                if set(re.findall(r"\w+", use.rpartition(".")[2])) & set(re.findall(r"\w+", text)):
+                    for below in reached(use, True):
+                        visit(below)
 
     def visit(file):
         if file in order or file.name == "Lib.antt":
@@ -102,21 +180,130 @@ def definitions(sources):
                 visit(below)
         if file not in order:
             order.append(file)
+            for found in declared(text):
+                visit_type(*found)
 
-    for source in sources:
-        for file in reached(pathlib.Path(source).read_text(), True):
-            visit(file)
+    for source in map(pathlib.Path.resolve, map(pathlib.Path, sources)):
+        text = source.read_text()
+        if source.suffix == ".antt":
+            visit(source)
+        else:
+            for file in reached(text, True):
+                visit(file)
+            signatures = re.sub(r"^(?:pub )?use [^;]+;", "", text, flags=re.M)
+            for found in cited(source, signatures):
+                visit_type(*found)
+    print("| Definitions | Lines |\n|---|---|")
     for file in order:
         print(f"| `{file.relative_to(CRATES)}` | {count([file])} |")
-    print(f"{len(order)} files, {count(order):,} lines")
+    by_file = collections.defaultdict(list)
+    for file, name in sorted(types):
+        by_file[file].append(name)
+    print("\n| Source file | Types and traits |\n|---|---|")
+    for file, names in sorted(by_file.items()):
+        print(f"| `{file.relative_to(CRATES)}` | {', '.join(f'`{name}`' for name in names)} |")
+    print(f"\n{len(order)} definition files, {count(order):,} lines; {len(types)} types and traits in {len(by_file)} source "
+          f"files, {sum(types.values()):,} lines")
+
+
+def tracked(*kinds):
+    """The files of the repository that git knows, of these last names."""
+    names = subprocess.run(["git", "ls-files", "-co", "--exclude-standard"], cwd=TOP, capture_output=True, text=True, check=True).stdout
+    return [TOP / name for name in names.splitlines() if name.endswith(kinds) and (TOP / name).is_file()]
+
+
+def like(name):
+    """The files that name a word: as it is written, or as a part of a longer name in lower case (`Cmerge`: `cmerge_stays`)."""
+    lower = re.sub(r"(?<=[a-z0-9])(?=[A-Z])", "_", name).lower()
+    pattern = re.compile(rf"\b{name}\b|(?:\b|_){lower}(?:\b|_)")
+    found = collections.defaultdict(list)
+    for file in tracked(".rt", ".antt", ".edit", ".py", ".sh"):
+        times = len(pattern.findall(file.read_text(errors="replace")))
+        if times:
+            parts = file.relative_to(TOP).parts
+            found[parts[1] if parts[0] == "crates" else parts[0]].append((times, file))
+    for crate, files in sorted(found.items()):
+        print(crate)
+        for times, file in files:
+            print(f"    {times:4}  {file.relative_to(TOP)}")
+    print(f"{sum(map(len, found.values()))} files in {len(found)} crates or folders")
+
+
+def proofs(crate):
+    for file in sorted((CRATES / crate).glob("proofs/**/*.antt")):
+        if file.name != "Lib.antt":
+            lines = file.read_text().splitlines()
+            first = next((line[2:].strip() for line in lines[:3] if line.startswith("--")), "")
+            print(f"| `{file.relative_to(CRATES / crate / 'proofs')}` | {len(lines)} | {first} |")
+
+
+# Names of the shell that documents may cite.
+STANDARD = {"xargs"}
+
+
+def documents():
+    return [TOP / "README.md", *sorted((TOP / "docs").glob("*.md"))]
+
+
+def prose(file):
+    """The lines of a document outside its blocks of code, with their numbers."""
+    is_code = False
+    for number, line in enumerate(file.read_text().splitlines(), 1):
+        if line.startswith("```"):
+            is_code = not is_code
+        elif not is_code and not line.startswith("    "):
+            yield number, line
+
+
+def names():
+    """Backticked names (of files, crates, functions, words and options) that no other file of the repository has."""
+    texts = [file.read_text(errors="replace") for file in tracked("") if file not in documents() and file.suffix not in (".svg", ".png")]
+    known = set(re.findall(r"\w+", "\n".join(texts)))
+    known |= {part for file in tracked("") for part in re.findall(r"\w+", str(file.relative_to(TOP)))}
+    missing = 0
+    for file in documents():
+        for number, line in prose(file):
+            for text in re.findall(r"`([^`]+)`", line):
+                if not re.fullmatch(r"(?:--)?\w[\w-]*(?:(?:::|[./])\w[\w-]*)*", text):
+                    continue
+                for word in re.findall(r"[A-Za-z_]\w*", text) if text not in STANDARD else []:
+                    if word not in known:
+                        print(f"{file.relative_to(TOP)}:{number}: `{text}`: {word}")
+                        missing += 1
+                        break
+    sys.exit(1 if missing else 0)
+
+
+def sentences():
+    found = 0
+    for file in documents():
+        for number, line in prose(file):
+            is_table = line.startswith("|")
+            for piece in line.strip().strip("|").split(" | ") if is_table else [line]:
+                said = []
+                if is_table and len(piece.strip()) > 400:
+                    said.append(f"a cell of {len(piece.strip())} characters")
+                said += [f"a sentence of {len(it.split())} words" for it in re.split(r"(?<=[.!?])\s+", piece) if len(it.split()) > 60]
+                for it in said:
+                    print(f"{file.relative_to(TOP)}:{number}: {it}")
+                    found += 1
+    size = len((TOP / "README.md").read_text().split())
+    if size >= 900:
+        print(f"README.md: {size} words")
+        found += 1
+    sys.exit(1 if found else 0)
 
 
 if __name__ == "__main__":
-    if sys.argv[1:] == ["sizes"]:
-        sizes()
-    elif len(sys.argv) > 2 and sys.argv[1] == "definitions":
-        definitions(sys.argv[2:])
-    elif sys.argv[1:] == ["words"]:
-        words()
+    given = sys.argv[1:]
+    plain = {"sizes": sizes, "words": words, "names": names, "sentences": sentences}
+    if len(given) == 1 and given[0] in plain:
+        plain[given[0]]()
+    elif len(given) > 1 and given[0] == "definitions":
+        definitions(given[1:])
+    elif len(given) == 2 and given[0] == "like":
+        like(given[1])
+    elif len(given) == 2 and given[0] == "proofs" and (CRATES / given[1]).is_dir():
+        proofs(given[1])
     else:
         sys.exit(__doc__)

@@ -4,7 +4,9 @@ of live arguments and of merged graphs: for rows that hold graphs of kernels or 
 
 usage: tools/merged_graph.py KERNEL    KERNEL: a file with the text of a kernel, without helper functions. Its graph is printed before
                                        and after merging, the blocks and the size of each, and the arguments of each block but block 0;
-                                       graphs in the form of the graphs of given_middle, which tools/lean_net.py reads"""
+                                       graphs in the form of the graphs of given_middle, which tools/lean_net.py reads
+       tools/merged_graph.py --told    the same of each graph on standard input, one a line: its scalars, its arrays, the type of its
+                                       result and its blocks, with tabs between"""
 import re
 import sys
 
@@ -732,6 +734,32 @@ def text(block):
     return " ; ".join(parts)
 
 
+def told(blocks):
+    """The blocks of a text."""
+    def side(words):
+        return (int(words[0]), [int(word) for word in words[1:]])
+
+    out = []
+    for block in blocks.split("|"):
+        args, steps, jump = [], [], ("return", None)
+        for part in block.split(";"):
+            kind, *words = part.split()
+            if kind == "block":
+                args = [int(word) for word in words]
+            elif kind == "go":
+                jump = ("go", side(words))
+            elif kind == "if":
+                at = words.index("else")
+                jump = ("if", int(words[0]), side(words[1:at]), side(words[at + 1:]))
+            elif kind == "return":
+                jump = ("return", int(words[0]) if words else None)
+            else:
+                times, (kind, *words) = (int(words[0]), words[1:]) if kind == "times" else (1, [kind, *words])
+                steps += [(kind, *(int(word) if word.isdigit() else word for word in words))] * times
+        out.append((args, steps, jump))
+    return out
+
+
 def graphs(kernel):
     """The parts of a header, and the blocks before and after merging."""
     tree = Reader(kernel)
@@ -751,15 +779,23 @@ def row(header, blocks):
     return "\t".join([*header, " | ".join(text(block) for block in blocks)])
 
 
-def main(words):
-    if len(words) != 1:
-        sys.exit(__doc__)
-    with open(words[0]) as kernel:
-        header, before, after = graphs(kernel.read())
+def show(header, before, after):
     for name, blocks in (("before", before), ("merged", after)):
         print(f"{name}: blocks {len(blocks)} size {sum(weight(block) for block in blocks)}, arguments "
               + " ".join(str(len(block[0])) for block in blocks[1:]))
         print(row(header, blocks))
+
+
+def main(words):
+    if len(words) != 1:
+        sys.exit(__doc__)
+    if words == ["--told"]:
+        for line in sys.stdin:
+            *header, blocks = line.rstrip("\n").split("\t")
+            show(header, told(blocks), merged(told(blocks)))
+        return
+    with open(words[0]) as kernel:
+        show(*graphs(kernel.read()))
 
 
 if __name__ == "__main__":

@@ -7,14 +7,14 @@ _elastic() {
     return
   fi
   case $before in
-    --slots|--limit|--turns) return ;;
+    --slots|--depth|--workers|--limit|--turns) return ;;
     --delay) compopt -o nospace 2> /dev/null; COMPREPLY=($(compgen -W "logic= mul= div= read= lsq=" -- "$current")); return ;;
   esac
   case ${COMP_WORDS[1]} in
-    compile) options="--delay --slots --forward --wrap" ;;
-    go) options="--delay --slots --forward --wrap --limit --count --cycles" ;;
+    compile) options="--delay --slots --depth --forward --wrap" ;;
+    go) options="--delay --slots --depth --forward --wrap --workers --limit --count --cycles" ;;
     ref) options="--wrap --turns --count" ;;
-    run) options="--limit --count --cycles --log" ;;
+    run) options="--workers --limit --count --cycles --log" ;;
     replay) options="" ;;
     upgrade) options="" ;;
   esac

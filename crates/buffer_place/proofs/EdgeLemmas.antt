@@ -7,11 +7,11 @@ use Rattle.net_types.specs.declared.net.Chan.{Chan}
 use Rattle.net_types.specs.declared.net.Net.{Net}
 use Rattle.net_types.specs.Nets.{nowhere, chan_at}
 use Rattle.net_check.specs.Checks.{EndsWithin}
-use Rattle.net_check.specs.Cycles.{IsInstant, Leads, IsClosedWalk}
+use Rattle.net_check.specs.Cycles.{IsInstant, Leads}
 use Rattle.graph_parts.specs.Graph.{Edge, Walk, Reaches}
-use Rattle.graph_parts.specs.Parts.{ArePartsOf}
 use Rattle.buffer_place.specs.declared.timing.Timing.{Timing}
-use Rattle.buffer_place.specs.Placing.{source_delay, classed, LiesOnCycle}
+use Rattle.buffer_place.specs.Timings.{source_delay}
+use Rattle.buffer_place.specs.Placing.{classed, LiesOnCycle}
 use Rattle.buffer_place.specs.Edges.{instant, sources, targets, AreUnitParts, is_joined}
 
 -- ---- items of lists
@@ -72,7 +72,7 @@ module _ (t : Timing) (net : Net) where
   abbrev given : Chan → Chan
   given c = record c { delay = source_delay t net c }
 
-  abbrev Goes : ℕ → ℕ → Type 0
+  abbrev pub Goes : ℕ → ℕ → Type 0
   Goes u v = Edge (sources (instant t net net.chans)) (targets (instant t net net.chans)) u v
 
   pub given_at : (c : ℕ) → c < length net.chans → chan_at (classed t net) c ≡ given (chan_at net c)
@@ -98,7 +98,7 @@ module _ (t : Timing) (net : Net) where
     target = ap (λ (x : Chan). x.to.unit) (given_at c l);
   }
 
-  edge_of : (v u c : ℕ) → IsInstant (classed t net) v u c → Goes v u
+  pub edge_of : (v u c : ℕ) → IsInstant (classed t net) v u c → Goes v u
   edge_of v u c h =
       let ks = instant t net net.chans in
       let k = kept_at is_instant net.chans c (within_of v u c h) (eq-eqb _ _ (instant_delay v u c h)) in
@@ -109,7 +109,7 @@ module _ (t : Timing) (net : Net) where
         to_at ks k.place ∙ ap (λ (x : Chan). x.to.unit) k.here ∙ instant_target v u c h,
       )
 
-  instant_of : (v u : ℕ) → Goes v u → (c : ℕ) × IsInstant (classed t net) v u c
+  pub instant_of : (v u : ℕ) → Goes v u → (c : ℕ) × IsInstant (classed t net) v u c
   instant_of v u g =
       let ks = instant t net net.chans in
       let l = g.1 in

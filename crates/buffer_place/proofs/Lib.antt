@@ -1,2 +1,6 @@
 pub mod EdgeLemmas
+pub mod LevelLemmas
+pub mod TimedLemmas
+pub mod DepthLemmas
+pub mod OneLemmas
 pub mod PlaceLemmas

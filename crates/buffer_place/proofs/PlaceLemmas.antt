@@ -1,60 +1,39 @@
 -- The placed channels keep what is promised of them.
-use Rattle.std.proofs.Common.{◌≡◌, ◌≢◌, ℕ, zero, suc, ◌+◌, ◌*◌, ◌<◌, ◌≤◌, ◌==◌, ◌&&◌, Bool, true, false, cond, List, [], ◌∷◌, get_or, length, map, refl, sym, ap, subst, ◌∙◌, arith}
-use Rattle.std.specs.Prelude.{sum_by, Option, Some, None}
-use Rattle.std.specs.List.{All}
-use Rattle.std.proofs.lemmas.Bool.{eq-eqb, eqb-true, eqb-false, and_parts}
-use Rattle.std.proofs.Math.Nat.{suc-mul}
-use Rattle.std.proofs.lemmas.List.{length-map}
-use Rattle.std.proofs.lemmas.List.Sums.{sum_by-cons}
-use Rattle.std.proofs.lemmas.List.Elements.{All-nil, All-cons, All-head, All-tail}
-use Rattle.el_base.specs.Limits.{max_delay, max_sum_of_slots}
-use Rattle.el_base.specs.declared.operation.Op2.{Op2}
+use Rattle.std.proofs.Common.{◌≡◌, inl, inr, ℕ, ◌+◌, ◌<◌, ◌≤◌, ◌==◌, ◌&&◌, Bool, true, false, cond, List, [], ◌∷◌, length, refl, sym, ap, subst, ◌∙◌, arith}
+use Rattle.std.specs.Prelude.{Option, Some, None}
+use Rattle.std.proofs.lemmas.Bool.{cases_lt, eq-eqb, eqb-true}
+use Rattle.std.proofs.lemmas.List.{length-map, get_or_past}
+use Rattle.el_base.specs.Limits.{max_delay}
 use Rattle.net_types.specs.declared.net.Chan.{Chan}
 use Rattle.net_types.specs.declared.net.Net.{Net}
-use Rattle.net_types.specs.declared.net.Unit.{Unit as Kind}
-use Rattle.net_types.specs.declared.net.Unit.TheVariants.{Entry, Param, Const, Op1, Op2 as Two, Select, Fork, Mux, Cmerge, Branch, Sink, Read, Lsq, Exit}
-use Rattle.net_types.specs.Nets.{nowhere, kind_of, chan_at}
+use Rattle.net_types.specs.declared.net.Unit.TheVariants.{Sink}
+use Rattle.net_types.specs.Nets.{kind_of, chan_at}
 use Rattle.net_check.specs.Checks.{EndsWithin}
-use Rattle.net_check.specs.Sizes.{IsSized, KeepsC3}
-use Rattle.net_check.specs.Cycles.{WaitsAfter, IsDelayed, IsInstant, Leads, IsClosedWalk, KeepsC4}
-use Rattle.net_check.specs.Retimed.{untimed, plain, SamePlain}
-use Rattle.buffer_place.specs.declared.timing.Class.{Class}
-use Rattle.buffer_place.specs.declared.timing.Class.TheVariants as class
+use Rattle.net_check.specs.Sizes.{KeepsC3}
+use Rattle.net_check.specs.Cycles.{IsInstant, Leads, IsClosedWalk, KeepsC4}
+use Rattle.net_check.specs.Retimed.{SamePlain}
+use Rattle.graph_parts.specs.Graph.{InRow}
 use Rattle.buffer_place.specs.declared.timing.Timing.{Timing}
-use Rattle.buffer_place.specs.Timings.{IsTiming, class_of, class_delay, op2_class}
-use Rattle.buffer_place.specs.Placing.{source_delay, classed, LiesOnCycle, AreMostSlots, IsPlaced}
-use Rattle.buffer_place.specs.Edges.{AreUnitParts, is_joined, marked_delay, marked_chan, marked_chans}
-use Rattle.buffer_place.proofs.EdgeLemmas.{mapped_at, GoesRound, goes_round, lies_on, given_at}
+use Rattle.buffer_place.specs.declared.cuts.Cuts.{Cuts}
+use Rattle.buffer_place.specs.declared.cuts.Cuts.TheVariants.{Cycles, Chains}
+use Rattle.buffer_place.specs.Timings.{IsTiming, source_delay}
+use Rattle.buffer_place.specs.Chains.{weight, ComesOver, AreLevels, AreDepthDelays, depth_delay}
+use Rattle.buffer_place.specs.Placing.{classed, LiesOnCycle, AreMostSlots, AreUsualDelays, AreDelays, IsPlaced}
+use Rattle.buffer_place.specs.Edges.{instant, sources, targets, AreUnitParts, is_joined, marked_delay}
+use Rattle.buffer_place.specs.Cuts.{AreUnitLevels, AreCutsFor, cut_delay, level_at}
+use Rattle.buffer_place.proofs.EdgeLemmas.{goes_round, lies_on, given_at, Goes, is_instant_of, edge_of, instant_of, within_of, instant_delay, instant_source, instant_target}
+use Rattle.buffer_place.proofs.LevelLemmas.{AreRowLevels, unit_row_levels, each_levelled}
+use Rattle.buffer_place.proofs.TimedLemmas.{source_within, after, at_after, same_after, slots_each, sized_after, delayed_each}
+use Rattle.buffer_place.proofs.DepthLemmas.{GoesThrough, Crosses, crosses, is_instant, goes_up, enters_low, depth_some, depth_within, no_cycle}
 
-class_within : (t : Timing) → IsTiming t → (c : Class) → class_delay t (Some c) ≤ max_delay
-class_within t h class.Logic = h.logic
-class_within t h class.Mul = h.mul
-class_within t h class.Div = h.div
-class_within t h class.Read = h.read
-class_within t h class.Lsq = h.lsq
-
-source_within : (t : Timing) (net : Net) (c : Chan) → IsTiming t → source_delay t net c ≤ max_delay
-source_within t net c h = by (class_of (kind_of net c.from.unit))
-  where
-    by : (o : Option Class) → class_delay t o ≤ max_delay
-    by None = omega arith
-    by (Some k) = class_within t h k
+-- ---- where channels on cycles get a delay
 
 module _ (t : Timing) (net : Net) (marks : List ℕ) (slots : ℕ) where
-  abbrev after : Net
-  after = record net { chans = marked_chans t net marks slots net.chans }
+  abbrev marked : Net
+  marked = after t net (marked_delay t net marks) slots
 
-  abbrev marked : Chan → Chan
-  marked = marked_chan t net marks slots
-
-  at_after : (c : ℕ) → c < length net.chans → chan_at after c ≡ marked (chan_at net c)
-  at_after c l = mapped_at marked net.chans c l
-
-  same_units : (cs : List Chan) → map untimed (map marked cs) ≡ map untimed cs
-  same_units [] = refl
-  same_units (c ∷ cs) = ap (λ r. untimed c ∷ r) (same_units cs)
-
-  -- ---- delays
+  abbrev marked_at : (c : ℕ) → c < length net.chans → (chan_at marked c).delay ≡ marked_delay t net marks (chan_at net c)
+  marked_at c l = ap (λ (x : Chan). x.delay) (at_after t net (marked_delay t net marks) slots c l)
 
   round_delay : (c : Chan) → source_delay t net c ≡ 0 → is_joined marks c ≡ true → marked_delay t net marks c ≡ 1
   round_delay c z j = ap (λ b. cond (b && is_joined marks c) 1 (source_delay t net c)) (eq-eqb _ _ z) ∙ ap (λ b. cond b 1 (source_delay t net c)) j
@@ -75,109 +54,167 @@ module _ (t : Timing) (net : Net) (marks : List ℕ) (slots : ℕ) where
       by true b e f = eqb-true _ _ e
       by false b e f = f
 
-  some_after : (c : Chan) → 0 < source_delay t net c → 0 < marked_delay t net marks c
-  some_after c l = by ((source_delay t net c == 0) && is_joined marks c)
+  marked_some : (c : Chan) → 0 < source_delay t net c → 0 < marked_delay t net marks c
+  marked_some c l = by ((source_delay t net c == 0) && is_joined marks c)
     where
       by : (b : Bool) → 0 < cond b 1 (source_delay t net c)
       by true = omega arith
       by false = l
 
-  delay_within : IsTiming t → (c : Chan) → marked_delay t net marks c ≤ max_delay
-  delay_within h c = by ((source_delay t net c == 0) && is_joined marks c)
+  marked_within : IsTiming t → (c : Chan) → marked_delay t net marks c ≤ max_delay
+  marked_within h c = by ((source_delay t net c == 0) && is_joined marks c)
     where
       by : (b : Bool) → cond b 1 (source_delay t net c) ≤ max_delay
       by true = omega arith
       by false = source_within t net c h
 
-  -- ---- slots
-
-  slots_each : (cs : List Chan) → All (λ (c : Chan). c.slots ≡ slots) (map marked cs)
-  slots_each [] = All-nil (λ (c : Chan). c.slots ≡ slots)
-  slots_each (c ∷ cs) = All-cons (λ (c : Chan). c.slots ≡ slots) (marked c) (map marked cs) refl (slots_each cs)
-
-  slots_together : (cs : List Chan) → sum_by (λ (c : Chan). c.slots) (map marked cs) ≡ length cs * slots
-  slots_together [] = omega arith
-  slots_together (c ∷ cs) = let r = slots_together cs in sum_by-cons (λ (c : Chan). c.slots) (marked c) (map marked cs) ∙ ap (λ n. slots + n) r ∙ next (length cs)
-    where
-      next : (n : ℕ) → slots + n * slots ≡ suc n * slots
-      next n = let e = suc-mul n slots in omega arith
-
-  sized_each : IsTiming t → 0 < slots → slots ≤ t.slots → (cs : List Chan) → All IsSized (map marked cs)
-  sized_each h s m [] = All-nil IsSized
-  sized_each h s m (c ∷ cs) =
-      let e = h.slots in
-      All-cons IsSized (marked c) (map marked cs) (record { slots_some = s; slots_most = omega arith; delay_most = delay_within h c }) (sized_each h s m cs)
-
-  pub sized : IsTiming t → 0 < slots → AreMostSlots t.slots (length net.chans) slots → KeepsC3 after
-  sized h s m = record {
-    chans = sized_each h s m.few net.chans;
-    together = (let e = slots_together net.chans in let l = m.together in omega arith);
-  }
-
-  -- ---- placed
-
-  pub placed : AreUnitParts t net marks → EndsWithin net → AreMostSlots t.slots (length net.chans) slots → IsPlaced t net after
-  placed a ends m = record {
-    same = λ i. record net { chans = same_units net.chans i };
-    on_cycle = λ c h. (let r = goes_round t net marks a ends c h in
-        ap (λ (x : Chan). x.delay) (at_after c r.within) ∙ round_delay (chan_at net c) r.delay r.joined);
+  usual_delays : AreUnitParts t net marks → EndsWithin net → AreUsualDelays t net marked
+  usual_delays a ends = record {
+    on_cycle = λ c h. (let r = goes_round t net marks a ends c h in marked_at c r.within ∙ round_delay (chan_at net c) r.delay r.joined);
     off_cycle = λ c l away.
-        ap (λ (x : Chan). x.delay) (at_after c l) ∙ other_delay (chan_at net c) (λ z j. away (lies_on t net marks a ends c (record { within = l; delay = z; joined = j })));
-    slots = slots;
-    most = m;
-    each = slots_each net.chans;
+        marked_at c l ∙ other_delay (chan_at net c) (λ z j. away (lies_on t net marks a ends c (record { within = l; delay = z; joined = j })));
   }
 
-  -- ---- cycles
-
-  waits : IsTiming t → (k : Kind) (d : ℕ) → (0 < class_delay t (class_of k) → 0 < d) → WaitsAfter k d
-  waits h Entry d s = tt
-  waits h (Param j) d s = tt
-  waits h (Const w n) d s = tt
-  waits h (Op1 op) d s = tt
-  waits h (Two op) d s = tt
-  waits h (Select w) d s = tt
-  waits h (Fork w n) d s = tt
-  waits h (Mux w n) d s = tt
-  waits h (Cmerge n) d s = tt
-  waits h (Branch w) d s = tt
-  waits h (Sink w) d s = tt
-  waits h (Read b) d s = tt
-  waits h (Lsq b d2 ps gs f) d s = s h.lsq_some
-  waits h Exit d s = tt
-
-  delayed_each : IsTiming t → (cs : List Chan) → All (IsDelayed after) (map marked cs)
-  delayed_each h [] = All-nil (IsDelayed after)
-  delayed_each h (c ∷ cs) = All-cons (IsDelayed after) (marked c) (map marked cs) (waits h (kind_of net c.from.unit) (marked_delay t net marks c) (some_after c)) (delayed_each h cs)
-
-  instant_before : (v u c : ℕ) → IsInstant after v u c → IsInstant (classed t net) v u c
+  instant_before : (v u c : ℕ) → IsInstant marked v u c → IsInstant (classed t net) v u c
   instant_before v u c h =
-      let l : c < length net.chans = (let w = h.within in omega (arith, length-map net.chans marked)) in
-      let z = none_after (chan_at net c) (sym (ap (λ (x : Chan). x.delay) (at_after c l)) ∙ h.delay) in
+      let l : c < length net.chans = (let w = h.within in omega (arith, length-map net.chans (λ (c : Chan). record c { slots = slots; delay = marked_delay t net marks c }))) in
+      let e = at_after t net (marked_delay t net marks) slots c l in
+      let z = none_after (chan_at net c) (sym (marked_at c l) ∙ h.delay) in
       record {
         within = omega (arith, length-map net.chans (λ (c : Chan). record c { delay = source_delay t net c }));
         delay = ap (λ (x : Chan). x.delay) (given_at t net c l) ∙ z;
-        source = ap (λ (x : Chan). x.from.unit) (given_at t net c l) ∙ sym (ap (λ (x : Chan). x.from.unit) (at_after c l)) ∙ h.source;
-        target = ap (λ (x : Chan). x.to.unit) (given_at t net c l) ∙ sym (ap (λ (x : Chan). x.to.unit) (at_after c l)) ∙ h.target;
+        source = ap (λ (x : Chan). x.from.unit) (given_at t net c l) ∙ sym (ap (λ (x : Chan). x.from.unit) e) ∙ h.source;
+        target = ap (λ (x : Chan). x.to.unit) (given_at t net c l) ∙ sym (ap (λ (x : Chan). x.to.unit) e) ∙ h.target;
       }
 
-  leads_before : (cs : List ℕ) (v u : ℕ) → Leads after v cs u → Leads (classed t net) v cs u
+  leads_before : (cs : List ℕ) (v u : ℕ) → Leads marked v cs u → Leads (classed t net) v cs u
   leads_before [] v u h = h
   leads_before (c ∷ cs) v u h =
-      let i = instant_before v (chan_at after c).to.unit c h.0 in
-      let r = leads_before cs (chan_at after c).to.unit u h.1 in
-      let e : (chan_at after c).to.unit ≡ (chan_at (classed t net) c).to.unit = sym i.target in
+      let i = instant_before v (chan_at marked c).to.unit c h.0 in
+      let r = leads_before cs (chan_at marked c).to.unit u h.1 in
+      let e : (chan_at marked c).to.unit ≡ (chan_at (classed t net) c).to.unit = sym i.target in
       (subst (λ x. IsInstant (classed t net) v x c) e i, subst (λ x. Leads (classed t net) x cs u) e r)
 
-  no_cycle : AreUnitParts t net marks → EndsWithin net → (cs : List ℕ) → IsClosedWalk after cs → ⊥
-  no_cycle a ends [] h = let l = h.some in absurd (omega arith)
-  no_cycle a ends (c ∷ cs) h =
+  no_round : AreUnitParts t net marks → EndsWithin net → (cs : List ℕ) → IsClosedWalk marked cs → ⊥
+  no_round a ends [] h = let l = h.some in absurd (omega arith)
+  no_round a ends (c ∷ cs) h =
       let w = leads_before (c ∷ cs) h.unit h.unit h.leads in
       let on : LiesOnCycle (classed t net) c = (cs, record { unit = h.unit; some = omega arith; leads = w }) in
       let r = goes_round t net marks a ends c on in
-      let d : (chan_at after c).delay ≡ 1 = ap (λ (x : Chan). x.delay) (at_after c r.within) ∙ round_delay (chan_at net c) r.delay r.joined in
-      let z : (chan_at after c).delay ≡ 0 = h.leads.0.delay in
+      let d : (chan_at marked c).delay ≡ 1 = marked_at c r.within ∙ round_delay (chan_at net c) r.delay r.joined in
+      let z : (chan_at marked c).delay ≡ 0 = h.leads.0.delay in
       absurd (omega arith)
 
-  pub delayed : AreUnitParts t net marks → EndsWithin net → IsTiming t → KeepsC4 after
-  delayed a ends h = record { queues = delayed_each h net.chans; cycles = no_cycle a ends }
+-- ---- where channels get a delay by a depth
+
+module _ (t : Timing) (depth : ℕ) (net : Net) (levels : List ℕ) (slots : ℕ) where
+  abbrev level : ℕ → ℕ
+  level = level_at levels
+
+  abbrev cut : Net
+  cut = after t net (depth_delay t depth level net) slots
+
+  abbrev same_cut : SamePlain net cut
+  same_cut = same_after t net (depth_delay t depth level net) slots
+
+  cut_at : (c : ℕ) → c < length net.chans → (chan_at cut c).delay ≡ depth_delay t depth level net (chan_at net c)
+  cut_at c l = ap (λ (x : Chan). x.delay) (at_after t net (depth_delay t depth level net) slots c l)
+
+  cuts_no_cycle : (cs : List ℕ) → IsClosedWalk cut cs → ⊥
+  cuts_no_cycle = no_cycle t depth level net cut same_cut cut_at
+
+  module _ (a : AreUnitLevels t depth net levels) (ends : EndsWithin net) where
+    found : AreRowLevels depth net a.rows levels
+    found = unit_row_levels t depth net levels a
+
+    many : length levels ≡ length net.units
+    many = each_levelled t depth net levels a
+
+    lists_long : length (sources (instant t net net.chans)) ≡ length (targets (instant t net net.chans))
+    lists_long = length-map (instant t net net.chans) (λ (c : Chan). c.from.unit) ∙ sym (length-map (instant t net net.chans) (λ (c : Chan). c.to.unit))
+
+    -- a channel without a delay stands in a row
+    row_of : (v u c : ℕ) → Crosses t depth level net cut same_cut cut_at v u c → InRow a.rows u v
+    row_of v u c h =
+        let g : Goes t net v u = subst (λ x. Goes t net x u) h.source (subst (Goes t net (chan_at net c).from.unit) h.target (edge_of t net _ _ c (is_instant_of t net c h.within h.through.class))) in
+        a.are_rows.whole u v (g.0, (subst (λ n. g.0 < n) lists_long g.1), g.3, g.2)
+
+    over_cut : (v u c : ℕ) → IsInstant cut v u c → level v + weight (kind_of cut u) ≤ level u
+    over_cut v u c i =
+        let h = crosses t depth level net cut same_cut cut_at v u c i in
+        let l : u < length levels = omega (arith, many, ends.to c h.within, h.target) in
+        (found.each u l).over v (row_of v u c h) (goes_up t depth level net cut same_cut cut_at v u c i) (enters_low t depth level net cut same_cut cut_at v u c i)
+
+    comes_over : (v u : ℕ) → InRow a.rows u v → v < u → level v + weight (kind_of net u) ≤ depth → level u ≡ level v + weight (kind_of net u) → ComesOver cut level u
+    comes_over v u r b few is =
+        let e = a.are_rows.sound u v r in
+        let g : Goes t net v u = (e.0, (subst (λ n. e.0 < n) (sym lists_long) e.1), e.3, e.2) in
+        let i = instant_of t net v u g in
+        let s = instant_source t net v u i.0 i.1 in
+        let d = instant_target t net v u i.0 i.1 in
+        let x = chan_at net i.0 in
+        let low : level x.from.unit + weight (kind_of net x.to.unit) ≤ depth =
+        subst (λ y. level x.from.unit + weight (kind_of net y) ≤ depth) (sym d) (subst (λ y. level y + weight (kind_of net u) ≤ depth) (sym s) few) in
+        let through : GoesThrough t depth level net x = record { class = instant_delay t net v u i.0 i.1; rises = omega (arith, s, d, b); few = low } in
+        let h : Crosses t depth level net cut same_cut cut_at v u i.0 = record { within = within_of t net v u i.0 i.1; through = through; source = s; target = d } in
+        record { source = v; chan = i.0; instant = is_instant t depth level net cut same_cut cut_at v u i.0 h; is = is }
+
+    no_unit : (u : ℕ) → length levels ≤ u → (level u ≡ 0) × (weight (kind_of net u) ≡ 0)
+    no_unit u l = (get_or_past levels u 0 l, ap weight (get_or_past net.units u (Sink 0) (omega (arith, many))))
+
+    cut_levels : AreLevels cut level
+    cut_levels = record {
+      own = λ u. elim (cases_lt u (length levels)) [ inl l ↦ (found.each u l).own | inr l ↦ omega (arith, (no_unit u l).1) ];
+      over = over_cut;
+      least = λ u. elim (cases_lt u (length levels)) [
+        | inl l ↦ elim (found.each u l).least [ inl e ↦ inl e | inr g ↦ inr (comes_over g.source u g.named g.before g.few g.is) ]
+        | inr l ↦ inl ((no_unit u l).0 ∙ sym (no_unit u l).1)
+      ];
+    }
+
+    depth_delays : AreDepthDelays t depth net cut
+    depth_delays = record { level = level; levels = cut_levels; each = cut_at }
+
+-- ---- both
+
+module _ (t : Timing) (net : Net) (slots : ℕ) where
+  abbrev placed_net : Cuts → Net
+  placed_net cuts = after t net (cut_delay t net cuts) slots
+
+  delays : (d : Option ℕ) (cuts : Cuts) → AreCutsFor t d net cuts → EndsWithin net → AreDelays t d net (placed_net cuts)
+  delays None (Cycles marks) a ends = usual_delays t net marks.items slots a ends
+  delays None (Chains depth levels) a ends = absurd a
+  delays (Some d) (Cycles marks) a ends = absurd a
+  delays (Some d) (Chains depth levels) a ends =
+      subst (λ x. AreDepthDelays t x net (placed_net (Chains depth levels))) a.0
+      (depth_delays t depth net levels.items slots (subst (λ x. AreUnitLevels t x net levels.items) (sym a.0) a.1) ends)
+
+  cut_within : IsTiming t → (cuts : Cuts) (c : Chan) → cut_delay t net cuts c ≤ max_delay
+  cut_within h (Cycles marks) c = marked_within t net marks.items slots h c
+  cut_within h (Chains depth levels) c = depth_within t depth (level_at levels.items) net h c
+
+  cut_some : (cuts : Cuts) (c : Chan) → 0 < source_delay t net c → 0 < cut_delay t net cuts c
+  cut_some (Cycles marks) c l = marked_some t net marks.items slots c l
+  cut_some (Chains depth levels) c l = depth_some t depth (level_at levels.items) net c l
+
+  no_cycles : (d : Option ℕ) (cuts : Cuts) → AreCutsFor t d net cuts → EndsWithin net → (cs : List ℕ) → IsClosedWalk (placed_net cuts) cs → ⊥
+  no_cycles None (Cycles marks) a ends cs w = no_round t net marks.items slots a ends cs w
+  no_cycles None (Chains depth levels) a ends cs w = absurd a
+  no_cycles (Some d) (Cycles marks) a ends cs w = absurd a
+  no_cycles (Some d) (Chains depth levels) a ends cs w = cuts_no_cycle t depth net levels.items slots cs w
+
+  module _ (cuts : Cuts) (a : AreCutsFor t t.depth net cuts) (ends : EndsWithin net) where
+    pub placed : AreMostSlots t.slots (length net.chans) slots → IsPlaced t net (placed_net cuts)
+    placed m = record {
+      same = same_after t net (cut_delay t net cuts) slots;
+      delays = delays t.depth cuts a ends;
+      slots = slots;
+      most = m;
+      each = slots_each t net (cut_delay t net cuts) slots net.chans;
+    }
+
+    pub sized : IsTiming t → 0 < slots → AreMostSlots t.slots (length net.chans) slots → KeepsC3 (placed_net cuts)
+    sized h s m = sized_after t net (cut_delay t net cuts) slots h (cut_within h cuts) s m
+
+    pub delayed : IsTiming t → KeepsC4 (placed_net cuts)
+    delayed h = record { queues = delayed_each t net (cut_delay t net cuts) slots h (cut_some cuts) net.chans; cycles = no_cycles t.depth cuts a ends }

@@ -5,7 +5,7 @@ use Rattle.net_types.specs.declared.net.Net.{Net}
 use Rattle.graph_parts.specs.Graph.{Edge}
 use Rattle.graph_parts.specs.Parts.{ArePartsOf}
 use Rattle.buffer_place.specs.declared.timing.Timing.{Timing}
-use Rattle.buffer_place.specs.Placing.{source_delay}
+use Rattle.buffer_place.specs.Timings.{source_delay}
 
 -- the channels out of units whose class has delay 0
 abbrev pub instant : Timing → Net → List Chan → List Chan
@@ -29,9 +29,3 @@ is_joined marks c = get_or marks c.from.unit 0 == get_or marks c.to.unit 0
 -- the delay of a channel, where units on a common cycle of channels of delay 0 have one mark
 abbrev pub marked_delay : Timing → Net → List ℕ → Chan → ℕ
 marked_delay t net marks c = cond ((source_delay t net c == 0) && is_joined marks c) 1 (source_delay t net c)
-
-abbrev pub marked_chan : Timing → Net → List ℕ → ℕ → Chan → Chan
-marked_chan t net marks slots c = record c { slots = slots; delay = marked_delay t net marks c }
-
-abbrev pub marked_chans : Timing → Net → List ℕ → ℕ → List Chan → List Chan
-marked_chans t net marks slots cs = map (marked_chan t net marks slots) cs

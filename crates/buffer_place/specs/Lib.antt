@@ -1,3 +1,5 @@
 pub mod Timings
+pub mod Chains
 pub mod Placing
 pub mod Edges
+pub mod Cuts

@@ -1,10 +1,13 @@
 -- How long units take: their classes, and the delays of their channels.
-use Rattle.std.specs.Prelude.{ℕ, ◌≤◌, ◌<◌, Option, Some, None}
+use Rattle.std.specs.Prelude.{◌≡◌, ℕ, ◌≤◌, ◌<◌, Option, Some, None}
 use Rattle.el_base.specs.Limits.{max_slots, max_delay}
 use Rattle.el_base.specs.declared.operation.Op2.{Op2}
 use Rattle.el_base.specs.declared.operation.Op2.TheVariants as op2
+use Rattle.net_types.specs.declared.net.Chan.{Chan}
+use Rattle.net_types.specs.declared.net.Net.{Net}
 use Rattle.net_types.specs.declared.net.Unit.{Unit as Kind}
 use Rattle.net_types.specs.declared.net.Unit.TheVariants as kind
+use Rattle.net_types.specs.Nets.{kind_of}
 use Rattle.buffer_place.specs.declared.timing.Class.{Class}
 use Rattle.buffer_place.specs.declared.timing.Class.TheVariants.{Logic, Mul, Div, Read, Lsq}
 use Rattle.buffer_place.specs.declared.timing.Timing.{Timing}
@@ -76,7 +79,11 @@ class_delay t (Some Div) = t.div
 class_delay t (Some Read) = t.read
 class_delay t (Some Lsq) = t.lsq
 
--- delays and slots up to the most, a delay of queues of 1 and more, and one slot and more
+-- the delay of the class of the unit that a channel comes from
+abbrev pub source_delay : Timing → Net → Chan → ℕ
+source_delay t net c = class_delay t (class_of (kind_of net c.from.unit))
+
+-- delays and slots up to the most, a delay of queues of 1 and more, one slot and more, and a depth, if any, of 1 and more
 pub record IsTiming (t : Timing) : Type 0 where
   pub logic : t.logic ≤ max_delay
   pub mul : t.mul ≤ max_delay
@@ -86,7 +93,8 @@ pub record IsTiming (t : Timing) : Type 0 where
   pub lsq_some : 0 < t.lsq
   pub slots : t.slots ≤ max_slots
   pub slots_some : 0 < t.slots
+  pub depth_some : (d : ℕ) → t.depth ≡ Some d → 0 < d
 
 -- what is taken where nothing is asked
 abbrev pub usual : Timing
-usual = record { logic = 0; mul = 4; div = 36; read = 2; lsq = 1; slots = 2 }
+usual = record { logic = 0; mul = 4; div = 36; read = 2; lsq = 1; slots = 2; depth = None }

@@ -1,6 +1,6 @@
 ghost use Rattle.std.specs.Prelude.{◌≡◌, ◌++◌, IfOk, OnOk, length};
 ghost use Rattle.buffer_place.specs.Edges.{instant, sources, targets};
-ghost use Rattle.buffer_place.specs.Placing.{source_delay};
+ghost use Rattle.buffer_place.specs.Timings.{source_delay};
 
 use crate::timing::{Timing, class_of};
 use net_types::{Chan, Memory, Net};

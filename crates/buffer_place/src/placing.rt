@@ -5,20 +5,25 @@ ghost use Rattle.net_types.specs.Rules.{KeepsC1};
 ghost use Rattle.net_check.specs.Checks.{EndsWithin};
 ghost use Rattle.net_check.specs.Sizes.{KeepsC3};
 ghost use Rattle.net_check.specs.Cycles.{KeepsC4};
-ghost use Rattle.buffer_place.specs.Edges.{AreUnitParts, marked_chans, marked_delay};
+ghost use Rattle.buffer_place.specs.Cuts.{AreCutsOf, cut_chans};
 ghost use Rattle.buffer_place.specs.Placing.{AreMostSlots, IsPlaced};
 ghost use Rattle.buffer_place.specs.Timings.{IsTiming};
 
-use crate::edges::{instant_edges, source_delay};
+use crate::cuts::{Cuts, cut_delay, unit_cuts};
 use crate::timing::Timing;
 use el_base::MAX_SUM_OF_SLOTS;
-use graph_parts::parts;
 use net_check::channels_end_at_units;
 use net_types::{Chan, List, Memory, Net};
 use std::alloc::Global;
 
-/// Gives each channel the delay of the class of the unit that it comes from, or 1 where that is 0 and the channel lies on a
-/// cycle of channels whose classes have delay 0; and as many slots as the timing says, or as many as all channels may have.
+/// Gives each channel the delay of the class of the unit that it comes from, and as many slots as the timing says, or as many
+/// as all channels may have.
+///
+/// Where the class has delay 0, the channel has delay 1 in these cases. By a timing without a depth: where it lies on a cycle
+/// of channels whose classes have delay 0. By a depth: where it does not lead to a unit of a greater number, or where the level
+/// of the unit that it leaves and the weight of the unit that it enters are together above the depth. The weight of a unit is 1,
+/// but 0 of forks, sinks, constants, parameters, the entry and the exit; its level is the greatest weight of a walk to it along
+/// channels of delay 0.
 ///
 /// It costs time and memory in proportion to the units and the channels.
 ///
@@ -36,23 +41,11 @@ pub fn place(alloc: Global, net: &mut Net, timing: Timing) -> Result<(), Memory>
     ensures kept { IfErr result (λ e. net.new ≡ net.old) }
 {
     channels_end_at_units();
-    let marks = unit_parts(alloc, net, timing)?;
+    let cuts = unit_cuts(alloc, net, timing)?;
     let slots = most_slots(net.chans.as_slice().len(), timing.slots);
-    let chans = placed_chans(alloc, net, timing, marks.as_slice(), slots)?;
+    let chans = placed_chans(alloc, net, timing, &cuts, slots)?;
     net.chans = chans;
     Ok(())
-}
-
-/// A mark for each unit: two units have one mark exactly where each can be reached from the other along channels whose
-/// classes have delay 0.
-fn unit_parts(alloc: Global, net: &Net, timing: Timing) -> Result<Vec<usize>, Memory>
-    requires numbered { AreNumbered net.now }
-    requires within { EndsWithin net.now }
-    ensures { IfOk result (λ marks. AreUnitParts timing net.now marks.items) }
-{
-    let edges = instant_edges(alloc, net, timing)?;
-    let units = net.units.as_slice().len();
-    parts(alloc, units, edges.from.as_slice(), edges.to.as_slice())
 }
 
 /// The slots of each of so many channels.
@@ -78,13 +71,13 @@ fn placed_chans(
     alloc: Global,
     net: &Net,
     timing: Timing,
-    marks: &[usize],
+    cuts: &Cuts,
     slots: u32,
 ) -> Result<List<Chan>, Memory>
     requires within { EndsWithin net.now }
-    requires marks { length marks.now ≡ length net.now.units }
+    requires each { AreCutsOf (length net.now.units) cuts.now }
     ensures { IfOk result (λ chans. chans ≡
-        marked_chans timing net.now marks.now slots net.now.chans) }
+        cut_chans timing net.now cuts.now slots net.now.chans) }
 {
     let mut chans = List::new(alloc);
     for chan in net.chans.as_slice() {
@@ -93,22 +86,9 @@ fn placed_chans(
             to: chan.to,
             width: chan.width,
             slots,
-            delay: placed_delay(net, timing, marks, *chan),
+            delay: cut_delay(net, timing, cuts, *chan),
             ctl: chan.ctl,
         })?;
     }
     Ok(chans)
-}
-
-fn placed_delay(net: &Net, timing: Timing, marks: &[usize], chan: Chan) -> u32
-    requires from { chan.from.unit < length marks.now }
-    requires to { chan.to.unit < length marks.now }
-    ensures { result ≡ marked_delay timing net.now marks.now chan }
-{
-    let delay = source_delay(net, timing, chan);
-    if delay == 0 && marks[chan.from.unit as usize] == marks[chan.to.unit as usize] {
-        1
-    } else {
-        delay
-    }
 }

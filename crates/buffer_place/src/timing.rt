@@ -15,6 +15,9 @@ pub struct Timing {
     pub lsq: u32,
     /// The tokens that a channel holds, 1 and more.
     pub slots: u32,
+    /// How many units, of those that work or choose, may stand in a row without a delay between them, 1 and more. `None`
+    /// where channels get a delay for the cycles on which they lie alone.
+    pub depth: Option<u32>,
 }
 
 /// The units that take time, by what they do.
@@ -33,7 +36,7 @@ pub enum Class {
 
 impl Timing {
     /// The timing where nothing is asked: 4 cycles for a multiplication, 36 for a division, 2 for a read and 1 for a queue,
-    /// 0 for all else, and two slots.
+    /// 0 for all else, two slots, and no depth.
     pub fn usual() -> Timing
         ensures value { result ≡ usual }
         ensures within { IsTiming result }
@@ -45,6 +48,7 @@ impl Timing {
             read: 2,
             lsq: 1,
             slots: 2,
+            depth: None,
         }
     }
 

@@ -4,7 +4,7 @@ use Rattle.std.specs.Prelude.{Bool, Option, Some, None, find}
 use Rattle.std.specs.Str.{bytes_eq}
 use Rattle.command_words.specs.declared.verb.Verb.{Verb}
 use Rattle.command_words.specs.declared.verb.Verb.TheVariants.{Compile, Go, Run, Replay, Bench, Upgrade, Ref, Save, Resume}
-use Rattle.command_words.specs.declared.choice.Choice.TheVariants.{Delay, Slots, Workers, Limit, Turns, At, Count, Cycles, Log, Forward, Wrap}
+use Rattle.command_words.specs.declared.choice.Choice.TheVariants.{Delay, Slots, Depth, Workers, Limit, Turns, At, Count, Cycles, Log, Forward, Wrap}
 use Rattle.command_words.specs.declared.choice.ValueKind.{ValueKind}
 use Rattle.command_words.specs.declared.choice.ValueKind.TheVariants.{Flag, Number, Delays}
 use Rattle.command_words.specs.declared.command.Chosen.{Chosen}
@@ -53,14 +53,15 @@ flag_once (t ∷ []) a b x y = x ∙ sym y
 flag_once (t ∷ u ∷ ts) a b x y = absurd x
 
 -- values with equal parts
-same_chosen : (a b : Chosen) → a.delay ≡ b.delay → a.slots ≡ b.slots → a.workers ≡ b.workers → a.limit ≡ b.limit → a.turns ≡ b.turns → a.at ≡ b.at
+same_chosen : (a b : Chosen) → a.delay ≡ b.delay → a.slots ≡ b.slots → a.depth ≡ b.depth → a.workers ≡ b.workers → a.limit ≡ b.limit → a.turns ≡ b.turns → a.at ≡ b.at
     → a.count ≡ b.count → a.cycles ≡ b.cycles → a.log ≡ b.log → a.forward ≡ b.forward → a.wrap ≡ b.wrap → a ≡ b
-same_chosen a b delay slots workers limit turns at count cycles log forward wrap =
+same_chosen a b delay slots depth workers limit turns at count cycles log forward wrap =
     ap (λ x. record a { delay = x }) delay
     ∙ ap (λ x. record a { delay = b.delay; slots = x }) slots
-    ∙ ap (λ x. record a { delay = b.delay; slots = b.slots; workers = x }) workers
-    ∙ ap (λ x. record a { delay = b.delay; slots = b.slots; workers = b.workers; limit = x }) limit
-    ∙ ap (λ x. record a { delay = b.delay; slots = b.slots; workers = b.workers; limit = b.limit; turns = x }) turns
+    ∙ ap (λ x. record a { delay = b.delay; slots = b.slots; depth = x }) depth
+    ∙ ap (λ x. record a { delay = b.delay; slots = b.slots; depth = b.depth; workers = x }) workers
+    ∙ ap (λ x. record a { delay = b.delay; slots = b.slots; depth = b.depth; workers = b.workers; limit = x }) limit
+    ∙ ap (λ x. record a { delay = b.delay; slots = b.slots; depth = b.depth; workers = b.workers; limit = b.limit; turns = x }) turns
     ∙ ap (λ x. record b { at = x; count = a.count; cycles = a.cycles; log = a.log; forward = a.forward; wrap = a.wrap }) at
     ∙ ap (λ x. record b { count = x; cycles = a.cycles; log = a.log; forward = a.forward; wrap = a.wrap }) count
     ∙ ap (λ x. record b { cycles = x; log = a.log; forward = a.forward; wrap = a.wrap }) cycles
@@ -72,6 +73,7 @@ pub chosen_once : (is : List Item) (a b : Chosen) → AreChosen is a → AreChos
 chosen_once is a b x y =
     let delay : a.delay ≡ b.delay = value_once AreDelays delays_once (given Delay is) a.delay b.delay x.delay y.delay in
     let slots : a.slots ≡ b.slots = value_once _ (number_once (kind_of Slots)) (given Slots is) a.slots b.slots x.slots y.slots in
+    let depth : a.depth ≡ b.depth = value_once _ (number_once (kind_of Depth)) (given Depth is) a.depth b.depth x.depth y.depth in
     let workers : a.workers ≡ b.workers = value_once _ (number_once (kind_of Workers)) (given Workers is) a.workers b.workers x.workers y.workers in
     let limit : a.limit ≡ b.limit = value_once _ (number_once (kind_of Limit)) (given Limit is) a.limit b.limit x.limit y.limit in
     let turns : a.turns ≡ b.turns = value_once _ (number_once (kind_of Turns)) (given Turns is) a.turns b.turns x.turns y.turns in
@@ -81,7 +83,7 @@ chosen_once is a b x y =
     let log : a.log ≡ b.log = flag_once (given Log is) a.log b.log x.log y.log in
     let forward : a.forward ≡ b.forward = flag_once (given Forward is) a.forward b.forward x.forward y.forward in
     let wrap : a.wrap ≡ b.wrap = flag_once (given Wrap is) a.wrap b.wrap x.wrap y.wrap in
-    same_chosen a b delay slots workers limit turns at count cycles log forward wrap
+    same_chosen a b delay slots depth workers limit turns at count cycles log forward wrap
 
 -- what is read of the words is what they spell
 pub record IsReadOf (verb : Verb) (is : List Item) (c : Asked) : Type 0 where

@@ -7,14 +7,14 @@ use Rattle.std.proofs.lemmas.Bool.{false≢true}
 use Rattle.std.proofs.lemmas.Bool.Decides.{nat_tests}
 use Rattle.command_words.specs.declared.verb.Verb.{Verb}
 use Rattle.command_words.specs.declared.choice.Choice.{Choice}
-use Rattle.command_words.specs.declared.choice.Choice.TheVariants.{Delay, Slots, Workers, Limit, Turns, At, Count, Cycles, Log, Forward, Wrap}
+use Rattle.command_words.specs.declared.choice.Choice.TheVariants.{Delay, Slots, Depth, Workers, Limit, Turns, At, Count, Cycles, Log, Forward, Wrap}
 use Rattle.command_words.specs.declared.choice.ValueKind.{ValueKind}
 use Rattle.command_words.specs.declared.choice.ValueKind.TheVariants.{Flag, Number, Delays}
 use Rattle.command_words.specs.Tables.{Text, choice_word, kind_of}
 use Rattle.command_words.specs.Items.{Item, plain, option, IsPlain, end_word, Begins, word, alone, apart, joined, AreWritten, done, more, ended}
 
 abbrev pub choices : List Choice
-choices = Delay ∷ Slots ∷ Workers ∷ Limit ∷ Turns ∷ At ∷ Count ∷ Cycles ∷ Log ∷ Forward ∷ Wrap ∷ []
+choices = Delay ∷ Slots ∷ Depth ∷ Workers ∷ Limit ∷ Turns ∷ At ∷ Count ∷ Cycles ∷ Log ∷ Forward ∷ Wrap ∷ []
 
 abbrev pub named : Text → Option Choice
 named w = find (λ o. bytes_eq (choice_word o) w) choices
@@ -96,6 +96,7 @@ kind-plain (b ∷ bs) (inr e) = pick (not (b == 45) || is_empty bs) free _ (is_s
 pub kind-word : (o : Choice) → kind (choice_word o) ≡ single o
 kind-word Delay = refl
 kind-word Slots = refl
+kind-word Depth = refl
 kind-word Workers = refl
 kind-word Limit = refl
 kind-word Turns = refl
@@ -109,6 +110,7 @@ kind-word Wrap = refl
 pub kind-joined : (o : Choice) (v : Text) → kind (choice_word o ++ (61 ∷ v)) ≡ has o v
 kind-joined Delay v = refl
 kind-joined Slots v = refl
+kind-joined Depth v = refl
 kind-joined Workers v = refl
 kind-joined Limit v = refl
 kind-joined Turns v = refl

@@ -7,7 +7,7 @@ use Rattle.el_base.specs.Limits.{max_shared_firings}
 use Rattle.command_words.specs.declared.verb.Verb.{Verb}
 use Rattle.command_words.specs.declared.verb.PlainKind.{PlainKind}
 use Rattle.command_words.specs.declared.verb.PlainKind.TheVariants.{File, Seed}
-use Rattle.command_words.specs.declared.choice.Choice.TheVariants.{Delay, Slots, Workers, Limit, Turns, At, Count, Cycles, Log, Forward, Wrap}
+use Rattle.command_words.specs.declared.choice.Choice.TheVariants.{Delay, Slots, Depth, Workers, Limit, Turns, At, Count, Cycles, Log, Forward, Wrap}
 use Rattle.command_words.specs.declared.command.Chosen.{Chosen}
 use Rattle.command_words.specs.declared.command.Command.{Command as Read}
 use Rattle.command_words.specs.Tables.{Text, is_built, verb_word, plain_of, kind_of}
@@ -47,6 +47,7 @@ IsFlag (text ∷ more ∷ texts) value = ⊥
 pub record AreChosen (items : List Item) (c : Chosen) : Type 0 where
   pub delay : IsValue AreDelays (given Delay items) c.delay
   pub slots : IsValue (IsNumber (kind_of Slots)) (given Slots items) c.slots
+  pub depth : IsValue (IsNumber (kind_of Depth)) (given Depth items) c.depth
   pub workers : IsValue (IsNumber (kind_of Workers)) (given Workers items) c.workers
   pub limit : IsValue (IsNumber (kind_of Limit)) (given Limit items) c.limit
   pub turns : IsValue (IsNumber (kind_of Turns)) (given Turns items) c.turns

@@ -8,9 +8,10 @@ use Rattle.command_words.specs.declared.verb.Verb.TheVariants.{Compile, Go, Run,
 use Rattle.command_words.specs.declared.verb.PlainKind.{PlainKind}
 use Rattle.command_words.specs.declared.verb.PlainKind.TheVariants.{File, Seed}
 use Rattle.command_words.specs.declared.choice.Choice.{Choice}
-use Rattle.command_words.specs.declared.choice.Choice.TheVariants.{Delay, Slots, Workers, Limit, Turns, At, Count, Cycles, Log, Forward, Wrap}
+use Rattle.command_words.specs.declared.choice.Choice.TheVariants.{Delay, Slots, Depth, Workers, Limit, Turns, At, Count, Cycles, Log, Forward, Wrap}
 use Rattle.command_words.specs.declared.choice.ValueKind.{ValueKind}
 use Rattle.command_words.specs.declared.choice.ValueKind.TheVariants.{Flag, Number, Delays}
+use Rattle.command_words.specs.declared.choice.TheConstants.{MAX_UNITS_IN_A_ROW}
 use Rattle.command_words.specs.declared.choice.Class.{Class}
 use Rattle.command_words.specs.declared.choice.Class.TheVariants as class
 
@@ -31,9 +32,9 @@ is_built Save = false
 is_built Resume = false
 
 abbrev pub built_choices : Verb → List Choice
-built_choices Compile = Delay ∷ Slots ∷ Forward ∷ Wrap ∷ []
-built_choices Go = Delay ∷ Slots ∷ Limit ∷ Count ∷ Cycles ∷ Forward ∷ Wrap ∷ []
-built_choices Run = Limit ∷ Count ∷ Cycles ∷ Log ∷ []
+built_choices Compile = Delay ∷ Slots ∷ Depth ∷ Forward ∷ Wrap ∷ []
+built_choices Go = Delay ∷ Slots ∷ Depth ∷ Workers ∷ Limit ∷ Count ∷ Cycles ∷ Forward ∷ Wrap ∷ []
+built_choices Run = Workers ∷ Limit ∷ Count ∷ Cycles ∷ Log ∷ []
 built_choices Replay = []
 built_choices Bench = []
 built_choices Upgrade = []
@@ -84,8 +85,8 @@ plain_of Resume = netlist ∷ snapshot ∷ []
 
 -- the options of a command
 abbrev pub choices_of : Verb → List Choice
-choices_of Compile = Delay ∷ Slots ∷ Forward ∷ Wrap ∷ []
-choices_of Go = Delay ∷ Slots ∷ Workers ∷ Limit ∷ Count ∷ Cycles ∷ Forward ∷ Wrap ∷ []
+choices_of Compile = Delay ∷ Slots ∷ Depth ∷ Forward ∷ Wrap ∷ []
+choices_of Go = Delay ∷ Slots ∷ Depth ∷ Workers ∷ Limit ∷ Count ∷ Cycles ∷ Forward ∷ Wrap ∷ []
 choices_of Run = Workers ∷ Limit ∷ Count ∷ Cycles ∷ Log ∷ []
 choices_of Replay = []
 choices_of Bench = []
@@ -99,6 +100,7 @@ choices_of Resume = Limit ∷ Count ∷ []
 abbrev pub choice_word : Choice → Text
 choice_word Delay = codes "--delay"
 choice_word Slots = codes "--slots"
+choice_word Depth = codes "--depth"
 choice_word Workers = codes "--workers"
 choice_word Limit = codes "--limit"
 choice_word Turns = codes "--turns"
@@ -113,6 +115,7 @@ choice_word Wrap = codes "--wrap"
 abbrev pub kind_of : Choice → ValueKind
 kind_of Delay = Delays
 kind_of Slots = Number 1 max_slots
+kind_of Depth = Number 1 MAX_UNITS_IN_A_ROW
 kind_of Workers = Number 1 max_workers
 kind_of Limit = Number 1 max_firings
 kind_of Turns = Number 1 max_firings

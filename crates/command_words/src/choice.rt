@@ -6,11 +6,15 @@ ghost use Rattle.command_words.specs.Tables.{choice_word, kind_of, choices_of, b
 use crate::verb::Verb;
 use el_base::{MAX_FIRINGS, MAX_SLOTS, MAX_WORKERS};
 
+/// The units that may stand in a row without a delay between them, the greatest number that may be asked.
+pub const MAX_UNITS_IN_A_ROW: u64 = 1_000;
+
 /// An option.
 #[derive(Clone, Copy, Debug, PartialEq, Eq)]
 pub enum Choice {
     Delay,
     Slots,
+    Depth,
     Workers,
     Limit,
     Turns,
@@ -85,9 +89,10 @@ pub struct ClassDelay {
 }
 
 /// All options.
-pub const CHOICES: [Choice; 11] = [
+pub const CHOICES: [Choice; 12] = [
     Choice::Delay,
     Choice::Slots,
+    Choice::Depth,
     Choice::Workers,
     Choice::Limit,
     Choice::Turns,
@@ -107,6 +112,7 @@ impl Choice {
         match self {
             Choice::Delay => "--delay",
             Choice::Slots => "--slots",
+            Choice::Depth => "--depth",
             Choice::Workers => "--workers",
             Choice::Limit => "--limit",
             Choice::Turns => "--turns",
@@ -126,6 +132,7 @@ impl Choice {
         match self {
             Choice::Delay => ValueKind::Delays,
             Choice::Slots => ValueKind::Number(1, u64::from(MAX_SLOTS)),
+            Choice::Depth => ValueKind::Number(1, MAX_UNITS_IN_A_ROW),
             Choice::Workers => ValueKind::Number(1, u64::from(MAX_WORKERS)),
             Choice::Limit | Choice::Turns => ValueKind::Number(1, MAX_FIRINGS),
             Choice::At => ValueKind::Number(0, MAX_FIRINGS),
@@ -153,10 +160,17 @@ pub fn choices(verb: Verb) -> &'static [Choice]
     ensures { result.now ≡ choices_of verb }
 {
     match verb {
-        Verb::Compile => &[Choice::Delay, Choice::Slots, Choice::Forward, Choice::Wrap],
+        Verb::Compile => &[
+            Choice::Delay,
+            Choice::Slots,
+            Choice::Depth,
+            Choice::Forward,
+            Choice::Wrap,
+        ],
         Verb::Go => &[
             Choice::Delay,
             Choice::Slots,
+            Choice::Depth,
             Choice::Workers,
             Choice::Limit,
             Choice::Count,
@@ -183,17 +197,31 @@ pub fn built_choices(verb: Verb) -> &'static [Choice]
     ensures { result.now ≡ built_choices verb }
 {
     match verb {
-        Verb::Compile => &[Choice::Delay, Choice::Slots, Choice::Forward, Choice::Wrap],
+        Verb::Compile => &[
+            Choice::Delay,
+            Choice::Slots,
+            Choice::Depth,
+            Choice::Forward,
+            Choice::Wrap,
+        ],
         Verb::Go => &[
             Choice::Delay,
             Choice::Slots,
+            Choice::Depth,
+            Choice::Workers,
             Choice::Limit,
             Choice::Count,
             Choice::Cycles,
             Choice::Forward,
             Choice::Wrap,
         ],
-        Verb::Run => &[Choice::Limit, Choice::Count, Choice::Cycles, Choice::Log],
+        Verb::Run => &[
+            Choice::Workers,
+            Choice::Limit,
+            Choice::Count,
+            Choice::Cycles,
+            Choice::Log,
+        ],
         Verb::Ref => &[Choice::Wrap, Choice::Turns, Choice::Count],
         Verb::Replay | Verb::Bench | Verb::Upgrade => &[],
         Verb::Save | Verb::Resume => &[],

@@ -8,6 +8,7 @@ use el_base::List;
 pub struct Chosen {
     pub delay: Option<List<ClassDelay>>,
     pub slots: Option<u64>,
+    pub depth: Option<u64>,
     pub workers: Option<u64>,
     pub limit: Option<u64>,
     pub turns: Option<u64>,

@@ -10,7 +10,10 @@ mod reading;
 mod values;
 mod verb;
 
-pub use choice::{CHOICES, CLASSES, Choice, Class, ClassDelay, ValueKind, built_choices, choices};
+pub use choice::{
+    CHOICES, CLASSES, Choice, Class, ClassDelay, MAX_UNITS_IN_A_ROW, ValueKind, built_choices,
+    choices,
+};
 pub use command::{Chosen, Command};
 pub use laws::words_spell_one_command;
 pub use reading::read_words;

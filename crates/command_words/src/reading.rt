@@ -139,6 +139,7 @@ fn others(items: &[Written<'_>]) -> Option<Chosen>
     ensures none { IsNone result → (c : Chosen) → AreChosen (items_of items.now) c → ⊥ }
 {
     let slots = number(items, Choice::Slots)?;
+    let depth = number(items, Choice::Depth)?;
     let workers = number(items, Choice::Workers)?;
     let limit = number(items, Choice::Limit)?;
     let turns = number(items, Choice::Turns)?;
@@ -151,6 +152,7 @@ fn others(items: &[Written<'_>]) -> Option<Chosen>
     Some(Chosen {
         delay: None,
         slots,
+        depth,
         workers,
         limit,
         turns,

@@ -18,7 +18,7 @@ use Rattle.cycle_engine.specs.Cycles.{Dated, dated, IsRipe, May, AreDated}
 abbrev pub after_of : Net → ℕ → Dated → ℕ → Effect → Dated
 after_of net c s v e = record { state = applied net v e s.state; dates = changed_from (moved net v (record e { put = dated c e.put })) 0 s.dates }
 
-some_within : (xss : List (List ℕ)) (k : ℕ) (Q : ℕ → Type 0) → IsSomeAnd (first (get_or xss k [])) Q → k < length xss
+pub some_within : (xss : List (List ℕ)) (k : ℕ) (Q : ℕ → Type 0) → IsSomeAnd (first (get_or xss k [])) Q → k < length xss
 some_within [] k Q i = absurd i
 some_within (y ∷ xss) zero Q i = omega arith
 some_within (y ∷ xss) (suc k) Q i = let h = some_within xss k Q i in omega arith
@@ -49,7 +49,7 @@ next_used : (h g : ℕ → Option ℕ) (o : Option ℕ) (next : ℕ → Row) →
 next_used h g None next s f = refl
 next_used h g (Some v) next s f = f v s
 
-used_same : (r : Row) (h g : ℕ → Option ℕ) → AllSame h g (used_by r h) → used_by r g ≡ used_by r h
+pub used_same : (r : Row) (h g : ℕ → Option ℕ) → AllSame h g (used_by r h) → used_by r g ≡ used_by r h
 used_same Stop h g s = refl
 used_same (Look p next) h g s = ap (λ ps. p ∷ ps) (ap (λ o. then_used o (λ v. used_by (next v) g)) s.0 ∙ next_used h g (h p) next s.1 (λ v t. used_same (next v) h g t))
 used_same (Take p next) h g s = ap (λ ps. p ∷ ps) (ap (λ o. then_used o (λ v. used_by (next v) g)) s.0 ∙ next_used h g (h p) next s.1 (λ v t. used_same (next v) h g t))
@@ -98,7 +98,7 @@ each_kept net c s v u e ne ok late (p ∷ ps) r =
     ((sym k.0, w.0), (subst P k.1 r.0, w.1))
 
 -- the row of a firing is the same after a firing of another unit
-row_past : (net : Net) (s : State) (g : Firing) (v : ℕ) (e : Effect) → Alone net → g.unit ≢ v
+pub row_past : (net : Net) (s : State) (g : Firing) (v : ℕ) (e : Effect) → Alone net → g.unit ≢ v
     → row (kind_of net g.unit) g.act (get_or (applied net v e s).own g.unit idle) (at_array (applied net v e s).arrays (uses (kind_of net g.unit))) (setting net (applied net v e s))
     ≡ row (kind_of net g.unit) g.act (get_or s.own g.unit idle) (at_array s.arrays (uses (kind_of net g.unit))) (setting net s)
 row_past net s g v e alone ne =

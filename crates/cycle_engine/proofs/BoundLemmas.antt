@@ -22,7 +22,7 @@ empty_rests net c most s t l k r y f n =
     subst P (sym y.makes) y.full f tt (ripe_may net c most s f k l r n)
 
 -- from rest on no cycle has a firing
-no_more : (net : Net) (c : ℕ) (s : Dated) (fss : List (List Firing)) (t : Dated) → ((f : Firing) → enabled net s.state f → ⊥) → Cycles net c s fss t → fss ≢ [] → EndsFiring fss → ⊥
+pub no_more : (net : Net) (c : ℕ) (s : Dated) (fss : List (List Firing)) (t : Dated) → ((f : Firing) → enabled net s.state f → ⊥) → Cycles net c s fss t → fss ≢ [] → EndsFiring fss → ⊥
 no_more net c s [] t rest y n e = n refl
 no_more net c s ((f ∷ fs) ∷ fss) t rest y n e = rest f (y.1.makes.0.turn)
 no_more net c s ([] ∷ []) t rest y n e = e refl
@@ -30,7 +30,7 @@ no_more net c s ([] ∷ gs ∷ fss) t rest y n e =
     let P : Dated → Type 0 = λ x. Cycles net (suc c) x (gs ∷ fss) t in
     no_more net (suc c) s (gs ∷ fss) t rest (subst P (sym y.1.makes) y.2) (λ z. cc) e
 
-ends_rest : (fs : List Firing) (fss : List (List Firing)) → EndsFiring (fs ∷ fss) → EndsFiring fss
+pub ends_rest : (fs : List Firing) (fss : List (List Firing)) → EndsFiring (fs ∷ fss) → EndsFiring fss
 ends_rest fs [] e = tt
 ends_rest fs (gs ∷ fss) e = e
 

@@ -128,7 +128,7 @@ untaking : (p : ℕ) (o : Option Effect) (e : Effect) → taking p o ≡ Some e 
 untaking p None e q = cc
 untaking p (Some x) e q = (x, refl)
 
-used_heads : (r : Row) (h : ℕ → Option ℕ) (e : Effect) → effect_of r h ≡ Some e → AllByRecursion (λ p. IsSomeAnd (h p) (λ x. Unit {0})) (used_by r h)
+pub used_heads : (r : Row) (h : ℕ → Option ℕ) (e : Effect) → effect_of r h ≡ Some e → AllByRecursion (λ p. IsSomeAnd (h p) (λ x. Unit {0})) (used_by r h)
 used_heads Stop h e q = tt
 used_heads (Look p next) h e q = next_heads h (h p) (λ v. effect_of (next v) h) next e q (λ v x. used_heads (next v) h e x)
 used_heads (Take p next) h e q = next_heads h (h p) (λ v. taking p (effect_of (next v) h)) next e q (λ v x. let w = untaking p (effect_of (next v) h) e x in used_heads (next v) h w.0 w.1)

@@ -12,7 +12,7 @@ use Rattle.cycle_engine.specs.Cuts.{joined}
 use Rattle.cycle_engine.specs.Joins.{CyclesAreRuns, CutsAreLong}
 
 -- dates leave the state as it is
-state_after : (net : Net) (c : ℕ) (s : Dated) (f : Firing) → (after_in net c s f).state ≡ after net s.state f
+pub state_after : (net : Net) (c : ℕ) (s : Dated) (f : Firing) → (after_in net c s f).state ≡ after net s.state f
 state_after net c s f = by (effect net s.state f)
   where
     by : (e : Option Effect) → (after_by net c s f.unit e).state ≡ after_effect net s.state f.unit e

@@ -18,3 +18,5 @@ mod NoteLemmas
 mod NextLemmas
 mod ExecLemmas
 pub mod FollowLemmas
+mod SwapLemmas
+pub mod SameLemmas

@@ -30,7 +30,7 @@ get_other : (xs : List Own) (v u : ℕ) (o : Own) → u ≢ v → get_or (set xs
 get_other xs v u o n = get_or-set_other xs v u o idle n
 
 -- a unit that has not fired keeps what it kept
-own_same : (net : Net) (c : ℕ) (start s : Dated) (fs : List Firing) (t : Dated) (u : ℕ) → Makes net c start s fs t → (HasUnit u fs → ⊥) → get_or t.state.own u idle ≡ get_or s.state.own u idle
+pub own_same : (net : Net) (c : ℕ) (start s : Dated) (fs : List Firing) (t : Dated) (u : ℕ) → Makes net c start s fs t → (HasUnit u fs → ⊥) → get_or t.state.own u idle ≡ get_or s.state.own u idle
 own_same net c start s [] t u m n = ap (λ (x : Dated). get_or x.state.own u idle) (sym m)
 own_same net c start s (f ∷ fs) t u m n =
     let w = effect_there net s.state f m.0.turn in

@@ -9,7 +9,7 @@ use Rattle.net_types.specs.declared.net.Unit.TheVariants.{Entry, Param, Const, O
 use Rattle.net_types.specs.declared.firing.Act.{Act}
 use Rattle.net_types.specs.declared.firing.Act.TheVariants.{Go, From, Send, Alloc, Addr, Data, Exec, Reply, Retire, End}
 use Rattle.net_types.specs.Nets.{into, out_of, kind_of, uses, chan_at, firing}
-use Rattle.net_core.specs.Fire.{State, Own, Row, Look, Take, Fires, Effect, Setting, effect_of, with_head, taking, on_go, when, put_at, idle, row, cmerge_row, fork_row, send_row, sent_to, setting, at_array, head_at, tokens_at, effect, has_room, moved, puts_on, takes_from, among, added, taken}
+use Rattle.net_core.specs.Fire.{State, Own, Row, Take, Fires, Effect, Setting, effect_of, with_head, taking, on_go, when, put_at, idle, row, cmerge_row, fork_row, sent_to, setting, at_array, head_at, tokens_at, effect, has_room, moved, puts_on, takes_from, among, added, taken}
 use Rattle.net_core.specs.Uses.{used_by, used}
 use Rattle.net_core.proofs.RowLemmas.{get-changed}
 use Rattle.net_core.proofs.ApartLemmas.{same_in, same_out}
@@ -23,7 +23,7 @@ use Rattle.cycle_engine.proofs.DateLemmas.{effect_there}
 use Rattle.cycle_engine.proofs.RousingLemmas.{late_or, slots_within}
 
 -- a unit of one place
-abbrev is_goer : Kind → Bool
+abbrev pub is_goer : Kind → Bool
 is_goer Entry = true
 is_goer (Param j) = true
 is_goer (Const w n) = true
@@ -52,7 +52,7 @@ go_on (Reply p) r h e q = cc
 go_on Retire r h e q = cc
 go_on End r h e q = cc
 
-goes_only : (k : Kind) (a : Act) (o : Own) (xs : List ℕ) (ss : Setting) (h : ℕ → Option ℕ) (e : Effect) → is_goer k ≡ true → effect_of (row k a o xs ss) h ≡ Some e → a ≡ Go
+pub goes_only : (k : Kind) (a : Act) (o : Own) (xs : List ℕ) (ss : Setting) (h : ℕ → Option ℕ) (e : Effect) → is_goer k ≡ true → effect_of (row k a o xs ss) h ≡ Some e → a ≡ Go
 unfolding row
 goes_only (Fork w outs) a o xs ss h e g q = cc
 goes_only (Cmerge ins) a o xs ss h e g q = cc
@@ -183,7 +183,7 @@ abbrev zero_if : Bool → List ℕ
 zero_if b = cond b (0 ∷ []) []
 
 -- a send that takes nothing sets its bit alone
-bits_after : (i : ℕ) (o : Own) (xs : List ℕ) (v : ℕ) → (send_eff i o xs v).takes ≡ [] → (send_eff i o xs v).own.sent ≡ set o.sent i true
+pub bits_after : (i : ℕ) (o : Own) (xs : List ℕ) (v : ℕ) → (send_eff i o xs v).takes ≡ [] → (send_eff i o xs v).own.sent ≡ set o.sent i true
 bits_after i o xs v e = by (list_all (λ b. b) (set o.sent i true)) refl e
   where
     by : (b : Bool) → list_all (λ b. b) (set o.sent i true) ≡ b → zero_if b ≡ [] → sent_to i o.sent ≡ set o.sent i true

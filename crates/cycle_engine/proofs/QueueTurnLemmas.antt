@@ -191,7 +191,7 @@ merge_put net s m ins j e w is q p =
         let i : record { takes = j ∷ []; put = put_at 0 j; own = get_or s.own m idle; array = []; strays = 0 } ≡ e = cc in
         sym (put_place 0 j w (ap (λ (x : Effect). x.put) i ∙ p))
 
-takes_at : (net : Net) (u : ℕ) (o : Option ℕ) (d : ℕ) → among d (map (λ p. into u p net.chans) (place_list o)) ≡ true → (p : ℕ) × (o ≡ Some p) × (d ≡ into u p net.chans)
+pub takes_at : (net : Net) (u : ℕ) (o : Option ℕ) (d : ℕ) → among d (map (λ p. into u p net.chans) (place_list o)) ≡ true → (p : ℕ) × (o ≡ Some p) × (d ≡ into u p net.chans)
 takes_at net u None d e = cc
 takes_at net u (Some p) d e = (p, refl, by (d == into u p net.chans) refl e)
   where
@@ -372,7 +372,7 @@ lsq_merge (Lsq a d ps gs fw) e = refl
 lsq_merge _ e = cc
 
 -- a channel into a place of a queue from which another of its acts does not take
-free_place : (net : Net) (u d : ℕ) (ps : List Port) (gs : List (List ℕ)) (q : QueueState) (a b : Act) (p : ℕ) (e : Effect) → e.takes ≡ place_list (in_place gs a) → in_place gs b ≡ Some p
+pub free_place : (net : Net) (u d : ℕ) (ps : List Port) (gs : List (List ℕ)) (q : QueueState) (a b : Act) (p : ℕ) (e : Effect) → e.takes ≡ place_list (in_place gs a) → in_place gs b ≡ Some p
     → can d gs q a ≡ true → can d gs q b ≡ true → a ≢ b → into u p net.chans < length net.chans → takes_from net u e (into u p net.chans) ≡ false
 free_place net u d ps gs q a b p e ts ip ca cb ne l = by (takes_from net u e (into u p net.chans)) refl
   where

@@ -51,7 +51,7 @@ use Rattle.cycle_engine.proofs.QueueTurnLemmas.{laws, queue_used, unused_before,
 
 -- ---- what holds along cycles
 
-makes_regular : (net : Net) (c : ℕ) (start s : Dated) (fs : List Firing) (t : Dated) → IsChecked net → Makes net c start s fs t → IsRegular net s.state → IsRegular net t.state
+pub makes_regular : (net : Net) (c : ℕ) (start s : Dated) (fs : List Firing) (t : Dated) → IsChecked net → Makes net c start s fs t → IsRegular net s.state → IsRegular net t.state
 makes_regular net c start s [] t checked m good = let P : Dated → Type 0 = λ x. IsRegular net x.state in subst P m good
 makes_regular net c start s (f ∷ fs) t checked m good =
     let w = effect_there net s.state f m.0.turn in
@@ -59,7 +59,7 @@ makes_regular net c start s (f ∷ fs) t checked m good =
     let P : State → Type 0 = λ x. IsRegular net x in
     makes_regular net c start (after_in net c s f) fs t checked m.2 (subst P (sym e) (regular_kept net (premises_of net laws checked) s.state f good m.0.turn))
 
-cycles_regular : (net : Net) (c : ℕ) (s : Dated) (fss : List (List Firing)) (t : Dated) → IsChecked net → Cycles net c s fss t → IsRegular net s.state → IsRegular net t.state
+pub cycles_regular : (net : Net) (c : ℕ) (s : Dated) (fss : List (List Firing)) (t : Dated) → IsChecked net → Cycles net c s fss t → IsRegular net s.state → IsRegular net t.state
 cycles_regular net c s [] t checked y good = let P : Dated → Type 0 = λ x. IsRegular net x.state in subst P y good
 cycles_regular net c s (fs ∷ fss) t checked y good = cycles_regular net (suc c) y.0 fss t checked y.2 (makes_regular net c s s fs y.0 checked y.1.makes good)
 

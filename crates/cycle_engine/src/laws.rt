@@ -1,6 +1,6 @@
 //! Laws of cycles, each as the contract of a function that does nothing.
 ghost use Rattle.cycle_engine.specs.Rousing.{Rouses, OwnRouses, NextRouses};
-ghost use Rattle.cycle_engine.specs.Bounds.{CyclesBound};
+ghost use Rattle.cycle_engine.specs.Bounds.{CyclesBound, CyclesAreOne, CyclesMeet};
 ghost use Rattle.cycle_engine.specs.Joins.{CyclesAreRuns, CutsAreLong};
 ghost use Rattle.cycle_engine.specs.Worked.{StraightCycles};
 
@@ -28,6 +28,13 @@ pub fn next_cycles_rouse()
 /// greatest delay.
 pub fn cycles_are_few()
     ensures { CyclesBound }
+{}
+
+/// Two cycles of a checked net from one state, to which cycles lead, are as many firings, and lead to one state. So the number
+/// of cycles to rest is one for a net and inputs.
+pub fn cycles_are_one()
+    ensures states { CyclesMeet }
+    ensures number { CyclesAreOne }
 {}
 
 /// The firings of cycles from the opening state, one cycle after another, are a run to the state to which the cycles lead.

@@ -15,7 +15,7 @@ mod trial;
 mod turns;
 
 pub use laws::{
-    cycles_are_few, cycles_are_runs, firings_rouse, firings_rouse_their_unit, next_cycles_rouse,
-    worked_net_cycles,
+    cycles_are_few, cycles_are_one, cycles_are_runs, firings_rouse, firings_rouse_their_unit,
+    next_cycles_rouse, worked_net_cycles,
 };
 pub use runs::{Timed, run_cycles};

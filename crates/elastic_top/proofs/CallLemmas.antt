@@ -12,7 +12,7 @@ use Rattle.elastic_top.specs.Reading.{AreHeld}
 use Rattle.elastic_top.specs.Answers.{Answers}
 use Rattle.elastic_top.specs.Faults.{fault_code, fault_line, write_line, memory_line}
 use Rattle.elastic_top.specs.Statuses.{statuses, statuses_of}
-use Rattle.elastic_top.specs.Causes.{IsCauseOf, IsOwn, Unread, Writes, RefusesWith, AreKept, AreSound, TooLong as TooLongOf}
+use Rattle.elastic_top.specs.Causes.{IsCauseOf, IsOwn, Unread, Writes, RefusesWith, AreToldWithin, AreSound, TooLong as TooLongOf}
 use Rattle.elastic_top.specs.declared.fault.Fault.{Fault}
 use Rattle.elastic_top.specs.declared.fault.Fault.TheVariants.{Usage, Read, Write, Memory, TooLong, Refused}
 use Rattle.elastic_top.proofs.RefusalLemmas.{judged, own}
@@ -116,7 +116,7 @@ record KeptFile (holds : Text → Told) (file : Wanted) : Type 0 where
   pub held : IsHeld (holds file.name) bytes
   pub bound : length bytes ≤ file.limit
 
-kept_file : (holds : Text → Told) (before after : List Wanted) (file : Wanted) (contents : List Text) → AreKept holds (before ++ file ∷ after) contents → KeptFile holds file
+kept_file : (holds : Text → Told) (before after : List Wanted) (file : Wanted) (contents : List Text) → AreToldWithin holds (before ++ file ∷ after) contents → KeptFile holds file
 kept_file holds [] after file [] k = absurd k
 kept_file holds [] after file (b ∷ bs) k = record { bytes = b; held = k.0; bound = k.1 }
 kept_file holds (g ∷ before) after file [] k = absurd k
@@ -125,7 +125,7 @@ kept_file holds (g ∷ before) after file (b ∷ bs) k = kept_file holds before 
 one_content : (told : Told) (max : ℕ) (a b : Text) → IsWhole told max a → IsHeld told b → a ≡ b
 one_content told max a b whole held = sym (subst (λ t. MayHold t a) held whole.bytes)
 
-same_contents : (holds : Text → Told) (files : List Wanted) (xs ys : List Text) → AreHeld holds files xs → AreKept holds files ys → xs ≡ ys
+same_contents : (holds : Text → Told) (files : List Wanted) (xs ys : List Text) → AreHeld holds files xs → AreToldWithin holds files ys → xs ≡ ys
 same_contents holds [] [] [] h k = refl
 same_contents holds [] [] (y ∷ ys) h k = absurd k
 same_contents holds [] (x ∷ xs) ys h k = absurd h
@@ -144,12 +144,12 @@ module _ (holds : Text → Told) (steady : Type 0) (long : ℕ) (Cut : Text → 
       → Contains (0 ∷ 11 ∷ []) (fault_code f)
   sound_status c Usage is sound wrote = absurd is
   sound_status c (Read x) is sound wrote =
-      let kept = kept_file holds is.reached.before is.reached.after is.file sound.contents (subst (λ fs. AreKept holds fs sound.contents) is.reached.split sound.kept) in
+      let kept = kept_file holds is.reached.before is.reached.after is.file sound.contents (subst (λ fs. AreToldWithin holds fs sound.contents) is.reached.split sound.kept) in
       absurd (is.unsteady sound.steady_files kept.bytes (ap holds is.named ∙ kept.held))
   sound_status c Write is sound wrote = absurd (wrote refl)
   sound_status c Memory is sound wrote = (1, omega arith, refl)
   sound_status c (TooLong x) is sound wrote =
-      let kept = kept_file holds is.reached.before is.reached.after is.file sound.contents (subst (λ fs. AreKept holds fs sound.contents) is.reached.split sound.kept) in
+      let kept = kept_file holds is.reached.before is.reached.after is.file sound.contents (subst (λ fs. AreToldWithin holds fs sound.contents) is.reached.split sound.kept) in
       absurd (not_longer (holds x.now) is.file.limit kept.bytes (ap holds is.named ∙ kept.held) kept.bound is.more)
   sound_status c (Refused r) is sound wrote =
       absurd (sound.none r (subst (λ bs. Answers c bs (Err r)) (same_contents holds _ _ _ is.held sound.kept) is.answer))

@@ -9,3 +9,4 @@ pub mod RefusalLemmas
 pub mod SoundLemmas
 pub mod OneAnswerLemmas
 pub mod PrintedLemmas
+pub mod OneRunLemmas

@@ -1,6 +1,6 @@
 -- Calls of compile and of go print one thing, and one net.
-use Rattle.std.proofs.Common.{◌≡◌, ◌≢◌, ◌⊎◌, inl, inr, Bool, List, refl, sym, ap, subst, ◌∙◌, arith}
-use Rattle.std.specs.Prelude.{IsSome, Result, Ok, Err}
+use Rattle.std.proofs.Common.{◌≡◌, ◌≢◌, ◌⊎◌, inl, inr, ℕ, Bool, List, refl, sym, ap, subst, ◌∙◌, arith}
+use Rattle.std.specs.Prelude.{IsSome, Option, Result, Ok, Err}
 use Rattle.el_base.specs.Labels.{printed}
 use Rattle.net_types.specs.declared.net.Net.{Net}
 use Rattle.net_types.specs.declared.firing.Inputs.{Inputs}
@@ -12,12 +12,13 @@ use Rattle.kernel_front.specs.Refusals.{refusal_number as kernel_number, refusal
 use Rattle.net_runs.specs.declared.options.RunOptions.{RunOptions}
 use Rattle.net_runs.specs.declared.refusal.RunRefusal.TheVariants as run
 use Rattle.net_runs.specs.Given.{Gives}
+use Rattle.net_runs.specs.Laws.{AsksForNoCycles, with_workers}
 use Rattle.kernel_runs.specs.declared.options.CircuitOptions.{CircuitOptions}
 use Rattle.kernel_runs.specs.declared.refusal.GoRefusal.{GoRefusal}
 use Rattle.kernel_runs.specs.declared.refusal.GoRefusal.TheVariants as go
 use Rattle.kernel_runs.specs.Circuits.{Compiles}
 use Rattle.kernel_runs.specs.Goes.{Goes}
-use Rattle.kernel_runs.specs.OneAnswer.{AsksForNoCycles, CompilesHaveOneAnswer, GoesHaveOneAnswer, OneNetIsPrinted, LimitDecides, LimitIsOfPrintedNet}
+use Rattle.kernel_runs.specs.OneAnswer.{CompilesHaveOneAnswer, GoesHaveOneAnswer, OneNetIsPrinted, LimitDecides, LimitIsOfPrintedNet}
 use Rattle.kernel_runs.specs.Refusals.{go_number, go_word}
 use Rattle.command_words.specs.declared.verb.Verb.{Verb}
 use Rattle.command_words.specs.declared.verb.Verb.TheVariants.{Compile, Go}
@@ -26,7 +27,7 @@ use Rattle.command_words.specs.Tables.{Text}
 use Rattle.command_words.specs.Commands.{Asked}
 use Rattle.elastic_top.specs.Answers.{Answers, AnswersBy, IsSaid, CompilesKernel, GoesKernel, at}
 use Rattle.elastic_top.specs.Faults.{label_number, refusal_code, refusal_parts, go_code, go_parts, span_parts, input_parts}
-use Rattle.elastic_top.specs.OneAnswer.{PrintTheSame, CompilesPrintOnce, GoesPrintOnce, with_wrap, WrapChangesNothing, CompilesFor, OneNetIsShown, answer_code, StatusEightIsLong}
+use Rattle.elastic_top.specs.OneAnswer.{PrintTheSame, CompilesPrintOnce, by_workers, GoesPrintOnce, with_wrap, WrapChangesNothing, CompilesFor, OneNetIsShown, answer_code, StatusEightIsLong}
 use Rattle.elastic_top.specs.Options.{circuit_of, options_of, limit_or}
 use Rattle.elastic_top.specs.declared.fault.KernelFiles.{KernelFiles}
 use Rattle.elastic_top.specs.declared.fault.Refusal.{Refusal}
@@ -35,11 +36,11 @@ use Rattle.elastic_top.proofs.SoundLemmas.{kernel_told, go_told}
 -- ---- answers by the verb
 
 -- a text, or a refusal that has a number
-abbrev IsTold : Result Text Refusal → Type 0
+abbrev pub IsTold : Result Text Refusal → Type 0
 IsTold (Ok text) = Unit {0}
 IsTold (Err r) = IsSome (label_number r)
 
-is_told : (c : Asked) (contents : List Text) (a : Result Text Refusal) → Answers c contents a → IsTold a
+pub is_told : (c : Asked) (contents : List Text) (a : Result Text Refusal) → Answers c contents a → IsTold a
 is_told c contents (Ok text) is = tt
 is_told c contents (Err r) is = is.0
 
@@ -53,15 +54,15 @@ answers c contents (Err r) told is = (told, is)
 
 -- ---- compile
 
-abbrev text_or : {E : Type 0} → Text → Result Text E → Text
+abbrev pub text_or : {E : Type 0} → Text → Result Text E → Text
 text_or t (Ok text) = text
 text_or t (Err e) = t
 
-abbrev error_or : {E : Type 0} → E → Result Text E → E
+abbrev pub error_or : {E : Type 0} → E → Result Text E → E
 error_or e (Ok text) = e
 error_or e (Err x) = x
 
-abbrev is_text : {E : Type 0} → Result Text E → Type 0
+abbrev pub is_text : {E : Type 0} → Result Text E → Type 0
 is_text (Ok text) = Unit {0}
 is_text (Err e) = ⊥
 
@@ -99,16 +100,17 @@ same_parts f g label (go.Run (run.Stray array name)) k i = refl
 same_parts f g label (go.Run run.Memory) k i = refl
 same_parts f g label go.Memory k i = refl
 
-module _ (law : GoesHaveOneAnswer) (kernel inputs ks is : Text) (c : CircuitOptions) (o : RunOptions) (plain : AsksForNoCycles o) where
-  no_want : (r : Refusal) → IsTold (Err r) → (w : GoesKernel kernel inputs c o ks is (Err r)) → ◌≢◌ {A = Result Text GoRefusal} (Err w.refused) (Err go.Memory)
-  no_want r told w e = go_told w.refused (subst (λ (x : Refusal). IsSome (label_number x)) w.is told) (ap (error_or w.refused) e)
+module _ (law : GoesHaveOneAnswer) (kernel inputs ks is : Text) (c : CircuitOptions) (o : RunOptions) (workers : Option ℕ) (plain : AsksForNoCycles o) where
+  no_want : (p : RunOptions) (r : Refusal) → IsTold (Err r) → (w : GoesKernel kernel inputs c p ks is (Err r)) → ◌≢◌ {A = Result Text GoRefusal} (Err w.refused) (Err go.Memory)
+  no_want p r told w e = go_told w.refused (subst (λ (x : Refusal). IsSome (label_number x)) w.is told) (ap (error_or w.refused) e)
 
-  go_once : (a b : Result Text Refusal) → IsTold a → IsTold b → GoesKernel kernel inputs c o ks is a → GoesKernel kernel inputs c o ks is b → PrintTheSame a b
-  go_once (Ok s) (Ok t) m n a b = ap (text_or s) (law ks is c o (Ok s) (Ok t) plain (λ e. absurd (cc)) (λ e. absurd (cc)) a b)
-  go_once (Ok s) (Err q) m n a b = subst is_text (law ks is c o (Ok s) (Err b.refused) plain (λ e. absurd (cc)) (no_want q n b) a b.holds) tt
-  go_once (Err r) (Ok t) m n a b = subst is_text (sym (law ks is c o (Err a.refused) (Ok t) plain (no_want r m a) (λ e. absurd (cc)) a.holds b)) tt
+  go_once : (a b : Result Text Refusal) → IsTold a → IsTold b → GoesKernel kernel inputs c o ks is a
+      → GoesKernel kernel inputs c (with_workers o workers) ks is b → PrintTheSame a b
+  go_once (Ok s) (Ok t) m n a b = ap (text_or s) (law ks is c o workers (Ok s) (Ok t) plain (λ e. absurd (cc)) (λ e. absurd (cc)) a b)
+  go_once (Ok s) (Err q) m n a b = subst is_text (law ks is c o workers (Ok s) (Err b.refused) plain (λ e. absurd (cc)) (no_want (with_workers o workers) q n b) a b.holds) tt
+  go_once (Err r) (Ok t) m n a b = subst is_text (sym (law ks is c o workers (Err a.refused) (Ok t) plain (no_want o r m a) (λ e. absurd (cc)) a.holds b)) tt
   go_once (Err r) (Err q) m n a b =
-      let same : a.refused ≡ b.refused = ap (error_or a.refused) (law ks is c o (Err a.refused) (Err b.refused) plain (no_want r m a) (no_want q n b) a.holds b.holds) in (
+      let same : a.refused ≡ b.refused = ap (error_or a.refused) (law ks is c o workers (Err a.refused) (Err b.refused) plain (no_want o r m a) (no_want (with_workers o workers) q n b) a.holds b.holds) in (
         ap refusal_code a.is ∙ ap go_code same ∙ sym (ap refusal_code b.is),
         ap refusal_parts a.is
             ∙ same_parts a.files b.files (printed (go_number a.refused) (go_word a.refused)) a.refused (a.named.0 ∙ sym b.named.0) (a.named.1 ∙ sym b.named.1)
@@ -116,9 +118,9 @@ module _ (law : GoesHaveOneAnswer) (kernel inputs ks is : Text) (c : CircuitOpti
       )
 
 pub goes_print_once : GoesHaveOneAnswer → GoesPrintOnce
-goes_print_once law c contents a b e plain x y =
-    go_once law (at c.plain 0) (at c.plain 1) (at contents 0) (at contents 1) (circuit_of c.chosen) (options_of c.chosen) plain a b (is_told c contents a x) (is_told c contents b y)
-    (by_verb Go c contents a e x) (by_verb Go c contents b e y)
+goes_print_once law c contents workers a b e plain x y =
+    go_once law (at c.plain 0) (at c.plain 1) (at contents 0) (at contents 1) (circuit_of c.chosen) (options_of c.chosen) workers plain a b (is_told c contents a x)
+    (is_told (by_workers c workers) contents b y) (by_verb Go c contents a e x) (by_verb Go (by_workers c workers) contents b e y)
 
 -- ---- signed results
 

@@ -73,13 +73,13 @@ abbrev refusal_or : TextRefusal → Result Net TextRefusal → TextRefusal
 refusal_or r (Ok net) = r
 refusal_or r (Err q) = q
 
-same_net : (bytes : Text) (net net2 : Net) → SaysNet bytes (Ok net) → SaysNet bytes (Ok net2) → net2 ≡ net
+pub same_net : (bytes : Text) (net net2 : Net) → SaysNet bytes (Ok net) → SaysNet bytes (Ok net2) → net2 ≡ net
 same_net bytes net net2 a b = elim (only_answer bytes (Ok net) a (Ok net2) (λ e. subst is_ok e tt) b) [
   | inl e ↦ sym (ap (net_or net) e)
   | inr e ↦ absurd (subst is_ok e tt)
 ]
 
-no_text : (bytes : Text) (net : Net) (r : TextRefusal) → SaysNet bytes (Ok net) → r ≢ text.Memory → SaysNet bytes (Err r) → ⊥
+pub no_text : (bytes : Text) (net : Net) (r : TextRefusal) → SaysNet bytes (Ok net) → r ≢ text.Memory → SaysNet bytes (Err r) → ⊥
 no_text bytes net r a some says = elim (only_answer bytes (Ok net) a (Err r) (λ e. some (ap (refusal_or r) e)) says) [
   | inl e ↦ subst is_ok e tt
   | inr e ↦ subst is_ok e tt
@@ -89,13 +89,13 @@ no_rule : CheckedIsNotRefused → (net : Net) (r : NetRefusal) → IsChecked net
 no_rule law net (rule.Rule number place) checked some is = law net number place checked is
 no_rule law net rule.Memory checked some is = some refl
 
-no_netlist : CheckedIsNotRefused → (bytes : Text) (net : Net) (r : NetlistRefusal) → IsNetlist bytes net → IsSome (netlist_number r) → NetlistSays bytes (Err r) → ⊥
+pub no_netlist : CheckedIsNotRefused → (bytes : Text) (net : Net) (r : NetlistRefusal) → IsNetlist bytes net → IsSome (netlist_number r) → NetlistSays bytes (Err r) → ⊥
 no_netlist law bytes net (netlist.Text r) a told is = no_text bytes net r a.read is.told is.cause
 no_netlist law bytes net (netlist.Rule r) a told is =
     no_rule law net r a.checked is.told (subst (λ (n : Net). RefusalHolds n r) (same_net bytes net is.net a.read is.read) is.cause)
 no_netlist law bytes net netlist.Memory a told is = false≢true told
 
-run_told : (r : RunRefusal) → IsSome (run_refusal_number r) → r ≢ run.Memory
+pub run_told : (r : RunRefusal) → IsSome (run_refusal_number r) → r ≢ run.Memory
 run_told r has e = false≢true (sym (ap (λ (x : RunRefusal). is_some (run_refusal_number x)) e) ∙ has)
 
 module _ (law : CheckedIsNotRefused) (complete : RunsAreComplete) (word inputs_word bytes inputs : Text) (o : RunOptions) (net : Net) (list : IsNetlist bytes net) (sound : IsSoundRun net inputs o) where

@@ -33,7 +33,7 @@ pub record TooLong (holds : Text → Told) (long : ℕ) (c : Asked) (Tells : Tex
   pub told : Tells (concat (long_parts name))
 
 -- the command's files hold contents that it refuses so
-pub record IsRefused (holds : Text → Told) (c : Asked) (refusal : Refusal) : Type 0 where
+pub record RefusesSo (holds : Text → Told) (c : Asked) (refusal : Refusal) : Type 0 where
   pub contents : List Text
   pub held : AreHeld holds (files_of c) contents
   pub answer : Answers c contents (Err refusal)
@@ -41,7 +41,7 @@ pub record IsRefused (holds : Text → Told) (c : Asked) (refusal : Refusal) : T
 -- a refusal of the command has this status; its line was told
 pub record RefusesWith (holds : Text → Told) (c : Asked) (code : ℕ) (Tells : Text → Type 0) : Type 0 where
   pub refusal : Refusal
-  pub cause : IsRefused holds c refusal
+  pub cause : RefusesSo holds c refusal
   pub status : code ≡ refusal_code refusal
   pub told : Tells (concat (refusal_parts refusal))
 
@@ -52,22 +52,22 @@ IsCauseOf holds steady long Cut c (fault.Read name) = IsUnread holds steady (fil
 IsCauseOf holds steady long Cut c (fault.TooLong name) = IsTooLong holds long (files_of c) name.now
 IsCauseOf holds steady long Cut c fault.Write = Writes holds c Cut
 IsCauseOf holds steady long Cut c fault.Memory = Unit {0}
-IsCauseOf holds steady long Cut c (fault.Refused refusal) = IsRefused holds c refusal
+IsCauseOf holds steady long Cut c (fault.Refused refusal) = RefusesSo holds c refusal
 
 -- a status that no words, no device and no want of memory give
 abbrev pub IsOwn : ℕ → Type 0
 IsOwn code = (code ≢ 0) × (code ≢ 1) × (code ≢ 2) × (code ≢ 3) × (code ≢ 11) × (code ≢ 12)
 
 -- it is told that the files hold these contents, within their limits
-abbrev pub AreKept : (Text → Told) → List Wanted → List Text → Type 0
-AreKept holds [] [] = Unit {0}
-AreKept holds [] (bytes ∷ contents) = ⊥
-AreKept holds (file ∷ files) [] = ⊥
-AreKept holds (file ∷ files) (bytes ∷ contents) = IsHeld (holds file.name) bytes × (length bytes ≤ file.limit) × AreKept holds files contents
+abbrev pub AreToldWithin : (Text → Told) → List Wanted → List Text → Type 0
+AreToldWithin holds [] [] = Unit {0}
+AreToldWithin holds [] (bytes ∷ contents) = ⊥
+AreToldWithin holds (file ∷ files) [] = ⊥
+AreToldWithin holds (file ∷ files) (bytes ∷ contents) = IsHeld (holds file.name) bytes × (length bytes ≤ file.limit) × AreToldWithin holds files contents
 
 -- the files are steady and hold contents for which the command has no refusal
 pub record AreSound (holds : Text → Told) (steady : Type 0) (c : Asked) : Type 0 where
   pub steady_files : steady
   pub contents : List Text
-  pub kept : AreKept holds (files_of c) contents
+  pub kept : AreToldWithin holds (files_of c) contents
   pub none : (refusal : Refusal) → Answers c contents (Err refusal) → ⊥

@@ -1,12 +1,13 @@
--- That a call of `compile` and one of `go` print one thing, whatever is asked of signed results, and that both print one net.
-use Rattle.std.specs.Prelude.{◌≡◌, ◌⊎◌, ◌↔◌, ℕ, Bool, List, Result, Ok, Err}
+-- That a call of `compile`, and one of `go` or `run` by however many workers, print one thing, whatever is asked of signed results, and that `compile` and `go` print one net.
+use Rattle.std.specs.Prelude.{◌≡◌, ◌⊎◌, ◌↔◌, ℕ, Bool, List, Option, Result, Ok, Err}
 use Rattle.net_types.specs.declared.net.Net.{Net}
 use Rattle.net_types.specs.declared.firing.Inputs.{Inputs}
 use Rattle.net_core.specs.Runs.{Long}
 use Rattle.net_text.specs.Refusals.{Says as SaysNet}
 use Rattle.net_runs.specs.Given.{Gives}
-use Rattle.kernel_runs.specs.OneAnswer.{AsksForNoCycles, GoesOnFrom}
-use Rattle.command_words.specs.declared.verb.Verb.TheVariants.{Compile, Go}
+use Rattle.net_runs.specs.Laws.{AsksForNoCycles}
+use Rattle.kernel_runs.specs.OneAnswer.{GoesOnFrom}
+use Rattle.command_words.specs.declared.verb.Verb.TheVariants.{Compile, Go, Run}
 use Rattle.command_words.specs.Tables.{Text}
 use Rattle.command_words.specs.Commands.{Asked}
 use Rattle.elastic_top.specs.Answers.{Answers, at}
@@ -27,10 +28,19 @@ PrintTheSame (Err r) (Err q) = (refusal_code r ≡ refusal_code q) × (refusal_p
 abbrev pub CompilesPrintOnce : Type 0
 CompilesPrintOnce = (c : Asked) (contents : List Text) (a b : Result Text Refusal) → c.verb ≡ Compile → Answers c contents a → Answers c contents b → PrintTheSame a b
 
--- and so do all of a call of `go` that counts no cycles
+-- the same call, with so many workers, or with none
+abbrev pub by_workers : Asked → Option ℕ → Asked
+by_workers c workers = record c { chosen = record c.chosen { workers = workers } }
+
+-- and so do all of a call of `go` that counts no cycles, with however many workers, or with none
 abbrev pub GoesPrintOnce : Type 0
-GoesPrintOnce = (c : Asked) (contents : List Text) (a b : Result Text Refusal) → c.verb ≡ Go → AsksForNoCycles (options_of c.chosen) → Answers c contents a → Answers c contents b
-    → PrintTheSame a b
+GoesPrintOnce = (c : Asked) (contents : List Text) (workers : Option ℕ) (a b : Result Text Refusal) → c.verb ≡ Go → AsksForNoCycles (options_of c.chosen) → Answers c contents a
+    → Answers (by_workers c workers) contents b → PrintTheSame a b
+
+-- and all of a call of `run` that counts no cycles and writes no firings
+abbrev pub RunsPrintOnce : Type 0
+RunsPrintOnce = (c : Asked) (contents : List Text) (workers : Option ℕ) (a b : Result Text Refusal) → c.verb ≡ Run → AsksForNoCycles (options_of c.chosen) → Answers c contents a
+    → Answers (by_workers c workers) contents b → PrintTheSame a b
 
 -- ---- signed results out of range
 

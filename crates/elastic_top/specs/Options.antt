@@ -1,5 +1,5 @@
 -- What the options of a command ask for, and what holds where one is not used.
-use Rattle.std.specs.Prelude.{◌≤◌, ℕ, Bool, true, false, List, Option, Some, None, find}
+use Rattle.std.specs.Prelude.{◌≡◌, ◌≤◌, ◌<◌, ◌^◌, ℕ, Bool, true, false, List, Option, Some, None, IfSome, find}
 use Rattle.std.specs.Str.{bytes_eq}
 use Rattle.el_base.specs.Limits.{max_firings}
 use Rattle.c_meaning.specs.declared.profile.Profile.{Profile}
@@ -8,6 +8,7 @@ use Rattle.buffer_place.specs.declared.timing.Timing.{Timing}
 use Rattle.buffer_place.specs.Timings.{IsTiming, usual}
 use Rattle.net_runs.specs.declared.options.RunOptions.{RunOptions}
 use Rattle.net_runs.specs.declared.options.TheConstants.{DEFAULT_FIRINGS}
+use Rattle.net_runs.specs.Runs.{MayShare}
 use Rattle.kernel_ref.specs.declared.options.InterpretOptions.{InterpretOptions}
 use Rattle.kernel_ref.specs.declared.options.TheConstants.{DEFAULT_TURNS}
 use Rattle.kernel_runs.specs.declared.options.CircuitOptions.{CircuitOptions}
@@ -25,7 +26,7 @@ limit_or None = DEFAULT_FIRINGS
 limit_or (Some n) = n
 
 abbrev pub options_of : Chosen → RunOptions
-options_of c = record { limit = limit_or c.limit; count = c.count; cycles = c.cycles; log = c.log }
+options_of c = record { limit = limit_or c.limit; count = c.count; cycles = c.cycles; log = c.log; workers = c.workers }
 
 -- ---- the plain interpreter
 
@@ -69,6 +70,7 @@ timing_of c = record {
   read = delay_or c.delay Read usual.read;
   lsq = delay_or c.delay Lsq usual.lsq;
   slots = slots_or c.slots;
+  depth = c.depth;
 }
 
 abbrev pub circuit_of : Chosen → CircuitOptions
@@ -76,7 +78,9 @@ circuit_of c = record { timing = timing_of c; forward = c.forward }
 
 -- ---- what a command may ask for
 
--- a limit that a run may have, and a timing that a circuit may have
+-- a limit that a run may have, which workers, where they are asked for, may share out; a timing that a circuit may have; and a depth that can be counted
 pub record IsWithin (c : Chosen) : Type 0 where
   pub limit : limit_or c.limit ≤ max_firings
+  pub shared : IfSome c.workers (MayShare (limit_or c.limit))
   pub timing : IsTiming (timing_of c)
+  pub depth : (n : ℕ) → c.depth ≡ Some n → n < 2 ^ 32

@@ -15,13 +15,17 @@ use crate::options::{circuit_of, interpretation_of, options_of};
 use crate::runs::{replay, run};
 use crate::upgrade::upgraded;
 use command_words::{Command, Verb};
+use el_io::Gate;
 use std::alloc::Global;
+use std::thread::Threads;
 
 /// The text that the command writes for the contents of its files, or why there is none.
-pub fn answer<'a>(
+pub fn answer<'a, R: Threads + Sync, G: Gate + Sync>(
+    rt: &R,
     alloc: Global,
     command: &Command<'a>,
     contents: &[Vec<u8>],
+    gate: &G,
 ) -> Result<Vec<u8>, Refusal<'a>>
     requires built { IsTrue (is_built command.now.verb) }
     requires plain { length command.now.plain.items ≡ length (plain_of command.now.verb) }
@@ -42,6 +46,7 @@ pub fn answer<'a>(
             circuit_of(&command.chosen),
         ),
         Verb::Go => go(
+            rt,
             alloc,
             words[0],
             words[1],
@@ -49,14 +54,17 @@ pub fn answer<'a>(
             contents[1].as_slice(),
             circuit_of(&command.chosen),
             options_of(&command.chosen),
+            gate,
         ),
         Verb::Run => run(
+            rt,
             alloc,
             words[0],
             words[1],
             contents[0].as_slice(),
             contents[1].as_slice(),
             options_of(&command.chosen),
+            gate,
         ),
         Verb::Replay => replay(
             alloc,

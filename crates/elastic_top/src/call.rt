@@ -27,16 +27,17 @@ use std::thread::Threads;
 ///
 /// At status 0 `out` has grown by the command's text for the contents of its files; at status 3 by a proper prefix of
 /// such a text; at every other status it is unchanged. At every status but 0 the status's line is written to `err`,
-/// whose faults change no status. No thread is started and the gate is not asked. Want of memory (11) is the one free
-/// answer; it comes before the first byte of `out`.
+/// whose faults change no status. Threads are started, and the gate is asked, where workers are asked for, and then alone: one
+/// thread a worker, which ends before the status is answered. However many workers there are, and whatever the gate answers, the
+/// results are the same. Want of memory (11) is the one free answer; it comes before the first byte of `out`.
 pub fn top<R: Threads + Sync, F: Files, O: Sink, E: Sink, G: Gate + Sync>(
-    _rt: &R,
+    rt: &R,
     alloc: Global,
     words: &[String],
     files: &mut F,
     out: &mut O,
     err: &mut E,
-    _gate: &G,
+    gate: &G,
 ) -> Status
     // What the words spell, and which statuses it has.
     ensures usage { result.code ≡ 1 → (c : Asked) → commands.Command (texts words.now) c → ⊥ }
@@ -99,7 +100,7 @@ pub fn top<R: Threads + Sync, F: Files, O: Sink, E: Sink, G: Gate + Sync>(
             return Status { code: 11 };
         }
     };
-    match run_command(alloc, &command, files, out) {
+    match run_command(rt, alloc, &command, files, out, gate) {
         Ok(()) => Status { code: 0 },
         Err(fault) => {
             tell(err, &fault);
@@ -109,11 +110,13 @@ pub fn top<R: Threads + Sync, F: Files, O: Sink, E: Sink, G: Gate + Sync>(
 }
 
 // Runs a command.
-fn run_command<'a, F: Files, O: Sink>(
+fn run_command<'a, R: Threads + Sync, F: Files, O: Sink, G: Gate + Sync>(
+    rt: &R,
     alloc: Global,
     command: &Command<'a>,
     files: &mut F,
     out: &mut O,
+    gate: &G,
 ) -> Result<(), Fault<'a>>
     requires built { IsTrue (is_built command.now.verb) }
     requires plain { length command.now.plain.items ≡ length (plain_of command.now.verb) }
@@ -131,18 +134,20 @@ fn run_command<'a, F: Files, O: Sink>(
         → O.written out.new ≡ O.written out.old }
 {
     match files_of(alloc, command.verb.plain(), command.plain.as_slice()) {
-        Ok(plan) => run_files(alloc, command, plan.as_slice(), files, out),
+        Ok(plan) => run_files(rt, alloc, command, plan.as_slice(), files, out, gate),
         Err(Memory) => Err(Fault::Memory),
     }
 }
 
 // Reads the files, makes the text, and writes it.
-fn run_files<'a, F: Files, O: Sink>(
+fn run_files<'a, R: Threads + Sync, F: Files, O: Sink, G: Gate + Sync>(
+    rt: &R,
     alloc: Global,
     command: &Command<'a>,
     plan: &[File<'a>],
     files: &mut F,
     out: &mut O,
+    gate: &G,
 ) -> Result<(), Fault<'a>>
     requires built { IsTrue (is_built command.now.verb) }
     requires plain { length command.now.plain.items ≡ length (plain_of command.now.verb) }
@@ -162,7 +167,7 @@ fn run_files<'a, F: Files, O: Sink>(
 {
     match read_all(alloc, files, plan) {
         Err(fault) => Err(fault),
-        Ok(contents) => match answer(alloc, command, contents.as_slice()) {
+        Ok(contents) => match answer(rt, alloc, command, contents.as_slice(), gate) {
             Err(refusal) => Err(call_fault(refusal)),
             Ok(text) => match write_all(out, text.as_slice()) {
                 Ok(()) => Ok(()),

@@ -5,6 +5,7 @@ ghost use Rattle.elastic_top.specs.OneAnswer.{
   CompilesPrintOnce,
   GoesPrintOnce,
   OneNetIsShown,
+  RunsPrintOnce,
   StatusEightIsLong,
   WrapChangesNothing,
 };
@@ -24,7 +25,7 @@ use kernel_runs::{
     printed_circuits_are_right,
 };
 use net_check::a_net_has_one_refusal;
-use net_runs::sound_runs_are_not_refused;
+use net_runs::{sound_runs_are_not_refused, workers_change_no_answer};
 
 /// Where its file spells a kernel, a call of `compile` has nothing to refuse.
 pub fn kernels_are_compiled()
@@ -41,18 +42,21 @@ pub fn ending_kernels_go()
     ending_kernels_run();
 }
 
-/// All answers of a call of `compile` for the same contents print the same, and so do all of a call of `go` that counts no
-/// cycles; `--wrap` changes none of them. The text of `go` is the text of `compile`, by the same options, a line `%%` and the
+/// All answers of a call of `compile` for the same contents print the same, and so do all of a call of `go`, and of one of `run`,
+/// that counts no cycles and writes no firings, with any number of workers or without; `--wrap` changes none of them. The text of `go` is the text of `compile`, by the same options, a line `%%` and the
 /// text of a run of the net that is read from it; the status of `go` is 8 exactly where that net has runs of more firings
 /// than the limit on the inputs.
 pub fn calls_print_once()
     ensures compile { CompilesPrintOnce }
     ensures go { GoesPrintOnce }
+    ensures run { RunsPrintOnce }
     ensures wrap { WrapChangesNothing }
     ensures net { OneNetIsShown }
     ensures limit { StatusEightIsLong }
 {
     answers_are_one();
+    a_net_has_one_refusal();
+    workers_change_no_answer();
 }
 
 /// Where a kernel ends on the inputs, what `replay` prints of the circuit that `compile` printed for it is the text of the

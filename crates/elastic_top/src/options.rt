@@ -1,5 +1,5 @@
 //! What the options of a command ask for.
-ghost use Rattle.std.specs.Prelude.{◌≡◌, ◌<◌, ◌^◌, find};
+ghost use Rattle.std.specs.Prelude.{◌≡◌, ◌<◌, ◌^◌, ℕ, Some, find};
 ghost use Rattle.buffer_place.specs.Timings.{IsTiming};
 ghost use Rattle.elastic_top.specs.Options.{IsWithin, circuit_of, delay_or, interpretation_of, is_of, limit_or, options_of, profile_of, slots_or, timing_of, turns_or};
 
@@ -20,6 +20,7 @@ pub fn options_of(chosen: &Chosen) -> RunOptions
         count: chosen.count,
         cycles: chosen.cycles,
         log: chosen.log,
+        workers: chosen.workers,
     }
 }
 
@@ -83,6 +84,7 @@ fn timing_of(chosen: &Chosen) -> Timing
         read: delay_or(&chosen.delay, Class::Read, usual.read),
         lsq: delay_or(&chosen.delay, Class::Lsq, usual.lsq),
         slots: slots_or(chosen.slots),
+        depth: depth_of(chosen.depth),
     }
 }
 
@@ -108,6 +110,17 @@ fn named(delays: &[ClassDelay], class: Class) -> Option<ClassDelay>
         .iter()
         .find(|delay| delay.class.word() == class.word())
         .copied()
+}
+
+// The depth that is asked for.
+fn depth_of(asked: Option<u64>) -> Option<u32>
+    requires { (n : ℕ) → asked ≡ Some n → n < 2 ^ 32 }
+    ensures { result ≡ asked }
+{
+    match asked {
+        Some(depth) => Some(depth as u32),
+        None => None,
+    }
 }
 
 fn slots_or(asked: Option<u64>) -> u32

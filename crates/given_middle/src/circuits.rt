@@ -4,6 +4,7 @@ use crate::kernels::graph_of;
 use anyhow::{Result, bail, ensure};
 use circuit_build::build;
 use el_base::MAX_INPUTS_BYTES;
+use el_io::Open;
 use ir::Ir;
 use lsq_groups::groups;
 use net_check::{Checked, check_net};
@@ -11,6 +12,7 @@ use net_runs::{RunOptions, RunRefusal, run_text};
 use net_types::Net;
 use row_fields::{Output, escaped, text_within};
 use std::alloc::Global;
+use std::thread::Threads;
 
 /// What a run is asked for.
 const OPTIONS: RunOptions = RunOptions {
@@ -18,27 +20,46 @@ const OPTIONS: RunOptions = RunOptions {
     count: true,
     cycles: false,
     log: false,
+    workers: None,
 };
 
 /// Writes what the circuit of a kernel comes to on inputs.
-pub fn put_kernel(alloc: Global, kernel: &str, inputs: &str, out: &mut Output) -> Result<()> {
+pub fn put_kernel<R: Threads + Sync>(
+    rt: &R,
+    alloc: Global,
+    kernel: &str,
+    inputs: &str,
+    out: &mut Output,
+) -> Result<()> {
     let graph = graph_of(alloc, kernel)?;
-    put_circuit(alloc, &graph, inputs, out)
+    put_circuit(rt, alloc, &graph, inputs, out)
 }
 
 /// Writes what the circuit of a graph comes to on inputs.
-pub fn put_graph(alloc: Global, graph: &[&str], inputs: &str, out: &mut Output) -> Result<()> {
+pub fn put_graph<R: Threads + Sync>(
+    rt: &R,
+    alloc: Global,
+    graph: &[&str],
+    inputs: &str,
+    out: &mut Output,
+) -> Result<()> {
     let graph = read_graph(alloc, graph)?;
-    put_circuit(alloc, &graph, inputs, out)
+    put_circuit(rt, alloc, &graph, inputs, out)
 }
 
 /// Writes the counts of a graph and of its circuit, and how its run on inputs ends.
-fn put_circuit(alloc: Global, graph: &Ir, inputs: &str, out: &mut Output) -> Result<()> {
+pub fn put_circuit<R: Threads + Sync>(
+    rt: &R,
+    alloc: Global,
+    graph: &Ir,
+    inputs: &str,
+    out: &mut Output,
+) -> Result<()> {
     let net = circuit(alloc, graph)?;
     put_counts(graph, &net, out)?;
     ensure!(net.is_numbered(), "a net of too many units or channels");
     let net = check_net(alloc, net)?;
-    put_run(alloc, &net, inputs, out)
+    put_run(rt, alloc, &net, inputs, out)
 }
 
 /// The circuit of a graph.
@@ -86,9 +107,15 @@ fn put_counts(graph: &Ir, net: &Net, out: &mut Output) -> Result<()> {
 }
 
 /// Writes a status, and the results of a run with the number of its firings, or what is wrong with it.
-fn put_run(alloc: Global, net: &Checked, inputs: &str, out: &mut Output) -> Result<()> {
+fn put_run<R: Threads + Sync>(
+    rt: &R,
+    alloc: Global,
+    net: &Checked,
+    inputs: &str,
+    out: &mut Output,
+) -> Result<()> {
     let text = text_within(alloc, inputs, MAX_INPUTS_BYTES)?;
-    match run_text(alloc, net, text.as_slice(), OPTIONS) {
+    match run_text(rt, alloc, net, text.as_slice(), OPTIONS, &Open) {
         Ok(results) => {
             out.word("0 ");
             out.bytes(escaped(alloc, results.as_slice())?.as_slice());

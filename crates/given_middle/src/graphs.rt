@@ -5,11 +5,14 @@
 //! `two OPERATION A B`, `select WIDTH CONDITION YES NO`, `load ARRAY ADDRESS` or `store ARRAY ADDRESS VALUE`, and with `times N`
 //! before it so many such steps. A jump is `go TO`, `if CONDITION TO else TO`, or `return` with at most one value, where TO is
 //! the number of a block with the values that it gets.
+//!
+//! What reads a part gives nothing where there is none, or where memory is wanting.
 
-use anyhow::{Context, Result, bail};
+use anyhow::{Context, Result};
 use el_base::{Array, List, Name, Op1, Op2, Scalar, Ty};
 use graph_check::checked_graph;
 use ir::{Block, Instr, Ir, Jump, To};
+use row_fields::numbers_of;
 use std::alloc::Global;
 
 /// The most steps that one word `times` may stand for.
@@ -17,139 +20,150 @@ const MOST: u32 = 100_000;
 
 /// The graph that fields tell.
 pub fn read_graph(alloc: Global, fields: &[&str]) -> Result<Ir> {
+    graph_of(alloc, fields).context("no well-formed graph, or want of memory")
+}
+
+fn graph_of(alloc: Global, fields: &[&str]) -> Option<Ir> {
     let [scalars, arrays, of, blocks] = fields else {
-        bail!("a graph is scalars, arrays, a result and blocks");
+        return None;
     };
+    let of = result_of(of)?;
     let scalars = scalars_of(alloc, scalars)?;
     let arrays = arrays_of(alloc, arrays)?;
-    let of = result_of(of)?;
     let blocks = blocks_of(alloc, blocks)?;
-    match checked_graph(alloc, name_of(alloc, "f")?, scalars, arrays, of, blocks) {
-        Ok(Some(graph)) => Ok(graph),
-        Ok(None) => bail!("no well-formed graph"),
-        Err(_) => bail!("want of memory"),
+    let name = name_of(alloc, "f")?;
+    checked_graph(alloc, name, scalars, arrays, of, blocks).unwrap_or(None)
+}
+
+fn name_of(alloc: Global, word: &str) -> Option<Name> {
+    Name::new(alloc, word.as_bytes()).unwrap_or(None)
+}
+
+/// The type of a result, if there is one, of a field that tells one or none.
+fn result_of(word: &str) -> Option<Option<Ty>> {
+    match Ty::of_name(word.as_bytes()) {
+        None if word != "" => None,
+        of => Some(of),
     }
 }
 
-fn name_of(alloc: Global, word: &str) -> Result<Name> {
-    match Name::new(alloc, word.as_bytes()) {
-        Ok(Some(name)) => Ok(name),
-        Ok(None) => bail!("no name"),
-        Err(_) => bail!("want of memory"),
-    }
-}
-
-fn type_of(word: &str) -> Result<Ty> {
-    Ty::of_name(word.as_bytes()).context("no type")
-}
-
-fn result_of(word: &str) -> Result<Option<Ty>> {
-    if word == "" {
-        return Ok(None);
-    }
-    Ok(Some(type_of(word)?))
-}
-
-fn scalars_of(alloc: Global, field: &str) -> Result<List<Scalar>> {
+fn scalars_of(alloc: Global, field: &str) -> Option<List<Scalar>> {
     let mut scalars = List::new(alloc);
-    if field == "" {
-        return Ok(scalars);
-    }
     for word in field.split(' ') {
-        let (ty, name) = word.split_once(':').context("a scalar is TYPE:NAME")?;
-        let scalar = Scalar {
-            name: name_of(alloc, name)?,
-            ty: type_of(ty)?,
-        };
-        add(&mut scalars, scalar)?;
+        if word != "" {
+            scalars.push(scalar_of(alloc, word)?).ok()?;
+        }
     }
-    Ok(scalars)
+    Some(scalars)
 }
 
-fn arrays_of(alloc: Global, field: &str) -> Result<List<Array>> {
+/// The scalar of a word `TYPE:NAME`.
+fn scalar_of(alloc: Global, word: &str) -> Option<Scalar> {
+    let (ty, name) = word.split_once(':')?;
+    let ty = Ty::of_name(ty.as_bytes())?;
+    let name = name_of(alloc, name)?;
+    Some(Scalar { name, ty })
+}
+
+fn arrays_of(alloc: Global, field: &str) -> Option<List<Array>> {
     let mut arrays = List::new(alloc);
-    if field == "" {
-        return Ok(arrays);
-    }
     for word in field.split(' ') {
-        let parts: Vec<&str> = word.split(':').collect(alloc)?;
-        let [ty, name, len] = parts.as_slice() else {
-            bail!("an array is TYPE:NAME:LENGTH");
-        };
-        let array = Array {
-            name: name_of(alloc, name)?,
-            ty: type_of(ty)?,
-            len: len.parse()?,
-        };
-        add(&mut arrays, array)?;
+        if word != "" {
+            arrays.push(array_of(alloc, word)?).ok()?;
+        }
     }
-    Ok(arrays)
+    Some(arrays)
 }
 
-fn blocks_of(alloc: Global, field: &str) -> Result<List<Block>> {
+/// The array of a word `TYPE:NAME:LENGTH`.
+fn array_of(alloc: Global, word: &str) -> Option<Array> {
+    let (ty, rest) = word.split_once(':')?;
+    let (name, len) = rest.split_once(':')?;
+    let ty = Ty::of_name(ty.as_bytes())?;
+    let len = len.parse::<u64>().ok()?;
+    let name = name_of(alloc, name)?;
+    Some(Array { name, ty, len })
+}
+
+fn blocks_of(alloc: Global, field: &str) -> Option<List<Block>> {
     let mut blocks = List::new(alloc);
     for text in field.split('|') {
-        add(&mut blocks, block_of(alloc, text)?)?;
+        blocks.push(block_of(alloc, text)?).ok()?;
     }
-    Ok(blocks)
+    Some(blocks)
 }
 
-fn block_of(alloc: Global, text: &str) -> Result<Block> {
-    let mut args = List::new(alloc);
-    let mut steps = List::new(alloc);
-    let mut jump = Jump::Return(None);
+/// The block of a text, which returns nothing where no part is a jump.
+fn block_of(alloc: Global, text: &str) -> Option<Block> {
+    let mut block = Block {
+        args: List::new(alloc),
+        steps: List::new(alloc),
+        jump: Jump::Return(None),
+    };
     for part in text.split(';') {
-        let words: Vec<&str> = part.split(' ').filter(|word| *word != "").collect(alloc)?;
-        match words.as_slice() {
-            ["block", widths @ ..] => args = numbers_of(alloc, widths)?,
-            ["go" | "if" | "return", ..] => jump = jump_of(alloc, words.as_slice())?,
-            ["times", count, step @ ..] => add_times(
-                &mut steps,
-                count.parse()?,
-                step_of(alloc, step)?,
-            )?,
-            step => add(&mut steps, step_of(alloc, step)?)?,
-        }
+        add_part(&mut block, alloc, part)?;
     }
-    Ok(Block { args, steps, jump })
+    Some(block)
 }
 
-fn add<T: Drop>(list: &mut List<T>, item: T) -> Result<()> {
-    match list.push(item) {
-        Ok(()) => Ok(()),
-        Err(_) => bail!("want of memory"),
+/// Adds a part to a block.
+fn add_part(block: &mut Block, alloc: Global, part: &str) -> Option<()> {
+    let words = part.split(' ').filter(|word| *word != "");
+    let words: Vec<&str> = words.collect(alloc).ok()?;
+    match words.as_slice() {
+        ["block", widths @ ..] => block.args = list_of(alloc, widths)?,
+        ["go" | "if" | "return", ..] => block.jump = jump_of(alloc, words.as_slice())?,
+        ["times", count, step @ ..] => add_times(&mut block.steps, alloc, count, step)?,
+        step => block.steps.push(step_of(alloc, step)?).ok()?,
     }
+    Some(())
 }
 
-fn add_times(steps: &mut List<Instr>, count: u32, step: Instr) -> Result<()> {
-    for _ in 0..count.min(MOST) {
-        add(steps, step)?;
+/// Adds so many of a step.
+fn add_times(steps: &mut List<Instr>, alloc: Global, count: &str, step: &[&str]) -> Option<()> {
+    let count = number_of(count)?.min(MOST);
+    let step = step_of(alloc, step)?;
+    for _ in 0..count {
+        steps.push(step).ok()?;
     }
-    Ok(())
+    Some(())
 }
 
-fn numbers_of(alloc: Global, words: &[&str]) -> Result<List<u32>> {
+fn number_of(word: &str) -> Option<u32> {
+    word.parse::<u32>().ok()
+}
+
+fn list_of(alloc: Global, words: &[&str]) -> Option<List<u32>> {
     let mut numbers = List::new(alloc);
     for word in words {
-        add(&mut numbers, word.parse()?)?;
+        numbers.push(number_of(word)?).ok()?;
     }
-    Ok(numbers)
+    Some(numbers)
 }
 
-fn step_of(alloc: Global, words: &[&str]) -> Result<Instr> {
+fn step_of(alloc: Global, words: &[&str]) -> Option<Instr> {
     match words {
-        ["const", width, value] => Ok(Instr::Const {
-            width: width.parse()?,
-            value: value.parse()?,
-        }),
-        ["one", op, a] => Ok(Instr::One(unary(op)?, a.parse()?)),
-        ["two", op, a, b] => Ok(Instr::Two(binary(op)?, a.parse()?, b.parse()?)),
-        [word, numbers @ ..] => {
-            let numbers: Vec<u32> = row_fields::numbers_of(alloc, numbers)?;
-            step_by(word, numbers.as_slice()).context("no step")
+        ["const", width, value] => constant(width, value),
+        ["one", op, a] => {
+            let op = Op1::of_name(op.as_bytes())?;
+            Some(Instr::One(op, number_of(a)?))
         }
-        [] => bail!("no step"),
+        ["two", op, a, b] => {
+            let op = Op2::of_name(op.as_bytes())?;
+            Some(Instr::Two(op, number_of(a)?, number_of(b)?))
+        }
+        [word, numbers @ ..] => {
+            let numbers: Vec<u32> = numbers_of(alloc, numbers).ok()?;
+            step_by(word, numbers.as_slice())
+        }
+        [] => None,
     }
+}
+
+fn constant(width: &str, value: &str) -> Option<Instr> {
+    let width = number_of(width)?;
+    let value = value.parse::<u64>().ok()?;
+    Some(Instr::Const { width, value })
 }
 
 /// The step of a word and its numbers.
@@ -174,47 +188,38 @@ fn step_by(word: &str, numbers: &[u32]) -> Option<Instr> {
     }
 }
 
-fn unary(name: &str) -> Result<Op1> {
-    Op1::of_name(name.as_bytes()).context("no operation of one operand")
-}
-
-fn binary(name: &str) -> Result<Op2> {
-    Op2::of_name(name.as_bytes()).context("no operation of two operands")
-}
-
-fn jump_of(alloc: Global, words: &[&str]) -> Result<Jump> {
+fn jump_of(alloc: Global, words: &[&str]) -> Option<Jump> {
     match words {
-        ["go", to @ ..] => Ok(Jump::Go(to_of(alloc, to)?)),
-        ["if", cond, sides @ ..] => {
-            let (yes, no) = parted(sides)?;
-            Ok(Jump::Two {
-                cond: cond.parse()?,
-                yes: to_of(alloc, yes)?,
-                no: to_of(alloc, no)?,
-            })
-        }
-        ["return"] => Ok(Jump::Return(None)),
-        ["return", value] => Ok(Jump::Return(Some(value.parse()?))),
-        _ => bail!("no jump"),
+        ["go", to @ ..] => Some(Jump::Go(to_of(alloc, to)?)),
+        ["if", cond, sides @ ..] => two_ways(alloc, cond, sides),
+        ["return"] => Some(Jump::Return(None)),
+        ["return", value] => Some(Jump::Return(Some(number_of(value)?))),
+        _ => None,
     }
+}
+
+/// A jump by a condition to the block before the word `else` or to the one behind it.
+fn two_ways(alloc: Global, cond: &str, sides: &[&str]) -> Option<Jump> {
+    let cond = number_of(cond)?;
+    let (yes, no) = parted(sides)?;
+    let yes = to_of(alloc, yes)?;
+    let no = to_of(alloc, no)?;
+    Some(Jump::Two { cond, yes, no })
 }
 
 /// What stands before and after the word `else`.
-fn parted<'a, 'b>(words: &'a [&'b str]) -> Result<(&'a [&'b str], &'a [&'b str])> {
+fn parted<'a, 'b>(words: &'a [&'b str]) -> Option<(&'a [&'b str], &'a [&'b str])> {
     for at in 0..words.len() {
         if words[at] == "else" {
-            return Ok((&words[..at], &words[at + 1..]));
+            return Some((&words[..at], &words[at + 1..]));
         }
     }
-    bail!("a jump to two blocks without a word else")
+    None
 }
 
-fn to_of(alloc: Global, words: &[&str]) -> Result<To> {
-    let [block, with @ ..] = words else {
-        bail!("no block to go to");
-    };
-    Ok(To {
-        block: block.parse()?,
-        with: numbers_of(alloc, with)?,
-    })
+fn to_of(alloc: Global, words: &[&str]) -> Option<To> {
+    let (block, with) = words.split_first()?;
+    let block = number_of(block)?;
+    let with = list_of(alloc, with)?;
+    Some(To { block, with })
 }

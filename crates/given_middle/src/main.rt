@@ -1,5 +1,5 @@
 //! Answers given rows on kernels and on block graphs, one a line of the files of its folder, each file below its name: normal
-//! forms as text, walks along block graphs, ends by the plain interpreter, and runs of circuits.
+//! forms as text, walks along block graphs, ends by the plain interpreter, and runs of circuits, and merged graphs.
 #![tactic(auto)]
 
 mod circuits;
@@ -8,6 +8,7 @@ mod exprs;
 mod forms;
 mod graphs;
 mod kernels;
+mod merged;
 mod rows;
 mod stmts;
 mod walks;
@@ -26,7 +27,7 @@ fn main(rt: HostRuntime) -> Result<()> {
         out.word(name);
         out.word("\n");
         for line in text.as_str().lines().skip(1) {
-            rows.put_answer(rt.alloc(), line, &mut out)?;
+            rows.put_answer(&rt, rt.alloc(), line, &mut out)?;
             out.word("\n");
         }
     }

@@ -3,10 +3,12 @@ use crate::circuits::{put_graph, put_kernel};
 use crate::ends::put_both;
 use crate::exprs::Places;
 use crate::forms::put_form;
+use crate::merged::put_merged;
 use crate::walks::{put_arguments, put_walk};
 use anyhow::{Result, bail};
 use row_fields::Output;
 use std::alloc::Global;
+use std::thread::Threads;
 
 /// What the lines of a file are, after the first, which says so in words.
 #[derive(Clone, Copy, Debug, PartialEq, Eq)]
@@ -23,10 +25,12 @@ pub enum Rows {
     Circuits,
     /// What it is, a block graph and inputs, for a run of its circuit.
     Graphs,
+    /// What it is, a block graph and inputs, for merging and for a run of the merged graph's circuit.
+    Merged,
 }
 
 /// The files, in the order in which they are answered.
-pub const FILES: [(&str, Rows); 8] = [
+pub const FILES: [(&str, Rows); 9] = [
     ("forms.tsv", Rows::Forms(Places::Hidden)),
     ("places.tsv", Rows::Forms(Places::Written)),
     ("walks.tsv", Rows::Walks),
@@ -35,11 +39,18 @@ pub const FILES: [(&str, Rows); 8] = [
     ("worked.tsv", Rows::Programs),
     ("circuits.tsv", Rows::Circuits),
     ("graphs.tsv", Rows::Graphs),
+    ("merged.tsv", Rows::Merged),
 ];
 
 impl Rows {
     /// Writes the answer to a line.
-    pub fn put_answer(self, alloc: Global, line: &str, out: &mut Output) -> Result<()> {
+    pub fn put_answer<R: Threads + Sync>(
+        self,
+        rt: &R,
+        alloc: Global,
+        line: &str,
+        out: &mut Output,
+    ) -> Result<()> {
         let fields: Vec<&str> = line.split('\t').collect(alloc)?;
         match (self, fields.as_slice()) {
             (Rows::Forms(places), [kernel]) => put_form(alloc, kernel, places, out),
@@ -48,8 +59,9 @@ impl Rows {
             (Rows::Programs, [turns, kernel, inputs]) => {
                 put_both(alloc, turns.parse()?, kernel, inputs, out)
             }
-            (Rows::Circuits, [kernel, inputs]) => put_kernel(alloc, kernel, inputs, out),
-            (Rows::Graphs, [_, graph @ .., inputs]) => put_graph(alloc, graph, inputs, out),
+            (Rows::Circuits, [kernel, inputs]) => put_kernel(rt, alloc, kernel, inputs, out),
+            (Rows::Graphs, [_, graph @ .., inputs]) => put_graph(rt, alloc, graph, inputs, out),
+            (Rows::Merged, [_, graph @ .., inputs]) => put_merged(rt, alloc, graph, inputs, out),
             (rows, _) => bail!("a line of {rows:?} of other fields"),
         }
     }

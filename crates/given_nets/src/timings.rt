@@ -1,5 +1,5 @@
 //! Placements of timings and changes of checked nets.
-ghost use Rattle.std.specs.Prelude.{◌<◌, IfOk, length};
+ghost use Rattle.std.specs.Prelude.{◌≡◌, ◌<◌, ℕ, Some, IfOk, length};
 ghost use Rattle.net_check.specs.Retimed.{NameChannels};
 ghost use Rattle.buffer_place.specs.Timings.{IsTiming};
 
@@ -63,8 +63,8 @@ fn put_refusal(refusal: &NetRefusal, out: &mut Output) -> Result<()> {
     Ok(())
 }
 
-/// The timing that a field tells: `usual`, or the delays of logic, multiplications, divisions, reads and queues, and the
-/// slots.
+/// The timing that a field tells: `usual`, or the delays of logic, multiplications, divisions, reads and queues, the slots,
+/// and the depth, if any.
 fn timing_of(alloc: Global, field: &str) -> Result<Timing>
     ensures { IfOk result IsTiming }
 {
@@ -72,9 +72,12 @@ fn timing_of(alloc: Global, field: &str) -> Result<Timing>
         return Ok(Timing::usual());
     }
     let numbers = words_as_numbers(alloc, field)?;
-    let [logic, mul, div, read, lsq, slots] = *numbers.as_slice() else {
-        bail!("a timing is six numbers");
+    let [logic, mul, div, read, lsq, slots, rest @ ..] = numbers.as_slice() else {
+        bail!("a timing is six numbers and a depth");
     };
+    let (logic, mul, div) = (*logic, *mul, *div);
+    let (read, lsq, slots) = (*read, *lsq, *slots);
+    let depth = depth_of(rest)?;
     ensure!(
         logic <= MAX_DELAY && mul <= MAX_DELAY && div <= MAX_DELAY && read <= MAX_DELAY,
         "a delay is too great"
@@ -91,7 +94,22 @@ fn timing_of(alloc: Global, field: &str) -> Result<Timing>
         read,
         lsq,
         slots,
+        depth,
     })
+}
+
+/// The depth that the words after the slots tell: none, or a number of 1 and more.
+fn depth_of(rest: &[u32]) -> Result<Option<u32>>
+    ensures { IfOk result (λ depth. (d : ℕ) → depth ≡ Some d → 0 < d) }
+{
+    match rest {
+        [] => Ok(None),
+        [depth] => {
+            ensure!(0 < *depth, "a depth is 1 and more");
+            Ok(Some(*depth))
+        }
+        _ => bail!("a timing is six numbers and a depth"),
+    }
 }
 
 /// The changes of a net's channels that a field tells, each a channel, slots and a delay, with `;` between two.

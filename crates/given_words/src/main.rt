@@ -81,6 +81,7 @@ fn put_delays(chosen: &Chosen, out: &mut Output) {
 fn put_numbers(chosen: &Chosen, out: &mut Output) {
     let numbers = [
         (" slots ", chosen.slots),
+        (" depth ", chosen.depth),
         (" workers ", chosen.workers),
         (" limit ", chosen.limit),
         (" turns ", chosen.turns),

@@ -1,4 +1,4 @@
-//! The strongly connected parts of a graph, in linear time.
+//! Graphs by their edges: the rows of targets, and the strongly connected parts, both in linear time.
 #![tactic(auto)]
 
 mod marking;
@@ -7,3 +7,4 @@ mod searching;
 mod tables;
 
 pub use marking::parts;
+pub use tables::rows;

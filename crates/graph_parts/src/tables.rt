@@ -5,8 +5,12 @@ ghost use Rattle.graph_parts.specs.Graph.{AreRows};
 use el_base::{List, Memory};
 use std::alloc::Global;
 
-/// For each of the nodes the targets of the edges out of it.
-pub(crate) fn rows(
+/// For each of the nodes the targets of the edges out of it, in time and memory in proportion to the nodes and the edges.
+///
+/// # Errors
+///
+/// [`Memory`] where memory is wanting.
+pub fn rows(
     alloc: Global,
     nodes: usize,
     from: &[usize],

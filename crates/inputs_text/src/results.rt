@@ -51,8 +51,8 @@ fn put_line(text: &mut Vec<u8>, name: &[u8], ty: Ty, patterns: &[u64]) -> Result
     Ok(())
 }
 
-/// Appends the number of a pattern.
-fn put_number(text: &mut Vec<u8>, ty: Ty, pattern: u64) -> Result<(), Memory>
+/// Appends the number of a pattern of a type, in decimal.
+pub fn put_number(text: &mut Vec<u8>, ty: Ty, pattern: u64) -> Result<(), Memory>
     requires { IsPatternOf ty pattern }
     ensures { OnOk result (text.new.items ≡ text.old.items ++ written ty pattern) }
 {

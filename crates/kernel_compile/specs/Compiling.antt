@@ -1,18 +1,21 @@
 -- What each answer of the compiler says of the bytes of a kernel.
-use Rattle.std.specs.Prelude.{◌≡◌, ◌≢◌, ◌⊎◌, ℕ, ℤ, Bool, List, Option, Result, Ok, Err}
+use Rattle.std.specs.Prelude.{◌≡◌, ◌≢◌, ◌≤◌, ◌⊎◌, ℕ, ℤ, Bool, List, Option, Some, Result, Ok, Err}
 use Rattle.c_ast.specs.declared.typed.Typed.{Typed}
 use Rattle.c_meaning.specs.declared.profile.Profile.{Profile}
 use Rattle.c_meaning.specs.Lawful.{Lawful}
 use Rattle.c_meaning.specs.Statements.{Ends}
 use Rattle.c_meaning.specs.Stores.{Inputs as Numbers, AreFitting}
 use Rattle.net_types.specs.declared.net.Net.{Net}
+use Rattle.net_check.specs.Cycles.{Leads}
 use Rattle.net_check.specs.Retimed.{Retimed}
 use Rattle.kernel_front.specs.Answers.{Says, IsKernel}
 use Rattle.kernel_front.specs.declared.reading.Kernel.{Kernel}
 use Rattle.kernel_front.specs.declared.refusal.KernelRefusal.{KernelRefusal}
 use Rattle.kernel_front.specs.declared.refusal.KernelRefusal.TheVariants as refusal
 use Rattle.buffer_place.specs.declared.timing.Timing.{Timing}
+use Rattle.buffer_place.specs.Chains.{walk_weight}
 use Rattle.buffer_place.specs.Placing.{IsPlaced}
+use Rattle.buffer_place.specs.Timings.{IsTiming}
 use Rattle.queue_marks.specs.Marked.{marked, HasMark}
 use Rattle.kernel_compile.specs.declared.compiling.Compiled.{Compiled}
 use Rattle.kernel_compile.specs.Goods.{Good, RestsInTime}
@@ -32,6 +35,11 @@ pub record IsCircuit (t : Timing) (forward : Bool) (k : Typed) (net : Net) : Typ
 -- two circuits of a kernel with the same timing and the same marks are one net
 abbrev pub CircuitsAreOne : Type 0
 CircuitsAreOne = (t : Timing) (forward : Bool) (k : Typed) (m n : Net) → IsCircuit t forward k m → IsCircuit t forward k n → m ≡ n
+
+-- where a timing has a depth, no walk along channels of delay 0 of a circuit weighs more
+abbrev pub CircuitsAreWithinDepth : Type 0
+CircuitsAreWithinDepth = (t : Timing) (forward : Bool) (k : Typed) (depth : ℕ) (net : Net) → IsTiming t → t.depth ≡ Some depth → IsCircuit t forward k net
+    → (v u : ℕ) (cs : List ℕ) → Leads net v cs u → walk_weight net v cs ≤ depth
 
 -- where a kernel ends, a circuit of it, with whatever other slots and delays it is checked, has firings to rest in which it ends as the kernel does
 abbrev pub CircuitsRest : Type 0

@@ -1,8 +1,9 @@
 //! Laws of the nets of kernels, each as the contract of a function that does nothing.
-ghost use Rattle.kernel_compile.specs.Compiling.{CircuitsAreOne, CircuitsRest};
+ghost use Rattle.kernel_compile.specs.Compiling.{CircuitsAreOne, CircuitsAreWithinDepth, CircuitsRest};
 ghost use Rattle.kernel_compile.specs.Goods.{EndsInTime, GoodNetsCompute, GoodWhenRetimed, InputsAreNumbers, PatternsFit};
 ghost use Rattle.kernel_compile.specs.Layers.{KernelNetsAreGood};
 
+use buffer_place::{a_net_is_placed_in_one_way, walks_are_within_depth};
 use el_base::{
     patterns_are_those_of_their_numbers, patterns_have_their_width,
     patterns_stand_for_numbers_in_range,
@@ -47,6 +48,14 @@ pub fn circuits_are_one()
     ensures { CircuitsAreOne }
 {
     graphs_are_one();
+    a_net_is_placed_in_one_way();
+}
+
+/// Where a timing has a depth, no walk along channels of delay 0 of a kernel's circuit weighs more.
+pub fn circuits_are_within_depth()
+    ensures { CircuitsAreWithinDepth }
+{
+    walks_are_within_depth();
 }
 
 /// Where a kernel ends in T turns, under whichever profile, its circuit, with whatever other slots and delays it is checked,

@@ -7,6 +7,6 @@ mod laws;
 
 pub use compiling::{Compiled, compile};
 pub use laws::{
-    circuits_are_one, circuits_come_to_rest, good_nets_stay_good, inputs_are_patterns,
-    kernel_nets_are_good,
+    circuits_are_one, circuits_are_within_depth, circuits_come_to_rest, good_nets_stay_good,
+    inputs_are_patterns, kernel_nets_are_good,
 };

@@ -2,6 +2,5 @@ pub mod GoLemmas
 pub mod RightLemmas
 pub mod RefusedLemmas
 pub mod InterpretedLemmas
-pub mod OneRuns
 pub mod OneGo
 pub mod PrintedLemmas

@@ -1,6 +1,6 @@
 -- Two answers for one kernel, and the net that is printed for it.
 use Rattle.std.proofs.Common.{◌≡◌, ◌≢◌, inl, inr, ℕ, List, length, ◌++◌, refl, sym, ap, subst, ◌∙◌}
-use Rattle.std.specs.Prelude.{Bool, true, false, codes, Result, Ok, Err}
+use Rattle.std.specs.Prelude.{Bool, true, false, codes, Option, Result, Ok, Err}
 use Rattle.c_ast.specs.declared.typed.Typed.{Typed}
 use Rattle.c_meaning.specs.declared.profile.Profile.TheVariants.{Plain}
 use Rattle.net_types.specs.declared.net.Net.{Net}
@@ -21,14 +21,15 @@ use Rattle.net_runs.specs.declared.refusal.RunRefusal.{RunRefusal}
 use Rattle.net_runs.specs.declared.refusal.RunRefusal.TheVariants as run
 use Rattle.net_runs.specs.Given.{Bytes, Gives}
 use Rattle.net_runs.specs.Runs.{Runs}
+use Rattle.net_runs.specs.Laws.{AsksForNoCycles, with_workers}
+use Rattle.net_runs.proofs.OneRuns.{Alike, Kind, kind_of_answer, kinds_one, runs_one, texts_show}
 use Rattle.kernel_runs.specs.declared.options.CircuitOptions.{CircuitOptions}
 use Rattle.kernel_runs.specs.declared.refusal.GoRefusal.{GoRefusal}
 use Rattle.kernel_runs.specs.declared.refusal.GoRefusal.TheVariants as refusal
 use Rattle.kernel_runs.specs.Circuits.{OfCircuit, IsNoKernel, Compiles}
 use Rattle.kernel_runs.specs.Goes.{Goes}
-use Rattle.kernel_runs.specs.OneAnswer.{AsksForNoCycles, CompilesHaveOneAnswer, GoesHaveOneAnswer, RefusalsAreOne, TextsShowOneRun, OneNetIsPrinted, LimitDecides, LimitIsOfPrintedNet}
+use Rattle.kernel_runs.specs.OneAnswer.{CompilesHaveOneAnswer, GoesHaveOneAnswer, RefusalsAreOne, TextsShowOneRun, OneNetIsPrinted, LimitDecides, LimitIsOfPrintedNet}
 use Rattle.kernel_runs.proofs.RefusedLemmas.{one_kernel, kernel_or_not, no_kernel}
-use Rattle.kernel_runs.proofs.OneRuns.{Alike, Kind, kind_of_answer, kinds_one, runs_one, texts_show}
 
 -- ---- the net of a text
 
@@ -120,17 +121,18 @@ module _ (one : (bytes : List ℕ) → HasOneAnswer bytes) (nets : CircuitsAreOn
 
   -- ---- runs
 
-  module _ (readings : IsOfOneInputs) (bytes inputs : Bytes) (c : CircuitOptions) (o : RunOptions) where
+  module _ (readings : IsOfOneInputs) (bytes inputs : Bytes) (c : CircuitOptions) (o : RunOptions) (workers : Option ℕ) where
     -- two runs of one circuit
     module _ (H G : Typed → Net → Type 0) (a : OfCircuit bytes c H) (b : OfCircuit bytes c G) where
       checked : IsChecked b.net
       checked = (b.circuit.good Plain).checked
 
-      both_one : (r q : Result Bytes RunRefusal) → Alike o r q → r ≢ Err run.Memory → q ≢ Err run.Memory → Runs a.net inputs o r → Runs b.net inputs o q → r ≡ q
+      both_one : (r q : Result Bytes RunRefusal) → Alike o r q → r ≢ Err run.Memory → q ≢ Err run.Memory → Runs a.net inputs o r → Runs b.net inputs (with_workers o workers) q → r ≡ q
       both_one r q alike m n x y =
-          runs_one readings b.net checked inputs o r q alike m n (subst (λ (k : Net). Runs k inputs o r) (net_one bytes c H G a b) x) y
+          runs_one readings b.net checked inputs o workers r q alike m n (subst (λ (k : Net). Runs k inputs o r) (net_one bytes c H G a b) x) y
 
-    goes_ones : (a b : Result Bytes GoRefusal) → GoAlike o a b → a ≢ Err refusal.Memory → b ≢ Err refusal.Memory → Goes bytes inputs c o a → Goes bytes inputs c o b → a ≡ b
+    goes_ones : (a b : Result Bytes GoRefusal) → GoAlike o a b → a ≢ Err refusal.Memory → b ≢ Err refusal.Memory → Goes bytes inputs c o a
+        → Goes bytes inputs c (with_workers o workers) b → a ≡ b
     goes_ones (Ok s) (Ok t) alike m n a b =
         let x = a.holds in
         let y = b.holds in
@@ -158,19 +160,19 @@ module _ (one : (bytes : List ℕ) → HasOneAnswer bytes) (nets : CircuitsAreOn
     goes_ones (Err refusal.Memory) b alike m n x y = absurd (m refl)
 
   pub goes_one : IsOfOneInputs → GoesHaveOneAnswer
-  goes_one readings bytes inputs c o a b plain m n x y = goes_ones readings bytes inputs c o a b (λ p q. plain) m n x y
+  goes_one readings bytes inputs c o workers a b plain m n x y = goes_ones readings bytes inputs c o workers a b (λ p q. plain) m n x y
 
   pub refusals_one : IsOfOneInputs → RefusalsAreOne
-  refusals_one readings bytes inputs c o e b m n x y = sym (goes_ones readings bytes inputs c o (Err e) b (λ p q. never p) (λ is. m (ap (go_or e) is)) n x y)
+  refusals_one readings bytes inputs c o workers e b m n x y = sym (goes_ones readings bytes inputs c o workers (Err e) b (λ p q. never p) (λ is. m (ap (go_or e) is)) n x y)
 
   pub texts_one : IsOfOneInputs → TextsShowOneRun
-  texts_one readings bytes inputs s t c o a b =
+  texts_one readings bytes inputs s t c o workers a b =
       let same : a.net ≡ b.net = net_one bytes c _ _ a b in
       let x = a.holds in
       let y = b.holds in
       let show = subst
       (λ (k : Net). (r : Runs k inputs o (Ok x.run_text)) → (r.holds.holds.told.results ≡ y.runs.holds.holds.told.results) × (length r.holds.firings ≡ length y.runs.holds.firings)) (sym same)
-      (λ r. texts_show readings b.net (b.circuit.good Plain).checked inputs o x.run_text y.run_text r y.runs) x.runs in
+      (λ r. texts_show readings b.net (b.circuit.good Plain).checked inputs o workers x.run_text y.run_text r y.runs) x.runs in
       (same, text_one a.net b.net x.net_text y.net_text same x.printed.whole y.printed.whole, show.0, show.1)
 
   pub one_printed : OneNetIsPrinted

@@ -9,9 +9,7 @@ use Rattle.net_types.specs.declared.firing.Inputs.{Inputs}
 use Rattle.net_core.specs.Runs.{Run, Long}
 use Rattle.net_core.specs.States.{strays_at}
 use Rattle.inputs_text.specs.declared.refusal.InputRefusal.{InputRefusal}
-use Rattle.inputs_text.specs.declared.refusal.InputRefusal.TheVariants as input
 use Rattle.inputs_text.specs.Texts.{IsOfOneInputs}
-use Rattle.inputs_text.proofs.OnlyLemmas.{only_answer}
 use Rattle.kernel_front.specs.declared.reading.Kernel.{Kernel}
 use Rattle.kernel_front.specs.declared.refusal.KernelRefusal.{KernelRefusal}
 use Rattle.kernel_front.specs.declared.refusal.KernelRefusal.TheVariants as front
@@ -23,6 +21,7 @@ use Rattle.net_runs.specs.declared.refusal.RunRefusal.TheVariants as run
 use Rattle.net_runs.specs.Given.{Bytes, Gives, IsNoInputs}
 use Rattle.net_runs.specs.Results.{IsStrayIn}
 use Rattle.net_runs.specs.Runs.{Strays}
+use Rattle.net_runs.proofs.LawLemmas.{given_not_refused}
 use Rattle.kernel_runs.specs.declared.refusal.GoRefusal.TheVariants as refusal
 use Rattle.kernel_runs.specs.Circuits.{IsNoKernel}
 use Rattle.kernel_runs.specs.Goes.{IsNoRun}
@@ -38,15 +37,6 @@ IsRead (Err r) = ⊥
 abbrev kernel_or : Kernel → Result Kernel KernelRefusal → Kernel
 kernel_or k (Ok kernel) = kernel
 kernel_or k (Err r) = k
-
--- a text of inputs is not refused
-pub given_not_refused : (net : Net) (bytes : Bytes) (inputs : Inputs) (e : InputRefusal) → Gives net bytes inputs → IsNoInputs net bytes e → ⊥
-given_not_refused net bytes inputs e given refused =
-    let told : ◌≢◌ {A = Result Inputs InputRefusal} (Err e) (Err input.Memory) = λ is. refused.cause (let same : e ≡ input.Memory = cc in same) in
-    elim (only_answer net.scalars net.arrays bytes (Ok inputs) given (Err e) told refused.says) [
-      | inl is ↦ absurd (cc)
-      | inr is ↦ absurd (cc)
-    ]
 
 module _ (one : (bytes : List ℕ) → HasOneAnswer bytes) where
   pub one_kernel : (bytes : Bytes) (k l : Kernel) → IsKernel bytes k → IsKernel bytes l → k ≡ l

@@ -15,12 +15,10 @@ use Rattle.c_meaning.specs.Lawful.{Lawful}
 use Rattle.c_meaning.specs.Ranges.{ResultsFit}
 use Rattle.c_meaning.specs.Stores.{Inputs as Numbers, AreArraysOf}
 use Rattle.net_types.specs.declared.net.Net.{Net}
-use Rattle.net_types.specs.declared.net.Unit.{Unit as Kind}
-use Rattle.net_types.specs.declared.net.Unit.TheVariants.{Entry, Param, Const, Op1, Op2, Select, Fork, Mux, Cmerge, Branch, Sink, Read, Lsq, Exit}
+use Rattle.net_types.specs.declared.net.Unit.TheVariants.{Exit}
 use Rattle.net_types.specs.declared.firing.Inputs.{Inputs}
 use Rattle.net_types.specs.Headers.{net_header}
 use Rattle.net_types.specs.Nets.{kind_of}
-use Rattle.net_check.specs.Headers.{is_exit}
 use Rattle.net_core.specs.Fire.{State}
 use Rattle.net_core.specs.Runs.{Run}
 use Rattle.inputs_text.specs.Results.{ResultText, array_lines, return_line}
@@ -33,24 +31,9 @@ use Rattle.net_runs.specs.declared.refusal.RunRefusal.TheVariants as run
 use Rattle.net_runs.specs.Given.{Bytes, Gives, On}
 use Rattle.net_runs.specs.Results.{AreElementsIn, IsTextOf, count_line, cycles_line, log_lines}
 use Rattle.net_runs.specs.Runs.{Runs, Sticks}
+use Rattle.net_runs.proofs.OneRuns.{exit_kind}
 use Rattle.kernel_runs.specs.Goes.{GivesNumbers, Begins, IsRight, GoesTo}
-use Rattle.kernel_runs.specs.Joined.{IsJoined}
-
-pub exit_kind : (u : Kind) → is_exit u ≡ true → u ≡ Exit
-exit_kind Entry e = absurd (cc)
-exit_kind (Param j) e = absurd (cc)
-exit_kind (Const w n) e = absurd (cc)
-exit_kind (Op1 op) e = absurd (cc)
-exit_kind (Op2 op) e = absurd (cc)
-exit_kind (Select w) e = absurd (cc)
-exit_kind (Fork w n) e = absurd (cc)
-exit_kind (Mux w n) e = absurd (cc)
-exit_kind (Cmerge n) e = absurd (cc)
-exit_kind (Branch w) e = absurd (cc)
-exit_kind (Sink w) e = absurd (cc)
-exit_kind (Read a) e = absurd (cc)
-exit_kind (Lsq a d ps gs f) e = absurd (cc)
-exit_kind Exit e = refl
+use Rattle.kernel_runs.specs.Joined.{IsJoinedText}
 
 -- as many arrays of patterns as arrays
 patterns_counted : (xs : List ArrayOf) (zss : List (List ℤ)) → AreArraysOf xs zss → length (array_patterns xs zss) ≡ length xs
@@ -122,12 +105,12 @@ module _ (one : IsOfOneInputs) (computing : GoodNetsCompute) (fits : ResultsFit)
           record {
             results = told.results;
             shown = text_is out r runs.holds.state told.results (fits k p z out r t lawful g.fitting ends).each_array holds told.are.shown;
-            front = front_of told.results (count_line o.count (length runs.holds.firings)) (cycles_line o.cycles (length runs.holds.holds.cycles)) (log_lines o.log runs.holds.firings) text told.whole;
+            front = front_of told.results (count_line o.count (length runs.holds.firings)) (cycles_line o.cycles runs.holds.holds.number) (log_lines o.log runs.holds.firings) text told.whole;
           };
       few = λ p z out r t g ends. (computing net k p (good p)).bounded z out r t runs.holds.firings runs.holds.state g.fitting ends (run_is z g);
     }
 
-    pub goes_to : (joined : Bytes) → IsJoined net text joined → GoesTo k net bytes o joined
+    pub goes_to : (joined : Bytes) → IsJoinedText net text joined → GoesTo k net bytes o joined
     goes_to joined is = record { net_text = is.net_text; printed = is.printed; run_text = text; runs = runs; whole = is.whole; right = right }
 
 -- ---- a circuit is never stuck

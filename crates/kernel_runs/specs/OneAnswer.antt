@@ -1,5 +1,5 @@
--- That a kernel, options and inputs have one answer, but for want of memory; and that what is printed is one net.
-use Rattle.std.specs.Prelude.{◌≡◌, ◌≢◌, ◌++◌, ℕ, false, codes, length, Result, Ok, Err}
+-- That a kernel, options and inputs have one answer by however many workers, but for want of memory; and that what is printed is one net.
+use Rattle.std.specs.Prelude.{◌≡◌, ◌≢◌, ◌++◌, ℕ, codes, length, Option, Result, Ok, Err}
 use Rattle.net_types.specs.declared.net.Net.{Net}
 use Rattle.net_types.specs.declared.firing.Inputs.{Inputs}
 use Rattle.net_core.specs.Runs.{Long}
@@ -10,6 +10,7 @@ use Rattle.net_runs.specs.declared.options.RunOptions.{RunOptions}
 use Rattle.net_runs.specs.declared.refusal.RunRefusal.TheVariants as run
 use Rattle.net_runs.specs.Given.{Bytes, Gives}
 use Rattle.net_runs.specs.Runs.{Runs}
+use Rattle.net_runs.specs.Laws.{AsksForNoCycles, with_workers}
 use Rattle.kernel_runs.specs.declared.options.CircuitOptions.{CircuitOptions}
 use Rattle.kernel_runs.specs.declared.refusal.GoRefusal.{GoRefusal}
 use Rattle.kernel_runs.specs.declared.refusal.GoRefusal.TheVariants as refusal
@@ -25,26 +26,21 @@ CompilesHaveOneAnswer = (bytes : Bytes) (c : CircuitOptions) (a b : Result Bytes
 
 -- ---- runs
 
--- neither are the cycles counted nor their firings written
-pub record AsksForNoCycles (o : RunOptions) : Type 0 where
-  pub cycles : o.cycles ≡ false
-  pub log : o.log ≡ false
-
--- so it is with two answers for one kernel and its inputs, where neither cycles nor firings are told
+-- two answers for one kernel and its inputs, by however many workers or by cycles, neither of which is want of memory, are equal where neither cycles nor firings are told
 abbrev pub GoesHaveOneAnswer : Type 0
-GoesHaveOneAnswer = (bytes inputs : Bytes) (c : CircuitOptions) (o : RunOptions) (a b : Result Bytes GoRefusal) → AsksForNoCycles o → a ≢ Err refusal.Memory → b ≢ Err refusal.Memory
-    → Goes bytes inputs c o a → Goes bytes inputs c o b → a ≡ b
+GoesHaveOneAnswer = (bytes inputs : Bytes) (c : CircuitOptions) (o : RunOptions) (workers : Option ℕ) (a b : Result Bytes GoRefusal) → AsksForNoCycles o
+    → a ≢ Err refusal.Memory → b ≢ Err refusal.Memory → Goes bytes inputs c o a → Goes bytes inputs c (with_workers o workers) b → a ≡ b
 
 -- whatever is told, what is refused once is refused always and in the same way
 abbrev pub RefusalsAreOne : Type 0
-RefusalsAreOne = (bytes inputs : Bytes) (c : CircuitOptions) (o : RunOptions) (e : GoRefusal) (b : Result Bytes GoRefusal) → e ≢ refusal.Memory → b ≢ Err refusal.Memory
-    → Goes bytes inputs c o (Err e) → Goes bytes inputs c o b → b ≡ Err e
+RefusalsAreOne = (bytes inputs : Bytes) (c : CircuitOptions) (o : RunOptions) (workers : Option ℕ) (e : GoRefusal) (b : Result Bytes GoRefusal) → e ≢ refusal.Memory
+    → b ≢ Err refusal.Memory → Goes bytes inputs c o (Err e) → Goes bytes inputs c (with_workers o workers) b → b ≡ Err e
 
 -- and two texts show one net, the same results and as many firings
 abbrev pub TextsShowOneRun : Type 0
-TextsShowOneRun = (bytes inputs s t : Bytes) (c : CircuitOptions) (o : RunOptions) (a : Goes bytes inputs c o (Ok s)) (b : Goes bytes inputs c o (Ok t))
-    → (a.net ≡ b.net) × (a.holds.net_text ≡ b.holds.net_text) × (a.holds.runs.holds.holds.told.results ≡ b.holds.runs.holds.holds.told.results)
-    × (length a.holds.runs.holds.firings ≡ length b.holds.runs.holds.firings)
+TextsShowOneRun = (bytes inputs s t : Bytes) (c : CircuitOptions) (o : RunOptions) (workers : Option ℕ) (a : Goes bytes inputs c o (Ok s))
+    (b : Goes bytes inputs c (with_workers o workers) (Ok t)) → (a.net ≡ b.net) × (a.holds.net_text ≡ b.holds.net_text)
+    × (a.holds.runs.holds.holds.told.results ≡ b.holds.runs.holds.holds.told.results) × (length a.holds.runs.holds.firings ≡ length b.holds.runs.holds.firings)
 
 -- ---- both
 

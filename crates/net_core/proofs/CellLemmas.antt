@@ -22,7 +22,7 @@ exec_mark q xs e None = refl
 exec_mark q xs e (Some x) = refl
 
 -- no act changes the mark
-mark_stays : (ps : List Port) (gs : List (List ℕ)) (q : QueueState) (xs : List ℕ) (act : Act) (v : ℕ) → (step ps gs q xs act v).queue.forward ≡ q.forward
+pub mark_stays : (ps : List Port) (gs : List (List ℕ)) (q : QueueState) (xs : List ℕ) (act : Act) (v : ℕ) → (step ps gs q xs act v).queue.forward ≡ q.forward
 mark_stays ps gs q xs Go v = refl
 mark_stays ps gs q xs (From j) v = refl
 mark_stays ps gs q xs (Send j) v = refl
@@ -91,7 +91,7 @@ array_after n d ps gs fw (cell.Queue b) (change.Act act v) xs f h =
     let p = h.port in let g = h.group in let y = h.elements in
     λ i. (step (p i) (g i) b.value.queue (y i) act v).array
 
-length_sent : (j : ℕ) (bits : List Bool) → length (sent_to j bits) ≡ length bits
+pub length_sent : (j : ℕ) (bits : List Bool) → length (sent_to j bits) ≡ length bits
 length_sent j bits = by (list_all (λ b. b) (set bits j true))
   where
     by : (b : Bool) → length (cond b (map (λ b. false) (set bits j true)) (set bits j true)) ≡ length bits

@@ -33,6 +33,8 @@ pub mod RaiseLemmas
 pub mod CellLemmas
 pub mod StateLemmas
 pub mod OpenLemmas
+pub mod RestoreLemmas
+pub mod RestoredLemmas
 pub mod InputLemmas
 pub mod OrderLemmas
 pub mod SearchLemmas

@@ -5,7 +5,7 @@ use Rattle.std.specs.List.{list_all}
 use Rattle.net_core.specs.private.Sents.{count_false, is_marked}
 use Rattle.net_core.specs.Fire.{sent_to}
 
-all_or : (bs : List Bool) → ((list_all (λ b. b) bs ≡ true) × (count_false bs ≡ 0)) ⊎ ((list_all (λ b. b) bs ≡ false) × (1 ≤ count_false bs))
+pub all_or : (bs : List Bool) → ((list_all (λ b. b) bs ≡ true) × (count_false bs ≡ 0)) ⊎ ((list_all (λ b. b) bs ≡ false) × (1 ≤ count_false bs))
 all_or [] = inl (refl, refl)
 all_or (true ∷ bs) = all_or bs
 all_or (false ∷ bs) = inr (refl, omega arith)

@@ -9,5 +9,6 @@ pub mod Unchecked
 pub mod Held
 pub mod Plans
 pub mod States
+pub mod Parts
 pub mod Finds
 pub mod private

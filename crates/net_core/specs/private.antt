@@ -2,4 +2,5 @@
 pub mod Sents
 pub mod Moves
 pub mod Openings
+pub mod Restores
 pub mod Searches

@@ -10,6 +10,7 @@ mod find;
 mod inputs;
 mod laws;
 mod opening;
+mod parts;
 mod plan;
 mod sent;
 mod state;
@@ -22,6 +23,7 @@ pub use laws::{
     completion, either_order, laws_need_rules, limit_decides, more_slots, one_token, plans_use,
     rows_use_only, settled, spent_is_at_rest, worked_nets_run,
 };
+pub use parts::Parts;
 pub use plan::{Change, Heads, Laid, Moves, Plan, Put, Taken, Takes, moves_of, plan_firing};
 pub use sent::Sent;
 pub use state::State;

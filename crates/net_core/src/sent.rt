@@ -2,9 +2,11 @@
 
 ghost use Rattle.std.specs.Prelude.{◌≡◌, ◌==◌, Bool, true, false, List, get_or, length, replicate, IfOk};
 ghost use Rattle.net_core.specs.Fire.{sent_to};
+ghost use Rattle.el_base.specs.Limits.{IsNumbered};
+ghost use Rattle.net_core.specs.private.Restores.{numbers_set};
 ghost use Rattle.net_core.specs.private.Sents.{count_false};
 
-use net_types::Memory;
+use net_types::{List, Memory};
 use std::alloc::Global;
 use std::marker::Model;
 
@@ -68,5 +70,31 @@ impl Sent {
             self.mark = !self.mark;
             self.left = self.bits.len();
         }
+    }
+
+    /// How many outputs there are.
+    fn count(&self) -> usize
+        ensures { result ≡ length self.now }
+    {
+        self.bits.len()
+    }
+
+    /// The outputs that have been sent on, ascending.
+    ///
+    /// # Errors
+    ///
+    /// [`Memory`] where memory is wanting.
+    pub fn outs(&self, alloc: Global) -> Result<List<u32>, Memory>
+        requires { IsNumbered (length self.now) }
+        ensures { IfOk result (λ l. l ≡ numbers_set 0 self.now) }
+    {
+        let count = self.count();
+        let mut outs = List::new(alloc);
+        for at in 0..count {
+            if self.is_set(at as u32) {
+                outs.push(at as u32)?;
+            }
+        }
+        Ok(outs)
     }
 }

@@ -1,6 +1,6 @@
 //! The state of a circuit.
 
-ghost use Rattle.std.specs.Prelude.{◌≡◌, ◌<◌, ◌≤◌, ◌↔◌, ◌^◌, [], Some, get_or, length, true, IsTrue, IfOk, IfSome, MatchOption, false};
+ghost use Rattle.std.specs.Prelude.{◌≡◌, ◌<◌, ◌≤◌, ◌↔◌, ◌^◌, [], Some, get_or, length, map, true, IsTrue, IfOk, IfSome, MatchOption, false};
 ghost use Rattle.el_base.specs.Limits.{max_depth};
 ghost use Rattle.net_types.specs.declared.net.Net.{Net};
 ghost use Rattle.net_types.specs.Inputs.{InputsFit};
@@ -9,12 +9,14 @@ ghost use Rattle.net_check.specs.Ends.{is_lsq};
 ghost use Rattle.net_core.specs.declared.cell.Cell.TheVariants.{Plain};
 ghost use Rattle.net_core.specs.Fire.{first, enabled, after, at_array, has_room, tokens_at};
 ghost use Rattle.net_core.specs.Held.{put_at_end, take_at};
+ghost use Rattle.net_core.specs.Parts.{IsByUnit, Stands, state_from};
 ghost use Rattle.net_core.specs.Plans.{apart, admits, moves_of};
 ghost use Rattle.net_core.specs.Runs.{HasExited, opening};
-ghost use Rattle.net_core.specs.States.{CountsRise, CountsWithin, IsOf, IsPlanOf, IsQueueAt, TookAtExit, after_where, arrays_of, cell_at, elements_at, queue_array, state_of, strays_at, with_tokens};
+ghost use Rattle.net_core.specs.States.{CountsRise, CountsWithin, IsOf, IsPlanOf, IsQueueAt, TookAtExit, after_where, array_in, arrays_of, cell_at, elements_at, queue_array, state_of, strays_at, with_tokens};
 
 use crate::cell::{Cell, UnitQueue};
 use crate::opening::{Home, exit_of, fresh_cells, homes, owners};
+use crate::parts::{Parts, fired_flags, joined, queue_parts, restore_cells, sent_parts};
 use crate::plan::{Heads, Moves, Plan, Put, moves_of, plan_firing};
 use crate::steps::{change_cell, count_strays};
 use crate::tokens::Tokens;
@@ -71,6 +73,31 @@ fn queue_elements(cells: &Vec<Cell>, unit: u32) -> &[u64]
     }
 }
 
+/// The elements of each array.
+///
+/// # Errors
+///
+/// [`Memory`] where memory is wanting.
+fn array_lists(alloc: Global, homes: &[Home], cells: &Vec<Cell>) -> Result<List<List<u64>>, Memory>
+    ensures { IfOk result (λ l. l ≡ map (array_in cells.now.items) homes.now) }
+{
+    let mut lists = List::new(alloc);
+    for home in homes {
+        lists.push(list_at(alloc, home, cells)?)?;
+    }
+    Ok(lists)
+}
+
+/// The elements of an array that lies there.
+fn list_at(alloc: Global, home: &Home, cells: &Vec<Cell>) -> Result<List<u64>, Memory>
+    ensures { IfOk result (λ l. l ≡ array_in cells.now.items home.now) }
+{
+    match home {
+        Home::Here(list) => list.copy(),
+        Home::Queue(unit) => joined(alloc, queue_elements(cells, *unit), &[]),
+    }
+}
+
 impl State {
     /// The opening state of a net on inputs. It takes all memory of a run.
     ///
@@ -99,6 +126,65 @@ impl State {
             homes,
             strays,
             exit,
+        })
+    }
+
+    /// The state of a net that is given as plain data. It takes all memory of a run.
+    ///
+    /// # Errors
+    ///
+    /// [`Memory`] where memory is wanting.
+    pub fn from_parts(alloc: Global, net: &Checked, parts: &Parts) -> Result<State, Memory>
+        requires { Stands net.now parts.now }
+        ensures of { IfOk result (λ s. IsOf net.now s) }
+        ensures state { IfOk result (λ s. state_of s ≡ state_from net.now parts.now) }
+    {
+        let mut state = State::new(alloc, net, &parts.given)?;
+        state.restore(net, parts);
+        Ok(state)
+    }
+
+    /// Puts data into an opening state. It takes no memory.
+    fn restore(&mut self, net: &Checked, parts: &Parts)
+        requires of { IsOf net.now self.old }
+        requires opening { state_of self.old ≡ opening net.now parts.now.given }
+        requires stands { Stands net.now parts.now }
+        ensures of { IsOf net.now self.new }
+        ensures state { state_of self.new ≡ state_from net.now parts.now }
+    {
+        self.tokens.fill(parts.tokens.as_slice());
+        restore_cells(&mut self.cells, net.net().units.as_slice(), parts);
+        self.strays.copy_from_slice(parts.strays.as_slice());
+    }
+
+    /// The state as plain data, in the one form that they have.
+    ///
+    /// # Errors
+    ///
+    /// [`Memory`] where memory is wanting.
+    pub fn parts(&self, alloc: Global, net: &Checked) -> Result<Parts, Memory>
+        requires { IsOf net.now self.now }
+        ensures state { IfOk result (λ p. state_from net.now p ≡ state_of self.now) }
+        ensures form { IfOk result (IsByUnit net.now) }
+    {
+        let _ = net.net();
+        let cells = self.cells.as_slice();
+        let scalars = self.scalars.copy()?;
+        let arrays = array_lists(alloc, self.homes.as_slice(), &self.cells)?;
+        let tokens = self.tokens.lists(alloc)?;
+        let sent = sent_parts(alloc, cells)?;
+        let fired = fired_flags(alloc, cells)?;
+        let queues = queue_parts(alloc, cells)?;
+        let strays = joined(alloc, self.strays.as_slice(), &[])?;
+        let value = self.value();
+        Ok(Parts {
+            given: Inputs { scalars, arrays },
+            tokens,
+            sent,
+            fired,
+            value,
+            queues,
+            strays,
         })
     }
 

@@ -1,15 +1,16 @@
 //! The tokens of all channels.
 
-ghost use Rattle.std.specs.Prelude.{◌≡◌, ◌<◌, ◌^◌, ◌↔◌, [], get_or, length, map, IsTrue, IfOk, IfSome};
-ghost use Rattle.circular_buffer.specs.Buffer.{last_item};
+ghost use Rattle.std.specs.Prelude.{◌≡◌, ◌<◌, ◌≤◌, ◌^◌, ◌↔◌, ℕ, [], get_or, length, map, IsTrue, IfOk, IfSome};
+ghost use Rattle.circular_buffer.specs.Buffer.{buffer, last_item};
 ghost use Rattle.net_core.specs.Fire.{first};
-ghost use Rattle.net_core.specs.Held.{AllWithin, HasRoom, laid_on, put_at_end, take_at, taken_all};
+ghost use Rattle.net_core.specs.Held.{AllWithin, HasRoom, held_of, laid_on, put_at_end, take_at, taken_all};
 ghost use Rattle.net_core.specs.Plans.{chans_of};
 ghost use Rattle.net_types.specs.declared.net.Chan.{Chan as ChanValue};
 
+use crate::parts::joined;
 use crate::plan::{Moves, Taken};
 use circular_buffer::HeapCircularBuffer;
-use net_types::{Chan, Memory};
+use net_types::{Chan, List, Memory};
 use std::alloc::Global;
 use std::marker::Model;
 
@@ -41,6 +42,28 @@ impl Tokens {
             rings.push(HeapCircularBuffer::with_capacity(alloc, chan.slots as usize)?)?;
         }
         Ok(Tokens { rings })
+    }
+
+    /// Puts tokens on channels that have none. It takes no memory.
+    pub(crate) fn fill(&mut self, lists: &[List<u64>])
+        requires none { (c : ℕ) → get_or self.old.tokens c [] ≡ [] }
+        requires count { length lists.now ≡ length self.old.tokens }
+        requires slots { (c : ℕ) → length (get_or lists.now c []) ≤ get_or self.old.slots c 0 }
+        ensures tokens { self.new.tokens ≡ lists.now }
+        ensures slots { self.new.slots ≡ self.old.slots }
+    {
+        fill_rings(&mut self.rings, lists);
+    }
+
+    /// The tokens of each channel, oldest first.
+    ///
+    /// # Errors
+    ///
+    /// [`Memory`] where memory is wanting.
+    pub(crate) fn lists(&self, alloc: Global) -> Result<List<List<u64>>, Memory>
+        ensures { IfOk result (λ l. l ≡ self.now.tokens) }
+    {
+        lists_of(alloc, self.rings.as_slice())
     }
 
     /// The oldest token of a channel; `None` past the channels.
@@ -150,4 +173,41 @@ impl Tokens {
             Some(laid) => self.put(laid.chan, laid.value),
         }
     }
+}
+
+/// Puts tokens into rings that have none.
+fn fill_rings(rings: &mut Vec<HeapCircularBuffer<u64>>, lists: &[List<u64>])
+    requires none { (c : ℕ) → get_or (held_of rings.old.items).tokens c [] ≡ [] }
+    requires count { length lists.now ≡ length rings.old.items }
+    requires slots { (c : ℕ) → length (get_or lists.now c [])
+        ≤ get_or (held_of rings.old.items).slots c 0 }
+    ensures tokens { (held_of rings.new.items).tokens ≡ lists.now }
+    ensures slots { (held_of rings.new.items).slots ≡ (held_of rings.old.items).slots }
+{
+    for at in 0..lists.len() {
+        fill_ring(&mut rings[at], lists[at].as_slice());
+    }
+}
+
+/// Puts tokens into a ring that has none.
+fn fill_ring(ring: &mut HeapCircularBuffer<u64>, tokens: &[u64])
+    requires none { ring.old.items ≡ [] }
+    requires slots { length tokens.now ≤ ring.old.capacity }
+    ensures { ring.new ≡ buffer tokens.now ring.old.capacity }
+{
+    for token in tokens {
+        ring.push_back(*token);
+    }
+}
+
+/// The tokens of each ring.
+fn lists_of(alloc: Global, rings: &[HeapCircularBuffer<u64>]) -> Result<List<List<u64>>, Memory>
+    ensures { IfOk result (λ l. l ≡ (held_of rings.now).tokens) }
+{
+    let mut lists = List::new(alloc);
+    for ring in rings {
+        let (first, second) = ring.as_slices();
+        lists.push(joined(alloc, first, second)?)?;
+    }
+    Ok(lists)
 }

@@ -17,7 +17,7 @@ use Rattle.net_runs.specs.Runs.{RestsWithin}
 use Rattle.net_runs.specs.Laws.{IsSoundRun, RunsAreComplete}
 
 -- a text of inputs is not refused
-given_not_refused : (net : Net) (bytes : Bytes) (inputs : Inputs) (e : InputRefusal) → Gives net bytes inputs → IsNoInputs net bytes e → ⊥
+pub given_not_refused : (net : Net) (bytes : Bytes) (inputs : Inputs) (e : InputRefusal) → Gives net bytes inputs → IsNoInputs net bytes e → ⊥
 given_not_refused net bytes inputs e given refused =
     let told : ◌≢◌ {A = Result Inputs InputRefusal} (Err e) (Err input.Memory) = λ is. refused.cause (let same : e ≡ input.Memory = cc in same) in
     elim (only_answer net.scalars net.arrays bytes (Ok inputs) given (Err e) told refused.says) [

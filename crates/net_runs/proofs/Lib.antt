@@ -1,4 +1,6 @@
 pub mod RunLemmas
 pub mod ReplayLemmas
 pub mod LawLemmas
+pub mod OneRuns
+pub mod ToldLemmas
 pub mod ElementLemmas

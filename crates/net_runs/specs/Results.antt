@@ -1,5 +1,6 @@
 -- The text of the results of a state at rest.
 use Rattle.std.specs.Prelude.{◌≡◌, ◌<◌, ℕ, List, [], ◌∷◌, ◌++◌, Bool, true, false, Option, length, get_or, map, codes, decimal}
+use Rattle.std.specs.List.{All}
 use Rattle.el_base.specs.declared.ty.Array.{Array}
 use Rattle.net_types.specs.declared.net.Net.{Net}
 use Rattle.net_types.specs.declared.firing.Firing.{Firing}
@@ -8,7 +9,7 @@ use Rattle.net_core.specs.Runs.{HasExited}
 use Rattle.net_core.specs.States.{elements_at, TookAtExit}
 use Rattle.inputs_text.specs.Results.{ResultText}
 use Rattle.net_replay.specs.Judgements.{HasNoStrays, IsFirstStray}
-use Rattle.net_replay.specs.Schedules.{schedule_text}
+use Rattle.net_replay.specs.Schedules.{FiringFits, schedule_text}
 use Rattle.net_runs.specs.declared.options.RunOptions.{RunOptions}
 use Rattle.net_runs.specs.declared.refusal.RunRefusal.{RunRefusal}
 use Rattle.net_runs.specs.declared.refusal.RunRefusal.TheVariants as refusal
@@ -48,6 +49,10 @@ IsRestFault net s refusal.Stuck = HasExited net s → ⊥
 IsRestFault net s (refusal.Stray array name) = IsStrayIn net s array name
 IsRestFault net s refusal.Memory = Unit {0}
 
+-- the refusal is that of every state at rest that has exited and of which that array is the first with strays
+abbrev pub IsStrayFault : Net → ℕ → RunRefusal → Type 0
+IsStrayFault net array r = (s : State) → HasExited net s → IsFirstStray net s array → IsRestFault net s r
+
 -- ---- after the results
 
 -- the number of firings, where it is asked for
@@ -65,8 +70,9 @@ abbrev pub log_lines : Bool → List Firing → List ℕ
 log_lines true firings = codes "%%\n" ++ schedule_text firings
 log_lines false firings = []
 
--- the results of a state, the number of firings that led to it, that of the cycles in which they were made, and these firings
+-- the results of a state, the number of firings that led to it, that of the cycles in which they were made, and these firings, which a schedule can tell
 pub record IsRunText (net : Net) (s : State) (o : RunOptions) (made cycles : ℕ) (firings : List Firing) (text : List ℕ) : Type 0 where
   pub results : List ℕ
   pub are : AreResultsOf net s results
   pub whole : text ≡ results ++ count_line o.count made ++ cycles_line o.cycles cycles ++ log_lines o.log firings
+  pub fit : o.log ≡ true → All FiringFits firings

@@ -1,5 +1,6 @@
 -- What a run of a net on a text of inputs answers.
-use Rattle.std.specs.Prelude.{◌≡◌, ◌+◌, ◌*◌, ◌≤◌, ℕ, List, length, Result, Ok, Err}
+use Rattle.std.specs.Prelude.{◌≡◌, ◌+◌, ◌*◌, ◌≤◌, ◌<◌, ℕ, List, length, Option, Some, None, Result, Ok, Err}
+use Rattle.el_base.specs.Limits.{max_shared_firings, max_workers}
 use Rattle.net_types.specs.declared.net.Net.{Net}
 use Rattle.net_types.specs.declared.firing.Firing.{Firing}
 use Rattle.net_types.specs.declared.firing.Inputs.{Inputs}
@@ -41,15 +42,26 @@ pub record AreCycles (net : Net) (inputs : Inputs) (firings : List Firing) (s : 
   pub together : firings ≡ joined cycles
   pub few : (most : ℕ) → ((d : ℕ) → (chan_at net d).delay ≤ most) → length cycles ≤ length firings * (most + 1)
 
--- the text tells the state s, and of the firings and their cycles what is asked for
-pub record TellsCycles (net : Net) (inputs : Inputs) (o : RunOptions) (firings : List Firing) (s : State) (text : Bytes) : Type 0 where
+-- the firings are those of so many cycles
+pub record HasCycles (net : Net) (inputs : Inputs) (firings : List Firing) (s : State) (number : ℕ) : Type 0 where
   pub cycles : List (List Firing)
   pub are : AreCycles net inputs firings s cycles
-  pub told : IsRunText net s o (length firings) (length cycles) firings text
+  pub counted : number ≡ length cycles
+
+-- the number of cycles that is told: that of the cycles whose firings they are, where no workers are asked for; workers count none
+abbrev pub AreMadeIn : Option ℕ → Net → Inputs → List Firing → State → ℕ → Type 0
+AreMadeIn None net inputs firings s number = HasCycles net inputs firings s number
+AreMadeIn (Some workers) net inputs firings s number = number ≡ 0
+
+-- the text tells the state s, and of the firings and their cycles what is asked for
+pub record TellsRun (net : Net) (inputs : Inputs) (o : RunOptions) (firings : List Firing) (s : State) (text : Bytes) : Type 0 where
+  pub number : ℕ
+  pub made : AreMadeIn o.workers net inputs firings s number
+  pub told : IsRunText net s o (length firings) number firings text
 
 -- the text of the run that is asked for
 abbrev pub RunsTo : Net → RunOptions → Bytes → Inputs → Type 0
-RunsTo net o text inputs = RestsWithin net inputs o.limit (λ firings s. TellsCycles net inputs o firings s text)
+RunsTo net o text inputs = RestsWithin net inputs o.limit (λ firings s. TellsRun net inputs o firings s text)
 
 -- the run ends at rest, and the exit has not fired
 abbrev pub Sticks : Net → RunOptions → Inputs → Type 0
@@ -60,14 +72,21 @@ abbrev pub Strays : Net → RunOptions → ℕ → Bytes → Inputs → Type 0
 Strays net o array name inputs = RestsWithin net inputs o.limit (λ firings s. IsStrayIn net s array name)
 
 -- why a run on these inputs has no text, or want of memory
-abbrev pub IsRunFault : Net → Inputs → RunOptions → RunRefusal → Type 0
-IsRunFault net inputs o (refusal.Inputs r) = ⊥
-IsRunFault net inputs o (refusal.Schedule r) = ⊥
-IsRunFault net inputs o (refusal.NotEnabled i) = ⊥
-IsRunFault net inputs o (refusal.Limit n) = (n ≡ o.limit) × Long net inputs n
-IsRunFault net inputs o refusal.Stuck = Sticks net o inputs
-IsRunFault net inputs o (refusal.Stray array name) = Strays net o array name inputs
-IsRunFault net inputs o refusal.Memory = Unit {0}
+abbrev pub IsRunRefusal : Net → Inputs → RunOptions → RunRefusal → Type 0
+IsRunRefusal net inputs o (refusal.Inputs r) = ⊥
+IsRunRefusal net inputs o (refusal.Schedule r) = ⊥
+IsRunRefusal net inputs o (refusal.NotEnabled i) = ⊥
+IsRunRefusal net inputs o (refusal.Limit n) = (n ≡ o.limit) × Long net inputs n
+IsRunRefusal net inputs o refusal.Stuck = Sticks net o inputs
+IsRunRefusal net inputs o (refusal.Stray array name) = Strays net o array name inputs
+IsRunRefusal net inputs o refusal.Memory = Unit {0}
+
+-- so many workers may share out a limit: there are 1 to 64 of them, and the limit is not too high for their logs
+pub record MayShare (limit workers : ℕ) : Type 0 where
+  pub one : 0 < workers
+  pub few : workers ≤ max_workers
+  pub some : 0 < limit
+  pub within : limit ≤ max_shared_firings
 
 -- what a run answers for the bytes of an inputs text; want of memory says nothing
 abbrev pub Runs : Net → Bytes → RunOptions → Result Bytes RunRefusal → Type 0

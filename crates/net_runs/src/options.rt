@@ -10,6 +10,8 @@ pub struct RunOptions {
     pub count: bool,
     /// Whether the number of cycles is written after that.
     pub cycles: bool,
-    /// Whether the firings are written after both, one cycle after another.
+    /// Whether the firings are written after both, one cycle after another, or in the order of the workers' stamps.
     pub log: bool,
+    /// By how many workers it is made, each in a thread of its own; by cycles where none are asked for.
+    pub workers: Option<u64>,
 }

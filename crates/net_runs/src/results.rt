@@ -1,15 +1,14 @@
 //! The text of the results of a state at rest.
-ghost use Rattle.std.specs.Prelude.{◌≡◌, ◌++◌, ◌<◌, length, IfOk, IfErr, OnOk};
-ghost use Rattle.net_core.specs.Runs.{AtRest, HasExited};
+ghost use Rattle.std.specs.Prelude.{◌≡◌, ◌++◌, ◌<◌, All, length, true, IfOk, IfErr, OnOk};
+ghost use Rattle.net_core.specs.Runs.{AtRest};
 ghost use Rattle.net_core.specs.States.{IsOf, state_of};
-ghost use Rattle.net_replay.specs.Judgements.{IsFirstStray};
-ghost use Rattle.net_runs.specs.Results.{AreElementsIn, AreResultsOf, IsRestFault, IsRunText, IsTextOf};
+ghost use Rattle.net_replay.specs.Schedules.{FiringFits};
+ghost use Rattle.net_runs.specs.Results.{AreElementsIn, AreResultsOf, IsRestFault, IsRunText, IsStrayFault, IsTextOf};
 ghost use Rattle.net_runs.specs.Results.{count_line, cycles_line, log_lines};
 
 use crate::options::RunOptions;
 use crate::printing::{put_arrays, put_return};
 use crate::refusal::RunRefusal;
-use cycle_engine::Timed;
 use el_base::put_u64;
 use net_check::Checked;
 use net_core::State;
@@ -21,19 +20,22 @@ use std::alloc::Global;
 pub(crate) fn run_text_of(
     alloc: Global,
     net: &Checked,
-    run: &Timed,
+    state: &State,
     options: RunOptions,
+    firings: u64,
+    cycles: u64,
+    log: &[Firing],
 ) -> Result<Vec<u8>, RunRefusal>
-    requires of { IsOf net.now run.now.state }
-    requires rest { AtRest net.now (state_of run.now.state) }
-    ensures ok { IfOk result (λ text. IsRunText net.now (state_of run.now.state) options
-        run.now.firings run.now.cycles run.now.log.items text.items) }
-    ensures err { IfErr result (IsRestFault net.now (state_of run.now.state)) }
+    requires of { IsOf net.now state.now }
+    requires rest { AtRest net.now (state_of state.now) }
+    ensures ok { IfOk result (λ text.
+        IsRunText net.now (state_of state.now) options firings cycles log.now text.items) }
+    ensures err { IfErr result (IsRestFault net.now (state_of state.now)) }
 {
-    let mut text = results_of(alloc, net, &run.state)?;
-    put_count(&mut text, options.count, run.firings)?;
-    put_cycles(&mut text, options.cycles, run.cycles)?;
-    put_log(alloc, &mut text, options.log, run.log.as_slice())?;
+    let mut text = results_of(alloc, net, state)?;
+    put_count(&mut text, options.count, firings)?;
+    put_cycles(&mut text, options.cycles, cycles)?;
+    put_log(alloc, &mut text, options.log, log)?;
     Ok(text)
 }
 
@@ -62,7 +64,8 @@ fn put_cycles(text: &mut Vec<u8>, asked: bool, cycles: u64) -> Result<(), Memory
 }
 
 fn put_log(alloc: Global, text: &mut Vec<u8>, asked: bool, firings: &[Firing]) -> Result<(), Memory>
-    ensures { OnOk result (text.new.items ≡ text.old.items ++ log_lines asked firings.now) }
+    ensures text { OnOk result (text.new.items ≡ text.old.items ++ log_lines asked firings.now) }
+    ensures fit { OnOk result (asked ≡ true → All FiringFits firings.now) }
 {
     if !asked {
         return Ok(());
@@ -86,7 +89,7 @@ pub(crate) fn results_of(alloc: Global, net: &Checked, state: &State) -> Result<
             Err(Memory) => Err(RunRefusal::Memory),
         },
         Err(RunFault::Stuck) => Err(RunRefusal::Stuck),
-        Err(RunFault::Stray { array }) => Err(stray(net, state, array)),
+        Err(RunFault::Stray { array }) => Err(stray(net, array)),
         Err(RunFault::Limit { .. }) => unreachable!(),
         Err(RunFault::Memory) => unreachable!(),
     }
@@ -128,11 +131,10 @@ fn list_of(alloc: Global, elements: &[u64]) -> Result<List<u64>, Memory>
 }
 
 /// The refusal by the name of an array.
-fn stray(net: &Checked, state: &State, array: u32) -> RunRefusal
-    requires { (HasExited net.now (state_of state.now)) × IsFirstStray net.now (state_of state.now) array }
-    ensures { IsRestFault net.now (state_of state.now) result }
+pub(crate) fn stray(net: &Checked, array: u32) -> RunRefusal
+    requires { array < length net.now.arrays }
+    ensures { IsStrayFault net.now array result }
 {
-    let _ = state;
     match net.net().arrays.as_slice()[array as usize].name.copy() {
         Ok(name) => RunRefusal::Stray { array, name },
         Err(Memory) => RunRefusal::Memory,

@@ -102,3 +102,7 @@ ReadsBack bytes net = (r : Result Net TextRefusal) → Says bytes r → (r ≡ O
 -- no other answer but want of memory says what holds of the bytes
 abbrev pub IsOnly : List ℕ → Result Net TextRefusal → Type 0
 IsOnly bytes r = (other : Result Net TextRefusal) → other ≢ Err refusal.Memory → Says bytes other → (r ≡ other) ⊎ (r ≡ Err refusal.Memory)
+
+-- two answers to one text, each of which says what holds of it, are one but for want of memory
+abbrev pub AnswersAreOne : Type 0
+AnswersAreOne = (bytes : List ℕ) (r : Result Net TextRefusal) → Says bytes r → IsOnly bytes r

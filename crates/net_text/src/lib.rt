@@ -13,7 +13,9 @@ mod refusal;
 mod units;
 mod version;
 
-pub use laws::one_net_per_text;
+pub use laws::{net_texts_have_one_answer, one_net_per_text};
+pub use pieces::{put_bytes, put_line};
 pub use printer::print;
+pub use read_pieces::{after, cut, parts, read_u64};
 pub use reader::read;
 pub use refusal::TextRefusal;

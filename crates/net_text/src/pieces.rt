@@ -6,7 +6,7 @@ use el_base::put_u64;
 use net_types::{List, Memory, Place, Port};
 
 /// Appends bytes.
-pub(crate) fn put_bytes(text: &mut Vec<u8>, bytes: &[u8]) -> Result<(), Memory>
+pub fn put_bytes(text: &mut Vec<u8>, bytes: &[u8]) -> Result<(), Memory>
     ensures ok { OnOk result (text.new.items ≡ text.old.items ++ bytes.now) }
 {
     text.extend_from_slice(bytes)?;
@@ -22,7 +22,7 @@ pub(crate) fn put_u32(text: &mut Vec<u8>, number: u32) -> Result<(), Memory>
 }
 
 /// Appends a line: its first words, and numbers.
-pub(crate) fn put_line(text: &mut Vec<u8>, words: &[u8], numbers: &[u64]) -> Result<(), Memory>
+pub fn put_line(text: &mut Vec<u8>, words: &[u8], numbers: &[u64]) -> Result<(), Memory>
     ensures ok { OnOk result
         (text.new.items ≡ text.old.items ++ line (words.now ∷ map decimal numbers.now)) }
 {

@@ -9,7 +9,7 @@ use net_types::{List, Memory, Place, Port};
 use std::alloc::Global;
 
 /// The parts of bytes between the places of a separator.
-pub(crate) fn parts(alloc: Global, bytes: &[u8], separator: u8) -> Result<Vec<&[u8]>, Memory>
+pub fn parts(alloc: Global, bytes: &[u8], separator: u8) -> Result<Vec<&[u8]>, Memory>
     ensures { IfOk result
         (λ v. map (λ part. part.now) v.items ≡ slice_split (λ b. b == separator) bytes.now) }
 {
@@ -17,7 +17,7 @@ pub(crate) fn parts(alloc: Global, bytes: &[u8], separator: u8) -> Result<Vec<&[
 }
 
 /// The number that bytes write, where it is below 2^64.
-pub(crate) fn read_u64(bytes: &[u8]) -> Option<u64>
+pub fn read_u64(bytes: &[u8]) -> Option<u64>
     ensures named { Named FitsU64 decimal bytes.now result }
     ensures every { Every FitsU64 decimal bytes.now result }
 {
@@ -48,7 +48,7 @@ pub(crate) fn read_u32(bytes: &[u8]) -> Option<u32>
 }
 
 /// What stands before the first separator, and what stands after it.
-pub(crate) fn cut(bytes: &[u8], separator: u8) -> Option<(&[u8], &[u8])>
+pub fn cut(bytes: &[u8], separator: u8) -> Option<(&[u8], &[u8])>
     ensures { MatchOption result (lacks separator bytes.now ≡ true)
         (λ p. (bytes.now ≡ p.0.now ++ separator ∷ p.1.now) × (lacks separator p.0.now ≡ true)) }
 {
@@ -61,7 +61,7 @@ pub(crate) fn cut(bytes: &[u8], separator: u8) -> Option<(&[u8], &[u8])>
 }
 
 /// What stands after a word.
-pub(crate) fn after<'a>(text: &'a [u8], word: &[u8]) -> Option<&'a [u8]>
+pub fn after<'a>(text: &'a [u8], word: &[u8]) -> Option<&'a [u8]>
     ensures { MatchOption result ((rest : List ℕ) → text.now ≢ word.now ++ rest)
         (λ rest. text.now ≡ word.now ++ rest.now) }
 {

@@ -13,14 +13,14 @@ use Rattle.elastic_top.proofs.AnswerLemmas.{bytes_of_one, bytes_of_two, bytes_of
 use Rattle.elastic_top.proofs.answer.answer.Goals as goal
 
 pub returns-in-Compile-clause-ok : goal.returns-in-Compile-clause-ok
-returns-in-Compile-clause-ok c =
+returns-in-Compile-clause-ok g c =
     rw c.in-Compile.is
     (bytes_of_one (λ a. IfOk c.compile.result (λ text. Compiles a (circuit_of c.args.command.now.chosen) (Ok text.items))) c.args.contents.now _
     (rw c.in-Compile.is at c.requires.count) c.index-contents-0.is
     (rw (c.as_slice.ensures.value, c.circuit_of.ensures.value) at c.compile.ensures.ok))
 
 pub returns-in-Compile-clause-err : goal.returns-in-Compile-clause-err
-returns-in-Compile-clause-err c =
+returns-in-Compile-clause-err g c =
     rw c.in-Compile.is
     (subst (λ o. IfErr c.compile.result (λ refusal. CompilesKernel (at (word_texts c.args.command.now.plain.items) 0) o (at (contents_of c.args.contents.now) 0) (Err refusal))) c.circuit_of.ensures.value
     (of_one (λ v a. IfErr c.compile.result (λ refusal. CompilesKernel v c.circuit_of.result a (Err refusal))) c.args.command.now.plain.items _ c.args.contents.now _ _ _
@@ -28,14 +28,14 @@ returns-in-Compile-clause-err c =
     (rw c.in-Compile.is at c.requires.plain) (rw c.in-Compile.is at c.requires.count) c.index-contents-0.is c.compile.ensures.err))
 
 pub returns-in-Go-clause-ok : goal.returns-in-Go-clause-ok
-returns-in-Go-clause-ok c =
+returns-in-Go-clause-ok g c =
     rw c.in-Go.is
     (bytes_of_two (λ a b. IfOk c.go.result (λ text. Goes a b (circuit_of c.args.command.now.chosen) (options_of c.args.command.now.chosen) (Ok text.items))) c.args.contents.now _ _
     (rw c.in-Go.is at c.requires.count) c.index-contents-0-in-Go.is c.index-contents-1.is
     (rw (c.as_slice-in-Go.ensures.value, c.as_slice-in-Go-2.ensures.value, c.circuit_of-in-Go.ensures.value, c.options_of.ensures) at c.go.ensures.ok))
 
 pub returns-in-Go-clause-err : goal.returns-in-Go-clause-err
-returns-in-Go-clause-err c =
+returns-in-Go-clause-err g c =
     rw c.in-Go.is
     (subst (λ o. IfErr c.go.result (λ refusal. GoesKernel (at (word_texts c.args.command.now.plain.items) 0) (at (word_texts c.args.command.now.plain.items) 1) (circuit_of c.args.command.now.chosen) o (at (contents_of c.args.contents.now) 0) (at (contents_of c.args.contents.now) 1) (Err refusal))) c.options_of.ensures
     (subst (λ o. IfErr c.go.result (λ refusal. GoesKernel (at (word_texts c.args.command.now.plain.items) 0) (at (word_texts c.args.command.now.plain.items) 1) o c.options_of.result (at (contents_of c.args.contents.now) 0) (at (contents_of c.args.contents.now) 1) (Err refusal))) c.circuit_of-in-Go.ensures.value
@@ -44,7 +44,7 @@ returns-in-Go-clause-err c =
     (rw c.in-Go.is at c.requires.plain) (rw c.in-Go.is at c.requires.count) c.index-contents-0-in-Go.is c.index-contents-1.is c.go.ensures.err)))
 
 pub returns-in-Run-clause-err : goal.returns-in-Run-clause-err
-returns-in-Run-clause-err c =
+returns-in-Run-clause-err g c =
     rw c.in-Run.is
     (subst (λ o. IfErr c.run.result (λ refusal. RunsNet (at (word_texts c.args.command.now.plain.items) 0) (at (word_texts c.args.command.now.plain.items) 1) o (at (contents_of c.args.contents.now) 0) (at (contents_of c.args.contents.now) 1) (Err refusal))) c.options_of-in-Run.ensures
     (of_two (λ v w a b. IfErr c.run.result (λ refusal. RunsNet v w c.options_of-in-Run.result a b (Err refusal))) c.args.command.now.plain.items _ c.args.contents.now _ _ _ _ _ _
@@ -52,7 +52,7 @@ returns-in-Run-clause-err c =
     (rw c.in-Run.is at c.requires.plain) (rw c.in-Run.is at c.requires.count) c.index-contents-0-in-Run.is c.index-contents-1-in-Run.is c.run.ensures.err))
 
 pub returns-in-Run-clause-ok : goal.returns-in-Run-clause-ok
-returns-in-Run-clause-ok c =
+returns-in-Run-clause-ok g c =
     rw c.in-Run.is
     (bytes_of_two (λ a b. IfOk c.run.result (λ text. OfNet a (λ net. Runs net b (options_of c.args.command.now.chosen) (Ok text.items)))) c.args.contents.now _ _
     (rw c.in-Run.is at c.requires.count) c.index-contents-0-in-Run.is c.index-contents-1-in-Run.is
@@ -61,7 +61,7 @@ returns-in-Run-clause-ok c =
     (subst (λ y. IfOk c.run.result (λ text. OfNet c.as_slice-in-Run.result.now (λ net. Runs net y c.options_of-in-Run.result (Ok text.items)))) c.as_slice-in-Run-2.ensures.value c.run.ensures.ok))))
 
 pub returns-in-Replay-clause-ok : goal.returns-in-Replay-clause-ok
-returns-in-Replay-clause-ok c =
+returns-in-Replay-clause-ok g c =
     rw c.in-Replay.is
     (bytes_of_three (λ a b d. IfOk c.replay.result (λ text. OfNet a (λ net. Replays net b d (Ok text.items)))) c.args.contents.now _ _ _
     (rw c.in-Replay.is at c.requires.count) c.index-contents-0-in-Replay.is c.index-contents-1-in-Replay.is c.index-contents-2.is
@@ -71,7 +71,7 @@ returns-in-Replay-clause-ok c =
     c.replay.ensures.ok))))
 
 pub returns-in-Replay-clause-err : goal.returns-in-Replay-clause-err
-returns-in-Replay-clause-err c =
+returns-in-Replay-clause-err g c =
     rw c.in-Replay.is
     (of_three (λ u v w a b d. IfErr c.replay.result (λ refusal. ReplaysNet u v w a b d (Err refusal))) c.args.command.now.plain.items _ c.args.contents.now _ _ _ _ _ _ _ _ _
     c.as_slice-words.ensures.value c.as_slice-in-Replay.ensures.value c.as_slice-in-Replay-2.ensures.value c.as_slice-in-Replay-3.ensures.value
@@ -79,7 +79,7 @@ returns-in-Replay-clause-err c =
     c.replay.ensures.err)
 
 pub returns-in-Ref-clause-ok : goal.returns-in-Ref-clause-ok
-returns-in-Ref-clause-ok c =
+returns-in-Ref-clause-ok g c =
     rw c.in-Ref.is
     (bytes_of_two (λ a b. IfOk c.interpret.result (λ text. OfKernel a (λ k. Interprets k b (interpretation_of c.args.command.now.chosen) (Ok text.items)))) c.args.contents.now _ _
     (rw c.in-Ref.is at c.requires.count) c.index-contents-0-in-Ref.is c.index-contents-1-in-Ref.is
@@ -88,9 +88,15 @@ returns-in-Ref-clause-ok c =
     (subst (λ y. IfOk c.interpret.result (λ text. OfKernel c.as_slice-in-Ref.result.now (λ k. Interprets k y c.interpretation_of.result (Ok text.items)))) c.as_slice-in-Ref-2.ensures.value c.interpret.ensures.ok))))
 
 pub returns-in-Ref-clause-err : goal.returns-in-Ref-clause-err
-returns-in-Ref-clause-err c =
+returns-in-Ref-clause-err g c =
     rw c.in-Ref.is
     (subst (λ o. IfErr c.interpret.result (λ refusal. InterpretsKernel (at (word_texts c.args.command.now.plain.items) 0) (at (word_texts c.args.command.now.plain.items) 1) o (at (contents_of c.args.contents.now) 0) (at (contents_of c.args.contents.now) 1) (Err refusal))) c.interpretation_of.ensures
     (of_two (λ v w a b. IfErr c.interpret.result (λ refusal. InterpretsKernel v w c.interpretation_of.result a b (Err refusal))) c.args.command.now.plain.items _ c.args.contents.now _ _ _ _ _ _
     c.as_slice-words.ensures.value c.as_slice-in-Ref.ensures.value c.as_slice-in-Ref-2.ensures.value
     (rw c.in-Ref.is at c.requires.plain) (rw c.in-Ref.is at c.requires.count) c.index-contents-0-in-Ref.is c.index-contents-1-in-Ref.is c.interpret.ensures.err))
+
+pub go-requires-clause-shared : goal.go-requires-clause-shared
+go-requires-clause-shared g c = λ κs lives. rw c.options_of.ensures c.requires.chosen.shared
+
+pub run-requires-clause-shared : goal.run-requires-clause-shared
+run-requires-clause-shared g c = λ κs lives. rw c.options_of-in-Run.ensures c.requires.chosen.shared

@@ -33,14 +33,14 @@ pub returns-in-Err-answer-clause-long : goal.returns-in-Err-answer-clause-long
 returns-in-Err-answer-clause-long g c = λ e. absurd ((not_outside c.in-Err-answer.refusal (label_number c.in-Err-answer.refusal)).long (ap fault_code (sym c.call_fault.ensures) ∙ e))
 
 pub answer-requires-clause-within : goal.answer-requires-clause-within
-answer-requires-clause-within g c =
+answer-requires-clause-within g c = λ κs lives.
     rw c.as_slice.ensures.value
     (held_within (g.F.Files.holds c.args.files.now) (plain_of c.args.command.now.verb) (word_texts c.args.command.now.plain.items) (contents_of c.in-Ok.contents.items)
     (length-texts c.args.command.now.plain.items ∙ c.requires.plain)
     (subst (λ fs. AreHeld (g.F.Files.holds c.args.files.now) fs (contents_of c.in-Ok.contents.items)) c.requires.plan c.in-Ok.ensures.ok))
 
 pub answer-requires-clause-count : goal.answer-requires-clause-count
-answer-requires-clause-count g c =
+answer-requires-clause-count g c = λ κs lives.
     let within : AreWithin (limits_of (plain_of c.args.command.now.verb)) (contents_of c.in-Ok.contents.items) =
     held_within (g.F.Files.holds c.args.files.now) (plain_of c.args.command.now.verb) (word_texts c.args.command.now.plain.items) (contents_of c.in-Ok.contents.items)
     (length-texts c.args.command.now.plain.items ∙ c.requires.plain)

@@ -11,7 +11,7 @@ use Rattle.elastic_top.proofs.RangeLemmas.{spelled_within}
 use Rattle.elastic_top.proofs.call.top.Goals as goal
 
 pub run_command-requires-clause-chosen : goal.run_command-requires-clause-chosen
-run_command-requires-clause-chosen g c =
+run_command-requires-clause-chosen g c = λ κs lives.
     let spells : Command (texts c.args.words.now) (asked c.in-Ok-Some.command) = rw c.in-Ok-Some.field-0-is at c.in-Ok-Some.ensures.some in
     spelled_within (texts c.args.words.now) (asked c.in-Ok-Some.command) spells
 

@@ -2,10 +2,10 @@ use Rattle.std.proofs.Common.{inl, inr, refl}
 use Rattle.elastic_top.proofs.runs.run.Goals as goal
 
 pub returns-in-Err-clause-err : goal.returns-in-Err-clause-err
-returns-in-Err-clause-err c = inl (record { files = c.args.netlist; refused = c.in-Err.refused; is = refl; named = refl; holds = c.in-Err.ensures.err })
+returns-in-Err-clause-err g c = inl (record { files = c.args.netlist; refused = c.in-Err.refused; is = refl; named = refl; holds = c.in-Err.ensures.err })
 
 pub returns-clause-err : goal.returns-clause-err
-returns-clause-err c = inr (record {
+returns-clause-err g c = inr (record {
   files = _;
   refused = c.in-Err-run_text.refused;
   is = refl;

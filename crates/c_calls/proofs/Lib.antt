@@ -1,0 +1,16 @@
+mod Imitates
+mod Lists
+mod Stores
+mod Expands
+mod Values
+mod Blocks
+mod ExprTrees
+mod Own
+mod Boths
+mod Scopes
+mod Statements
+mod Arguments
+mod Helpers
+mod Theorem
+mod WorkedCalls
+mod WorkedLawful

@@ -1,0 +1,5 @@
+pub mod Inlined
+pub mod Lawful
+pub mod Laws
+pub mod Meanings
+pub mod Worked

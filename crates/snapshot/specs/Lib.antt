@@ -1,0 +1,5 @@
+pub mod Fits
+pub mod Resumes
+pub mod Laws
+pub mod Texts
+pub mod Refusals

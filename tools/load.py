@@ -1,0 +1,119 @@
+#!/usr/bin/env python3
+"""Runs the proved program (make build leaves it) on files at each limit and one byte past it, and on large nets and arrays, and
+prints how each call ended, how long it took and the most memory that it held. Fails where one ended otherwise than it must.
+
+usage: tools/load.py [PROGRAM]"""
+import os
+import pathlib
+import resource
+import subprocess
+import sys
+import tempfile
+import time
+
+TOOLS = pathlib.Path(__file__).resolve().parent
+PROGRAM = pathlib.Path(sys.argv[1] if len(sys.argv) > 1 else TOOLS.parent / "crates/elastic/out/elastic").resolve()
+KERNEL, INPUTS, NETLIST, SCHEDULE = 65_536, 33_554_432, 67_108_864, 16_777_216
+
+
+def wide_net(outputs, each, size):
+    """A net of a fork of so many outputs with a fork of so many sinks at each, its text padded to a size by the kernel's name."""
+    lines = ["scalar a i32", "result none", "unit entry", "unit param 0", "unit exit", f"unit fork 32 {outputs}"]
+    lines += [f"unit fork 32 {each}"] * outputs + ["unit sink 32"] * (outputs * each)
+    lines += ["chan 0.0 2.0 32 1 0 control", "chan 1.0 3.0 32 1 0"]
+    lines += [f"chan 3.{j} {4 + j}.0 32 1 0" for j in range(outputs)]
+    lines += [f"chan {4 + j}.{k} {4 + outputs + j * each + k}.0 32 1 0" for j in range(outputs) for k in range(each)]
+    rest = "\n".join(lines) + "\nend\n"
+    return f"elastic 2\nkernel {'k' * (size - len(rest) - len('elastic 2') - len('kernel ') - 2)}\n{rest}"
+
+
+def element_inputs(count, size):
+    """A text of inputs for n and an array a, its numbers padded by zeros to a size."""
+    front = f"n = {count}\na ="
+    left = size - len(front) - 1
+    width = left // count - 1
+    text = front + "".join(f" {1:0{width}}" for _ in range(count - 1))
+    return text + f" {1:0{size - len(text) - 2}}\n"
+
+
+def long_schedule(net, inputs, folder, size):
+    """The first whole lines of a run that take no more than a size."""
+    (folder / "n").write_text(net)
+    (folder / "i").write_text(inputs)
+    out = subprocess.run([PROGRAM, "run", "n", "i", "--log", "--limit", "16000000"], cwd=folder, capture_output=True, text=True).stdout
+    text = out.partition("\n%%\n")[2][:size]
+    return text[:text.rfind("\n") + 1]
+
+
+def files():
+    each = "void f(int32_t n, uint8_t a[1048576]) { for (int32_t i = 0; i < n; i++) a[i] = a[i] + 1; }"
+    net = wide_net(65_536, 14, NETLIST)
+    hostile = (TOOLS.parent / "examples/net/net.txt").read_text().replace("unit fork 32 2", "unit fork 32 4294967295", 1)
+    inputs = element_inputs(1_048_576, INPUTS)
+    return {
+        "kernel": (each + "//").ljust(KERNEL, "x"),
+        "kernel_past": (each + "//").ljust(KERNEL + 1, "x"),
+        "inputs": inputs,
+        "inputs_past": inputs[:-1] + " \n",
+        "net": net,
+        "net_past": net.replace("kernel k", "kernel kk", 1),
+        "one": "a = 5\n",
+        "hostile": hostile,
+    }
+
+
+# The words of a call, the wanted status, and what it is.
+CALLS = [
+    (["compile", "kernel"], 0, "a kernel of 65,536 bytes"),
+    (["compile", "kernel_past"], 12, "one more"),
+    (["go", "kernel", "inputs", "--limit", "400000000"], 0, "inputs of 33,554,432 bytes, 2^20 elements, a turn of the loop for each"),
+    (["ref", "kernel", "inputs"], 0, "the same as C"),
+    (["go", "kernel", "inputs_past"], 12, "one more"),
+    (["upgrade", "net"], 0, "a netlist of 67,108,864 bytes: 983,044 units, a fork of 65,536 outputs among them"),
+    (["upgrade", "net_past"], 12, "one more"),
+    (["run", "net", "one"], 0, "a run of it"),
+    (["replay", "loop", "given", "schedule"], 0, "a schedule of at most 16,777,216 bytes"),
+    (["replay", "loop", "given", "schedule_past"], 12, "a longer one"),
+]
+
+
+# A net whose fork has more outputs than it may: no memory is taken for them.
+HOSTILE = ["upgrade", "hostile"]
+SMALL = 64 * 1024 * 1024
+
+
+def measured(words, folder, most=resource.RLIM_INFINITY):
+    began = time.time()
+    limit = lambda: resource.setrlimit(resource.RLIMIT_AS, (most, most))
+    child = subprocess.Popen([PROGRAM, *words], cwd=folder, stdout=subprocess.DEVNULL, stderr=subprocess.PIPE, preexec_fn=limit)
+    errors = child.stderr.read()
+    _, status, usage = os.wait4(child.pid, 0)
+    child.returncode = os.waitstatus_to_exitcode(status)
+    return child.returncode, errors.decode().strip(), time.time() - began, usage.ru_maxrss / 1024
+
+
+def main():
+    wrong = 0
+    with tempfile.TemporaryDirectory() as name:
+        folder = pathlib.Path(name)
+        for file, text in files().items():
+            (folder / file).write_text(text)
+        example = TOOLS.parent / "examples/countdown"
+        loop, given = (example / "net.txt").read_text(), "n = 2000000000\n"
+        schedule = long_schedule(loop, given, folder, SCHEDULE)
+        for file, text in {"loop": loop, "given": given, "schedule": schedule, "schedule_past": schedule.ljust(SCHEDULE + 1, "x")}.items():
+            (folder / file).write_text(text)
+        print("| Call | Status | Seconds | Memory, MB |\n|---|---|---|---|")
+        for words, want, what in CALLS:
+            status, errors, seconds, memory = measured(words, folder)
+            print(f"| `{words[0]}`: {what} | {status} | {seconds:.2f} | {memory:,.0f} |", flush=True)
+            if status != want:
+                print(f"wanted {want}: {errors}")
+                wrong += 1
+        status, errors, seconds, memory = measured(HOSTILE, folder, SMALL)
+        print(f"| `upgrade`: a fork of 4,294,967,295 outputs, with 64 MB of addresses: {errors} | {status} | {seconds:.2f} | {memory:,.0f} |")
+        wrong += status != 5 or " 36 C7 " not in errors
+    sys.exit(1 if wrong else 0)
+
+
+main()
