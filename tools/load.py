@@ -41,7 +41,7 @@ def long_schedule(net, inputs, folder, size):
     (folder / "n").write_text(net)
     (folder / "i").write_text(inputs)
     out = subprocess.run([PROGRAM, "run", "n", "i", "--log", "--limit", "16000000"], cwd=folder, capture_output=True, text=True).stdout
-    text = out.partition("\n%%\n")[2][:size]
+    text = out[out.find("%%\n") + 3:][:size]
     return text[:text.rfind("\n") + 1]
 
 
@@ -99,7 +99,7 @@ def main():
         for file, text in files().items():
             (folder / file).write_text(text)
         example = TOOLS.parent / "examples/countdown"
-        loop, given = (example / "net.txt").read_text(), "n = 2000000000\n"
+        loop, given = (example / "net.txt").read_text(), "n = 300000\n"
         schedule = long_schedule(loop, given, folder, SCHEDULE)
         for file, text in {"loop": loop, "given": given, "schedule": schedule, "schedule_past": schedule.ljust(SCHEDULE + 1, "x")}.items():
             (folder / file).write_text(text)

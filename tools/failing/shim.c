@@ -3,6 +3,7 @@
 #include <dlfcn.h>
 #include <stdio.h>
 #include <stdlib.h>
+#include <sys/syscall.h>
 #include <unistd.h>
 static long calls, failing = -2;
 static int fails(void) {
@@ -24,7 +25,9 @@ int posix_memalign(void **to, size_t align, size_t size) {
   if (!real) real = dlsym(RTLD_NEXT, "posix_memalign");
   return fails() ? 12 : real(to, align, size);
 }
-__attribute__((destructor)) static void told(void) {
+/* The program ends by this call, so that no destructor runs. */
+void _exit(int status) {
   char text[32];
   if (getenv("COUNT_ALLOC")) (void)!write(2, text, snprintf(text, sizeof text, "allocations %ld\n", calls));
+  for (;;) syscall(SYS_exit_group, status);
 }
