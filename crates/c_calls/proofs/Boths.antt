@@ -9,16 +9,16 @@ use Rattle.c_meaning.specs.Statements.{nothing}
 use Rattle.c_calls.proofs.Imitates.{Rel, After, ended, Imitates, Sims, map_sims, from_sims, ends_sims, turn_sims, turn_right, turn_left, both_sims, side_sims, same_value_sims, loop_sims, do_sims}
 use Rattle.c_calls.proofs.Expands.{flip, Both}
 
-pub both_map : (R1 R2 S1 S2 M1 M2 : Rel) (ret in1 in2 : Bool) (a : ℕ → Run) (b : Run) → ((s t : Store) → R2 s t → R1 s t) → ((s t : Store) → S1 s t → S2 s t) → ((s t : Store) → M1 s t → M2 s t) → (IsTrue in1 → IsTrue in2) → Both R1 S1 M1 ret in1 a b → Both R2 S2 M2 ret in2 a b
-both_map R1 R2 S1 S2 M1 M2 ret in1 in2 a b e f g h x = record {
-  forth = λ n. map_sims n R1 R2 S1 S2 M1 M2 ret in1 in2 (a n) (λ i j. b) e f g h (x.forth n);
-  back = λ n. map_sims n (flip R1) (flip R2) (flip S1) (flip S2) (flip M1) (flip M2) ret in1 in2 b (λ i j. a i) (λ t s. e s t) (λ t s. f s t) (λ t s. g s t) h (x.back n);
+pub both_map : (Ra Rb S1 S2 M1 M2 : Rel) (ret in1 in2 : Bool) (a : ℕ → Run) (b : Run) → ((s t : Store) → Rb s t → Ra s t) → ((s t : Store) → S1 s t → S2 s t) → ((s t : Store) → M1 s t → M2 s t) → (IsTrue in1 → IsTrue in2) → Both Ra S1 M1 ret in1 a b → Both Rb S2 M2 ret in2 a b
+both_map Ra Rb S1 S2 M1 M2 ret in1 in2 a b e f g h x = record {
+  forth = λ n. map_sims n Ra Rb S1 S2 M1 M2 ret in1 in2 (a n) (λ i j. b) e f g h (x.forth n);
+  back = λ n. map_sims n (flip Ra) (flip Rb) (flip S1) (flip S2) (flip M1) (flip M2) ret in1 in2 b (λ i j. a i) (λ t s. e s t) (λ t s. f s t) (λ t s. g s t) h (x.back n);
 }
 
-pub both_from : (R1 R2 S M : Rel) (ret inside : Bool) (a : ℕ → Run) (b : Run) (f g : Store → Store) → ((s t : Store) → R2 s t → R1 (f s) (g t)) → Both R1 S M ret inside a b → Both R2 S M ret inside (λ n s l. a n (f s) l) (λ s l. b (g s) l)
-both_from R1 R2 S M ret inside a b f g e x = record {
-  forth = λ n. from_sims n R1 R2 S M ret inside (a n) (λ i j. b) f g e (x.forth n);
-  back = λ n. from_sims n (flip R1) (flip R2) (flip S) (flip M) ret inside b (λ i j. a i) g f (λ t s. e s t) (x.back n);
+pub both_from : (Ra Rb S M : Rel) (ret inside : Bool) (a : ℕ → Run) (b : Run) (f g : Store → Store) → ((s t : Store) → Rb s t → Ra (f s) (g t)) → Both Ra S M ret inside a b → Both Rb S M ret inside (λ n s l. a n (f s) l) (λ s l. b (g s) l)
+both_from Ra Rb S M ret inside a b f g e x = record {
+  forth = λ n. from_sims n Ra Rb S M ret inside (a n) (λ i j. b) f g e (x.forth n);
+  back = λ n. from_sims n (flip Ra) (flip Rb) (flip S) (flip M) ret inside b (λ i j. a i) g f (λ t s. e s t) (x.back n);
 }
 
 -- the same runs in other words

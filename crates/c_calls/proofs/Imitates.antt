@@ -48,16 +48,16 @@ after_map S1 S2 M1 M2 ret in1 in2 (by_return v) s t f g k x = (x.0, g s t x.1)
 after_map S1 S2 M1 M2 ret in1 in2 (undefined at) s t f g k x = x
 after_map S1 S2 M1 M2 ret in1 in2 out_of_turns s t f g k x = x
 
-pub map_sims : (n : ℕ) (R1 R2 S1 S2 M1 M2 : Rel) (ret in1 in2 : Bool) (a : Run) (b : ℕ → ℕ → Run) → ((s t : Store) → R2 s t → R1 s t) → ((s t : Store) → S1 s t → S2 s t) → ((s t : Store) → M1 s t → M2 s t) → (IsTrue in1 → IsTrue in2)
-    → Sims n R1 S1 M1 ret in1 a b → Sims n R2 S2 M2 ret in2 a b
-map_sims n R1 R2 S1 S2 M1 M2 ret in1 in2 a b e f g k x s t m le r d =
+pub map_sims : (n : ℕ) (Ra Rb S1 S2 M1 M2 : Rel) (ret in1 in2 : Bool) (a : Run) (b : ℕ → ℕ → Run) → ((s t : Store) → Rb s t → Ra s t) → ((s t : Store) → S1 s t → S2 s t) → ((s t : Store) → M1 s t → M2 s t) → (IsTrue in1 → IsTrue in2)
+    → Sims n Ra S1 M1 ret in1 a b → Sims n Rb S2 M2 ret in2 a b
+map_sims n Ra Rb S1 S2 M1 M2 ret in1 in2 a b e f g k x s t m le r d =
     let q = x s t m le (e s t r) d in
     record { least = q.least; need = q.need; turns = q.turns; last = q.last; within = q.within; takes = q.takes; after = after_map S1 S2 M1 M2 ret in1 in2 (a s m).how (a s m).store q.last f g k q.after; less = q.less }
 
 -- both begin in stores that are made of those before
-pub from_sims : (n : ℕ) (R1 R2 S M : Rel) (ret inside : Bool) (a : Run) (b : ℕ → ℕ → Run) (f g : Store → Store) → ((s t : Store) → R2 s t → R1 (f s) (g t))
-    → Sims n R1 S M ret inside a b → Sims n R2 S M ret inside (λ s n. a (f s) n) (λ i j s n. b i j (g s) n)
-from_sims n R1 R2 S M ret inside a b f g e x s t m le r d =
+pub from_sims : (n : ℕ) (Ra Rb S M : Rel) (ret inside : Bool) (a : Run) (b : ℕ → ℕ → Run) (f g : Store → Store) → ((s t : Store) → Rb s t → Ra (f s) (g t))
+    → Sims n Ra S M ret inside a b → Sims n Rb S M ret inside (λ s n. a (f s) n) (λ i j s n. b i j (g s) n)
+from_sims n Ra Rb S M ret inside a b f g e x s t m le r d =
     let q = x (f s) (g t) m le (e s t r) d in
     record { least = q.least; need = q.need; turns = q.turns; last = q.last; within = q.within; takes = q.takes; after = q.after; less = q.less }
 

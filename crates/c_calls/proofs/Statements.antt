@@ -261,14 +261,14 @@ module _ (W : World) (r : Option (Option Ty)) where
       let before = c ∷ cs in
       let kind = stmt.Declare (W.b + v) x in
       let R0 = Near_to vs (v ∷ us) ts in
-      let R1 = Near_to (v ∷ vs) us ts in
+      let Ra = Near_to (v ∷ vs) us ts in
       let M0 = Near_to vs us ts in
       let b = both_runs (in_order (acts K before)) (kind_act K kind).run in
-      let opened = both_from R1 R0 R1 R1 ret inside a b (λ s. s) (put (W.b + v) None) (λ s t y. agree_open k K W.b W.own W.low vs us ts v s t l y) z in
-      let unset = both_map R0 R0 R1 R1 R1 M0 ret inside inside a (λ s l. b (put (W.b + v) None s) l) (λ s t y. y) (λ s t y. y) (less (v ∷ vs) us ts vs us ts (there v vs) (λ w c. c) (λ w c. c)) (λ e. e) opened in
-      subst (λ (y : Act). Both R0 R1 M0 ret inside a y.run) (sym (stmt_block (before ++ act_at kind at ∷ []) K))
-      (both_turn R0 R1 M0 ret inside a (block (acts K (before ++ act_at kind at ∷ [])))
-      (both_respell R0 R1 M0 ret inside a a (λ s l. b (put (W.b + v) None s) l) (block (acts K (before ++ act_at kind at ∷ []))) (λ i s l. refl)
+      let opened = both_from Ra R0 Ra Ra ret inside a b (λ s. s) (put (W.b + v) None) (λ s t y. agree_open k K W.b W.own W.low vs us ts v s t l y) z in
+      let unset = both_map R0 R0 Ra Ra Ra M0 ret inside inside a (λ s l. b (put (W.b + v) None s) l) (λ s t y. y) (λ s t y. y) (less (v ∷ vs) us ts vs us ts (there v vs) (λ w c. c) (λ w c. c)) (λ e. e) opened in
+      subst (λ (y : Act). Both R0 Ra M0 ret inside a y.run) (sym (stmt_block (before ++ act_at kind at ∷ []) K))
+      (both_turn R0 Ra M0 ret inside a (block (acts K (before ++ act_at kind at ∷ [])))
+      (both_respell R0 Ra M0 ret inside a a (λ s l. b (put (W.b + v) None s) l) (block (acts K (before ++ act_at kind at ∷ []))) (λ i s l. refl)
       (λ s l. behind_block K before kind at ((W.b + v) ∷ []) q (ap (λ (y : Act). y.declares) (stmt_declare (W.b + v) x K)) s l) unset))
 
   -- ---- assignments
@@ -434,13 +434,13 @@ module _ (W : World) (r : Option (Option Ty)) where
     runs f (act.Declare v None) at inside vs us ts le seg lw sc o l ap0 =
         let lt = declared_below k W.signatures v None lw in
         let R0 = Near_to vs (v ∷ us) ((W.b + v) ∷ ts) in
-        let R1 = Near_to (v ∷ vs) us ts in
+        let Ra = Near_to (v ∷ vs) us ts in
         let M = Near_to vs us ts in
         let D = (kind_act K (stmt.Declare (W.b + v) None)).run in
         let A : ℕ → Run = λ i. turn (declared_run k v None) in
-        subst (λ (z : Act). Both R0 R1 M ret inside A z.run) (sym (stmt_declare (W.b + v) None K))
-        (both_turns R0 R1 M ret inside (λ i. declared_run k v None) (declared_run K (W.b + v) None)
-        (outcomes R0 R1 M ret inside (λ s. Some (put v None s)) (λ s. Some (put (W.b + v) None s)) at at
+        subst (λ (z : Act). Both R0 Ra M ret inside A z.run) (sym (stmt_declare (W.b + v) None K))
+        (both_turns R0 Ra M ret inside (λ i. declared_run k v None) (declared_run K (W.b + v) None)
+        (outcomes R0 Ra M ret inside (λ s. Some (put v None s)) (λ s. Some (put (W.b + v) None s)) at at
         (λ s t y. each (put v None s) (put (W.b + v) None t)
         (set_again vs us ts v None s t l lt (λ d. ap0 v d (here v [])) (less vs (v ∷ us) ((W.b + v) ∷ ts) vs us ts (λ w d. d) (there v us) (there (W.b + v) ts) s t y)))))
     runs f (act.Declare v (Some e)) at inside vs us ts le seg lw sc o l ap0 =
