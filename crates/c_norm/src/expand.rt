@@ -87,6 +87,7 @@ fn neither_reads(first: &Rest, second: &Rest) -> bool
 }
 
 #[cycle(expand)]
+#[inline(never)]
 fn unary(
     alloc: Global,
     e: &TypedExpr,
@@ -106,6 +107,7 @@ fn unary(
 }
 
 #[cycle(expand)]
+#[inline(never)]
 fn cast(
     alloc: Global,
     e: &TypedExpr,
@@ -125,6 +127,7 @@ fn cast(
 }
 
 #[cycle(expand)]
+#[inline(never)]
 fn element(
     alloc: Global,
     e: &TypedExpr,
@@ -145,6 +148,7 @@ fn element(
 /// Expands several expressions, from left to right.
 #[cycle(expand)]
 #[tactic(auto, using(crate::proofs::Coded::few_expanded_all))]
+#[inline(never)]
 pub(crate) fn expand_all(
     alloc: Global,
     exprs: &[TypedExpr],
@@ -213,6 +217,7 @@ pub(crate) fn decided_by(op: Binary) -> Option<bool>
 
 /// An operator that evaluates both its operands.
 #[cycle(expand)]
+#[inline(never)]
 fn joined(
     alloc: Global,
     e: &TypedExpr,
@@ -238,6 +243,7 @@ fn joined(
 
 /// `&&` or `||`. What is set for the right operand is kept apart: it is set where that operand is evaluated.
 #[cycle(expand)]
+#[inline(never)]
 fn decided_out(
     alloc: Global,
     e: &TypedExpr,
@@ -270,6 +276,7 @@ fn decided_out(
 
 /// `?:`. What is set for a side is kept apart: it is set where that side is evaluated.
 #[cycle(expand)]
+#[inline(never)]
 fn choose(
     alloc: Global,
     e: &TypedExpr,
