@@ -27,3 +27,5 @@ pub mod Givings
 pub mod NewEnds
 pub mod NewWorkers
 pub mod Resting
+pub mod Edges
+pub mod Inside

@@ -53,7 +53,7 @@ not_among a b cs h = by (cases_eq a b)
 among_here : (c a : ℕ) (cs : List ℕ) → c ≡ a → among c (a ∷ cs) ≡ true
 among_here c a cs q = ap (λ g. g || among c cs) (eq-eqb c a q)
 
-among_there : (c a : ℕ) (cs : List ℕ) → c ≢ a → among c (a ∷ cs) ≡ among c cs
+pub among_there : (c a : ℕ) (cs : List ℕ) → c ≢ a → among c (a ∷ cs) ≡ among c cs
 among_there c a cs n = ap (λ g. g || among c cs) (ne_eqb c a n)
 
 same_step : (n : ℕ) (o q : Option TakeEnd) → q ≡ o → TakeStep false n o q

@@ -6,6 +6,7 @@ pub mod Merged
 pub mod Steps
 pub mod Locally
 pub mod Views
+pub mod Crossing
 pub mod Workers
 pub mod Shares
 pub mod Sights
@@ -19,6 +20,7 @@ pub mod Settles
 pub mod Asking
 pub mod Glances
 pub mod Offers
+pub mod Inside
 pub mod Sweeps
 pub mod Going
 pub mod Firings

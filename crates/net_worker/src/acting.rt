@@ -2,11 +2,12 @@
 ghost use Rattle.std.specs.Prelude.{◌≡◌, ◌<◌, length, IsTrue, IsFalse, IfNone, IfSome};
 ghost use Rattle.net_worker.specs.Firings.{IsFiredExactly};
 ghost use Rattle.net_worker.specs.Going.{GoesOn, HasAdded, IsHeld};
+ghost use Rattle.net_worker.specs.Inside.{IsInnerUnit};
 ghost use Rattle.net_worker.specs.Views.{net_of, number_of, log_room, owner_in};
 ghost use Rattle.net_worker.specs.Workers.{IsMadeOf, IsWhole};
 
 use crate::entry::Entry;
-use crate::parts::{above, hand_over, offer, take_all, used_places};
+use crate::parts::{above, hand_over, offer, offer_inside, take_all, used_places};
 use crate::tables::Tables;
 use crate::waking::wake;
 use crate::worker::Worker;
@@ -24,6 +25,23 @@ impl Worker {
         ensures fired { IfSome result (λ p. IsFiredExactly tables.now self.old self.new firing) }
         ensures held { IfNone result (IsHeld tables.now self.old self.new firing) }
     {
+        if tables.crosses(firing.unit) {
+            self.fire_crossing(tables, firing)
+        } else {
+            self.fire_inner(tables, firing)
+        }
+    }
+
+    /// The same where channels go from the unit to other workers, or from others to it.
+    fn fire_crossing(&mut self, tables: &Tables, firing: Firing) -> Option<Plan>
+        requires made { IsMadeOf tables.now self.old }
+        requires whole { IsWhole tables.now self.old }
+        requires mine { owner_in tables.now firing.unit ≡ number_of self.old }
+        requires within { firing.unit < length (net_of tables.now).units }
+        requires room { 0 < log_room self.old }
+        ensures fired { IfSome result (λ p. IsFiredExactly tables.now self.old self.new firing) }
+        ensures held { IfNone result (IsHeld tables.now self.old self.new firing) }
+    {
         let net = &tables.net;
         let plan = self.state.plan(net, firing)?;
         let unit = firing.unit;
@@ -33,6 +51,26 @@ impl Worker {
         self.state.make(net, firing, plan);
         hand_over(&mut self.state, &self.puts, net, unit, plan.put);
         take_all(&mut self.takes, net, unit, plan.takes, stamp);
+        self.clock = stamp;
+        self.log.add(Entry { stamp, firing });
+        Some(plan)
+    }
+
+    /// The same where all channels of the unit stay in the worker: no end of a link is asked.
+    fn fire_inner(&mut self, tables: &Tables, firing: Firing) -> Option<Plan>
+        requires made { IsMadeOf tables.now self.old }
+        requires whole { IsWhole tables.now self.old }
+        requires inner { IsInnerUnit (net_of tables.now) (owner_in tables.now) firing.unit }
+        requires mine { owner_in tables.now firing.unit ≡ number_of self.old }
+        requires within { firing.unit < length (net_of tables.now).units }
+        requires room { 0 < log_room self.old }
+        ensures fired { IfSome result (λ p. IsFiredExactly tables.now self.old self.new firing) }
+        ensures held { IfNone result (IsHeld tables.now self.old self.new firing) }
+    {
+        let net = &tables.net;
+        let plan = self.state.plan(net, firing)?;
+        let stamp = offer_inside(&self.state, net, firing.unit, plan.put, self.clock)?;
+        self.state.make(net, firing, plan);
         self.clock = stamp;
         self.log.add(Entry { stamp, firing });
         Some(plan)

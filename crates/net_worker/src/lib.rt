@@ -2,6 +2,7 @@
 #![tactic(auto)]
 
 mod acting;
+mod crossing;
 mod ends;
 mod entry;
 mod giving;

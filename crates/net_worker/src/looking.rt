@@ -85,6 +85,17 @@ impl Worker {
         ensures made { IsMadeOf tables.now self.new }
         ensures looked { IsLooked self.old self.new }
     {
+        if tables.crosses(unit) {
+            self.look_places(tables, unit, places);
+        }
+    }
+
+    /// The same of a unit with such channels.
+    fn look_places(&mut self, tables: &Tables, unit: u32, places: Takes)
+        requires made { IsMadeOf tables.now self.old }
+        ensures made { IsMadeOf tables.now self.new }
+        ensures looked { IsLooked self.old self.new }
+    {
         match places {
             Takes::None => {}
             Takes::One(p) => self.look_into(tables, unit, p),

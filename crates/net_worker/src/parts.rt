@@ -2,13 +2,14 @@
 ghost use Rattle.std.specs.Prelude.{◌≡◌, ◌≢◌, ◌⊎◌, ℕ, ◌<◌, ◌≤◌, ◌^◌, suc, max, true, IfNone, IfSome, None, Some, length, get_or};
 ghost use Rattle.elastic_link.specs.Credits.{IsStamp};
 ghost use Rattle.net_types.specs.Nets.{chan_at};
-ghost use Rattle.net_core.specs.Fire.{tokens_at};
+ghost use Rattle.net_core.specs.Fire.{has_room, tokens_at};
 ghost use Rattle.net_core.specs.Plans.{places_of};
 ghost use Rattle.net_core.specs.States.{IsOf, state_of};
 ghost use Rattle.net_core.specs.Uses.{is_fork, places_used};
 ghost use Rattle.net_worker.specs.Asking.{PutsAsked, TakesAsked};
 ghost use Rattle.net_worker.specs.Fires.{TakeStep};
 ghost use Rattle.net_worker.specs.Firings.{HoldsIfAny, AllHold, IsPayable, AllPayable, AllDistinct, chans_into, AreTaken, IsHandedOver};
+ghost use Rattle.net_worker.specs.Inside.{IsOfferedInside, IsNotOfferedInside};
 ghost use Rattle.net_worker.specs.Offers.{held_stamp, greatest_in, IsOffered, IsNotOffered};
 ghost use Rattle.net_worker.specs.Workers.{held_by};
 
@@ -138,6 +139,31 @@ fn offer_inner(state: &State, net: &Checked, chan: u32, above: u64) -> Option<u6
         one_above(above)
     } else {
         None
+    }
+}
+
+/// The stamp of a firing of a unit all of whose channels stay in the worker: one above `above`, where its output has room
+/// and a stamp is left. No end is asked.
+#[tactic(auto, using(crate::proofs::Inside::inside_some))]
+pub(crate) fn offer_inside(
+    state: &State,
+    net: &Checked,
+    unit: u32,
+    put: Option<Put>,
+    above: u64,
+) -> Option<u64>
+    requires of { IsOf net.now state.now }
+    requires above { IsStamp above }
+    ensures some { IfSome result
+        (λ n. IsOfferedInside net.now (state_of state.now) unit put above n) }
+    ensures fits { IfSome result (λ n. IsStamp n) }
+    ensures room { IfSome result (λ _. has_room net.now (state_of state.now) unit put) }
+    ensures none { IfNone result
+        (IsNotOfferedInside net.now (state_of state.now) unit put above) }
+{
+    match put {
+        None => one_above(above),
+        Some(put) => offer_inner(state, net, net.out_of_place(unit, put.place), above),
     }
 }
 

@@ -1,7 +1,9 @@
 //! What all workers of a net read.
 ghost use Rattle.std.specs.Prelude.{◌≡◌, ◌<◌, length, All};
 ghost use Rattle.el_base.specs.Limits.{max_workers};
+ghost use Rattle.net_worker.specs.Crossing.{AreMarked};
 
+use crate::crossing::crossing_units;
 use net_check::Checked;
 use net_types::{Inputs, List, Memory};
 use std::alloc::Global;
@@ -12,14 +14,18 @@ pub struct Tables {
     pub(crate) net: Checked,
     pub(crate) inputs: Inputs,
     pub(crate) owners: List<u32>,
+    /// Whether a channel goes from or to another worker, by unit.
+    pub(crate) crossing: Vec<bool>,
     pub ghost owned: { length owners ≡ length net.units },
     pub ghost few: { All (λ o. o < max_workers) owners },
+    pub ghost marked: { AreMarked net.chans owners crossing.items },
 }
 
 impl Tables {
-    ghost use Rattle.std.specs.Prelude.{◌≡◌, ◌<◌, length, get_or, IfOk, All};
+    ghost use Rattle.std.specs.Prelude.{◌≡◌, ◌<◌, length, IfOk, All, IsFalse};
     ghost use Rattle.el_base.specs.Limits.{max_workers};
     ghost use Rattle.net_types.specs.Inputs.{InputsFit};
+    ghost use Rattle.net_worker.specs.Inside.{IsInnerUnit};
     ghost use Rattle.net_worker.specs.Plays.{putter, taker};
     ghost use Rattle.net_worker.specs.Views.{net_of, inputs_of, unit_owners, owner_in};
 
@@ -41,6 +47,7 @@ impl Tables {
         ensures inputs { IfOk result (λ t. inputs_of t ≡ inputs.now) }
         ensures owners { IfOk result (λ t. unit_owners t ≡ owners.now) }
     {
+        let crossing = crossing_units(alloc, net, owners)?;
         let net = net.copy(alloc)?;
         let inputs = inputs.copy(alloc)?;
         let mut list = List::new(alloc);
@@ -51,7 +58,17 @@ impl Tables {
             net,
             inputs,
             owners: list,
+            crossing,
         })
+    }
+
+    /// Whether a channel goes from a unit to another worker, or from another to it. Takes no memory.
+    #[tactic(auto, using(crate::proofs::Edges::inner_unit))]
+    pub(crate) fn crosses(&self, unit: u32) -> bool
+        ensures { IsFalse result → IsInnerUnit (net_of self.now) (owner_in self.now) unit }
+    {
+        let at = unit as usize;
+        at >= self.crossing.len() || self.crossing[at]
     }
 
     /// The worker that owns a unit of the net. Takes no memory.

@@ -16,7 +16,7 @@ use Rattle.net_worker.specs.Offers.{greatest_in, IsOffered, IsNotOffered}
 use Rattle.net_worker.proofs.Assembly.{made_up, room_held, few_counts}
 use Rattle.net_worker.proofs.Mays.{used_there}
 use Rattle.net_worker.proofs.Paying.{all_hold, all_payable, all_distinct}
-use Rattle.net_worker.proofs.worker.Worker.fire.Goals as goal
+use Rattle.net_worker.proofs.worker.Worker.fire_crossing.Goals as goal
 
 pub above-base-requires-clause-held : goal.above-base-requires-clause-held
 above-base-requires-clause-held c =

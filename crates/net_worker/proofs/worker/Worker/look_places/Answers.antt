@@ -1,0 +1,8 @@
+use Rattle.net_worker.proofs.Glancing.{looked_trans}
+use Rattle.net_worker.proofs.worker.Worker.look_places.Goals as goal
+
+pub returns-in-Three-clause-looked : goal.returns-in-Three-clause-looked
+returns-in-Three-clause-looked c =
+    looked_trans c.args.self.now c.look_into-in-Three-2.new.self c.look_into-in-Three-3.new.self
+    (looked_trans c.args.self.now c.look_into-in-Three.new.self c.look_into-in-Three-2.new.self c.look_into-in-Three.ensures.looked c.look_into-in-Three-2.ensures.looked)
+    c.look_into-in-Three-3.ensures.looked
