@@ -3,3 +3,4 @@ pub mod Resumes
 pub mod Laws
 pub mod Texts
 pub mod Refusals
+pub mod private

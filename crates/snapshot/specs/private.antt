@@ -1,0 +1,3 @@
+-- Private: what only contracts of this crate cite.
+pub mod Words
+pub mod Drafts
