@@ -8,15 +8,15 @@ use crate::variable_graphs::{Order, graph};
 use anyhow::{Context, Result, bail, ensure};
 use block_args::{arguments, live_variables};
 use ir::{Cfg, Name};
+use row_fields::Output;
 use std::alloc::Global;
-use std::io::Write;
 use std::time::Instant;
 
 /// The most blocks and the most variables.
 const MOST: u32 = 1000000;
 
 /// Times both graphs.
-pub fn run<W: Write>(rt: &HostRuntime, words: &[&str], out: &mut W) -> Result<()> {
+pub fn run(rt: &HostRuntime, words: &[&str], out: &mut Output) -> Result<()> {
     let [blocks, vars] = words else {
         bail!("write bench_graphs args BLOCKS VARIABLES");
     };
@@ -31,7 +31,7 @@ pub fn run<W: Write>(rt: &HostRuntime, words: &[&str], out: &mut W) -> Result<()
 }
 
 /// Prints the times on a graph.
-fn time<W: Write>(rt: &HostRuntime, order: Order, blocks: u32, vars: u32, out: &mut W) -> Result<()>
+fn time(rt: &HostRuntime, order: Order, blocks: u32, vars: u32, out: &mut Output) -> Result<()>
     requires blocks { 2 < blocks }
     requires some { 0 < vars }
     requires few_blocks { blocks ≤ 1000000 }
@@ -44,10 +44,16 @@ fn time<W: Write>(rt: &HostRuntime, order: Order, blocks: u32, vars: u32, out: &
     let start = Instant::now(rt)?;
     let made = count_blocks(rt.alloc(), &graph)?;
     let whole = start.elapsed(rt)?.as_millis();
-    writeln!(
-        out,
-        "{order:?}: {live} live in {searched} ms; {made} blocks in {whole} ms"
-    )?;
+    out.debug(&order);
+    out.word(": ");
+    out.number(live);
+    out.word(" live in ");
+    out.number(searched);
+    out.word(" ms; ");
+    out.number(made);
+    out.word(" blocks in ");
+    out.number(whole);
+    out.word(" ms\n");
     Ok(())
 }
 

@@ -1,6 +1,5 @@
-//! Block graphs of any size.
+//! Block graphs of any size. What makes a part gives nothing where memory is wanting.
 
-use anyhow::{Result, bail, ensure};
 use graph_check::checked_graph;
 use ir::{Array, Block, Instr, Ir, Jump, List, Name, Op1, Op2, Scalar, To, Ty};
 use std::alloc::Global;
@@ -13,7 +12,7 @@ const ARRAYS: u32 = 64;
 
 /// A graph of so many blocks in a row, each with two arguments and so many pieces, that leads from each block to the next one
 /// or back to the block before. A piece is eight steps, of all kinds, on one array that is stored to and one that is only read.
-pub fn graph(alloc: Global, blocks: u32, pieces: u32) -> Result<Ir> {
+pub fn graph(alloc: Global, blocks: u32, pieces: u32) -> Option<Ir> {
     let mut made = List::new(alloc);
     add(&mut made, first(alloc)?)?;
     for number in 1..blocks {
@@ -23,40 +22,32 @@ pub fn graph(alloc: Global, blocks: u32, pieces: u32) -> Result<Ir> {
     }
     let scalars = scalars(alloc)?;
     let arrays = arrays(alloc)?;
-    match checked_graph(alloc, name(alloc, b"f")?, scalars, arrays, None, made) {
-        Ok(Some(graph)) => Ok(graph),
-        Ok(None) => bail!("no well-formed graph"),
-        Err(_) => bail!("want of memory"),
-    }
+    let name = name(alloc, b"f")?;
+    checked_graph(alloc, name, scalars, arrays, None, made).unwrap_or(None)
 }
 
 /// Adds an item.
-pub fn add<T: Drop>(list: &mut List<T>, item: T) -> Result<()> {
-    ensure!(list.push(item).is_ok(), "want of memory");
-    Ok(())
+pub fn add<T: Drop>(list: &mut List<T>, item: T) -> Option<()> {
+    list.push(item).ok()
 }
 
 /// The name of these letters.
-pub fn name(alloc: Global, letters: &[u8]) -> Result<Name> {
-    match Name::new(alloc, letters) {
-        Ok(Some(name)) => Ok(name),
-        Ok(None) => bail!("no name"),
-        Err(_) => bail!("want of memory"),
-    }
+pub fn name(alloc: Global, letters: &[u8]) -> Option<Name> {
+    Name::new(alloc, letters).unwrap_or(None)
 }
 
 /// Two scalars of 32 bits.
-pub fn scalars(alloc: Global) -> Result<List<Scalar>> {
+pub fn scalars(alloc: Global) -> Option<List<Scalar>> {
     let mut scalars = List::new(alloc);
     for letters in [b"n", b"m"] {
         let name = name(alloc, letters)?;
         add(&mut scalars, Scalar { name, ty: Ty::U32 })?;
     }
-    Ok(scalars)
+    Some(scalars)
 }
 
 /// The arrays that are stored to, and as many that are only read.
-fn arrays(alloc: Global) -> Result<List<Array>> {
+fn arrays(alloc: Global) -> Option<List<Array>> {
     let mut arrays = List::new(alloc);
     for first in [b'a', b'b'] {
         for number in 0..ARRAYS as u8 {
@@ -69,12 +60,12 @@ fn arrays(alloc: Global) -> Result<List<Array>> {
             add(&mut arrays, array)?;
         }
     }
-    Ok(arrays)
+    Some(arrays)
 }
 
 /// The first block, which hands its arguments on.
-fn first(alloc: Global) -> Result<Block> {
-    Ok(Block {
+fn first(alloc: Global) -> Option<Block> {
+    Some(Block {
         args: both(alloc, 32, 32)?,
         steps: List::new(alloc),
         jump: Jump::Go(To {
@@ -85,14 +76,14 @@ fn first(alloc: Global) -> Result<Block> {
 }
 
 /// A list of two numbers.
-pub fn both(alloc: Global, one: u32, other: u32) -> Result<List<u32>> {
+pub fn both(alloc: Global, one: u32, other: u32) -> Option<List<u32>> {
     let mut numbers = List::new(alloc);
     add(&mut numbers, one)?;
     add(&mut numbers, other)?;
-    Ok(numbers)
+    Some(numbers)
 }
 
-fn block(alloc: Global, number: u32, pieces: u32, next: u32, back: u32) -> Result<Block> {
+fn block(alloc: Global, number: u32, pieces: u32, next: u32, back: u32) -> Option<Block> {
     let mut steps = List::new(alloc);
     let mut value = 2;
     let mut array = number.saturating_mul(pieces);
@@ -101,7 +92,7 @@ fn block(alloc: Global, number: u32, pieces: u32, next: u32, back: u32) -> Resul
         array = array.saturating_add(1);
         value = value.saturating_add(PIECE);
     }
-    Ok(Block {
+    Some(Block {
         args: both(alloc, 32, 32)?,
         steps,
         jump: Jump::Two {
@@ -119,7 +110,7 @@ fn block(alloc: Global, number: u32, pieces: u32, next: u32, back: u32) -> Resul
 }
 
 /// Adds steps whose first value has this number.
-fn add_piece(steps: &mut List<Instr>, array: u32, value: u32) -> Result<()> {
+fn add_piece(steps: &mut List<Instr>, array: u32, value: u32) -> Option<()> {
     add(
         steps,
         Instr::Const {

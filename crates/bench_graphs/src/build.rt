@@ -2,11 +2,12 @@
 //! prints how long the circuit of each takes for a unit of size, with its ratio to that of the first.
 
 use crate::block_graphs::{PIECE, graph};
+use crate::put_ratio;
 use anyhow::{Context, Result, bail, ensure};
 use circuit_build::build;
 use ir::Ir;
 use lsq_groups::groups;
-use std::io::Write;
+use row_fields::Output;
 use std::time::Instant;
 
 /// The part of the size that each graph has.
@@ -19,7 +20,7 @@ const PIECES: u32 = 16;
 const MOST: u32 = 4_000_000;
 
 /// Times the circuits of the three graphs.
-pub fn run<W: Write>(rt: &HostRuntime, words: &[&str], out: &mut W) -> Result<()> {
+pub fn run(rt: &HostRuntime, words: &[&str], out: &mut Output) -> Result<()> {
     let [size] = words else {
         bail!("write bench_graphs build SIZE");
     };
@@ -27,19 +28,22 @@ pub fn run<W: Write>(rt: &HostRuntime, words: &[&str], out: &mut W) -> Result<()
     ensure!(size <= MOST, "SIZE is too great");
     let mut first = 0;
     for part in PARTS {
-        let graph = graph(rt.alloc(), size / part / (PIECE * PIECES + 7), PIECES)?;
+        let graph = graph(rt.alloc(), size / part / (PIECE * PIECES + 7), PIECES).context(
+            "no well-formed graph, or want of memory",
+        )?;
         let nanos = time(rt, &graph)?;
         let count = size_of(&graph).max(1);
         let each = nanos / count;
         if first == 0 {
             first = each.max(1);
         }
-        let percent = each.saturating_mul(100) / first;
-        let (whole, rest) = (percent / 100, percent % 100);
-        writeln!(
-            out,
-            "size {count}: {each} ns a unit of size, ratio {whole}.{rest:02}"
-        )?;
+        out.word("size ");
+        out.number(count);
+        out.word(": ");
+        out.number(each);
+        out.word(" ns a unit of size, ratio ");
+        put_ratio(each.saturating_mul(100) / first, out);
+        out.word("\n");
     }
     Ok(())
 }

@@ -6,14 +6,14 @@ ghost use Rattle.el_base.specs.Limits.{max_kernel_bytes};
 use crate::parts::{Parts, measured, text_of};
 use anyhow::{Context, Result, bail, ensure};
 use el_base::MAX_KERNEL_BYTES;
+use row_fields::Output;
 use std::fs;
-use std::io::Write;
 
 /// How often a kernel may be compiled.
 const MOST: u32 = 1_000;
 
 /// Times the kernel of a file.
-pub fn run<W: Write>(rt: &HostRuntime, words: &[&str], out: &mut W) -> Result<()> {
+pub fn run(rt: &HostRuntime, words: &[&str], out: &mut Output) -> Result<()> {
     let [kernel, times] = words else {
         bail!("write bench_graphs compile KERNEL TIMES");
     };
@@ -28,7 +28,7 @@ pub fn run<W: Write>(rt: &HostRuntime, words: &[&str], out: &mut W) -> Result<()
 }
 
 /// Prints the size of a kernel's circuit, and the least times of so many.
-fn time<W: Write>(rt: &HostRuntime, kernel: &[u8], times: u32, out: &mut W) -> Result<()>
+fn time(rt: &HostRuntime, kernel: &[u8], times: u32, out: &mut Output) -> Result<()>
     requires { length kernel.now ≤ max_kernel_bytes }
 {
     let text = text_of(rt.alloc(), kernel)?;
@@ -38,11 +38,12 @@ fn time<W: Write>(rt: &HostRuntime, kernel: &[u8], times: u32, out: &mut W) -> R
         least = least.at_most(parts);
     }
     put_size(least.nodes, text.as_slice(), out)?;
-    put_parts(least, out)
+    put_parts(least, out);
+    Ok(())
 }
 
 /// Prints how many nodes a kernel has, and how many lines of units and of channels its circuit.
-fn put_size<W: Write>(nodes: u64, text: &[u8], out: &mut W) -> Result<()> {
+fn put_size(nodes: u64, text: &[u8], out: &mut Output) -> Result<()> {
     let text = std::str::from_utf8(text).ok().context("other bytes")?;
     let mut units: u64 = 0;
     let mut channels: u64 = 0;
@@ -50,17 +51,25 @@ fn put_size<W: Write>(nodes: u64, text: &[u8], out: &mut W) -> Result<()> {
         units = units.saturating_add(u64::from(line.starts_with("unit ")));
         channels = channels.saturating_add(u64::from(line.starts_with("chan ")));
     }
-    writeln!(out, "{nodes} nodes, {units} units, {channels} channels")?;
+    out.number(nodes);
+    out.word(" nodes, ");
+    out.number(units);
+    out.word(" units, ");
+    out.number(channels);
+    out.word(" channels\n");
     Ok(())
 }
 
 /// Prints times.
-fn put_parts<W: Write>(parts: Parts, out: &mut W) -> Result<()> {
-    let (whole, rest) = (parts.whole, parts.rest());
-    let (read, graph, circuit) = (parts.read, parts.graph, parts.circuit);
-    writeln!(
-        out,
-        "{whole} us: read {read}, graph {graph}, circuit {circuit}, place, check and print {rest}"
-    )?;
-    Ok(())
+fn put_parts(parts: Parts, out: &mut Output) {
+    out.number(parts.whole);
+    out.word(" us: read ");
+    out.number(parts.read);
+    out.word(", graph ");
+    out.number(parts.graph);
+    out.word(", circuit ");
+    out.number(parts.circuit);
+    out.word(", place, check and print ");
+    out.number(parts.rest());
+    out.word("\n");
 }

@@ -18,6 +18,7 @@ mod place;
 mod variable_graphs;
 
 use anyhow::{Result, bail};
+use row_fields::Output;
 use std::io::Write;
 use std::{env, fs, io};
 
@@ -27,7 +28,7 @@ fn main(rt: HostRuntime) -> Result<()> {
     let mut out = io::writer(&rt);
     match words.as_slice() {
         ["each", file] => run_each(&rt, file, &mut out),
-        words => run(&rt, words, &mut out),
+        words => put(told(&rt, words)?, &mut out),
     }
 }
 
@@ -35,26 +36,51 @@ fn main(rt: HostRuntime) -> Result<()> {
 fn run_each<W: Write>(rt: &HostRuntime, file: &str, out: &mut W) -> Result<()> {
     let lines = fs::read_to_string(rt, file)?;
     for line in lines.as_str().lines() {
-        let words: Vec<&str> = line.split(' ').collect(rt.alloc())?;
-        let mut text = Vec::new(rt.alloc());
-        run(rt, words.as_slice(), &mut text)?;
-        text.retain(|byte| !byte.is_ascii_digit());
-        writeln!(out, "== {line}")?;
-        out.write_all(text.as_slice())?;
+        put(line_told(rt, line)?, out)?;
     }
     Ok(())
 }
 
-/// Runs the bench that the first word names on the words after it.
-fn run<W: Write>(rt: &HostRuntime, words: &[&str], out: &mut W) -> Result<()> {
+/// The line of a bench, and what the bench writes without digits.
+fn line_told(rt: &HostRuntime, line: &str) -> Result<Output> {
+    let words: Vec<&str> = line.split(' ').collect(rt.alloc())?;
+    let mut text = told(rt, words.as_slice())?.finish()?;
+    text.retain(|byte| !byte.is_ascii_digit());
+    let mut out = Output::new(rt.alloc());
+    out.word("== ");
+    out.word(line);
+    out.word("\n");
+    out.bytes(text.as_slice());
+    Ok(out)
+}
+
+/// Writes what was told.
+fn put<W: Write>(told: Output, out: &mut W) -> Result<()> {
+    let text = told.finish()?;
+    out.write_all(text.as_slice())?;
+    Ok(())
+}
+
+/// Runs the bench that the first word names on the words after it, and gives what it writes.
+fn told(rt: &HostRuntime, words: &[&str]) -> Result<Output> {
+    let mut out = Output::new(rt.alloc());
     match words {
-        ["args", words @ ..] => args::run(rt, words, out),
-        ["build", words @ ..] => build::run(rt, words, out),
-        ["compile", words @ ..] => compile::run(rt, words, out),
-        ["merge", words @ ..] => merge::run(rt, words, out),
-        ["place", words @ ..] => place::run(rt, words, out),
+        ["args", words @ ..] => args::run(rt, words, &mut out)?,
+        ["build", words @ ..] => build::run(rt, words, &mut out)?,
+        ["compile", words @ ..] => compile::run(rt, words, &mut out)?,
+        ["merge", words @ ..] => merge::run(rt, words, &mut out)?,
+        ["place", words @ ..] => place::run(rt, words, &mut out)?,
         _ => bail!(
             "write bench_graphs args, build, compile, merge or place, and the words of the bench"
         ),
     }
+    Ok(out)
+}
+
+/// Writes hundredths as a number with two digits behind its point.
+fn put_ratio(hundredths: u128, out: &mut Output) {
+    out.number(hundredths / 100);
+    out.word(".");
+    out.number(hundredths / 10 % 10);
+    out.number(hundredths % 10);
 }

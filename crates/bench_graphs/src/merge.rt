@@ -6,8 +6,8 @@ use anyhow::{Context, Result, bail, ensure};
 use block_merge::merge;
 use graph_check::checked_graph;
 use ir::{Block, Instr, Ir, Jump, List, Op2, To};
+use row_fields::Output;
 use std::alloc::Global;
-use std::io::Write;
 use std::time::Instant;
 
 /// The part of the blocks that each row has.
@@ -17,7 +17,7 @@ const PARTS: [u32; 2] = [10, 1];
 const MOST: u32 = 1_000_000;
 
 /// Times merging of the rows.
-pub fn run<W: Write>(rt: &HostRuntime, words: &[&str], out: &mut W) -> Result<()> {
+pub fn run(rt: &HostRuntime, words: &[&str], out: &mut Output) -> Result<()> {
     let [blocks] = words else {
         bail!("write bench_graphs merge BLOCKS");
     };
@@ -31,8 +31,8 @@ pub fn run<W: Write>(rt: &HostRuntime, words: &[&str], out: &mut W) -> Result<()
 }
 
 /// Prints the time on a row of blocks.
-fn time<W: Write>(rt: &HostRuntime, blocks: u32, steps: u32, out: &mut W) -> Result<()> {
-    let graph = row(rt.alloc(), blocks, steps)?;
+fn time(rt: &HostRuntime, blocks: u32, steps: u32, out: &mut Output) -> Result<()> {
+    let graph = row(rt.alloc(), blocks, steps).context("no well-formed graph, or want of memory")?;
     ensure!(
         graph.has_size_within(8_000_000),
         "a graph that is too great"
@@ -43,17 +43,28 @@ fn time<W: Write>(rt: &HostRuntime, blocks: u32, steps: u32, out: &mut W) -> Res
     let Ok(merged) = merged else {
         bail!("want of memory");
     };
-    let (whole, rest) = (micros / 1000, micros % 1000);
-    writeln!(
-        out,
-        "{blocks} blocks of {steps} steps: {} in {whole}.{rest:03} ms",
-        merged.look().len()
-    )?;
+    out.number(blocks);
+    out.word(" blocks of ");
+    out.number(steps);
+    out.word(" steps: ");
+    out.number(merged.look().len());
+    out.word(" in ");
+    put_millis(micros, out);
+    out.word(" ms\n");
     Ok(())
 }
 
+/// Writes microseconds as milliseconds with three digits behind their point.
+fn put_millis(micros: u128, out: &mut Output) {
+    out.number(micros / 1000);
+    out.word(".");
+    out.number(micros / 100 % 10);
+    out.number(micros / 10 % 10);
+    out.number(micros % 10);
+}
+
 /// A graph of so many blocks in a row, each with two arguments and so many steps.
-fn row(alloc: Global, blocks: u32, steps: u32) -> Result<Ir> {
+fn row(alloc: Global, blocks: u32, steps: u32) -> Option<Ir> {
     let mut made = List::new(alloc);
     for next in 1..blocks {
         let to = To {
@@ -64,26 +75,16 @@ fn row(alloc: Global, blocks: u32, steps: u32) -> Result<Ir> {
     }
     add(&mut made, block(alloc, steps, Jump::Return(None))?)?;
     let scalars = scalars(alloc)?;
-    match checked_graph(
-        alloc,
-        name(alloc, b"f")?,
-        scalars,
-        List::new(alloc),
-        None,
-        made,
-    ) {
-        Ok(Some(graph)) => Ok(graph),
-        Ok(None) => bail!("no well-formed graph"),
-        Err(_) => bail!("want of memory"),
-    }
+    let name = name(alloc, b"f")?;
+    checked_graph(alloc, name, scalars, List::new(alloc), None, made).unwrap_or(None)
 }
 
-fn block(alloc: Global, steps: u32, jump: Jump) -> Result<Block> {
+fn block(alloc: Global, steps: u32, jump: Jump) -> Option<Block> {
     let mut made = List::new(alloc);
     for _ in 0..steps {
         add(&mut made, Instr::Two(Op2::Add32, 0, 1))?;
     }
-    Ok(Block {
+    Some(Block {
         args: both(alloc, 32, 32)?,
         steps: made,
         jump,

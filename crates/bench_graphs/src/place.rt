@@ -1,13 +1,14 @@
 //! The bench of buffer placement places the usual timing on three nets, of a hundredth, a tenth and all of so many channels,
 //! loops of three lengths beside one another, and prints the time of a channel and its ratio to that of the first net.
 
+use crate::put_ratio;
 use anyhow::{Context, Result, bail, ensure};
 use buffer_place::{Timing, place};
 use el_base::MAX_SUM_OF_SLOTS;
 use net_check::{Checked, check_net};
 use net_types::{Chan, List, Memory, Name, Net, Op1, Op2, Place, Unit};
+use row_fields::Output;
 use std::alloc::Global;
-use std::io::Write;
 use std::time::Instant;
 
 /// The part of the channels that each net has.
@@ -17,7 +18,7 @@ const PARTS: [u32; 3] = [100, 10, 1];
 const CHANNELS_A_GROUP: u32 = 13;
 
 /// Times the placements on the three nets.
-pub fn run<W: Write>(rt: &HostRuntime, words: &[&str], out: &mut W) -> Result<()> {
+pub fn run(rt: &HostRuntime, words: &[&str], out: &mut Output) -> Result<()> {
     let [channels] = words else {
         bail!("write bench_graphs place CHANNELS");
     };
@@ -37,12 +38,12 @@ pub fn run<W: Write>(rt: &HostRuntime, words: &[&str], out: &mut W) -> Result<()
         if first == 0 {
             first = each.max(1);
         }
-        let percent = each.saturating_mul(100) / first;
-        let (whole, rest) = (percent / 100, percent % 100);
-        writeln!(
-            out,
-            "{count} channels: {each} ns a channel, ratio {whole}.{rest:02}"
-        )?;
+        out.number(count);
+        out.word(" channels: ");
+        out.number(each);
+        out.word(" ns a channel, ratio ");
+        put_ratio(each.saturating_mul(100) / first, out);
+        out.word("\n");
     }
     Ok(())
 }

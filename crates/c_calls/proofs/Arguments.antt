@@ -1,5 +1,5 @@
 -- The arguments of a call: the parameters are declared with them one after another, as the store of the call has them.
-use Rattle.std.proofs.Common.{◌≡◌, ℕ, ℤ, zero, suc, ◌+◌, ◌<◌, ◌≤◌, List, [], ◌∷◌, ◌++◌, length, map, take, get_or, Option, Some, None, refl, sym, ◌∙◌, ap, subst, arith, ◌⊎◌, inl, inr}
+use Rattle.std.proofs.Common.{◌≡◌, ℕ, ℤ, zero, suc, ◌+◌, ◌<◌, ◌≤◌, List, [], ◌∷◌, ◌++◌, length, map, take, get_or, Option, Some, None, refl, sym, ◌∙◌, ap, subst, arith}
 use Rattle.std.specs.Prelude.{slice_get, unwrap_or}
 use Rattle.std.proofs.lemmas.List.{length-set}
 use Rattle.std.proofs.lemmas.Option.{unwrap_or-slice_get}
@@ -14,7 +14,7 @@ use Rattle.c_meaning.specs.Types.{conv}
 use Rattle.c_meaning.specs.Stores.{Store, Objects, read_var}
 use Rattle.c_meaning.specs.Expressions.{Meaning, values, value, meaning, all_values, with_first}
 use Rattle.c_meaning.specs.Profiles.{IsDefined}
-use Rattle.c_meaning.specs.Runs.{normally, Ended, Run, turn, go_on, both_runs, with_value}
+use Rattle.c_meaning.specs.Runs.{normally, Ended, Run, turn, both_runs, with_value}
 use Rattle.c_meaning.specs.Statements.{Act, of_var, object_type, storing, in_order, kind_act}
 use Rattle.c_meaning.proofs.TreeEquations.{stmt_declare}
 use Rattle.c_calls.specs.Meanings.{converted_to}
@@ -22,7 +22,7 @@ use Rattle.c_calls.specs.Inlined.{declaring}
 use Rattle.c_calls.proofs.Stores.{Below, below_same, below_back, below_then, put, put_same, put_other, put_below}
 use Rattle.c_calls.proofs.Imitates.{ended, go_end}
 use Rattle.c_calls.proofs.Expands.{acts, go_of, Reaches, reach_both, UsesLeft, left_turn}
-use Rattle.c_calls.proofs.Values.{val_gives, First, firsts}
+use Rattle.c_calls.proofs.Values.{val_gives, firsts}
 use Rattle.c_calls.proofs.Blocks.{EachDepends}
 use Rattle.c_calls.proofs.Own.{value_left}
 
@@ -139,10 +139,10 @@ slice_left [] ys i lt = absurd (omega arith)
 slice_left (x ∷ xs) ys zero lt = refl
 slice_left (x ∷ xs) ys (suc i) lt = slice_left xs ys i (omega arith)
 
-ty_head : (x y : Ty) (xs ys : List Ty) → x ∷ xs ≡ y ∷ ys → x ≡ y
+pub ty_head : (x y : Ty) (xs ys : List Ty) → x ∷ xs ≡ y ∷ ys → x ≡ y
 ty_head x y xs ys e = cc
 
-ty_tail : (x y : Ty) (xs ys : List Ty) → x ∷ xs ≡ y ∷ ys → xs ≡ ys
+pub ty_tail : (x y : Ty) (xs ys : List Ty) → x ∷ xs ≡ y ∷ ys → xs ≡ ys
 ty_tail x y xs ys e = cc
 
 pub params_fit : (qs : List Param) (vars : List Ty) → take (length qs) vars ≡ map (λ (q : Param). q.ty) qs → length qs ≤ length vars

@@ -1,5 +1,5 @@
 -- The block of a call against the call: both ways; and a call among the expressions that hold it.
-use Rattle.std.proofs.Common.{◌≡◌, ℕ, ℤ, zero, suc, ◌+◌, ◌<◌, ◌≤◌, List, [], ◌∷◌, ◌++◌, length, map, Option, Some, None, refl, sym, ◌∙◌, ap, subst, arith}
+use Rattle.std.proofs.Common.{◌≡◌, ℕ, ℤ, ◌+◌, ◌<◌, ◌≤◌, List, [], ◌∷◌, ◌++◌, length, map, Some, refl, sym, ◌∙◌, ap, subst, arith}
 use Rattle.std.proofs.lemmas.List.{map-append}
 use Rattle.std.proofs.lemmas.Grind.{flat_map-append}
 use Rattle.el_base.specs.declared.span.Span.{Span}
@@ -7,17 +7,17 @@ use Rattle.el_base.specs.declared.ty.Ty.{Ty}
 use Rattle.c_ast.specs.declared.typed.TypedExpr.{TypedExpr}
 use Rattle.c_ast.specs.declared.typed.TypedStmt.{TypedStmt}
 use Rattle.c_meaning.specs.Stores.{Store, Objects, read_var}
-use Rattle.c_meaning.specs.Expressions.{Val, undefined_value, value, Vals, undefined_values, values, Meaning, after_turns, later, all_values, meaning}
+use Rattle.c_meaning.specs.Expressions.{value, Vals, undefined_values, values, Meaning, after_turns, later, all_values, meaning}
 use Rattle.c_meaning.specs.Profiles.{IsDefined}
 use Rattle.c_meaning.specs.Runs.{How, normally, by_break, by_continue, by_return, undefined, out_of_turns, Ended, Run, both_runs}
 use Rattle.c_meaning.specs.Statements.{Act, act, in_order}
 use Rattle.c_calls.specs.Meanings.{Called, called}
-use Rattle.c_calls.specs.Inlined.{Written, Writing}
+use Rattle.c_calls.specs.Inlined.{Writing}
 use Rattle.c_calls.specs.Lawful.{Signature}
-use Rattle.c_calls.proofs.Stores.{Below, below_same, below_back, below_then, below_less}
+use Rattle.c_calls.proofs.Stores.{Below, below_then, below_less}
 use Rattle.c_calls.proofs.Imitates.{Rel, ended, go_end}
-use Rattle.c_calls.proofs.Expands.{acts, acts_append, go_of, Reaches, reach_both, Means, Gives, Done, Gave, Undone, declares_of, Expands, Near}
-use Rattle.c_calls.proofs.Values.{val_means, val_gives, vals_means, vals_gives, value_one, after_is, Later, later_is}
+use Rattle.c_calls.proofs.Expands.{acts, acts_append, go_of, Reaches, reach_both, Means, Gives, Done, Undone, declares_of, Expands, Near}
+use Rattle.c_calls.proofs.Values.{val_means, val_gives, vals_means, vals_gives, after_is, later_is}
 
 -- ---- one statement alone
 

@@ -1,12 +1,12 @@
 -- Runs with calls against runs without, both ways at once, put together as runs are.
-use Rattle.std.proofs.Common.{◌≡◌, ℕ, ℤ, zero, suc, ◌+◌, ◌≤◌, List, [], ◌∷◌, Option, Some, None, refl, sym, ◌∙◌, ap, subst, arith}
-use Rattle.std.specs.Prelude.{Bool, true, false, IsTrue}
+use Rattle.std.proofs.Common.{◌≡◌, ℕ, ℤ, ◌+◌, Option, sym, ◌∙◌, subst}
+use Rattle.std.specs.Prelude.{Bool, true, IsTrue}
 use Rattle.c_meaning.specs.Stores.{Store}
 use Rattle.c_meaning.specs.Expressions.{Meaning}
 use Rattle.c_meaning.specs.Profiles.{IsDefined}
-use Rattle.c_meaning.specs.Runs.{How, normally, by_break, by_continue, by_return, Ended, Run, ends, turn, both_runs, with_value, run_of, looped, loop}
+use Rattle.c_meaning.specs.Runs.{normally, by_break, by_continue, by_return, Ended, Run, ends, turn, both_runs, run_of, looped, loop}
 use Rattle.c_meaning.specs.Statements.{nothing}
-use Rattle.c_calls.proofs.Imitates.{Rel, After, ended, Imitates, Sims, map_sims, from_sims, ends_sims, turn_sims, turn_right, turn_left, both_sims, side_sims, same_value_sims, loop_sims, do_sims}
+use Rattle.c_calls.proofs.Imitates.{Rel, Imitates, Sims, map_sims, from_sims, ends_sims, turn_sims, turn_right, turn_left, both_sims, side_sims, loop_sims, do_sims}
 use Rattle.c_calls.proofs.Expands.{flip, Both}
 
 pub both_map : (Ra Rb S1 S2 M1 M2 : Rel) (ret in1 in2 : Bool) (a : ℕ → Run) (b : Run) → ((s t : Store) → Rb s t → Ra s t) → ((s t : Store) → S1 s t → S2 s t) → ((s t : Store) → M1 s t → M2 s t) → (IsTrue in1 → IsTrue in2) → Both Ra S1 M1 ret in1 a b → Both Rb S2 M2 ret in2 a b

@@ -2,16 +2,16 @@
 -- With calls it gives a number in so many turns, for each bound on the turns of calls; what is left gives a number in whatever turns.
 use Rattle.std.specs.List.{flat_map}
 use Rattle.std.proofs.Common.{◌≡◌, ℕ, zero, suc, ◌+◌, ◌≤◌, List, [], ◌∷◌, ◌++◌, map, refl, sym, ◌∙◌, ap, subst, arith}
-use Rattle.std.specs.Prelude.{Bool, true, false}
+use Rattle.std.specs.Prelude.{Bool}
 use Rattle.std.proofs.lemmas.List.{map-append}
 use Rattle.std.proofs.lemmas.Grind.{flat_map-append}
 use Rattle.c_ast.specs.declared.typed.TypedStmt.{TypedStmt}
 use Rattle.c_meaning.specs.Stores.{Store, Objects}
 use Rattle.c_meaning.specs.Profiles.{IsDefined}
-use Rattle.c_meaning.specs.Runs.{How, normally, by_break, by_continue, by_return, undefined, out_of_turns, Ended, Run, ends, turn, go_on, both_runs, sequence}
+use Rattle.c_meaning.specs.Runs.{How, normally, by_break, by_continue, by_return, undefined, out_of_turns, Ended, Run, turn, go_on, both_runs}
 use Rattle.c_meaning.specs.Statements.{Act, act, in_order}
 use Rattle.c_calls.proofs.Stores.{Below, below_same, below_back, below_then, below_less}
-use Rattle.c_calls.proofs.Imitates.{Rel, After, ended, Imitates, Sims, go_end}
+use Rattle.c_calls.proofs.Imitates.{Rel, ended, Imitates, Sims, go_end}
 
 abbrev pub acts : Objects → List TypedStmt → List Act
 acts K ss = map (act K) ss

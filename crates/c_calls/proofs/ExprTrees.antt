@@ -1,6 +1,6 @@
 -- Each expression with calls expands to the blocks of its calls and what is left of it.
-use Rattle.std.proofs.Common.{◌≡◌, ℕ, ℤ, zero, suc, ◌+◌, ◌<◌, ◌≤◌, List, [], ◌∷◌, ◌++◌, length, map, Option, Some, None, refl, sym, ◌∙◌, ap, subst, arith, append-nil, append_assoc}
-use Rattle.std.specs.Prelude.{Bool, true, false, slice_get, Contains, pos}
+use Rattle.std.proofs.Common.{◌≡◌, ℕ, ℤ, zero, suc, ◌+◌, ◌<◌, ◌≤◌, List, [], ◌∷◌, ◌++◌, length, map, Option, Some, refl, sym, ◌∙◌, ap, subst, arith, append-nil, append_assoc}
+use Rattle.std.specs.Prelude.{Bool, true, false, slice_get, pos}
 use Rattle.std.proofs.lemmas.Bool.{false≢true}
 use Rattle.std.proofs.lemmas.List.{length-append}
 use mathlib.Core.Former.{Count}
@@ -9,11 +9,8 @@ use Rattle.el_base.specs.declared.ty.Ty.{Ty}
 use Rattle.c_ast.specs.declared.tree.Binary.{Binary}
 use Rattle.c_ast.specs.declared.tree.Binary.TheVariants as op
 use Rattle.c_ast.specs.declared.typed.ArrayOf.{ArrayOf}
-use Rattle.c_ast.specs.declared.typed.TypedExpr.{TypedExpr}
-use Rattle.c_ast.specs.declared.typed.TypedExprKind.{TypedExprKind}
 use Rattle.c_ast.specs.declared.typed.TypedExprKind.TheVariants as expr
 use Rattle.c_ast.specs.declared.typed.TypedStmt.{TypedStmt}
-use Rattle.c_ast.specs.declared.program.ProgExpr.{ProgExpr}
 use Rattle.c_ast.specs.declared.program.ProgExprKind.{ProgExprKind, Row_of-ProgExpr, end_of-ProgExpr, more_of-ProgExpr}
 use Rattle.c_ast.specs.declared.program.ProgExprKind as tree
 use Rattle.c_ast.specs.Casts.{of_type}
@@ -26,13 +23,13 @@ use Rattle.c_meaning.specs.Expressions.{Val, undefined_value, value, Vals, undef
 use Rattle.c_meaning.specs.Lawful.{both_or_either}
 use Rattle.c_meaning.proofs.TreeEquations.{expr_element, expr_unary, expr_cast, expr_binary, expr_choose}
 use Rattle.c_calls.specs.Meanings.{Called, called, called_by, prog_kind_meaning, prog_row_meanings}
-use Rattle.c_calls.specs.Inlined.{Out, Outs, Written, Writing, written_by, inline_expr, inline_row}
+use Rattle.c_calls.specs.Inlined.{Writing, written_by, inline_expr, inline_row}
 use Rattle.c_calls.specs.Lawful.{Signature, LawfulCallKind, LawfulCallRow, ReadsOf, RowReadsOf, row_types, may_right, may_where, IsCall}
-use Rattle.c_calls.proofs.Stores.{Below, below_same, below_less, Held, Agree, Lists, agree_below}
+use Rattle.c_calls.proofs.Stores.{Below, below_less, Held, Agree, Lists, agree_below}
 use Rattle.c_calls.proofs.Imitates.{Rel}
-use Rattle.c_calls.proofs.Expands.{Means, Gives, Two, both_give, Gave, Done, Undone, Expands, Near, whole_expands, pair_expands, map_expands, acts}
+use Rattle.c_calls.proofs.Expands.{Means, Gives, Two, both_give, Expands, Near, whole_expands, pair_expands, map_expands, acts}
 use Rattle.c_calls.proofs.Values.{val_means, val_gives, vals_means, vals_gives, one_makes, two_make, choice_makes, row_makes, element_makes, element_of_arrays}
-use Rattle.c_calls.proofs.Blocks.{Seg, Writes, IsCallBlock, EachDepends, each_less, call_expands}
+use Rattle.c_calls.proofs.Blocks.{Seg, Writes, EachDepends, each_less, call_expands}
 
 -- ---- operators
 
@@ -136,7 +133,7 @@ seg_first vars f a c s = record { pre = s.pre; post = c ++ s.post; is = s.is ∙
 pub seg_rest : (vars : List Ty) (f : ℕ) (a c : List Ty) → Seg vars f (a ++ c) → Seg vars (f + length a) c
 seg_rest vars f a c s = record { pre = s.pre ++ a; post = s.post; is = s.is ∙ ap (λ z. s.pre ++ z) (append_assoc a c s.post) ∙ sym (append_assoc s.pre a (c ++ s.post)); at = let e = length-append s.pre a in let h = s.at in omega arith }
 
-is_element_none : {A : Type 0} (a : ℕ) (x : ArrayOf) → slice_get {X = ArrayOf} [] a ≡ Some x → A
+pub is_element_none : {A : Type 0} (a : ℕ) (x : ArrayOf) → slice_get {X = ArrayOf} [] a ≡ Some x → A
 is_element_none zero x e = absurd (cc)
 is_element_none (suc a) x e = absurd (cc)
 

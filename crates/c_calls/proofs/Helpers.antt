@@ -91,7 +91,7 @@ numbers_below a (suc m) w c = by_cases (λ d. numbers_below (suc a) m w d) (memb
     by_cases f (inl e) = omega arith
     by_cases f (inr d) = let h = f d in omega arith
 
-numbers_all : (a m j : ℕ) → j < m → Contains (numbers_from a m) (a + j)
+pub numbers_all : (a m j : ℕ) → j < m → Contains (numbers_from a m) (a + j)
 numbers_all a zero j lt = absurd (omega arith)
 numbers_all a (suc m) zero lt = let e : a ≡ a + 0 = omega arith in subst (Contains (a ∷ numbers_from (suc a) m)) e (here a (numbers_from (suc a) m))
 numbers_all a (suc m) (suc j) lt = let e : suc a + j ≡ a + suc j = omega arith in subst (Contains (a ∷ numbers_from (suc a) m)) e (there a (numbers_from (suc a) m) (suc a + j) (numbers_all (suc a) m j (omega arith)))

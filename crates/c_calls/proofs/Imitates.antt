@@ -6,7 +6,7 @@ use Rattle.c_meaning.specs.Operators.{is_zero}
 use Rattle.c_meaning.specs.Stores.{Store}
 use Rattle.c_meaning.specs.Expressions.{Val, undefined_value, value, Meaning}
 use Rattle.c_meaning.specs.Profiles.{IsDefined}
-use Rattle.c_meaning.specs.Runs.{How, normally, by_break, by_continue, by_return, undefined, out_of_turns, Ended, Run, ends, taking, turn, go_on, both_runs, with_val, with_value, run_of, branch, after_body, looped, rounds, loop}
+use Rattle.c_meaning.specs.Runs.{How, normally, by_break, by_continue, by_return, undefined, out_of_turns, Ended, Run, ends, taking, turn, go_on, both_runs, with_val, with_value, run_of, after_body, looped, rounds, loop}
 use Rattle.c_meaning.specs.Statements.{nothing}
 
 abbrev pub Rel : Type 1

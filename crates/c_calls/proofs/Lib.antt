@@ -13,4 +13,14 @@ mod Arguments
 mod Helpers
 mod Theorem
 mod WorkedCalls
+mod NodeSums
+mod LawfulBlocks
+mod LawfulTrees
+mod LawfulHelpers
+mod CastExprs
+mod CastStmts
+mod CastLawful
+mod CastPrograms
+mod CastOnce
+mod CastExists
 mod WorkedLawful

@@ -1,6 +1,6 @@
 -- What statements do with their own expressions: they evaluate them, and then write to a place, return or choose.
-use Rattle.std.proofs.Common.{◌≡◌, ℕ, ℤ, zero, suc, ◌+◌, ◌≤◌, List, [], ◌∷◌, Option, Some, None, refl, sym, ◌∙◌, ap, subst, arith, ◌⊎◌, inl, inr}
-use Rattle.std.specs.Prelude.{Bool, true, false, option_map, option_and_then}
+use Rattle.std.proofs.Common.{◌≡◌, ℕ, ℤ, ◌+◌, List, Option, Some, None, refl, sym, ◌∙◌, ap, subst, arith}
+use Rattle.std.specs.Prelude.{Bool, option_map, option_and_then}
 use Rattle.el_base.specs.declared.span.Span.{Span}
 use Rattle.el_base.specs.declared.ty.Ty.{Ty}
 use Rattle.c_ast.specs.declared.tree.Binary.{Binary}
@@ -8,13 +8,13 @@ use Rattle.c_ast.specs.declared.typed.Object.{Object}
 use Rattle.c_ast.specs.ResultTypes.{joint_type}
 use Rattle.c_meaning.specs.Types.{conv}
 use Rattle.c_meaning.specs.Stores.{Store, Objects}
-use Rattle.c_meaning.specs.Expressions.{Val, undefined_value, value, Vals, undefined_values, values, Meaning, after_turns, on_one, later, all_values}
+use Rattle.c_meaning.specs.Expressions.{Val, undefined_value, value, Vals, undefined_values, values, Meaning, after_turns, all_values}
 use Rattle.c_meaning.specs.Profiles.{IsDefined}
-use Rattle.c_meaning.specs.Runs.{How, normally, undefined, Ended, Run, ends, taking, turn, with_val, with_value}
-use Rattle.c_meaning.specs.Statements.{Place, read_place, write_place, object_type, object_place, MeantTarget, Placed, no_place, placed, placed_after, place_by, target_place, storing, stored, assigned_to, assigned, joined_in, joined_with, updated_at, updated, assignment}
-use Rattle.c_calls.proofs.Imitates.{Rel, After, ended, Imitates, Sims, Had, had, taken}
-use Rattle.c_calls.proofs.Expands.{Means, Gives, Two, both_give, flip, Both, Used, Uses, Left, UsesLeft}
-use Rattle.c_calls.proofs.Values.{val_means, val_gives, vals_means, vals_gives, value_one, value_two}
+use Rattle.c_meaning.specs.Runs.{normally, undefined, Ended, Run, ends, taking, with_val, with_value}
+use Rattle.c_meaning.specs.Statements.{Place, read_place, write_place, object_type, object_place, MeantTarget, Placed, placed_after, place_by, target_place, storing, stored, assigned_to, joined_in, joined_with, updated_at, assignment}
+use Rattle.c_calls.proofs.Imitates.{Rel, ended, Imitates, Had, had, taken}
+use Rattle.c_calls.proofs.Expands.{Two, both_give, flip, Both, Uses, UsesLeft}
+use Rattle.c_calls.proofs.Values.{val_means, val_gives, vals_means, vals_gives}
 
 -- ---- the value of one expression
 

@@ -1,7 +1,6 @@
 -- What statements declare directly, and what the tree without calls declares there: a declaration with calls is put into a block of its own.
-use Rattle.std.specs.List.{flat_map}
-use Rattle.std.proofs.Common.{◌≡◌, ℕ, zero, suc, ◌+◌, ◌<◌, List, [], ◌∷◌, ◌++◌, length, map, Option, Some, None, refl, sym, ◌∙◌, ap, subst, arith, ◌⊎◌, inl, inr}
-use Rattle.std.specs.Prelude.{Bool, Contains, slice_get}
+use Rattle.std.proofs.Common.{◌≡◌, ℕ, ◌+◌, ◌<◌, List, [], ◌∷◌, ◌++◌, length, Option, Some, None, refl, ◌∙◌, ap, subst, arith, ◌⊎◌, inl, inr}
+use Rattle.std.specs.Prelude.{Bool, Contains}
 use Rattle.std.proofs.lemmas.List.Elements.{Contains-append_left, Contains-append_right, Contains-append_cases}
 use Rattle.std.proofs.lemmas.Option.{slice_get_within}
 use mathlib.Core.Former.{Count}
@@ -21,7 +20,7 @@ use Rattle.c_meaning.specs.Statements.{Act, kind_act}
 use Rattle.c_meaning.proofs.TreeEquations.{stmt_block, stmt_declare, stmt_assign, stmt_stepping, stmt_if, stmt_while, stmt_do_while, stmt_for, stmt_break, stmt_continue, stmt_return, stmt_empty}
 use Rattle.c_calls.specs.Meanings.{Called, prog_kind_act, prog_row_acts}
 use Rattle.c_calls.specs.Inlined.{Writing, behind, inline_stmt, inline_stmts, inline_list, inline_option, inline_of, inline_all, inline_held, rest_of, target_to}
-use Rattle.c_calls.specs.Lawful.{Signature, LawfulCallStmt, LawfulCallStmts, LawfulCallDeclaration, IsScoped, AreScoped, ListScoped, AreOnce, declared_of, declared_row, all_declared, in_scope_after, in_scope_after_row, in_scope_after_list}
+use Rattle.c_calls.specs.Lawful.{Signature, LawfulCallStmt, LawfulCallStmts, LawfulCallDeclaration, IsScoped, AreScoped, AreOnce, declared_of, declared_row, all_declared, in_scope_after, in_scope_after_row, in_scope_after_list}
 use Rattle.c_calls.proofs.Lists.{no_member, here, there, member_cases}
 use Rattle.c_calls.proofs.Stores.{Lists}
 use Rattle.c_calls.proofs.Expands.{acts, declares_of}

@@ -1,11 +1,10 @@
 -- Each statement with calls runs as the statement that it becomes: both ways.
-use Rattle.std.specs.List.{flat_map}
-use Rattle.std.proofs.Common.{◌≡◌, ℕ, ℤ, zero, suc, ◌+◌, ◌<◌, ◌≤◌, List, [], ◌∷◌, ◌++◌, length, map, get_or, Option, Some, None, refl, sym, ◌∙◌, ap, subst, arith, append-nil, append_assoc, ◌⊎◌, inl, inr}
-use Rattle.std.specs.Prelude.{Bool, true, false, IsTrue, Contains, All, slice_get, unwrap_or, pos, option_map}
+use Rattle.std.proofs.Common.{◌≡◌, ℕ, ℤ, ◌+◌, ◌<◌, ◌≤◌, List, [], ◌∷◌, ◌++◌, length, map, Option, Some, None, refl, sym, ◌∙◌, ap, subst, arith, append-nil, append_assoc, ◌⊎◌, inl, inr}
+use Rattle.std.specs.Prelude.{Bool, true, false, IsTrue, Contains, All, unwrap_or, pos, option_map}
 use Rattle.std.proofs.lemmas.Bool.{false≢true}
 use Rattle.std.proofs.lemmas.List.{length-append, map-append}
 use Rattle.std.proofs.lemmas.Grind.{flat_map-append}
-use Rattle.std.proofs.lemmas.Option.{slice_get_within, unwrap_or-slice_get, get_or_from_slice_get}
+use Rattle.std.proofs.lemmas.Option.{unwrap_or-slice_get}
 use Rattle.std.proofs.lemmas.List.Elements.{Contains-append_left, Contains-append_right, Contains-append_cases, All-head, All-tail}
 use mathlib.Core.Former.{Count}
 use Rattle.el_base.specs.declared.span.Span.{Span}
@@ -28,24 +27,24 @@ use Rattle.c_ast.specs.ResultTypes.{joint_type}
 use Rattle.c_meaning.specs.Types.{conv}
 use Rattle.c_meaning.specs.Operators.{is_zero}
 use Rattle.c_meaning.specs.Stores.{Store, Objects, unset_vars, set_var, read_var, read_element, place}
-use Rattle.c_meaning.specs.Expressions.{Meaning, always, value, meaning}
+use Rattle.c_meaning.specs.Expressions.{Meaning, always, meaning}
 use Rattle.c_meaning.specs.Lawful.{IsObject}
 use Rattle.c_meaning.specs.Runs.{How, normally, by_break, by_continue, by_return, undefined, out_of_turns, Run, ends, turn, go_on, both_runs, with_value, run_of, looped, loop}
 use Rattle.c_meaning.specs.Statements.{Act, Place, of_var, of_element, object_type, object_place, element_place, read_place, write_place, storing, assignment, joined_in, step_operator, in_order, block, nothing, part, run_if_any, condition, act as typed_act, kind_act, meant_if_any, declared_run}
 use Rattle.c_meaning.proofs.TreeEquations.{stmt_block, stmt_declare, stmt_assign, stmt_stepping, stmt_if, stmt_while, stmt_do_while, stmt_for, stmt_break, stmt_continue, stmt_return, stmt_empty}
-use Rattle.c_calls.specs.Meanings.{Called, prog_meaning, prog_if_any, prog_kind_act, prog_act, prog_act_if_any, prog_row_acts}
-use Rattle.c_calls.specs.Inlined.{Writing, behind, moved, inline_stmt, inline_stmts, inline_list, inline_held, inline_option, inline_of, inline_all, rest_of, target_to}
-use Rattle.c_calls.specs.Lawful.{Signature, LawfulCallExpr, LawfulCallStmt, LawfulCallStmts, LawfulCallHeld, LawfulCallReturn, LawfulCallTarget, LawfulCallDeclaration, IfAnyExpr, ReadsAt, IsObjectOf, IsTargetOf, IsScoped, IsHeldScoped, AreScoped, ListScoped, AreOnce, declared_of, declared_row, declared_held, all_declared, in_scope_after, in_scope_after_row, in_scope_after_list}
+use Rattle.c_calls.specs.Meanings.{prog_meaning, prog_if_any, prog_kind_act, prog_act, prog_act_if_any, prog_row_acts}
+use Rattle.c_calls.specs.Inlined.{behind, moved, inline_stmt, inline_stmts, inline_list, inline_held, inline_option, inline_of, inline_all, rest_of, target_to}
+use Rattle.c_calls.specs.Lawful.{LawfulCallExpr, LawfulCallStmt, LawfulCallStmts, LawfulCallHeld, LawfulCallReturn, IfAnyExpr, ReadsAt, IsObjectOf, IsScoped, IsHeldScoped, AreScoped, ListScoped, AreOnce, declared_of, declared_row, declared_held, all_declared, in_scope_after, in_scope_after_row, in_scope_after_list}
 use Rattle.c_calls.proofs.Lists.{no_member, here, there, member_cases}
-use Rattle.c_calls.proofs.Stores.{Below, Held, held_same, put, Agree, Lists, agree_less, agree_put, agree_scope, agree_open, agree_enter, agree_element}
+use Rattle.c_calls.proofs.Stores.{held_same, put, Agree, Lists, agree_less, agree_put, agree_scope, agree_open, agree_enter, agree_element}
 use Rattle.c_calls.proofs.Imitates.{Rel}
-use Rattle.c_calls.proofs.Expands.{acts, acts_append, declares_of, Means, Gives, Two, both_give, Expands, Near, whole_expands, pair_expands, Both, Uses, UsesLeft, uses_turn, left_turn, own_both}
+use Rattle.c_calls.proofs.Expands.{acts, acts_append, declares_of, Two, both_give, Expands, whole_expands, pair_expands, Both, uses_turn, left_turn, own_both}
 use Rattle.c_calls.proofs.Values.{val_means, val_gives, vals_means, vals_gives}
 use Rattle.c_calls.proofs.Blocks.{Seg, one_alone}
-use Rattle.c_calls.proofs.ExprTrees.{World, objects_of, seg_first, seg_rest, expands, no_expands, cons_expands, near, Plain, plain, owns}
-use Rattle.c_calls.proofs.Own.{value_uses, value_left, outcome, Alike, neither, each, outcomes, New, plain_value, joined_value, written, new_of, Given, assigns, assign_uses, assign_left, target_of}
+use Rattle.c_calls.proofs.ExprTrees.{World, objects_of, seg_first, seg_rest, expands, no_expands, cons_expands, near, plain, owns}
+use Rattle.c_calls.proofs.Own.{value_uses, value_left, Alike, neither, each, outcomes, New, joined_value, written, new_of, Given, assigns, assign_uses, assign_left, target_of}
 use Rattle.c_calls.proofs.Boths.{both_map, both_from, both_respell, both_turns, both_turn, both_both, both_nothing, both_break, both_continue, both_return, both_side, both_loop, both_do}
-use Rattle.c_calls.proofs.Scopes.{once_left, once_right, once_apart, direct, direct_row, direct_list, made_by, made, made_row, made_list, direct_is, direct_row_is, made_is, made_row_is, made_list_is, direct_declared, direct_row_declared, direct_list_declared, lists_less, lists_append, declared_below, direct_lists, direct_row_lists, small_after, small_after_row, scope_grows, scope_grows_row, scope_grows_list}
+use Rattle.c_calls.proofs.Scopes.{once_left, once_right, once_apart, direct, direct_row, direct_list, made_by, made, made_row, made_list, direct_is, direct_row_is, made_is, made_row_is, direct_declared, direct_row_declared, direct_list_declared, lists_less, lists_append, declared_below, direct_lists, direct_row_lists, small_after, small_after_row, scope_grows, scope_grows_row}
 
 -- ---- scopes
 

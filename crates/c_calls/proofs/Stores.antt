@@ -1,10 +1,10 @@
 -- Stores of runs with calls, and of runs of the tree without calls, in which the variables of a helper are numbered from b on.
-use Rattle.std.proofs.Common.{◌≡◌, ℕ, zero, suc, ◌+◌, ◌<◌, ◌≤◌, List, [], ◌∷◌, ◌++◌, length, get_or, Option, Some, None, refl, sym, ◌∙◌, ap, subst, arith, ◌⊎◌, inl, inr}
+use Rattle.std.proofs.Common.{◌≡◌, ℕ, zero, suc, ◌+◌, ◌<◌, ◌≤◌, List, [], ◌∷◌, ◌++◌, length, get_or, Option, None, refl, sym, ◌∙◌, ap, subst, arith, ◌⊎◌, inl, inr}
 use Rattle.std.specs.Prelude.{Bool, true, false, ℤ, set, Contains}
 use Rattle.std.proofs.lemmas.Bool.{cases_eq, false≢true}
 use Rattle.std.proofs.lemmas.List.{length-set, get_or-set_same, get_or-set_other}
-use Rattle.std.proofs.lemmas.List.Elements.{Contains-append_left, Contains-append_right, Contains-append_cases}
-use Rattle.c_meaning.specs.Stores.{Store, Objects, set_var, unset_var, unset_vars, read_var, set_element}
+use Rattle.std.proofs.lemmas.List.Elements.{Contains-append_cases}
+use Rattle.c_meaning.specs.Stores.{Store, Objects, unset_var, unset_vars, read_var, set_element}
 use Rattle.c_calls.proofs.Lists.{no_member, here, there, member_cases}
 
 -- ---- the variables below n are the same, and the arrays, and the number of variables

@@ -1,15 +1,13 @@
 -- Values with calls and without, by the forms of expressions.
-use Rattle.std.proofs.Common.{◌≡◌, ℕ, ℤ, zero, suc, ◌+◌, ◌≤◌, List, [], ◌∷◌, ◌++◌, Option, Some, None, refl, sym, ◌∙◌, ap, subst, arith}
+use Rattle.std.proofs.Common.{◌≡◌, ℕ, ℤ, ◌+◌, List, ◌∷◌, Option, Some, None, refl, sym, ◌∙◌, ap, arith}
 use Rattle.std.specs.Prelude.{Bool, true, false}
 use Rattle.el_base.specs.declared.span.Span.{Span}
-use Rattle.c_ast.specs.declared.typed.ArrayOf.{ArrayOf}
-use Rattle.c_ast.specs.declared.typed.TypedStmt.{TypedStmt}
 use Rattle.c_meaning.specs.Operators.{is_zero}
-use Rattle.c_meaning.specs.Stores.{Store, Objects, place, read_element}
+use Rattle.c_meaning.specs.Stores.{Store, Objects, place}
 use Rattle.c_meaning.specs.Expressions.{Val, undefined_value, value, Vals, undefined_values, values, Meaning, after_turns, on_one, on_two, later, one_of, chosen, with_first, all_values, element, element_at}
 use Rattle.c_calls.proofs.Stores.{Below}
 use Rattle.c_calls.proofs.Imitates.{Rel}
-use Rattle.c_calls.proofs.Expands.{Means, Gives, Two, both_give, Part, Makes}
+use Rattle.c_calls.proofs.Expands.{Means, Gives, Two, both_give, Makes}
 
 abbrev pub val_means : (ℕ → Meaning) → Means ℤ
 val_means c n s x u = c n s ≡ value x u

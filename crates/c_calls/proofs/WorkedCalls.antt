@@ -5,7 +5,7 @@ use Rattle.c_ast.specs.declared.typed.TypedExprKind.TheBlock.{shape-the_row-Type
 use Rattle.c_ast.specs.declared.typed.TypedStmtKind.TheBlock.{shape-the_row-TypedStmt-0, hidden-the_row-TypedStmt-0, shape-the_row-TypedStmt-1, hidden-the_row-TypedStmt-1}
 use Rattle.c_ast.specs.declared.program.ProgExprKind.TheBlock.{shape-the_row-ProgExpr-0, hidden-the_row-ProgExpr-0, shape-the_row-ProgExpr-1, hidden-the_row-ProgExpr-1}
 use Rattle.c_ast.specs.declared.program.ProgStmtKind.TheBlock.{shape-the_row-ProgStmt-0, hidden-the_row-ProgStmt-0, shape-the_row-ProgStmt-1, hidden-the_row-ProgStmt-1}
-use Rattle.c_calls.specs.Worked.{EndsWithFifteen, HasTwoBlocks, LocalIsUnset, EndsWithZero, OutOfTurns}
+use Rattle.c_calls.specs.Worked.{EndsWithFifteen, HasTwoBlocks, HasItsNodes, LocalIsUnset, EndsWithZero, OutOfTurns}
 
 pub ends_with_fifteen : EndsWithFifteen
 unfolding shape-the_row-TypedExpr-0 hidden-the_row-TypedExpr-0 shape-the_row-TypedExpr-1 hidden-the_row-TypedExpr-1 shape-the_row-TypedStmt-0 hidden-the_row-TypedStmt-0 shape-the_row-TypedStmt-1 hidden-the_row-TypedStmt-1 shape-the_row-ProgExpr-0 hidden-the_row-ProgExpr-0 shape-the_row-ProgExpr-1 hidden-the_row-ProgExpr-1 shape-the_row-ProgStmt-0 hidden-the_row-ProgStmt-0 shape-the_row-ProgStmt-1 hidden-the_row-ProgStmt-1 hidden
@@ -14,6 +14,10 @@ ends_with_fifteen = (6, record { bound = 6; all_turns = refl; arrays = refl; res
 pub has_two_blocks : HasTwoBlocks
 unfolding shape-the_row-TypedExpr-0 hidden-the_row-TypedExpr-0 shape-the_row-TypedExpr-1 hidden-the_row-TypedExpr-1 shape-the_row-TypedStmt-0 hidden-the_row-TypedStmt-0 shape-the_row-TypedStmt-1 hidden-the_row-TypedStmt-1 shape-the_row-ProgExpr-0 hidden-the_row-ProgExpr-0 shape-the_row-ProgExpr-1 hidden-the_row-ProgExpr-1 shape-the_row-ProgStmt-0 hidden-the_row-ProgStmt-0 shape-the_row-ProgStmt-1 hidden-the_row-ProgStmt-1 hidden
 has_two_blocks = refl
+
+pub has_its_nodes : HasItsNodes
+unfolding shape-the_row-ProgExpr-0 hidden-the_row-ProgExpr-0 shape-the_row-ProgExpr-1 hidden-the_row-ProgExpr-1 shape-the_row-ProgStmt-0 hidden-the_row-ProgStmt-0 shape-the_row-ProgStmt-1 hidden-the_row-ProgStmt-1 hidden
+has_its_nodes = refl
 
 pub local_is_unset : LocalIsUnset
 unfolding shape-the_row-TypedExpr-0 hidden-the_row-TypedExpr-0 shape-the_row-TypedExpr-1 hidden-the_row-TypedExpr-1 shape-the_row-TypedStmt-0 hidden-the_row-TypedStmt-0 shape-the_row-TypedStmt-1 hidden-the_row-TypedStmt-1 shape-the_row-ProgExpr-0 hidden-the_row-ProgExpr-0 shape-the_row-ProgExpr-1 hidden-the_row-ProgExpr-1 shape-the_row-ProgStmt-0 hidden-the_row-ProgStmt-0 shape-the_row-ProgStmt-1 hidden-the_row-ProgStmt-1 hidden

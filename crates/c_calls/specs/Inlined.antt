@@ -1,11 +1,10 @@
 -- The kernel without calls that a program becomes. A statement with calls in its own expressions becomes a block: one block for each call, inner calls before outer ones and else from left to right, and then the statement, with a fresh variable in the place of each call.
 -- A call's block declares the parameters with the arguments as their values, holds the helper's statements, and last assigns the helper's value to the fresh variable, which is not declared.
 -- Each call has variables of its own, numbered after the kernel's: those of its helper in their order, then the fresh one, then those of the calls in its block.
-use Rattle.std.specs.Prelude.{ℕ, ◌+◌, List, [], ◌∷◌, ◌++◌, map, length, slice_get, Option, Some, None, ◌≡◌}
+use Rattle.std.specs.Prelude.{ℕ, ◌+◌, List, [], ◌∷◌, ◌++◌, length, slice_get, Option, Some, None, ◌≡◌}
 use mathlib.Core.Former.{Count}
 use Rattle.el_base.specs.declared.ty.Ty.{Ty}
 use Rattle.el_base.specs.declared.span.Span.{Span}
-use Rattle.c_ast.specs.declared.tree.Binary.{Binary}
 use Rattle.c_ast.specs.declared.typed.Object.{Object}
 use Rattle.c_ast.specs.declared.typed.Object.TheVariants as object
 use Rattle.c_ast.specs.declared.typed.Typed.{Typed}

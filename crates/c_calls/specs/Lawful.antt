@@ -5,7 +5,6 @@ use mathlib.Core.Former.{Count}
 use Rattle.el_base.specs.declared.ty.Ty.{Ty}
 use Rattle.el_base.specs.Numbers.{IsInRange}
 use Rattle.c_ast.specs.declared.tree.Binary.{Binary as BinaryOp}
-use Rattle.c_ast.specs.declared.tree.Param.{Param}
 use Rattle.c_ast.specs.declared.typed.Object.{Object}
 use Rattle.c_ast.specs.declared.typed.Object.TheVariants as object
 use Rattle.c_ast.specs.ResultTypes.{promoted, unary_type}
@@ -21,7 +20,6 @@ use Rattle.c_ast.specs.declared.program.ProgStmt.{ProgStmt}
 use Rattle.c_ast.specs.declared.program.ProgStmtKind.{ProgStmtKind, Row_of-ProgStmt, end_of-ProgStmt, more_of-ProgStmt, Held-ProgStmtKind-If-2}
 use Rattle.c_ast.specs.declared.program.ProgStmtKind as act
 use Rattle.c_ast.specs.declared.program.TypedHelper.{TypedHelper}
-use Rattle.c_ast.specs.declared.program.ProgTree.{ProgTree}
 use Rattle.c_ast.specs.declared.program.TypedProgram.{TypedProgram}
 use Rattle.c_calls.specs.Meanings.{helper_objects, prog_objects}
 

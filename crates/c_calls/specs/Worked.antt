@@ -21,6 +21,7 @@ use Rattle.c_meaning.specs.Runs.{undefined, out_of_turns}
 use Rattle.c_meaning.specs.Worked.{place, var_at, two_at, to_var, s_at}
 use Rattle.c_calls.specs.Meanings.{Calls, program_run}
 use Rattle.c_calls.specs.Inlined.{Inlined}
+use Rattle.c_calls.specs.Counts.{inlined_nodes}
 use Rattle.c_calls.specs.Lawful.{LawfulProgram, LawfulCallExpr, InScope, signature_of}
 
 -- ---- trees
@@ -80,6 +81,10 @@ twice_tree = record {
 
 abbrev pub HasTwoBlocks : Type 0
 HasTwoBlocks = Inlined twice_twice twice_tree
+
+-- 3 of the header, 1 of the block around, twice 10 of a call's block, and 4 of the return
+abbrev pub HasItsNodes : Type 0
+HasItsNodes = inlined_nodes twice_twice ≡ 28
 
 -- ---- each call has a store of its own
 

@@ -1,8 +1,8 @@
 //! Calls of the program on files in memory.
 use anyhow::{Result, bail, ensure};
-use el_io::{MemFiles, MemSink, Open};
+use el_io::{Gate, MemFiles, MemSink};
 use elastic_top::top;
-use std::alloc::Global;
+use std::alloc::{AllocError, Global};
 use std::thread::Threads;
 
 /// How many bytes an output takes.
@@ -33,20 +33,16 @@ pub const SOUND: Failing = Failing {
     told: None,
 };
 
-/// The answer of the call of these words, with spaces between them.
-pub fn answer<R: Threads + Sync>(
+/// The answer of the call of these words, with spaces between them, whose workers ask a gate.
+pub fn answer<R: Threads + Sync, G: Gate + Sync>(
     rt: &R,
     alloc: Global,
     words: &str,
     mut files: MemFiles,
     failing: &Failing,
+    gate: &G,
 ) -> Result<Answered> {
-    let mut given = Vec::new(alloc);
-    for word in words.split(' ') {
-        if !word.is_empty() {
-            given.push(String::from_str(alloc, word)?)?;
-        }
-    }
+    let given = parted(alloc, words)?;
     if let Some(call) = failing.read {
         if files.fail_at(call).is_err() {
             bail!("want of memory");
@@ -54,12 +50,23 @@ pub fn answer<R: Threads + Sync>(
     }
     let mut out = sink(alloc, failing.piece, failing.put)?;
     let mut err = sink(alloc, ROOM, failing.told)?;
-    let status = top(rt, alloc, &given, &mut files, &mut out, &mut err, &Open);
+    let status = top(rt, alloc, &given, &mut files, &mut out, &mut err, gate);
     Ok(Answered {
         code: status.code,
         out,
         err,
     })
+}
+
+/// Words with spaces between them.
+fn parted(alloc: Global, words: &str) -> Result<Vec<String>, AllocError> {
+    let mut given = Vec::new(alloc);
+    for word in words.split(' ') {
+        if !word.is_empty() {
+            given.push(String::from_str(alloc, word)?)?;
+        }
+    }
+    Ok(given)
 }
 
 /// Adds a file.

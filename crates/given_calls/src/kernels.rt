@@ -2,26 +2,21 @@
 use crate::calls::{Answered, SOUND, add_file, answer};
 use anyhow::{Context, Result};
 use el_base::{MAX_INPUTS_BYTES, MAX_KERNEL_BYTES};
-use el_io::MemFiles;
-use row_fields::text_within;
+use el_io::{MemFiles, Open};
+use row_fields::{Output, text_within};
 use std::alloc::Global;
-use std::io::Write;
 use std::thread::Threads;
 
 /// Runs a kernel by `go` and writes whether all is as it has to be: the results are those by C, the text is the same with
 /// `--wrap`, and the circuit is read and printed as it was.
-pub fn put_agreement<R, W>(
+pub fn put_agreement<R: Threads + Sync>(
     rt: &R,
     alloc: Global,
     kernel: &str,
     inputs: &str,
     results: &str,
-    out: &mut W,
-) -> Result<()>
-where
-    R: Threads + Sync,
-    W: Write,
-{
+    out: &mut Output,
+) -> Result<()> {
     let kernel = text_within(alloc, kernel, MAX_KERNEL_BYTES)?;
     let inputs = text_within(alloc, inputs, MAX_INPUTS_BYTES)?;
     let results = text_within(alloc, results, MAX_INPUTS_BYTES)?;
@@ -33,31 +28,29 @@ where
     let is_right = plain.code == 0 && !circuit.is_empty();
     let is_alike = wrap.code == plain.code && wrap.out.bytes() == plain.out.bytes();
     let is_back = again.code == 0 && again.out.bytes() == circuit;
-    put_word(is_right, "results", out)?;
-    put_word(is_alike, " wrap", out)?;
-    put_word(is_back, " circuit", out)
-}
-
-/// Writes a word, or that it is otherwise.
-fn put_word<W: Write>(holds: bool, word: &str, out: &mut W) -> Result<()> {
-    let otherwise = if holds { "" } else { " differs" };
-    write!(out, "{word}{otherwise}")?;
+    put_word(is_right, "results", out);
+    put_word(is_alike, " wrap", out);
+    put_word(is_back, " circuit", out);
     Ok(())
 }
 
+/// Writes a word, or that it is otherwise.
+fn put_word(holds: bool, word: &str, out: &mut Output) {
+    out.word(word);
+    if !holds {
+        out.word(" differs");
+    }
+}
+
 /// Writes how many lines of what a call on a kernel writes begin with these words.
-pub fn put_count<R, W>(
+pub fn put_count<R: Threads + Sync>(
     rt: &R,
     alloc: Global,
     words: &str,
     front: &str,
     kernel: &str,
-    out: &mut W,
-) -> Result<()>
-where
-    R: Threads + Sync,
-    W: Write,
-{
+    out: &mut Output,
+) -> Result<()> {
     let kernel = text_within(alloc, kernel, MAX_KERNEL_BYTES)?;
     let compiled = sound(rt, alloc, words, &[("k", kernel.as_slice())])?;
     let text = std::str::from_utf8(compiled.out.bytes())
@@ -69,7 +62,12 @@ where
             count = count.saturating_add(1);
         }
     }
-    write!(out, "{}: {count} lines of '{front}'", compiled.code)?;
+    out.number(compiled.code);
+    out.word(": ");
+    out.number(count);
+    out.word(" lines of '");
+    out.word(front);
+    out.word("'");
     Ok(())
 }
 
@@ -84,7 +82,7 @@ fn sound<R: Threads + Sync>(
     for (name, content) in files {
         add_file(&mut held, name, content)?;
     }
-    answer(rt, alloc, words, held, &SOUND)
+    answer(rt, alloc, words, held, &SOUND, &Open)
 }
 
 /// The text of a circuit: what stands before the line `%%` and these results. It is empty where a text does not end so.

@@ -2,25 +2,30 @@
 #![tactic(auto)]
 
 mod calls;
+mod gates;
 mod kernels;
 mod rows;
 mod tries;
+mod workers;
 
 use crate::rows::FILES;
 use anyhow::Result;
-use std::io::{BufWriter, Write};
+use row_fields::Output;
+use std::io::Write;
 use std::{fs, io};
 
 fn main(rt: HostRuntime) -> Result<()> {
-    let mut out = BufWriter::new(rt.alloc(), io::writer(&rt))?;
+    let mut out = Output::new(rt.alloc());
     for (name, rows) in FILES {
         let text = fs::read_to_string(&rt, name)?;
-        writeln!(out, "== {name}")?;
+        out.word("== ");
+        out.word(name);
+        out.word("\n");
         for line in text.as_str().lines().skip(1) {
             rows.put_answer(&rt, rt.alloc(), line, &mut out)?;
-            writeln!(out)?;
+            out.word("\n");
         }
     }
-    out.flush()?;
+    io::writer(&rt).write_all(out.finish()?.as_slice())?;
     Ok(())
 }

@@ -1,9 +1,10 @@
 //! The files of rows and what their lines are.
 use crate::kernels::{put_agreement, put_count};
 use crate::tries::{Told, put_failing, put_long, put_try};
+use crate::workers::{put_meeting, put_replayed, put_stopped};
 use anyhow::{Result, bail};
+use row_fields::Output;
 use std::alloc::Global;
-use std::io::Write;
 use std::thread::Threads;
 
 /// What the lines of a file are, after the first, which says so in words.
@@ -19,10 +20,16 @@ pub enum Rows {
     Lines,
     /// The words of a call, a long file, and other files.
     Limits,
+    /// The worker that a gate stops, and at which question, the words of a call, and files.
+    Gates,
+    /// The words of a call by two workers that meet, and files.
+    Meetings,
+    /// The words of a run that writes its schedule, and files.
+    Replays,
 }
 
 /// The files, in the order in which they are answered.
-pub const FILES: [(&str, Rows); 10] = [
+pub const FILES: [(&str, Rows); 13] = [
     ("calls.tsv", Rows::Calls(Told::Whole)),
     ("schedules.tsv", Rows::Calls(Told::Whole)),
     ("runs.tsv", Rows::Calls(Told::Whole)),
@@ -33,15 +40,20 @@ pub const FILES: [(&str, Rows); 10] = [
     ("kernels.tsv", Rows::Kernels),
     ("lines.tsv", Rows::Lines),
     ("limits.tsv", Rows::Limits),
+    ("gates.tsv", Rows::Gates),
+    ("meetings.tsv", Rows::Meetings),
+    ("replays.tsv", Rows::Replays),
 ];
 
 impl Rows {
     /// Writes the answer to a line.
-    pub fn put_answer<R, W>(self, rt: &R, alloc: Global, line: &str, out: &mut W) -> Result<()>
-    where
-        R: Threads + Sync,
-        W: Write,
-    {
+    pub fn put_answer<R: Threads + Sync>(
+        self,
+        rt: &R,
+        alloc: Global,
+        line: &str,
+        out: &mut Output,
+    ) -> Result<()> {
         let fields: Vec<&str> = line.split('\t').collect(alloc)?;
         match (self, fields.as_slice()) {
             (Rows::Calls(told), [words, files @ ..]) => {
@@ -59,6 +71,11 @@ impl Rows {
             (Rows::Limits, [words, long, files @ ..]) => {
                 put_long(rt, alloc, words, long, files, out)
             }
+            (Rows::Gates, [worker, question, words, files @ ..]) => {
+                put_stopped(rt, alloc, &[*worker, *question], words, files, out)
+            }
+            (Rows::Meetings, [words, files @ ..]) => put_meeting(rt, alloc, words, files, out),
+            (Rows::Replays, [words, files @ ..]) => put_replayed(rt, alloc, words, files, out),
             (rows, _) => bail!("a line of {rows:?} of other fields"),
         }
     }

@@ -1,14 +1,13 @@
 //! Calls whose status and outputs are told.
-use crate::calls::{Failing, SOUND, add_file, answer};
+use crate::calls::{Answered, Failing, SOUND, add_file, answer};
 use anyhow::{Context, Result};
 use el_base::MAX_NETLIST_BYTES;
-use el_io::MemFiles;
-use row_fields::{escaped, text_within};
+use el_io::{MemFiles, Open};
+use row_fields::{Output, escaped, text_within};
 use std::alloc::Global;
-use std::io::Write;
 use std::thread::Threads;
 
-/// The line between a circuit and the results.
+/// The line between a circuit and the results, and between results and a schedule.
 const BETWEEN: &str = "%%\n";
 
 /// What is told of an output.
@@ -20,61 +19,59 @@ pub enum Told {
 }
 
 /// Writes what a call on sound devices answers: the status, what was written to the output, and what to the error output.
-pub fn put_try<R, W>(
+pub fn put_try<R: Threads + Sync>(
     rt: &R,
     alloc: Global,
     words: &str,
     files: &[&str],
     told: Told,
-    out: &mut W,
-) -> Result<()>
-where
-    R: Threads + Sync,
-    W: Write,
-{
-    put_answer(rt, alloc, &SOUND, words, files, told, out)
+    out: &mut Output,
+) -> Result<()> {
+    let held = held_files(alloc, files)?;
+    let answered = answer(rt, alloc, words, held, &SOUND, &Open)?;
+    put_answered(alloc, &answered, told, out)
 }
 
 /// The same of a call on devices that fail: at a read, at a write or at a told line, where the output takes pieces of bytes.
-pub fn put_failing<R, W>(
+pub fn put_failing<R: Threads + Sync>(
     rt: &R,
     alloc: Global,
     failing: &[&str; 4],
     words: &str,
     files: &[&str],
-    out: &mut W,
-) -> Result<()>
-where
-    R: Threads + Sync,
-    W: Write,
-{
+    out: &mut Output,
+) -> Result<()> {
+    let failing = failing_of(failing).context("a piece is a number")?;
+    let held = held_files(alloc, files)?;
+    let answered = answer(rt, alloc, words, held, &failing, &Open)?;
+    put_answered(alloc, &answered, Told::Whole, out)
+}
+
+/// The devices that four fields tell, of which all but the piece may be no number.
+fn failing_of(failing: &[&str; 4]) -> Option<Failing> {
     let [read, piece, put, told] = failing;
-    let failing = Failing {
+    Some(Failing {
         read: read.parse().ok(),
-        piece: piece.parse().ok().context("a piece is a number")?,
+        piece: piece.parse().ok()?,
         put: put.parse().ok(),
         told: told.parse().ok(),
-    };
-    put_answer(rt, alloc, &failing, words, files, Told::Whole, out)
+    })
 }
 
 /// The same of a call on sound devices, one of whose files is long.
-pub fn put_long<R, W>(
+pub fn put_long<R: Threads + Sync>(
     rt: &R,
     alloc: Global,
     words: &str,
     long: &str,
     files: &[&str],
-    out: &mut W,
-) -> Result<()>
-where
-    R: Threads + Sync,
-    W: Write,
-{
+    out: &mut Output,
+) -> Result<()> {
     let (name, content) = long.split_once(':').context("a file is NAME:CONTENT")?;
     let mut held = held_files(alloc, files)?;
     add_file(&mut held, name, long_text(alloc, content)?.as_slice())?;
-    put_told(rt, alloc, &SOUND, words, held, Told::Whole, out)
+    let answered = answer(rt, alloc, words, held, &SOUND, &Open)?;
+    put_answered(alloc, &answered, Told::Whole, out)
 }
 
 /// A text, so many letters x, and another text, with stars between them.
@@ -90,24 +87,8 @@ fn long_text(alloc: Global, field: &str) -> Result<Vec<u8>> {
     Ok(text)
 }
 
-fn put_answer<R, W>(
-    rt: &R,
-    alloc: Global,
-    failing: &Failing,
-    words: &str,
-    files: &[&str],
-    told: Told,
-    out: &mut W,
-) -> Result<()>
-where
-    R: Threads + Sync,
-    W: Write,
-{
-    let held = held_files(alloc, files)?;
-    put_told(rt, alloc, failing, words, held, told, out)
-}
-
-fn held_files(alloc: Global, files: &[&str]) -> Result<MemFiles> {
+/// The files of fields `NAME:CONTENT`.
+pub fn held_files(alloc: Global, files: &[&str]) -> Result<MemFiles> {
     let mut held = MemFiles::new(alloc);
     for file in files {
         let (name, content) = file.split_once(':').context("a file is NAME:CONTENT")?;
@@ -117,26 +98,32 @@ fn held_files(alloc: Global, files: &[&str]) -> Result<MemFiles> {
     Ok(held)
 }
 
-fn put_told<R, W>(
-    rt: &R,
+/// Writes a status, what is told of the output, and the error output.
+pub fn put_answered(
     alloc: Global,
-    failing: &Failing,
-    words: &str,
-    held: MemFiles,
+    answered: &Answered,
     told: Told,
-    out: &mut W,
-) -> Result<()>
-where
-    R: Threads + Sync,
-    W: Write,
-{
-    let answered = answer(rt, alloc, words, held, failing)?;
-    let text = escaped(alloc, told_of(told, answered.out.bytes())?)?;
-    let lines = escaped(alloc, answered.err.bytes())?;
-    write!(out, "{}\t", answered.code)?;
-    out.write_all(text.as_slice())?;
-    out.write_all(b"\t")?;
-    out.write_all(lines.as_slice())?;
+    out: &mut Output,
+) -> Result<()> {
+    let text = told_of(told, answered.out.bytes())?;
+    put_parts(alloc, answered.code, text, answered.err.bytes(), out)
+}
+
+/// Writes a status, a text and the error output, with tabs between them.
+pub fn put_parts(
+    alloc: Global,
+    code: u8,
+    text: &[u8],
+    lines: &[u8],
+    out: &mut Output,
+) -> Result<()> {
+    let text = escaped(alloc, text)?;
+    let lines = escaped(alloc, lines)?;
+    out.number(code);
+    out.word("\t");
+    out.bytes(text.as_slice());
+    out.word("\t");
+    out.bytes(lines.as_slice());
     Ok(())
 }
 
@@ -145,9 +132,17 @@ fn told_of(told: Told, text: &[u8]) -> Result<&[u8]> {
     if told == Told::Whole {
         return Ok(text);
     }
+    match parted(text)? {
+        None => Ok(text),
+        Some((_, after)) => Ok(after),
+    }
+}
+
+/// What stands before and after the line `%%`, the first one; none where there is no such line.
+pub fn parted(text: &[u8]) -> Result<Option<(&[u8], &[u8])>> {
     let text = std::str::from_utf8(text).ok().context("other bytes")?;
     match text.split_once(BETWEEN) {
-        None => Ok(text.as_bytes()),
-        Some((_, after)) => Ok(after.as_bytes()),
+        None => Ok(None),
+        Some((before, after)) => Ok(Some((before.as_bytes(), after.as_bytes()))),
     }
 }

@@ -136,6 +136,10 @@ fn helpers() {
     c_calls::laws::calls_are_worked();
     c_calls::laws::programs_are_lawful();
     c_calls::laws::calls_are_inlined();
+    c_calls::laws::programs_are_typed_in_one_way();
+    c_calls::laws::typed_programs_are_lawful();
+    c_calls::laws::inlined_is_lawful();
+    c_calls::laws::inlined_nodes_are_counted();
 }
 
 /// Laws of circuits.

@@ -1,13 +1,13 @@
 //! The circuits of graphs, with their counts and their runs.
 use crate::graphs::read_graph;
 use crate::kernels::graph_of;
-use anyhow::{Result, bail, ensure};
+use anyhow::{Context, Result, bail, ensure};
 use circuit_build::build;
 use el_base::MAX_INPUTS_BYTES;
 use el_io::Open;
 use ir::Ir;
 use lsq_groups::groups;
-use net_check::{Checked, check_net};
+use net_check::{At, Checked, NetRefusal, check_net};
 use net_runs::{RunOptions, RunRefusal, run_text};
 use net_types::Net;
 use row_fields::{Output, escaped, text_within};
@@ -47,7 +47,8 @@ pub fn put_graph<R: Threads + Sync>(
     put_circuit(rt, alloc, &graph, inputs, out)
 }
 
-/// Writes the counts of a graph and of its circuit, and how its run on inputs ends.
+/// Writes the counts of a graph and of its circuit, and how its run on inputs ends; or that there is no circuit, since the net
+/// that is built breaks a rule.
 pub fn put_circuit<R: Threads + Sync>(
     rt: &R,
     alloc: Global,
@@ -55,15 +56,19 @@ pub fn put_circuit<R: Threads + Sync>(
     inputs: &str,
     out: &mut Output,
 ) -> Result<()> {
-    let net = circuit(alloc, graph)?;
-    put_counts(graph, &net, out)?;
+    let net = built(alloc, graph)?;
     ensure!(net.is_numbered(), "a net of too many units or channels");
-    let net = check_net(alloc, net)?;
-    put_run(rt, alloc, &net, inputs, out)
+    match check_net(alloc, net) {
+        Ok(net) => {
+            put_counts(graph, net.net(), out)?;
+            put_run(rt, alloc, &net, inputs, out)
+        }
+        Err(broken) => put_broken(&broken, out),
+    }
 }
 
-/// The circuit of a graph.
-fn circuit(alloc: Global, graph: &Ir) -> Result<Net> {
+/// The net that is built of a graph.
+fn built(alloc: Global, graph: &Ir) -> Result<Net> {
     let within = graph.has_size_within(8_000_000);
     ensure!(within, "a graph that is too great");
     ensure!(u32::try_from(graph.arrays.len()).is_ok(), "too many arrays");
@@ -103,6 +108,25 @@ fn put_counts(graph: &Ir, net: &Net, out: &mut Output) -> Result<()> {
         out.number(count);
     }
     out.word(" / ");
+    Ok(())
+}
+
+/// Writes that there is no circuit, with the broken rule and what it names.
+fn put_broken(broken: &NetRefusal, out: &mut Output) -> Result<()> {
+    let at = broken.at().context("want of memory")?;
+    out.word("no circuit: ");
+    out.show(broken);
+    match at {
+        At::Unit(unit) => {
+            out.word(" unit ");
+            out.number(unit);
+        }
+        At::Chan(chan) => {
+            out.word(" chan ");
+            out.number(chan);
+        }
+        At::Net => out.word(" net"),
+    }
     Ok(())
 }
 

@@ -8,7 +8,7 @@ use row_fields::Output;
 use std::alloc::Global;
 use std::thread::Threads;
 
-/// Writes the blocks of the merged graph of a graph, and behind a tab what its circuit comes to on inputs.
+/// Writes the blocks of the merged graph of a graph, and behind a tab what its circuit comes to on inputs, or that it has none.
 pub fn put_merged<R: Threads + Sync>(
     rt: &R,
     alloc: Global,

@@ -1,0 +1,9 @@
+pub mod CountParts
+pub mod Fits
+pub mod Joins
+pub mod Lawful
+pub mod Parts
+pub mod StmtJoins
+pub mod Stopped
+pub mod Tables
+pub mod Weights

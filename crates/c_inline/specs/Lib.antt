@@ -1,0 +1,4 @@
+pub mod Code
+pub mod Making
+pub mod Printed
+pub mod Refusals

@@ -1,0 +1,73 @@
+//! Calls by workers that a gate stops or lets meet, and schedules of workers that are replayed.
+use crate::calls::{SOUND, add_file, answer};
+use crate::gates::{Meeting, Stop};
+use crate::tries::{Told, held_files, parted, put_answered, put_parts};
+use anyhow::{Context, Result};
+use el_io::Open;
+use row_fields::Output;
+use std::alloc::Global;
+use std::thread::Threads;
+
+/// Writes what a call answers where the gate answers false to a worker, or to all, from a question on, counted from 1.
+pub fn put_stopped<R: Threads + Sync>(
+    rt: &R,
+    alloc: Global,
+    stopped: &[&str; 2],
+    words: &str,
+    files: &[&str],
+    out: &mut Output,
+) -> Result<()> {
+    let (only, open) = stop_of(stopped).context("a worker or all, and a question from 1")?;
+    let gate = Stop::new(alloc, only, open)?;
+    let held = held_files(alloc, files)?;
+    let answered = answer(rt, alloc, words, held, &SOUND, &gate)?;
+    put_answered(alloc, &answered, Told::Whole, out)
+}
+
+/// The worker that is stopped, none for all, and how many questions come before.
+fn stop_of(stopped: &[&str; 2]) -> Option<(Option<u32>, u32)> {
+    let [worker, question] = stopped;
+    let question: u32 = question.parse().ok()?;
+    let open = question.checked_sub(1)?;
+    if *worker == "all" {
+        return Some((None, open));
+    }
+    Some((Some(worker.parse().ok()?), open))
+}
+
+/// Writes what a call by two workers answers that meet at a gate, and whether they met.
+pub fn put_meeting<R: Threads + Sync>(
+    rt: &R,
+    alloc: Global,
+    words: &str,
+    files: &[&str],
+    out: &mut Output,
+) -> Result<()> {
+    let gate = Meeting::new();
+    let held = held_files(alloc, files)?;
+    let answered = answer(rt, alloc, words, held, &SOUND, &gate)?;
+    put_answered(alloc, &answered, Told::Whole, out)?;
+    out.word("\t");
+    out.word(gate.outcome());
+    Ok(())
+}
+
+/// Writes what a run answers whose words ask for its schedule, but for that schedule, and what its replay answers on the same
+/// files.
+pub fn put_replayed<R: Threads + Sync>(
+    rt: &R,
+    alloc: Global,
+    words: &str,
+    files: &[&str],
+    out: &mut Output,
+) -> Result<()> {
+    let held = held_files(alloc, files)?;
+    let run = answer(rt, alloc, words, held, &SOUND, &Open)?;
+    let (results, schedule) = parted(run.out.bytes())?.context("no schedule")?;
+    put_parts(alloc, run.code, results, run.err.bytes(), out)?;
+    out.word("\t");
+    let mut held = held_files(alloc, files)?;
+    add_file(&mut held, "s", schedule)?;
+    let again = answer(rt, alloc, "replay n i s", held, &SOUND, &Open)?;
+    put_answered(alloc, &again, Told::Whole, out)
+}
