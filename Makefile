@@ -27,7 +27,7 @@
 #   At last it counts instructions of some calls and compares them with docs/TIMES.md, where valgrind is there.
 #   With BEFORE=PROGRAM another bench_text is timed beside this one. BENCH_ACTS, BENCH_SIZE and the like give other sizes.
 # instructions: that count alone.
-# stack: reads long and deep kernel texts with a stack of 1 MiB.
+# stack: reads long and deep kernel texts, and compiles and runs long chains of operators, with a stack of 1 MiB.
 # load: runs the proved program on files at each limit and past it, on nets of a million units and on 2^20 elements.
 # fail-alloc: makes each allocation of some calls fail in turn (tools/failing/calls.tsv), and tells how many there are.
 
@@ -139,6 +139,8 @@ instructions:
 stack:
 	@cd crates/given_rows && rt run -- data/repeats.tsv > /dev/null
 	@sh tools/stack.sh crates/given_rows/out/given_rows
+	@cd crates/elastic && rt run -- go ../../examples/sum/kernel.c ../../examples/sum/inputs.txt > /dev/null
+	@sh tools/stack_kernels.sh crates/elastic/out/elastic
 
 load: build
 	@tools/load.py $(PROGRAM)
