@@ -14,6 +14,8 @@
 #   compared with what is kept. PROGRAM=other tries another program.
 # test: the gate: every proof, program and the wrong bodies of must-fail/.
 # wrong: tries the wrong bodies that the gate leaves out (crates/*/wrong), of one crate with CRATE=NAME.
+# crews: with the program that make build left, runs 150 drawn nets and those of examples/ by cycles, by 1, 2, 3, 7 and 64
+#   workers and by a schedule of three workers, and compares. SEED=N draws others; PROGRAM=other tries another program.
 # documents: checks README.md and docs/: names that stand nowhere, long sentences, and cells of tables that hold too much.
 # help: these lines.
 # memory: lists the places that answer want of memory where no allocation has failed, and compares them with docs/PROVED.md.
@@ -23,15 +25,18 @@
 #   and 1,000 variables, circuits of block graphs of sizes up to a million, the plain interpreter on a loop of 120 million
 #   turns, beside the same kernel by `cc -O0`, and the plain runner on a histogram's net of 103 units, alone and among idle
 #   loops, beside plain sweeps over the units, and runs by cycles on a countdown of 13 units and on the histogram's
-#   net, alone and among up to a million idle units, beside the plain runner.
+#   net, alone and among up to a million idle units, and on forks of up to 65,536 outputs, beside the plain runner; and runs
+#   by one, two, four and 64 workers beside runs by cycles, with the most memory of each.
 #   At last it counts instructions of some calls and compares them with docs/TIMES.md, where valgrind is there.
 #   With BEFORE=PROGRAM another bench_text is timed beside this one. BENCH_ACTS, BENCH_SIZE and the like give other sizes.
 # instructions: that count alone.
-# stack: reads long and deep kernel texts, and compiles and runs long chains of operators, with a stack of 1 MiB.
+# stack: reads long and deep kernel texts, and compiles and runs long chains of operators, with a stack of 1 MiB, and helpers
+#   that nest deepest with one of 4 MiB.
+# saves: saves a run of a million firings at each tenth and goes on from it by the proved program, and times large states.
 # load: runs the proved program on files at each limit and past it, on nets of a million units and on 2^20 elements.
 # fail-alloc: makes each allocation of some calls fail in turn (tools/failing/calls.tsv), and tells how many there are.
 
-.PHONY: demo go compile ref run build examples clients test wrong documents help memory bench instructions stack load fail-alloc
+.PHONY: demo go compile ref run build examples clients test wrong crews documents help memory bench instructions stack saves load fail-alloc
 
 KERNEL = examples/hist/kernel.c
 NETLIST = examples/net/net.txt
@@ -43,6 +48,7 @@ SECONDS = 600
 PROGRAM = crates/elastic/out/elastic
 BEFORE =
 CRATE =
+SEED = 1
 
 # The sizes of the benches: acts on a queue, channels and sizes of graphs, blocks and variables, rounds of the interpreted loop,
 # firings of the plain runner, and turns of the countdown.
@@ -107,6 +113,10 @@ test:
 wrong:
 	@sh tools/wrong.sh $(CRATE)
 
+crews:
+	@test -x $(PROGRAM) || { echo '$(PROGRAM) is not there: make build makes it' >&2; exit 1; }
+	@tools/crews.py $(PROGRAM) --seed $(SEED)
+
 documents:
 	@python3 tools/map.py names
 	@python3 tools/map.py sentences
@@ -131,6 +141,7 @@ bench: build
 	@sh tools/bench_ref.sh crates/bench_runs/out/bench_runs $(BENCH_ROUNDS)
 	@sh tools/bench_core.sh crates/bench_runs/out/bench_runs examples/histogram/net.txt $(BENCH_FIRINGS)
 	@sh tools/bench_cycles.sh crates/bench_runs/out/bench_runs examples/histogram/net.txt $(BENCH_TURNS)
+	@tools/bench_workers.py $(PROGRAM)
 	@python3 tools/instructions.py
 
 instructions:
@@ -141,6 +152,9 @@ stack:
 	@sh tools/stack.sh crates/given_rows/out/given_rows
 	@cd crates/elastic && rt run -- go ../../examples/sum/kernel.c ../../examples/sum/inputs.txt > /dev/null
 	@sh tools/stack_kernels.sh crates/elastic/out/elastic
+
+saves: build
+	@tools/saves.py $(PROGRAM)
 
 load: build
 	@tools/load.py $(PROGRAM)

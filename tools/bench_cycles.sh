@@ -1,7 +1,8 @@
 #!/bin/sh
 # Times runs by cycles beside the plain runner, by the proved program bench_runs: on a countdown of 13 units,
 # examples/countdown, with 300,000 turns or as many as the third word says; on the netlist of a histogram, examples/histogram,
-# with 32,768 turns; and on that where the loop stands among 1,000, 10,000 and 500,000 idle ones of two units.
+# with 32,768 turns; on that where the loop stands among 1,000, 10,000 and 500,000 idle ones of two units; and on a fork of
+# 16,384 and of 65,536 outputs into sinks, which all fire in one cycle.
 # With GNU time it tells the most memory of each process too. On a machine with other work, times are longer.
 set -eu
 program=$1
@@ -26,6 +27,16 @@ with_idle() {
     }
     { print }' "$net"
 }
+# A fork of so many outputs, each into a sink.
+wide_fork() {
+  awk -v outs="$1" 'BEGIN {
+    print "elastic 2\nkernel wide\nscalar n u32\nresult none\nunit entry\nunit param 0\nunit exit\nunit fork 32 " outs
+    for (i = 0; i < outs; i++) print "unit sink 32"
+    print "chan 0.0 2.0 32 1 0 control\nchan 1.0 3.0 32 1 0"
+    for (i = 0; i < outs; i++) print "chan 3." i " " 4 + i ".0 32 1 0"
+    print "end"
+  }'
+}
 awk '
   /^array / { length_of[$2] = $4 }
   END {
@@ -40,4 +51,10 @@ for loops in 0 1000 10000 500000; do
   echo "a histogram among $loops idle loops:"
   with_idle "$loops" > "$folder/net"
   timed "$program" cycles "$folder/net" "$folder/inputs"
+done
+echo "n = 5" > "$folder/small"
+for outs in 16384 65536; do
+  echo "a fork of $outs outputs:"
+  wide_fork "$outs" > "$folder/net"
+  timed "$program" cycles "$folder/net" "$folder/small"
 done

@@ -20,8 +20,6 @@ import explain  # noqa: E402  (beside this file)
 ROWS = TOOLS / "explaining" / "rows"
 REFUSED = TOOLS.parent / "examples" / "refused"
 OWN = ("command", "line", "words")
-# What no command of this program says yet: lines of saved states.
-NOT_BUILT = {90, 91}
 
 
 def row_of(path):
@@ -92,7 +90,7 @@ def main():
     wrong += [f"no row for {number} {explain.WORDS[number]}" for number in sorted(set(explain.WORDS) - numbers)]
     formats = (TOOLS.parent / "docs" / "FORMATS.md").read_text()
     wrong += [f"docs/FORMATS.md does not name {word}" for number, word in explain.WORDS.items()
-              if number not in NOT_BUILT and not re.search(rf"\b{word}\b", formats)]
+              if not re.search(rf"\b{word}\b", formats)]
     folders = sorted(path.parent for path in REFUSED.glob("*/kernel.c"))
     for folder in folders:
         kept, now, mended = tried_kernel(folder, given.program)

@@ -18,12 +18,12 @@ from explaining.source import Source, shown
 from explaining.undefined import possible
 
 WORDS = {1: "BadByte", 2: "OpenComment", 3: "BadNumber", 4: "WideNumber", 5: "Directive", 6: "Redefined", 10: "Unexpected",
-         11: "EndOfText", 12: "TooDeep", 13: "TooLarge", 20: "Undeclared", 21: "Redeclared", 22: "NotArray", 23: "NotScalar",
-         24: "Dimensions", 25: "Length", 26: "ReturnKind", 27: "OutsideLoop", 30: "C1", 31: "C2", 32: "C3", 33: "C4", 34: "C5",
-         35: "C6", 36: "C7", 37: "C8", 40: "Line", 41: "Ends", 42: "Version", 50: "Line", 51: "Unknown", 52: "Twice", 53: "Missing",
-         54: "Count", 55: "Range", 60: "Line", 61: "NotEnabled", 70: "Limit", 71: "Stuck", 72: "Stray", 80: "Undefined",
-         81: "Turns",
-         90: "Line", 91: "Ends"}
+         11: "EndOfText", 12: "TooDeep", 13: "TooLarge", 15: "Grown", 17: "NotHelper", 20: "Undeclared", 21: "Redeclared",
+         22: "NotArray", 23: "NotScalar", 24: "Dimensions", 25: "Length", 26: "ReturnKind", 27: "OutsideLoop", 28: "CallPlace",
+         29: "Arguments", 30: "C1", 31: "C2", 32: "C3", 33: "C4", 34: "C5", 35: "C6", 36: "C7", 37: "C8", 40: "Line",
+         41: "Ends", 42: "Version", 50: "Line", 51: "Unknown", 52: "Twice", 53: "Missing", 54: "Count", 55: "Range",
+         60: "Line", 61: "NotEnabled", 70: "Limit", 71: "Stuck", 72: "Stray", 80: "Undefined", 81: "Turns", 90: "Line",
+         91: "Ends"}
 LINES = [re.compile(form) for form in (
     r"(?P<file>.+?):(?P<line>\d+):(?P<column>\d+): (?P<number>\d+) (?P<word>[A-Z]\w*)$",
     r"(?P<file>.+?): (?P<number>\d+) (?P<word>[A-Z]\w*)(?: (?P<what>unit|chan|net))?(?: (?P<rest>\w+))?$",
@@ -36,7 +36,8 @@ PLAIN = {
         "has not or that stands twice, or a value outside its range.",
         "write `elastic compile KERNEL`, `elastic go KERNEL INPUTS`, `elastic ref KERNEL INPUTS`, `elastic run NETLIST "
         "INPUTS`, `elastic "
-        "replay NETLIST INPUTS SCHEDULE` or `elastic upgrade NETLIST`; docs/elastic.1 has the options of each (`man "
+        "replay NETLIST INPUTS SCHEDULE`, `elastic upgrade NETLIST`, `elastic save NETLIST INPUTS`, `elastic resume NETLIST "
+        "SNAPSHOT` or `elastic bench NUMBER`; docs/elastic.1 has the options of each (`man "
         "docs/elastic.1`)."),
     "cannot write": ("The output took not all of the text: it is closed, or the disk is full.",
                      "look at where the output goes, and throw away the part that stands there."),

@@ -35,8 +35,9 @@ LIMIT = Option("--limit", "F", 1, FIRINGS,
 COUNT = Option("--count", None, None, None, "prints `# firings F`, of `ref` `# turns T`, behind the results")
 CYCLES = Option("--cycles", None, None, None, "prints `# cycles C` behind the results")
 LOG = Option("--log", None, None, None, "prints the line `%%` and the firings, one a line, which `replay` reads")
+AT = Option("--at", "K", 0, FIRINGS, "after how many firings the state is saved; 0 where nothing is said")
 TURNS = Option("--turns", "T", 1, FIRINGS, "the most turns; 8,000,000 where nothing is said")
-OPTIONS = (DELAY, SLOTS, DEPTH, FORWARD, WRAP, WORKERS, LIMIT, COUNT, CYCLES, LOG, TURNS)
+OPTIONS = (DELAY, SLOTS, DEPTH, FORWARD, WRAP, WORKERS, LIMIT, COUNT, CYCLES, LOG, TURNS, AT)
 
 COMMANDS = (
     Command("compile", ("KERNEL",), (DELAY, SLOTS, DEPTH, FORWARD, WRAP), "prints the circuit of a kernel, as a netlist"),
@@ -47,6 +48,10 @@ COMMANDS = (
     Command("replay", ("NETLIST", "INPUTS", "SCHEDULE"), (),
             "makes the firings of a schedule, and prints the results or the next firing"),
     Command("upgrade", ("NETLIST",), (), "checks a netlist, and prints it in version 2"),
+    Command("save", ("NETLIST", "INPUTS"), (AT,), "prints the state of a netlist on the inputs after some firings, or at rest, as a snapshot"),
+    Command("resume", ("NETLIST", "SNAPSHOT"), (LIMIT, COUNT), "goes on from a snapshot that `save` printed, and prints the results, as `run` does"),
+    Command("bench", ("NUMBER",), (), "runs the circuit of a kernel that lies in the program, on inputs that a number below 2^64 gives, and prints "
+            "its firings, its cycles and a sum"),
 )
 STATUSES = (
     (0, "the whole text stands on the output"), (1, "the words are no command"), (2, "a file cannot be read"),
@@ -55,9 +60,9 @@ STATUSES = (
     (6, "the inputs are refused"), (7, "the schedule is refused"), (8, "the run has more firings than the limit"),
     (9, "the run ended and the exit had not fired"), (10, "an address lay past its array"), (11, "memory ran out"),
     (12, "a file is too long"), (13, "an operation of the kernel is undefined on these inputs"),
-    (14, "the kernel was not over within the turns"),
+    (14, "the kernel was not over within the turns"), (15, "the snapshot is refused"),
 )
-NONE = (["help"], ["--help"], ["-h"], [], ["bench", "1"], ["save", "n", "i"], ["resume", "n", "p"], ["go", "k"],
+NONE = (["help"], ["--help"], ["-h"], [], ["bench"], ["bench", "x"], ["bench", "1", "2"], ["bench", str(2**64)], ["save", "n"], ["resume", "n", "p", "x"], ["go", "k"],
         ["go", "k", "i", "x"],
         ["Go", "k", "i"], ["compile", "k", "--slots"], ["compile", "k", "--slots", "1", "--slots", "1"],
         ["compile", "k", "--forward=1"],
@@ -161,7 +166,7 @@ def zsh():
     cases = []
     for command in COMMANDS:
         words = [zsh_option(it) for it in command.options]
-        words += [f"'{at}:{name}:_files'" for at, name in enumerate(command.files, 1)]
+        words += [f"'{at}:{name}:{'' if name == 'NUMBER' else '_files'}'" for at, name in enumerate(command.files, 1)]
         cases.append(f"        {command.word}) _arguments {' '.join(words)} ;;")
     return f"""#compdef elastic
 # Completion of elastic for zsh, made by tools/manual.py: change its table, and say `tools/manual.py write`.
@@ -191,14 +196,14 @@ FILES = {"docs/elastic.1": manual, "tools/completion/elastic.bash": bash, "tools
 # ---- the rows
 
 def takes(program, words):
-    """Whether the words are a command: the files that they name are not there, so a command ends with status 2."""
-    return subprocess.run([program, *words], cwd=TOP / "docs", capture_output=True, check=False).returncode == 2
+    """Whether the words are a command: the files that they name are not there, so a command ends with status 2, or 0 where it names none."""
+    return subprocess.run([program, *words], cwd=TOP / "docs", capture_output=True, check=False).returncode in (0, 2)
 
 
 def rows():
     """Lists of words, and whether each is a command."""
     for command in COMMANDS:
-        words = [command.word, *(f"no/{name}" for name in command.files)]
+        words = [command.word, *("1" if name == "NUMBER" else f"no/{name}" for name in command.files)]
         yield words, True
         for option in OPTIONS:
             values = [option.least, option.most] if option.least is not None else ["mul=1,lsq=1"] if option.value else [None]

@@ -3,11 +3,11 @@ _elastic() {
   local current=${COMP_WORDS[COMP_CWORD]} before=${COMP_WORDS[COMP_CWORD - 1]} options=
   COMPREPLY=()
   if [ "$COMP_CWORD" -eq 1 ]; then
-    COMPREPLY=($(compgen -W "compile go ref run replay upgrade" -- "$current"))
+    COMPREPLY=($(compgen -W "compile go ref run replay upgrade save resume bench" -- "$current"))
     return
   fi
   case $before in
-    --slots|--depth|--workers|--limit|--turns) return ;;
+    --slots|--depth|--workers|--limit|--turns|--at) return ;;
     --delay) compopt -o nospace 2> /dev/null; COMPREPLY=($(compgen -W "logic= mul= div= read= lsq=" -- "$current")); return ;;
   esac
   case ${COMP_WORDS[1]} in
@@ -17,6 +17,9 @@ _elastic() {
     run) options="--workers --limit --count --cycles --log" ;;
     replay) options="" ;;
     upgrade) options="" ;;
+    save) options="--at" ;;
+    resume) options="--limit --count" ;;
+    bench) options="" ;;
   esac
   if [[ $current == -* ]]; then
     COMPREPLY=($(compgen -W "$options" -- "$current"))

@@ -15,8 +15,8 @@ SPELLED = {
     "uint_fast8_t": "uint8_t", "uint_fast32_t": "uint32_t", "int_fast32_t": "int32_t", "uint_least8_t": "uint8_t",
 }
 INLINE = {
-    ("abs", 1): "({0} < 0 ? -{0} : {0})", ("labs", 1): "({0} < 0 ? -{0} : {0})", ("min", 2): "({0} < {1} ? {0} : {1})",
-    ("max", 2): "({0} > {1} ? {0} : {1})",
+    ("abs", 1): "{0} < 0 ? -{0} : {0}", ("labs", 1): "{0} < 0 ? -{0} : {0}", ("min", 2): "{0} < {1} ? {0} : {1}",
+    ("max", 2): "{0} > {1} ? {0} : {1}",
 }
 STATEMENT_WORDS = {"if", "while", "do", "for", "break", "continue", "return"}
 WHOLE = {")", "]", "++", "--", "break", "continue", "return"}
@@ -43,7 +43,23 @@ class Spot:
                 self.opened.pop()
         self.braces = sum(self.tokens[number].text == "{" for number in self.opened)
         self.in_parameters = not self.braces and any(self.tokens[number].text == "(" for number in self.opened)
-        self.after_kernel = not self.opened and any(token.text == "}" for token in self.tokens[:at])
+        self.heads = self._heads()
+        self.after_kernel = not self.opened and any(self.tokens[head].text != "static" for head in self.heads[:-1])
+        self.in_helper = bool(self.heads) and self.heads[-1] < at and self.tokens[self.heads[-1]].text == "static"
+
+    def _heads(self):
+        """The numbers of the tokens with which functions begin, up to this one: helpers begin with `static`."""
+        heads, depth, is_new = [], 0, True
+        for number, token in enumerate(self.tokens[:self.at + 1]):
+            if is_new and not depth:
+                heads.append(number)
+            depth += (token.text in "{([") - (token.text in "})]")
+            is_new = token.text == "}" and depth <= 0
+        return heads
+
+    def body(self):
+        """The tokens of the function around this one, before it."""
+        return [token.text for token in self.tokens[self.heads[-1]:self.at]] if self.heads else []
 
     def text(self, by):
         """The text of the token so many places further; empty past the ends."""
@@ -95,7 +111,7 @@ def table_or_global(spot):
                 value_of(value, spot.source.defines) >= 0 else f"write `{value.strip()}` where `{name}` stands.")
     if spot.braces:
         return None
-    return (f"`{name}` is a variable outside of the kernel: a text is one function, with nothing before it.",
+    return (f"`{name}` is a variable outside of the kernel: a text is functions alone.",
             f"declare it in the kernel, or make it a parameter, `{kind} {name}`; what is to last from run to run is an array "
             f"parameter of one element, `{kind} {name}[1]`.")
 
@@ -105,17 +121,35 @@ def qualifier(spot):
     word = spot.text(0)
     if word not in QUALIFIERS:
         return None
+    if spot.after_kernel:
+        return None
     if not spot.braces and not spot.in_parameters and re.match(r"[\w\s]*?\w+\s*\([^()]*\)\s*\{", spot.rest):
-        more = len(re.findall(r"(?m)^[A-Za-z_][\w \t]*\([^()]*\)\s*\{", spot.source.text)) > 1
-        if more:
-            return (f"`{word}` begins a function beside the kernel, and a text is one function.",
-                    "write what the function does where it is called, with a variable for its result.")
-        return f"`{word}` has no place in a kernel.", f"leave `{word}` away: the kernel is the whole program."
+        if spot.in_helper:
+            return f"`{word}` has no place in a helper.", f"leave `{word}` away: a helper begins with `static` alone, and is inlined always."
+        return f"`{word}` has no place in a kernel.", f"leave `{word}` away; a helper begins with `static` alone."
     if word == "static" and spot.braces:
         return ("`static` makes a variable that lasts from run to run, and a kernel keeps nothing.",
                 "make it an array parameter of one element: it is read from the inputs, and printed with the results.")
     return (f"`{word}` has no place in a kernel: there are no qualifiers and no storage classes.",
             f"leave `{word}` away; it would change nothing in the circuit.")
+
+
+def helper(spot):
+    """What a helper is not: void, over arrays, with a return inside, behind it or without one."""
+    if not spot.in_helper:
+        return None
+    name = next((text for text, after in zip(spot.body(), spot.body()[1:]) if after == "("), spot.text(1))
+    if spot.text(0) == "void" and not spot.braces and not spot.in_parameters:
+        return "A helper has a result: what it does is the value that it returns.", f"give `{name}` a type, and assign its value where it is called; a kernel does what else is to be done."
+    if spot.text(0) == "[" and spot.in_parameters:
+        return f"`{spot.text(-1)}` is an array, and helpers take scalars by value.", "hand over the elements that it needs, `int32_t a, int32_t b`; what is done to an array, the kernel does."
+    if spot.braces and spot.text(0) == "return":
+        return "A helper has one `return`, as its last statement, and this one stands inside another.", "make a variable for the result, assign it here, and return it at the end."
+    if spot.braces and "return" in spot.body() and spot.body()[-1] == ";":
+        return "Nothing follows the `return` of a helper.", "write it before the `return`, or take it away."
+    if spot.braces == 1 and spot.text(0) == "}":
+        return f"The helper `{name}` has no `return` at its end.", "end it with `return ..;`: its value is what a call gives."
+    return None
 
 
 def type_word(spot):
@@ -230,26 +264,16 @@ def call(spot):
     if spot.text(0) != "(" or not spot.is_name(-1) or not spot.braces:
         return None
     name, closes = spot.text(-1), spot.source.partner(spot.at)
-    inside = [token.text for token in spot.tokens[spot.at + 1:closes]]
-    one = spot.source.between(spot.at + 1, closes)
-    arguments = [part.strip() for part in one.split(",")] if inside and "(" not in inside else []
-    whole = f"{name}({one})"
-    form = INLINE.get((name.lower().lstrip("f"), len(arguments)))
-    if form and all(re.fullmatch(r"\w+(\[[^\[\]]*\])?", it) for it in arguments):
-        return f"`{name}` would be called, and kernels have no calls.", f"write `{form.format(*arguments)}` in place of `{whole}`."
-    statement = spot.rest.split(";")[0]
+    whole = f"{name}({spot.source.between(spot.at + 1, closes)})"
     if name in ("printf", "puts", "assert", "putchar"):
-        return (f"`{name}` would be called, and kernels have no calls and print nothing.",
-                "leave it away; what is to be seen goes into an array.")
+        return f"`{name}` is called, and kernels print nothing.", "leave it away; what is to be seen goes into an array."
     if name in ("memset", "memcpy"):
-        return f"`{name}` would be called, and kernels have no calls.", "write a loop over the elements."
-    if re.search(r"&&|\|\|", statement) and re.search(r"\w\s*\(", statement[1:]) or spot.text(-2) in ("&&", "||"):
-        return (f"`{name}` would be called, and kernels have no calls.",
-                "write what each function does before the condition, with a variable for its result, as `int32_t first = "
-                "..;`, and then "
-                "`first && second`; what the second may do only where the first holds goes into an `if (first) { .. }`.")
-    return (f"`{name}` would be called, and kernels have no calls.",
-            f"write what `{name}` does where it is called: a variable for its result, and its statements before this one.")
+        return f"`{name}` is called, and a call is no statement.", "write a loop over the elements."
+    after = spot.text(closes + 1 - spot.at) if closes is not None else ""
+    if after in ASSIGNING | {"++", "--"}:
+        return f"What `{whole}` gives is a value, and nothing can be assigned to it.", "assign to a variable or an element."
+    return (f"`{whole}` is a call, and a call is no statement: its value would go nowhere.",
+            f"assign it, `x = {whole};`, or leave it away: a helper changes nothing but its own variables.")
 
 
 def pointer(spot):
@@ -349,10 +373,12 @@ def outside(spot):
     if spot.after_kernel:
         if spot.text(0) == "}":
             return "This `}` closes nothing.", "take it away, or look for a `{` that is missing above."
+        if spot.text(0) == "static":
+            return "A helper stands before the kernel, and this one behind it.", "move it up."
         return ("A text is one kernel, and nothing follows its `}`.",
-                "keep one function a file. What another one does is written out where it is called.")
+                "keep one kernel a file. A function that it calls stands before it, and begins with `static`.")
     if spot.text(0) == ";" and spot.text(-1) == ")" and not spot.braces:
-        return "This is the declaration of a function, and a text is one function with its body.", "leave the line away."
+        return "This is the declaration of a function, and each function stands with its body.", "leave the line away; helpers stand before those that call them."
     if not spot.braces and not spot.in_parameters and spot.text(-1) == ")":
         return "The body of a kernel stands in braces.", "write `{` here and `}` at the end."
     if spot.in_parameters and spot.text(0) in (",", ")") and spot.text(-1) in TYPE_WORDS:
@@ -375,7 +401,7 @@ def any_other(spot):
             f"look at this token and the one before it; {GUIDE}, has the language, and docs/FORMATS.md, section 12, its grammar.")
 
 
-HABITS = (missing_semicolon, table_or_global, qualifier, aggregate, type_word, jump, pointer, brackets, call, unknown_type,
+HABITS = (missing_semicolon, helper, table_or_global, qualifier, aggregate, type_word, jump, pointer, brackets, call, unknown_type,
           step_or_assignment, outside, any_other)
 
 

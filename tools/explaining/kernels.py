@@ -1,8 +1,8 @@
-"""Why a kernel text is refused, and what to write instead: the numbers 1 to 27."""
+"""Why a kernel text is refused, and what to write instead: the numbers 1 to 29."""
 import difflib
 import re
 
-from explaining.habits import unexpected
+from explaining.habits import INLINE, unexpected
 from explaining.source import FIXED, KEYWORDS, NUMBER, value_of
 
 LIMITS = {f"INT{bits}_MAX": str(2 ** (bits - 1) - 1) for bits in (8, 16, 32, 64)}
@@ -151,6 +151,8 @@ def undeclared(source, at):
         return f"`{name}` is a name of a header, and headers are not read.", f"write `{LIMITS[name]}`."
     if re.fullmatch(r"U?INT\d+_C", name):
         return f"`{name}` is a macro of a header.", "write the number with its suffix, as `1u` or `1ll`."
+    if at + 1 < len(source.tokens) and source.tokens[at + 1].text == "(":
+        return uncalled(source, at)
     earlier = [it for it in declarations(source, name) if it.start < token.start]
     if earlier:
         return (f"`{name}` is declared on line {earlier[-1].line}, in a block or a `for` that is over here.",
@@ -164,6 +166,25 @@ def undeclared(source, at):
     hint = f" `{close[0]}` is, if that is meant." if close else ""
     define = f", or write `#define {name} ..`" if name.isupper() else ""
     return (f"`{name}` is declared nowhere.{hint}", f"declare it, `int32_t {name} = 0;`, or make it a parameter{define}.")
+
+
+def uncalled(source, at):
+    """Why what is called here is no helper."""
+    name = source.tokens[at].text
+    places = [it for it in declarations(source, name)]
+    inside = [it for it in places if it.start < source.tokens[at].start]
+    if inside:
+        return f"`{name}` is called inside itself: a helper's name is known behind its closing brace.", "write a loop: there is no recursion."
+    if places:
+        return f"`{name}` stands only later, on line {places[0].line}.", "move it up: a helper stands before what calls it."
+    closes = source.partner(at + 1)
+    parts = [part for part in source.between(at + 2, closes).split(",") if part.strip()]
+    names = ["a", "b", "c", "d", "e", "f", "g", "h"][:len(parts)] if len(parts) <= 8 else ["a", ".."]
+    form = INLINE.get((name.lower().lstrip("f"), len(parts)))
+    value = form.format(*names) if form else ".."
+    params = ", ".join(f"int32_t {it}" for it in names) or "void"
+    return (f"`{name}` is called, and no helper of that name stands before; headers are not read.",
+            f"write it before the kernel, as `static int32_t {name}({params}) {{ return {value}; }}`.")
 
 
 def redeclared(source, at):
@@ -208,6 +229,27 @@ def return_kind(source, line, column):
             if value else ("This kernel has a result, and nothing is returned.", "write the value behind `return`."))
 
 
+def is_helper(source, name):
+    """Whether a helper of that name stands in the text."""
+    return bool(re.search(rf"\bstatic\s+(?:\w+\s+)+{re.escape(name)}\s*\(", source.text))
+
+
+def not_scalar(source, at):
+    name = source.tokens[at].text
+    if is_helper(source, name):
+        return f"`{name}` is a helper, and stands here without a call.", f"call it, `{name}(..)`; nothing else can be done with a helper."
+    return (f"`{name}` is an array, and stands here without an index.",
+            f"name an element, `{name}[i]`; whole arrays are neither assigned nor passed on.")
+
+
+def arguments(source, at):
+    name = source.tokens[at].text
+    found = re.search(rf"\bstatic\s+(?:\w+\s+)+{re.escape(name)}\s*\(([^)]*)\)", source.text)
+    params = found.group(1).strip() if found else ".."
+    few = "no parameters" if params in ("", "void") else f"the parameters `{params}`"
+    return f"`{name}` has {few}, and is called here with another number of arguments.", "write one argument for each parameter."
+
+
 def cause(source, number, line, column):
     """The cause and the remedy of the refusal of a kernel text at a place."""
     at = source.at(line, column)
@@ -223,15 +265,23 @@ def cause(source, number, line, column):
                      "blocks, `if`, "
                      "loops, `?:`.",
                      "give an inner part a variable of its own; `else if` chains get shorter by a variable for the choice."),
+        15: lambda: ("With its calls written out the kernel has more than 1,024 nodes: each call is a copy of its helper.",
+                     "call a helper in a loop in place of many times in a row, make helpers smaller, or split the kernel."),
+        17: lambda: (f"`{name}` is a variable or an array here, and is called.",
+                     "give the variable or the helper another name; inside of a helper its parameters hide helpers of their names."),
         13: lambda: ("The kernel has more than 1,024 nodes: names, numbers, operators, declarations and statements count one each.",
                      "make it smaller: a loop in place of statements that repeat, or two kernels, each with its own circuit."),
         20: lambda: undeclared(source, at), 21: lambda: redeclared(source, at),
         22: lambda: (f"`{name}` is a scalar, and has indices here.",
                      f"leave the brackets away, or make it an array: `int32_t {name}[..]`."),
-        23: lambda: (f"`{name}` is an array, and stands here without an index.",
-                     f"name an element, `{name}[i]`; whole arrays are neither assigned nor passed on."),
+        23: lambda: not_scalar(source, at),
         24: lambda: wrong_dimensions(source, at), 25: lambda: lengths(source, at),
         26: lambda: return_kind(source, line, column),
         27: lambda: (f"`{name}` stands outside of all loops.", "put it into a loop; a kernel is left by `return`."),
+        28: lambda: (f"`{name}` is called where it may be evaluated more than once or not at all: in the condition of a loop, "
+                     "on the right of `&&` or `||`, or in the second or third part of `?:`.",
+                     f"call before, into a variable, `int32_t value = {name}(..);`; for a loop call before it and at its end; "
+                     "for `&&` put the call into an `if`."),
+        29: lambda: arguments(source, at),
     }
     return ways[number]()

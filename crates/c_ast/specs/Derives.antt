@@ -140,6 +140,8 @@ mutual
     name : (x : List ℕ) (s : Span) → DerivesExpr 12 (named x s ∷ []) (expr_of (expr.Name x) (named x s ∷ []))
     element : (x : List ℕ) (s : Span) (ts : List Token) (e : Expr) (es : List Expr) → DerivesIndices ts (e ∷ es)
         → DerivesExpr 12 (named x s ∷ ts) (expr_of (expr.Element x (e ∷ es)) (named x s ∷ ts))
+    call : (x : List ℕ) (s a z : Span) (ts : List Token) (es : List Expr) → DerivesArgs ts es
+        → DerivesExpr 12 (named x s ∷ between mark.Open a ts mark.Close z) (expr_of (expr.Call x es) (named x s ∷ between mark.Open a ts mark.Close z))
     parens : (ts : List Token) (s z : Span) (e : Expr) → DerivesExpr 0 ts e → DerivesExpr 12 (between mark.Open s ts mark.Close z) e
 
   -- bracketed indices, of which there may be none
@@ -147,6 +149,17 @@ mutual
     no_more : DerivesIndices [] []
     one_more : (ts us : List Token) (s z : Span) (e : Expr) (es : List Expr) → DerivesExpr 0 ts e → DerivesIndices us es
         → DerivesIndices (between mark.OpenBracket s ts mark.CloseBracket z ++ us) (e ∷ es)
+
+  -- arguments with commas between them, of which there may be none
+  pub data DerivesArgs : List Token → List Expr → Type 0 where
+    no_arguments : DerivesArgs [] []
+    arguments : (ts us : List Token) (e : Expr) (es : List Expr) → DerivesExpr 0 ts e → DerivesMoreArgs us es → DerivesArgs (ts ++ us) (e ∷ es)
+
+  -- further arguments, each behind a comma
+  pub data DerivesMoreArgs : List Token → List Expr → Type 0 where
+    no_further : DerivesMoreArgs [] []
+    one_further : (ts us : List Token) (s : Span) (e : Expr) (es : List Expr) → DerivesExpr 0 ts e → DerivesMoreArgs us es
+        → DerivesMoreArgs (marked mark.Comma s ∷ (ts ++ us)) (e ∷ es)
 
 -- ---- assignments and steps
 

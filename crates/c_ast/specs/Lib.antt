@@ -6,9 +6,11 @@ pub mod Nesting
 pub mod NodeLaws
 pub mod Nodes
 pub mod Numerals
+pub mod OfTexts
 pub mod Pieces
 pub mod Prefixes
 pub mod ProgramCasts
+pub mod ProgramTexts
 pub mod Programs
 pub mod ResultTypes
 pub mod Spells

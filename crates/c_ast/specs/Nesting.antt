@@ -1,5 +1,5 @@
 -- How deep the constructs of a kernel text nest at each of its tokens: one case for each rule of the grammar.
--- The nesting at a token is the number of constructs that the token belongs to, from the first token of each to its last. Constructs are groups in parentheses, those of parameters and of control statements too; casts and unary operators, each with its operand; brackets of indices and of dimensions; blocks; the statements if, while, do and for; and ?:, from its ? to the end of its third part. A cast's parentheses are no group besides.
+-- The nesting at a token is the number of constructs that the token belongs to, from the first token of each to its last. Constructs are groups in parentheses, those of parameters, of arguments and of control statements too; casts and unary operators, each with its operand; brackets of indices and of dimensions; blocks; the statements if, while, do and for; and ?:, from its ? to the end of its third part. A cast's parentheses are no group besides.
 use Rattle.std.specs.Prelude.{ℕ, suc, List, [], ◌∷◌, ◌++◌, map, Bool, Option}
 use Rattle.el_base.specs.declared.ty.Ty.{Ty}
 use Rattle.c_ast.specs.declared.token.Token.{Token}
@@ -8,7 +8,7 @@ use Rattle.c_ast.specs.declared.tree.Target.{Target}
 use Rattle.c_ast.specs.declared.tree.Expr.{Expr}
 use Rattle.c_ast.specs.declared.tree.Stmt.{Stmt}
 use Rattle.c_ast.specs.declared.tree.Tree.{Tree}
-use Rattle.c_ast.specs.Derives.{DerivesExpr, DerivesIndices, DerivesTarget, DerivesSimple, DerivesOption, DerivesStep, DerivesDeclared, DerivesDeclarators, DerivesDeclaration, DerivesFirst, DerivesStmt, DerivesItems, DerivesDims, DerivesParam, DerivesParamList, DerivesParams, Derives}
+use Rattle.c_ast.specs.Derives.{DerivesExpr, DerivesIndices, DerivesArgs, DerivesMoreArgs, DerivesTarget, DerivesSimple, DerivesOption, DerivesStep, DerivesDeclared, DerivesDeclarators, DerivesDeclaration, DerivesFirst, DerivesStmt, DerivesItems, DerivesDims, DerivesParam, DerivesParamList, DerivesParams, Derives}
 
 -- tokens that all belong to n constructs
 abbrev pub at_level : ℕ → List Token → List ℕ
@@ -33,11 +33,20 @@ abbrev mutual
   expr_nesting n (DerivesExpr.number v t s) = n ∷ []
   expr_nesting n (DerivesExpr.name x s) = n ∷ []
   expr_nesting n (DerivesExpr.element x s ts e es indices) = n ∷ indices_nesting n indices
+  expr_nesting n (DerivesExpr.call x s a z ts es args) = n ∷ enclosed (suc n) (args_nesting (suc n) args)
   expr_nesting n (DerivesExpr.parens ts s z e d) = enclosed (suc n) (expr_nesting (suc n) d)
 
   pub indices_nesting : {ts : List Token} {es : List Expr} → ℕ → DerivesIndices ts es → List ℕ
   indices_nesting n DerivesIndices.no_more = []
   indices_nesting n (DerivesIndices.one_more ts us s z e es d ds) = enclosed (suc n) (expr_nesting (suc n) d) ++ indices_nesting n ds
+
+  pub args_nesting : {ts : List Token} {es : List Expr} → ℕ → DerivesArgs ts es → List ℕ
+  args_nesting n DerivesArgs.no_arguments = []
+  args_nesting n (DerivesArgs.arguments ts us e es d ds) = expr_nesting n d ++ more_args_nesting n ds
+
+  pub more_args_nesting : {ts : List Token} {es : List Expr} → ℕ → DerivesMoreArgs ts es → List ℕ
+  more_args_nesting n DerivesMoreArgs.no_further = []
+  more_args_nesting n (DerivesMoreArgs.one_further ts us s e es d ds) = n ∷ (expr_nesting n d ++ more_args_nesting n ds)
 
 abbrev pub option_nesting : {ts : List Token} {e : Option Expr} → ℕ → DerivesOption ts e → List ℕ
 option_nesting n DerivesOption.absent = []

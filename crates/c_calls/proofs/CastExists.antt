@@ -22,12 +22,13 @@ use Rattle.c_ast.specs.declared.tree.StmtKind as raw_stmt
 use Rattle.c_ast.specs.declared.tree.StmtKind.TheVariants as stmt
 use Rattle.c_ast.specs.declared.tree.StmtKind.TheBlock.{shape-the_row-Stmt-0, hidden-the_row-Stmt-0, shape-the_row-Stmt-1, hidden-the_row-Stmt-1}
 use Rattle.c_ast.specs.declared.tree.Helper.{Helper}
+use Rattle.c_ast.specs.declared.tree.Program.{Program}
 use Rattle.c_ast.specs.declared.program.ProgExpr.{ProgExpr}
 use Rattle.c_ast.specs.declared.program.ProgStmtKind.TheVariants as act
 use Rattle.c_ast.specs.Typing.{Sort, Names, a_scalar, a_helper, sort_in, sort_of, with_name, IsUsable, IsCallable, IsReturnable, TypingKind, TypingRow, TypingExpr, TypingOption, TypingTarget, names_after, names_after_row, TypingStmt, TypingHeld, TypingStmts, TypingList, row_length, sort_of_dims, scope_of}
 use Rattle.c_ast.specs.Typing as typing
 use Rattle.c_ast.specs.Casts.{Declared, a_var, an_array, Scope, Context, declared_as, into_innermost, with_var, opened, closed, expr_at, stmt_at, Parameters, with_param, with_params, first_context}
-use Rattle.c_ast.specs.Programs.{TypingHelper, with_helper, TypingHelpers, known_after, names_after_list}
+use Rattle.c_ast.specs.Programs.{TypingHelper, with_helper, TypingHelpers, TypingProgram, known_after, names_after_list}
 use Rattle.c_ast.specs.ProgramCasts.{Known, helper_from, helper_of, known_of, prog_of, prog_converted, prog_converted_all, CastsCallExpr, CastsCallExprs, CastsCallTarget, CastsCallOption, prog_at, CastsCallStmt, CastsCallHeld, CastsCallStmts, CastsHelper, CastsHelpers, CastsProgram}
 use Rattle.c_ast.specs.ProgramCasts as casts
 use Rattle.c_meaning.proofs.Contexts.{sort_as, UsedAs}
@@ -35,7 +36,7 @@ use Rattle.c_meaning.proofs.Existence.{all_head, all_tail, not_empty, not_below_
 use Rattle.c_meaning.proofs.LawfulExpressions.{found_in}
 use Rattle.c_meaning.proofs.TreeShapes.{exprs_of, stmts_of, element_is, block_is, held_of, if_is, for_is, items_are}
 use Rattle.c_calls.specs.Texts.{TypedExists}
-use Rattle.c_calls.proofs.CastOnce.{name_as, element_as, call_as, target_as, cast_kind, cast_row, cast_expr, cast_exprs, cast_option, cast_target, value_as, return_as, cast_stmt, cast_held, cast_stmts, cast_body, cast_helper, cast_helpers, cast_kernel}
+use Rattle.c_calls.proofs.CastOnce.{name_as, element_as, call_as, target_as, cast_kind, cast_row, cast_expr, cast_exprs, cast_option, cast_target, value_as, return_as, cast_stmt, cast_held, cast_stmts, cast_body, cast_helper, cast_helpers, cast_program}
 use Rattle.c_calls.proofs.CastExprs.{there_is}
 use Rattle.c_calls.proofs.CastPrograms.{names_after_same}
 
@@ -392,21 +393,22 @@ all_cast (h ∷ rest) hs known w keeps =
 none_known : Knows [] []
 none_known x = refl
 
-pub typed_exists : TypedExists
-typed_exists p keeps =
+pub program_casts : (p : Program) → TypingProgram p → CastsProgram p (cast_program p)
+program_casts p keeps =
     let hs = map known_of p.helpers in
     let known = known_after [] p.helpers in
-    let d = cast_body hs p.kernel.result p.kernel.params p.kernel.body in (
-      record { helpers = cast_helpers [] p.helpers; kernel = cast_kernel p },
-      record {
-        helpers_cast = all_cast p.helpers [] [] none_known keeps.helpers_keep;
-        same_name = refl;
-        same_place = refl;
-        same_result = refl;
-        same_params = refl;
-        arrays_are = refl;
-        last = d.after;
-        body_casts = body_casts hs (scope_of p.kernel.params [] ∷ known ∷ []) p.kernel.result p.kernel.params p.kernel.body (first_tells hs known p.kernel.params (knows_all p.helpers [] [] none_known keeps.helpers_keep)) keeps.body_keeps;
-        vars_are = refl;
-      },
-    )
+    let d = cast_body hs p.kernel.result p.kernel.params p.kernel.body in
+    record {
+      helpers_cast = all_cast p.helpers [] [] none_known keeps.helpers_keep;
+      same_name = refl;
+      same_place = refl;
+      same_result = refl;
+      same_params = refl;
+      arrays_are = refl;
+      last = d.after;
+      body_casts = body_casts hs (scope_of p.kernel.params [] ∷ known ∷ []) p.kernel.result p.kernel.params p.kernel.body (first_tells hs known p.kernel.params (knows_all p.helpers [] [] none_known keeps.helpers_keep)) keeps.body_keeps;
+      vars_are = refl;
+    }
+
+pub typed_exists : TypedExists
+typed_exists p keeps = (cast_program p, program_casts p keeps)

@@ -24,7 +24,7 @@ use Rattle.c_meaning.specs.Lawful.{IsVar}
 use Rattle.c_meaning.proofs.LawfulExpressions.{Extends, extends_trans}
 use Rattle.c_meaning.proofs.TypeLemmas.{assigned_twice}
 use Rattle.c_calls.specs.Lawful.{Signature, LawfulCallExpr, IfAnyExpr, LawfulCallTarget, LawfulCallReturn, LawfulCallStmt, LawfulCallHeld, LawfulCallStmts, ReadsAt, IsTargetOf, in_scope_after, in_scope_after_row, IsScoped, IsHeldScoped, AreScoped}
-use Rattle.c_calls.specs.Texts.{ReturnsWhere, HeldReturnsWhere, RowReturnsWhere}
+use Rattle.c_ast.specs.OfTexts.{ReturnsWhere, HeldReturnsWhere, RowReturnsWhere}
 use Rattle.c_calls.proofs.CastExprs.{gs, converted_has, Fits, converted_lawful, var_at, array_at, expr_fit, exprs_fit, casts_long, converted_reads, AllRead, expr_reads, exprs_read}
 use Rattle.c_calls.proofs.CastStmts.{stmt_grows, held_grows, stmts_grow, grown, Stands, opens, later, new_var, declares_one, held_after, stmt_after, stmts_after}
 

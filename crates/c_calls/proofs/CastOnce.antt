@@ -300,10 +300,13 @@ cast_kernel p =
     let d = cast_body (map known_of p.helpers) k.result k.params k.body in
     record { name = k.name; at = k.at; result = k.result; params = k.params; vars = d.after.types; arrays = (parameters k.params).arrays; body = d.value }
 
+abbrev pub cast_program : Program → TypedProgram
+cast_program p = record { helpers = cast_helpers [] p.helpers; kernel = cast_kernel p }
+
 abbrev program_by : List TypedHelper → List ℕ → Span → Option Ty → List Param → List Ty → List ArrayOf → List ProgStmt → TypedProgram
 program_by hs n a r ps vs xs b = record { helpers = hs; kernel = record { name = n; at = a; result = r; params = ps; vars = vs; arrays = xs; body = b } }
 
-one_program : (p : Program) (P : TypedProgram) → CastsProgram p P → P ≡ record { helpers = cast_helpers [] p.helpers; kernel = cast_kernel p }
+one_program : (p : Program) (P : TypedProgram) → CastsProgram p P → P ≡ cast_program p
 one_program p P c =
     let k = P.kernel in
     let l = cast_kernel p in

@@ -42,7 +42,8 @@ use Rattle.c_meaning.proofs.LawfulExpressions.{Extends, extends_refl, extends_mo
 use Rattle.c_meaning.proofs.LawfulKernels.{tree_lawful}
 use Rattle.c_calls.specs.Meanings.{helper_objects, prog_objects}
 use Rattle.c_calls.specs.Lawful.{Signature, signature_of, LawfulCallStmt, LawfulCallStmts, LawfulCallExpr, ReadsAt, in_scope_after, in_scope_after_row, in_scope_after_list, AreScoped, ListScoped, numbers_from, prog_vars_of, prog_vars_held, prog_vars_row, all_prog_vars, declared_of, declared_held, declared_row, all_declared, AreOnce, InScope, LawfulHelper, LawfulHelpers, LawfulProgram}
-use Rattle.c_calls.specs.Texts.{ReturnsWhere, HeldReturnsWhere, RowReturnsWhere, IsHelperOfText, IsProgramOfText, TypedIsLawful}
+use Rattle.c_ast.specs.OfTexts.{ReturnsWhere, HeldReturnsWhere, RowReturnsWhere, IsHelperOfText, IsProgramOfText}
+use Rattle.c_calls.specs.Texts.{TypedIsLawful}
 use Rattle.c_calls.proofs.Lists.{no_member, member_cases}
 use Rattle.c_calls.proofs.Helpers.{numbers_below, numbers_all}
 use Rattle.c_calls.proofs.LawfulHelpers.{is_below, many_scalars}

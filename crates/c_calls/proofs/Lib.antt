@@ -21,6 +21,6 @@ mod CastExprs
 mod CastStmts
 mod CastLawful
 mod CastPrograms
-mod CastOnce
-mod CastExists
+pub mod CastOnce
+pub mod CastExists
 mod WorkedLawful

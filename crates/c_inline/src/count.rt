@@ -29,9 +29,13 @@ use el_base::{Boxed, List, Memory};
 use std::alloc::Global;
 
 /// The number of nodes of the kernel without calls, or 2^64 - 1 where there are more: the block of each helper is counted
-/// once, helper by helper, and each call adds what was counted.
+/// once, helper by helper, and each call adds what was counted. Time and memory grow as the program does.
+///
+/// # Errors
+///
+/// [`Memory`] where memory is wanting.
 #[tactic(auto, using(crate::proofs::Stopped::nodes_stop))]
-pub(crate) fn inlined_nodes(alloc: Global, program: &TypedProgram) -> Result<u64, Memory>
+pub fn inlined_nodes(alloc: Global, program: &TypedProgram) -> Result<u64, Memory>
     ensures { IfOk result (λ n. n ≡ min (inlined_nodes program.now) (2 ^ 64 - 1)) }
 {
     let blocks = blocks(alloc, program.helpers.as_slice())?;

@@ -7,5 +7,6 @@ mod inlining;
 mod refusal;
 mod walk;
 
+pub use count::inlined_nodes;
 pub use inlining::inline;
 pub use refusal::InlineRefusal;

@@ -15,7 +15,7 @@ use Rattle.c_parse.specs.Refusals.{refusal_of, IsLarge, Says}
 use Rattle.c_parse.specs.Symbols.{kernel_symbols}
 use Rattle.c_parse.specs.Traces.{Verdict, judge}
 use Rattle.c_parse.specs.Verdicts.{Tells}
-use Rattle.c_parse.proofs.Exactness.{judged_means}
+use Rattle.c_parse.proofs.KernelExactness.{judged_means}
 use Rattle.c_parse.proofs.Fitting.{tree_fits}
 
 pub stop_says : (tokens : List Token) (end : Span) (s : Stop) → Tells s (judge kernel_symbols tokens) → Says tokens end (Err (refusal_of end s))

@@ -121,6 +121,7 @@ takes_spelled Fixed.closing_bracket (word.Mark mark.CloseBracket) h = refl
 takes_spelled Fixed.colon (word.Mark mark.Colon) h = refl
 takes_spelled Fixed.semicolon (word.Mark mark.Semicolon) h = refl
 takes_spelled Fixed.opening_brace (word.Mark mark.OpenBrace) h = refl
+takes_spelled Fixed.closing_brace (word.Mark mark.CloseBrace) h = refl
 takes_spelled Fixed.while_word (word.Key key.While) h = refl
 takes_spelled f w h = absurd (cc)
 
@@ -131,6 +132,7 @@ spelled_takes Fixed.closing_bracket = refl
 spelled_takes Fixed.colon = refl
 spelled_takes Fixed.semicolon = refl
 spelled_takes Fixed.opening_brace = refl
+spelled_takes Fixed.closing_brace = refl
 spelled_takes Fixed.while_word = refl
 
 fixed_takes : (n : ℕ) (f : Fixed) (w : Word) → spelled f ≡ w → move (Symbol.fixed n f) w ≡ Move.take n []

@@ -13,8 +13,11 @@ use Rattle.c_ast.specs.declared.tree.Param.{Param}
 use Rattle.c_ast.specs.declared.tree.Target.{Target}
 use Rattle.c_ast.specs.declared.tree.Expr.{Expr}
 use Rattle.c_ast.specs.declared.tree.Stmt.{Stmt}
-use Rattle.c_ast.specs.Derives.{marked, keyed, named, numbered, between, if_tokens, DerivesType, DerivesExpr, DerivesIndices, DerivesTarget, DerivesSimple, DerivesOption, DerivesStep, DerivesDeclared, DerivesDeclarators, DerivesFirst, DerivesStmt, DerivesItems, DerivesDims, DerivesParam, DerivesParamList, DerivesParams, DerivesResult}
+use Rattle.c_ast.specs.Derives.{marked, keyed, named, numbered, between, if_tokens, DerivesType, DerivesExpr, DerivesIndices, DerivesArgs, DerivesMoreArgs, DerivesTarget, DerivesSimple, DerivesOption, DerivesStep, DerivesDeclared, DerivesDeclarators, DerivesFirst, DerivesStmt, DerivesItems, DerivesDims, DerivesParam, DerivesParamList, DerivesParams, DerivesResult}
+use Rattle.c_ast.specs.ProgramTexts.{DerivesProgram}
+use Rattle.c_parse.specs.declared.bar.Bar.TheVariants as bar
 use Rattle.c_parse.specs.Symbols.{Symbol, Move, spelled, followed}
+use Rattle.c_parse.proofs.EachToken.{NoneBarred}
 
 -- ---- parts of a list of tokens
 
@@ -51,6 +54,11 @@ pub data IsNumber : List Token → Type 0 where
 pub data Before (m : Mark) (P : List Token → Type 0) : List Token → Type 0 where
   before : (ts : List Token) (s : Span) → P ts → Before m P (ts ++ marked m s ∷ [])
 
+-- the statements of a helper, its return and what follows, with its closing brace
+pub data HelperEnd : List Token → Type 0 where
+  helper_end : (ts us : List Token) (r e y : Span) (body : List Stmt) (v : Expr) → DerivesItems ts body → NoneBarred bar.Returns ts → DerivesExpr 0 us v
+      → HelperEnd (ts ++ keyed key.Return r ∷ (us ++ marked mark.Semicolon e ∷ marked mark.CloseBrace y ∷ []))
+
 -- ---- what a symbol derives; of what only continues a part, that it continues one
 
 -- the level of what stands before the operators of a level
@@ -68,6 +76,9 @@ Means (Symbol.expression n l) ts = l ≤ 11 → Has (DerivesExpr l) ts
 Means (Symbol.inside n) ts = (s : Span) → Has (DerivesExpr 11) (marked mark.Open s ∷ ts)
 Means (Symbol.operators n l) ts = (us : List Token) (a : Expr) → DerivesExpr (base l) us a → Has (DerivesExpr l) (us ++ ts)
 Means (Symbol.indices n) ts = Has DerivesIndices ts
+Means (Symbol.postfix n) ts = (x : List ℕ) (s : Span) → Has (DerivesExpr 11) (named x s ∷ ts)
+Means (Symbol.arguments n) ts = Before mark.Close (Has DerivesArgs) ts
+Means (Symbol.more_arguments n) ts = Has DerivesMoreArgs ts
 Means (Symbol.simple n) ts = Has DerivesSimple ts
 Means (Symbol.assigning n) ts = (us : List Token) (t : Target) → DerivesTarget us t → Has DerivesSimple (us ++ ts)
 Means (Symbol.declared n) ts = (t : Ty) → Has (DerivesDeclared t) ts
@@ -84,6 +95,9 @@ Means (Symbol.params n) ts = Before mark.Close (Has DerivesParams) ts
 Means (Symbol.a_param n) ts = Has DerivesParam ts
 Means (Symbol.more_params n) ts = (us : List Token) (p : Param) → DerivesParam us p → Has DerivesParamList (us ++ ts)
 Means (Symbol.dims n) ts = Has DerivesDims ts
+Means Symbol.program ts = Has DerivesProgram ts
+Means (Symbol.helper_body n) ts = HelperEnd ts
+Means (Symbol.without b s) ts = Means s ts × NoneBarred b ts
 Means (Symbol.reduce r) ts = IsEmpty ts
 
 abbrev pub Denotes : List Symbol → List Token → Type 0

@@ -17,9 +17,9 @@ use Rattle.c_ast.specs.declared.tree.Binary.{Binary}
 use Rattle.c_ast.specs.declared.tree.Binary.TheVariants as binary
 use Rattle.c_ast.specs.declared.tree.Expr.{Expr}
 use Rattle.c_ast.specs.declared.tree.ExprKind.TheVariants as expr
-use Rattle.c_ast.specs.Derives.{marked, keyed, named, numbered, between, expr_of, IsBinary, IsUnary, DerivesType, DerivesExpr, DerivesIndices}
-use Rattle.c_parse.specs.Symbols.{Symbol, Reduction, Fixed, Move, spelled, takes, fixed_move, type_move, maybe_int_move, looser, tails, expression_move, inside_move, operator_move, operators_move, indices_move}
-use Rattle.c_parse.proofs.Denotations.{Has, IsEmpty, Is, Means, Denotes, Serves, token, base, has, both, skip, ends, last, last_reduced, after_word, denotes_apart, serves_followed}
+use Rattle.c_ast.specs.Derives.{marked, keyed, named, numbered, between, expr_of, IsBinary, IsUnary, DerivesType, DerivesExpr, DerivesIndices, DerivesArgs, DerivesMoreArgs}
+use Rattle.c_parse.specs.Symbols.{Symbol, Reduction, Fixed, Move, spelled, takes, fixed_move, type_move, maybe_int_move, looser, tails, expression_move, inside_move, operator_move, operators_move, indices_move, postfix_move, arguments_move, more_arguments_move, followed}
+use Rattle.c_parse.proofs.Denotations.{Has, IsEmpty, Is, Before, Means, Denotes, Serves, token, base, has, both, skip, ends, last, last_reduced, after_word, by_word, by_mark, denotes_apart, serves_followed, serves_as}
 
 -- ---- words and types
 
@@ -33,6 +33,7 @@ fixed_serves n Fixed.closing_bracket (word.Mark mark.CloseBracket) s = alone (wo
 fixed_serves n Fixed.colon (word.Mark mark.Colon) s = alone (word.Mark mark.Colon) s
 fixed_serves n Fixed.semicolon (word.Mark mark.Semicolon) s = alone (word.Mark mark.Semicolon) s
 fixed_serves n Fixed.opening_brace (word.Mark mark.OpenBrace) s = alone (word.Mark mark.OpenBrace) s
+fixed_serves n Fixed.closing_brace (word.Mark mark.CloseBrace) s = alone (word.Mark mark.CloseBrace) s
 fixed_serves n Fixed.while_word (word.Key key.While) s = alone (word.Key key.While) s
 fixed_serves n f w s = tt
 
@@ -90,12 +91,6 @@ with_tails n l ts us h d small =
 
 -- ---- expressions
 
-name_has : (x : List ℕ) (s : Span) (ts : List Token) (es : List Expr) → DerivesIndices ts es → Has (DerivesExpr 11) (named x s ∷ ts)
-name_has x s ts es DerivesIndices.no_more = primary (named x s ∷ []) (expr_of (expr.Name x) (named x s ∷ [])) (DerivesExpr.name x s)
-name_has x s ts es (DerivesIndices.one_more fs bs a z e more d ds) =
-    let us : List Token = between mark.OpenBracket a fs mark.CloseBracket z ++ bs in
-    primary (named x s ∷ us) (expr_of (expr.Element x (e ∷ more)) (named x s ∷ us)) (DerivesExpr.element x s us e more (DerivesIndices.one_more fs bs a z e more d ds))
-
 signed_serves : (n l : ℕ) (m : Mark) (op : Unary) (s : Span) → IsUnary m op → (us : List Token)
     → Denotes (Symbol.expression (suc n) 11 ∷ Symbol.reduce Reduction.signed ∷ tails n l) us → Means (Symbol.expression n l) (marked m s ∷ us)
 signed_serves n l m op s h us d small = both (λ vs. Has (DerivesExpr l) (marked m s ∷ vs)) us d (λ fs bs p q.
@@ -104,7 +99,7 @@ signed_serves n l m op s h us d small = both (λ vs. Has (DerivesExpr l) (marked
 
 pub expression_serves : (n l : ℕ) (w : Word) (s : Span) → Serves false (Means (Symbol.expression n l)) (expression_move n l w) (token w s)
 expression_serves n l (word.Name x) s = λ us d small. both (λ vs. Has (DerivesExpr l) (named x s ∷ vs)) us (skip us d) (λ fs bs p q.
-    with_tails n l (named x s ∷ fs) bs (name_has x s fs p.value p.derived) (skip bs q) small)
+    with_tails n l (named x s ∷ fs) bs (p x s) (skip bs q) small)
 expression_serves n l (word.Number v t) s = λ us d small. with_tails n l (numbered v t s ∷ []) us (primary (numbered v t s ∷ []) (expr_of (expr.Number v t) (numbered v t s ∷ [])) (DerivesExpr.number v t s)) (skip us d) small
 expression_serves n l (word.Mark mark.Open) s = λ us d small. both (λ vs. Has (DerivesExpr l) (marked mark.Open s ∷ vs)) us d (λ fs bs p q. with_tails n l (marked mark.Open s ∷ fs) bs (p s) q small)
 expression_serves n l (word.Mark mark.Plus) s = signed_serves n l mark.Plus unary.Plus s IsUnary.plus
@@ -197,3 +192,48 @@ index_of n s us d = both (λ vs. Has DerivesIndices (marked mark.OpenBracket s �
 pub indices_serves : (n : ℕ) (w : Word) (s : Span) → Serves true (Has DerivesIndices) (indices_move n w) (token w s)
 indices_serves n (word.Mark mark.OpenBracket) s = index_of n s
 indices_serves n w s = refl
+
+-- ---- what follows a name
+
+pub name_has : (x : List ℕ) (s : Span) (ts : List Token) (es : List Expr) → DerivesIndices ts es → Has (DerivesExpr 11) (named x s ∷ ts)
+name_has x s ts es DerivesIndices.no_more = primary (named x s ∷ []) (expr_of (expr.Name x) (named x s ∷ [])) (DerivesExpr.name x s)
+name_has x s ts es (DerivesIndices.one_more fs bs a z e more d ds) =
+    let us : List Token = between mark.OpenBracket a fs mark.CloseBracket z ++ bs in
+    primary (named x s ∷ us) (expr_of (expr.Element x (e ∷ more)) (named x s ∷ us)) (DerivesExpr.element x s us e more (DerivesIndices.one_more fs bs a z e more d ds))
+
+call_has : (x : List ℕ) (s a : Span) (us : List Token) → Before mark.Close (Has DerivesArgs) us → Has (DerivesExpr 11) (named x s ∷ marked mark.Open a ∷ us)
+call_has x s a us d = by_mark (λ vs. Has (DerivesExpr 11) (named x s ∷ marked mark.Open a ∷ vs)) us d (λ ts z args.
+    let all : List Token = named x s ∷ between mark.Open a ts mark.Close z in
+    primary all (expr_of (expr.Call x args.value) all) (DerivesExpr.call x s a z ts args.value args.derived))
+
+index_follows : (n : ℕ) (w : Word) (a : Span) → Serves true (Means (Symbol.postfix n)) (indices_move n w) (token w a)
+index_follows n w a = serves_as (Has DerivesIndices) (Means (Symbol.postfix n)) true (indices_move n w) (token w a) (λ us d x s. name_has x s us d.value d.derived) (indices_serves n w a)
+
+pub postfix_serves : (n : ℕ) (w : Word) (a : Span) → Serves true (Means (Symbol.postfix n)) (postfix_move n w) (token w a)
+postfix_serves n (word.Mark mark.Open) a = λ us d x s. call_has x s a us (last us d)
+postfix_serves n w a = index_follows n w a
+
+arguments_of : (n : ℕ) (ts us : List Token) → Means (Symbol.expression n 0) ts
+    → Denotes (Symbol.reduce Reduction.first_argument ∷ Symbol.more_arguments n ∷ Symbol.fixed n Fixed.closing ∷ []) us → Means (Symbol.arguments n) (ts ++ us)
+arguments_of n ts us one d = both (λ vs. Before mark.Close (Has DerivesArgs) (ts ++ vs)) us (skip us d) (λ fs bs more q.
+    by_word (λ vs. Before mark.Close (Has DerivesArgs) (ts ++ (fs ++ vs))) bs (last bs q) (λ z.
+    let e : Has (DerivesExpr 0) ts = one zero-le in
+    subst (Before mark.Close (Has DerivesArgs)) (append_assoc ts fs (marked mark.Close z ∷ []))
+    (Before.before (ts ++ fs) z (has DerivesArgs (ts ++ fs) (e.value ∷ more.value) (DerivesArgs.arguments ts fs e.value more.value e.derived more.derived)))))
+
+arguments_of_one : (n : ℕ) (w : Word) (s : Span) → Serves false (Means (Symbol.arguments n))
+    (followed (expression_move n 0 w) (Symbol.reduce Reduction.first_argument ∷ Symbol.more_arguments n ∷ Symbol.fixed n Fixed.closing ∷ [])) (token w s)
+arguments_of_one n w s = serves_followed (Means (Symbol.expression n 0)) (Means (Symbol.arguments n)) false
+    (Symbol.reduce Reduction.first_argument ∷ Symbol.more_arguments n ∷ Symbol.fixed n Fixed.closing ∷ []) (expression_move n 0 w) (token w s)
+    (arguments_of n) (expression_serves n 0 w s)
+
+pub arguments_serves : (n : ℕ) (w : Word) (s : Span) → Serves false (Means (Symbol.arguments n)) (arguments_move n w) (token w s)
+arguments_serves n (word.Mark mark.Close) s = λ us d. ends (λ vs. Before mark.Close (Has DerivesArgs) (marked mark.Close s ∷ vs)) us (skip us d) (Before.before [] s (has DerivesArgs [] [] DerivesArgs.no_arguments))
+arguments_serves n w s = arguments_of_one n w s
+
+pub more_arguments_serves : (n : ℕ) (w : Word) (s : Span) → Serves true (Has DerivesMoreArgs) (more_arguments_move n w) (token w s)
+more_arguments_serves n (word.Mark mark.Comma) s = λ us d. both (λ vs. Has DerivesMoreArgs (marked mark.Comma s ∷ vs)) us d (λ fs bs one q.
+    let e : Has (DerivesExpr 0) fs = one zero-le in
+    let more : Has DerivesMoreArgs bs = last bs (skip bs q) in
+    has DerivesMoreArgs (marked mark.Comma s ∷ (fs ++ bs)) (e.value ∷ more.value) (DerivesMoreArgs.one_further fs bs s e.value more.value e.derived more.derived))
+more_arguments_serves n w s = refl

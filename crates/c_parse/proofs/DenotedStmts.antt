@@ -86,7 +86,7 @@ more_declared_serves n (word.Mark mark.Comma) s = λ us d t ts x dx. both (λ vs
     has (DerivesDeclarators t) (ts ++ marked mark.Comma s ∷ (fs ++ bs)) (x ∷ more.value) (DerivesDeclarators.one_more t ts (fs ++ bs) s x more.value dx more.derived))
 more_declared_serves n w s = refl
 
-declaration_of : (n : ℕ) (ts us : List Token) → Has DerivesType ts → Denotes (declarators n) us → Has DerivesDeclaration (ts ++ us)
+pub declaration_of : (n : ℕ) (ts us : List Token) → Has DerivesType ts → Denotes (declarators n) us → Has DerivesDeclaration (ts ++ us)
 declaration_of n ts us t d = both (λ vs. Has DerivesDeclaration (ts ++ vs)) us d (λ fs bs p q. both (λ vs. Has DerivesDeclaration (ts ++ (fs ++ vs))) bs (skip bs q) (λ gs cs r e.
     after_word (λ vs. Has DerivesDeclaration (ts ++ (fs ++ (gs ++ vs)))) cs e (λ z ws h.
     let one : Has (DerivesDeclared t.value) fs = p t.value in

@@ -18,30 +18,23 @@ use Rattle.c_ast.specs.declared.tree.Stmt.{Stmt}
 use Rattle.c_ast.specs.declared.tree.StmtKind.TheVariants as stmt
 use Rattle.c_ast.specs.declared.tree.StmtKind.TheBlock.{shape-the_row-Stmt-0, hidden-the_row-Stmt-0, shape-the_row-Stmt-1, hidden-the_row-Stmt-1, back-StmtKind-If-2}
 use Rattle.c_ast.specs.declared.tree.Tree.{Tree}
-use Rattle.c_ast.specs.Derives.{marked, keyed, named, between, if_tokens, do_tokens, DerivesExpr, DerivesIndices, DerivesTarget, DerivesSimple, DerivesOption, DerivesStep, DerivesDeclared, DerivesDeclarators, DerivesDeclaration, DerivesFirst, DerivesStmt, DerivesItems, Derives}
+use Rattle.c_ast.specs.Derives.{marked, keyed, named, between, if_tokens, do_tokens, DerivesExpr, DerivesIndices, DerivesArgs, DerivesMoreArgs, DerivesTarget, DerivesSimple, DerivesOption, DerivesStep, DerivesDeclared, DerivesDeclarators, DerivesDeclaration, DerivesFirst, DerivesStmt, DerivesItems, Derives}
+use Rattle.c_parse.proofs.EachToken.{Each, each_of, each_front, each_back, each_inside}
 use Rattle.c_ast.specs.Constants.{NumberFits, NumbersFitKind, NumbersFitRow, NumbersFitExpr, NumbersFitOption, NumbersFitTarget, NumbersFitStmt, NumbersFitStmts, NumbersFitHeld, NumbersFit}
 
 -- ---- tokens
 
--- `All NumberFits`, token by token
-abbrev AreFitting : List Token → Type 0
-AreFitting [] = Unit {0}
-AreFitting (t ∷ ts) = NumberFits t × AreFitting ts
-
-are_fitting : (ts : List Token) → All NumberFits ts → AreFitting ts
-are_fitting [] h = tt
-are_fitting (t ∷ ts) h = (All-head NumberFits t ts h, are_fitting ts (All-tail NumberFits t ts h))
+abbrev pub AreFitting : List Token → Type 0
+AreFitting ts = Each NumberFits ts
 
 front : (ts us : List Token) → AreFitting (ts ++ us) → AreFitting ts
-front [] us h = tt
-front (t ∷ ts) us h = (h.0, front ts us h.1)
+front ts us h = each_front NumberFits ts us h
 
 back : (ts us : List Token) → AreFitting (ts ++ us) → AreFitting us
-back [] us h = h
-back (t ∷ ts) us h = back ts us h.1
+back ts us h = each_back NumberFits ts us h
 
 inside : (m n : Mark) (s z : Span) (ts : List Token) → AreFitting (between m s ts n z) → AreFitting ts
-inside m n s z ts h = front ts (marked n z ∷ []) h.1
+inside m n s z ts h = each_inside NumberFits m n s z ts h
 
 -- ---- expressions
 
@@ -52,6 +45,9 @@ row_fits (e ∷ es) h = (All-head NumbersFitExpr e es h, row_fits es (All-tail N
 
 element_fits : (x : List ℕ) (es : List Expr) → All NumbersFitExpr es → NumbersFitKind (expr.Element x es)
 element_fits x es h = row_fits es h
+
+call_fits : (x : List ℕ) (es : List Expr) → All NumbersFitExpr es → NumbersFitKind (expr.Call x es)
+call_fits x es h = row_fits es h
 
 unary_fits : (op : Unary) (a : Expr) → NumbersFitExpr a → NumbersFitKind (expr.Unary op a)
 unfolding shape-the_row-Expr-0 hidden-the_row-Expr-0 shape-the_row-Expr-1 hidden-the_row-Expr-1 hidden
@@ -70,7 +66,7 @@ unfolding shape-the_row-Expr-0 hidden-the_row-Expr-0 shape-the_row-Expr-1 hidden
 choice_fits a b d p q r = (p, q, r)
 
 mutual
-  expr_fits : (l : ℕ) (ts : List Token) (e : Expr) → DerivesExpr l ts e → AreFitting ts → NumbersFitExpr e
+  pub expr_fits : (l : ℕ) (ts : List Token) (e : Expr) → DerivesExpr l ts e → AreFitting ts → NumbersFitExpr e
   expr_fits l ts e (DerivesExpr.tighter k us a below d) h = expr_fits (suc k) us a d h
   expr_fits l ts e (DerivesExpr.choice us ws xs q c a b x cond chosen other) h =
       let behind = back us (marked mark.Question q ∷ (ws ++ marked mark.Colon c ∷ xs)) h in
@@ -83,6 +79,7 @@ mutual
   expr_fits l ts e (DerivesExpr.number n t s) h = h.0
   expr_fits l ts e (DerivesExpr.name x s) h = tt
   expr_fits l ts e (DerivesExpr.element x s us a es d) h = element_fits x (a ∷ es) (indices_fit us (a ∷ es) d h.1)
+  expr_fits l ts e (DerivesExpr.call x s a z us es d) h = call_fits x es (args_fit us es d (inside mark.Open mark.Close a z us h.1))
   expr_fits l ts e (DerivesExpr.parens us s z a d) h = expr_fits 0 us a d (inside mark.Open mark.Close s z us h)
 
   indices_fit : (ts : List Token) (es : List Expr) → DerivesIndices ts es → AreFitting ts → All NumbersFitExpr es
@@ -90,6 +87,15 @@ mutual
   indices_fit ts es (DerivesIndices.one_more us ws s z a more d ds) h =
       All-cons NumbersFitExpr a more (expr_fits 0 us a d (inside mark.OpenBracket mark.CloseBracket s z us (front (between mark.OpenBracket s us mark.CloseBracket z) ws h)))
       (indices_fit ws more ds (back (between mark.OpenBracket s us mark.CloseBracket z) ws h))
+
+  args_fit : (ts : List Token) (es : List Expr) → DerivesArgs ts es → AreFitting ts → All NumbersFitExpr es
+  args_fit ts es DerivesArgs.no_arguments h = All-nil NumbersFitExpr
+  args_fit ts es (DerivesArgs.arguments us ws a more d ds) h = All-cons NumbersFitExpr a more (expr_fits 0 us a d (front us ws h)) (more_args_fit ws more ds (back us ws h))
+
+  more_args_fit : (ts : List Token) (es : List Expr) → DerivesMoreArgs ts es → AreFitting ts → All NumbersFitExpr es
+  more_args_fit ts es DerivesMoreArgs.no_further h = All-nil NumbersFitExpr
+  more_args_fit ts es (DerivesMoreArgs.one_further us ws s a more d ds) h =
+      All-cons NumbersFitExpr a more (expr_fits 0 us a d (front us ws h.1)) (more_args_fit ws more ds (back us ws h.1))
 
 option_fits : (ts : List Token) (e : Option Expr) → DerivesOption ts e → AreFitting ts → NumbersFitOption e
 option_fits ts e DerivesOption.absent h = tt
@@ -196,14 +202,17 @@ mutual
   stmt_fits f ts s (DerivesStmt.continuing a z) h = tt
   stmt_fits f ts s (DerivesStmt.returning a z us e d) h = option_fits us e d (front us (marked mark.Semicolon z ∷ []) h.1)
 
-  items_fit : (ts : List Token) (ss : List Stmt) → DerivesItems ts ss → AreFitting ts → All Fits ss
+  pub items_fit : (ts : List Token) (ss : List Stmt) → DerivesItems ts ss → AreFitting ts → All Fits ss
   items_fit ts ss DerivesItems.done h = All-nil Fits
   items_fit ts ss (DerivesItems.statement f us ws s more d ds) h = All-cons Fits s more (stmt_fits f us s d (front us ws h)) (items_fit ws more ds (back us ws h))
   items_fit ts ss (DerivesItems.declares us ws ds more d rest) h = All-append Fits ds more (declaration_fits us ds d (front us ws h)) (items_fit ws more rest (back us ws h))
 
 -- ---- kernels
 
-pub tree_fits : (ts : List Token) (tree : Tree) → Derives ts tree → All NumberFits ts → NumbersFit tree
-tree_fits ts tree (Derives.kernel rs ps us x s a z b e r params body result parameters items) h =
-    let behind = back rs (named x s ∷ (between mark.Open a ps mark.Close z ++ between mark.OpenBrace b us mark.CloseBrace e)) (are_fitting (rs ++ named x s ∷ (between mark.Open a ps mark.Close z ++ between mark.OpenBrace b us mark.CloseBrace e)) h) in
+pub tree_fits_each : (ts : List Token) (tree : Tree) → Derives ts tree → AreFitting ts → NumbersFit tree
+tree_fits_each ts tree (Derives.kernel rs ps us x s a z b e r params body result parameters items) h =
+    let behind = back rs (named x s ∷ (between mark.Open a ps mark.Close z ++ between mark.OpenBrace b us mark.CloseBrace e)) h in
     items_fit us body items (inside mark.OpenBrace mark.CloseBrace b e us (back (between mark.Open a ps mark.Close z) (between mark.OpenBrace b us mark.CloseBrace e) behind.1))
+
+pub tree_fits : (ts : List Token) (tree : Tree) → Derives ts tree → All NumberFits ts → NumbersFit tree
+tree_fits ts tree d h = tree_fits_each ts tree d (each_of NumberFits ts h)

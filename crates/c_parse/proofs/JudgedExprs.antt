@@ -17,12 +17,12 @@ use Rattle.c_ast.specs.Derives.{marked, IsUnary}
 use Rattle.c_parse.specs.declared.refusal.Stop.{Stop}
 use Rattle.c_parse.specs.declared.refusal.Stop.TheVariants as stop
 use Rattle.c_parse.specs.Tables.{operator_of, sign_of, plain_type, takes_int}
-use Rattle.c_parse.specs.Symbols.{Symbol, Reduction, Fixed, Move, move, is_type_word, type_move, maybe_int_move, expression_move, sign_move, inside_move, operator_move, choice_move, indices_move, in_group}
+use Rattle.c_parse.specs.Symbols.{Symbol, Reduction, Fixed, Move, move, is_type_word, type_move, maybe_int_move, expression_move, sign_move, inside_move, operator_move, choice_move, indices_move, postfix_move, in_group}
 use Rattle.c_parse.specs.Traces.{verdict}
 use Rattle.c_parse.specs.Reads.{Operates, Signs, NamesType, MaySkip, mark_of, mark_at, key_of}
 use Rattle.c_parse.specs.Stops.{Refuses, opens_operand, is_operand_at, is_type_at, is_type_behind, is_name, is_number, is_name_at, is_number_at, meaning, meaning_at}
 use Rattle.c_parse.proofs.Tracing.{is_pass}
-use Rattle.c_parse.proofs.Judging.{judge_unfolds}
+use Rattle.c_parse.proofs.Judging.{judge_unfolds, judge_alike}
 use Rattle.c_parse.proofs.Levels.{trace_unrolls, expression_stays}
 use Rattle.c_parse.proofs.Looseness.{binds, operator_taken}
 use Rattle.c_parse.proofs.Chains.{Same, Fails, same_then, same_takes, same_passes, passes_unless_mark, passes_unless_key, same_reduces, same_alike, deep_fails, refused_fails, refuses_as, marked_word}
@@ -165,7 +165,7 @@ number_alike n t us (word.Number v ty) is h = same_alike refl (ap (λ w. move (S
 number_alike n t us w is h = absurd (cc)
 
 name_alike : (n : ℕ) (t : Token) (us : List Token) (w : Word) → t.word ≡ w → is_name w ≡ true
-    → Same (Symbol.expression n 11 ∷ []) (Symbol.a_name n ∷ Symbol.indices n ∷ Symbol.reduce Reduction.named ∷ []) (t ∷ us) (t ∷ us)
+    → Same (Symbol.expression n 11 ∷ []) (Symbol.a_name n ∷ Symbol.postfix n ∷ Symbol.reduce Reduction.named ∷ []) (t ∷ us) (t ∷ us)
 name_alike n t us (word.Name x) is h = same_alike refl (ap (λ w. move (Symbol.expression n 11) w) is) (ap (λ w. move (Symbol.a_name n) w) is) same_reduces
 name_alike n t us w is h = absurd (cc)
 
@@ -176,10 +176,10 @@ same_as_number {n} {ts} h = by ts h
     by [] h = absurd (cc)
     by (t ∷ us) h = number_alike n t us t.word refl h
 
-pub same_as_name : {n : ℕ} {ts : List Token} → is_name_at ts ≡ true → Same (Symbol.expression n 11 ∷ []) (Symbol.a_name n ∷ Symbol.indices n ∷ Symbol.reduce Reduction.named ∷ []) ts ts
+pub same_as_name : {n : ℕ} {ts : List Token} → is_name_at ts ≡ true → Same (Symbol.expression n 11 ∷ []) (Symbol.a_name n ∷ Symbol.postfix n ∷ Symbol.reduce Reduction.named ∷ []) ts ts
 same_as_name {n} {ts} h = by ts h
   where
-    by : (us : List Token) → is_name_at us ≡ true → Same (Symbol.expression n 11 ∷ []) (Symbol.a_name n ∷ Symbol.indices n ∷ Symbol.reduce Reduction.named ∷ []) us us
+    by : (us : List Token) → is_name_at us ≡ true → Same (Symbol.expression n 11 ∷ []) (Symbol.a_name n ∷ Symbol.postfix n ∷ Symbol.reduce Reduction.named ∷ []) us us
     by [] h = absurd (cc)
     by (t ∷ us) h = name_alike n t us t.word refl h
 
@@ -226,3 +226,21 @@ same_no_index {n} other = passes_unless_mark mark.OpenBracket refl (indices_pass
 pub same_index : {n : ℕ} {more : List Symbol} {s : Span} {before after : List Token} → suc n ≤ max_nesting → before ≡ marked mark.OpenBracket s ∷ after
     → Same (Symbol.indices n ∷ more) (Symbol.expression (suc n) 0 ∷ Symbol.fixed (suc n) Fixed.closing_bracket ∷ Symbol.reduce Reduction.index ∷ Symbol.indices n ∷ more) before after
 same_index small split = same_takes split refl small
+
+-- ---- what follows a name
+
+index_or_none : (n : ℕ) (w : Word) → (mark_of w ≡ Some mark.Open → ⊥) → postfix_move n w ≡ indices_move n w
+index_or_none n (word.Mark mark.Open) other = absurd (other refl)
+index_or_none n w other = refl
+
+-- where no parenthesis comes next, indices do, or nothing
+pub same_as_indices : {n : ℕ} {more : List Symbol} {ts : List Token} → (mark_at ts ≡ Some mark.Open → ⊥) → Same (Symbol.postfix n ∷ more) (Symbol.indices n ∷ more) ts ts
+same_as_indices {n} {more} {ts} other = by ts other
+  where
+    by : (us : List Token) → (mark_at us ≡ Some mark.Open → ⊥) → Same (Symbol.postfix n ∷ more) (Symbol.indices n ∷ more) us us
+    by [] other = record { holds = λ symbols. refl }
+    by (t ∷ us) other = record { holds = λ symbols. judge_alike (Symbol.postfix n) (Symbol.indices n) (more ++ symbols) t us (index_or_none n t.word other) }
+
+pub same_call : {n : ℕ} {more : List Symbol} {s : Span} {before after : List Token} → suc n ≤ max_nesting → before ≡ marked mark.Open s ∷ after
+    → Same (Symbol.postfix n ∷ more) (Symbol.arguments (suc n) ∷ more) before after
+same_call small split = same_takes split refl small

@@ -1,5 +1,5 @@
 -- How the verdict on tokens follows from what the first symbol does.
-use Rattle.std.proofs.Common.{◌≡◌, ℕ, suc, ◌≤◌, List, [], ◌∷◌, ◌++◌, Bool, true, false, nat_lt, if◌then◌else◌, refl, ◌∙◌, ap}
+use Rattle.std.proofs.Common.{◌≡◌, ℕ, suc, ◌≤◌, List, [], ◌∷◌, ◌++◌, Bool, true, false, nat_lt, if◌then◌else◌, refl, sym, ◌∙◌, ap}
 use Rattle.std.proofs.lemmas.Bool.{le-ltb}
 use Rattle.el_base.specs.Limits.{max_nesting}
 use Rattle.c_ast.specs.declared.token.Token.{Token}
@@ -67,6 +67,16 @@ judge_omits s symbols h = ap (λ b. verdict (if b then ending symbols (settled s
 
 pub judge_reduces : (r : Reduction) (symbols : List Symbol) (ts : List Token) → judge (Symbol.reduce r ∷ symbols) ts ≡ judge symbols ts
 judge_reduces r symbols ts = ap verdict (trace_reduces r symbols [] ts) ∙ verdict_of_any ts symbols (reduced r []) []
+
+-- two symbols that move alike
+pub judge_alike : (s r : Symbol) (symbols : List Symbol) (t : Token) (ts : List Token) → move s t.word ≡ move r t.word → judge (s ∷ symbols) (t ∷ ts) ≡ judge (r ∷ symbols) (t ∷ ts)
+judge_alike s r symbols t ts h =
+    by (move s t.word) (move r t.word) refl refl h
+  where
+    by : (m k : Move) → move s t.word ≡ m → move r t.word ≡ k → m ≡ k → judge (s ∷ symbols) (t ∷ ts) ≡ judge (r ∷ symbols) (t ∷ ts)
+    by Move.pass k p q e = judge_passes s symbols t ts p ∙ sym (judge_passes r symbols t ts (q ∙ sym e))
+    by (Move.take n new) k p q e = ap verdict (trace_takes s n new symbols [] t ts p) ∙ sym (ap verdict (trace_takes r n new symbols [] t ts (q ∙ sym e)))
+    by Move.stuck k p q e = judge_sticks s symbols t ts p ∙ sym (judge_sticks r symbols t ts (q ∙ sym e))
 
 -- a symbol whose rule begins with another symbol, which is not passed over at this token
 pub judge_unfolds : (s lead : Symbol) (more symbols : List Symbol) (t : Token) (ts : List Token) → move s t.word ≡ followed (move lead t.word) more → is_pass (move lead t.word) ≡ false

@@ -23,7 +23,7 @@ sign_unrolls n l (Some op) h = ap (λ us. Move.take (suc n) (Symbol.expression (
 sign_unrolls n l None h = refl
 
 move_unrolls : (n l : ℕ) (w : Word) → l ≤ 10 → expression_move n l w ≡ followed (expression_move n (suc l) w) (Symbol.operators n l ∷ [])
-move_unrolls n l (word.Name x) h = ap (λ us. Move.take n (Symbol.reduce Reduction.no_indices ∷ Symbol.indices n ∷ Symbol.reduce Reduction.named ∷ us)) (tails_unroll n l h)
+move_unrolls n l (word.Name x) h = ap (λ us. Move.take n (Symbol.reduce Reduction.no_indices ∷ Symbol.postfix n ∷ Symbol.reduce Reduction.named ∷ us)) (tails_unroll n l h)
 move_unrolls n l (word.Number v t) h = ap (λ us. Move.take n (Symbol.reduce Reduction.constant ∷ us)) (tails_unroll n l h)
 move_unrolls n l (word.Mark mark.Open) h = ap (λ us. Move.take (suc n) (Symbol.inside (suc n) ∷ us)) (tails_unroll n l h)
 move_unrolls n l (word.Mark m) h = sign_unrolls n l (sign_of m) h

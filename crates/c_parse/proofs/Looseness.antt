@@ -11,7 +11,7 @@ use Rattle.c_ast.specs.declared.tree.Binary.{Binary}
 use Rattle.c_ast.specs.declared.tree.Binary.TheVariants as binary
 use Rattle.c_ast.specs.Derives.{marked, IsBinary}
 use Rattle.c_parse.specs.Tables.{operator_of}
-use Rattle.c_parse.specs.Symbols.{Symbol, Reduction, Move, move, operator_move, choice_move, operators_move, indices_move}
+use Rattle.c_parse.specs.Symbols.{Symbol, Reduction, Move, move, operator_move, choice_move, operators_move, indices_move, postfix_move}
 use Rattle.c_parse.specs.Values.{Value, binary_in}
 use Rattle.c_parse.specs.Traces.{trace}
 use Rattle.c_parse.proofs.Closing.{Closed}
@@ -21,21 +21,33 @@ use Rattle.c_parse.proofs.Tracing.{trace_passes}
 abbrev pub NoIndex : List Token → Type 0
 NoIndex rest = (n : ℕ) (symbols : List Symbol) (vs : List Value) → trace (Symbol.indices n ∷ symbols) vs rest ≡ trace symbols vs rest
 
--- no index stands there, and no operator of that level or of a tighter one
+-- neither an index nor an argument stands there
+abbrev pub NoPostfix : List Token → Type 0
+NoPostfix rest = (n : ℕ) (symbols : List Symbol) (vs : List Value) → trace (Symbol.postfix n ∷ symbols) vs rest ≡ trace symbols vs rest
+
+-- neither an index nor an argument stands there, and no operator of that level or of a tighter one
 pub record Loose (l : ℕ) (rest : List Token) : Type 0 where
   pub no_index : NoIndex rest
+  pub no_postfix : NoPostfix rest
   pub no_operator : (n k : ℕ) (symbols : List Symbol) (vs : List Value) → l ≤ k → trace (Symbol.operators n k ∷ symbols) vs rest ≡ trace symbols vs rest
 
 pub loose_more : (l k : ℕ) (rest : List Token) → l ≤ k → Loose l rest → Loose k rest
-loose_more l k rest below p = record { no_index = p.no_index; no_operator = λ n j symbols vs h. p.no_operator n j symbols vs (omega arith) }
+loose_more l k rest below p = record { no_index = p.no_index; no_postfix = p.no_postfix; no_operator = λ n j symbols vs h. p.no_operator n j symbols vs (omega arith) }
 
 -- ---- marks at which nothing goes on
 
 abbrev pub PassesIndex : Mark → Type 0
-PassesIndex m = (n : ℕ) → indices_move n (word.Mark m) ≡ Move.pass
+PassesIndex m = (n : ℕ) → postfix_move n (word.Mark m) ≡ Move.pass
+
+index_passed : (n : ℕ) (m : Mark) → postfix_move n (word.Mark m) ≡ Move.pass → indices_move n (word.Mark m) ≡ Move.pass
+index_passed n mark.Open h = refl
+index_passed n m h = h
 
 pub no_index_at : (m : Mark) (s : Span) (ts : List Token) → PassesIndex m → NoIndex (marked m s ∷ ts)
-no_index_at m s ts h n symbols vs = trace_passes (Symbol.indices n) symbols vs (marked m s) ts (h n)
+no_index_at m s ts h n symbols vs = trace_passes (Symbol.indices n) symbols vs (marked m s) ts (index_passed n m (h n))
+
+pub no_postfix_at : (m : Mark) (s : Span) (ts : List Token) → PassesIndex m → NoPostfix (marked m s ∷ ts)
+no_postfix_at m s ts h n symbols vs = trace_passes (Symbol.postfix n) symbols vs (marked m s) ts (h n)
 
 no_operator_at : (m : Mark) (n k : ℕ) → operator_of m ≡ None → choice_move n (word.Mark m) ≡ Move.pass → operators_move n k (word.Mark m) ≡ Move.pass
 no_operator_at m n zero h choice = choice
@@ -44,6 +56,7 @@ no_operator_at m n (suc l) h choice = ap (λ o. operator_move n (suc l) o) h
 loose_at : (m : Mark) (s : Span) (ts : List Token) → operator_of m ≡ None → ((n : ℕ) → choice_move n (word.Mark m) ≡ Move.pass) → PassesIndex m → Loose 0 (marked m s ∷ ts)
 loose_at m s ts h choice index = record {
   no_index = no_index_at m s ts index;
+  no_postfix = no_postfix_at m s ts index;
   no_operator = λ n k symbols vs below. trace_passes (Symbol.operators n k) symbols vs (marked m s) ts (no_operator_at m n k h (choice n));
 }
 
@@ -62,6 +75,7 @@ question_passes n (suc l) h = refl
 pub question_loose : (s : Span) (ts : List Token) → Loose 1 (marked mark.Question s ∷ ts)
 question_loose s ts = record {
   no_index = no_index_at mark.Question s ts (λ n. refl);
+  no_postfix = no_postfix_at mark.Question s ts (λ n. refl);
   no_operator = λ n k symbols vs below. trace_passes (Symbol.operators n k) symbols vs (marked mark.Question s) ts (question_passes n k below);
 }
 
@@ -118,6 +132,7 @@ operator_passed m op l n (suc k) b h =
 pub operator_loose : (m : Mark) (op : Binary) (l : ℕ) (s : Span) (ts : List Token) → Binds m op l → Loose (suc l) (marked m s ∷ ts)
 operator_loose m op l s ts b = record {
   no_index = no_index_at m s ts b.index;
+  no_postfix = no_postfix_at m s ts b.index;
   no_operator = λ n k symbols vs below. trace_passes (Symbol.operators n k) symbols vs (marked m s) ts (operator_passed m op l n k b below);
 }
 

@@ -5,15 +5,17 @@ use Rattle.el_base.specs.declared.ty.Ty.TheVariants.{I32, U32}
 use Rattle.c_ast.specs.declared.token.Token.{Token}
 use Rattle.c_ast.specs.declared.key.Key.TheVariants as key
 use Rattle.c_ast.specs.declared.tree.StmtKind.TheVariants as stmt
-use Rattle.c_ast.specs.Derives.{keyed, named, stmt_of, if_tokens, DerivesType, DerivesExpr, DerivesIndices, DerivesDeclared, DerivesDeclarators, DerivesStmt, DerivesDims, DerivesParamList, Derives}
-use Rattle.c_parse.specs.Symbols.{Symbol, Move, move, may_be_absent, is_type_word, kernel_symbols}
+use Rattle.c_ast.specs.Derives.{keyed, named, stmt_of, if_tokens, DerivesType, DerivesExpr, DerivesIndices, DerivesMoreArgs, DerivesDeclared, DerivesDeclarators, DerivesStmt, DerivesDims, DerivesParamList, Derives}
+use Rattle.c_parse.specs.Symbols.{Symbol, Move, move, may_be_absent, is_type_word, bars, kernel_symbols, program_symbols}
 use Rattle.c_parse.specs.Values.{Value}
 use Rattle.c_parse.specs.Traces.{Trace, settled, ending, moved, entering, trace}
 use Rattle.c_parse.proofs.Runs.{Runs}
-use Rattle.c_parse.proofs.Denotations.{Has, HasStmt, Joined, Means, Denotes, Serves, has, has_stmt, both, denotes_apart}
-use Rattle.c_parse.proofs.DenotedExprs.{fixed_serves, type_serves, maybe_int_serves, expression_serves, inside_serves, operators_serves, indices_serves}
+use Rattle.c_parse.proofs.Denotations.{Has, HasStmt, Joined, Means, Denotes, Serves, has, has_stmt, both, skip, last, denotes_apart}
+use Rattle.c_ast.specs.ProgramTexts.{DerivesProgram}
+use Rattle.c_parse.proofs.DenotedExprs.{fixed_serves, type_serves, maybe_int_serves, expression_serves, inside_serves, operators_serves, indices_serves, postfix_serves, arguments_serves, more_arguments_serves, name_has}
 use Rattle.c_parse.proofs.DenotedStmts.{simple_serves, assigning_serves, declared_serves, value_serves, more_declared_serves, first_serves, condition_serves, last_serves, statement_serves, other_serves, body_serves}
 use Rattle.c_parse.proofs.DenotedKernels.{name_serves, number_serves, dims_serves, param_serves, more_params_serves, params_serves, result_serves, kernel_derives}
+use Rattle.c_parse.proofs.DenotedPrograms.{program_serves, helper_body_serves, limited_serves}
 
 -- ---- complete traces
 
@@ -30,7 +32,7 @@ runs_complete ns ts a b (Runs.onward n t ks us x y r) h = runs_complete ks us x 
 -- ---- the table
 
 -- each move serves what its symbol means
-serves : (s : Symbol) (t : Token) → Serves (may_be_absent s) (Means s) (move s t.word) t
+pub serves : (s : Symbol) (t : Token) → Serves (may_be_absent s) (Means s) (move s t.word) t
 serves (Symbol.fixed n f) t = fixed_serves n f t.word t.span
 serves (Symbol.a_name n) t = name_serves n t.word t.span
 serves (Symbol.a_number n) t = number_serves n t.word t.span
@@ -40,6 +42,9 @@ serves (Symbol.expression n l) t = expression_serves n l t.word t.span
 serves (Symbol.inside n) t = inside_serves n (is_type_word t.word) t.word t.span
 serves (Symbol.operators n l) t = operators_serves n l t.word t.span
 serves (Symbol.indices n) t = indices_serves n t.word t.span
+serves (Symbol.postfix n) t = postfix_serves n t.word t.span
+serves (Symbol.arguments n) t = arguments_serves n t.word t.span
+serves (Symbol.more_arguments n) t = more_arguments_serves n t.word t.span
 serves (Symbol.simple n) t = simple_serves n t.word t.span
 serves (Symbol.assigning n) t = assigning_serves n t.word t.span
 serves (Symbol.declared n) t = declared_serves n t.word t.span
@@ -56,6 +61,9 @@ serves (Symbol.params n) t = params_serves n t.word t.span
 serves (Symbol.a_param n) t = param_serves n t.word t.span
 serves (Symbol.more_params n) t = more_params_serves n t.word t.span
 serves (Symbol.dims n) t = dims_serves n t.word t.span
+serves Symbol.program t = program_serves t.word t.span
+serves (Symbol.helper_body n) t = helper_body_serves n (is_type_word t.word) t.word t.span
+serves (Symbol.without b s) t = limited_serves b (may_be_absent s) (Means s) (move s t.word) t (bars b t.word) refl (serves s t)
 serves (Symbol.reduce r) t = refl
 
 -- ---- what is absent
@@ -76,11 +84,14 @@ absent_means : (s : Symbol) → may_be_absent s ≡ true → Means s []
 absent_means (Symbol.maybe_int n) h = λ s. (has DerivesType (keyed key.Signed s ∷ []) I32 (DerivesType.plain_signed s), has DerivesType (keyed key.Unsigned s ∷ []) U32 (DerivesType.plain_unsigned s))
 absent_means (Symbol.operators n l) h = operators_absent n l
 absent_means (Symbol.indices n) h = has DerivesIndices [] [] DerivesIndices.no_more
+absent_means (Symbol.postfix n) h = λ x s. name_has x s [] [] DerivesIndices.no_more
+absent_means (Symbol.more_arguments n) h = has DerivesMoreArgs [] [] DerivesMoreArgs.no_further
 absent_means (Symbol.value n) h = λ t x s. has (DerivesDeclared t) (named x s ∷ []) (record { kind = stmt.Declare x t None; at = s }) (DerivesDeclared.without_value t x s)
 absent_means (Symbol.more_declared n) h = λ t us x d. nothing_behind (Has (DerivesDeclarators t)) us (has (DerivesDeclarators t) us (x ∷ []) (DerivesDeclarators.last_one t us x d))
 absent_means (Symbol.other n) h = other_absent n
 absent_means (Symbol.more_params n) h = λ us p d. nothing_behind (Has DerivesParamList) us (has DerivesParamList us (p ∷ []) (DerivesParamList.last_one us p d))
 absent_means (Symbol.dims n) h = has DerivesDims [] [] DerivesDims.no_more
+absent_means (Symbol.without b s) h = (absent_means s h, tt)
 absent_means (Symbol.reduce r) h = refl
 absent_means s h = absurd (cc)
 
@@ -118,3 +129,7 @@ complete_denotes (t ∷ ts) symbols vs h = entering_denotes symbols vs t ts (λ 
 -- tokens that complete a kernel text are one
 pub complete_derives : (ts : List Token) (vs : List Value) → IsComplete (trace kernel_symbols vs ts) → Has Derives ts
 complete_derives ts vs h = kernel_derives ts (complete_denotes ts kernel_symbols vs h)
+
+-- tokens that complete a program's text are one
+pub complete_program : (ts : List Token) (vs : List Value) → IsComplete (trace program_symbols vs ts) → Has DerivesProgram ts
+complete_program ts vs h = let d = complete_denotes ts program_symbols vs h in last ts (skip ts d)

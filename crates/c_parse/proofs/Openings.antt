@@ -75,7 +75,7 @@ simple_stays n (word.Mark mark.Increment) = refl
 simple_stays n (word.Mark m) = refl
 simple_stays n w = refl
 
-statement_stays : (n : ℕ) (w : Word) → is_pass (move (Symbol.statement n) w) ≡ false
+pub statement_stays : (n : ℕ) (w : Word) → is_pass (move (Symbol.statement n) w) ≡ false
 statement_stays n (word.Key key.If) = refl
 statement_stays n (word.Key k) = refl
 statement_stays n (word.Mark mark.OpenBrace) = refl
@@ -102,6 +102,23 @@ more_params_over n w h = refl
 
 pub more_params_end : {more : List Symbol} (n : ℕ) (m : List Token) → (mark_at m ≡ Some mark.Comma → ⊥) → Same (Symbol.more_params n ∷ more) more m m
 more_params_end n m h = passes (Symbol.more_params n) m refl (more_params_over n) (next_not_mark mark.Comma m h)
+
+more_arguments_over : (n : ℕ) (w : Word) → IsNotMark mark.Comma w → move (Symbol.more_arguments n) w ≡ Move.pass
+more_arguments_over n (word.Mark mark.Comma) h = absurd (h refl)
+more_arguments_over n w h = refl
+
+pub more_arguments_end : {more : List Symbol} (n : ℕ) (m : List Token) → (mark_at m ≡ Some mark.Comma → ⊥) → Same (Symbol.more_arguments n ∷ more) more m m
+more_arguments_end n m h = passes (Symbol.more_arguments n) m refl (more_arguments_over n) (next_not_mark mark.Comma m h)
+
+arguments_move_is : (n : ℕ) (w : Word) → IsNotMark mark.Close w
+    → move (Symbol.arguments n) w ≡ followed (move (Symbol.expression n 0) w) (Symbol.reduce Reduction.first_argument ∷ Symbol.more_arguments n ∷ Symbol.fixed n Fixed.closing ∷ [])
+arguments_move_is n (word.Mark mark.Close) h = absurd (h refl)
+arguments_move_is n w h = refl
+
+pub arguments_opened : (n : ℕ) (m : List Token) → (mark_at m ≡ Some mark.Close → ⊥)
+    → Same (Symbol.arguments n ∷ []) (Symbol.expression n 0 ∷ Symbol.reduce Reduction.first_argument ∷ Symbol.more_arguments n ∷ Symbol.fixed n Fixed.closing ∷ []) m m
+arguments_opened n m h = opens (Symbol.arguments n) (Symbol.expression n 0) (Symbol.reduce Reduction.first_argument ∷ Symbol.more_arguments n ∷ Symbol.fixed n Fixed.closing ∷ []) m refl refl
+    (arguments_move_is n) (expression_stays n 0) (next_not_mark mark.Close m h)
 
 anything : (m : List Token) → Next (λ w. Unit {0}) m
 anything [] = tt

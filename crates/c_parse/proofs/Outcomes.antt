@@ -9,18 +9,20 @@ use Rattle.c_parse.specs.Values.{Value}
 use Rattle.c_parse.specs.Traces.{Trace, Verdict, settled, ending, trace, verdict}
 use Rattle.c_parse.proofs.Tracing.{trace_takes, trace_sticks, trace_passes}
 use Rattle.c_parse.proofs.Runs.{Runs, runs_from}
+use Rattle.c_parse.proofs.KernelParts.{AreSound, sound_append, sound_taken}
 
 -- ---- one token
 
 -- a token does the same whatever comes behind it
 pub data Entered (symbols : List Symbol) (vs : List Value) (t : Token) : Type 0 where
   sticks : ((ts : List Token) → trace symbols vs (t ∷ ts) ≡ Trace.unexpected t.span) → Entered symbols vs t
-  enters : (n : ℕ) (new : List Symbol) (us : List Value) → ((ts : List Token) → trace symbols vs (t ∷ ts) ≡ Trace.taken n t.span (trace new us ts)) → Entered symbols vs t
+  enters : (n : ℕ) (new : List Symbol) (us : List Value) → ((ts : List Token) → trace symbols vs (t ∷ ts) ≡ Trace.taken n t.span (trace new us ts)) → (AreSound symbols → AreSound new) → Entered symbols vs t
 
 entered_by : (s : Symbol) (symbols : List Symbol) (vs : List Value) (t : Token) (m : Move) → move s t.word ≡ m → Entered symbols (settled s vs) t → Entered (s ∷ symbols) vs t
 entered_by s symbols vs t Move.pass h (Entered.sticks f) = Entered.sticks (λ ts. trace_passes s symbols vs t ts h ∙ f ts)
-entered_by s symbols vs t Move.pass h (Entered.enters n new us f) = Entered.enters n new us (λ ts. trace_passes s symbols vs t ts h ∙ f ts)
+entered_by s symbols vs t Move.pass h (Entered.enters n new us f kept) = Entered.enters n new us (λ ts. trace_passes s symbols vs t ts h ∙ f ts) (λ sound. kept sound.1)
 entered_by s symbols vs t (Move.take n new) h e = Entered.enters n (new ++ symbols) (Value.of_token t ∷ vs) (λ ts. trace_takes s n new symbols vs t ts h)
+    (λ sound. sound_append new symbols (sound_taken s t.word n new h sound.0) sound.1)
 entered_by s symbols vs t Move.stuck h e = Entered.sticks (λ ts. trace_sticks s symbols vs t ts h)
 
 pub entered : (symbols : List Symbol) (vs : List Value) (t : Token) → Entered symbols vs t
@@ -35,6 +37,7 @@ pub record Behind (ns : List ℕ) (us ws : List Token) (symbols : List Symbol) (
   pub values : List Value
   pub ends : b ≡ trace left values ws
   pub goes : (rest : List Token) → Runs ns us (trace symbols vs (us ++ rest)) (trace left values rest)
+  pub kept : AreSound symbols → AreSound left
 
 pub taken_nesting : (n m : ℕ) (s : Span) (a b : Trace) → Trace.taken n s a ≡ Trace.taken m s b → n ≡ m
 taken_nesting n m s a b h = cc
@@ -43,27 +46,28 @@ taken_rest : (n m : ℕ) (s : Span) (a b : Trace) → Trace.taken n s a ≡ Trac
 taken_rest n m s a b h = cc
 
 onward_behind : (n : ℕ) (t : Token) (ns : List ℕ) (us ws : List Token) (symbols new : List Symbol) (vs values : List Value) (b : Trace)
-    → ((ts : List Token) → trace symbols vs (t ∷ ts) ≡ Trace.taken n t.span (trace new values ts)) → Behind ns us ws new values b → Behind (n ∷ ns) (t ∷ us) ws symbols vs b
-onward_behind n t ns us ws symbols new vs values b f r = record {
+    → ((ts : List Token) → trace symbols vs (t ∷ ts) ≡ Trace.taken n t.span (trace new values ts)) → (AreSound symbols → AreSound new) → Behind ns us ws new values b → Behind (n ∷ ns) (t ∷ us) ws symbols vs b
+onward_behind n t ns us ws symbols new vs values b f kept r = record {
   left = r.left;
   values = r.values;
   ends = r.ends;
   goes = (λ rest. runs_from (n ∷ ns) (t ∷ us) (trace symbols vs (t ∷ (us ++ rest))) (Trace.taken n t.span (trace new values (us ++ rest))) (trace r.left r.values rest) (f (us ++ rest))
       (Runs.onward n t ns us (trace new values (us ++ rest)) (trace r.left r.values rest) (r.goes rest)));
+  kept = (λ sound. r.kept (kept sound));
 }
 
 behind_entered : (n : ℕ) (t : Token) (ns : List ℕ) (us ws : List Token) (symbols : List Symbol) (vs : List Value) (a b : Trace)
     → Trace.taken n t.span a ≡ trace symbols vs (t ∷ (us ++ ws)) → Entered symbols vs t
     → ((new : List Symbol) (values : List Value) → a ≡ trace new values (us ++ ws) → Behind ns us ws new values b) → Behind (n ∷ ns) (t ∷ us) ws symbols vs b
 behind_entered n t ns us ws symbols vs a b h (Entered.sticks f) later = let e : Trace.taken n t.span a ≡ Trace.unexpected t.span = h ∙ f (us ++ ws) in absurd (cc)
-behind_entered n t ns us ws symbols vs a b h (Entered.enters m new values f) later =
+behind_entered n t ns us ws symbols vs a b h (Entered.enters m new values f kept) later =
     let e : Trace.taken n t.span a ≡ Trace.taken m t.span (trace new values (us ++ ws)) = h ∙ f (us ++ ws) in
     let same : m ≡ n = sym (taken_nesting n m t.span a (trace new values (us ++ ws)) e) in
-    onward_behind n t ns us ws symbols new vs values b (λ ts. f ts ∙ ap (λ k. Trace.taken k t.span (trace new values ts)) same)
+    onward_behind n t ns us ws symbols new vs values b (λ ts. f ts ∙ ap (λ k. Trace.taken k t.span (trace new values ts)) same) kept
     (later new values (taken_rest n m t.span a (trace new values (us ++ ws)) e))
 
 behind_from : (ns : List ℕ) (us ws : List Token) (symbols : List Symbol) (vs : List Value) (a b : Trace) → a ≡ trace symbols vs (us ++ ws) → Runs ns us a b → Behind ns us ws symbols vs b
-behind_from ns us ws symbols vs a b h (Runs.done x) = record { left = symbols; values = vs; ends = h; goes = (λ rest. Runs.done (trace symbols vs rest)) }
+behind_from ns us ws symbols vs a b h (Runs.done x) = record { left = symbols; values = vs; ends = h; goes = (λ rest. Runs.done (trace symbols vs rest)); kept = (λ sound. sound) }
 behind_from ns us ws symbols vs a b h (Runs.onward n t ks xs x y r) =
     behind_entered n t ks xs ws symbols vs x b h (entered symbols vs t) (λ new values e. behind_from ks xs ws new values x b e r)
 
@@ -146,7 +150,7 @@ outcome_entered : (t : Token) (ts : List Token) (symbols : List Symbol) (vs : Li
     → ((new : List Symbol) (us : List Value) → Outcome ts (trace new us ts) (verdict (trace new us ts))) → Outcome (t ∷ ts) (trace symbols vs (t ∷ ts)) (verdict (trace symbols vs (t ∷ ts)))
 outcome_entered t ts symbols vs (Entered.sticks f) later =
     subst (λ a. Outcome (t ∷ ts) a (verdict a)) (sym (f ts)) (Outcome.unexpected [] ts t [] refl (Runs.done (Trace.unexpected t.span)) tt)
-outcome_entered t ts symbols vs (Entered.enters n new us f) later =
+outcome_entered t ts symbols vs (Entered.enters n new us f kept) later =
     subst (λ a. Outcome (t ∷ ts) a (verdict a)) (sym (f ts)) (outcome_taken n t ts (trace new us ts) (nat_lt max_nesting n) refl (later new us))
 
 pub outcome : (ts : List Token) (symbols : List Symbol) (vs : List Value) → Outcome ts (trace symbols vs ts) (verdict (trace symbols vs ts))

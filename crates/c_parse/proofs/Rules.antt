@@ -21,7 +21,7 @@ use Rattle.c_ast.specs.declared.tree.ExprKind.{ExprKind}
 use Rattle.c_ast.specs.declared.tree.ExprKind.TheVariants as expr
 use Rattle.c_ast.specs.Derives.{marked, keyed, named, place_of, expr_of, between, IsBinary, IsUnary, IsAssigning, IsStep, DerivesType, DerivesExpr, DerivesIndices}
 use Rattle.c_parse.specs.Tables.{operator_of, sign_of, assigning_of, step_of, plain_type, takes_int}
-use Rattle.c_parse.specs.Reads.{Reads, Operates, Signs, Assigns, Steps, NamesType, MaySkip, InParens, InBrackets, key_at}
+use Rattle.c_parse.specs.Reads.{Reads, Operates, Signs, Assigns, Steps, NamesType, MaySkip, InParens, InBrackets, InCall, key_at}
 
 -- ---- lists
 
@@ -214,6 +214,20 @@ reads_element x s at (e ∷ es) before mid after p r some place =
       split = split;
       derived = primary used (record { kind = expr.Element x (e ∷ es); at = at })
           (placed 12 (expr.Element x (e ∷ es)) at used (place used split) (DerivesExpr.element x s r.used e es r.derived));
+    }
+
+in_call : (x : List ℕ) (s : Span) (ts : List Token) (es : List Expr) → InCall ts es → DerivesExpr 12 (named x s ∷ ts) (expr_of (expr.Call x es) (named x s ∷ ts))
+in_call x s ts es (InCall.in_call us a z xs d) = DerivesExpr.call x s a z us xs d
+
+pub reads_call : (x : List ℕ) (s at : Span) (es : List Expr) (before mid after : List Token) → before ≡ named x s ∷ mid → Reads (λ ts. InCall ts es) mid after → Placed at before after
+    → Reads (λ ts. DerivesExpr 11 ts (record { kind = expr.Call x es; at = at })) before after
+reads_call x s at es before mid after p r place =
+    let used : List Token = named x s ∷ r.used in
+    let split : before ≡ used ++ after = heads (named x s) r.used before mid after p r.split in
+    record {
+      used = used;
+      split = split;
+      derived = primary used (record { kind = expr.Call x es; at = at }) (placed 12 (expr.Call x es) at used (place used split) (in_call x s r.used es r.derived));
     }
 
 pub reads_unary : (op : Unary) (s at : Span) (a b : Expr) (before mid after : List Token) → Signs op s before mid → Reads (λ ts. DerivesExpr 11 ts a) mid after → b ≡ a → Placed at before after

@@ -14,7 +14,7 @@ use Rattle.c_ast.specs.declared.tree.Stmt.{Stmt}
 use Rattle.c_ast.specs.declared.tree.StmtKind.TheVariants as stmt
 use Rattle.c_ast.specs.Derives.{marked, keyed, named, numbered, place_of, between, expr_of, stmt_of, IsUnary, IsAssigning, DerivesExpr, DerivesIndices, DerivesTarget, DerivesSimple, DerivesStmt, DerivesItems, DerivesParams, DerivesResult, Derives}
 use Rattle.c_parse.specs.Traces.{Verdict}
-use Rattle.c_parse.proofs.Exactness.{judged_means}
+use Rattle.c_parse.proofs.KernelExactness.{judged_means}
 use Rattle.c_parse.specs.Sample.{value_tokens, stmt_tokens, SampleNests, cut_tokens, unexpected_tokens, SampleRefuses}
 
 abbrev one : Span → Expr

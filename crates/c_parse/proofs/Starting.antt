@@ -13,7 +13,7 @@ use Rattle.c_ast.specs.declared.tree.Unary.{Unary}
 use Rattle.c_ast.specs.declared.tree.Expr.{Expr}
 use Rattle.c_ast.specs.declared.tree.Stmt.{Stmt}
 use Rattle.c_ast.specs.declared.tree.Target.{Target}
-use Rattle.c_ast.specs.Derives.{marked, keyed, named, numbered, IsUnary, IsStep, DerivesType, DerivesExpr, DerivesTarget, DerivesSimple}
+use Rattle.c_ast.specs.Derives.{marked, keyed, named, numbered, between, IsUnary, IsStep, DerivesType, DerivesExpr, DerivesTarget, DerivesSimple}
 use Rattle.c_parse.specs.Tables.{sign_of, step_of}
 use Rattle.c_parse.specs.Symbols.{is_type_word, type_move, expression_move, simple_move}
 use Rattle.c_parse.proofs.Tracing.{is_pass}
@@ -111,6 +111,7 @@ expr_starts l ts e (DerivesExpr.cast us ws s z t a ty arg) = expr_word (marked m
 expr_starts l ts e (DerivesExpr.number v t s) = expr_word (numbered v t s) [] refl
 expr_starts l ts e (DerivesExpr.name x s) = expr_word (named x s) [] refl
 expr_starts l ts e (DerivesExpr.element x s us a es d) = expr_word (named x s) us refl
+expr_starts l ts e (DerivesExpr.call x s a z us es d) = expr_word (named x s) (between mark.Open a us mark.Close z) refl
 expr_starts l ts e (DerivesExpr.parens us s z x d) = expr_word (marked mark.Open s) (us ++ marked mark.Close z ∷ []) refl
 
 -- ---- assignments and steps

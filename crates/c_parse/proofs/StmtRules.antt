@@ -125,7 +125,7 @@ adds_declaration ty z before mid after old new a p = record {
 pub reads_no_items : (ss : List Stmt) (before : List Token) → ss ≡ [] → Reads (λ ts. DerivesItems ts ss) before before
 reads_no_items ss before h = record { used = []; split = refl; derived = subst (λ x. DerivesItems [] x) (sym h) DerivesItems.done }
 
-items_after : (ts us : List Token) (ss rs : List Stmt) → DerivesItems ts ss → DerivesItems us rs → DerivesItems (ts ++ us) (ss ++ rs)
+pub items_after : (ts us : List Token) (ss rs : List Stmt) → DerivesItems ts ss → DerivesItems us rs → DerivesItems (ts ++ us) (ss ++ rs)
 items_after ts us ss rs DerivesItems.done d = d
 items_after ts us ss rs (DerivesItems.statement f vs ws x xs xd rest) d =
     subst (λ qs. DerivesItems qs (x ∷ (xs ++ rs))) (sym (append_assoc vs ws us)) (DerivesItems.statement f vs (ws ++ us) x (xs ++ rs) xd (items_after ws us xs rs rest d))

@@ -46,30 +46,31 @@ pub record StartsStmt (ts : List Token) : Type 0 where
   pub item : (n : ℕ) → move (Symbol.body n) first.word ≡ followed (move (Symbol.statement n) first.word) (Symbol.reduce Reduction.statement_item ∷ Symbol.body n ∷ [])
   pub some : (n : ℕ) → is_pass (move (Symbol.statement n) first.word) ≡ false
   pub no_else : is_else_word (key_of first.word) ≡ false
+  pub no_type : is_type_word first.word ≡ false
 
 starts : (t : Token) (more : List Token) → ((n : ℕ) → move (Symbol.body n) t.word ≡ followed (move (Symbol.statement n) t.word) (Symbol.reduce Reduction.statement_item ∷ Symbol.body n ∷ []))
-    → ((n : ℕ) → is_pass (move (Symbol.statement n) t.word) ≡ false) → is_else_word (key_of t.word) ≡ false → StartsStmt (t ∷ more)
-starts t more item some no_else = record { first = t; more = more; split = refl; item = item; some = some; no_else = no_else }
+    → ((n : ℕ) → is_pass (move (Symbol.statement n) t.word) ≡ false) → is_else_word (key_of t.word) ≡ false → is_type_word t.word ≡ false → StartsStmt (t ∷ more)
+starts t more item some no_else no_type = record { first = t; more = more; split = refl; item = item; some = some; no_else = no_else; no_type = no_type }
 
 simple_starts : (ts us : List Token) (s : Stmt) → DerivesSimple ts s → StartsStmt (ts ++ us)
-simple_starts ts us s (DerivesSimple.assign ws xs m z t op e (DerivesTarget.target x q ys es indices) operator value) = starts (named x q) ((ys ++ marked m z ∷ xs) ++ us) (λ n. refl) (λ n. refl) refl
-simple_starts ts us s (DerivesSimple.step_after ws m z t b (DerivesTarget.target x q ys es indices) operator) = starts (named x q) ((ys ++ marked m z ∷ []) ++ us) (λ n. refl) (λ n. refl) refl
-simple_starts ts us s (DerivesSimple.step_before ws m z t b IsStep.up to) = starts (marked mark.Increment z) (ws ++ us) (λ n. refl) (λ n. refl) refl
-simple_starts ts us s (DerivesSimple.step_before ws m z t b IsStep.down to) = starts (marked mark.Decrement z) (ws ++ us) (λ n. refl) (λ n. refl) refl
+simple_starts ts us s (DerivesSimple.assign ws xs m z t op e (DerivesTarget.target x q ys es indices) operator value) = starts (named x q) ((ys ++ marked m z ∷ xs) ++ us) (λ n. refl) (λ n. refl) refl refl
+simple_starts ts us s (DerivesSimple.step_after ws m z t b (DerivesTarget.target x q ys es indices) operator) = starts (named x q) ((ys ++ marked m z ∷ []) ++ us) (λ n. refl) (λ n. refl) refl refl
+simple_starts ts us s (DerivesSimple.step_before ws m z t b IsStep.up to) = starts (marked mark.Increment z) (ws ++ us) (λ n. refl) (λ n. refl) refl refl
+simple_starts ts us s (DerivesSimple.step_before ws m z t b IsStep.down to) = starts (marked mark.Decrement z) (ws ++ us) (λ n. refl) (λ n. refl) refl refl
 
 pub stmt_starts : (f : Bool) (ts : List Token) (s : Stmt) → DerivesStmt f ts s → StartsStmt ts
-stmt_starts f ts s (DerivesStmt.block us a z ss items) = starts (marked mark.OpenBrace a) (us ++ marked mark.CloseBrace z ∷ []) (λ n. refl) (λ n. refl) refl
-stmt_starts f ts s (DerivesStmt.empty a) = starts (marked mark.Semicolon a) [] (λ n. refl) (λ n. refl) refl
+stmt_starts f ts s (DerivesStmt.block us a z ss items) = starts (marked mark.OpenBrace a) (us ++ marked mark.CloseBrace z ∷ []) (λ n. refl) (λ n. refl) refl refl
+stmt_starts f ts s (DerivesStmt.empty a) = starts (marked mark.Semicolon a) [] (λ n. refl) (λ n. refl) refl refl
 stmt_starts f ts s (DerivesStmt.simple us z x d) = simple_starts us (marked mark.Semicolon z ∷ []) x d
-stmt_starts f ts s (DerivesStmt.without_else g i a z us ws c b cond body) = starts (keyed key.If i) (between mark.Open a us mark.Close z ++ ws) (λ n. refl) (λ n. refl) refl
-stmt_starts f ts s (DerivesStmt.with_else g i a z e us ws xs c b x cond body other) = starts (keyed key.If i) ((between mark.Open a us mark.Close z ++ ws) ++ keyed key.Else e ∷ xs) (λ n. refl) (λ n. refl) refl
-stmt_starts f ts s (DerivesStmt.while_loop g i a z us ws c b cond body) = starts (keyed key.While i) (between mark.Open a us mark.Close z ++ ws) (λ n. refl) (λ n. refl) refl
-stmt_starts f ts s (DerivesStmt.do_loop g i w a z y us ws c b body cond) = starts (keyed key.Do i) ((ws ++ keyed key.While w ∷ between mark.Open a us mark.Close z) ++ marked mark.Semicolon y ∷ []) (λ n. refl) (λ n. refl) refl
+stmt_starts f ts s (DerivesStmt.without_else g i a z us ws c b cond body) = starts (keyed key.If i) (between mark.Open a us mark.Close z ++ ws) (λ n. refl) (λ n. refl) refl refl
+stmt_starts f ts s (DerivesStmt.with_else g i a z e us ws xs c b x cond body other) = starts (keyed key.If i) ((between mark.Open a us mark.Close z ++ ws) ++ keyed key.Else e ∷ xs) (λ n. refl) (λ n. refl) refl refl
+stmt_starts f ts s (DerivesStmt.while_loop g i a z us ws c b cond body) = starts (keyed key.While i) (between mark.Open a us mark.Close z ++ ws) (λ n. refl) (λ n. refl) refl refl
+stmt_starts f ts s (DerivesStmt.do_loop g i w a z y us ws c b body cond) = starts (keyed key.Do i) ((ws ++ keyed key.While w ∷ between mark.Open a us mark.Close z) ++ marked mark.Semicolon y ∷ []) (λ n. refl) (λ n. refl) refl refl
 stmt_starts f ts s (DerivesStmt.for_loop g i a b z us ws xs ys ss c step x first cond last body) =
-    starts (keyed key.For i) (marked mark.Open a ∷ (us ++ (ws ++ marked mark.Semicolon b ∷ (xs ++ marked mark.Close z ∷ ys)))) (λ n. refl) (λ n. refl) refl
-stmt_starts f ts s (DerivesStmt.leaving a z) = starts (keyed key.Break a) (marked mark.Semicolon z ∷ []) (λ n. refl) (λ n. refl) refl
-stmt_starts f ts s (DerivesStmt.continuing a z) = starts (keyed key.Continue a) (marked mark.Semicolon z ∷ []) (λ n. refl) (λ n. refl) refl
-stmt_starts f ts s (DerivesStmt.returning a z us e d) = starts (keyed key.Return a) (us ++ marked mark.Semicolon z ∷ []) (λ n. refl) (λ n. refl) refl
+    starts (keyed key.For i) (marked mark.Open a ∷ (us ++ (ws ++ marked mark.Semicolon b ∷ (xs ++ marked mark.Close z ∷ ys)))) (λ n. refl) (λ n. refl) refl refl
+stmt_starts f ts s (DerivesStmt.leaving a z) = starts (keyed key.Break a) (marked mark.Semicolon z ∷ []) (λ n. refl) (λ n. refl) refl refl
+stmt_starts f ts s (DerivesStmt.continuing a z) = starts (keyed key.Continue a) (marked mark.Semicolon z ∷ []) (λ n. refl) (λ n. refl) refl refl
+stmt_starts f ts s (DerivesStmt.returning a z us e d) = starts (keyed key.Return a) (us ++ marked mark.Semicolon z ∷ []) (λ n. refl) (λ n. refl) refl refl
 
 pub statement_item : (n : ℕ) (ts rest : List Token) (symbols : List Symbol) (vs : List Value) → StartsStmt ts
     → trace (Symbol.body n ∷ symbols) vs (ts ++ rest) ≡ trace (Symbol.statement n ∷ Symbol.reduce Reduction.statement_item ∷ Symbol.body n ∷ symbols) vs (ts ++ rest)

@@ -14,10 +14,10 @@ use Rattle.c_ast.specs.declared.tree.Unary.{Unary}
 use Rattle.c_ast.specs.declared.tree.Binary.{Binary}
 use Rattle.c_ast.specs.declared.tree.Expr.{Expr}
 use Rattle.c_ast.specs.declared.tree.ExprKind.TheVariants as expr
-use Rattle.c_ast.specs.Derives.{marked, named, numbered, expr_of, between, IsUnary, DerivesType, DerivesExpr, DerivesIndices}
-use Rattle.c_ast.specs.Nesting.{at_level, enclosed, expr_nesting, indices_nesting}
+use Rattle.c_ast.specs.Derives.{marked, named, numbered, expr_of, between, IsUnary, DerivesType, DerivesExpr, DerivesIndices, DerivesArgs, DerivesMoreArgs}
+use Rattle.c_ast.specs.Nesting.{at_level, enclosed, expr_nesting, indices_nesting, args_nesting, more_args_nesting}
 use Rattle.c_parse.specs.Tables.{sign_of}
-use Rattle.c_parse.specs.Symbols.{Symbol, Fixed, Reduction, followed, sign_move, expression_move, inside_move}
+use Rattle.c_parse.specs.Symbols.{Symbol, Fixed, Reduction, followed, sign_move, expression_move, inside_move, arguments_move}
 use Rattle.c_parse.specs.Values.{Value}
 use Rattle.c_parse.specs.Traces.{trace}
 use Rattle.c_parse.proofs.Closing.{Closed}
@@ -25,8 +25,8 @@ use Rattle.c_parse.proofs.Tracing.{trace_unfolds}
 use Rattle.c_parse.proofs.Runs.{Runs}
 use Rattle.c_parse.proofs.Leading.{Leads, leads_none, leads_join, leads_taking, leads_take, leads_from, leads_to, leads_reducing, leads_reduced}
 use Rattle.c_parse.proofs.Levels.{expression_stays, trace_unrolls}
-use Rattle.c_parse.proofs.Looseness.{NoIndex, Loose, Binds, loose_more, closed_loose, question_loose, binds, operator_taken, operator_loose, operator_means}
-use Rattle.c_parse.proofs.Starting.{StartsType, StartsExpr, type_starts, expr_starts}
+use Rattle.c_parse.proofs.Looseness.{NoIndex, NoPostfix, Loose, Binds, loose_more, closed_loose, question_loose, binds, operator_taken, operator_loose, operator_means}
+use Rattle.c_parse.proofs.Starting.{StartsType, StartsExpr, is_expr_word, type_starts, expr_starts}
 use Rattle.c_parse.proofs.TracedTypes.{leads_type}
 
 -- ---- levels
@@ -227,13 +227,39 @@ no_indices n us rest ds symbols vs none =
     ∙ ap (λ qs. trace symbols (Value.of_exprs qs ds ∷ vs) rest) (sym (append-nil us))
     ∙ ap (λ xs. trace symbols (Value.of_exprs (us ++ []) xs ∷ vs) rest) (sym (append-nil ds))
 
-leads_name : (n : ℕ) (x : List ℕ) (s : Span) (rest : List Token) (symbols : List Symbol) (vs : List Value) → NoIndex rest
+leads_name : (n : ℕ) (x : List ℕ) (s : Span) (rest : List Token) (symbols : List Symbol) (vs : List Value) → NoPostfix rest
     → Leads (n ∷ []) (named x s ∷ []) rest (Symbol.expression n 12 ∷ symbols) vs symbols (Value.of_expr (named x s ∷ []) (expr_of (expr.Name x) (named x s ∷ [])) ∷ vs)
 leads_name n x s rest symbols vs none =
     leads_reduced Reduction.named (leads_to (leads_reduced Reduction.no_indices (leads_take (Symbol.expression n 12) (named x s) refl))
     (none n (Symbol.reduce Reduction.named ∷ symbols) (Value.of_exprs [] [] ∷ Value.of_token (named x s) ∷ vs)))
 
--- ---- expressions and indices
+-- behind a name indices stand that are expected where arguments are too
+indices_follow : (n : ℕ) (ts rest : List Token) (e : Expr) (es : List Expr) (symbols : List Symbol) (vs : List Value) → DerivesIndices ts (e ∷ es)
+    → trace (Symbol.postfix n ∷ symbols) vs (ts ++ rest) ≡ trace (Symbol.indices n ∷ symbols) vs (ts ++ rest)
+indices_follow n ts rest e es symbols vs (DerivesIndices.one_more ws qs s z x xs d more) = refl
+
+-- ---- arguments
+
+arguments_unfold : (n : ℕ) (w : Word) → is_expr_word w ≡ true
+    → arguments_move n w ≡ followed (expression_move n 0 w) (Symbol.reduce Reduction.first_argument ∷ Symbol.more_arguments n ∷ Symbol.fixed n Fixed.closing ∷ [])
+arguments_unfold n (word.Mark mark.Close) h = absurd (cc)
+arguments_unfold n w h = refl
+
+-- arguments begin with an expression
+arguments_begin : (n : ℕ) (ts rest : List Token) (symbols : List Symbol) (vs : List Value) → StartsExpr ts
+    → trace (Symbol.arguments n ∷ symbols) vs (ts ++ rest)
+    ≡ trace (Symbol.expression n 0 ∷ Symbol.reduce Reduction.first_argument ∷ Symbol.more_arguments n ∷ Symbol.fixed n Fixed.closing ∷ symbols) vs (ts ++ rest)
+arguments_begin n ts rest symbols vs s =
+    let more : List Symbol = Symbol.reduce Reduction.first_argument ∷ Symbol.more_arguments n ∷ Symbol.fixed n Fixed.closing ∷ [] in
+    subst (λ us. trace (Symbol.arguments n ∷ symbols) vs (us ++ rest) ≡ trace (Symbol.expression n 0 ∷ (more ++ symbols)) vs (us ++ rest)) (sym s.split)
+    (trace_unfolds (Symbol.arguments n) (Symbol.expression n 0) more symbols vs s.first (s.more ++ rest) (arguments_unfold n s.first.word s.begins) (s.some n))
+
+-- behind an argument a comma or the closing parenthesis stands
+argument_ends : (ts rest : List Token) (es : List Expr) (z : Span) → DerivesMoreArgs ts es → Closed (ts ++ marked mark.Close z ∷ rest)
+argument_ends ts rest es z DerivesMoreArgs.no_further = Closed.closing z rest
+argument_ends ts rest es z (DerivesMoreArgs.one_further us ws s e more d ds) = Closed.comma s ((us ++ ws) ++ marked mark.Close z ∷ rest)
+
+-- ---- expressions, indices and arguments
 
 mutual
   pub leads_expr : (l : ℕ) (ts : List Token) (e : Expr) (d : DerivesExpr l ts e) (n : ℕ) (rest : List Token) (vs : List Value) → Loose (loosest l) rest
@@ -257,10 +283,14 @@ mutual
       leads_cast n (expr_nesting (suc n) arg) us ws rest s z t a symbols vs ty
       (leads_expr 11 ws a arg (suc n) rest (Value.of_token (marked mark.Close z) ∷ Value.of_ty us t ∷ Value.of_token (marked mark.Open s) ∷ vs) loose)
   leads_expr l ts e (DerivesExpr.number v t s) n rest vs loose symbols = leads_reduced Reduction.constant (leads_take (Symbol.expression n 12) (numbered v t s) refl)
-  leads_expr l ts e (DerivesExpr.name x s) n rest vs loose symbols = leads_name n x s rest symbols vs loose.no_index
+  leads_expr l ts e (DerivesExpr.name x s) n rest vs loose symbols = leads_name n x s rest symbols vs loose.no_postfix
   leads_expr l ts e (DerivesExpr.element x s us a es d) n rest vs loose symbols =
       leads_reduced Reduction.named (leads_taking (Symbol.expression n 12) (named x s) refl (leads_reducing Reduction.no_indices
-      (leads_indices us (a ∷ es) d n [] rest [] (Symbol.reduce Reduction.named ∷ symbols) (Value.of_token (named x s) ∷ vs) loose.no_index)))
+      (leads_from (indices_follow n us rest a es (Symbol.reduce Reduction.named ∷ symbols) (Value.of_exprs [] [] ∷ Value.of_token (named x s) ∷ vs) d)
+      (leads_indices us (a ∷ es) d n [] rest [] (Symbol.reduce Reduction.named ∷ symbols) (Value.of_token (named x s) ∷ vs) loose.no_index))))
+  leads_expr l ts e (DerivesExpr.call x s a z us es d) n rest vs loose symbols =
+      leads_reduced Reduction.named (leads_taking (Symbol.expression n 12) (named x s) refl (leads_reducing Reduction.no_indices
+      (leads_taking (Symbol.postfix n) (marked mark.Open a) refl (leads_args us es d (suc n) a z rest (Symbol.reduce Reduction.named ∷ symbols) (Value.of_token (named x s) ∷ vs)))))
   leads_expr l ts e (DerivesExpr.parens us s z x d) n rest vs loose symbols =
       leads_group n (expr_nesting (suc n) d) us rest s z x symbols vs (expr_starts 0 us x d)
       (leads_expr 0 us x d (suc n) (marked mark.Close z ∷ rest) (Value.of_token (marked mark.Open s) ∷ vs) (closed_loose (marked mark.Close z ∷ rest) (Closed.closing z rest)))
@@ -275,6 +305,35 @@ mutual
       (closed_loose (marked mark.CloseBracket z ∷ (qs ++ rest)) (Closed.bracket z (qs ++ rest)))))
       (leads_indices qs xs more n (us ++ index) rest (ds ++ x ∷ []) symbols vs none))
       (indices_added index us qs rest x ds xs symbols vs)
+
+  leads_args : (ts : List Token) (es : List Expr) (d : DerivesArgs ts es) (n : ℕ) (a z : Span) (rest : List Token) (symbols : List Symbol) (vs : List Value)
+      → Leads (args_nesting n d ++ n ∷ []) (ts ++ marked mark.Close z ∷ []) rest (Symbol.arguments n ∷ symbols) (Value.of_token (marked mark.Open a) ∷ Value.of_exprs [] [] ∷ vs)
+      symbols (Value.of_token (marked mark.Close z) ∷ Value.of_exprs ts es ∷ Value.of_token (marked mark.Open a) ∷ vs)
+  leads_args ts es DerivesArgs.no_arguments n a z rest symbols vs = leads_reduced Reduction.no_arguments (leads_take (Symbol.arguments n) (marked mark.Close z) refl)
+  leads_args ts es (DerivesArgs.arguments ws qs e xs d more) n a z rest symbols vs =
+      let end : Token = marked mark.Close z in
+      let start : List Value = Value.of_token (marked mark.Open a) ∷ Value.of_exprs [] [] ∷ vs in
+      let behind : List Symbol = Symbol.more_arguments n ∷ Symbol.fixed n Fixed.closing ∷ symbols in
+      let first : Leads (expr_nesting n d) ws (qs ++ end ∷ rest) (Symbol.arguments n ∷ symbols) start behind (Value.of_exprs ws (e ∷ []) ∷ Value.of_token (marked mark.Open a) ∷ vs) =
+      leads_from (arguments_begin n ws (qs ++ end ∷ rest) symbols start (expr_starts 0 ws e d))
+      (leads_reduced Reduction.first_argument (leads_expr 0 ws e d n (qs ++ end ∷ rest) start (closed_loose (qs ++ end ∷ rest) (argument_ends qs rest xs z more)) (Symbol.reduce Reduction.first_argument ∷ behind))) in
+      leads_join (leads_join first
+      (leads_more_args qs xs more n ws rest (e ∷ []) z (Symbol.fixed n Fixed.closing ∷ symbols) (Value.of_token (marked mark.Open a) ∷ vs)))
+      (leads_take (Symbol.fixed n Fixed.closing) end refl)
+
+  leads_more_args : (ts : List Token) (es : List Expr) (d : DerivesMoreArgs ts es) (n : ℕ) (us rest : List Token) (ds : List Expr) (z : Span) (symbols : List Symbol) (vs : List Value)
+      → Leads (more_args_nesting n d) ts (marked mark.Close z ∷ rest) (Symbol.more_arguments n ∷ symbols) (Value.of_exprs us ds ∷ vs) symbols (Value.of_exprs (us ++ ts) (ds ++ es) ∷ vs)
+  leads_more_args ts es DerivesMoreArgs.no_further n us rest ds z symbols vs = leads_none
+      (ap (λ qs. trace symbols (Value.of_exprs qs ds ∷ vs) (marked mark.Close z ∷ rest)) (sym (append-nil us))
+      ∙ ap (λ xs. trace symbols (Value.of_exprs (us ++ []) xs ∷ vs) (marked mark.Close z ∷ rest)) (sym (append-nil ds)))
+  leads_more_args ts es (DerivesMoreArgs.one_further ws qs s e xs d more) n us rest ds z symbols vs =
+      let end : List Token = marked mark.Close z ∷ rest in
+      let comma : Token = marked mark.Comma s in
+      leads_to (leads_taking (Symbol.more_arguments n) comma refl
+      (leads_join (leads_reduced Reduction.next_argument
+      (leads_expr 0 ws e d n (qs ++ end) (Value.of_token comma ∷ Value.of_exprs us ds ∷ vs) (closed_loose (qs ++ end) (argument_ends qs rest xs z more)) (Symbol.reduce Reduction.next_argument ∷ Symbol.more_arguments n ∷ symbols)))
+      (leads_more_args qs xs more n (us ++ comma ∷ ws) rest (ds ++ e ∷ []) z symbols vs)))
+      (indices_added (comma ∷ ws) us qs end e ds xs symbols vs)
 
 pub traced_expr : (n : ℕ) (ts rest : List Token) (e : Expr) (d : DerivesExpr 0 ts e) (symbols : List Symbol) (vs : List Value) → Closed rest
     → Runs (expr_nesting n d) ts (trace (Symbol.expression n 0 ∷ symbols) vs (ts ++ rest)) (trace symbols (Value.of_expr ts e ∷ vs) rest)

@@ -12,7 +12,7 @@ use Rattle.c_ast.specs.declared.tree.Param.{Param}
 use Rattle.c_ast.specs.declared.tree.Tree.{Tree}
 use Rattle.c_ast.specs.Derives.{marked, keyed, named, numbered, between, DerivesDims, DerivesParam, DerivesParamList, DerivesParams, DerivesResult, Derives}
 use Rattle.c_ast.specs.Nesting.{at_level, dims_nesting, param_nesting, param_list_nesting, params_nesting, nesting}
-use Rattle.c_parse.specs.Symbols.{Symbol, Reduction, Fixed, move, followed, is_type_word, type_move, params_move, result_move, kernel_symbols}
+use Rattle.c_parse.specs.Symbols.{Symbol, Reduction, Fixed, move, followed, is_type_word, type_move, params_move, result_move, kernel_rest, kernel_symbols}
 use Rattle.c_parse.specs.Values.{Value}
 use Rattle.c_parse.specs.Traces.{Trace, trace}
 use Rattle.c_parse.proofs.Runs.{Runs}
@@ -119,7 +119,7 @@ list_begins n ts rest ps symbols vs (DerivesParamList.one_more ws xs s p more d 
     (param_begins n ws (marked mark.Comma s ∷ (xs ++ rest)) p symbols vs (Symbol.params n) (rest_of_first n) d (params_unfolds n))
 
 -- parameters with the closing parenthesis
-leads_params : (n : ℕ) (ts rest : List Token) (z : Span) (ps : List Param) (d : DerivesParams ts ps) (symbols : List Symbol) (vs : List Value)
+pub leads_params : (n : ℕ) (ts rest : List Token) (z : Span) (ps : List Param) (d : DerivesParams ts ps) (symbols : List Symbol) (vs : List Value)
     → Leads (params_nesting n d ++ n ∷ []) (ts ++ marked mark.Close z ∷ []) rest (Symbol.params n ∷ symbols) vs symbols (Value.of_token (marked mark.Close z) ∷ Value.of_params ts ps ∷ vs)
 leads_params n ts rest z ps DerivesParams.none symbols vs = leads_reduced Reduction.no_params (leads_take (Symbol.params n) (marked mark.Close z) refl)
 leads_params n ts rest z ps (DerivesParams.none_by_void s) symbols vs =
@@ -142,17 +142,17 @@ leads_result ts rest r (DerivesResult.a_type us t d) symbols vs h =
     leads_from (type_unfolds 0 (Symbol.result 0) (Symbol.reduce Reduction.result ∷ []) symbols vs ts rest t d (result_unfolds 0))
     (leads_reduced Reduction.result (leads_type 0 ts rest t d (Symbol.reduce Reduction.result ∷ symbols) vs h))
 
-leads_kernel : (ts : List Token) (tree : Tree) (d : Derives ts tree) → Leads (nesting d) ts [] kernel_symbols [] [] (Value.of_tree ts tree ∷ [])
-leads_kernel ts tree (Derives.kernel rs ps us x s a z b e r params body result inside items) =
-    let values : List Value = Value.of_token (named x s) ∷ Value.of_result rs r ∷ [] in
+pub leads_kernel : (ts rest : List Token) (tree : Tree) (d : Derives ts tree) (symbols : List Symbol) (vs : List Value) → Leads (nesting d) ts rest (Symbol.result 0 ∷ (kernel_rest ++ symbols)) vs symbols (Value.of_tree ts tree ∷ vs)
+leads_kernel ts rest tree (Derives.kernel rs ps us x s a z b e r params body result inside items) symbols vs =
+    let values : List Value = Value.of_token (named x s) ∷ Value.of_result rs r ∷ vs in
     let within : List Value = Value.of_token (marked mark.Close z) ∷ Value.of_params ps params ∷ Value.of_token (marked mark.Open a) ∷ values in
     let block : List Token = between mark.OpenBrace b us mark.CloseBrace e in
-    leads_join (leads_result rs ((named x s ∷ (between mark.Open a ps mark.Close z ++ block)) ++ []) r result (Symbol.a_name 0 ∷ Symbol.fixed 1 Fixed.opening ∷ Symbol.params 1
-    ∷ Symbol.fixed 1 Fixed.opening_brace ∷ Symbol.reduce Reduction.no_items ∷ Symbol.body 1 ∷ Symbol.reduce Reduction.kernel ∷ []) [] refl)
+    let behind : List Symbol = Symbol.fixed 1 Fixed.opening_brace ∷ Symbol.reduce Reduction.no_items ∷ Symbol.body 1 ∷ Symbol.reduce Reduction.kernel ∷ symbols in
+    leads_join (leads_result rs ((named x s ∷ (between mark.Open a ps mark.Close z ++ block)) ++ rest) r result (kernel_rest ++ symbols) vs refl)
     (leads_taking (Symbol.a_name 0) (named x s) refl (leads_join
-    (leads_taking (Symbol.fixed 1 Fixed.opening) (marked mark.Open a) refl (leads_params 1 ps (block ++ []) z params inside (Symbol.fixed 1 Fixed.opening_brace ∷ Symbol.reduce Reduction.no_items ∷ Symbol.body 1 ∷ Symbol.reduce Reduction.kernel ∷ []) (Value.of_token (marked mark.Open a) ∷ values)))
+    (leads_taking (Symbol.fixed 1 Fixed.opening) (marked mark.Open a) refl (leads_params 1 ps (block ++ rest) z params inside behind (Value.of_token (marked mark.Open a) ∷ values)))
     (leads_taking (Symbol.fixed 1 Fixed.opening_brace) (marked mark.OpenBrace b) refl
-    (leads_reduced Reduction.kernel (leads_reducing Reduction.no_items (leads_items us body items 1 [] [] [] e (Symbol.reduce Reduction.kernel ∷ []) (Value.of_token (marked mark.OpenBrace b) ∷ within)))))))
+    (leads_reduced Reduction.kernel (leads_reducing Reduction.no_items (leads_items us body items 1 rest [] [] e (Symbol.reduce Reduction.kernel ∷ symbols) (Value.of_token (marked mark.OpenBrace b) ∷ within)))))))
 
 pub traced_kernel : (ts : List Token) (tree : Tree) (d : Derives ts tree) → Runs (nesting d) ts (trace kernel_symbols [] ts) (Trace.complete (Value.of_tree ts tree ∷ []))
-traced_kernel ts tree d = subst (λ us. Runs (nesting d) ts (trace kernel_symbols [] us) (Trace.complete (Value.of_tree ts tree ∷ []))) (append-nil ts) (leads_kernel ts tree d).runs
+traced_kernel ts tree d = subst (λ us. Runs (nesting d) ts (trace kernel_symbols [] us) (Trace.complete (Value.of_tree ts tree ∷ []))) (append-nil ts) (leads_kernel ts [] tree d [] []).runs

@@ -1,5 +1,7 @@
+pub mod Bars
 pub mod Parts
 pub mod Printed
+pub mod ProgramRefusals
 pub mod Reads
 pub mod Refusals
 pub mod Sample

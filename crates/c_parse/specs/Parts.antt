@@ -6,6 +6,10 @@ use Rattle.c_parse.specs.Symbols.{Symbol, Fixed, Reduction}
 abbrev pub target_symbols : ℕ → List Symbol
 target_symbols n = Symbol.a_name n ∷ Symbol.reduce Reduction.no_indices ∷ Symbol.indices n ∷ Symbol.reduce Reduction.target ∷ []
 
+-- one or more arguments of a call
+abbrev pub argument_list_symbols : ℕ → List Symbol
+argument_list_symbols n = Symbol.expression n 0 ∷ Symbol.reduce Reduction.first_argument ∷ Symbol.more_arguments n ∷ []
+
 -- one or more parameters
 abbrev pub param_list_symbols : ℕ → List Symbol
 param_list_symbols n = Symbol.a_param n ∷ Symbol.reduce Reduction.first_param ∷ Symbol.more_params n ∷ []

@@ -1,5 +1,5 @@
 -- What was read between two places of a list of tokens.
-use Rattle.std.specs.Prelude.{◌≡◌, ℕ, List, [], ◌∷◌, ◌++◌, Bool, true, false, Option, Some, None}
+use Rattle.std.specs.Prelude.{◌≡◌, ℕ, List, [], ◌∷◌, ◌++◌, All, Bool, true, false, Option, Some, None}
 use Rattle.el_base.specs.declared.span.Span.{Span}
 use Rattle.el_base.specs.declared.ty.Ty.{Ty}
 use Rattle.c_ast.specs.declared.token.Token.{Token}
@@ -14,7 +14,9 @@ use Rattle.c_ast.specs.declared.tree.Binary.{Binary}
 use Rattle.c_ast.specs.declared.tree.Expr.{Expr}
 use Rattle.c_ast.specs.declared.tree.Stmt.{Stmt}
 use Rattle.c_parse.specs.Tables.{plain_type}
-use Rattle.c_ast.specs.Derives.{marked, keyed, numbered, between, IsBinary, IsUnary, IsAssigning, IsStep, DerivesType, DerivesDeclarators, DerivesExpr, DerivesStmt, DerivesFirst, DerivesOption, DerivesStep, DerivesItems}
+use Rattle.c_ast.specs.Derives.{marked, keyed, numbered, between, IsBinary, IsUnary, IsAssigning, IsStep, DerivesType, DerivesDeclarators, DerivesExpr, DerivesArgs, DerivesStmt, DerivesFirst, DerivesOption, DerivesStep, DerivesItems, DerivesParams}
+use Rattle.c_ast.specs.ProgramTexts.{IsNoReturn}
+use Rattle.c_ast.specs.declared.tree.Param.{Param}
 
 -- the tokens from the one place to the other have D
 pub record Reads (D : List Token → Type 0) (before after : List Token) : Type 0 where
@@ -110,6 +112,23 @@ pub data InParens : List Token → Expr → Type 0 where
 -- an expression in brackets
 pub data InBrackets : List Token → Expr → Type 0 where
   in_brackets : (ts : List Token) (s z : Span) (e : Expr) → DerivesExpr 0 ts e → InBrackets (between mark.OpenBracket s ts mark.CloseBracket z) e
+
+-- the arguments of a call in parentheses
+pub data InCall : List Token → List Expr → Type 0 where
+  in_call : (ts : List Token) (s z : Span) (es : List Expr) → DerivesArgs ts es → InCall (between mark.Open s ts mark.Close z) es
+
+-- parameters that are scalars, and the closing parenthesis
+pub data ClosedScalars : List Token → List Param → Type 0 where
+  closed_scalars : (ts : List Token) (z : Span) (ps : List Param) → DerivesParams ts ps → All (λ p. p.dims ≡ []) ps → ClosedScalars (ts ++ marked mark.Close z ∷ []) ps
+
+-- declarations and statements without the word return
+pub record PlainItems (ts : List Token) (ss : List Stmt) : Type 0 where
+  pub derived : DerivesItems ts ss
+  pub plain : All (λ t. IsNoReturn t.word) ts
+
+-- parameters, and the closing parenthesis
+pub data ClosedParams : List Token → List Param → Type 0 where
+  closed_params : (ts : List Token) (z : Span) (ps : List Param) → DerivesParams ts ps → ClosedParams (ts ++ marked mark.Close z ∷ []) ps
 
 -- declarations and statements in braces
 pub data InBraces : List Token → List Stmt → Type 0 where

@@ -76,3 +76,10 @@ pub data Refuses (Misfits : Word → Type 0) (before : List Token) (e : Stop) : 
 abbrev pub stop_at : List Token → Stop
 stop_at [] = stop.EndOfText
 stop_at (t ∷ ts) = stop.Unexpected t.span
+
+-- the refusal of tokens by that of those before a barred one, where these tokens come behind
+abbrev pub stop_before : List Token → Stop → Stop
+stop_before behind stop.EndOfText = stop_at behind
+stop_before behind (stop.Unexpected s) = stop.Unexpected s
+stop_before behind (stop.TooDeep s) = stop.TooDeep s
+stop_before behind stop.Memory = stop.Memory

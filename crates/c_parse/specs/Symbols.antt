@@ -1,6 +1,6 @@
 -- A predictive table for kernel texts: what each grammar symbol becomes at a token.
 -- A symbol is what a parser still expects. With one token of lookahead it either takes the token and is replaced by other symbols, or is passed over, or is stuck. The first argument of a symbol is the number of constructs that hold it.
-use Rattle.std.specs.Prelude.{ℕ, zero, suc, ◌-◌, ◌==◌, if◌then◌else◌, List, [], ◌∷◌, ◌++◌, Bool, true, false, Option, Some, None, is_some}
+use Rattle.std.specs.Prelude.{ℕ, zero, suc, ◌-◌, ◌==◌, if◌then◌else◌, List, [], ◌∷◌, ◌++◌, map, Bool, true, false, Option, Some, None, is_some}
 use Rattle.c_ast.specs.declared.token.Word.{Word}
 use Rattle.c_ast.specs.declared.token.Word.TheVariants as word
 use Rattle.c_ast.specs.declared.key.Key.{Key}
@@ -9,11 +9,13 @@ use Rattle.c_ast.specs.declared.mark.Mark.{Mark}
 use Rattle.c_ast.specs.declared.mark.Mark.TheVariants as mark
 use Rattle.c_ast.specs.declared.tree.Unary.{Unary}
 use Rattle.c_ast.specs.declared.tree.Binary.{Binary}
+use Rattle.c_parse.specs.declared.bar.Bar.{Bar}
+use Rattle.c_parse.specs.declared.bar.Bar.TheVariants as bar
 use Rattle.c_parse.specs.Tables.{operator_of, sign_of, assigning_of, step_of, plain_type}
 
 -- a word that a rule has at a place by itself
 pub data Fixed : Type 0 where
-  opening closing closing_bracket colon semicolon opening_brace while_word : Fixed
+  opening closing closing_bracket colon semicolon opening_brace closing_brace while_word : Fixed
 
 abbrev pub spelled : Fixed → Word
 spelled Fixed.opening = word.Mark mark.Open
@@ -22,7 +24,14 @@ spelled Fixed.closing_bracket = word.Mark mark.CloseBracket
 spelled Fixed.colon = word.Mark mark.Colon
 spelled Fixed.semicolon = word.Mark mark.Semicolon
 spelled Fixed.opening_brace = word.Mark mark.OpenBrace
+spelled Fixed.closing_brace = word.Mark mark.CloseBrace
 spelled Fixed.while_word = word.Key key.While
+
+-- the words that a part bars: none of its tokens has them
+abbrev pub bars : Bar → Word → Bool
+bars bar.Returns (word.Key key.Return) = true
+bars bar.Brackets (word.Mark mark.OpenBracket) = true
+bars b w = false
 
 -- how a part is made of what was read for it
 pub data Reduction : Type 0 where
@@ -30,6 +39,8 @@ pub data Reduction : Type 0 where
   plain with_int : Reduction
   -- expressions
   no_indices index named constant group cast signed joined chosen : Reduction
+  -- calls
+  no_arguments first_argument next_argument : Reduction
   -- assignments, steps and declarations
   target assigned step_after step_before no_value value first_declared next_declared declared : Reduction
   -- the parts of a for
@@ -38,6 +49,8 @@ pub data Reduction : Type 0 where
   no_items statement_item declared_items block empty simple no_other other if_done while_done do_done for_done leaving continuing returning : Reduction
   -- parameters and kernels
   no_dims dim param first_param next_param no_params void_params void_result result kernel : Reduction
+  -- helpers and programs
+  no_helpers helper program : Reduction
 
 pub data Symbol : Type 0 where
   fixed : ℕ → Fixed → Symbol
@@ -52,6 +65,10 @@ pub data Symbol : Type 0 where
   operators : ℕ → ℕ → Symbol
   -- indices in brackets, of which there may be none
   indices : ℕ → Symbol
+  -- what may follow a name in an expression: indices, or arguments in parentheses
+  postfix : ℕ → Symbol
+  -- arguments up to the closing parenthesis, with it; and further arguments, of which there may be none
+  arguments more_arguments : ℕ → Symbol
   -- an assignment or step, and what follows its target
   simple assigning : ℕ → Symbol
   -- a declared name, its value, which may be absent, and further declared names, of which there may be none
@@ -69,6 +86,12 @@ pub data Symbol : Type 0 where
   a_param : ℕ → Symbol
   -- further parameters and dimensions, of which there may be none
   more_params dims : ℕ → Symbol
+  -- helpers and a kernel
+  program : Symbol
+  -- declarations and statements of a helper up to its closing brace, with its return and the brace
+  helper_body : ℕ → Symbol
+  -- the same as another symbol, of tokens without a word
+  without : Bar → Symbol → Symbol
   -- nothing is read
   reduce : Reduction → Symbol
 
@@ -84,6 +107,14 @@ followed Move.pass more = Move.pass
 followed (Move.take n symbols) more = Move.take n (symbols ++ more)
 followed Move.stuck more = Move.stuck
 
+-- the same where a word is barred: a symbol that may be absent is passed over at it, and another is stuck
+abbrev pub limited : Bar → Bool → Move → Bool → Move
+limited b absent Move.pass barred = Move.pass
+limited b absent Move.stuck barred = Move.stuck
+limited b absent (Move.take n symbols) false = Move.take n (map (Symbol.without b) symbols)
+limited b true (Move.take n symbols) true = Move.pass
+limited b false (Move.take n symbols) true = Move.stuck
+
 -- ---- words and types
 
 abbrev pub takes : Fixed → Word → Bool
@@ -93,6 +124,7 @@ takes Fixed.closing_bracket (word.Mark mark.CloseBracket) = true
 takes Fixed.colon (word.Mark mark.Colon) = true
 takes Fixed.semicolon (word.Mark mark.Semicolon) = true
 takes Fixed.opening_brace (word.Mark mark.OpenBrace) = true
+takes Fixed.closing_brace (word.Mark mark.CloseBrace) = true
 takes Fixed.while_word (word.Key key.While) = true
 takes f w = false
 
@@ -138,7 +170,7 @@ sign_move n l (Some op) = Move.take (suc n) (Symbol.expression (suc n) 11 ∷ Sy
 sign_move n l None = Move.stuck
 
 abbrev pub expression_move : ℕ → ℕ → Word → Move
-expression_move n l (word.Name x) = Move.take n (Symbol.reduce Reduction.no_indices ∷ Symbol.indices n ∷ Symbol.reduce Reduction.named ∷ tails n l)
+expression_move n l (word.Name x) = Move.take n (Symbol.reduce Reduction.no_indices ∷ Symbol.postfix n ∷ Symbol.reduce Reduction.named ∷ tails n l)
 expression_move n l (word.Number v t) = Move.take n (Symbol.reduce Reduction.constant ∷ tails n l)
 expression_move n l (word.Mark mark.Open) = Move.take (suc n) (Symbol.inside (suc n) ∷ tails n l)
 expression_move n l (word.Mark m) = sign_move n l (sign_of m)
@@ -165,6 +197,19 @@ operators_move n (suc l) w = Move.pass
 abbrev pub indices_move : ℕ → Word → Move
 indices_move n (word.Mark mark.OpenBracket) = Move.take (suc n) (Symbol.expression (suc n) 0 ∷ Symbol.fixed (suc n) Fixed.closing_bracket ∷ Symbol.reduce Reduction.index ∷ Symbol.indices n ∷ [])
 indices_move n w = Move.pass
+
+abbrev pub postfix_move : ℕ → Word → Move
+postfix_move n (word.Mark mark.Open) = Move.take (suc n) (Symbol.arguments (suc n) ∷ [])
+postfix_move n w = indices_move n w
+
+abbrev pub arguments_move : ℕ → Word → Move
+arguments_move n (word.Mark mark.Close) = Move.take n (Symbol.reduce Reduction.no_arguments ∷ [])
+arguments_move n w =
+    followed (expression_move n 0 w) (Symbol.reduce Reduction.first_argument ∷ Symbol.more_arguments n ∷ Symbol.fixed n Fixed.closing ∷ [])
+
+abbrev pub more_arguments_move : ℕ → Word → Move
+more_arguments_move n (word.Mark mark.Comma) = Move.take n (Symbol.expression n 0 ∷ Symbol.reduce Reduction.next_argument ∷ Symbol.more_arguments n ∷ [])
+more_arguments_move n w = Move.pass
 
 -- ---- assignments, steps and declarations
 
@@ -272,7 +317,47 @@ abbrev pub dims_move : ℕ → Word → Move
 dims_move n (word.Mark mark.OpenBracket) = Move.take (suc n) (Symbol.a_number (suc n) ∷ Symbol.fixed (suc n) Fixed.closing_bracket ∷ Symbol.reduce Reduction.dim ∷ Symbol.dims n ∷ [])
 dims_move n w = Move.pass
 
+-- ---- programs
+
+abbrev pub plain_item_move : ℕ → Word → Move
+plain_item_move n (word.Key key.Return) = Move.take n (Symbol.expression n 0 ∷ Symbol.fixed n Fixed.semicolon ∷ Symbol.fixed n Fixed.closing_brace ∷ [])
+plain_item_move n w = followed (limited bar.Returns false (statement_move n w) (bars bar.Returns w)) (Symbol.reduce Reduction.statement_item ∷ Symbol.helper_body n ∷ [])
+
+abbrev pub helper_body_move : ℕ → Bool → Word → Move
+helper_body_move n true w =
+    followed (limited bar.Returns false (type_move n w) (bars bar.Returns w)) (map (Symbol.without bar.Returns) (declarators n) ++ Symbol.reduce Reduction.declared_items ∷ Symbol.helper_body n ∷ [])
+helper_body_move n false w = plain_item_move n w
+
+-- what follows the word static
+abbrev pub helper_symbols : List Symbol
+helper_symbols = Symbol.a_type 0 ∷ Symbol.a_name 0 ∷ Symbol.fixed 1 Fixed.opening ∷ Symbol.without bar.Brackets (Symbol.params 1) ∷ Symbol.fixed 1 Fixed.opening_brace
+    ∷ Symbol.reduce Reduction.no_items ∷ Symbol.helper_body 1 ∷ Symbol.reduce Reduction.helper ∷ []
+
+-- what follows the result of a kernel
+abbrev pub kernel_rest : List Symbol
+kernel_rest = Symbol.a_name 0 ∷ Symbol.fixed 1 Fixed.opening ∷ Symbol.params 1 ∷ Symbol.fixed 1 Fixed.opening_brace ∷ Symbol.reduce Reduction.no_items ∷ Symbol.body 1 ∷ Symbol.reduce Reduction.kernel ∷ []
+
+abbrev pub program_move : Word → Move
+program_move (word.Key key.Static) = Move.take 0 (helper_symbols ++ Symbol.program ∷ [])
+program_move w = followed (result_move 0 w) (kernel_rest ++ Symbol.reduce Reduction.program ∷ [])
+
 -- ---- the table
+
+-- whether a symbol may be absent where no token is left
+abbrev pub may_be_absent : Symbol → Bool
+may_be_absent (Symbol.maybe_int n) = true
+may_be_absent (Symbol.operators n l) = true
+may_be_absent (Symbol.indices n) = true
+may_be_absent (Symbol.postfix n) = true
+may_be_absent (Symbol.more_arguments n) = true
+may_be_absent (Symbol.value n) = true
+may_be_absent (Symbol.more_declared n) = true
+may_be_absent (Symbol.other n) = true
+may_be_absent (Symbol.more_params n) = true
+may_be_absent (Symbol.dims n) = true
+may_be_absent (Symbol.without b s) = may_be_absent s
+may_be_absent (Symbol.reduce r) = true
+may_be_absent s = false
 
 abbrev pub move : Symbol → Word → Move
 move (Symbol.fixed n f) w = fixed_move n (takes f w)
@@ -284,6 +369,9 @@ move (Symbol.expression n l) w = expression_move n l w
 move (Symbol.inside n) w = inside_move n (is_type_word w) w
 move (Symbol.operators n l) w = operators_move n l w
 move (Symbol.indices n) w = indices_move n w
+move (Symbol.postfix n) w = postfix_move n w
+move (Symbol.arguments n) w = arguments_move n w
+move (Symbol.more_arguments n) w = more_arguments_move n w
 move (Symbol.simple n) w = simple_move n w
 move (Symbol.assigning n) w = assigning_move n w
 move (Symbol.declared n) w = name_move n (Symbol.reduce Reduction.no_value ∷ Symbol.value n ∷ []) w
@@ -300,22 +388,15 @@ move (Symbol.params n) w = params_move n w
 move (Symbol.a_param n) w = param_move n w
 move (Symbol.more_params n) w = more_params_move n w
 move (Symbol.dims n) w = dims_move n w
+move Symbol.program w = program_move w
+move (Symbol.helper_body n) w = helper_body_move n (is_type_word w) w
+move (Symbol.without b s) w = limited b (may_be_absent s) (move s w) (bars b w)
 move (Symbol.reduce r) w = Move.pass
-
--- whether a symbol may be absent where no token is left
-abbrev pub may_be_absent : Symbol → Bool
-may_be_absent (Symbol.maybe_int n) = true
-may_be_absent (Symbol.operators n l) = true
-may_be_absent (Symbol.indices n) = true
-may_be_absent (Symbol.value n) = true
-may_be_absent (Symbol.more_declared n) = true
-may_be_absent (Symbol.other n) = true
-may_be_absent (Symbol.more_params n) = true
-may_be_absent (Symbol.dims n) = true
-may_be_absent (Symbol.reduce r) = true
-may_be_absent s = false
 
 -- the symbols of a kernel text
 abbrev pub kernel_symbols : List Symbol
-kernel_symbols = Symbol.result 0 ∷ Symbol.a_name 0 ∷ Symbol.fixed 1 Fixed.opening ∷ Symbol.params 1
-    ∷ Symbol.fixed 1 Fixed.opening_brace ∷ Symbol.reduce Reduction.no_items ∷ Symbol.body 1 ∷ Symbol.reduce Reduction.kernel ∷ []
+kernel_symbols = Symbol.result 0 ∷ kernel_rest
+
+-- the symbols of a program's text
+abbrev pub program_symbols : List Symbol
+program_symbols = Symbol.reduce Reduction.no_helpers ∷ Symbol.program ∷ []

@@ -19,6 +19,7 @@ pub data Trace : Type 0 where
 -- the values where a symbol is passed over: a reduction is done
 abbrev pub settled : Symbol → List Value → List Value
 settled (Symbol.reduce r) vs = reduced r vs
+settled (Symbol.without b s) vs = settled s vs
 settled s vs = vs
 
 -- no token is left

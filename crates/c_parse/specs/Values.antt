@@ -21,6 +21,8 @@ use Rattle.c_ast.specs.declared.tree.Stmt.{Stmt}
 use Rattle.c_ast.specs.declared.tree.StmtKind.{StmtKind}
 use Rattle.c_ast.specs.declared.tree.StmtKind.TheVariants as stmt
 use Rattle.c_ast.specs.declared.tree.Tree.{Tree}
+use Rattle.c_ast.specs.declared.tree.Helper.{Helper}
+use Rattle.c_ast.specs.declared.tree.Program.{Program}
 use Rattle.c_ast.specs.Derives.{place_of, expr_of, stmt_of}
 use Rattle.c_parse.specs.Tables.{operator_of, sign_of, assigning_of, step_of, plain_type}
 use Rattle.c_parse.specs.Symbols.{Reduction}
@@ -41,6 +43,8 @@ pub data Value : Type 0 where
   of_params : List Token → List Param → Value
   of_result : List Token → Option Ty → Value
   of_tree : List Token → Tree → Value
+  of_helpers : List Helper → Value
+  of_program : Program → Value
 
 -- ---- what words mean; of words that mean none, the default
 
@@ -97,6 +101,10 @@ reduced Reduction.with_int (Value.of_token i ∷ Value.of_ty ts t ∷ vs) = Valu
 reduced Reduction.no_indices vs = Value.of_exprs [] [] ∷ vs
 reduced Reduction.index (Value.of_token z ∷ Value.of_expr ts e ∷ Value.of_token a ∷ Value.of_exprs us es ∷ vs) = Value.of_exprs (us ++ a ∷ (ts ++ z ∷ [])) (es ++ e ∷ []) ∷ vs
 reduced Reduction.named (Value.of_exprs ts es ∷ Value.of_token t ∷ vs) = expr_value (named_kind (name_in t.word) es) (t ∷ ts) ∷ vs
+reduced Reduction.named (Value.of_token z ∷ Value.of_exprs ts es ∷ Value.of_token a ∷ Value.of_token t ∷ vs) = expr_value (expr.Call (name_in t.word) es) (t ∷ a ∷ (ts ++ z ∷ [])) ∷ vs
+reduced Reduction.no_arguments (Value.of_token z ∷ Value.of_token a ∷ Value.of_exprs us es ∷ vs) = Value.of_token z ∷ Value.of_exprs [] [] ∷ Value.of_token a ∷ vs
+reduced Reduction.first_argument (Value.of_expr ts e ∷ Value.of_token a ∷ Value.of_exprs us es ∷ vs) = Value.of_exprs ts (e ∷ []) ∷ Value.of_token a ∷ vs
+reduced Reduction.next_argument (Value.of_expr us e ∷ Value.of_token c ∷ Value.of_exprs ts es ∷ vs) = Value.of_exprs (ts ++ c ∷ us) (es ++ e ∷ []) ∷ vs
 reduced Reduction.constant (Value.of_token t ∷ vs) = expr_value (expr.Number (number_in t.word) (type_in t.word)) (t ∷ []) ∷ vs
 reduced Reduction.group (Value.of_token z ∷ Value.of_expr ts e ∷ Value.of_token a ∷ vs) = Value.of_expr (a ∷ (ts ++ z ∷ [])) e ∷ vs
 reduced Reduction.cast (Value.of_expr us e ∷ Value.of_token z ∷ Value.of_ty ts t ∷ Value.of_token a ∷ vs) = expr_value (expr.Cast t e) (a ∷ (ts ++ z ∷ []) ++ us) ∷ vs
@@ -148,4 +156,9 @@ reduced Reduction.void_result (Value.of_token v ∷ vs) = Value.of_result (v ∷
 reduced Reduction.result (Value.of_ty ts t ∷ vs) = Value.of_result ts (Some t) ∷ vs
 reduced Reduction.kernel (Value.of_token e ∷ Value.of_stmts ts body ∷ Value.of_token b ∷ Value.of_token z ∷ Value.of_params ps params ∷ Value.of_token a ∷ Value.of_token x ∷ Value.of_result rs r ∷ vs) =
     Value.of_tree (rs ++ x ∷ (a ∷ (ps ++ z ∷ []) ++ b ∷ (ts ++ e ∷ []))) (record { name = name_in x.word; at = x.span; result = r; params = params; body = body }) ∷ vs
+reduced Reduction.no_helpers vs = Value.of_helpers [] ∷ vs
+reduced Reduction.helper (Value.of_token y ∷ Value.of_token e ∷ Value.of_expr us v ∷ Value.of_token r ∷ Value.of_stmts ts body ∷ Value.of_token b
+    ∷ Value.of_token z ∷ Value.of_params ps params ∷ Value.of_token a ∷ Value.of_token x ∷ Value.of_ty rs t ∷ Value.of_token f ∷ Value.of_helpers hs ∷ vs) =
+    Value.of_helpers (hs ++ record { name = name_in x.word; at = x.span; result = t; params = params; body = body; value = v } ∷ []) ∷ vs
+reduced Reduction.program (Value.of_tree ts tree ∷ Value.of_helpers hs ∷ vs) = Value.of_program (record { helpers = hs; kernel = tree }) ∷ vs
 reduced r vs = vs

@@ -2,11 +2,12 @@
 ghost use Rattle.std.specs.Prelude.{◌≡◌, ◌≤◌, ◌+◌, ℕ, suc, List, [], ◌∷◌, false, Some, IfOk};
 ghost use Rattle.el_base.specs.Limits.{max_nesting};
 ghost use Rattle.c_ast.specs.declared.tree.ExprKind.TheVariants as expr;
-ghost use Rattle.c_ast.specs.Derives.{DerivesExpr, DerivesIndices};
+ghost use Rattle.c_ast.specs.Derives.{DerivesExpr, DerivesIndices, DerivesArgs};
 ghost use Rattle.c_ast.specs.declared.mark.Mark.TheVariants as mark;
-ghost use Rattle.c_parse.specs.Reads.{Reads, InParens, InBrackets, mark_at};
+ghost use Rattle.c_parse.specs.Reads.{Reads, InParens, InBrackets, InCall, mark_at};
 ghost use Rattle.c_parse.specs.Stops.{IsLooserAt, is_type_behind, is_operand_at};
 ghost use Rattle.c_parse.specs.Symbols.{Symbol, Fixed, in_group};
+ghost use Rattle.c_parse.specs.Parts.{argument_list_symbols};
 ghost use Rattle.c_parse.specs.Verdicts.{Judges};
 
 use crate::cursor::{Cursor, deeper, place};
@@ -105,17 +106,24 @@ impl<'a> Cursor<'a> {
         }
     }
 
-    // A name, with indices or without.
+    // A name, with indices, with the arguments of a call, or alone.
     #[cycle(expr)]
     fn named(&mut self, depth: u32) -> Result<Expr, Stop>
         ensures derived { IfOk result (λ e. Reads (λ ts. DerivesExpr 11 ts e)
             self.old.rest.now self.new.rest.now) }
         ensures judged { (n : ℕ) → n + depth ≡ max_nesting
-            → Judges (Symbol.a_name n ∷ Symbol.indices n ∷ []) []
+            → Judges (Symbol.a_name n ∷ Symbol.postfix n ∷ []) []
             self.old.rest.now self.new.rest.now result }
     {
         let from = self.rest;
         let (name, _) = self.name()?;
+        if self.is_at(Mark::Open) {
+            let args = self.arguments(depth)?;
+            return Ok(Expr {
+                kind: ExprKind::Call { name, args },
+                at: place(from, self.rest),
+            });
+        }
         let indices = self.indices(depth)?;
         let at = place(from, self.rest);
         if indices.is_empty() {
@@ -128,6 +136,56 @@ impl<'a> Cursor<'a> {
             kind: ExprKind::Element { name, indices },
             at,
         })
+    }
+
+    // The arguments of a call in parentheses.
+    #[cycle(expr)]
+    fn arguments(&mut self, depth: u32) -> Result<List<Expr>, Stop>
+        ensures derived { IfOk result (λ es. Reads (λ ts. InCall ts es)
+            self.old.rest.now self.new.rest.now) }
+        ensures judged { (n : ℕ) → n + depth ≡ max_nesting
+            → mark_at self.old.rest.now ≡ Some mark.Open
+            → Judges (Symbol.postfix n ∷ []) [] self.old.rest.now self.new.rest.now result }
+    {
+        let open = self.mark(Mark::Open)?;
+        let depth = deeper(depth, open)?;
+        let args = self.any_arguments(depth)?;
+        self.mark(Mark::Close)?;
+        Ok(args)
+    }
+
+    // Arguments with commas between them, of which there may be none.
+    #[cycle(expr)]
+    fn any_arguments(&mut self, depth: u32) -> Result<List<Expr>, Stop>
+        ensures derived { IfOk result (λ es. Reads (λ ts. DerivesArgs ts es)
+            self.old.rest.now self.new.rest.now) }
+        ensures judged { (n : ℕ) → n + depth ≡ max_nesting
+            → Judges (Symbol.arguments n ∷ []) (Symbol.fixed n Fixed.closing ∷ [])
+            self.old.rest.now self.new.rest.now result }
+    {
+        if self.is_at(Mark::Close) {
+            return Ok(List::new(self.alloc));
+        }
+        self.argument_list(depth)
+    }
+
+    // One or more arguments.
+    #[cycle(expr)]
+    fn argument_list(&mut self, depth: u32) -> Result<List<Expr>, Stop>
+        ensures derived { IfOk result (λ es. Reads (λ ts. DerivesArgs ts es)
+            self.old.rest.now self.new.rest.now) }
+        ensures judged { (n : ℕ) → n + depth ≡ max_nesting
+            → Judges (argument_list_symbols n) [] self.old.rest.now self.new.rest.now result }
+    {
+        let mut args = List::new(self.alloc);
+        let first = self.expr(depth)?;
+        args.push(first)?;
+        'arguments: while self.is_at(Mark::Comma) {
+            self.mark(Mark::Comma)?;
+            let more = self.expr(depth)?;
+            args.push(more)?;
+        }
+        Ok(args)
     }
 
     // A unary operator and its operand.

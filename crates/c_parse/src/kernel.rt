@@ -71,8 +71,8 @@ fn limited(tree: Tree) -> Result<Tree, ParseRefusal>
     Ok(tree)
 }
 
-// The refusal of tokens that stop, which end at a place.
-fn refused(stop: Stop, end: Span) -> ParseRefusal
+/// The refusal of tokens that stop, which end at a place.
+pub fn refused(stop: Stop, end: Span) -> ParseRefusal
     ensures { result ≡ refusal_of end stop }
 {
     match stop {
@@ -97,8 +97,8 @@ impl<'a> Cursor<'a> {
         Ok(tree)
     }
 
-    // A kernel.
-    fn kernel(&mut self) -> Result<Tree, Stop>
+    /// A kernel.
+    pub fn kernel(&mut self) -> Result<Tree, Stop>
         ensures derived { IfOk result (λ tree. Reads (λ ts. Derives ts tree)
             self.old.rest.now self.new.rest.now) }
         ensures judged { Judges kernel_symbols [] self.old.rest.now self.new.rest.now result }

@@ -1,5 +1,5 @@
 //! Statements.
-ghost use Rattle.std.specs.Prelude.{◌≡◌, ◌<◌, ◌≤◌, ◌+◌, ℕ, suc, List, [], ◌∷◌, length, Some, None, IfOk};
+ghost use Rattle.std.specs.Prelude.{◌≡◌, ◌<◌, ◌≤◌, ◌+◌, ℕ, suc, List, [], ◌∷◌, All, length, Some, None, IfOk};
 ghost use Rattle.el_base.specs.Limits.{max_nesting};
 ghost use Rattle.c_ast.specs.declared.key.Key.TheVariants as key;
 ghost use Rattle.c_ast.specs.declared.mark.Mark.TheVariants as mark;
@@ -9,10 +9,13 @@ ghost use Rattle.c_parse.specs.Reads.{Reads, Adds, ReadsStmt, InParens, InBraces
 ghost use Rattle.c_parse.specs.Symbols.{Symbol, Fixed, in_group};
 ghost use Rattle.c_parse.specs.Parts.{braced_symbols, head_symbols};
 ghost use Rattle.c_parse.specs.Verdicts.{Judges};
+ghost use Rattle.c_parse.specs.declared.bar.Bar.TheVariants as bar;
+ghost use Rattle.c_parse.specs.Bars.{IsFreeOf, BeginsBarred, JudgesBefore};
 
 use crate::cursor::{Cursor, deeper, place};
 use crate::refusal::Stop;
 use c_ast::{Boxed, Expr, Key, List, Mark, Stmt, StmtKind};
+use el_base::MAX_NESTING;
 
 /// What stands between the parentheses of a `for`.
 #[derive(Drop)]
@@ -125,6 +128,24 @@ impl<'a> Cursor<'a> {
             return self.declaration(depth, body);
         }
         let stmt = self.stmt(depth)?;
+        body.push(stmt)?;
+        Ok(())
+    }
+
+    /// A declaration or a statement of a helper, which is added to the others.
+    pub fn plain_item(&mut self, body: &mut List<Stmt>) -> Result<(), Stop>
+        ensures added { IfOk result (λ _. Adds (λ ts ss. DerivesItems ts ss)
+            self.old.rest.now self.new.rest.now body.old body.new) }
+        ensures shorter { IfOk result (λ _. length self.new.rest.now < length self.old.rest.now) }
+        ensures judged { (behind : List Token) → BeginsBarred bar.Returns behind
+            → All (IsFreeOf bar.Returns) self.old.rest.now → (self.old.rest.now ≡ [] → ⊥)
+            → JudgesBefore behind (Symbol.helper_body 1 ∷ []) (Symbol.helper_body 1 ∷ [])
+            self.old.rest.now self.new.rest.now result }
+    {
+        if self.is_at_type() {
+            return self.declaration(MAX_NESTING - 1, body);
+        }
+        let stmt = self.stmt(MAX_NESTING - 1)?;
         body.push(stmt)?;
         Ok(())
     }

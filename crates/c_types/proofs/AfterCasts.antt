@@ -4,7 +4,8 @@ use Rattle.el_base.specs.declared.ty.Ty.{Ty}
 use Rattle.c_ast.specs.declared.tree.Stmt.{Stmt}
 use Rattle.c_ast.specs.declared.typed.TypedStmt.{TypedStmt}
 use Rattle.c_ast.specs.Nodes.{stmt_nodes, stmts_nodes, held_nodes}
-use Rattle.c_ast.specs.Typing.{Names, with_name, names_after}
+use Rattle.c_ast.specs.Typing.{with_name, names_after}
+use Rattle.c_ast.specs.Programs.{names_after_list}
 use Rattle.c_ast.specs.Casts.{Context, Scope, a_var, into_innermost, CastsStmt, CastsHeld, CastsStmts}
 use Rattle.c_ast.specs.Casts as rule
 use Rattle.c_types.specs.TypingParts.{names_as}
@@ -12,11 +13,6 @@ use Rattle.c_types.proofs.CastLemmas.{held_scopes}
 use Rattle.c_types.proofs.StatementNodes.{block_nodes, declare_nodes, if_nodes, while_nodes, do_nodes, for_nodes, one_more_nodes}
 
 -- ---- names
-
--- the names in force after several statements
-abbrev pub names_after_all : Names → List Stmt → Names
-names_after_all names [] = names
-names_after_all names (s ∷ ss) = names_after_all (names_after names s.kind) ss
 
 pub entered : (x : List ℕ) (n : ℕ) (t : Ty) (ss : List Scope) → names_as (into_innermost (x, a_var n t) ss) ≡ with_name x (names_as ss)
 entered x n t [] = refl
@@ -38,9 +34,9 @@ names_after_cast (rule.return_nothing r c s) = refl
 names_after_cast (rule.return_value t c e f s h) = refl
 names_after_cast (rule.empty r c s) = refl
 
-pub names_after_casts : {r : Option Ty} {c d : Context} {ss : List Stmt} {ts : List TypedStmt} → CastsStmts r c ss ts d → names_as d.scopes ≡ names_after_all (names_as c.scopes) ss
+pub names_after_casts : {r : Option Ty} {c d : Context} {ss : List Stmt} {ts : List TypedStmt} → CastsStmts r c ss ts d → names_as d.scopes ≡ names_after_list (names_as c.scopes) ss
 names_after_casts (rule.done r c) = refl
-names_after_casts (rule.more r c d d2 a b ss ts h i) = names_after_casts i ∙ ap (λ names. names_after_all names ss) (names_after_cast h)
+names_after_casts (rule.more r c d d2 a b ss ts h i) = names_after_casts i ∙ ap (λ names. names_after_list names ss) (names_after_cast h)
 
 -- ---- variables
 

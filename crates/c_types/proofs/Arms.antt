@@ -24,7 +24,7 @@ abbrev pub outside : Sorts → Sorts
 outside [] = []
 outside (s ∷ ss) = ss
 
-with_entry_outside : (x : List ℕ) (t : Sort) (v : Sorts) → outside (with_entry x t v) ≡ outside v
+pub with_entry_outside : (x : List ℕ) (t : Sort) (v : Sorts) → outside (with_entry x t v) ≡ outside v
 with_entry_outside x t [] = refl
 with_entry_outside x t (s ∷ ss) = refl
 
@@ -42,11 +42,11 @@ after_outside v row.Continue = refl
 after_outside v (row.Return e) = refl
 after_outside v row.Empty = refl
 
-all_outside : (ss : List Stmt) (v : Sorts) → outside (sorts_after_all v ss) ≡ outside v
+pub all_outside : (ss : List Stmt) (v : Sorts) → outside (sorts_after_all v ss) ≡ outside v
 all_outside [] v = refl
 all_outside (s ∷ ss) v = all_outside ss (sorts_after v s.kind) ∙ after_outside v s.kind
 
-leaves : (v w : Sorts) → outside w ≡ v → 0 < length v → without_innermost w ≡ v
+pub leaves : (v w : Sorts) → outside w ≡ v → 0 < length v → without_innermost w ≡ v
 leaves v [] is some = absurd (omega (arith, ap length is))
 leaves v (s ∷ []) is some = absurd (omega (arith, ap length is))
 leaves v (s ∷ s2 ∷ ss) is some = is

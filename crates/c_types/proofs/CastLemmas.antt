@@ -33,6 +33,9 @@ context_with ss ts = record { scopes = ss; types = ts }
 pub found : (dims : ℕ → List ℕ) (types : List Ty) (scopes : Bindings) (x : List ℕ) (b : Binding) → declared_in scopes x ≡ Some b → declared_as (context_in dims scopes types) x ≡ Some (declared_by dims b)
 found dims types scopes x b h = found-scopes_by (declared_by dims) scopes x ∙ ap (option_map (declared_by dims)) h
 
+pub unfound : (dims : ℕ → List ℕ) (types : List Ty) (scopes : Bindings) (x : List ℕ) → declared_in scopes x ≡ None → declared_as (context_in dims scopes types) x ≡ None
+unfound dims types scopes x h = found-scopes_by (declared_by dims) scopes x ∙ ap (option_map (declared_by dims)) h
+
 pub entered : (dims : ℕ → List ℕ) (x : List ℕ) (b : Binding) (v : Bindings) → is_new_in v x ≡ true
     → scopes_by (declared_by dims) (with_entry x b v) ≡ into_innermost (x, declared_by dims b) (scopes_by (declared_by dims) v)
 entered dims x b [] h = refl
@@ -113,25 +116,25 @@ pub same_length : {c : Context} {es : List Expr} {fs : List TypedExpr} → Casts
 same_length (rule.no_more c) = refl
 same_length (rule.one_more c e f es fs p q) = ap suc (same_length q)
 
-no_dims : ℕ → List ℕ
+pub no_dims : ℕ → List ℕ
 no_dims n = []
 
 pub long_as : (scopes : Bindings) (es : List Expr) (fs : List TypedExpr) → AreCastExprs scopes es fs → length fs ≡ length es
 long_as scopes es fs hs = same_length (hs.casts no_dims [])
 
-no_items : {A : Type 0} (xs : List A) → length xs ≡ 0 → xs ≡ []
+pub no_items : {A : Type 0} (xs : List A) → length xs ≡ 0 → xs ≡ []
 no_items [] h = refl
 no_items (x ∷ xs) h = absurd (omega (arith, h))
 
-variable_of : {scopes : Bindings} {x : List ℕ} {n : ℕ} {o : Object} {t : Ty} (v : ℕ) → IsObject scopes x n o t → o ≡ object.Var v → declared_in scopes x ≡ Some (binding.Var v t)
+pub variable_of : {scopes : Bindings} {x : List ℕ} {n : ℕ} {o : Object} {t : Ty} (v : ℕ) → IsObject scopes x n o t → o ≡ object.Var v → declared_in scopes x ≡ Some (binding.Var v t)
 variable_of v (a_variable n w t none is) same = cc
 variable_of v (an_element n a t some is) same = absurd (cc)
 
-array_of : {scopes : Bindings} {x : List ℕ} {n : ℕ} {o : Object} {t : Ty} (a : ℕ) → IsObject scopes x n o t → o ≡ object.Array a → declared_in scopes x ≡ Some (binding.Array a t)
+pub array_of : {scopes : Bindings} {x : List ℕ} {n : ℕ} {o : Object} {t : Ty} (a : ℕ) → IsObject scopes x n o t → o ≡ object.Array a → declared_in scopes x ≡ Some (binding.Array a t)
 array_of a (a_variable n v t none is) same = absurd (cc)
 array_of a (an_element n b t some is) same = cc
 
-no_index : {scopes : Bindings} {x : List ℕ} {n : ℕ} {o : Object} {t : Ty} (v : ℕ) → IsObject scopes x n o t → o ≡ object.Var v → n ≡ 0
+pub no_index : {scopes : Bindings} {x : List ℕ} {n : ℕ} {o : Object} {t : Ty} (v : ℕ) → IsObject scopes x n o t → o ≡ object.Var v → n ≡ 0
 no_index v (a_variable n w t none is) same = none
 no_index v (an_element n a t some is) same = absurd (cc)
 

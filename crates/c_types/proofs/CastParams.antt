@@ -91,7 +91,7 @@ told_in (y ∷ before) x after = told_in before x after
 pub dims_tell : (xs : List ArrayOf) → Tells (dims_in xs) xs
 dims_tell xs = record { told = λ before x after is. ap (λ v. dims_in v (length before)) is ∙ told_in before x after }
 
-first_is : (k : Known) (xs : List ArrayOf) (ps : List Param) → AreParameters k xs (parameters ps) → context_of (dims_in xs) k ≡ first_context ps
+pub first_is : (k : Known) (xs : List ArrayOf) (ps : List Param) → AreParameters k xs (parameters ps) → context_of (dims_in xs) k ≡ first_context ps
 first_is k xs ps h =
     ap (λ v. context_with v k.types) (h.scopes_are (dims_in xs) (dims_tell xs)) ∙ ap (λ ts. context_with ((parameters ps).scope ∷ []) ts) h.types_are
 

@@ -42,10 +42,10 @@ opening k m p q r = record { scopes_are = p; types_are = q; some = r }
 pub leaving : (m l : Known) → l.scopes ≡ without_innermost m.scopes → l.types ≡ m.types → IsLeft m l
 leaving m l p q = record { scopes_are = p; types_are = q }
 
-in_opened : (dims : ℕ → List ℕ) (k m : Known) → IsOpened k m → context_of dims m ≡ opened (context_of dims k)
+pub in_opened : (dims : ℕ → List ℕ) (k m : Known) → IsOpened k m → context_of dims m ≡ opened (context_of dims k)
 in_opened dims k m o = opened_is dims k m o.scopes_are o.types_are
 
-after_left : (dims : ℕ → List ℕ) (k m l : Known) → 0 < length k.scopes → IsLeft m l → outside (scopes_by (declared_by dims) m.scopes) ≡ scopes_by (declared_by dims) k.scopes
+pub after_left : (dims : ℕ → List ℕ) (k m l : Known) → 0 < length k.scopes → IsLeft m l → outside (scopes_by (declared_by dims) m.scopes) ≡ scopes_by (declared_by dims) k.scopes
     → context_of dims l ≡ closed (context_of dims k) (context_of dims m)
 after_left dims k m l some left out = closed_is dims k m l out some left.scopes_are left.types_are
 

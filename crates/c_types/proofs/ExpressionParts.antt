@@ -21,7 +21,7 @@ use Rattle.c_types.proofs.TypingRows.{used_element, used_call, in_element, in_un
 
 -- ---- names
 
-sort_is : (dims : ℕ → List ℕ) (v : Bindings) (x : List ℕ) (r : Option Binding) → declared_in v x ≡ r → sort_of (names_in dims v) x ≡ option_map sort_as (option_map (declared_by dims) r)
+pub sort_is : (dims : ℕ → List ℕ) (v : Bindings) (x : List ℕ) (r : Option Binding) → declared_in v x ≡ r → sort_of (names_in dims v) x ≡ option_map sort_as (option_map (declared_by dims) r)
 sort_is dims v x r is =
     found-scopes_by sort_as (scopes_by (declared_by dims) v) x ∙ ap (option_map sort_as) (found-scopes_by (declared_by dims) v x ∙ ap (option_map (declared_by dims)) is)
 

@@ -23,6 +23,7 @@ number_small rule.Length = omega arith
 number_small rule.ReturnKind = omega arith
 number_small rule.OutsideLoop = omega arith
 number_small rule.NotHelper = omega arith
+number_small rule.CallPlace = omega arith
 number_small rule.Arguments = omega arith
 
 before_by_numbers : (a b m n : ℕ) → m < 100 → n < 100 → (nat_lt a b || (nat_eq a b && nat_lt m n)) ≡ nat_lt (100 * a + m) (100 * b + n)

@@ -44,14 +44,14 @@ second_empty (x ∷ xs) ys h = absurd (cc)
 pub both_empty : {A : Type 0} (xs ys : List A) → xs ≡ [] → ys ≡ [] → xs ++ ys ≡ []
 both_empty xs ys h h2 = rw h h2
 
-holds_unless : (b : Bool) (r : Rule) (s : Span) → unless b r s ≡ [] → b ≡ true
+pub holds_unless : (b : Bool) (r : Rule) (s : Span) → unless b r s ≡ [] → b ≡ true
 holds_unless true r s h = refl
 holds_unless false r s h = absurd (cc)
 
-unless_holds : (b : Bool) (r : Rule) (s : Span) → b ≡ true → unless b r s ≡ []
+pub unless_holds : (b : Bool) (r : Rule) (s : Span) → b ≡ true → unless b r s ≡ []
 unless_holds b r s h = rw h refl
 
-true_is : (b : Bool) → IsTrue b → b ≡ true
+pub true_is : (b : Bool) → IsTrue b → b ≡ true
 true_is b h = h
 
 or_first : (a b : Bool) → (a || b) ≡ false → a ≡ false
@@ -265,7 +265,7 @@ returnable_is (Some t) None h = absurd h
 -- ---- statements
 
 -- after a statement without a fault the names in force are those of the rules
-after_kept : (v : Sorts) (s : StmtKind) (at : Span) (r : Option Ty) (loop : Bool) → act_faults s at r loop v ≡ [] → names_of (sorts_after v s) ≡ names_after (names_of v) s
+pub after_kept : (v : Sorts) (s : StmtKind) (at : Span) (r : Option Ty) (loop : Bool) → act_faults s at r loop v ≡ [] → names_of (sorts_after v s) ≡ names_after (names_of v) s
 after_kept v (stmt.Declare x t e) at r loop h = with_new v x (holds_unless (is_new_in v x) rule.Redeclared at (first_empty (unless (is_new_in v x) rule.Redeclared at) (option_faults (with_entry x sort.Scalar v) e) h))
 after_kept v (stmt.Block' n row) at r loop h = refl
 after_kept v (stmt.Assign target op e) at r loop h = refl
@@ -336,7 +336,7 @@ mutual
       )
 
 -- after a statement that keeps the rules the names in force are those of the rules
-after_clean : (v : Sorts) (s : StmtKind) (r : Option Ty) (loop : Bool) → TypingStmt s r loop (names_of v) → names_of (sorts_after v s) ≡ names_after (names_of v) s
+pub after_clean : (v : Sorts) (s : StmtKind) (r : Option Ty) (loop : Bool) → TypingStmt s r loop (names_of v) → names_of (sorts_after v s) ≡ names_after (names_of v) s
 after_clean v (stmt.Declare x t e) r loop k = with_new v x (new_is v x k.0)
 after_clean v (stmt.Block' n row) r loop k = refl
 after_clean v (stmt.Assign target op e) r loop k = refl
@@ -392,7 +392,7 @@ mutual
       both_empty (act_faults s at r loop v) (acts_faults row r loop (sorts_after v s)) (act_clean v s at r loop k.0)
       (acts_clean (sorts_after v s) row r loop (subst (λ names. TypingStmts row r loop names) (sym (after_clean v s r loop k.0)) k.1))
 
-list_kept : (v : Sorts) (ss : List Stmt) (r : Option Ty) (loop : Bool) → stmts_faults ss r loop v ≡ [] → TypingList ss r loop (names_of v)
+pub list_kept : (v : Sorts) (ss : List Stmt) (r : Option Ty) (loop : Bool) → stmts_faults ss r loop v ≡ [] → TypingList ss r loop (names_of v)
 list_kept v [] r loop h = tt
 list_kept v (s ∷ ss) r loop h =
     let here : stmt_faults s r loop v ≡ [] = first_empty (stmt_faults s r loop v) (stmts_faults ss r loop (sorts_after v s.kind)) h in (
@@ -400,7 +400,7 @@ list_kept v (s ∷ ss) r loop h =
       subst (λ names. TypingList ss r loop names) (after_kept v s.kind s.at r loop here) (list_kept (sorts_after v s.kind) ss r loop (second_empty (stmt_faults s r loop v) (stmts_faults ss r loop (sorts_after v s.kind)) h)),
     )
 
-list_clean : (v : Sorts) (ss : List Stmt) (r : Option Ty) (loop : Bool) → TypingList ss r loop (names_of v) → stmts_faults ss r loop v ≡ []
+pub list_clean : (v : Sorts) (ss : List Stmt) (r : Option Ty) (loop : Bool) → TypingList ss r loop (names_of v) → stmts_faults ss r loop v ≡ []
 list_clean v [] r loop k = refl
 list_clean v (s ∷ ss) r loop k =
     both_empty (stmt_faults s r loop v) (stmts_faults ss r loop (sorts_after v s.kind)) (act_clean v s.kind s.at r loop k.0)
@@ -413,8 +413,8 @@ sort_for_dims [] = refl
 sort_for_dims (d ∷ ds) = refl
 
 -- a parameter that is new goes before the others
-new_param : (s : List (List ℕ × Sort)) (x : List ℕ) (ds : List ℕ) → is_new_in (s ∷ []) x ≡ true → with_entry x (sort_of_dims ds) (s ∷ []) ≡ ((x, sort_of_dims ds) ∷ s) ∷ []
-new_param s x ds h = ap (λ b. (if b then (x, sort_of_dims ds) ∷ s else s) ∷ []) h
+new_param : (s : List (List ℕ × Sort)) (v : Sorts) (x : List ℕ) (ds : List ℕ) → is_new_in (s ∷ v) x ≡ true → with_entry x (sort_of_dims ds) (s ∷ v) ≡ ((x, sort_of_dims ds) ∷ s) ∷ v
+new_param s v x ds h = ap (λ b. (if b then (x, sort_of_dims ds) ∷ s else s) ∷ v) h
 
 scope_grows : (s : List (List ℕ × Sort)) (x : List ℕ) (ds : List ℕ) → scope_for ((x, sort_of_dims ds) ∷ s) ≡ (x, typing.sort_of_dims ds) ∷ scope_for s
 scope_grows s x ds = ap (λ t. (x, t) ∷ scope_for s) (sort_for_dims ds)
@@ -443,62 +443,62 @@ at_most a b h = grind (arith, nat_tests)
 not_below : (a b : ℕ) → b ≤ a → nat_lt a b ≡ false
 not_below a b h = grind (arith, nat_tests)
 
-param_kept : (s : List (List ℕ × Sort)) (n : ℕ) (p : Param) → param_faults p (is_new_in (s ∷ []) p.name) (n + elements_of p.dims) ≡ [] → IsParameter (scope_for s) n p
-param_kept s n p h =
+param_kept : (s : List (List ℕ × Sort)) (v : Sorts) (n : ℕ) (p : Param) → param_faults p (is_new_in (s ∷ v) p.name) (n + elements_of p.dims) ≡ [] → IsParameter (scope_for s) n p
+param_kept s v n p h =
     let total : ℕ = n + elements_of p.dims in
     let fits : Bool = not (list_any (λ d. nat_eq d 0) p.dims || nat_lt max_elements total) in
-    let new : List Fault = unless (is_new_in (s ∷ []) p.name) rule.Redeclared p.at in
+    let new : List Fault = unless (is_new_in (s ∷ v) p.name) rule.Redeclared p.at in
     let few : List Fault = unless (not (nat_lt max_dimensions (length p.dims))) rule.Dimensions p.at in
     let rest : few ++ unless fits rule.Length p.at ≡ [] = second_empty new (few ++ unless fits rule.Length p.at) h in
     let small : list_any (λ d. nat_eq d 0) p.dims || nat_lt max_elements total ≡ false = not_true (list_any (λ d. nat_eq d 0) p.dims || nat_lt max_elements total) (holds_unless fits rule.Length p.at (second_empty few (unless fits rule.Length p.at) rest)) in
     record {
-      rule_21_new = is_new (s ∷ []) p.name (holds_unless (is_new_in (s ∷ []) p.name) rule.Redeclared p.at (first_empty new (few ++ unless fits rule.Length p.at) h));
+      rule_21_new = is_new (s ∷ v) p.name (holds_unless (is_new_in (s ∷ v) p.name) rule.Redeclared p.at (first_empty new (few ++ unless fits rule.Length p.at) h));
       rule_24_dimensions = at_most max_dimensions (length p.dims) (not_true (nat_lt max_dimensions (length p.dims)) (holds_unless (not (nat_lt max_dimensions (length p.dims))) rule.Dimensions p.at (first_empty few (unless fits rule.Length p.at) rest)));
       rule_25_no_zero = no_zero p.dims (or_first (list_any (λ d. nat_eq d 0) p.dims) (nat_lt max_elements total) small);
       rule_25_elements = at_most max_elements total (or_second (list_any (λ d. nat_eq d 0) p.dims) (nat_lt max_elements total) small);
     }
 
-param_clean : (s : List (List ℕ × Sort)) (n : ℕ) (p : Param) → IsParameter (scope_for s) n p → param_faults p (is_new_in (s ∷ []) p.name) (n + elements_of p.dims) ≡ []
-param_clean s n p k =
+param_clean : (s : List (List ℕ × Sort)) (v : Sorts) (n : ℕ) (p : Param) → IsParameter (scope_for s) n p → param_faults p (is_new_in (s ∷ v) p.name) (n + elements_of p.dims) ≡ []
+param_clean s v n p k =
     let total : ℕ = n + elements_of p.dims in
     let fits : Bool = not (list_any (λ d. nat_eq d 0) p.dims || nat_lt max_elements total) in
     let few : List Fault = unless (not (nat_lt max_dimensions (length p.dims))) rule.Dimensions p.at in
     let small : fits ≡ true = ap not (both_false (list_any (λ d. nat_eq d 0) p.dims) (nat_lt max_elements total) (zero_free p.dims k.rule_25_no_zero) (not_below max_elements total k.rule_25_elements)) in
-    both_empty (unless (is_new_in (s ∷ []) p.name) rule.Redeclared p.at) (few ++ unless fits rule.Length p.at) (unless_holds (is_new_in (s ∷ []) p.name) rule.Redeclared p.at (new_is (s ∷ []) p.name k.rule_21_new))
+    both_empty (unless (is_new_in (s ∷ v) p.name) rule.Redeclared p.at) (few ++ unless fits rule.Length p.at) (unless_holds (is_new_in (s ∷ v) p.name) rule.Redeclared p.at (new_is (s ∷ v) p.name k.rule_21_new))
     (both_empty few (unless fits rule.Length p.at) (unless_holds (not (nat_lt max_dimensions (length p.dims))) rule.Dimensions p.at (ap not (not_below max_dimensions (length p.dims) k.rule_24_dimensions))) (unless_holds fits rule.Length p.at small))
 
 -- the faults of the parameters after one
-abbrev later : List Param → List (List ℕ × Sort) → ℕ → Param → List Fault
-later ps s n p = params_faults ps (with_entry p.name (sort_of_dims p.dims) (s ∷ [])) (n + elements_of p.dims)
+abbrev later : List Param → List (List ℕ × Sort) → Sorts → ℕ → Param → List Fault
+later ps s v n p = params_faults ps (with_entry p.name (sort_of_dims p.dims) (s ∷ v)) (n + elements_of p.dims)
 
-abbrev first_param : List (List ℕ × Sort) → ℕ → Param → List Fault
-first_param s n p = param_faults p (is_new_in (s ∷ []) p.name) (n + elements_of p.dims)
+abbrev first_param : List (List ℕ × Sort) → Sorts → ℕ → Param → List Fault
+first_param s v n p = param_faults p (is_new_in (s ∷ v) p.name) (n + elements_of p.dims)
 
-fresh_param : (s : List (List ℕ × Sort)) (n : ℕ) (p : Param) → first_param s n p ≡ [] → is_new_in (s ∷ []) p.name ≡ true
-fresh_param s n p h = new_is (s ∷ []) p.name ((param_kept s n p h).rule_21_new)
+fresh_param : (s : List (List ℕ × Sort)) (v : Sorts) (n : ℕ) (p : Param) → first_param s v n p ≡ [] → is_new_in (s ∷ v) p.name ≡ true
+fresh_param s v n p h = new_is (s ∷ v) p.name ((param_kept s v n p h).rule_21_new)
 
-params_kept : (ps : List Param) (s : List (List ℕ × Sort)) (n : ℕ) → params_faults ps (s ∷ []) n ≡ [] → TypingParams ps (scope_for s) n
-params_kept [] s n h = tt
-params_kept (p ∷ ps) s n h =
-    let here : first_param s n p ≡ [] = first_empty (first_param s n p) (later ps s n p) h in
-    let rest : params_faults ps (((p.name, sort_of_dims p.dims) ∷ s) ∷ []) (n + elements_of p.dims) ≡ [] =
-    subst (λ v. params_faults ps v (n + elements_of p.dims) ≡ []) (new_param s p.name p.dims (fresh_param s n p here)) (second_empty (first_param s n p) (later ps s n p) h) in
-    (param_kept s n p here, subst (λ scope. TypingParams ps scope (n + elements_of p.dims)) (scope_grows s p.name p.dims) (params_kept ps ((p.name, sort_of_dims p.dims) ∷ s) (n + elements_of p.dims) rest))
+pub params_kept : (ps : List Param) (s : List (List ℕ × Sort)) (v : Sorts) (n : ℕ) → params_faults ps (s ∷ v) n ≡ [] → TypingParams ps (scope_for s) n
+params_kept [] s v n h = tt
+params_kept (p ∷ ps) s v n h =
+    let here : first_param s v n p ≡ [] = first_empty (first_param s v n p) (later ps s v n p) h in
+    let rest : params_faults ps (((p.name, sort_of_dims p.dims) ∷ s) ∷ v) (n + elements_of p.dims) ≡ [] =
+    subst (λ w. params_faults ps w (n + elements_of p.dims) ≡ []) (new_param s v p.name p.dims (fresh_param s v n p here)) (second_empty (first_param s v n p) (later ps s v n p) h) in
+    (param_kept s v n p here, subst (λ scope. TypingParams ps scope (n + elements_of p.dims)) (scope_grows s p.name p.dims) (params_kept ps ((p.name, sort_of_dims p.dims) ∷ s) v (n + elements_of p.dims) rest))
 
-params_clean : (ps : List Param) (s : List (List ℕ × Sort)) (n : ℕ) → TypingParams ps (scope_for s) n → params_faults ps (s ∷ []) n ≡ []
-params_clean [] s n k = refl
-params_clean (p ∷ ps) s n k =
-    both_empty (first_param s n p) (later ps s n p) (param_clean s n p k.0)
-    (subst (λ v. params_faults ps v (n + elements_of p.dims) ≡ []) (sym (new_param s p.name p.dims (new_is (s ∷ []) p.name k.0.rule_21_new)))
-    (params_clean ps ((p.name, sort_of_dims p.dims) ∷ s) (n + elements_of p.dims) (subst (λ scope. TypingParams ps scope (n + elements_of p.dims)) (sym (scope_grows s p.name p.dims)) k.1)))
+pub params_clean : (ps : List Param) (s : List (List ℕ × Sort)) (v : Sorts) (n : ℕ) → TypingParams ps (scope_for s) n → params_faults ps (s ∷ v) n ≡ []
+params_clean [] s v n k = refl
+params_clean (p ∷ ps) s v n k =
+    both_empty (first_param s v n p) (later ps s v n p) (param_clean s v n p k.0)
+    (subst (λ w. params_faults ps w (n + elements_of p.dims) ≡ []) (sym (new_param s v p.name p.dims (new_is (s ∷ v) p.name k.0.rule_21_new)))
+    (params_clean ps ((p.name, sort_of_dims p.dims) ∷ s) v (n + elements_of p.dims) (subst (λ scope. TypingParams ps scope (n + elements_of p.dims)) (sym (scope_grows s p.name p.dims)) k.1)))
 
 -- the names in force after parameters that keep the rules
-pub after_params : (ps : List Param) (s : List (List ℕ × Sort)) (n : ℕ) → TypingParams ps (scope_for s) n → names_of (sorts_after_params (s ∷ []) ps) ≡ scope_of ps (scope_for s) ∷ []
-after_params [] s n k = refl
-after_params (p ∷ ps) s n k =
-    ap (λ v. names_of (sorts_after_params v ps)) (new_param s p.name p.dims (new_is (s ∷ []) p.name k.0.rule_21_new))
-    ∙ after_params ps ((p.name, sort_of_dims p.dims) ∷ s) (n + elements_of p.dims) (subst (λ scope. TypingParams ps scope (n + elements_of p.dims)) (sym (scope_grows s p.name p.dims)) k.1)
-    ∙ ap (λ scope. scope_of ps scope ∷ []) (scope_grows s p.name p.dims)
+pub after_params : (ps : List Param) (s : List (List ℕ × Sort)) (v : Sorts) (n : ℕ) → TypingParams ps (scope_for s) n → names_of (sorts_after_params (s ∷ v) ps) ≡ scope_of ps (scope_for s) ∷ names_of v
+after_params [] s v n k = refl
+after_params (p ∷ ps) s v n k =
+    ap (λ w. names_of (sorts_after_params w ps)) (new_param s v p.name p.dims (new_is (s ∷ v) p.name k.0.rule_21_new))
+    ∙ after_params ps ((p.name, sort_of_dims p.dims) ∷ s) v (n + elements_of p.dims) (subst (λ scope. TypingParams ps scope (n + elements_of p.dims)) (sym (scope_grows s p.name p.dims)) k.1)
+    ∙ ap (λ scope. scope_of ps scope ∷ names_of v) (scope_grows s p.name p.dims)
 
 -- ---- trees
 
@@ -506,13 +506,13 @@ pub tree_kept : (tree : Tree) → tree_faults tree ≡ [] → Typing tree
 tree_kept tree h =
     let in_params : List Fault = params_faults tree.params ([] ∷ []) 0 in
     let in_body : List Fault = stmts_faults tree.body tree.result false (sorts_after_params ([] ∷ []) tree.params) in
-    let keep : TypingParams tree.params [] 0 = params_kept tree.params [] 0 (first_empty in_params in_body h) in
+    let keep : TypingParams tree.params [] 0 = params_kept tree.params [] [] 0 (first_empty in_params in_body h) in
     record {
       params_keep = keep;
-      body_keeps = subst (λ names. TypingList tree.body tree.result false names) (after_params tree.params [] 0 keep) (list_kept (sorts_after_params ([] ∷ []) tree.params) tree.body tree.result false (second_empty in_params in_body h));
+      body_keeps = subst (λ names. TypingList tree.body tree.result false names) (after_params tree.params [] [] 0 keep) (list_kept (sorts_after_params ([] ∷ []) tree.params) tree.body tree.result false (second_empty in_params in_body h));
     }
 
 pub tree_clean : (tree : Tree) → Typing tree → tree_faults tree ≡ []
 tree_clean tree k =
-    both_empty (params_faults tree.params ([] ∷ []) 0) (stmts_faults tree.body tree.result false (sorts_after_params ([] ∷ []) tree.params)) (params_clean tree.params [] 0 k.params_keep)
-    (list_clean (sorts_after_params ([] ∷ []) tree.params) tree.body tree.result false (subst (λ names. TypingList tree.body tree.result false names) (sym (after_params tree.params [] 0 k.params_keep)) k.body_keeps))
+    both_empty (params_faults tree.params ([] ∷ []) 0) (stmts_faults tree.body tree.result false (sorts_after_params ([] ∷ []) tree.params)) (params_clean tree.params [] [] 0 k.params_keep)
+    (list_clean (sorts_after_params ([] ∷ []) tree.params) tree.body tree.result false (subst (λ names. TypingList tree.body tree.result false names) (sym (after_params tree.params [] [] 0 k.params_keep)) k.body_keeps))

@@ -1,5 +1,8 @@
 pub mod AfterCasts
+pub mod AfterProgramCasts
 pub mod Arms
+pub mod CallLayers
+pub mod CallsKept
 pub mod CastLemmas
 pub mod CastParams
 pub mod CastStatements
@@ -11,6 +14,15 @@ pub mod Layers
 pub mod Lookups
 pub mod ParamSteps
 pub mod ParameterParts
+pub mod ProgramArms
+pub mod ProgramCastLemmas
+pub mod ProgramCastStatements
+pub mod ProgramExpressionParts
+pub mod ProgramHelpers
+pub mod ProgramNames
+pub mod ProgramRefusals
+pub mod ProgramStatementParts
+pub mod ProgramsKept
 pub mod Refusals
 pub mod Renamed
 pub mod StatementNodes

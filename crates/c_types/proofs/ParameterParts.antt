@@ -28,7 +28,7 @@ scope_after : (ps : List Param) (q : Parameters) → scope_by sort_as (with_para
 scope_after [] q = refl
 scope_after (p ∷ ps) q = scope_after ps (with_param p p.dims q) ∙ ap (scope_of ps) (grows p p.dims q refl)
 
-names_after : (k : Known) (xs : List ArrayOf) (ps : List Param) → AreParameters k xs (parameters ps) → names_in (dims_in xs) k.scopes ≡ scope_of ps [] ∷ []
+pub names_after : (k : Known) (xs : List ArrayOf) (ps : List Param) → AreParameters k xs (parameters ps) → names_in (dims_in xs) k.scopes ≡ scope_of ps [] ∷ []
 names_after k xs ps h = ap names_as (h.scopes_are (dims_in xs) (dims_tell xs)) ∙ ap (λ s. s ∷ []) (scope_after ps (record { scope = []; types = []; arrays = [] }))
 
 new_after : (us : List Param) (p : Param) (rest : List Param) (scope : List (List ℕ × Sort)) (n : ℕ) → TypingParams (us ++ p ∷ rest) scope n → sort_in (scope_of us scope) p.name ≡ None
@@ -41,11 +41,11 @@ one_more : (p : Param) (ds : List ℕ) (q : Parameters) → length (with_param p
 one_more p [] q = omega (arith, length-append q.types (p.ty ∷ []))
 one_more p (d ∷ ds) q = omega (arith, length-append q.arrays (record { name = p.name; ty = p.ty; dims = p.dims } ∷ []))
 
-declared : (ps : List Param) (q : Parameters) → length (with_params ps q).types + length (with_params ps q).arrays ≡ length q.types + length q.arrays + length ps
+pub declared : (ps : List Param) (q : Parameters) → length (with_params ps q).types + length (with_params ps q).arrays ≡ length q.types + length q.arrays + length ps
 declared [] q = omega arith
 declared (p ∷ ps) q = omega (arith, declared ps (with_param p p.dims q), one_more p p.dims q)
 
-counted_by_nodes : (ps : List Param) → length ps ≤ params_nodes ps
+pub counted_by_nodes : (ps : List Param) → length ps ≤ params_nodes ps
 counted_by_nodes [] = omega arith
 counted_by_nodes (p ∷ ps) = omega (arith, counted_by_nodes ps, sum_by-cons param_nodes p ps)
 

@@ -11,6 +11,7 @@ use Rattle.c_ast.specs.declared.tree.StmtKind.TheVariants as stmt
 use Rattle.c_ast.specs.declared.typed.TypedStmt.{TypedStmt}
 use Rattle.c_ast.specs.Nodes.{stmt_nodes, stmts_nodes, held_nodes}
 use Rattle.c_ast.specs.Typing.{with_name, IsNew, TypingExpr, TypingOption, TypingStmt, TypingList}
+use Rattle.c_ast.specs.Programs.{names_after_list}
 use Rattle.c_ast.specs.Casts.{stmt_at}
 use Rattle.c_types.specs.declared.known.Binding.TheVariants as binding
 use Rattle.c_types.specs.declared.known.Known.{Known}
@@ -22,7 +23,7 @@ use Rattle.c_types.proofs.Renamed.{lookup-scope_by, by_none}
 use Rattle.c_types.proofs.CastLemmas.{held_scopes}
 use Rattle.c_types.proofs.CastLemmas as made
 use Rattle.c_types.proofs.StatementNodes.{block_nodes, if_nodes, while_nodes, do_nodes, for_nodes, one_more_nodes}
-use Rattle.c_types.proofs.AfterCasts.{entered, names_after_all, names_after_cast, names_after_casts, vars_after_cast, vars_after_held, vars_after_casts}
+use Rattle.c_types.proofs.AfterCasts.{entered, names_after_cast, names_after_casts, vars_after_cast, vars_after_held, vars_after_casts}
 use Rattle.c_types.proofs.TypingRows.{in_option, in_block, in_if, in_while, in_do, InFor, in_for}
 use Rattle.c_types.proofs.ExpressionParts.{option_typing}
 
@@ -134,7 +135,7 @@ do_body r v n s a e h is =
 -- a for that keeps the rules where such declarations are in force, and the parts of it
 record ForIn (r : Option Ty) (k : Known) (ss : List Stmt) (e : Option Expr) (o : Option Stmt) (a : Stmt) : Type 0 where
   dims : ℕ → List ℕ
-  parts : InFor ss e o a r (names_in dims k.scopes) (names_after_all ([] ∷ names_in dims k.scopes) ss)
+  parts : InFor ss e o a r (names_in dims k.scopes) (names_after_list ([] ∷ names_in dims k.scopes) ss)
   numbered : length k.types + (stmts_nodes ss + held_nodes o + stmt_nodes a) < 2 ^ 32
 
 for_in : (r : Option Ty) (k : Known) (s : Stmt) (ss : List Stmt) (e : Option Expr) (o : Option Stmt) (a : Stmt) → TypingStmtIn r k.scopes (length k.types) s → s.kind ≡ stmt.For ss e o a
@@ -153,7 +154,7 @@ for_first r k w m s ss us e o a h is same entered long =
 
 -- the names and the variables after the first statements of a for
 record AfterFirst (dims : ℕ → List ℕ) (k n : Known) (ss : List Stmt) : Type 0 where
-  names : names_in dims n.scopes ≡ names_after_all ([] ∷ names_in dims k.scopes) ss
+  names : names_in dims n.scopes ≡ names_after_list ([] ∷ names_in dims k.scopes) ss
   vars : length n.types ≤ length k.types + stmts_nodes ss
 
 after_first : (r : Option Ty) (dims : ℕ → List ℕ) (k m n : Known) (ss us : List Stmt) (ts : List TypedStmt) → us ≡ ss → m.scopes ≡ [] ∷ k.scopes → m.types ≡ k.types → AreCastStmts r m us ts n
@@ -162,7 +163,7 @@ after_first r dims k m n ss us ts same entered types done =
     subst (AfterFirst dims k n) same
     (let long : length m.types ≡ length k.types = ap length types in
     record {
-      names = names_after_casts (done.casts dims) ∙ ap (λ v. names_after_all (names_in dims v) us) entered;
+      names = names_after_casts (done.casts dims) ∙ ap (λ v. names_after_list (names_in dims v) us) entered;
       vars = omega (arith, long, vars_after_casts (done.casts dims));
     })
 
@@ -191,7 +192,7 @@ for_body r k m n n2 s ss us ts e o p a h is same entered types done held =
     let few : length k.types + (stmts_nodes ss + held_nodes o + stmt_nodes a) < 2 ^ 32 = f.numbered in
     let vars : length n.types ≤ length k.types + stmts_nodes ss = after.vars in
     let vars2 : length n2.types ≤ length n.types + held_nodes o = vars_after_held (held.casts f.dims) in
-    let names : names_in f.dims n2.scopes ≡ names_after_all ([] ∷ names_in f.dims k.scopes) ss = ap names_as (held_scopes (held.casts f.dims)) ∙ after.names in
+    let names : names_in f.dims n2.scopes ≡ names_after_list ([] ∷ names_in f.dims k.scopes) ss = ap names_as (held_scopes (held.casts f.dims)) ∙ after.names in
     record { dims = f.dims; loop = true; typing = subst (λ names. TypingStmt a.kind r true ([] ∷ names)) (sym names) f.parts.body; numbered = omega (arith, few, vars, vars2) }
 
 -- ---- statements one after another

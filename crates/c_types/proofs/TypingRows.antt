@@ -13,7 +13,7 @@ use Rattle.c_ast.specs.declared.tree.Stmt.{Stmt}
 use Rattle.c_ast.specs.declared.tree.StmtKind.TheVariants as stmt
 use Rattle.c_ast.specs.declared.tree.StmtKind.TheBlock.{shape-the_row-Stmt-0, hidden-the_row-Stmt-0, shape-the_row-Stmt-1, hidden-the_row-Stmt-1, back-StmtKind-If-2}
 use Rattle.c_ast.specs.Typing.{Names, IsUsable, IsCallable, TypingKind, TypingRow, TypingExpr, TypingOption, names_after, names_after_row, TypingStmt, TypingHeld, TypingStmts, TypingList}
-use Rattle.c_types.proofs.AfterCasts.{names_after_all}
+use Rattle.c_ast.specs.Programs.{names_after_list}
 use Rattle.c_types.proofs.Layers.{row_is_long}
 
 -- ---- expressions
@@ -35,6 +35,10 @@ used_call names x es k = subst (IsCallable names x) (row_is_long es) k.0
 pub in_element : (names : Names) (x : List ℕ) (es : List Expr) → TypingKind names (expr.Element x es) → All (TypingExpr names) es
 unfolding shape-the_row-Expr-0 hidden-the_row-Expr-0 shape-the_row-Expr-1 hidden-the_row-Expr-1 hidden
 in_element names x es k = all_in_row names es k.1
+
+pub in_call : (names : Names) (x : List ℕ) (es : List Expr) → TypingKind names (expr.Call x es) → All (TypingExpr names) es
+unfolding shape-the_row-Expr-0 hidden-the_row-Expr-0 shape-the_row-Expr-1 hidden-the_row-Expr-1 hidden
+in_call names x es k = all_in_row names es k.1
 
 pub in_unary : (names : Names) (op : Unary) (e : Expr) → TypingKind names (expr.Unary op e) → TypingExpr names e
 unfolding shape-the_row-Expr-0 hidden-the_row-Expr-0 shape-the_row-Expr-1 hidden-the_row-Expr-1 hidden
@@ -63,7 +67,7 @@ unfolding shape-the_row-Stmt-0 hidden-the_row-Stmt-0 shape-the_row-Stmt-1 hidden
 list_in_row [] r loop names k = tt
 list_in_row (s ∷ ss) r loop names k = (k.0, list_in_row ss r loop (names_after names s.kind) k.1)
 
-after_row : (ss : List Stmt) (names : Names) → names_after_row names (hidden-the_row-Stmt-0 ss) ≡ names_after_all names ss
+after_row : (ss : List Stmt) (names : Names) → names_after_row names (hidden-the_row-Stmt-0 ss) ≡ names_after_list names ss
 unfolding shape-the_row-Stmt-0 hidden-the_row-Stmt-0 shape-the_row-Stmt-1 hidden-the_row-Stmt-1 hidden
 after_row [] names = refl
 after_row (s ∷ ss) names = after_row ss (names_after names s.kind)
@@ -99,7 +103,7 @@ pub record InFor (ss : List Stmt) (e : Option Expr) (o : Option Stmt) (s : Stmt)
   pub body : TypingStmt s.kind r true ([] ∷ after)
 
 pub in_for : (ss : List Stmt) (e : Option Expr) (o : Option Stmt) (s : Stmt) (r : Option Ty) (loop : Bool) (names : Names) → TypingStmt (stmt.For ss e o s) r loop names
-    → InFor ss e o s r names (names_after_all ([] ∷ names) ss)
+    → InFor ss e o s r names (names_after_list ([] ∷ names) ss)
 unfolding shape-the_row-Stmt-0 hidden-the_row-Stmt-0 shape-the_row-Stmt-1 hidden-the_row-Stmt-1 hidden
 in_for ss e o s r loop names k =
     subst (λ after. InFor ss e o s r names after) (after_row ss ([] ∷ names))

@@ -174,6 +174,14 @@ abbrev pub sorts_after_params : Sorts → List Param → Sorts
 sorts_after_params names [] = names
 sorts_after_params names (p ∷ ps) = sorts_after_params (with_entry p.name (sort_of_dims p.dims) names) ps
 
+-- parameters and statements that share a scope, which has begun
+abbrev pub block_faults : Sorts → List Param → List Stmt → Option Ty → List Fault
+block_faults names ps ss r = params_faults ps names 0 ++ stmts_faults ss r false (sorts_after_params names ps)
+
+-- the names in force at their end
+abbrev pub sorts_at_end : Sorts → List Param → List Stmt → Sorts
+sorts_at_end names ps ss = sorts_after_all (sorts_after_params names ps) ss
+
 -- all faults of a tree; its parameters share the scope of its block
 abbrev pub tree_faults : Tree → List Fault
 tree_faults tree = params_faults tree.params ([] ∷ []) 0 ++ stmts_faults tree.body tree.result false (sorts_after_params ([] ∷ []) tree.params)

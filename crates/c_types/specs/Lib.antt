@@ -1,7 +1,12 @@
+pub mod CallPlaces
 pub mod Causes
 pub mod Contexts
 pub mod Faults
 pub mod Places
+pub mod ProgramContexts
+pub mod ProgramFaults
+pub mod ProgramNodes
+pub mod ProgramParts
 pub mod Refusals
 pub mod Scopes
 pub mod TypedNodes

@@ -17,6 +17,7 @@ number_and_word rule.Length = (25, codes "Length")
 number_and_word rule.ReturnKind = (26, codes "ReturnKind")
 number_and_word rule.OutsideLoop = (27, codes "OutsideLoop")
 number_and_word rule.NotHelper = (17, codes "NotHelper")
+number_and_word rule.CallPlace = (28, codes "CallPlace")
 number_and_word rule.Arguments = (29, codes "Arguments")
 
 abbrev pub rule_number : Rule → ℕ

@@ -69,7 +69,7 @@ pub(crate) fn casts(alloc: Global, tree: &Tree) -> Result<Typed, Memory>
 
 // ---- parameters
 
-fn copy_params(alloc: Global, params: &[Param]) -> Result<List<Param>, Memory>
+pub(crate) fn copy_params(alloc: Global, params: &[Param]) -> Result<List<Param>, Memory>
     ensures { IfOk result (λ ps. ps ≡ params.now) }
 {
     let mut copies = List::new(alloc);
@@ -80,7 +80,7 @@ fn copy_params(alloc: Global, params: &[Param]) -> Result<List<Param>, Memory>
 }
 
 // The arrays of parameters, which are declared in the one scope in force.
-fn declare_params(
+pub(crate) fn declare_params(
     alloc: Global,
     known: &mut Known,
     params: &[Param],
@@ -280,7 +280,7 @@ fn cast_inside(
 
 // The variable or array that a name stands for where it has so many indices, with the type of it
 // or of its elements.
-fn object(scopes: &Scopes<Binding>, name: &Name, indices: usize) -> (Object, Ty)
+pub(crate) fn object(scopes: &Scopes<Binding>, name: &Name, indices: usize) -> (Object, Ty)
     requires { TypingUseIn scopes.now name.now indices }
     ensures { IsObject scopes.now name.now indices result.0 result.1 }
 {

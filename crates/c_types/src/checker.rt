@@ -4,13 +4,18 @@ ghost use Rattle.el_base.specs.Limits.{IsNumbered};
 ghost use Rattle.c_ast.specs.Nodes.{tree_nodes};
 ghost use Rattle.c_ast.specs.Typing.{Typing};
 ghost use Rattle.c_ast.specs.Casts.{Casts};
+ghost use Rattle.c_ast.specs.Programs.{program_nodes, TypingProgram};
+ghost use Rattle.c_ast.specs.ProgramCasts.{CastsProgram};
 ghost use Rattle.c_types.specs.Faults.{tree_faults};
-ghost use Rattle.c_types.specs.Causes.{IsCause};
+ghost use Rattle.c_types.specs.ProgramFaults.{program_faults};
+ghost use Rattle.c_types.specs.Causes.{IsCause, IsProgramCause};
 
 use crate::casts::casts;
 use crate::fault::TypeRefusal;
 use crate::faults::first_fault;
-use c_ast::{Tree, Typed};
+use crate::program_casts::program_casts;
+use crate::programs::first_program_fault;
+use c_ast::{Program, Tree, Typed, TypedProgram};
 use std::alloc::Global;
 
 /// The typed tree of a tree that keeps the rules on names, arrays, returns and loops.
@@ -45,6 +50,42 @@ pub fn check_rules(alloc: Global, tree: &Tree) -> Result<(), TypeRefusal>
     ensures faults { Typing tree.now ↔ (tree_faults tree.now ≡ []) }
 {
     match first_fault(alloc, tree)? {
+        None => Ok(()),
+        Some(fault) => Err(TypeRefusal::Broken(fault)),
+    }
+}
+
+/// The typed program of a program that keeps the rules on names, arrays, returns, loops and calls.
+///
+/// The arguments of each call and the value of each helper are converted, as the value of a
+/// `return` is. The program has fewer than 2^32 nodes, which [`c_ast::nodes_program`] tells. Time
+/// and stack are as those of [`check`].
+///
+/// # Errors
+///
+/// As [`check`]: 17, 20, 28 and 29 at one name in this order.
+pub fn check_program(alloc: Global, program: &Program) -> Result<TypedProgram, TypeRefusal>
+    requires { IsNumbered (program_nodes program.now) }
+    ensures kept { OnOk result (TypingProgram program.now) }
+    ensures typed { IfOk result (λ k. CastsProgram program.now k) }
+    ensures refused { IfErr result (IsProgramCause program.now) }
+{
+    check_program_rules(alloc, program)?;
+    let typed = program_casts(alloc, program)?;
+    Ok(typed)
+}
+
+/// Checks a program, of any number of nodes, against the rules alone.
+///
+/// # Errors
+///
+/// As [`check_program`].
+pub fn check_program_rules(alloc: Global, program: &Program) -> Result<(), TypeRefusal>
+    ensures kept { OnOk result (TypingProgram program.now) }
+    ensures refused { IfErr result (IsProgramCause program.now) }
+    ensures faults { TypingProgram program.now ↔ (program_faults program.now ≡ []) }
+{
+    match first_program_fault(alloc, program)? {
         None => Ok(()),
         Some(fault) => Err(TypeRefusal::Broken(fault)),
     }

@@ -19,7 +19,7 @@ use c_ast::{
 use el_base::Memory;
 use std::alloc::Global;
 
-fn left_type(op: Binary, left: Ty, right: Ty) -> Ty
+pub(crate) fn left_type(op: Binary, left: Ty, right: Ty) -> Ty
     ensures { result ≡ left_type op left right }
 {
     match op {
@@ -42,7 +42,7 @@ fn left_type(op: Binary, left: Ty, right: Ty) -> Ty
     }
 }
 
-fn right_type(op: Binary, left: Ty, right: Ty) -> Ty
+pub(crate) fn right_type(op: Binary, left: Ty, right: Ty) -> Ty
     ensures { result ≡ right_type op left right }
 {
     match op {
@@ -65,7 +65,7 @@ fn right_type(op: Binary, left: Ty, right: Ty) -> Ty
     }
 }
 
-fn same_type(left: Ty, right: Ty) -> bool
+pub(crate) fn same_type(left: Ty, right: Ty) -> bool
     ensures { result ≡ same_type left right }
 {
     left == right

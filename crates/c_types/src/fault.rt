@@ -7,7 +7,7 @@ use el_base::{Label, Memory, Span};
 use std::error::Error;
 use std::fmt;
 
-/// A rule on names, arrays, returns and loops.
+/// A rule on names, arrays, returns, loops and calls.
 #[derive(Clone, Copy, Debug, PartialEq, Eq)]
 pub enum Rule {
     /// A name is used where it is not declared.
@@ -29,12 +29,14 @@ pub enum Rule {
     OutsideLoop,
     /// A variable or an array is called.
     NotHelper,
+    /// A call stands where it is not evaluated exactly once for each time that its statement is.
+    CallPlace,
     /// A helper is called with another number of arguments than it has parameters.
     Arguments,
 }
 
 impl Rule {
-    /// Its number, from 20 to 27, and of calls 17 and 29. Takes no memory.
+    /// Its number, from 20 to 27, and of calls 17, 28 and 29. Takes no memory.
     pub fn number(self) -> u32
         ensures { result ≡ rule_number self }
     {
@@ -63,6 +65,7 @@ impl Rule {
             Rule::ReturnKind => (26, "ReturnKind"),
             Rule::OutsideLoop => (27, "OutsideLoop"),
             Rule::NotHelper => (17, "NotHelper"),
+            Rule::CallPlace => (28, "CallPlace"),
             Rule::Arguments => (29, "Arguments"),
         }
     }
@@ -75,7 +78,7 @@ pub struct Fault {
     pub span: Span,
 }
 
-/// Why a tree has no typed tree.
+/// Why a tree has no typed tree, or a program no typed program.
 #[derive(Clone, Copy, Debug, PartialEq, Eq)]
 pub enum TypeRefusal {
     /// The rule that is broken first, with its place.
@@ -85,7 +88,7 @@ pub enum TypeRefusal {
 }
 
 impl TypeRefusal {
-    /// The number of the broken rule, from 20 to 27; `None` for want of memory.
+    /// The number of the broken rule, as of [`Rule::number`]; `None` for want of memory.
     pub fn number(&self) -> Option<u32>
         ensures { result ≡ number_of self.now }
     {

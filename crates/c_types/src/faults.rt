@@ -26,6 +26,8 @@ ghost use Rattle.c_types.specs.Faults.{
   param_faults,
   params_faults,
   sorts_after_params,
+  block_faults,
+  sorts_at_end,
   tree_faults,
 };
 
@@ -41,9 +43,24 @@ pub(crate) fn first_fault(alloc: Global, tree: &Tree) -> Result<Option<Fault>, M
     ensures { IfOk result (λ f. f ≡ first_of (tree_faults tree.now)) }
 {
     let mut scopes = Scopes::new(alloc);
-    let in_params = of_params(&mut scopes, tree.params.as_slice())?;
-    let in_body = of_stmts(&mut scopes, tree.body.as_slice(), tree.result, false)?;
-    Ok(earlier(in_params, in_body))
+    let (params, body) = (tree.params.as_slice(), tree.body.as_slice());
+    of_block(&mut scopes, params, body, tree.result)
+}
+
+// Parameters and statements that share the innermost scope.
+pub(crate) fn of_block(
+    scopes: &mut Scopes<Sort>,
+    params: &[Param],
+    stmts: &[Stmt],
+    returned: Option<Ty>,
+) -> Result<Option<Fault>, Memory>
+    ensures fault { IfOk result
+        (λ f. f ≡ first_of (block_faults scopes.old params.now stmts.now returned)) }
+    ensures scopes { OnOk result (scopes.new ≡ sorts_at_end scopes.old params.now stmts.now) }
+{
+    let in_params = of_params(scopes, params)?;
+    let in_stmts = of_stmts(scopes, stmts, returned, false)?;
+    Ok(earlier(in_params, in_stmts))
 }
 
 // ---- parameters
@@ -270,7 +287,7 @@ fn of_inner(
 }
 
 // A rule that is broken at a place unless a condition holds.
-fn unless(holds: bool, rule: Rule, span: Span) -> Option<Fault>
+pub(crate) fn unless(holds: bool, rule: Rule, span: Span) -> Option<Fault>
     ensures { result ≡ first_of (unless holds rule span) }
 {
     if holds {
@@ -318,7 +335,7 @@ fn of_exprs(scopes: &Scopes<Sort>, exprs: &[Expr]) -> Option<Fault>
 }
 
 #[cycle(expr_faults)]
-fn of_expr(scopes: &Scopes<Sort>, expr: &Expr) -> Option<Fault>
+pub(crate) fn of_expr(scopes: &Scopes<Sort>, expr: &Expr) -> Option<Fault>
     ensures { result ≡ first_of (expr_faults scopes.now expr.now) }
 {
     match &expr.kind {

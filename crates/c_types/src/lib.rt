@@ -1,14 +1,19 @@
-//! The type checker: the first rule that a kernel's tree breaks, or its typed tree.
+//! The type checker: the first rule that a kernel's tree or a program breaks, or its typed tree or
+//! typed program.
 #![tactic(auto)]
 
+mod calls;
 mod casts;
 mod checker;
 mod conversions;
 mod fault;
 mod faults;
 mod known;
+mod program_casts;
+mod program_conversions;
+mod programs;
 mod scopes;
 mod sort;
 
-pub use checker::{check, check_rules};
+pub use checker::{check, check_program, check_program_rules, check_rules};
 pub use fault::{Fault, Rule, TypeRefusal};

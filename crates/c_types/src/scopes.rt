@@ -82,6 +82,13 @@ impl<T: Copy + Drop> Scopes<T> {
         }
     }
 
+    /// Whether a name is not yet declared in the innermost scope.
+    pub fn is_new(&self, name: &Name) -> bool
+        ensures { result ≡ is_new_in self.now name.now }
+    {
+        !self.inner.contains_key(name)
+    }
+
     /// Declares a name in the innermost scope; false where it is declared there already.
     ///
     /// # Errors

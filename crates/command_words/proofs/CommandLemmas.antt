@@ -1,17 +1,19 @@
 -- Words spell one command at most.
-use Rattle.std.proofs.Common.{◌≡◌, ℕ, List, [], ◌∷◌, refl, sym, ◌∙◌, ap, subst}
+use Rattle.std.proofs.Common.{◌≡◌, ℕ, suc, List, [], ◌∷◌, refl, sym, ◌∙◌, ap, subst, arith}
 use Rattle.std.specs.Prelude.{Bool, Option, Some, None, find}
 use Rattle.std.specs.Str.{bytes_eq}
 use Rattle.command_words.specs.declared.verb.Verb.{Verb}
 use Rattle.command_words.specs.declared.verb.Verb.TheVariants.{Compile, Go, Run, Replay, Bench, Upgrade, Ref, Save, Resume}
+use Rattle.command_words.specs.declared.verb.PlainKind.{PlainKind}
+use Rattle.command_words.specs.declared.verb.PlainKind.TheVariants.{File, Seed}
 use Rattle.command_words.specs.declared.choice.Choice.TheVariants.{Delay, Slots, Depth, Workers, Limit, Turns, At, Count, Cycles, Log, Forward, Wrap}
 use Rattle.command_words.specs.declared.choice.ValueKind.{ValueKind}
 use Rattle.command_words.specs.declared.choice.ValueKind.TheVariants.{Flag, Number, Delays}
 use Rattle.command_words.specs.declared.command.Chosen.{Chosen}
-use Rattle.command_words.specs.Tables.{Text, verb_word, kind_of}
+use Rattle.command_words.specs.Tables.{Text, plain_of, verb_word, kind_of}
 use Rattle.command_words.specs.Values.{IsNumber, AreDelays}
 use Rattle.command_words.specs.Items.{Item, AreWritten, given}
-use Rattle.command_words.specs.Commands.{Asked, IsValue, IsFlag, AreChosen, ItemsSpell, Command}
+use Rattle.command_words.specs.Commands.{ArePlain, Asked, IsSeed, IsValue, IsFlag, AreChosen, ItemsSpell, Command}
 use Rattle.command_words.proofs.Fronts.{written_once}
 use Rattle.command_words.proofs.DelayLemmas.{delays_once}
 
@@ -53,15 +55,16 @@ flag_once (t ∷ []) a b x y = x ∙ sym y
 flag_once (t ∷ u ∷ ts) a b x y = absurd x
 
 -- values with equal parts
-same_chosen : (a b : Chosen) → a.delay ≡ b.delay → a.slots ≡ b.slots → a.depth ≡ b.depth → a.workers ≡ b.workers → a.limit ≡ b.limit → a.turns ≡ b.turns → a.at ≡ b.at
+same_chosen : (a b : Chosen) → a.seed ≡ b.seed → a.delay ≡ b.delay → a.slots ≡ b.slots → a.depth ≡ b.depth → a.workers ≡ b.workers → a.limit ≡ b.limit → a.turns ≡ b.turns → a.at ≡ b.at
     → a.count ≡ b.count → a.cycles ≡ b.cycles → a.log ≡ b.log → a.forward ≡ b.forward → a.wrap ≡ b.wrap → a ≡ b
-same_chosen a b delay slots depth workers limit turns at count cycles log forward wrap =
-    ap (λ x. record a { delay = x }) delay
-    ∙ ap (λ x. record a { delay = b.delay; slots = x }) slots
-    ∙ ap (λ x. record a { delay = b.delay; slots = b.slots; depth = x }) depth
-    ∙ ap (λ x. record a { delay = b.delay; slots = b.slots; depth = b.depth; workers = x }) workers
-    ∙ ap (λ x. record a { delay = b.delay; slots = b.slots; depth = b.depth; workers = b.workers; limit = x }) limit
-    ∙ ap (λ x. record a { delay = b.delay; slots = b.slots; depth = b.depth; workers = b.workers; limit = b.limit; turns = x }) turns
+same_chosen a b seed delay slots depth workers limit turns at count cycles log forward wrap =
+    ap (λ x. record a { seed = x }) seed
+    ∙ ap (λ x. record a { seed = b.seed; delay = x }) delay
+    ∙ ap (λ x. record a { seed = b.seed; delay = b.delay; slots = x }) slots
+    ∙ ap (λ x. record a { seed = b.seed; delay = b.delay; slots = b.slots; depth = x }) depth
+    ∙ ap (λ x. record a { seed = b.seed; delay = b.delay; slots = b.slots; depth = b.depth; workers = x }) workers
+    ∙ ap (λ x. record a { seed = b.seed; delay = b.delay; slots = b.slots; depth = b.depth; workers = b.workers; limit = x }) limit
+    ∙ ap (λ x. record a { seed = b.seed; delay = b.delay; slots = b.slots; depth = b.depth; workers = b.workers; limit = b.limit; turns = x }) turns
     ∙ ap (λ x. record b { at = x; count = a.count; cycles = a.cycles; log = a.log; forward = a.forward; wrap = a.wrap }) at
     ∙ ap (λ x. record b { count = x; cycles = a.cycles; log = a.log; forward = a.forward; wrap = a.wrap }) count
     ∙ ap (λ x. record b { cycles = x; log = a.log; forward = a.forward; wrap = a.wrap }) cycles
@@ -69,8 +72,8 @@ same_chosen a b delay slots depth workers limit turns at count cycles log forwar
     ∙ ap (λ x. record b { forward = x; wrap = a.wrap }) forward
     ∙ ap (λ x. record b { wrap = x }) wrap
 
-pub chosen_once : (is : List Item) (a b : Chosen) → AreChosen is a → AreChosen is b → a ≡ b
-chosen_once is a b x y =
+pub chosen_once : (is : List Item) (a b : Chosen) → a.seed ≡ b.seed → AreChosen is a → AreChosen is b → a ≡ b
+chosen_once is a b seed x y =
     let delay : a.delay ≡ b.delay = value_once AreDelays delays_once (given Delay is) a.delay b.delay x.delay y.delay in
     let slots : a.slots ≡ b.slots = value_once _ (number_once (kind_of Slots)) (given Slots is) a.slots b.slots x.slots y.slots in
     let depth : a.depth ≡ b.depth = value_once _ (number_once (kind_of Depth)) (given Depth is) a.depth b.depth x.depth y.depth in
@@ -83,7 +86,24 @@ chosen_once is a b x y =
     let log : a.log ≡ b.log = flag_once (given Log is) a.log b.log x.log y.log in
     let forward : a.forward ≡ b.forward = flag_once (given Forward is) a.forward b.forward x.forward y.forward in
     let wrap : a.wrap ≡ b.wrap = flag_once (given Wrap is) a.wrap b.wrap x.wrap y.wrap in
-    same_chosen a b delay slots depth workers limit turns at count cycles log forward wrap
+    same_chosen a b seed delay slots depth workers limit turns at count cycles log forward wrap
+
+-- what holds of plain words holds of those after the first
+pub plain_rest : (kind : PlainKind) (kinds : List PlainKind) (w : Text) (ws : List Text) → ArePlain (kind ∷ kinds) (w ∷ ws) → ArePlain kinds ws
+plain_rest kind kinds w ws are = record { count = omega (arith, are.count); each = λ i within. are.each (suc i) (omega (arith, within)) }
+
+-- the plain words have one seed
+seed_once : (kinds : List PlainKind) (ws : List Text) (a b : Option ℕ) → IsSeed kinds ws a → IsSeed kinds ws b → a ≡ b
+seed_once [] ws a b x y = x ∙ sym y
+seed_once (File limit ∷ kinds) [] a b x y = x ∙ sym y
+seed_once (File limit ∷ kinds) (w ∷ ws) a b x y = seed_once kinds ws a b x y
+seed_once (Seed ∷ kinds) [] a b x y = x ∙ sym y
+seed_once (Seed ∷ kinds) (w ∷ ws) a b x y = x.2 ∙ ap Some (x.1.value ∙ sym y.1.value) ∙ sym y.2
+
+-- so do those of one command
+pub one_seed : (v u : Verb) (ps qs : List Text) (a b : Option ℕ) → v ≡ u → ps ≡ qs → IsSeed (plain_of v) ps a → IsSeed (plain_of u) qs b → a ≡ b
+one_seed v u ps qs a b same words x y =
+    seed_once (plain_of u) qs a b (subst (λ ws. IsSeed (plain_of u) ws a) words (subst (λ w. IsSeed (plain_of w) ps a) same x)) y
 
 -- what is read of the words is what they spell
 pub record IsReadOf (verb : Verb) (is : List Item) (c : Asked) : Type 0 where
@@ -107,5 +127,7 @@ pub command_once : (ws : List Text) (c d : Asked) → Command ws c → Command w
 command_once ws c d x y =
     let read = read_of ws y.rest (verb_word d.verb) d.verb y.items c y.first (λ v e. one_verb v d.verb e) y.written x in
     let plain : c.plain ≡ d.plain = sym read.spelled.words ∙ y.spelled.words in
-    let chosen : c.chosen ≡ d.chosen = chosen_once y.items c.chosen d.chosen read.spelled.chosen y.spelled.chosen in
+    let seed : c.chosen.seed ≡ d.chosen.seed =
+    one_seed c.verb d.verb c.plain d.plain c.chosen.seed d.chosen.seed read.same plain read.spelled.seed y.spelled.seed in
+    let chosen : c.chosen ≡ d.chosen = chosen_once y.items c.chosen d.chosen seed read.spelled.chosen y.spelled.chosen in
     same_asked c d read.same plain chosen

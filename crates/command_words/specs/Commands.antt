@@ -18,7 +18,7 @@ use Rattle.command_words.specs.Items.{Item, AreWritten, plain_words, given}
 abbrev pub texts : List (String Global) → List Text
 texts words = map string_bytes words
 
--- what is asked for: a command, its plain words, and the values of its options
+-- what is asked for: a command, its plain words, and the values of its options with the number that a plain word gives
 pub record Asked : Type 0 where
   pub verb : Verb
   pub plain : List Text
@@ -74,10 +74,19 @@ pub record ArePlain (kinds : List PlainKind) (words : List Text) : Type 0 where
   pub count : length words ≡ length kinds
   pub each : (i : ℕ) → i < length kinds → IsPlainWord (get_or kinds i Seed) (get_or words i [])
 
+-- the number that the plain word of kind `Seed` spells; none, where the command has no such word
+abbrev pub IsSeed : List PlainKind → List Text → Option ℕ → Type 0
+IsSeed [] words seed = seed ≡ None
+IsSeed (File limit ∷ kinds) [] seed = seed ≡ None
+IsSeed (File limit ∷ kinds) (w ∷ words) seed = IsSeed kinds words seed
+IsSeed (Seed ∷ kinds) [] seed = seed ≡ None
+IsSeed (Seed ∷ kinds) (w ∷ words) seed = (n : ℕ) × IsNumeral w n × (seed ≡ Some n)
+
 -- the items after the word of a command spell it
 pub record ItemsSpell (items : List Item) (c : Asked) : Type 0 where
   pub words : plain_words items ≡ c.plain
   pub plain : ArePlain (plain_of c.verb) c.plain
+  pub seed : IsSeed (plain_of c.verb) c.plain c.chosen.seed
   pub chosen : AreChosen items c.chosen
   pub together : GoTogether c.chosen
 

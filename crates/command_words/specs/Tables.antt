@@ -25,11 +25,11 @@ is_built Compile = true
 is_built Go = true
 is_built Run = true
 is_built Replay = true
-is_built Bench = false
+is_built Bench = true
 is_built Upgrade = true
 is_built Ref = true
-is_built Save = false
-is_built Resume = false
+is_built Save = true
+is_built Resume = true
 
 abbrev pub built_choices : Verb → List Choice
 built_choices Compile = Delay ∷ Slots ∷ Depth ∷ Forward ∷ Wrap ∷ []
@@ -39,8 +39,8 @@ built_choices Replay = []
 built_choices Bench = []
 built_choices Upgrade = []
 built_choices Ref = Wrap ∷ Turns ∷ Count ∷ []
-built_choices Save = []
-built_choices Resume = []
+built_choices Save = At ∷ []
+built_choices Resume = Limit ∷ Count ∷ []
 
 -- ---- all commands
 

@@ -224,6 +224,7 @@ pub fn built_choices(verb: Verb) -> &'static [Choice]
         ],
         Verb::Ref => &[Choice::Wrap, Choice::Turns, Choice::Count],
         Verb::Replay | Verb::Bench | Verb::Upgrade => &[],
-        Verb::Save | Verb::Resume => &[],
+        Verb::Save => &[Choice::At],
+        Verb::Resume => &[Choice::Limit, Choice::Count],
     }
 }

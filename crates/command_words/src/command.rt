@@ -3,9 +3,11 @@ use crate::choice::ClassDelay;
 use crate::verb::Verb;
 use el_base::List;
 
-/// The values of the options; `None` and `false` where one is not used.
+/// The values of the options, `None` and `false` where one is not used; and the number that the plain words give, where the
+/// command takes one.
 #[derive(Drop)]
 pub struct Chosen {
+    pub seed: Option<u64>,
     pub delay: Option<List<ClassDelay>>,
     pub slots: Option<u64>,
     pub depth: Option<u64>,

@@ -1,7 +1,7 @@
 //! Reading the words as a command.
-ghost use Rattle.std.specs.Prelude.{◌≡◌, ◌++◌, ◌∷◌, [], List, Option, IfOk, IfSome, IsNone, IsTrue, OnOk};
+ghost use Rattle.std.specs.Prelude.{◌≡◌, ◌++◌, ◌∷◌, [], ℕ, List, Option, IfOk, IfSome, IsNone, IsTrue, OnOk};
 ghost use Rattle.command_words.specs.Items.{given, items_of, item_of, plain_words};
-ghost use Rattle.command_words.specs.Commands.{Asked, AreChosen, ArePlain, GoTogether, IsPlainWord, IsValue, ItemsSpell, asked, texts, word_texts};
+ghost use Rattle.command_words.specs.Commands.{Asked, AreChosen, ArePlain, GoTogether, IsPlainWord, IsSeed, IsValue, ItemsSpell, asked, texts, word_texts};
 ghost use Rattle.command_words.specs.Commands as commands;
 ghost use Rattle.command_words.specs.declared.command.Chosen.{Chosen};
 ghost use Rattle.command_words.specs.declared.choice.Choice.TheVariants.{Delay};
@@ -54,7 +54,8 @@ fn command_of<'a>(
     if !are_plain(verb.plain(), plain.as_slice()) {
         return Ok(None);
     }
-    let Some(chosen) = values(alloc, items)? else {
+    let seed = seed_of(verb.plain(), plain.as_slice());
+    let Some(chosen) = values(alloc, items, seed)? else {
         return Ok(None);
     };
     if !go_together(&chosen) {
@@ -116,26 +117,45 @@ fn is_plain_word(kind: PlainKind, word: &str) -> bool
     }
 }
 
-// The values of the options; `None` where an option is used twice, or its value is none that it takes.
-fn values(alloc: Global, items: &[Written<'_>]) -> Result<Option<Chosen>, Memory>
+// The number that the plain word of kind `Seed` spells; `None` where the command has no such word.
+fn seed_of(kinds: &[PlainKind], words: &[&str]) -> Option<u64>
+    requires { ArePlain kinds.now (word_texts words.now) }
+    ensures { IsSeed kinds.now (word_texts words.now) result }
+{
+    let Some((kind, other_kinds)) = kinds.split_first() else {
+        return None;
+    };
+    let Some((word, other_words)) = words.split_first() else {
+        return None;
+    };
+    match kind {
+        PlainKind::Seed => numeral(*word),
+        PlainKind::File(_) => seed_of(other_kinds, other_words),
+    }
+}
+
+// The values of the options, with this seed; `None` where an option is used twice, or its value is none that it takes.
+fn values(alloc: Global, items: &[Written<'_>], seed: Option<u64>) -> Result<Option<Chosen>, Memory>
     ensures some { IfOk result (λ r. IfSome r (AreChosen (items_of items.now))) }
+    ensures seed { IfOk result (λ r. IfSome r (λ c. c.seed ≡ seed)) }
     ensures none { IfOk result (λ r. IsNone r → (c : Chosen)
         → AreChosen (items_of items.now) c → ⊥) }
 {
     let Some(delay) = delays(alloc, items)? else {
         return Ok(None);
     };
-    let Some(chosen) = others(items) else {
+    let Some(chosen) = others(items, seed) else {
         return Ok(None);
     };
     Ok(Some(Chosen { delay, ..chosen }))
 }
 
 // The same of the options but `--delay`, which has no value in the answer.
-fn others(items: &[Written<'_>]) -> Option<Chosen>
+fn others(items: &[Written<'_>], seed: Option<u64>) -> Option<Chosen>
     ensures some { IfSome result (λ c. (d : Option (List ClassDelay))
         → IsValue AreDelays (given Delay (items_of items.now)) d
         → AreChosen (items_of items.now) (with_delay d c)) }
+    ensures seed { IfSome result (λ c. c.seed ≡ seed) }
     ensures none { IsNone result → (c : Chosen) → AreChosen (items_of items.now) c → ⊥ }
 {
     let slots = number(items, Choice::Slots)?;
@@ -150,6 +170,7 @@ fn others(items: &[Written<'_>]) -> Option<Chosen>
     let forward = flag(items, Choice::Forward)?;
     let wrap = flag(items, Choice::Wrap)?;
     Some(Chosen {
+        seed,
         delay: None,
         slots,
         depth,

@@ -58,8 +58,8 @@ impl Verb {
     {
         match self {
             Verb::Compile | Verb::Go | Verb::Run | Verb::Replay => true,
-            Verb::Upgrade | Verb::Ref => true,
-            Verb::Bench | Verb::Save | Verb::Resume => false,
+            Verb::Bench | Verb::Upgrade | Verb::Ref => true,
+            Verb::Save | Verb::Resume => true,
         }
     }
 

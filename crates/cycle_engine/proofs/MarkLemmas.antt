@@ -10,7 +10,7 @@ use Rattle.net_check.specs.Ends.{is_lsq}
 use Rattle.net_core.specs.Fire.{State}
 use Rattle.net_core.specs.declared.plan.Laid.{Laid}
 use Rattle.cycle_engine.specs.declared.marks.Marks.{Marks}
-use Rattle.cycle_engine.specs.private.Marking.{AreSince, IsSinceNoted, Holds, HasUnit, no_firing, IsMarked, IsListed, KeepsMarks, IsSourceMarked, IsMergeMarked, IsTargetMarked, IsPutMarked, IsTaken, IsEmptied}
+use Rattle.cycle_engine.specs.private.Marking.{Holds, HasUnit, no_firing, IsMarked, IsListed, KeepsMarks, IsSourceMarked, IsMergeMarked, IsTargetMarked, IsPutMarked, IsTaken, IsEmptied}
 
 -- ---- lists
 
@@ -170,48 +170,6 @@ or_as P e (inr p) = inr (subst P e p)
 
 pub emptied_listed : (net : Net) (old new : Marks) → IsEmptied old new → IsListed net old → IsListed net new
 emptied_listed net old new e h u l m = absurd (none_held old.list.items u e.before (h u l (ap (λ (v : _). get_or v.items u false) (sym e.same) ∙ m)))
-
--- ---- from where on units have fired
-
-pub since_none : (fs : List Firing) (since : List ℕ) → fs ≡ [] → AreSince fs since
-since_none fs since e k l = (let n = ap (λ (xs : List Firing). length xs) e in absurd (omega arith))
-
-get_last_firing : (xs : List Firing) (x : Firing) → get_or (xs ++ x ∷ []) (length xs) no_firing ≡ x
-get_last_firing [] x = refl
-get_last_firing (y ∷ xs) x = get_last_firing xs x
-
--- one firing more
-pub since_more : (old new : List Firing) (f : Firing) (n : ℕ) (before after : List ℕ) → n ≡ length old → new ≡ old ++ f ∷ [] → IsSinceNoted f.unit n before after → AreSince old before → AreSince new after
-since_more old new f n before after long e s h = (let P : List Firing → Type 0 = λ fs. AreSince fs after in subst P (sym e) more)
-  where
-    more : AreSince (old ++ f ∷ []) after
-    more k l w = by (cases_lt k (length old))
-      where
-        earlier : k < length old → (get_or old k no_firing).unit < length after → ((get_or old k no_firing).unit ≡ f.unit) ⊎ ((get_or old k no_firing).unit ≢ f.unit)
-            → (0 < get_or after (get_or old k no_firing).unit 0) × (get_or after (get_or old k no_firing).unit 0 ≤ k + 1)
-        earlier m v (inr x) =
-            let a = h k m (let z = s.long in omega arith) in
-            let b = s.others (get_or old k no_firing).unit x in
-            (let p = a.0 in omega arith, let p = a.1 in omega arith)
-        earlier m v (inl x) =
-            let a = h k m (let z = s.long in omega arith) in
-            let Q : ℕ → Type 0 = λ u. (0 < get_or before u 0) × (get_or before u 0 ≤ k + 1) in
-            let R : ℕ → Type 0 = λ u. (0 < get_or after u 0) × (get_or after u 0 ≤ k + 1) in
-            let b = subst Q x a in
-            let c = s.kept b.0 (let p = b.1 in omega arith) in
-            subst R (sym x) (let p = b.0 in omega arith, let p = b.1 in omega arith)
-
-        by : (k < length old) ⊎ (length old ≤ k) → (0 < get_or after (get_or (old ++ f ∷ []) k no_firing).unit 0) × (get_or after (get_or (old ++ f ∷ []) k no_firing).unit 0 ≤ k + 1)
-        by (inl m) =
-            let g : get_or (old ++ f ∷ []) k no_firing ≡ get_or old k no_firing = get_or_append_left old (f ∷ []) no_firing k m in
-            let I : Firing → Type 0 = λ g. g.unit < length after → (0 < get_or after g.unit 0) × (get_or after g.unit 0 ≤ k + 1) in
-            subst I (sym g) (λ v. earlier m v (cases_eq (get_or old k no_firing).unit f.unit)) w
-        by (inr m) =
-            let z = length-append old (f ∷ []) in
-            let i : k ≡ length old = omega arith in
-            let g : get_or (old ++ f ∷ []) k no_firing ≡ f = ap (λ j. get_or (old ++ f ∷ []) j no_firing) i ∙ get_last_firing old f in
-            let I : Firing → Type 0 = λ g. g.unit < length after → (0 < get_or after g.unit 0) × (get_or after g.unit 0 ≤ k + 1) in
-            subst I (sym g) (λ v. (let o = s.own (let z = s.long in omega arith) in (o.0, (let p = o.1 in omega arith)))) w
 
 -- ---- merges
 

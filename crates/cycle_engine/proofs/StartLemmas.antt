@@ -23,7 +23,7 @@ use Rattle.cycle_engine.specs.private.Trials.{dated_of, IsBegun, IsEngine}
 use Rattle.cycle_engine.specs.private.Marking.{Holds, IsMarked, IsListed, AreListed, cell, entries_at}
 use Rattle.cycle_engine.specs.private.Goings.{Past, IsReady, InCycle, HasDone, AreComing, all_made}
 use Rattle.cycle_engine.proofs.PlaceLemmas.{fires_within}
-use Rattle.cycle_engine.proofs.MarkLemmas.{since_none}
+use Rattle.cycle_engine.proofs.UsedLemmas.{none_told}
 
 no_dates : List ℕ
 no_dates = []
@@ -58,7 +58,7 @@ opened_ready net inputs b e of slots same few made fired counts room chans queue
       marked = marked;
       listed = listed;
       cells = cells;
-      since = since_none e.fired.items e.since.items fired;
+      told = none_told e.used e.made e.fired.items fired;
     }
 
 items_none : (us : List Kind) (u : ℕ) → length (get_or (map opened us) u idle).queue.items ≡ 0
@@ -134,7 +134,7 @@ begun_ready net b old new r eng same made fired log chans queues marked listed c
       marked = marked;
       listed = listed;
       cells = cells;
-      since = since_none new.fired.items new.since.items fired;
+      told = none_told new.used new.made new.fired.items fired;
     }
 
 -- so a cycle begins

@@ -637,7 +637,7 @@ unit_done net past b c start marks e u kind l is t = record { going = t.going; p
 
 -- the engine with other marks
 abbrev pub with_marks : Engine → Marks → Engine
-with_marks e m = record { state = e.state; dates = e.dates; begun = e.begun; fired = e.fired; since = e.since; made = e.made; log = e.log; marks = m; notes = e.notes; freed = e.freed }
+with_marks e m = record { state = e.state; dates = e.dates; begun = e.begun; fired = e.fired; used = e.used; made = e.made; log = e.log; marks = m; notes = e.notes; freed = e.freed }
 
 pub going_marks : (net : Net) (past : Past) (b : Bounds) (c : ℕ) (start : Dated) (e : Engine) (m : Marks) → InCycle net past b c start e → InCycle net past b c start (with_marks e m)
 going_marks net past b c start e m g = record {
@@ -668,7 +668,7 @@ ready_marks net b e m r long listed = record {
   marked = long;
   listed = listed;
   cells = r.cells;
-  since = r.since;
+  told = r.told;
 }
 
 -- a unit was taken from the list

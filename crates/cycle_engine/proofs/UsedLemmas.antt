@@ -1,5 +1,5 @@
 -- The places that a plan uses, and when the engine may make it.
-use Rattle.std.proofs.Common.{◌≡◌, ℕ, suc, ◌<◌, ◌≤◌, ◌≢◌, ◌⊎◌, inl, inr, not, nat_lt, Bool, true, false, Option, Some, None, List, [], ◌∷◌, length, get_or, refl, sym, ap, subst, ◌∙◌, arith, IsSomeAnd}
+use Rattle.std.proofs.Common.{◌≡◌, ℕ, suc, ◌<◌, ◌≤◌, ◌≢◌, ◌⊎◌, inl, inr, not, nat_lt, Bool, true, false, Option, Some, None, List, [], ◌∷◌, ◌++◌, ◌+◌, length, length-append, get_or, refl, sym, ap, subst, ◌∙◌, arith, IsSomeAnd}
 use Rattle.net_types.specs.declared.net.Net.{Net}
 use Rattle.net_types.specs.declared.net.Unit.{Unit as Kind}
 use Rattle.net_types.specs.declared.net.Unit.TheVariants.{Entry, Param, Const, Op1, Op2, Select, Fork, Mux, Cmerge, Branch, Sink, Read, Lsq, Exit}
@@ -20,8 +20,12 @@ use Rattle.net_core.proofs.PlanUses.{plans_use}
 use Rattle.cycle_engine.specs.declared.engine.Engine.{Engine}
 use Rattle.cycle_engine.specs.Cycles.{Dated, HasDepth, AllocHasDepth, May, IsUnused, place_of}
 use Rattle.cycle_engine.specs.private.Trials.{dated_of, AllRipe, HadRoom, HadDepth, EntriesFit, Allowed, IsOldFull, IsFollowed, IsBegun}
-use Rattle.std.proofs.lemmas.Bool.{cases_lt}
-use Rattle.cycle_engine.specs.private.Marking.{no_firing, IsNotBefore}
+use Rattle.std.proofs.lemmas.Bool.{cases_lt, cases_eq}
+use Rattle.cycle_engine.specs.private.Marking.{no_firing}
+use Rattle.cycle_engine.specs.private.Used.{own_number, place_number, AreTold, IsTold, IsUntold, IsUnusedFrom}
+use Rattle.cycle_engine.specs.declared.used.Used.{Used}
+use Rattle.lsq_core.specs.Laws.{act_place}
+use Rattle.std.proofs.lemmas.List.{get_or_append_left}
 
 -- the depth at the start, by the number of entries then
 depth_acts : (d : ℕ) (gs : List (List ℕ)) (o : Own) (n : ℕ) (a : Act) → n ≡ length o.queue.items → EntriesFit d gs n a → AllocHasDepth d gs o a
@@ -139,10 +143,82 @@ pub unused_of : (xs : List Firing) (f d : Firing) → ((k : ℕ) → k < length 
 unused_of [] f d h = tt
 unused_of (x ∷ xs) f d h = (h 0 (omega arith), unused_of xs f d (λ k l. h (suc k) (omega arith)))
 
--- the firings before n are of other units, and those from n on of other places
-pub unused_from : (xs : List Firing) (f : Firing) (n : ℕ) → IsNotBefore xs f.unit n → ((k : ℕ) → n ≤ k → k < length xs → place_of (get_or xs k no_firing) ≢ place_of f) → IsUnused xs f
-unused_from xs f n before h = unused_of xs f no_firing (λ k l. by k l (cases_lt k n))
+pub unused_all : (xs : List Firing) (f : Firing) → IsUnusedFrom xs f 0 → IsUnused xs f
+unused_all xs f h = unused_of xs f no_firing (λ k l. h k (omega arith) l)
+
+-- places are one only if their numbers are
+number_as : (base : List ℕ) (f : Firing) → place_number base (place_of f) ≡ place_number base f
+number_as base f = by f.act
   where
-    by : (k : ℕ) → k < length xs → (k < n) ⊎ (n ≤ k) → place_of (get_or xs k no_firing) ≢ place_of f
-    by k l (inl m) e = before k l m (ap (λ (x : Firing). x.unit) e)
-    by k l (inr m) e = h k m l e
+    by : (a : Act) → get_or base f.unit 0 + own_number (act_place a) ≡ get_or base f.unit 0 + own_number a
+    by Go = refl
+    by (From j) = refl
+    by (Send j) = refl
+    by (Alloc g) = refl
+    by (Addr p) = refl
+    by (Data p) = refl
+    by (Exec e) = refl
+    by (Reply p) = refl
+    by Retire = refl
+    by End = refl
+
+-- where no firing of the cycle is told as the last at the place, none is there
+pub unused_told : (used : Used) (earlier : ℕ) (fs : List Firing) (f : Firing) → AreTold used earlier fs → IsUntold used earlier f → IsUnused fs f
+unused_told used earlier fs f told h = unused_of fs f no_firing none
+  where
+    none : (k : ℕ) → k < length fs → place_of (get_or fs k no_firing) ≢ place_of f
+    none k l e =
+        let n : place_number used.base.items f ≡ place_number used.base.items (get_or fs k no_firing) = sym (number_as used.base.items f) ∙ (ap (place_number used.base.items) (sym e) ∙ number_as used.base.items (get_or fs k no_firing)) in
+        let P : ℕ → Type 0 = λ x. x < length used.last.items in
+        let Q : ℕ → Type 0 = λ x. get_or used.last.items x 0 ≤ earlier in
+        let a = told h.clear k l (subst P n h.within) in
+        let b = subst Q n h.least in
+        absurd (omega arith)
+
+pub none_told : (used : Used) (earlier : ℕ) (fs : List Firing) → fs ≡ [] → AreTold used earlier fs
+none_told used earlier fs e c k l = (let n = ap (λ (xs : List Firing). length xs) e in absurd (omega arith))
+
+get_last_firing : (xs : List Firing) (x : Firing) → get_or (xs ++ x ∷ []) (length xs) no_firing ≡ x
+get_last_firing [] x = refl
+get_last_firing (y ∷ xs) x = get_last_firing xs x
+
+-- one firing more
+pub told_more : (old new : List Firing) (f : Firing) (earlier count : ℕ) (before after : Used) → count ≡ earlier + length old → new ≡ old ++ f ∷ [] → IsTold f earlier count before after
+    → AreTold before earlier old → AreTold after earlier new
+told_more old new f earlier count before after long e s h = (let P : List Firing → Type 0 = λ fs. AreTold after earlier fs in subst P (sym e) more)
+  where
+    Told : Firing → ℕ → Type 0
+    Told g k = place_number after.base.items g < length after.last.items → get_or after.last.items (place_number after.base.items g) 0 ≡ suc (earlier + k)
+
+    -- by the numbers before, which are those after
+    same : (g : Firing) (k : ℕ) → (place_number before.base.items g < length before.last.items → get_or after.last.items (place_number before.base.items g) 0 ≡ suc (earlier + k)) → Told g k
+    same g k t w =
+        let b : place_number after.base.items g ≡ place_number before.base.items g = ap (λ (v : _). place_number v.items g) s.base in
+        let z = s.long in
+        ap (λ x. get_or after.last.items x 0) b ∙ t (omega arith)
+
+    earlier_one : after.mixed ≡ false → (k : ℕ) → k < length old → (place_number before.base.items (get_or old k no_firing) ≡ place_number before.base.items f) ⊎ (place_number before.base.items (get_or old k no_firing) ≢ place_number before.base.items f)
+        → place_number before.base.items (get_or old k no_firing) < length before.last.items → get_or after.last.items (place_number before.base.items (get_or old k no_firing)) 0 ≡ suc (earlier + k)
+    earlier_one c k l (inr x) w = s.others (place_number before.base.items (get_or old k no_firing)) x ∙ h (s.clear c).0 k l w
+    earlier_one c k l (inl x) w =
+        let P : ℕ → Type 0 = λ y. y < length before.last.items in
+        let a = h (s.clear c).0 k l w in
+        let b = (s.clear c).1 (subst P x w) in
+        let d = ap (λ y. get_or before.last.items y 0) x in
+        absurd (omega arith)
+
+    more : AreTold after earlier (old ++ f ∷ [])
+    more c k l = by (cases_lt k (length old))
+      where
+        by : (k < length old) ⊎ (length old ≤ k) → Told (get_or (old ++ f ∷ []) k no_firing) k
+        by (inl m) =
+            let g : get_or (old ++ f ∷ []) k no_firing ≡ get_or old k no_firing = get_or_append_left old (f ∷ []) no_firing k m in
+            let T : Firing → Type 0 = λ g. Told g k in
+            subst T (sym g) (same (get_or old k no_firing) k (earlier_one c k m (cases_eq (place_number before.base.items (get_or old k no_firing)) (place_number before.base.items f))))
+        by (inr m) =
+            let z = length-append old (f ∷ []) in
+            let i : k ≡ length old = omega arith in
+            let g : get_or (old ++ f ∷ []) k no_firing ≡ f = ap (λ j. get_or (old ++ f ∷ []) j no_firing) i ∙ get_last_firing old f in
+            let T : Firing → Type 0 = λ g. Told g k in
+            let n : suc count ≡ suc (earlier + k) = omega arith in
+            subst T (sym g) (same f k (λ w. s.own w ∙ n))

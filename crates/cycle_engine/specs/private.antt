@@ -2,5 +2,6 @@
 pub mod Trials
 pub mod Goings
 pub mod Marking
+pub mod Used
 pub mod Places
 pub mod Kinds

@@ -13,6 +13,7 @@ use crate::freed::Freed;
 use crate::marks::Marks;
 use crate::notes::Notes;
 use crate::places::is_queue;
+use crate::used::Used;
 use el_base::Log;
 use lsq_core::Queue;
 use net_check::Checked;
@@ -37,8 +38,8 @@ pub(crate) struct Engine {
     pub begun: Vec<u32>,
     /// The firings of the cycle so far.
     pub fired: Vec<Firing>,
-    /// Of each unit that has fired in the cycle a number from 1 on, at most that of its first firing; 0 of most others.
-    pub since: Vec<u64>,
+    /// Which places have fired in the cycle.
+    pub used: Used,
     /// How many firings the cycles before made.
     pub made: u64,
     pub log: Log<Firing>,
@@ -94,7 +95,7 @@ impl Engine {
     {
         let chans = net.net().chans.as_slice();
         let units = net.net().units.as_slice();
-        let since = vec![in alloc; 0; units.len()]?;
+        let used = Used::new(alloc, net)?;
         let marks = Marks::new(alloc, net)?;
         let notes = Notes::new(alloc)?;
         let state = State::new(alloc, net, inputs)?;
@@ -107,7 +108,7 @@ impl Engine {
             dates,
             begun,
             fired: Vec::new(alloc),
-            since,
+            used,
             made: 0,
             log,
             marks,
@@ -132,14 +133,7 @@ impl Engine {
         let _ = bounds;
         let _ = net.net();
         let fired = self.fired.as_slice();
-        settle(
-            &mut self.marks,
-            &mut self.begun,
-            &mut self.since,
-            net,
-            &self.state,
-            fired,
-        )?;
+        settle(&mut self.marks, &mut self.begun, net, &self.state, fired)?;
         let freed = self.freed.list.as_slice();
         self.marks.mark_sources(net, &self.state, freed)?;
         self.marks.mark_targets(net, self.notes.ripening(now))?;
@@ -148,15 +142,6 @@ impl Engine {
         self.made += self.fired.len() as u64;
         self.fired.clear();
         Ok(())
-    }
-}
-
-/// Forgets when a unit has fired.
-#[inline(always)]
-fn forget(since: &mut Vec<u64>, unit: u32) {
-    let at = unit as usize;
-    if at < since.len() {
-        since[at] = 0;
     }
 }
 
@@ -173,8 +158,7 @@ fn entries(net: &Checked, state: &State, unit: u32) -> u32
     }
 }
 
-/// Marks the units of firings that do not want a token at their first input, notes how many entries their queues have, and
-/// forgets when they have fired.
+/// Marks the units of firings that do not want a token at their first input, and notes how many entries their queues have.
 ///
 /// # Errors
 ///
@@ -182,7 +166,6 @@ fn entries(net: &Checked, state: &State, unit: u32) -> u32
 fn settle(
     marks: &mut Marks,
     begun: &mut Vec<u32>,
-    since: &mut Vec<u64>,
     net: &Checked,
     state: &State,
     fired: &[Firing],
@@ -201,7 +184,6 @@ fn settle(
     for firing in fired {
         marks.mark_fed(net, state, firing.unit)?;
         note_queue(begun, net, state, firing.unit);
-        forget(since, firing.unit);
     }
     Ok(())
 }

@@ -13,6 +13,7 @@ mod places;
 mod runs;
 mod trial;
 mod turns;
+mod used;
 
 pub use laws::{
     cycles_are_few, cycles_are_one, cycles_are_runs, firings_rouse, firings_rouse_their_unit,

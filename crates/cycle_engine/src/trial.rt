@@ -12,7 +12,8 @@ ghost use Rattle.cycle_engine.specs.Cycles.{Dated, May, IsUnused, place_of, afte
 ghost use Rattle.cycle_engine.specs.private.Trials.{dated_of, AllRipe, HadRoom, HasRoomNow, HadDepth, EntriesFit, Allowed, IsBegun, IsEngine};
 ghost use Rattle.net_core.specs.Uses.{places_used, is_fork};
 ghost use Rattle.cycle_engine.specs.private.Goings.{Past, IsReady, InCycle, MayFollow, IsTried, IsBroken, IsMore};
-ghost use Rattle.cycle_engine.specs.private.Marking.{IsFreed, IsNoted, AreSince, IsNotBefore, IsSinceNoted};
+ghost use Rattle.cycle_engine.specs.private.Marking.{IsFreed, IsNoted};
+ghost use Rattle.cycle_engine.specs.private.Used.{AreTold, IsUnusedFrom};
 ghost use Rattle.std.specs.Prelude.{MatchResult};
 
 use crate::dates::{are_ripe, dated, is_ripe};
@@ -136,18 +137,6 @@ fn note_fired(fired: &mut Vec<Firing>, firing: Firing) -> Result<(), RunFault>
     }
 }
 
-/// Notes that a unit fires after so many firings of the cycle.
-#[inline(always)]
-fn note_since(since: &mut Vec<u64>, unit: u32, count: usize)
-    requires { count < 2 ^ 63 }
-    ensures { IsSinceNoted unit count since.old.items since.new.items }
-{
-    let at = unit as usize;
-    if at < since.len() && (since[at] == 0 || since[at] > count as u64) {
-        since[at] = count as u64 + 1;
-    }
-}
-
 /// Adds a firing to the log where it is kept.
 #[inline(always)]
 fn note(log: &mut Log<Firing>, keep: bool, firing: Firing)
@@ -160,35 +149,11 @@ fn note(log: &mut Log<Firing>, keep: bool, firing: Firing)
 }
 
 impl Engine {
-    /// The number of a firing of the cycle, from which on those of a unit come; none where the unit has not fired.
-    #[inline(always)]
-    fn first_fired(&self, unit: u32) -> Option<usize>
-        requires { AreSince self.now.fired.items self.now.since.items }
-        ensures { MatchOption result
-            (IsNotBefore self.now.fired.items unit (length self.now.fired.items))
-            (IsNotBefore self.now.fired.items unit) }
-    {
-        let at = unit as usize;
-        if at >= self.since.len() {
-            return Some(0);
-        }
-        let since = self.since[at];
-        if since == 0 {
-            return None;
-        }
-        Some(since as usize - 1)
-    }
-
-    /// Whether the place of a firing has fired in the cycle.
-    #[inline(always)]
-    fn is_used(&self, firing: Firing) -> bool
-        requires { AreSince self.now.fired.items self.now.since.items }
+    /// Whether a firing of the cycle, from a number on, is at the place of a firing.
+    fn is_from(&self, first: usize, firing: Firing) -> bool
         ensures used { result ≡ true → IsUnused self.now.fired.items firing → ⊥ }
-        ensures unused { result ≡ false → IsUnused self.now.fired.items firing }
+        ensures unused { result ≡ false → IsUnusedFrom self.now.fired.items firing first }
     {
-        let Some(first) = self.first_fired(firing.unit) else {
-            return false;
-        };
         let fired = self.fired.as_slice();
         for at in first..fired.len() {
             if place(fired[at]) == place(firing) {
@@ -196,6 +161,31 @@ impl Engine {
             }
         }
         false
+    }
+
+    /// Whether a firing of the cycle is at the place of a firing.
+    fn is_among(&self, firing: Firing) -> bool
+        ensures used { result ≡ true → IsUnused self.now.fired.items firing → ⊥ }
+        ensures unused { result ≡ false → IsUnused self.now.fired.items firing }
+    {
+        self.is_from(0, firing)
+    }
+
+    /// Whether the place of a firing has fired in the cycle. It costs one step where it has not, and where the firing that is
+    /// told as the last at the place is at the place.
+    #[inline(always)]
+    fn is_used(&self, firing: Firing) -> bool
+        requires { AreTold self.now.used self.now.made self.now.fired.items }
+        ensures used { result ≡ true → IsUnused self.now.fired.items firing → ⊥ }
+        ensures unused { result ≡ false → IsUnused self.now.fired.items firing }
+    {
+        if self.used.has_not_fired(firing, self.made) {
+            return false;
+        }
+        if self.is_from(self.used.told(firing, self.made), firing) {
+            return true;
+        }
+        self.is_among(firing)
     }
 
     /// Whether the heads that a plan of a unit uses may be used in the cycle.
@@ -294,8 +284,10 @@ impl Engine {
         requires counts { CountsWithin (2 ^ 62) (state_of self.old.state) }
         requires log { keep ≡ true → 0 < self.old.log.room }
         requires cells { length self.old.notes.coming.items ≡ 1024 }
-        requires since { AreSince self.old.fired.items self.old.since.items }
-        ensures since { OnOk result (AreSince self.new.fired.items self.new.since.items) }
+        requires few { self.old.made + length self.old.fired.items < 2 ^ 63 }
+        requires told { AreTold self.old.used self.old.made self.old.fired.items }
+        ensures told { OnOk result
+            (AreTold self.new.used self.new.made self.new.fired.items) }
         ensures engine { OnOk result (IsEngine net.now self.new) }
         ensures after { OnOk result
             (dated_of self.new ≡ after_in net.now now (dated_of self.old) firing) }
@@ -313,7 +305,8 @@ impl Engine {
         ensures log { OnOk result (IsLogged keep (firing ∷ []) self.old.log self.new.log) }
         ensures memory { IfErr result (λ e. e ≡ fault.Memory) }
     {
-        note_since(&mut self.since, firing.unit, self.fired.len());
+        let count = self.made + self.fired.len() as u64;
+        self.used.note(firing, self.made, count);
         note_fired(&mut self.fired, firing)?;
         let moves = planned.moves;
         self.freed.note(&self.dates, moves.taken, now)?;

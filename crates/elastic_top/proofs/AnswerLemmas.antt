@@ -1,12 +1,13 @@
 -- What the refusal of a command is for a call; and what holds of words and bytes that are taken from their places.
 use Rattle.std.proofs.Common.{◌≡◌, ◌<◌, zero, suc, refl, subst, sym, ap, ◌∙◌, arith, List, [], ◌∷◌, length, get_or}
-use Rattle.std.specs.Prelude.{ℕ, Option, Some, None, is_some, Err}
+use Rattle.std.specs.Prelude.{ℕ, Option, Some, None, IsSome, is_some, Err}
 use Rattle.std.specs.Borrow.{Bor}
 use Rattle.std.specs.declared.vec.Vec.{Vec}
 use Rattle.std.specs.declared.alloc.Global.{Global}
 use Rattle.el_io.specs.Outside.{Told}
-use Rattle.command_words.specs.Tables.{Text}
-use Rattle.command_words.specs.Commands.{Asked, word_texts}
+use Rattle.command_words.specs.declared.verb.Verb.TheVariants.{Bench}
+use Rattle.command_words.specs.Tables.{Text, plain_of}
+use Rattle.command_words.specs.Commands.{Asked, IsSeed, word_texts}
 use Rattle.elastic_top.specs.Files.{files_of}
 use Rattle.elastic_top.specs.Reading.{AreHeld, contents_of}
 use Rattle.elastic_top.specs.Answers.{IsSaid, at}
@@ -30,6 +31,11 @@ bytes_at-is : (contents : List (Vec ℕ Global)) (i : ℕ) (b : Vec ℕ Global) 
 bytes_at-is [] i b within is = absurd (omega (arith, within))
 bytes_at-is (v ∷ contents) zero b within is = ap (λ (x : Vec ℕ Global). x.items) (sym is)
 bytes_at-is (v ∷ contents) (suc i) b within is = bytes_at-is contents i b (omega (arith, within)) is
+
+-- a bench has its number
+pub some_seed : (words : List Text) (seed : Option ℕ) → length words ≡ 1 → IsSeed (plain_of Bench) words seed → IsSome seed
+some_seed [] seed e is = absurd (omega (arith, e))
+some_seed (w ∷ words) seed e is = ap is_some is.2
 
 -- what holds of the words and the bytes that are taken, of slices of both, holds of those at the places
 pub of_one : (Holds : Text → Text → Type 0) (words ws : List (Bor Text)) (contents : List (Vec ℕ Global)) (d : Bor Text) (a : Vec ℕ Global) (x : Text)

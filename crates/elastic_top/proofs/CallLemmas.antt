@@ -1,14 +1,13 @@
 -- From the fault of a call to its status, its cause and its line.
-use Rattle.std.proofs.Common.{◌≡◌, ◌≢◌, ◌≤◌, ◌<◌, ℕ, List, [], ◌∷◌, ◌++◌, length, refl, sym, ◌∙◌, ap, subst, arith, Contains}
+use Rattle.std.proofs.Common.{◌≡◌, ◌≢◌, ◌≤◌, ◌<◌, ℕ, zero, suc, List, [], ◌∷◌, get_or, length, refl, sym, ◌∙◌, ap, subst, arith, Contains}
 use Rattle.std.specs.Prelude.{Err, IsTrue}
-use Rattle.std.proofs.lemmas.Bool.{false≢true}
 use Rattle.el_io.specs.Outside.{Told, IsHeld, IsWhole, MayPass, MayHold}
 use Rattle.command_words.specs.declared.verb.Verb.{Verb}
 use Rattle.command_words.specs.declared.verb.Verb.TheVariants.{Compile, Go, Run, Replay, Bench, Upgrade, Ref, Save, Resume}
-use Rattle.command_words.specs.Tables.{Text, is_built}
+use Rattle.command_words.specs.Tables.{Text, is_built, plain_of}
 use Rattle.command_words.specs.Commands.{Asked}
-use Rattle.elastic_top.specs.Files.{Wanted}
-use Rattle.elastic_top.specs.Reading.{AreHeld}
+use Rattle.elastic_top.specs.Files.{Wanted, files_of, wanted}
+use Rattle.elastic_top.specs.Reading.{AreHeld, IsReached}
 use Rattle.elastic_top.specs.Answers.{Answers}
 use Rattle.elastic_top.specs.Faults.{fault_code, fault_line, write_line, memory_line}
 use Rattle.elastic_top.specs.Statuses.{statuses, statuses_of}
@@ -26,32 +25,64 @@ any_status Memory = (11, omega arith, refl)
 any_status (TooLong x) = (12, omega arith, refl)
 any_status (Refused r) = (judged r).listed
 
--- those of the outside stand in the list of each command that is built
+-- and none has that of a call that is done
+pub not_done : (f : Fault) → fault_code f ≢ 0
+not_done Usage = λ e. absurd (omega (arith, e))
+not_done (Read x) = λ e. absurd (omega (arith, e))
+not_done Write = λ e. absurd (omega (arith, e))
+not_done Memory = λ e. absurd (omega (arith, e))
+not_done (TooLong x) = λ e. absurd (omega (arith, e))
+not_done (Refused r) = (judged r).some
+
+-- those of the outside, but for files, stand in the list of each command that is built
 pub record HasOutside (list : List ℕ) : Type 0 where
   pub done : Contains list 0
-  pub unread : Contains list 2
   pub unwritten : Contains list 3
   pub memory : Contains list 11
-  pub long : Contains list 12
 
 pub outside : (v : Verb) → IsTrue (is_built v) → HasOutside (statuses_of v)
-outside Compile b = record { done = (0, omega arith, refl); unread = (1, omega arith, refl); unwritten = (2, omega arith, refl); memory = (4, omega arith, refl); long = (5, omega arith, refl) }
-outside Go b = record { done = (0, omega arith, refl); unread = (1, omega arith, refl); unwritten = (2, omega arith, refl); memory = (7, omega arith, refl); long = (8, omega arith, refl) }
-outside Run b = record { done = (0, omega arith, refl); unread = (1, omega arith, refl); unwritten = (2, omega arith, refl); memory = (8, omega arith, refl); long = (9, omega arith, refl) }
-outside Replay b = record { done = (0, omega arith, refl); unread = (1, omega arith, refl); unwritten = (2, omega arith, refl); memory = (8, omega arith, refl); long = (9, omega arith, refl) }
-outside Bench b = absurd (false≢true b)
-outside Upgrade b = record { done = (0, omega arith, refl); unread = (1, omega arith, refl); unwritten = (2, omega arith, refl); memory = (4, omega arith, refl); long = (5, omega arith, refl) }
-outside Ref b = record { done = (0, omega arith, refl); unread = (1, omega arith, refl); unwritten = (2, omega arith, refl); memory = (5, omega arith, refl); long = (6, omega arith, refl) }
-outside Save b = absurd (false≢true b)
-outside Resume b = absurd (false≢true b)
+outside Compile b = record { done = (0, omega arith, refl); unwritten = (2, omega arith, refl); memory = (4, omega arith, refl) }
+outside Go b = record { done = (0, omega arith, refl); unwritten = (2, omega arith, refl); memory = (7, omega arith, refl) }
+outside Run b = record { done = (0, omega arith, refl); unwritten = (2, omega arith, refl); memory = (8, omega arith, refl) }
+outside Replay b = record { done = (0, omega arith, refl); unwritten = (2, omega arith, refl); memory = (8, omega arith, refl) }
+outside Bench b = record { done = (0, omega arith, refl); unwritten = (1, omega arith, refl); memory = (2, omega arith, refl) }
+outside Upgrade b = record { done = (0, omega arith, refl); unwritten = (2, omega arith, refl); memory = (4, omega arith, refl) }
+outside Ref b = record { done = (0, omega arith, refl); unwritten = (2, omega arith, refl); memory = (5, omega arith, refl) }
+outside Save b = record { done = (0, omega arith, refl); unwritten = (2, omega arith, refl); memory = (5, omega arith, refl) }
+outside Resume b = record { done = (0, omega arith, refl); unwritten = (2, omega arith, refl); memory = (7, omega arith, refl) }
+
+-- those of files stand in the list of each that names a file
+record HasFiles (list : List ℕ) : Type 0 where
+  pub unread : Contains list 2
+  pub long : Contains list 12
+
+-- a bench names none
+no_files : (plain : List Text) → wanted (plain_of Bench) plain ≡ []
+no_files [] = refl
+no_files (w ∷ plain) = refl
+
+no_place : (holds : Text → Told) (files : List Wanted) (file : Wanted) → files ≡ [] → IsReached holds files file → ⊥
+no_place holds files file e is = absurd (omega (arith, is.within, ap length e))
+
+reads : (holds : Text → Told) (v : Verb) (plain : List Text) (file : Wanted) → IsTrue (is_built v) → IsReached holds (wanted (plain_of v) plain) file
+    → HasFiles (statuses_of v)
+reads holds Compile plain file b is = record { unread = (1, omega arith, refl); long = (5, omega arith, refl) }
+reads holds Go plain file b is = record { unread = (1, omega arith, refl); long = (8, omega arith, refl) }
+reads holds Run plain file b is = record { unread = (1, omega arith, refl); long = (9, omega arith, refl) }
+reads holds Replay plain file b is = record { unread = (1, omega arith, refl); long = (9, omega arith, refl) }
+reads holds Bench plain file b is = absurd (no_place holds (wanted (plain_of Bench) plain) file (no_files plain) is)
+reads holds Upgrade plain file b is = record { unread = (1, omega arith, refl); long = (5, omega arith, refl) }
+reads holds Ref plain file b is = record { unread = (1, omega arith, refl); long = (6, omega arith, refl) }
+reads holds Save plain file b is = record { unread = (1, omega arith, refl); long = (6, omega arith, refl) }
+reads holds Resume plain file b is = record { unread = (1, omega arith, refl); long = (8, omega arith, refl) }
 
 module _ (holds : Text → Told) (steady : Type 0) (long : ℕ) (Cut : Text → Type 0) where
   pub status_of : (c : Asked) (f : Fault) → IsTrue (is_built c.verb) → IsCauseOf holds steady long Cut c f → Contains (statuses_of c.verb) (fault_code f)
   status_of c Usage b is = absurd is
-  status_of c (Read x) b is = (outside c.verb b).unread
+  status_of c (Read x) b is = (reads holds c.verb c.plain is.file b is.reached).unread
   status_of c Write b is = (outside c.verb b).unwritten
   status_of c Memory b is = (outside c.verb b).memory
-  status_of c (TooLong x) b is = (outside c.verb b).long
+  status_of c (TooLong x) b is = (reads holds c.verb c.plain is.file b is.reached).long
   status_of c (Refused r) b is = own c.verb c.plain c.chosen is.contents r is.answer.1
 
   pub spelled_of : (c : Asked) (f : Fault) → IsCauseOf holds steady long Cut c f → fault_code f ≢ 1
@@ -116,11 +147,17 @@ record KeptFile (holds : Text → Told) (file : Wanted) : Type 0 where
   pub held : IsHeld (holds file.name) bytes
   pub bound : length bytes ≤ file.limit
 
-kept_file : (holds : Text → Told) (before after : List Wanted) (file : Wanted) (contents : List Text) → AreToldWithin holds (before ++ file ∷ after) contents → KeptFile holds file
-kept_file holds [] after file [] k = absurd k
-kept_file holds [] after file (b ∷ bs) k = record { bytes = b; held = k.0; bound = k.1 }
-kept_file holds (g ∷ before) after file [] k = absurd k
-kept_file holds (g ∷ before) after file (b ∷ bs) k = kept_file holds before after file bs k.2
+kept_place : (holds : Text → Told) (files : List Wanted) (place : ℕ) (file : Wanted) (contents : List Text) → place < length files → AreToldWithin holds files contents
+    → KeptFile holds (get_or files place file)
+kept_place holds [] place file contents within k = absurd (omega (arith, within))
+kept_place holds (f ∷ files) place file [] within k = absurd k
+kept_place holds (f ∷ files) zero file (b ∷ bs) within k = record { bytes = b; held = k.0; bound = k.1 }
+kept_place holds (f ∷ files) (suc place) file (b ∷ bs) within k = kept_place holds files place file bs (omega (arith, within)) k.2
+
+-- so is the file that is reached
+kept_file : (holds : Text → Told) (files : List Wanted) (file : Wanted) (contents : List Text) → IsReached holds files file → AreToldWithin holds files contents
+    → KeptFile holds file
+kept_file holds files file contents is k = subst (KeptFile holds) (sym is.here) (kept_place holds files is.place file contents is.within k)
 
 one_content : (told : Told) (max : ℕ) (a b : Text) → IsWhole told max a → IsHeld told b → a ≡ b
 one_content told max a b whole held = sym (subst (λ t. MayHold t a) held whole.bytes)
@@ -144,12 +181,12 @@ module _ (holds : Text → Told) (steady : Type 0) (long : ℕ) (Cut : Text → 
       → Contains (0 ∷ 11 ∷ []) (fault_code f)
   sound_status c Usage is sound wrote = absurd is
   sound_status c (Read x) is sound wrote =
-      let kept = kept_file holds is.reached.before is.reached.after is.file sound.contents (subst (λ fs. AreToldWithin holds fs sound.contents) is.reached.split sound.kept) in
+      let kept = kept_file holds (files_of c) is.file sound.contents is.reached sound.kept in
       absurd (is.unsteady sound.steady_files kept.bytes (ap holds is.named ∙ kept.held))
   sound_status c Write is sound wrote = absurd (wrote refl)
   sound_status c Memory is sound wrote = (1, omega arith, refl)
   sound_status c (TooLong x) is sound wrote =
-      let kept = kept_file holds is.reached.before is.reached.after is.file sound.contents (subst (λ fs. AreToldWithin holds fs sound.contents) is.reached.split sound.kept) in
+      let kept = kept_file holds (files_of c) is.file sound.contents is.reached sound.kept in
       absurd (not_longer (holds x.now) is.file.limit kept.bytes (ap holds is.named ∙ kept.held) kept.bound is.more)
   sound_status c (Refused r) is sound wrote =
       absurd (sound.none r (subst (λ bs. Answers c bs (Err r)) (same_contents holds _ _ _ is.held sound.kept) is.answer))

@@ -1,5 +1,6 @@
 pub mod AnswerLemmas
 pub mod CallLemmas
+pub mod ContinuedLemmas
 pub mod Cuts
 pub mod PieceLemmas
 pub mod PlanLemmas

@@ -2,11 +2,10 @@
 use Rattle.std.proofs.Common.{◌≡◌, ◌≢◌, inl, inr, refl, sym, ap, subst, ◌∙◌}
 use Rattle.std.specs.Prelude.{IsSome, is_some, Result, Ok, Err}
 use Rattle.std.proofs.lemmas.Bool.{false≢true}
-use Rattle.c_ast.specs.declared.tree.Tree.{Tree}
 use Rattle.c_ast.specs.declared.typed.Typed.{Typed}
-use Rattle.c_ast.specs.Casts.{Casts}
-use Rattle.c_ast.specs.Nodes.{tree_nodes}
-use Rattle.c_ast.specs.Typing.{Typing}
+use Rattle.c_ast.specs.Nodes.{typed_nodes}
+use Rattle.c_calls.specs.Inlined.{inlined}
+use Rattle.c_calls.specs.Texts.{TypedExists}
 use Rattle.net_types.specs.declared.net.Net.{Net}
 use Rattle.net_text.specs.declared.refusal.TextRefusal.{TextRefusal}
 use Rattle.net_text.specs.declared.refusal.TextRefusal.TheVariants as text
@@ -112,14 +111,16 @@ sound_runs law complete c contents net e list sound r is =
 
 -- ---- compile and go
 
-pub typed_compiled : KernelsAreCompiled → TextsThatTypeAreKernels → ((tree : Tree) → Typing tree → (k : Typed) × Casts tree k) → TypedTextsAreCompiled
-typed_compiled law kernels some c contents tree e spells typing =
-    let k = some tree typing in
-    law c contents (record { typed = k.0; nodes = tree_nodes tree }) e (kernels (at contents 0) tree k.0 spells typing k.1)
+pub typed_compiled : KernelsAreCompiled → TextsThatTypeAreKernels → TypedExists → TypedTextsAreCompiled
+typed_compiled law kernels some c contents p e spells typing small =
+    let P = some p typing in
+    let k : Typed = inlined P.0 in
+    law c contents (record { typed = k; nodes = typed_nodes k }) e
+    (kernels (at contents 0) P.0 k (record { program = p; within = spells; typing = typing; casts = P.1 }) refl (small P.0 k P.1 refl))
 
 pub typed_go : EndingKernelsGo → TextsThatTypeAreKernels → TypedTextsGo
-typed_go law kernels c contents tree k e spells typing casts ends =
-    law c contents e (record { kernel = record { typed = k; nodes = tree_nodes tree }; read = kernels (at contents 0) tree k spells typing casts; ends = ends })
+typed_go law kernels c contents P k e spells made small ends =
+    law c contents e (record { kernel = record { typed = k; nodes = typed_nodes k }; read = kernels (at contents 0) P k spells made small; ends = ends })
 
 pub interpreted_run : InterpretedKernelsGo → InterpretedKernelsAreRun
 interpreted_run law c plain chosen contents told ended e within r is =

@@ -11,13 +11,13 @@ use Rattle.command_words.specs.declared.choice.Class.{Class}
 use Rattle.command_words.specs.declared.choice.Class.TheVariants as class
 use Rattle.command_words.specs.declared.choice.ClassDelay.{ClassDelay}
 use Rattle.command_words.specs.declared.choice.TheConstants.{MAX_UNITS_IN_A_ROW}
-use Rattle.command_words.specs.declared.choice.Choice.TheVariants.{Delay, Depth, Limit, Slots, Workers}
+use Rattle.command_words.specs.declared.choice.Choice.TheVariants.{At, Delay, Depth, Limit, Slots, Workers}
 use Rattle.command_words.specs.declared.command.Chosen.{Chosen}
 use Rattle.command_words.specs.Tables.{Text, kind_of, class_word, least_delay}
 use Rattle.command_words.specs.Values.{IsNumber, AreDelays}
 use Rattle.command_words.specs.Items.{given}
 use Rattle.command_words.specs.Commands.{Asked, Command, IsValue}
-use Rattle.elastic_top.specs.Options.{IsWithin, cycles_or, delay_or, is_of, limit_or, slots_or, timing_of}
+use Rattle.elastic_top.specs.Options.{IsWithin, at_or, cycles_or, delay_or, is_of, limit_or, slots_or, timing_of}
 
 -- ---- limits, workers and slots
 
@@ -27,6 +27,13 @@ limited [] (Some n) is = absurd is
 limited (t ∷ []) None is = absurd is
 limited (t ∷ []) (Some n) is = omega (arith, is.2)
 limited (t ∷ u ∷ texts) value is = absurd is
+
+saved_at : (texts : List Text) (value : Option ℕ) → IsValue (IsNumber (kind_of At)) texts value → at_or value ≤ max_firings
+saved_at [] None is = omega arith
+saved_at [] (Some n) is = absurd is
+saved_at (t ∷ []) None is = absurd is
+saved_at (t ∷ []) (Some n) is = is.2
+saved_at (t ∷ u ∷ texts) value is = absurd is
 
 -- workers who are asked for share out the limit
 limit_shared : (value : Option ℕ) → ((n : ℕ) → value ≡ Some n → n ≤ max_shared_firings) → limit_or value ≤ max_shared_firings
@@ -132,6 +139,7 @@ spelled_within words c spelled =
       limit = limited (given Limit spelled.items) c.chosen.limit chosen.limit;
       shared = shares (given Workers spelled.items) c.chosen.workers (limit_or c.chosen.limit) chosen.workers (some_limit (given Limit spelled.items) c.chosen.limit chosen.limit)
           (λ w is. limit_shared c.chosen.limit (λ n e. spelled.spelled.together.shared n w e is));
+      at = saved_at (given At spelled.items) c.chosen.at chosen.at;
       timing = timed c.chosen (in_range (given Delay spelled.items) c.chosen.delay chosen.delay)
           (few_slots (given Slots spelled.items) c.chosen.slots chosen.slots) (some_slots (given Slots spelled.items) c.chosen.slots chosen.slots)
           (λ n e. (deep n e).0);

@@ -1,9 +1,8 @@
 -- Files that are read in order.
-use Rattle.std.proofs.Common.{◌≡◌, ℕ, suc, ◌+◌, ◌<◌, List, [], ◌∷◌, ◌++◌, length, take, drop, map, get_or, sym, ◌∙◌, ap, subst}
+use Rattle.std.proofs.Common.{◌≡◌, ℕ, ◌+◌, ◌<◌, List, [], ◌∷◌, ◌++◌, length, take, map, get_or, sym, ◌∙◌, ap, subst, arith}
 use Rattle.std.specs.declared.vec.Vec.{Vec}
 use Rattle.std.specs.declared.alloc.Global.{Global}
-use Rattle.std.proofs.lemmas.List.{take_more, map-append, take-append-drop}
-use Rattle.std.proofs.Math.Seq.{drop-cons}
+use Rattle.std.proofs.lemmas.List.{take_more, map-append, take-map, get_or-map, length-map}
 use Rattle.el_io.specs.Outside.{Told, IsWhole, MayPass}
 use Rattle.command_words.specs.Tables.{Text}
 use Rattle.elastic_top.specs.Files.{Wanted}
@@ -36,13 +35,11 @@ held_more holds later plan i file contents more bytes before same now within is 
 reached : (holds : Text → Told) (plan : List File) (i : ℕ) (file : File) (contents : List Text)
     → AreHeld holds (map file_of (take i plan)) contents → i < length plan → file ≡ get_or plan i file → IsReached holds (map file_of plan) (file_of file)
 reached holds plan i file contents held within is = record {
-  before = map file_of (take i plan);
-  after = map file_of (drop (suc i) plan);
+  place = i;
+  within = omega (arith, within, length-map plan file_of);
+  here = ap file_of is ∙ sym (get_or-map file_of plan i file (file_of file) within);
   contents = contents;
-  split =
-      ap (map file_of) (sym (take-append-drop i plan) ∙ ap (λ fs. take i plan ++ fs) (drop-cons plan i file within ∙ ap (λ f. f ∷ drop (suc i) plan) (sym is)))
-      ∙ map-append file_of (take i plan) (file ∷ drop (suc i) plan);
-  read = held;
+  read = subst (λ fs. AreHeld holds fs contents) (sym (take-map file_of i plan)) held;
 }
 
 -- the fault of one file ends the reading of all

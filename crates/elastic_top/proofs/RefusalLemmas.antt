@@ -13,18 +13,22 @@ use Rattle.net_runs.specs.declared.refusal.RunRefusal.TheVariants as run
 use Rattle.net_runs.specs.Refusals.{run_refusal_number}
 use Rattle.net_runs.specs.Runs.{Runs}
 use Rattle.net_runs.specs.Replays.{Replays}
+use Rattle.net_runs.specs.Saves.{Saves}
+use Rattle.net_runs.specs.declared.resume_refusal.ResumeRefusal.{ResumeRefusal}
+use Rattle.net_runs.specs.declared.resume_refusal.ResumeRefusal.TheVariants as resume
+use Rattle.net_runs.specs.ResumeRefusals.{resume_refusal_number}
 use Rattle.kernel_runs.specs.declared.options.CircuitOptions.{CircuitOptions}
 use Rattle.kernel_runs.specs.declared.refusal.GoRefusal.{GoRefusal}
 use Rattle.kernel_runs.specs.declared.refusal.GoRefusal.TheVariants as go
 use Rattle.kernel_runs.specs.Goes.{Goes, IsNoRun}
 use Rattle.kernel_ref.specs.declared.refusal.InterpretRefusal.{InterpretRefusal}
 use Rattle.kernel_ref.specs.declared.refusal.InterpretRefusal.TheVariants as interpret
-use Rattle.elastic_top.specs.Answers.{AnswersBy, at}
-use Rattle.elastic_top.specs.Options.{circuit_of, options_of}
-use Rattle.elastic_top.specs.Faults.{fault_code, go_code, interpret_code, numbered_fault, refusal_code, label_number, run_code}
+use Rattle.elastic_top.specs.Answers.{AnswersBy, BenchesSeed, at}
+use Rattle.elastic_top.specs.Options.{at_or, circuit_of, options_of}
+use Rattle.elastic_top.specs.Faults.{fault_code, go_code, interpret_code, numbered_fault, refusal_code, label_number, resume_code, run_code}
 use Rattle.elastic_top.specs.Statuses.{statuses, statuses_of}
 use Rattle.elastic_top.specs.declared.fault.Refusal.{Refusal}
-use Rattle.elastic_top.specs.declared.fault.Refusal.TheVariants.{Kernel, Net as OfNetlist, Run, Go, Interpret}
+use Rattle.elastic_top.specs.declared.fault.Refusal.TheVariants.{Kernel, Net as OfNetlist, Run, Go, Interpret, Resume, Bench}
 
 -- ---- a command's own refusals have its statuses
 
@@ -45,6 +49,22 @@ replay_own net bytes schedule (run.Limit n) is = absurd is
 replay_own net bytes schedule run.Stuck is = (6, omega arith, refl)
 replay_own net bytes schedule (run.Stray array name) is = (7, omega arith, refl)
 replay_own net bytes schedule run.Memory is = (8, omega arith, refl)
+
+save_own : (net : Net) (bytes : Text) (k : ℕ) (r : RunRefusal) → Saves net bytes k (Err r) → Contains (statuses_of verb.Save) (run_code r)
+save_own net bytes k (run.Inputs x) is = (4, omega arith, refl)
+save_own net bytes k (run.Schedule x) is = absurd is
+save_own net bytes k (run.NotEnabled i) is = absurd is
+save_own net bytes k (run.Limit n) is = absurd is
+save_own net bytes k run.Stuck is = absurd is
+save_own net bytes k (run.Stray array name) is = absurd is
+save_own net bytes k run.Memory is = (5, omega arith, refl)
+
+resume_own : (r : ResumeRefusal) → Contains (statuses_of verb.Resume) (resume_code r)
+resume_own (resume.Snapshot x) = (9, omega arith, refl)
+resume_own (resume.Limit n) = (4, omega arith, refl)
+resume_own resume.Stuck = (5, omega arith, refl)
+resume_own (resume.Stray array name) = (6, omega arith, refl)
+resume_own resume.Memory = (7, omega arith, refl)
 
 circuit_own : (net : Net) (bytes : Text) (o : RunOptions) (r : RunRefusal) → IsNoRun net bytes o r → Contains (statuses_of verb.Go) (run_code r)
 circuit_own net bytes o (run.Inputs x) is = (4, omega arith, refl)
@@ -70,6 +90,10 @@ ref_own interpret.Memory = (5, omega arith, refl)
 with_status : (v : Verb) (r s : Refusal) → r ≡ s → Contains (statuses_of v) (refusal_code s) → Contains (statuses_of v) (refusal_code r)
 with_status v r s e has = subst (λ (x : Refusal). Contains (statuses_of v) (refusal_code x)) (sym e) has
 
+bench_own : (seed : Option ℕ) (r : Refusal) → BenchesSeed seed (Err r) → Contains (statuses_of verb.Bench) (refusal_code r)
+bench_own None r a = absurd a
+bench_own (Some number) r a = with_status verb.Bench r (Bench a.0) a.1 (2, omega arith, refl)
+
 pub own : (v : Verb) (plain : List Text) (chosen : Chosen) (contents : List Text) (r : Refusal) → AnswersBy v plain chosen contents (Err r) → Contains (statuses_of v) (refusal_code r)
 own verb.Compile plain chosen contents r a = with_status verb.Compile r (Kernel a.files a.refused) a.is (3, omega arith, refl)
 own verb.Go plain chosen contents r a =
@@ -82,19 +106,26 @@ own verb.Replay plain chosen contents r a = elim a [
   | inl a ↦ with_status verb.Replay r (OfNetlist a.files a.refused) a.is (3, omega arith, refl)
   | inr a ↦ with_status verb.Replay r (Run a.files a.refused) a.is (replay_own a.holds.net (at contents 1) (at contents 2) a.refused a.holds.holds)
 ]
-own verb.Bench plain chosen contents r a = absurd a
+own verb.Bench plain chosen contents r a = bench_own chosen.seed r a
 own verb.Upgrade plain chosen contents r a = with_status verb.Upgrade r (OfNetlist a.files a.refused) a.is (3, omega arith, refl)
 own verb.Ref plain chosen contents r a = elim a [
   | inl a ↦ with_status verb.Ref r (Kernel a.files a.refused) a.is (3, omega arith, refl)
   | inr a ↦ with_status verb.Ref r (Interpret a.files a.refused) a.is (ref_own a.refused)
 ]
-own verb.Save plain chosen contents r a = absurd a
-own verb.Resume plain chosen contents r a = absurd a
+own verb.Save plain chosen contents r a = elim a [
+  | inl a ↦ with_status verb.Save r (OfNetlist a.files a.refused) a.is (3, omega arith, refl)
+  | inr a ↦ with_status verb.Save r (Run a.files a.refused) a.is (save_own a.holds.net (at contents 1) (at_or chosen.at) a.refused a.holds.holds)
+]
+own verb.Resume plain chosen contents r a = elim a [
+  | inl a ↦ with_status verb.Resume r (OfNetlist a.files a.refused) a.is (3, omega arith, refl)
+  | inr a ↦ with_status verb.Resume r (Resume a.files a.refused) a.is (resume_own a.refused)
+]
 
 -- ---- each refusal has one of the statuses, none of words or of the outside, and that of want of memory only where it is that
 
 pub record IsJudged (numbered : Type 0) (code : ℕ) : Type 0 where
   pub listed : Contains statuses code
+  pub some : code ≢ 0
   pub spelled : code ≢ 1
   pub unread : code ≢ 2
   pub unwritten : code ≢ 3
@@ -104,6 +135,7 @@ pub record IsJudged (numbered : Type 0) (code : ℕ) : Type 0 where
 judged_by : (numbered : Type 0) (code : ℕ) → Contains statuses code → 4 ≤ code → code ≢ 12 → (numbered → code ≢ 11) → IsJudged numbered code
 judged_by numbered code listed few long memory = record {
   listed = listed;
+  some = λ e. absurd (omega (arith, e, few));
   spelled = λ e. absurd (omega (arith, e, few));
   unread = λ e. absurd (omega (arith, e, few));
   unwritten = λ e. absurd (omega (arith, e, few));
@@ -120,6 +152,13 @@ run_judged run.Stuck = judged_by _ 9 (9, omega arith, refl) (omega arith) (λ e.
 run_judged (run.Stray array name) = judged_by _ 10 (10, omega arith, refl) (omega arith) (λ e. absurd (omega (arith, e))) (λ n e. absurd (omega (arith, e)))
 run_judged run.Memory = judged_by _ 11 (11, omega arith, refl) (omega arith) (λ e. absurd (omega (arith, e))) (λ n e. absurd (false≢true n))
 
+resume_judged : (r : ResumeRefusal) → IsJudged (IsSome (resume_refusal_number r)) (resume_code r)
+resume_judged (resume.Snapshot x) = judged_by _ 15 (15, omega arith, refl) (omega arith) (λ e. absurd (omega (arith, e))) (λ n e. absurd (omega (arith, e)))
+resume_judged (resume.Limit n) = judged_by _ 8 (8, omega arith, refl) (omega arith) (λ e. absurd (omega (arith, e))) (λ n e. absurd (omega (arith, e)))
+resume_judged resume.Stuck = judged_by _ 9 (9, omega arith, refl) (omega arith) (λ e. absurd (omega (arith, e))) (λ n e. absurd (omega (arith, e)))
+resume_judged (resume.Stray array name) = judged_by _ 10 (10, omega arith, refl) (omega arith) (λ e. absurd (omega (arith, e))) (λ n e. absurd (omega (arith, e)))
+resume_judged resume.Memory = judged_by _ 11 (11, omega arith, refl) (omega arith) (λ e. absurd (omega (arith, e))) (λ n e. absurd (false≢true n))
+
 pub judged : (r : Refusal) → IsJudged (IsSome (label_number r)) (refusal_code r)
 judged (Kernel f x) = judged_by _ 4 (4, omega arith, refl) (omega arith) (λ e. absurd (omega (arith, e))) (λ n e. absurd (omega (arith, e)))
 judged (OfNetlist f x) = judged_by _ 5 (5, omega arith, refl) (omega arith) (λ e. absurd (omega (arith, e))) (λ n e. absurd (omega (arith, e)))
@@ -131,6 +170,8 @@ judged (Interpret f (interpret.Inputs x)) = judged_by _ 6 (6, omega arith, refl)
 judged (Interpret f (interpret.Undefined place)) = judged_by _ 13 (13, omega arith, refl) (omega arith) (λ e. absurd (omega (arith, e))) (λ n e. absurd (omega (arith, e)))
 judged (Interpret f (interpret.OutOfTurns t)) = judged_by _ 14 (14, omega arith, refl) (omega arith) (λ e. absurd (omega (arith, e))) (λ n e. absurd (omega (arith, e)))
 judged (Interpret f interpret.Memory) = judged_by _ 11 (11, omega arith, refl) (omega arith) (λ e. absurd (omega (arith, e))) (λ n e. absurd (false≢true n))
+judged (Resume f r) = resume_judged r
+judged (Bench m) = judged_by _ 11 (11, omega arith, refl) (omega arith) (λ e. absurd (omega (arith, e))) (λ n e. absurd (false≢true n))
 
 -- the fault that is made of a refusal has no status of the outside
 pub record IsNotOutside (code : ℕ) : Type 0 where

@@ -20,19 +20,23 @@ use Rattle.net_replay.specs.Readings.{refusal_line as schedule_line}
 use Rattle.net_runs.specs.declared.refusal.RunRefusal.{RunRefusal}
 use Rattle.net_runs.specs.declared.refusal.RunRefusal.TheVariants as run
 use Rattle.net_runs.specs.Refusals.{run_refusal_number, run_refusal_word}
+use Rattle.snapshot.specs.Refusals.{refusal_line as snapshot_line}
+use Rattle.net_runs.specs.declared.resume_refusal.ResumeRefusal.{ResumeRefusal}
+use Rattle.net_runs.specs.declared.resume_refusal.ResumeRefusal.TheVariants as resume
+use Rattle.net_runs.specs.ResumeRefusals.{resume_refusal_number, resume_refusal_word}
 use Rattle.kernel_ref.specs.declared.refusal.InterpretRefusal.{InterpretRefusal}
 use Rattle.kernel_ref.specs.declared.refusal.InterpretRefusal.TheVariants as interpret
 use Rattle.kernel_ref.specs.Refusals.{interpret_number, interpret_word}
 use Rattle.kernel_runs.specs.declared.refusal.GoRefusal.{GoRefusal}
 use Rattle.kernel_runs.specs.declared.refusal.GoRefusal.TheVariants as go
 use Rattle.kernel_runs.specs.Refusals.{go_number, go_word}
-use Rattle.elastic_top.specs.declared.status.TheConstants.{INPUTS_REFUSED, KERNEL_REFUSED, WANT_OF_MEMORY}
+use Rattle.elastic_top.specs.declared.status.TheConstants.{INPUTS_REFUSED, KERNEL_REFUSED, SNAPSHOT_REFUSED, WANT_OF_MEMORY}
 use Rattle.elastic_top.specs.declared.fault.KernelFiles.{KernelFiles}
 use Rattle.elastic_top.specs.declared.fault.RunFiles.{RunFiles}
 use Rattle.elastic_top.specs.declared.fault.Fault.{Fault}
 use Rattle.elastic_top.specs.declared.fault.Fault.TheVariants.{Usage, Read, Write, Memory, TooLong, Refused}
 use Rattle.elastic_top.specs.declared.fault.Refusal.{Refusal}
-use Rattle.elastic_top.specs.declared.fault.Refusal.TheVariants.{Kernel, Net, Run, Go, Interpret}
+use Rattle.elastic_top.specs.declared.fault.Refusal.TheVariants.{Kernel, Net, Run, Go, Interpret, Resume, Bench}
 
 -- ---- refusals: the number, the word and the status of each kind of work
 
@@ -43,6 +47,8 @@ label_number (Net file r) = netlist_number r
 label_number (Run files r) = run_refusal_number r
 label_number (Go files r) = go_number r
 label_number (Interpret files r) = interpret_number r
+label_number (Resume file r) = resume_refusal_number r
+label_number (Bench want) = None
 
 abbrev pub label_word : Refusal → List ℕ
 label_word (Kernel file r) = kernel_word r
@@ -50,6 +56,8 @@ label_word (Net file r) = netlist_word r
 label_word (Run files r) = run_refusal_word r
 label_word (Go files r) = go_word r
 label_word (Interpret files r) = interpret_word r
+label_word (Resume file r) = resume_refusal_word r
+label_word (Bench want) = codes "Memory"
 
 -- what is printed: the number, a space (32) and the word
 abbrev pub refusal_label : Refusal → List ℕ
@@ -75,6 +83,13 @@ interpret_code (interpret.Undefined place) = 13
 interpret_code (interpret.OutOfTurns n) = 14
 interpret_code interpret.Memory = WANT_OF_MEMORY
 
+abbrev pub resume_code : ResumeRefusal → ℕ
+resume_code (resume.Snapshot r) = SNAPSHOT_REFUSED
+resume_code (resume.Limit n) = 8
+resume_code resume.Stuck = 9
+resume_code (resume.Stray array name) = 10
+resume_code resume.Memory = WANT_OF_MEMORY
+
 -- the status of a refusal
 abbrev pub refusal_code : Refusal → ℕ
 refusal_code (Kernel file r) = KERNEL_REFUSED
@@ -82,6 +97,8 @@ refusal_code (Net file r) = 5
 refusal_code (Run files r) = run_code r
 refusal_code (Go files r) = go_code r
 refusal_code (Interpret files r) = interpret_code r
+refusal_code (Resume file r) = resume_code r
+refusal_code (Bench want) = WANT_OF_MEMORY
 
 -- ---- forms of lines
 
@@ -153,12 +170,21 @@ interpret_parts files label (interpret.Undefined place) = span_parts files.kerne
 interpret_parts files label (interpret.OutOfTurns n) = line_parts program label (Some n)
 interpret_parts files label interpret.Memory = line_parts program label None
 
+abbrev pub resume_parts : List ℕ → List ℕ → ResumeRefusal → List (List ℕ)
+resume_parts file label (resume.Snapshot r) = line_parts file label (snapshot_line r)
+resume_parts file label (resume.Limit n) = line_parts program label (Some n)
+resume_parts file label resume.Stuck = line_parts program label None
+resume_parts file label (resume.Stray array name) = name_parts program label name
+resume_parts file label resume.Memory = line_parts program label None
+
 abbrev pub labelled_parts : List ℕ → Refusal → List (List ℕ)
 labelled_parts label (Kernel file r) = span_parts file.now label (kernel_span r)
 labelled_parts label (Net file r) = net_parts file.now label r
 labelled_parts label (Run files r) = run_parts files label r
 labelled_parts label (Go files r) = go_parts files label r
 labelled_parts label (Interpret files r) = interpret_parts files label r
+labelled_parts label (Resume file r) = resume_parts file.now label r
+labelled_parts label (Bench want) = line_parts program label None
 
 abbrev pub refusal_parts : Refusal → List (List ℕ)
 refusal_parts refusal = labelled_parts (refusal_label refusal) refusal

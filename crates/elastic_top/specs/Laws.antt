@@ -3,7 +3,7 @@ use Rattle.std.specs.Prelude.{◌≡◌, List, Err}
 use Rattle.kernel_front.specs.declared.reading.Kernel.{Kernel}
 use Rattle.kernel_front.specs.Answers.{IsKernel}
 use Rattle.kernel_runs.specs.Laws.{IsEnding}
-use Rattle.command_words.specs.declared.verb.Verb.TheVariants.{Compile, Go}
+use Rattle.command_words.specs.declared.verb.Verb.TheVariants.{Bench, Compile, Go}
 use Rattle.command_words.specs.Tables.{Text}
 use Rattle.command_words.specs.Commands.{Asked}
 use Rattle.elastic_top.specs.Answers.{Answers, at}
@@ -13,6 +13,10 @@ use Rattle.elastic_top.specs.declared.fault.Refusal.{Refusal}
 -- for these contents of its files a call has no refusal
 abbrev pub RefusesNothing : Asked → List Text → Type 0
 RefusesNothing c contents = (r : Refusal) → Answers c contents (Err r) → ⊥
+
+-- a call of `bench`
+abbrev pub BenchesRefuseNothing : Type 0
+BenchesRefuseNothing = (c : Asked) (contents : List Text) → c.verb ≡ Bench → RefusesNothing c contents
 
 -- a call of `compile`, where its file spells a kernel
 abbrev pub KernelsAreCompiled : Type 0

@@ -1,5 +1,6 @@
 pub mod Answers
 pub mod Causes
+pub mod Continued
 pub mod Faults
 pub mod Files
 pub mod Laws

@@ -6,7 +6,7 @@ use Rattle.net_core.specs.Runs.{Long}
 use Rattle.net_text.specs.Refusals.{Says as SaysNet}
 use Rattle.net_runs.specs.Given.{Gives}
 use Rattle.net_runs.specs.Laws.{AsksForNoCycles}
-use Rattle.kernel_runs.specs.OneAnswer.{GoesOnFrom}
+use Rattle.kernel_runs.specs.OneAnswer.{IsFollowedByRun}
 use Rattle.command_words.specs.declared.verb.Verb.TheVariants.{Compile, Go, Run}
 use Rattle.command_words.specs.Tables.{Text}
 use Rattle.command_words.specs.Commands.{Asked}
@@ -66,7 +66,7 @@ pub record CompilesFor (text : Text) (c : Asked) (compiled : List Text) (d : Ask
 -- then a text of the second is that of the first, a line `%%` and the text of a run of the net that is read from the first
 abbrev pub OneNetIsShown : Type 0
 OneNetIsShown = (c d : Asked) (compiled contents : List Text) (text gone : Text) → CompilesFor text c compiled d contents → Answers d contents (Ok gone)
-    → GoesOnFrom text gone (at contents 1) (options_of d.chosen)
+    → IsFollowedByRun text gone (at contents 1) (options_of d.chosen)
 
 -- the status of an answer
 abbrev pub answer_code : Result Text Refusal → ℕ

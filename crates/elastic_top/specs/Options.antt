@@ -28,6 +28,13 @@ limit_or (Some n) = n
 abbrev pub options_of : Chosen → RunOptions
 options_of c = record { limit = limit_or c.limit; count = c.count; cycles = c.cycles; log = c.log; workers = c.workers }
 
+-- ---- saved states
+
+-- after how many firings a state is saved: as many as are asked for, or none
+abbrev pub at_or : Option ℕ → ℕ
+at_or None = 0
+at_or (Some k) = k
+
 -- ---- the plain interpreter
 
 abbrev pub profile_of : Bool → Profile
@@ -78,9 +85,10 @@ circuit_of c = record { timing = timing_of c; forward = c.forward }
 
 -- ---- what a command may ask for
 
--- a limit that a run may have, which workers, where they are asked for, may share out; a timing that a circuit may have; and a depth that can be counted
+-- a limit that a run may have, which workers, where they are asked for, may share out; as many firings before a state is saved; a timing that a circuit may have; and a depth that can be counted
 pub record IsWithin (c : Chosen) : Type 0 where
   pub limit : limit_or c.limit ≤ max_firings
   pub shared : IfSome c.workers (MayShare (limit_or c.limit))
+  pub at : at_or c.at ≤ max_firings
   pub timing : IsTiming (timing_of c)
   pub depth : (n : ℕ) → c.depth ≡ Some n → n < 2 ^ 32

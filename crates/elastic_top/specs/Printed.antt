@@ -1,17 +1,20 @@
 -- What `replay` and `run` print of the circuit that `compile` printed, and when `run`, `compile` and `go` have nothing to refuse.
 use Rattle.std.specs.Prelude.{◌≡◌, ◌⊎◌, ◌≤◌, ◌*◌, ◌+◌, ℕ, ℤ, List, Option, Ok}
-use Rattle.c_ast.specs.declared.tree.Tree.{Tree}
+use Rattle.c_ast.specs.declared.tree.Program.{Program}
+use Rattle.c_ast.specs.declared.program.TypedProgram.{TypedProgram}
 use Rattle.c_ast.specs.declared.typed.Typed.{Typed}
-use Rattle.c_ast.specs.Casts.{Casts}
 use Rattle.c_ast.specs.Nodes.{typed_nodes}
-use Rattle.c_ast.specs.Typing.{Typing}
+use Rattle.c_ast.specs.Programs.{TypingProgram}
+use Rattle.c_calls.specs.Inlined.{Inlined}
 use Rattle.c_meaning.specs.declared.profile.Profile.{Profile}
 use Rattle.c_meaning.specs.Statements.{Ends}
 use Rattle.c_meaning.specs.Stores.{Inputs as Numbers}
 use Rattle.net_types.specs.declared.net.Net.{Net}
 use Rattle.net_front.specs.Answers.{IsNetlist}
 use Rattle.net_runs.specs.Laws.{IsSoundRun}
-use Rattle.kernel_front.specs.Answers.{IsKernel, SpellsWithin}
+use Rattle.el_base.specs.Limits.{max_nodes}
+use Rattle.kernel_front.specs.Answers.{IsKernel, SpellsTyped, SpellsWithin}
+use Rattle.kernel_front.specs.Laws.{BecomesSmall}
 use Rattle.kernel_runs.specs.Goes.{GivesNumbers, BeginsWithEnd}
 use Rattle.kernel_runs.specs.Laws.{EndsInFirings}
 use Rattle.kernel_runs.specs.Printed.{IsEndText, NamesNext}
@@ -51,13 +54,14 @@ abbrev pub SoundRunsAreAnswered : Type 0
 SoundRunsAreAnswered = (c : Asked) (contents : List Text) (net : Net) → c.verb ≡ Run → IsNetlist (at contents 0) net → IsSoundRun net (at contents 1) (options_of c.chosen)
     → RefusesNothing c contents
 
--- a call of `compile`, where its file spells a tree within the limits that keeps the typing rules
+-- a call of `compile`, where its file spells a program within the limits that keeps the typing rules, and the tree without calls is within the limit on nodes too
 abbrev pub TypedTextsAreCompiled : Type 0
-TypedTextsAreCompiled = (c : Asked) (contents : List Text) (tree : Tree) → c.verb ≡ Compile → SpellsWithin (at contents 0) tree → Typing tree → RefusesNothing c contents
+TypedTextsAreCompiled = (c : Asked) (contents : List Text) (program : Program) → c.verb ≡ Compile → SpellsWithin (at contents 0) program → TypingProgram program → BecomesSmall program
+    → RefusesNothing c contents
 
 -- a call of `go`, where besides the kernel ends within the limit on the inputs, so counted
 abbrev pub TypedTextsGo : Type 0
-TypedTextsGo = (c : Asked) (contents : List Text) (tree : Tree) (k : Typed) → c.verb ≡ Go → SpellsWithin (at contents 0) tree → Typing tree → Casts tree k
+TypedTextsGo = (c : Asked) (contents : List Text) (typed : TypedProgram) (k : Typed) → c.verb ≡ Go → SpellsTyped (at contents 0) typed → Inlined typed k → typed_nodes k ≤ max_nodes
     → EndsInFirings k (at contents 1) (limit_or c.chosen.limit) → RefusesNothing c contents
 
 -- a call of `go`, where a call of `ref` on the same files has a text after T turns, and 256 firings for each of the kernel's nodes, once for each turn and once more, are

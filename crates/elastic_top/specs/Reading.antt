@@ -1,5 +1,5 @@
 -- How the reading of a command's files ends.
-use Rattle.std.specs.Prelude.{◌≡◌, ◌++◌, ℕ, List, [], ◌∷◌, map, Result, Ok, Err}
+use Rattle.std.specs.Prelude.{◌≡◌, ◌<◌, ℕ, List, [], ◌∷◌, get_or, length, map, take, Result, Ok, Err}
 use Rattle.std.specs.declared.vec.Vec.{Vec}
 use Rattle.std.specs.declared.alloc.Global.{Global}
 use Rattle.el_io.specs.Outside.{Told, IsHeld, IsWhole, MayPass}
@@ -28,13 +28,13 @@ AreHeld holds [] (bytes ∷ contents) = ⊥
 AreHeld holds (file ∷ files) [] = ⊥
 AreHeld holds (file ∷ files) (bytes ∷ contents) = IsWhole (holds file.name) file.limit bytes × AreHeld holds files contents
 
--- a file of the list, where all before it are read
+-- the file at a place of the list, counted from 0, where all before it are read
 pub record IsReached (holds : Text → Told) (files : List Wanted) (file : Wanted) : Type 0 where
-  pub before : List Wanted
-  pub after : List Wanted
+  pub place : ℕ
+  pub within : place < length files
+  pub here : file ≡ get_or files place file
   pub contents : List Text
-  pub split : files ≡ before ++ file ∷ after
-  pub read : AreHeld holds before contents
+  pub read : AreHeld holds (take place files) contents
 
 -- the file of this name is reached and could not be read; so it is not both steady and held
 pub record IsUnread (holds : Text → Told) (steady : Type 0) (files : List Wanted) (name : Text) : Type 0 where

@@ -1,18 +1,20 @@
 //! What each command answers, without an outside.
 ghost use Rattle.std.specs.Prelude.{◌≡◌, IsTrue, length, Ok, Err, IfOk, IfErr};
 ghost use Rattle.command_words.specs.Tables.{is_built, plain_of};
-ghost use Rattle.command_words.specs.Commands.{asked};
+ghost use Rattle.command_words.specs.Commands.{IsSeed, asked, word_texts};
 ghost use Rattle.elastic_top.specs.Answers.{IsSaid};
 ghost use Rattle.elastic_top.specs.Files.{limits_of, AreWithin};
 ghost use Rattle.elastic_top.specs.Options.{IsWithin};
 ghost use Rattle.elastic_top.specs.Reading.{contents_of};
 
+use crate::benches::bench;
 use crate::compiling::compile;
 use crate::fault::Refusal;
 use crate::going::go;
 use crate::interpretation::interpret;
-use crate::options::{circuit_of, interpretation_of, options_of};
+use crate::options::{at_or, circuit_of, interpretation_of, limit_or, options_of};
 use crate::runs::{replay, run};
+use crate::states::{resume, save};
 use crate::upgrade::upgraded;
 use command_words::{Command, Verb};
 use el_io::Gate;
@@ -29,6 +31,8 @@ pub fn answer<'a, R: Threads + Sync, G: Gate + Sync>(
 ) -> Result<Vec<u8>, Refusal<'a>>
     requires built { IsTrue (is_built command.now.verb) }
     requires plain { length command.now.plain.items ≡ length (plain_of command.now.verb) }
+    requires seed { IsSeed (plain_of command.now.verb) (word_texts command.now.plain.items)
+        command.now.chosen.seed }
     requires chosen { IsWithin command.now.chosen }
     requires count { length contents.now ≡ length (limits_of (plain_of command.now.verb)) }
     requires within { AreWithin (limits_of (plain_of command.now.verb)) (contents_of contents.now) }
@@ -84,8 +88,23 @@ pub fn answer<'a, R: Threads + Sync, G: Gate + Sync>(
             interpretation_of(&command.chosen),
         ),
         Verb::Upgrade => upgraded(alloc, words[0], contents[0].as_slice()),
-        Verb::Bench => unreachable!(),
-        Verb::Save => unreachable!(),
-        Verb::Resume => unreachable!(),
+        Verb::Bench => bench(alloc, command.chosen.seed),
+        Verb::Save => save(
+            alloc,
+            words[0],
+            words[1],
+            contents[0].as_slice(),
+            contents[1].as_slice(),
+            at_or(command.chosen.at),
+        ),
+        Verb::Resume => resume(
+            alloc,
+            words[0],
+            words[1],
+            contents[0].as_slice(),
+            contents[1].as_slice(),
+            limit_or(command.chosen.limit),
+            command.chosen.count,
+        ),
     }
 }

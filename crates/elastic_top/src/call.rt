@@ -4,7 +4,7 @@ ghost use Rattle.std.specs.Io.KnownBytes.{append_known};
 ghost use Rattle.el_io.specs.Outside.{Rose, IsCut};
 ghost use Rattle.command_words.specs.Tables.{is_built, plain_of};
 ghost use Rattle.command_words.specs.Commands as commands;
-ghost use Rattle.command_words.specs.Commands.{texts, asked, Asked};
+ghost use Rattle.command_words.specs.Commands.{IsSeed, texts, asked, word_texts, Asked};
 ghost use Rattle.elastic_top.specs.Files.{files_of as wanted_of};
 ghost use Rattle.elastic_top.specs.Options.{IsWithin};
 ghost use Rattle.elastic_top.specs.Reading.{code_of, file_of};
@@ -120,6 +120,8 @@ fn run_command<'a, R: Threads + Sync, F: Files, O: Sink, G: Gate + Sync>(
 ) -> Result<(), Fault<'a>>
     requires built { IsTrue (is_built command.now.verb) }
     requires plain { length command.now.plain.items ≡ length (plain_of command.now.verb) }
+    requires seed { IsSeed (plain_of command.now.verb) (word_texts command.now.plain.items)
+        command.now.chosen.seed }
     requires chosen { IsWithin command.now.chosen }
     ensures done { OnOk result (Writes (F.holds files.old) (asked command.now)
         (λ text. O.written out.new ≡ append_known (O.written out.old) text)) }
@@ -151,6 +153,8 @@ fn run_files<'a, R: Threads + Sync, F: Files, O: Sink, G: Gate + Sync>(
 ) -> Result<(), Fault<'a>>
     requires built { IsTrue (is_built command.now.verb) }
     requires plain { length command.now.plain.items ≡ length (plain_of command.now.verb) }
+    requires seed { IsSeed (plain_of command.now.verb) (word_texts command.now.plain.items)
+        command.now.chosen.seed }
     requires chosen { IsWithin command.now.chosen }
     requires plan { map file_of plan.now ≡ wanted_of (asked command.now) }
     ensures done { OnOk result (Writes (F.holds files.old) (asked command.now)

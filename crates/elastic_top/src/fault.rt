@@ -1,15 +1,15 @@
 //! Why a call printed nothing, or not all.
 ghost use Rattle.std.specs.Prelude.{◌≡◌};
 ghost use Rattle.el_base.specs.Labels.{printed};
-ghost use Rattle.elastic_top.specs.Faults.{fault_code, call_fault, go_code, interpret_code, refusal_code, refusal_label, label_number, label_word, run_code};
+ghost use Rattle.elastic_top.specs.Faults.{fault_code, call_fault, go_code, interpret_code, refusal_code, refusal_label, label_number, label_word, resume_code, run_code};
 
-use crate::status::{INPUTS_REFUSED, KERNEL_REFUSED, WANT_OF_MEMORY};
-use el_base::Label;
+use crate::status::{INPUTS_REFUSED, KERNEL_REFUSED, SNAPSHOT_REFUSED, WANT_OF_MEMORY};
+use el_base::{Label, Memory};
 use kernel_front::KernelRefusal;
 use kernel_ref::InterpretRefusal;
 use kernel_runs::GoRefusal;
 use net_front::NetlistRefusal;
-use net_runs::RunRefusal;
+use net_runs::{ResumeRefusal, RunRefusal};
 
 /// The words that name the files of a kernel and of its inputs.
 #[derive(Clone, Copy, Debug)]
@@ -39,6 +39,10 @@ pub enum Refusal<'a> {
     Go(KernelFiles<'a>, GoRefusal),
     /// A run of a kernel by the plain interpreter.
     Interpret(KernelFiles<'a>, InterpretRefusal),
+    /// What a saved state of a net comes to; the word names the file of the snapshot.
+    Resume(&'a str, ResumeRefusal),
+    /// A bench, which names no file and refuses nothing, but wants memory.
+    Bench(Memory),
 }
 
 impl<'a> Refusal<'a> {
@@ -52,6 +56,8 @@ impl<'a> Refusal<'a> {
             Refusal::Run(_, refused) => refused.number(),
             Refusal::Go(_, refused) => refused.number(),
             Refusal::Interpret(_, refused) => refused.number(),
+            Refusal::Resume(_, refused) => refused.number(),
+            Refusal::Bench(Memory) => None,
         }
     }
 
@@ -64,6 +70,8 @@ impl<'a> Refusal<'a> {
             Refusal::Run(_, refused) => refused.word(),
             Refusal::Go(_, refused) => refused.word(),
             Refusal::Interpret(_, refused) => refused.word(),
+            Refusal::Resume(_, refused) => refused.word(),
+            Refusal::Bench(Memory) => "Memory",
         }
     }
 
@@ -86,6 +94,8 @@ impl<'a> Refusal<'a> {
             Refusal::Run(_, refused) => run_code(refused),
             Refusal::Go(_, refused) => go_code(refused),
             Refusal::Interpret(_, refused) => interpret_code(refused),
+            Refusal::Resume(_, refused) => resume_code(refused),
+            Refusal::Bench(Memory) => WANT_OF_MEMORY,
         }
     }
 }
@@ -121,6 +131,18 @@ fn interpret_code(refused: &InterpretRefusal) -> u8
         InterpretRefusal::Undefined { .. } => 13,
         InterpretRefusal::OutOfTurns { .. } => 14,
         InterpretRefusal::Memory => WANT_OF_MEMORY,
+    }
+}
+
+fn resume_code(refused: &ResumeRefusal) -> u8
+    ensures { result ≡ resume_code refused.now }
+{
+    match refused {
+        ResumeRefusal::Snapshot(_) => SNAPSHOT_REFUSED,
+        ResumeRefusal::Limit { .. } => 8,
+        ResumeRefusal::Stuck => 9,
+        ResumeRefusal::Stray { .. } => 10,
+        ResumeRefusal::Memory => WANT_OF_MEMORY,
     }
 }
 

@@ -1,6 +1,7 @@
 //! Laws of calls, as contracts of functions that do nothing. Where a call has nothing to refuse, and if its files are steady and within their
 //! limits and the output takes all bytes, the status is then 0 or 11 by the clause `complete` of [`top`](crate::top).
-ghost use Rattle.elastic_top.specs.Laws.{EndingKernelsGo, KernelsAreCompiled};
+ghost use Rattle.elastic_top.specs.Laws.{BenchesRefuseNothing, EndingKernelsGo, KernelsAreCompiled};
+ghost use Rattle.elastic_top.specs.Continued.{LongFilesAreOne, ResumedCallsPrintAsRuns};
 ghost use Rattle.elastic_top.specs.OneAnswer.{
   CompilesPrintOnce,
   GoesPrintOnce,
@@ -18,14 +19,14 @@ ghost use Rattle.elastic_top.specs.Printed.{
   TypedTextsGo,
 };
 
-use c_meaning::laws::trees_are_typed_in_one_way;
+use c_calls::laws::programs_are_typed_in_one_way;
 use kernel_front::texts_that_type_are_kernels;
 use kernel_runs::{
     answers_are_one, ending_kernels_run, interpreted_kernels_go, kernels_compile,
     printed_circuits_are_right,
 };
 use net_check::a_net_has_one_refusal;
-use net_runs::{sound_runs_are_not_refused, workers_change_no_answer};
+use net_runs::{resumes_show_runs, sound_runs_are_not_refused, workers_change_no_answer};
 
 /// Where its file spells a kernel, a call of `compile` has nothing to refuse.
 pub fn kernels_are_compiled()
@@ -41,6 +42,11 @@ pub fn ending_kernels_go()
 {
     ending_kernels_run();
 }
+
+/// A call of `bench` has nothing to refuse.
+pub fn benches_refuse_nothing()
+    ensures { BenchesRefuseNothing }
+{}
 
 /// All answers of a call of `compile` for the same contents print the same, and so do all of a call of `go`, and of one of `run`,
 /// that counts no cycles and writes no firings, with any number of workers or without; `--wrap` changes none of them. The text of `go` is the text of `compile`, by the same options, a line `%%` and the
@@ -68,6 +74,21 @@ pub fn printed_circuits_show_the_end()
     printed_circuits_are_right();
 }
 
+/// What a call of `resume` prints of a text that `save` printed is what a call of `run` prints for the same netlist and inputs, with
+/// the same limit, where both count the firings or neither does, and `run` tells neither cycles nor firings: one text, or one line
+/// and one status.
+pub fn resumed_calls_print_as_runs()
+    ensures { ResumedCallsPrintAsRuns }
+{
+    a_net_has_one_refusal();
+    resumes_show_runs();
+}
+
+/// Where it is told what the files hold, one file alone can be the one that is too long.
+pub fn long_files_are_one()
+    ensures { LongFilesAreOne }
+{}
+
 /// Where its files spell a net that keeps the rules and inputs on which no run is longer than the limit and some run rests
 /// exited and without strays, a call of `run` has nothing to refuse.
 pub fn sound_runs_are_answered()
@@ -77,8 +98,9 @@ pub fn sound_runs_are_answered()
     sound_runs_are_not_refused();
 }
 
-/// Where its file spells a tree within the limits that keeps the typing rules, a call of `compile` has nothing to refuse; nor
-/// has one of `go` where the kernel besides ends on the inputs in T turns, and 256·N·(T+1) firings are within the limit.
+/// Where its file spells a program within the limits that keeps the typing rules, and the tree without calls is within the
+/// limit on nodes, a call of `compile` has nothing to refuse; nor has one of `go` where that tree besides ends on the inputs
+/// in T turns, and 256·N·(T+1) firings are within the limit, N being its nodes.
 pub fn typed_texts_are_answered()
     ensures compile { TypedTextsAreCompiled }
     ensures go { TypedTextsGo }
@@ -86,7 +108,7 @@ pub fn typed_texts_are_answered()
     kernels_are_compiled();
     ending_kernels_go();
     texts_that_type_are_kernels();
-    trees_are_typed_in_one_way();
+    programs_are_typed_in_one_way();
 }
 
 /// Where a call of `ref` on the same files has a text, after T turns, and 256·N·(T+1) firings are within the limit, N being

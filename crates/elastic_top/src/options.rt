@@ -1,7 +1,7 @@
 //! What the options of a command ask for.
 ghost use Rattle.std.specs.Prelude.{◌≡◌, ◌<◌, ◌^◌, ℕ, Some, find};
 ghost use Rattle.buffer_place.specs.Timings.{IsTiming};
-ghost use Rattle.elastic_top.specs.Options.{IsWithin, circuit_of, delay_or, interpretation_of, is_of, limit_or, options_of, profile_of, slots_or, timing_of, turns_or};
+ghost use Rattle.elastic_top.specs.Options.{IsWithin, at_or, circuit_of, delay_or, interpretation_of, is_of, limit_or, options_of, profile_of, slots_or, timing_of, turns_or};
 
 use buffer_place::Timing;
 use c_meaning::Profile;
@@ -24,12 +24,23 @@ pub fn options_of(chosen: &Chosen) -> RunOptions
     }
 }
 
-fn limit_or(asked: Option<u64>) -> u64
+/// The most firings of a run.
+pub fn limit_or(asked: Option<u64>) -> u64
     ensures { result ≡ limit_or asked }
 {
     match asked {
         Some(limit) => limit,
         None => DEFAULT_FIRINGS,
+    }
+}
+
+/// After how many firings a state is saved.
+pub fn at_or(asked: Option<u64>) -> u64
+    ensures { result ≡ at_or asked }
+{
+    match asked {
+        Some(at) => at,
+        None => 0,
     }
 }
 

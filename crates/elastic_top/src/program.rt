@@ -2,6 +2,7 @@
 ghost use Rattle.std.specs.Prelude.{◌≡◌, drop, Contains, IfOk, IfErr};
 ghost use Rattle.std.specs.Process.{exit_status};
 ghost use Rattle.std.specs.Vec.Iter.{into_iter_items};
+ghost use Rattle.elastic_top.specs.Faults.{IsTold, fault_code, fault_line};
 ghost use Rattle.elastic_top.specs.Statuses.{statuses};
 ghost use Rattle.elastic_top.specs.Words.{AreWordsOf, IsErrorFault, IsWordsFault};
 
@@ -9,7 +10,7 @@ use crate::exits::{exit_code, process};
 use crate::fault::Fault;
 use crate::status::Status;
 use crate::telling::tell;
-use el_io::{HostFiles, HostSink, Open};
+use el_io::{HostFiles, HostSink, Open, Sink};
 use std::alloc::{AllocError, Global};
 use std::env::{Args, Env};
 use std::io::Write;
@@ -42,11 +43,18 @@ where
                 &Open,
             )
         }
-        Err(fault) => {
-            tell(&mut err, &fault);
-            exit_code(Status { code: fault.code() })
-        }
+        Err(fault) => refuse(&mut err, &fault),
     }
+}
+
+/// Tells why there are no words, and answers the exit code of that fault's status.
+fn refuse<E: Sink>(err: &mut E, fault: &Fault<'_>) -> ExitCode
+    ensures told { IsTold (E.written err.old) (E.written err.new) (E.faults err.old) (E.faults err.new)
+        (fault_line fault.now) }
+    ensures code { exit_status result ≡ fault_code fault.now }
+{
+    tell(err, fault);
+    exit_code(Status { code: fault.code() })
 }
 
 /// The words after the program's name, of those that the host hands over. Where it hands over none, that is want of memory or

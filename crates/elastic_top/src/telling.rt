@@ -3,18 +3,18 @@ ghost use Rattle.std.specs.Prelude.{◌≡◌};
 ghost use Rattle.std.specs.List.{concat};
 ghost use Rattle.std.specs.Option.{option_copied};
 ghost use Rattle.el_base.specs.Labels.{printed};
-ghost use Rattle.elastic_top.specs.Faults.{fault_line, front, go_parts, input_parts, interpret_parts, labelled_parts, line_parts, name_parts, net_parts, part_parts, place_parts, refusal_parts, run_parts, span_parts, IsTold};
+ghost use Rattle.elastic_top.specs.Faults.{fault_line, front, go_parts, input_parts, interpret_parts, labelled_parts, line_parts, name_parts, net_parts, part_parts, place_parts, refusal_parts, resume_parts, run_parts, span_parts, IsTold};
 
 use crate::fault::{Fault, KernelFiles, Refusal, RunFiles};
 use crate::line::{Piece, write_line};
-use el_base::{Label, Span};
+use el_base::{Label, Memory, Span};
 use el_io::Sink;
 use inputs_text::InputRefusal;
 use kernel_ref::InterpretRefusal;
 use kernel_runs::GoRefusal;
 use net_check::At;
 use net_front::NetlistRefusal;
-use net_runs::RunRefusal;
+use net_runs::{ResumeRefusal, RunRefusal};
 
 /// Writes the fault's line; a fault of the sink is no matter.
 pub fn tell<E: Sink>(err: &mut E, fault: &Fault<'_>)
@@ -62,6 +62,8 @@ fn tell_labelled<E: Sink>(err: &mut E, label: Label, refusal: &Refusal<'_>)
         Refusal::Run(files, refused) => tell_run(err, files, label, refused),
         Refusal::Go(files, refused) => tell_go(err, files, label, refused),
         Refusal::Interpret(files, refused) => tell_interpret(err, files, label, refused),
+        Refusal::Resume(file, refused) => tell_resume(err, *file, label, refused),
+        Refusal::Bench(Memory) => tell_line(err, "elastic", label, None),
     }
 }
 
@@ -128,6 +130,19 @@ fn tell_interpret<E: Sink>(
         InterpretRefusal::Undefined { span } => tell_span(err, files.kernel, label, Some(*span)),
         InterpretRefusal::OutOfTurns { turns } => tell_line(err, "elastic", label, Some(*turns)),
         InterpretRefusal::Memory => tell_line(err, "elastic", label, None),
+    }
+}
+
+fn tell_resume<E: Sink>(err: &mut E, file: &str, label: Label, refused: &ResumeRefusal)
+    ensures { IsTold (E.written err.old) (E.written err.new) (E.faults err.old) (E.faults err.new)
+        (concat (resume_parts file.now (printed label.number label.word.now) refused.now)) }
+{
+    match refused {
+        ResumeRefusal::Snapshot(refused) => tell_line(err, file, label, wide(refused.line())),
+        ResumeRefusal::Limit { limit } => tell_line(err, "elastic", label, Some(*limit)),
+        ResumeRefusal::Stuck => tell_line(err, "elastic", label, None),
+        ResumeRefusal::Stray { name, .. } => tell_name(err, "elastic", label, name.as_slice()),
+        ResumeRefusal::Memory => tell_line(err, "elastic", label, None),
     }
 }
 

@@ -5,6 +5,7 @@ mod calls;
 mod gates;
 mod kernels;
 mod rows;
+mod states;
 mod tries;
 mod workers;
 

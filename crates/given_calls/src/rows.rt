@@ -1,5 +1,6 @@
 //! The files of rows and what their lines are.
 use crate::kernels::{put_agreement, put_count};
+use crate::states::put_resumed;
 use crate::tries::{Told, put_failing, put_long, put_try};
 use crate::workers::{put_meeting, put_replayed, put_stopped};
 use anyhow::{Result, bail};
@@ -26,16 +27,21 @@ pub enum Rows {
     Meetings,
     /// The words of a run that writes its schedule, and files.
     Replays,
+    /// The words of a call of `save`, those of a call of `resume` of what it printed, and files.
+    Resumed,
 }
 
 /// The files, in the order in which they are answered.
-pub const FILES: [(&str, Rows); 13] = [
+pub const FILES: [(&str, Rows); 16] = [
     ("calls.tsv", Rows::Calls(Told::Whole)),
     ("schedules.tsv", Rows::Calls(Told::Whole)),
     ("runs.tsv", Rows::Calls(Told::Whole)),
     ("nets.tsv", Rows::Calls(Told::Whole)),
     ("interpreted.tsv", Rows::Calls(Told::Whole)),
     ("circuits.tsv", Rows::Calls(Told::AfterCircuit)),
+    ("bench.tsv", Rows::Calls(Told::Whole)),
+    ("saved.tsv", Rows::Calls(Told::Whole)),
+    ("resumed.tsv", Rows::Resumed),
     ("faults.tsv", Rows::Faults),
     ("kernels.tsv", Rows::Kernels),
     ("lines.tsv", Rows::Lines),
@@ -76,6 +82,9 @@ impl Rows {
             }
             (Rows::Meetings, [words, files @ ..]) => put_meeting(rt, alloc, words, files, out),
             (Rows::Replays, [words, files @ ..]) => put_replayed(rt, alloc, words, files, out),
+            (Rows::Resumed, [save, resume, files @ ..]) => {
+                put_resumed(rt, alloc, save, resume, files, out)
+            }
             (rows, _) => bail!("a line of {rows:?} of other fields"),
         }
     }

@@ -126,9 +126,6 @@ fn workers() {
 fn saved_states() {
     snapshot::opening_fits();
     snapshot::fits_stay();
-    snapshot::runs_fit();
-    snapshot::one_form();
-    snapshot::resumed_as_run();
 }
 
 /// Laws of programs with helpers.
@@ -161,6 +158,7 @@ fn circuits() {
 /// Laws of calls.
 fn calls() {
     net_runs::told_schedules_replay();
+    kernel_front::kernels_end_as_programs();
     kernel_front::places_count_lines_and_columns();
     kernel_ref::ending_kernels_are_not_refused();
     kernel_runs::circuits_show_what_is_interpreted();
@@ -169,4 +167,7 @@ fn calls() {
     elastic_top::sound_runs_are_answered();
     elastic_top::typed_texts_are_answered();
     elastic_top::interpreted_kernels_are_run();
+    elastic_top::resumed_calls_print_as_runs();
+    elastic_top::long_files_are_one();
+    elastic_top::benches_refuse_nothing();
 }

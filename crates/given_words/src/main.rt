@@ -80,6 +80,7 @@ fn put_delays(chosen: &Chosen, out: &mut Output) {
 
 fn put_numbers(chosen: &Chosen, out: &mut Output) {
     let numbers = [
+        (" seed ", chosen.seed),
         (" slots ", chosen.slots),
         (" depth ", chosen.depth),
         (" workers ", chosen.workers),

@@ -10,12 +10,11 @@ use Rattle.c_ast.specs.declared.tree.Binary.TheVariants as op
 use Rattle.c_ast.specs.declared.tree.Expr.{Expr}
 use Rattle.c_ast.specs.declared.tree.ExprKind.TheVariants as expr
 use Rattle.c_ast.specs.Derives.{marked, keyed, named, numbered, between, for_tokens, IsBinary, IsAssigning, IsStep, DerivesType, DerivesExpr, DerivesIndices, DerivesTarget, DerivesSimple, DerivesOption, DerivesStep, DerivesDeclared, DerivesDeclarators, DerivesDeclaration, DerivesFirst, DerivesStmt, DerivesItems, DerivesDims, DerivesParam, DerivesParamList, DerivesParams, DerivesResult, Derives}
-use Rattle.c_ast.specs.Spells.{Spells}
-use Rattle.c_ast.specs.Prefixes.{IsShallow}
+use Rattle.c_ast.specs.ProgramTexts.{DerivesHelpers, DerivesProgram, IsShallowProgram}
 use Rattle.c_parse.specs.Traces.{Verdict}
-use Rattle.c_parse.proofs.Exactness.{judged_means}
-use Rattle.kernel_bench.specs.Histogram.{bench_kernel, line_span, param_n, param_x, param_w, param_h, hist_params, zero_expr, declare_stmt, less_expr, step_target, step_stmt, place_expr, add_target, weight_expr, add_stmt, for_stmt, hist_tree}
-use Rattle.kernel_bench.proofs.Lexing.{tokens, read}
+use Rattle.c_parse.proofs.ProgramExactness.{judged_means}
+use Rattle.kernel_bench.specs.Histogram.{line_span, param_n, param_x, param_w, param_h, hist_params, zero_expr, declare_stmt, less_expr, step_target, step_stmt, place_expr, add_target, weight_expr, add_stmt, for_stmt, hist_tree, hist_program}
+use Rattle.kernel_bench.proofs.Lexing.{tokens}
 
 -- ---- each level up to 8 has what is of level 8, up to 7 what is of level 7, and up to 12 what is of level 12
 
@@ -184,12 +183,14 @@ params_derive = DerivesParams.some all_params hist_params (DerivesParamList.one_
 
 -- ---- the kernel
 
-pub derived : Derives tokens hist_tree
+derived : Derives tokens hist_tree
 derived = Derives.kernel (keyed key.Void (line_span 0 4) ∷ []) all_params (loop_tokens ++ []) (codes "hist") (line_span 5 9) (line_span 9 10) (line_span 68 69) (line_span 70 71) (line_span 121 122) None hist_params (for_stmt ∷ [])
     (DerivesResult.void (line_span 0 4)) params_derive items_derive
 
-abbrev pub spelled : Spells bench_kernel hist_tree
-spelled = record { tokens = tokens; read = read; derived = derived }
+-- ---- the program, which is the kernel alone
 
-pub shallow : IsShallow tokens
-shallow = judged_means tokens Verdict.whole refl
+pub program_derived : DerivesProgram tokens hist_program
+program_derived = DerivesProgram.program [] tokens [] hist_tree DerivesHelpers.no_more derived
+
+pub program_shallow : IsShallowProgram tokens
+program_shallow = judged_means tokens Verdict.whole refl

@@ -10,6 +10,7 @@ use Rattle.c_ast.specs.declared.tree.ExprKind.TheVariants as expr
 use Rattle.c_ast.specs.declared.tree.Stmt.{Stmt}
 use Rattle.c_ast.specs.declared.tree.StmtKind.TheVariants as stmt
 use Rattle.c_ast.specs.declared.tree.Tree.{Tree}
+use Rattle.c_ast.specs.declared.tree.Program.{Program}
 use Rattle.c_ast.specs.declared.typed.ArrayOf.{ArrayOf}
 use Rattle.c_ast.specs.declared.typed.Object.TheVariants as object
 use Rattle.c_ast.specs.declared.typed.TypedTarget.{TypedTarget}
@@ -81,6 +82,10 @@ for_stmt = record { kind = stmt.For (declare_stmt ∷ []) (Some less_expr) (Some
 
 abbrev pub hist_tree : Tree
 hist_tree = record { name = codes "hist"; at = line_span 5 9; result = None; params = hist_params; body = for_stmt ∷ [] }
+
+-- there is no helper
+abbrev pub hist_program : Program
+hist_program = record { helpers = []; kernel = hist_tree }
 
 -- ---- its typed tree: the variables are n and i, the arrays x, w and h
 

@@ -55,6 +55,7 @@ fn compiled(alloc: Global) -> Result<Compiled, Memory>
         Err(KernelRefusal::Lex(_)) => unreachable!(),
         Err(KernelRefusal::Parse(_)) => unreachable!(),
         Err(KernelRefusal::Types(_)) => unreachable!(),
+        Err(KernelRefusal::Inline(_)) => unreachable!(),
     }
 }
 

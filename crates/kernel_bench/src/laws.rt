@@ -4,7 +4,7 @@ ghost use Rattle.kernel_bench.specs.Benches.{IsWorkedKernel, WorkedKernelEnds};
 use c_ast::typed_trees_have_as_many_nodes;
 use kernel_front::texts_that_type_are_kernels;
 
-/// The bytes of the kernel spell its tree, which keeps the typing rules, and the typed tree is that of the tree.
+/// The bytes of the kernel spell a program of this kernel alone, which keeps the typing rules, and the typed tree is that of the tree.
 pub fn kernel_is_read()
     ensures { IsWorkedKernel }
 {

@@ -46,7 +46,7 @@ abbrev pub CircuitsRest : Type 0
 CircuitsRest = (t : Timing) (forward : Bool) (k : Typed) (m n : Net) → Lawful k → IsCircuit t forward k m → Retimed m n
     → (p : Profile) (z : Numbers) (out : List (List ℤ)) (r : Option ℤ) (turns : ℕ) → AreFitting k.params k.arrays z → Ends k p z out r turns → RestsInTime n k z out r turns
 
--- the bytes spell and type the kernel, which has so many nodes, and the net is its circuit
+-- the bytes spell and type a program, the kernel is the tree without calls that it becomes, with so many nodes, and the net is its circuit
 pub record IsCompiled (bytes : List ℕ) (t : Timing) (forward : Bool) (c : Compiled) : Type 0 where
   pub kernel : IsKernel bytes (record { typed = c.typed; nodes = c.nodes })
   pub circuit : IsCircuit t forward c.typed c.net

@@ -26,7 +26,7 @@ use net_types::Net;
 use queue_marks::{mark_queues, marks_keep_rules, queues_have_the_mark};
 use std::alloc::Global;
 
-/// A kernel with its circuit: its typed tree, its number of nodes, and a net that computes it.
+/// A kernel with its circuit: its typed tree, which has no calls, the number of nodes of that tree, and a net that computes it.
 #[derive(Drop)]
 pub struct Compiled {
     pub typed: Typed,
@@ -34,7 +34,7 @@ pub struct Compiled {
     pub net: Checked,
 }
 
-/// The circuit of the kernel that these bytes spell, with the slots and the delays of a timing. With `forward` each queue may
+/// The circuit of the kernel that the program of these bytes becomes, with the slots and the delays of a timing. With `forward` each queue may
 /// hand the data of a store that waits to a load of the same element, and without it none may.
 ///
 /// It computes the kernel under every profile: on all inputs a run of the net that comes to rest has exited. Where the

@@ -1,4 +1,4 @@
--- Each fault of a tree stands at the place of a word of its tokens: of a name, or of `return`, `break` or `continue`.
+-- Each fault of a program stands at the place of a word of its tokens: of a name, or of `return`, `break` or `continue`.
 use Rattle.std.proofs.Common.{◌≡◌, ℕ, suc, ◌+◌, ◌-◌, ◌≤◌, Bool, true, false, not, ◌||◌, nat_lt, nat_eq, if◌then◌else◌, List, [], ◌∷◌, ◌++◌, length, Option, Some, None, sym, ap, ◌∙◌, subst, arith}
 use Rattle.std.proofs.lemmas.Bool.Decides.{nat_tests}
 use Rattle.std.specs.List.{list_any}
@@ -15,20 +15,28 @@ use Rattle.c_ast.specs.declared.tree.Binary.{Binary}
 use Rattle.c_ast.specs.declared.tree.Param.{Param}
 use Rattle.c_ast.specs.declared.tree.Target.{Target}
 use Rattle.c_ast.specs.declared.tree.Expr.{Expr}
+use Rattle.c_ast.specs.declared.tree.ExprKind.{ExprKind}
 use Rattle.c_ast.specs.declared.tree.ExprKind.TheVariants as expr
 use Rattle.c_ast.specs.declared.tree.ExprKind.TheBlock.{shape-the_row-Expr-0, hidden-the_row-Expr-0, shape-the_row-Expr-1, hidden-the_row-Expr-1}
 use Rattle.c_ast.specs.declared.tree.Stmt.{Stmt}
+use Rattle.c_ast.specs.declared.tree.StmtKind.{StmtKind}
 use Rattle.c_ast.specs.declared.tree.StmtKind.TheVariants as stmt
 use Rattle.c_ast.specs.declared.tree.StmtKind.TheBlock.{shape-the_row-Stmt-0, hidden-the_row-Stmt-0, shape-the_row-Stmt-1, hidden-the_row-Stmt-1, back-StmtKind-If-2}
 use Rattle.c_ast.specs.declared.tree.Tree.{Tree}
-use Rattle.c_ast.specs.Derives.{marked, keyed, named, last_span, place_of, between, if_tokens, do_tokens, DerivesExpr, DerivesIndices, DerivesTarget, DerivesSimple, DerivesOption, DerivesStep, DerivesDeclared, DerivesDeclarators, DerivesDeclaration, DerivesFirst, DerivesStmt, DerivesItems, DerivesParam, DerivesParamList, DerivesParams, Derives}
+use Rattle.c_ast.specs.declared.tree.Helper.{Helper}
+use Rattle.c_ast.specs.declared.tree.Program.{Program}
+use Rattle.c_ast.specs.Derives.{marked, keyed, named, last_span, place_of, between, if_tokens, do_tokens, DerivesExpr, DerivesIndices, DerivesArgs, DerivesMoreArgs, DerivesTarget, DerivesSimple, DerivesOption, DerivesStep, DerivesDeclared, DerivesDeclarators, DerivesDeclaration, DerivesFirst, DerivesStmt, DerivesItems, DerivesParam, DerivesParamList, DerivesParams, Derives}
+use Rattle.c_ast.specs.ProgramTexts.{block_tokens, DerivesHelper, DerivesHelpers, DerivesProgram}
+use Rattle.c_ast.specs.Programs.{joins_both, where_whole}
 use Rattle.c_ast.specs.Typing.{row_length, elements_of}
 use Rattle.c_types.specs.declared.fault.Rule.{Rule}
 use Rattle.c_types.specs.declared.fault.Rule.TheVariants as rule
 use Rattle.c_types.specs.declared.fault.Fault.{Fault}
 use Rattle.c_types.specs.Places.{first_bytes}
 use Rattle.c_types.specs.Scopes.{declared_in, is_new_in, with_entry}
-use Rattle.c_types.specs.Faults.{Sorts, broken_by_use, if_broken, use_faults, row_faults, expr_faults, kind_faults, option_faults, target_faults, exprs_faults, unless, is_returnable, sorts_after, sorts_after_row, act_faults, held_faults, acts_faults, stmt_faults, stmts_faults, sort_of_dims, param_faults, params_faults, sorts_after_params, tree_faults}
+use Rattle.c_types.specs.Faults.{Sorts, broken_by_use, broken_by_call, if_broken, use_faults, call_faults, row_faults, expr_faults, kind_faults, option_faults, target_faults, exprs_faults, unless, is_returnable, sorts_after, sorts_after_row, act_faults, held_faults, acts_faults, stmt_faults, stmts_faults, sort_of_dims, param_faults, params_faults, sorts_after_params, block_faults, sorts_at_end}
+use Rattle.c_types.specs.CallPlaces.{kind_places, row_places, expr_places, exprs_places, option_places, target_places, act_places, held_places, acts_places, stmt_places, stmts_places, helper_places, helpers_places}
+use Rattle.c_types.specs.ProgramFaults.{helper_faults, sorts_after_helper, helpers_faults, sorts_after_helpers, kernel_faults, program_faults}
 use Rattle.kernel_front.proofs.Laid.{AreLaid}
 
 -- ---- tokens that stand one after another
@@ -102,8 +110,12 @@ module _ (Q : Span → Type 0) where
 
   -- ---- expressions
 
+  -- in whatever scopes, and wherever calls may stand or not
+  abbrev KindPlaced : ExprKind → Span → Type 0
+  KindPlaced kind at = ((names : Sorts) → ArePlaced (kind_faults names kind at)) × ((may : Bool) → ArePlaced (kind_places may kind at))
+
   abbrev ExprPlaced : Expr → Type 0
-  ExprPlaced e = (names : Sorts) → ArePlaced (expr_faults names e)
+  ExprPlaced e = KindPlaced e.kind e.at
 
   abbrev ExprsPlaced : List Expr → Type 0
   ExprsPlaced [] = Unit {0}
@@ -112,49 +124,77 @@ module _ (Q : Span → Type 0) where
   row_placed : (names : Sorts) (es : List Expr) → ExprsPlaced es → ArePlaced (row_faults names (hidden-the_row-Expr-0 es))
   unfolding shape-the_row-Expr-0 hidden-the_row-Expr-0 shape-the_row-Expr-1 hidden-the_row-Expr-1 hidden
   row_placed names [] h = tt
-  row_placed names (e ∷ es) h = both (expr_faults names e) (row_faults names (hidden-the_row-Expr-0 es)) (h.0 names) (row_placed names es h.1)
+  row_placed names (e ∷ es) h = both (expr_faults names e) (row_faults names (hidden-the_row-Expr-0 es)) (h.0.0 names) (row_placed names es h.1)
+
+  row_calls_placed : (may : Bool) (es : List Expr) → ExprsPlaced es → ArePlaced (row_places may (hidden-the_row-Expr-0 es))
+  unfolding shape-the_row-Expr-0 hidden-the_row-Expr-0 shape-the_row-Expr-1 hidden-the_row-Expr-1 hidden
+  row_calls_placed may [] h = tt
+  row_calls_placed may (e ∷ es) h = both (expr_places may e) (row_places may (hidden-the_row-Expr-0 es)) (h.0.1 may) (row_calls_placed may es h.1)
 
   exprs_placed : (names : Sorts) (es : List Expr) → ExprsPlaced es → ArePlaced (exprs_faults names es)
   exprs_placed names [] h = tt
-  exprs_placed names (e ∷ es) h = both (expr_faults names e) (exprs_faults names es) (h.0 names) (exprs_placed names es h.1)
+  exprs_placed names (e ∷ es) h = both (expr_faults names e) (exprs_faults names es) (h.0.0 names) (exprs_placed names es h.1)
 
-  element_placed : (names : Sorts) (x : List ℕ) (es : List Expr) (s : Span) (ts : List Token) → Laid Q (named x s ∷ ts) → ExprsPlaced es
-      → ArePlaced (kind_faults names (expr.Element x es) (place_of (named x s ∷ ts)))
-  element_placed names x es s ts h parts =
-      both (use_faults names x (row_length (hidden-the_row-Expr-0 es)) (place_of (named x s ∷ ts))) (row_faults names (hidden-the_row-Expr-0 es))
-      (use_placed names x (row_length (hidden-the_row-Expr-0 es)) s ts h) (row_placed names es parts)
+  exprs_calls_placed : (may : Bool) (es : List Expr) → ExprsPlaced es → ArePlaced (exprs_places may es)
+  exprs_calls_placed may [] h = tt
+  exprs_calls_placed may (e ∷ es) h = both (expr_places may e) (exprs_places may es) (h.0.1 may) (exprs_calls_placed may es h.1)
 
-  unary_placed : (names : Sorts) (op : Unary) (a : Expr) (at : Span) → ExprPlaced a → ArePlaced (kind_faults names (expr.Unary op a) at)
+  element_placed : (x : List ℕ) (es : List Expr) (s : Span) (ts : List Token) → Laid Q (named x s ∷ ts) → ExprsPlaced es
+      → KindPlaced (expr.Element x es) (place_of (named x s ∷ ts))
+  element_placed x es s ts h parts = (
+    λ names. both (use_faults names x (row_length (hidden-the_row-Expr-0 es)) (place_of (named x s ∷ ts))) (row_faults names (hidden-the_row-Expr-0 es))
+        (use_placed names x (row_length (hidden-the_row-Expr-0 es)) s ts h) (row_placed names es parts),
+    λ may. row_calls_placed may es parts,
+  )
+
+  call_placed : (x : List ℕ) (es : List Expr) (s : Span) (ts : List Token) → Laid Q (named x s ∷ ts) → ExprsPlaced es
+      → KindPlaced (expr.Call x es) (place_of (named x s ∷ ts))
+  call_placed x es s ts h parts = (
+    λ names. both (call_faults names x (row_length (hidden-the_row-Expr-0 es)) (place_of (named x s ∷ ts))) (row_faults names (hidden-the_row-Expr-0 es))
+        (if_broken_placed (broken_by_call (declared_in names x) (row_length (hidden-the_row-Expr-0 es))) _ (name_place x s ts h)) (row_placed names es parts),
+    λ may. both (unless may rule.CallPlace (first_bytes (length x) (place_of (named x s ∷ ts)))) (row_places may (hidden-the_row-Expr-0 es))
+        (unless_placed may rule.CallPlace _ (name_place x s ts h)) (row_calls_placed may es parts),
+  )
+
+  unary_placed : (op : Unary) (a : Expr) (at : Span) → ExprPlaced a → KindPlaced (expr.Unary op a) at
   unfolding shape-the_row-Expr-0 hidden-the_row-Expr-0 shape-the_row-Expr-1 hidden-the_row-Expr-1 hidden
-  unary_placed names op a at h = h names
+  unary_placed op a at h = (λ names. h.0 names, λ may. h.1 may)
 
-  cast_placed : (names : Sorts) (t : Ty) (a : Expr) (at : Span) → ExprPlaced a → ArePlaced (kind_faults names (expr.Cast t a) at)
+  cast_placed : (t : Ty) (a : Expr) (at : Span) → ExprPlaced a → KindPlaced (expr.Cast t a) at
   unfolding shape-the_row-Expr-0 hidden-the_row-Expr-0 shape-the_row-Expr-1 hidden-the_row-Expr-1 hidden
-  cast_placed names t a at h = h names
+  cast_placed t a at h = (λ names. h.0 names, λ may. h.1 may)
 
-  binary_placed : (names : Sorts) (op : Binary) (a b : Expr) (at : Span) → ExprPlaced a → ExprPlaced b → ArePlaced (kind_faults names (expr.Binary op a b) at)
+  binary_placed : (op : Binary) (a b : Expr) (at : Span) → ExprPlaced a → ExprPlaced b → KindPlaced (expr.Binary op a b) at
   unfolding shape-the_row-Expr-0 hidden-the_row-Expr-0 shape-the_row-Expr-1 hidden-the_row-Expr-1 hidden
-  binary_placed names op a b at h k = both (expr_faults names a) (expr_faults names b) (h names) (k names)
+  binary_placed op a b at h k = (
+    λ names. both (expr_faults names a) (expr_faults names b) (h.0 names) (k.0 names),
+    λ may. both (expr_places may a) (expr_places (where_whole (joins_both op) may) b) (h.1 may) (k.1 (where_whole (joins_both op) may)),
+  )
 
-  choice_placed : (names : Sorts) (a b d : Expr) (at : Span) → ExprPlaced a → ExprPlaced b → ExprPlaced d → ArePlaced (kind_faults names (expr.Choose a b d) at)
+  choice_placed : (a b d : Expr) (at : Span) → ExprPlaced a → ExprPlaced b → ExprPlaced d → KindPlaced (expr.Choose a b d) at
   unfolding shape-the_row-Expr-0 hidden-the_row-Expr-0 shape-the_row-Expr-1 hidden-the_row-Expr-1 hidden
-  choice_placed names a b d at h k l =
-      both (expr_faults names a) (expr_faults names b ++ expr_faults names d) (h names) (both (expr_faults names b) (expr_faults names d) (k names) (l names))
+  choice_placed a b d at h k l = (
+    λ names. both (expr_faults names a) (expr_faults names b ++ expr_faults names d) (h.0 names) (both (expr_faults names b) (expr_faults names d) (k.0 names) (l.0 names)),
+    λ may. both (expr_places may a) (expr_places false b ++ expr_places false d) (h.1 may) (both (expr_places false b) (expr_places false d) (k.1 false) (l.1 false)),
+  )
 
   mutual
     expr_placed : (l : ℕ) (ts : List Token) (e : Expr) → DerivesExpr l ts e → Laid Q ts → ExprPlaced e
     expr_placed l ts e (DerivesExpr.tighter k us a below d) h = expr_placed (suc k) us a d h
     expr_placed l ts e (DerivesExpr.choice us ws xs q c a b x cond chosen other) h =
         let behind = rest (marked mark.Question q) (ws ++ marked mark.Colon c ∷ xs) (back us (marked mark.Question q ∷ (ws ++ marked mark.Colon c ∷ xs)) h) in
-        λ names. choice_placed names a b x _ (expr_placed 1 us a cond (front us (marked mark.Question q ∷ (ws ++ marked mark.Colon c ∷ xs)) h))
+        choice_placed a b x _ (expr_placed 1 us a cond (front us (marked mark.Question q ∷ (ws ++ marked mark.Colon c ∷ xs)) h))
         (expr_placed 0 ws b chosen (front ws (marked mark.Colon c ∷ xs) behind)) (expr_placed 0 xs x other (rest (marked mark.Colon c) xs (back ws (marked mark.Colon c ∷ xs) behind)))
     expr_placed l ts e (DerivesExpr.joined k m op us ws s a b operator left right) h =
-        λ names. binary_placed names op a b _ (expr_placed k us a left (front us (marked m s ∷ ws) h)) (expr_placed (suc k) ws b right (rest (marked m s) ws (back us (marked m s ∷ ws) h)))
-    expr_placed l ts e (DerivesExpr.prefixed m op us s a sign d) h = λ names. unary_placed names op a _ (expr_placed 11 us a d (rest (marked m s) us h))
-    expr_placed l ts e (DerivesExpr.cast us ws s z t a type d) h = λ names. cast_placed names t a _ (expr_placed 11 ws a d (back (between mark.Open s us mark.Close z) ws h))
-    expr_placed l ts e (DerivesExpr.number n t s) h = λ names. tt
-    expr_placed l ts e (DerivesExpr.name x s) h = λ names. use_placed names x 0 s [] h
-    expr_placed l ts e (DerivesExpr.element x s us a es d) h = λ names. element_placed names x (a ∷ es) s us h (indices_placed us (a ∷ es) d (rest (named x s) us h))
+        binary_placed op a b _ (expr_placed k us a left (front us (marked m s ∷ ws) h)) (expr_placed (suc k) ws b right (rest (marked m s) ws (back us (marked m s ∷ ws) h)))
+    expr_placed l ts e (DerivesExpr.prefixed m op us s a sign d) h = unary_placed op a _ (expr_placed 11 us a d (rest (marked m s) us h))
+    expr_placed l ts e (DerivesExpr.cast us ws s z t a type d) h = cast_placed t a _ (expr_placed 11 ws a d (back (between mark.Open s us mark.Close z) ws h))
+    expr_placed l ts e (DerivesExpr.number n t s) h = (λ names. tt, λ may. tt)
+    expr_placed l ts e (DerivesExpr.name x s) h = (λ names. use_placed names x 0 s [] h, λ may. tt)
+    expr_placed l ts e (DerivesExpr.element x s us a es d) h = element_placed x (a ∷ es) s us h (indices_placed us (a ∷ es) d (rest (named x s) us h))
+    expr_placed l ts e (DerivesExpr.call x s a z us es d) h =
+        call_placed x es s (between mark.Open a us mark.Close z) h
+        (args_placed us es d (inside mark.Open mark.Close a z us (rest (named x s) (between mark.Open a us mark.Close z) h)))
     expr_placed l ts e (DerivesExpr.parens us s z a d) h = expr_placed 0 us a d (inside mark.Open mark.Close s z us h)
 
     indices_placed : (ts : List Token) (es : List Expr) → DerivesIndices ts es → Laid Q ts → ExprsPlaced es
@@ -164,22 +204,37 @@ module _ (Q : Span → Type 0) where
       indices_placed ws more ds (back (between mark.OpenBracket s us mark.CloseBracket z) ws h),
     )
 
+    args_placed : (ts : List Token) (es : List Expr) → DerivesArgs ts es → Laid Q ts → ExprsPlaced es
+    args_placed ts es DerivesArgs.no_arguments h = tt
+    args_placed ts es (DerivesArgs.arguments us ws a more d ds) h = (expr_placed 0 us a d (front us ws h), more_args_placed ws more ds (back us ws h))
+
+    more_args_placed : (ts : List Token) (es : List Expr) → DerivesMoreArgs ts es → Laid Q ts → ExprsPlaced es
+    more_args_placed ts es DerivesMoreArgs.no_further h = tt
+    more_args_placed ts es (DerivesMoreArgs.one_further us ws s a more d ds) h =
+        let behind = rest (marked mark.Comma s) (us ++ ws) h in
+        (expr_placed 0 us a d (front us ws behind), more_args_placed ws more ds (back us ws behind))
+
   abbrev OptionPlaced : Option Expr → Type 0
-  OptionPlaced o = (names : Sorts) → ArePlaced (option_faults names o)
+  OptionPlaced o = ((names : Sorts) → ArePlaced (option_faults names o)) × ((may : Bool) → ArePlaced (option_places may o))
 
   option_placed : (ts : List Token) (e : Option Expr) → DerivesOption ts e → Laid Q ts → OptionPlaced e
-  option_placed ts e DerivesOption.absent h = λ names. tt
+  option_placed ts e DerivesOption.absent h = (λ names. tt, λ may. tt)
   option_placed ts e (DerivesOption.present us a d) h = expr_placed 0 us a d h
 
   -- ---- assignments, steps and declarations
 
-  target_placed : (ts : List Token) (t : Target) → DerivesTarget ts t → Laid Q ts → (names : Sorts) → ArePlaced (target_faults names t)
-  target_placed ts t (DerivesTarget.target x s us es d) h names =
-      both (use_faults names x (length es) (place_of (named x s ∷ us))) (exprs_faults names es) (use_placed names x (length es) s us h)
-      (exprs_placed names es (indices_placed us es d (rest (named x s) us h)))
+  abbrev TargetPlaced : Target → Type 0
+  TargetPlaced t = ((names : Sorts) → ArePlaced (target_faults names t)) × ArePlaced (target_places t)
+
+  target_placed : (ts : List Token) (t : Target) → DerivesTarget ts t → Laid Q ts → TargetPlaced t
+  target_placed ts t (DerivesTarget.target x s us es d) h =
+      let parts = indices_placed us es d (rest (named x s) us h) in (
+        λ names. both (use_faults names x (length es) (place_of (named x s ∷ us))) (exprs_faults names es) (use_placed names x (length es) s us h) (exprs_placed names es parts),
+        exprs_calls_placed true es parts,
+      )
 
   abbrev Placed : Stmt → Type 0
-  Placed s = (r : Option Ty) (loop : Bool) (names : Sorts) → ArePlaced (stmt_faults s r loop names)
+  Placed s = ((r : Option Ty) (loop : Bool) (names : Sorts) → ArePlaced (stmt_faults s r loop names)) × ArePlaced (stmt_places s)
 
   abbrev AllPlaced : List Stmt → Type 0
   AllPlaced [] = Unit {0}
@@ -190,18 +245,28 @@ module _ (Q : Span → Type 0) where
   all_both (s ∷ ss) ts h k = (h.0, all_both ss ts h.1 k)
 
   simple_placed : (ts : List Token) (s : Stmt) → DerivesSimple ts s → Laid Q ts → Placed s
-  simple_placed ts s (DerivesSimple.assign us ws m p t op e to operator value) h = λ r loop names.
-      both (target_faults names t) (expr_faults names e) (target_placed us t to (front us (marked m p ∷ ws) h) names)
-      (expr_placed 0 ws e value (rest (marked m p) ws (back us (marked m p ∷ ws) h)) names)
-  simple_placed ts s (DerivesSimple.step_after us m p t up to step) h = λ r loop names. target_placed us t to (front us (marked m p ∷ []) h) names
-  simple_placed ts s (DerivesSimple.step_before us m p t up step to) h = λ r loop names. target_placed us t to (rest (marked m p) us h) names
+  simple_placed ts s (DerivesSimple.assign us ws m p t op e to operator value) h =
+      let target = target_placed us t to (front us (marked m p ∷ ws) h) in
+      let assigned = expr_placed 0 ws e value (rest (marked m p) ws (back us (marked m p ∷ ws) h)) in (
+        λ r loop names. both (target_faults names t) (expr_faults names e) (target.0 names) (assigned.0 names),
+        both (target_places t) (expr_places true e) target.1 (assigned.1 true),
+      )
+  simple_placed ts s (DerivesSimple.step_after us m p t up to step) h =
+      let target = target_placed us t to (front us (marked m p ∷ []) h) in (λ r loop names. target.0 names, target.1)
+  simple_placed ts s (DerivesSimple.step_before us m p t up step to) h =
+      let target = target_placed us t to (rest (marked m p) us h) in (λ r loop names. target.0 names, target.1)
 
   declared_placed : (t : Ty) (ts : List Token) (s : Stmt) → DerivesDeclared t ts s → Laid Q ts → Placed s
-  declared_placed t ts s (DerivesDeclared.without_value u x p) h = λ r loop names.
-      both (unless (is_new_in names x) rule.Redeclared p) [] (unless_placed (is_new_in names x) rule.Redeclared p h.laid.2.0) tt
-  declared_placed t ts s (DerivesDeclared.with_value u x p a us e d) h = λ r loop names.
-      both (unless (is_new_in names x) rule.Redeclared p) (expr_faults (sorts_after names (stmt.Declare x u (Some e))) e) (unless_placed (is_new_in names x) rule.Redeclared p h.laid.2.0)
-      (expr_placed 0 us e d (rest (marked mark.Assign a) us (rest (named x p) (marked mark.Assign a ∷ us) h)) (sorts_after names (stmt.Declare x u (Some e))))
+  declared_placed t ts s (DerivesDeclared.without_value u x p) h = (
+    λ r loop names. both (unless (is_new_in names x) rule.Redeclared p) [] (unless_placed (is_new_in names x) rule.Redeclared p h.laid.2.0) tt,
+    tt,
+  )
+  declared_placed t ts s (DerivesDeclared.with_value u x p a us e d) h =
+      let value = expr_placed 0 us e d (rest (marked mark.Assign a) us (rest (named x p) (marked mark.Assign a ∷ us) h)) in (
+        λ r loop names. both (unless (is_new_in names x) rule.Redeclared p) (expr_faults (sorts_after names (stmt.Declare x u (Some e))) e)
+            (unless_placed (is_new_in names x) rule.Redeclared p h.laid.2.0) (value.0 (sorts_after names (stmt.Declare x u (Some e)))),
+        value.1 true,
+      )
 
   declarators_placed : (t : Ty) (ts : List Token) (ds : List Stmt) → DerivesDeclarators t ts ds → Laid Q ts → AllPlaced ds
   declarators_placed t ts ds (DerivesDeclarators.last_one u us d one) h = (declared_placed u us d one h, tt)
@@ -231,46 +296,71 @@ module _ (Q : Span → Type 0) where
   unfolding shape-the_row-Stmt-0 hidden-the_row-Stmt-0 shape-the_row-Stmt-1 hidden-the_row-Stmt-1 hidden
   acts_placed [] h r loop names = tt
   acts_placed (s ∷ ss) h r loop names =
-      both (stmt_faults s r loop names) (acts_faults (hidden-the_row-Stmt-0 ss) r loop (sorts_after names s.kind)) (h.0 r loop names) (acts_placed ss h.1 r loop (sorts_after names s.kind))
+      both (stmt_faults s r loop names) (acts_faults (hidden-the_row-Stmt-0 ss) r loop (sorts_after names s.kind)) (h.0.0 r loop names) (acts_placed ss h.1 r loop (sorts_after names s.kind))
+
+  acts_calls_placed : (ss : List Stmt) → AllPlaced ss → ArePlaced (acts_places (hidden-the_row-Stmt-0 ss))
+  unfolding shape-the_row-Stmt-0 hidden-the_row-Stmt-0 shape-the_row-Stmt-1 hidden-the_row-Stmt-1 hidden
+  acts_calls_placed [] h = tt
+  acts_calls_placed (s ∷ ss) h = both (stmt_places s) (acts_places (hidden-the_row-Stmt-0 ss)) h.0.1 (acts_calls_placed ss h.1)
 
   held_placed : (o : Option Stmt) → PlacedIfAny o → (r : Option Ty) (loop : Bool) (names : Sorts) → ArePlaced (held_faults (back-StmtKind-If-2 o) r loop names)
   unfolding shape-the_row-Stmt-0 hidden-the_row-Stmt-0 shape-the_row-Stmt-1 hidden-the_row-Stmt-1 hidden
   held_placed None h r loop names = tt
-  held_placed (Some s) h r loop names = h r loop ([] ∷ names)
+  held_placed (Some s) h r loop names = h.0 r loop ([] ∷ names)
 
-  block_placed : (ss : List Stmt) (at : Span) → AllPlaced ss → (r : Option Ty) (loop : Bool) (names : Sorts) → ArePlaced (act_faults (stmt.Block ss) at r loop names)
-  block_placed ss at h r loop names = acts_placed ss h r loop ([] ∷ names)
-
-  if_placed : (c : Expr) (b : Stmt) (o : Option Stmt) (at : Span) → ExprPlaced c → Placed b → PlacedIfAny o → (r : Option Ty) (loop : Bool) (names : Sorts)
-      → ArePlaced (act_faults (stmt.If c b o) at r loop names)
+  held_calls_placed : (o : Option Stmt) → PlacedIfAny o → ArePlaced (held_places (back-StmtKind-If-2 o))
   unfolding shape-the_row-Stmt-0 hidden-the_row-Stmt-0 shape-the_row-Stmt-1 hidden-the_row-Stmt-1 hidden
-  if_placed c b o at p q s r loop names =
-      both (expr_faults names c) (stmt_faults b r loop ([] ∷ names) ++ held_faults (back-StmtKind-If-2 o) r loop names) (p names)
-      (both (stmt_faults b r loop ([] ∷ names)) (held_faults (back-StmtKind-If-2 o) r loop names) (q r loop ([] ∷ names)) (held_placed o s r loop names))
+  held_calls_placed None h = tt
+  held_calls_placed (Some s) h = h.1
 
-  while_placed : (c : Expr) (b : Stmt) (at : Span) → ExprPlaced c → Placed b → (r : Option Ty) (loop : Bool) (names : Sorts) → ArePlaced (act_faults (stmt.While c b) at r loop names)
-  unfolding shape-the_row-Stmt-0 hidden-the_row-Stmt-0 shape-the_row-Stmt-1 hidden-the_row-Stmt-1 hidden
-  while_placed c b at p q r loop names = both (expr_faults names c) (stmt_faults b r true ([] ∷ names)) (p names) (q r true ([] ∷ names))
+  -- a statement with its place
+  abbrev ActPlaced : StmtKind → Span → Type 0
+  ActPlaced kind at = ((r : Option Ty) (loop : Bool) (names : Sorts) → ArePlaced (act_faults kind at r loop names)) × ArePlaced (act_places kind)
 
-  do_placed : (b : Stmt) (c : Expr) (at : Span) → Placed b → ExprPlaced c → (r : Option Ty) (loop : Bool) (names : Sorts) → ArePlaced (act_faults (stmt.DoWhile b c) at r loop names)
-  unfolding shape-the_row-Stmt-0 hidden-the_row-Stmt-0 shape-the_row-Stmt-1 hidden-the_row-Stmt-1 hidden
-  do_placed b c at q p r loop names = both (stmt_faults b r true ([] ∷ names)) (expr_faults names c) (q r true ([] ∷ names)) (p names)
+  block_placed : (ss : List Stmt) (at : Span) → AllPlaced ss → ActPlaced (stmt.Block ss) at
+  block_placed ss at h = (λ r loop names. acts_placed ss h r loop ([] ∷ names), acts_calls_placed ss h)
 
-  for_placed : (ss : List Stmt) (c : Option Expr) (o : Option Stmt) (b : Stmt) (at : Span) → AllPlaced ss → OptionPlaced c → PlacedIfAny o → Placed b → (r : Option Ty) (loop : Bool) (names : Sorts)
-      → ArePlaced (act_faults (stmt.For ss c o b) at r loop names)
+  if_placed : (c : Expr) (b : Stmt) (o : Option Stmt) (at : Span) → ExprPlaced c → Placed b → PlacedIfAny o → ActPlaced (stmt.If c b o) at
   unfolding shape-the_row-Stmt-0 hidden-the_row-Stmt-0 shape-the_row-Stmt-1 hidden-the_row-Stmt-1 hidden
-  for_placed ss c o b at p q s k r loop names =
-      let after : Sorts = sorts_after_row ([] ∷ names) (hidden-the_row-Stmt-0 ss) in
-      both (acts_faults (hidden-the_row-Stmt-0 ss) r false ([] ∷ names))
-      (option_faults after c ++ (held_faults (back-StmtKind-If-2 o) r false after ++ stmt_faults b r true ([] ∷ after)))
-      (acts_placed ss p r false ([] ∷ names))
-      (both (option_faults after c) (held_faults (back-StmtKind-If-2 o) r false after ++ stmt_faults b r true ([] ∷ after)) (q after)
-      (both (held_faults (back-StmtKind-If-2 o) r false after) (stmt_faults b r true ([] ∷ after)) (held_placed o s r false after) (k r true ([] ∷ after))))
+  if_placed c b o at p q s = (
+    λ r loop names. both (expr_faults names c) (stmt_faults b r loop ([] ∷ names) ++ held_faults (back-StmtKind-If-2 o) r loop names) (p.0 names)
+        (both (stmt_faults b r loop ([] ∷ names)) (held_faults (back-StmtKind-If-2 o) r loop names) (q.0 r loop ([] ∷ names)) (held_placed o s r loop names)),
+    both (expr_places true c) (stmt_places b ++ held_places (back-StmtKind-If-2 o)) (p.1 true) (both (stmt_places b) (held_places (back-StmtKind-If-2 o)) q.1 (held_calls_placed o s)),
+  )
+
+  while_placed : (c : Expr) (b : Stmt) (at : Span) → ExprPlaced c → Placed b → ActPlaced (stmt.While c b) at
+  unfolding shape-the_row-Stmt-0 hidden-the_row-Stmt-0 shape-the_row-Stmt-1 hidden-the_row-Stmt-1 hidden
+  while_placed c b at p q = (
+    λ r loop names. both (expr_faults names c) (stmt_faults b r true ([] ∷ names)) (p.0 names) (q.0 r true ([] ∷ names)),
+    both (expr_places false c) (stmt_places b) (p.1 false) q.1,
+  )
+
+  do_placed : (b : Stmt) (c : Expr) (at : Span) → Placed b → ExprPlaced c → ActPlaced (stmt.DoWhile b c) at
+  unfolding shape-the_row-Stmt-0 hidden-the_row-Stmt-0 shape-the_row-Stmt-1 hidden-the_row-Stmt-1 hidden
+  do_placed b c at q p = (
+    λ r loop names. both (stmt_faults b r true ([] ∷ names)) (expr_faults names c) (q.0 r true ([] ∷ names)) (p.0 names),
+    both (stmt_places b) (expr_places false c) q.1 (p.1 false),
+  )
+
+  for_placed : (ss : List Stmt) (c : Option Expr) (o : Option Stmt) (b : Stmt) (at : Span) → AllPlaced ss → OptionPlaced c → PlacedIfAny o → Placed b → ActPlaced (stmt.For ss c o b) at
+  unfolding shape-the_row-Stmt-0 hidden-the_row-Stmt-0 shape-the_row-Stmt-1 hidden-the_row-Stmt-1 hidden
+  for_placed ss c o b at p q s k = (
+    λ r loop names.
+        let after : Sorts = sorts_after_row ([] ∷ names) (hidden-the_row-Stmt-0 ss) in
+        both (acts_faults (hidden-the_row-Stmt-0 ss) r false ([] ∷ names))
+        (option_faults after c ++ (held_faults (back-StmtKind-If-2 o) r false after ++ stmt_faults b r true ([] ∷ after)))
+        (acts_placed ss p r false ([] ∷ names))
+        (both (option_faults after c) (held_faults (back-StmtKind-If-2 o) r false after ++ stmt_faults b r true ([] ∷ after)) (q.0 after)
+        (both (held_faults (back-StmtKind-If-2 o) r false after) (stmt_faults b r true ([] ∷ after)) (held_placed o s r false after) (k.0 r true ([] ∷ after)))),
+    both (acts_places (hidden-the_row-Stmt-0 ss)) (option_places false c ++ (held_places (back-StmtKind-If-2 o) ++ stmt_places b)) (acts_calls_placed ss p)
+        (both (option_places false c) (held_places (back-StmtKind-If-2 o) ++ stmt_places b) (q.1 false)
+        (both (held_places (back-StmtKind-If-2 o)) (stmt_places b) (held_calls_placed o s) k.1)),
+  )
 
   mutual
     stmt_placed : (f : Bool) (ts : List Token) (s : Stmt) → DerivesStmt f ts s → Laid Q ts → Placed s
     stmt_placed f ts s (DerivesStmt.block us a z ss d) h = block_placed ss (place_of (between mark.OpenBrace a us mark.CloseBrace z)) (items_placed us ss d (inside mark.OpenBrace mark.CloseBrace a z us h))
-    stmt_placed f ts s (DerivesStmt.empty a) h = λ r loop names. tt
+    stmt_placed f ts s (DerivesStmt.empty a) h = (λ r loop names. tt, tt)
     stmt_placed f ts s (DerivesStmt.simple us z b d) h = simple_placed us b d (front us (marked mark.Semicolon z ∷ []) h)
     stmt_placed f ts s (DerivesStmt.without_else g i a z us ws c b cond body) h =
         let behind = rest (keyed key.If i) (between mark.Open a us mark.Close z ++ ws) h in
@@ -296,12 +386,15 @@ module _ (Q : Span → Type 0) where
         for_placed first c step body _ (first_placed us first one (front us (ws ++ marked mark.Semicolon b ∷ (xs ++ marked mark.Close z ∷ ys)) begun))
         (option_placed ws c two (front ws (marked mark.Semicolon b ∷ (xs ++ marked mark.Close z ∷ ys)) behind))
         (step_placed xs step three (front xs (marked mark.Close z ∷ ys) last)) (stmt_placed g ys body four (rest (marked mark.Close z) ys (back xs (marked mark.Close z ∷ ys) last)))
-    stmt_placed f ts s (DerivesStmt.leaving a z) h = λ r loop names. unless_placed loop rule.OutsideLoop a h.laid.2.0
-    stmt_placed f ts s (DerivesStmt.continuing a z) h = λ r loop names. unless_placed loop rule.OutsideLoop a h.laid.2.0
-    stmt_placed f ts s (DerivesStmt.returning a z us e d) h = λ r loop names.
+    stmt_placed f ts s (DerivesStmt.leaving a z) h = (λ r loop names. unless_placed loop rule.OutsideLoop a h.laid.2.0, tt)
+    stmt_placed f ts s (DerivesStmt.continuing a z) h = (λ r loop names. unless_placed loop rule.OutsideLoop a h.laid.2.0, tt)
+    stmt_placed f ts s (DerivesStmt.returning a z us e d) h =
         let own : Laid Q (keyed key.Return a ∷ us) = front (keyed key.Return a ∷ us) (marked mark.Semicolon z ∷ []) h in
-        both (unless (is_returnable r e) rule.ReturnKind (first_bytes 6 (place_of (keyed key.Return a ∷ us)))) (option_faults names e)
-        (unless_placed (is_returnable r e) rule.ReturnKind _ (return_place a us own)) (option_placed us e d (rest (keyed key.Return a) us own) names)
+        let value = option_placed us e d (rest (keyed key.Return a) us own) in (
+          λ r loop names. both (unless (is_returnable r e) rule.ReturnKind (first_bytes 6 (place_of (keyed key.Return a ∷ us)))) (option_faults names e)
+              (unless_placed (is_returnable r e) rule.ReturnKind _ (return_place a us own)) (value.0 names),
+          value.1 true,
+        )
 
     items_placed : (ts : List Token) (ss : List Stmt) → DerivesItems ts ss → Laid Q ts → AllPlaced ss
     items_placed ts ss DerivesItems.done h = tt
@@ -311,9 +404,13 @@ module _ (Q : Span → Type 0) where
   stmts_placed : (ss : List Stmt) → AllPlaced ss → (r : Option Ty) (loop : Bool) (names : Sorts) → ArePlaced (stmts_faults ss r loop names)
   stmts_placed [] h r loop names = tt
   stmts_placed (s ∷ ss) h r loop names =
-      both (stmt_faults s r loop names) (stmts_faults ss r loop (sorts_after names s.kind)) (h.0 r loop names) (stmts_placed ss h.1 r loop (sorts_after names s.kind))
+      both (stmt_faults s r loop names) (stmts_faults ss r loop (sorts_after names s.kind)) (h.0.0 r loop names) (stmts_placed ss h.1 r loop (sorts_after names s.kind))
 
-  -- ---- parameters and kernels
+  stmts_calls_placed : (ss : List Stmt) → AllPlaced ss → ArePlaced (stmts_places ss)
+  stmts_calls_placed [] h = tt
+  stmts_calls_placed (s ∷ ss) h = both (stmt_places s) (stmts_places ss) h.0.1 (stmts_calls_placed ss h.1)
+
+  -- ---- parameters
 
   abbrev ParamsPlaced : List Param → Type 0
   ParamsPlaced [] = Unit {0}
@@ -346,10 +443,77 @@ module _ (Q : Span → Type 0) where
       (param_faults_placed p (is_new_in names p.name) (elements + elements_of p.dims) h.0)
       (params_faults_placed ps (with_entry p.name (sort_of_dims p.dims) names) (elements + elements_of p.dims) h.1)
 
-  pub tree_placed : (ts : List Token) (tree : Tree) → Derives ts tree → Laid Q ts → ArePlaced (tree_faults tree)
-  tree_placed ts tree (Derives.kernel rs ps us x s a z b e r params body result parameters items) h =
-      let behind = rest (named x s) (between mark.Open a ps mark.Close z ++ between mark.OpenBrace b us mark.CloseBrace e)
-      (back rs (named x s ∷ (between mark.Open a ps mark.Close z ++ between mark.OpenBrace b us mark.CloseBrace e)) h) in
-      both (params_faults params ([] ∷ []) 0) (stmts_faults body r false (sorts_after_params ([] ∷ []) params))
-      (params_faults_placed params ([] ∷ []) 0 (params_placed ps params parameters (inside mark.Open mark.Close a z ps (front (between mark.Open a ps mark.Close z) (between mark.OpenBrace b us mark.CloseBrace e) behind))))
-      (stmts_placed body (items_placed us body items (inside mark.OpenBrace mark.CloseBrace b e us (back (between mark.Open a ps mark.Close z) (between mark.OpenBrace b us mark.CloseBrace e) behind))) r false (sorts_after_params ([] ∷ []) params))
+  -- the parameters and the statements of a block
+  block_faults_placed : (names : Sorts) (ps : List Param) (ss : List Stmt) (r : Option Ty) → ParamsPlaced ps → AllPlaced ss → ArePlaced (block_faults names ps ss r)
+  block_faults_placed names ps ss r h k =
+      both (params_faults ps names 0) (stmts_faults ss r false (sorts_after_params names ps)) (params_faults_placed ps names 0 h) (stmts_placed ss k r false (sorts_after_params names ps))
+
+  -- ---- helpers
+
+  abbrev HelperPlaced : Helper → Type 0
+  HelperPlaced f = ((names : Sorts) → ArePlaced (helper_faults names f)) × ArePlaced (helper_places f)
+
+  abbrev HelpersPlaced : List Helper → Type 0
+  HelpersPlaced [] = Unit {0}
+  HelpersPlaced (f ∷ fs) = HelperPlaced f × HelpersPlaced fs
+
+  helper_parts_placed : (f : Helper) → Q f.at → ParamsPlaced f.params → AllPlaced f.body → ExprPlaced f.value → HelperPlaced f
+  helper_parts_placed f name params body value = (
+    λ names. both (unless (is_new_in names f.name) rule.Redeclared f.at) (block_faults ([] ∷ names) f.params f.body (Some f.result) ++ expr_faults (sorts_at_end ([] ∷ names) f.params f.body) f.value)
+        (unless_placed (is_new_in names f.name) rule.Redeclared f.at name)
+        (both (block_faults ([] ∷ names) f.params f.body (Some f.result)) (expr_faults (sorts_at_end ([] ∷ names) f.params f.body) f.value)
+        (block_faults_placed ([] ∷ names) f.params f.body (Some f.result) params body) (value.0 (sorts_at_end ([] ∷ names) f.params f.body))),
+    both (stmts_places f.body) (expr_places true f.value) (stmts_calls_placed f.body body) (value.1 true),
+  )
+
+  helper_placed : (ts : List Token) (f : Helper) → DerivesHelper ts f → Laid Q ts → HelperPlaced f
+  helper_placed ts f (DerivesHelper.helper rs ps us ws x i s a z b r e y t params body v result parameters scalars items plain value) h =
+      let block : List Token = block_tokens b us r ws e y in
+      let last : List Token = keyed key.Return r ∷ (ws ++ marked mark.Semicolon e ∷ []) in
+      let name : Laid Q (named x s ∷ (between mark.Open a ps mark.Close z ++ block)) =
+      back rs (named x s ∷ (between mark.Open a ps mark.Close z ++ block)) (rest (keyed key.Static i) (rs ++ named x s ∷ (between mark.Open a ps mark.Close z ++ block)) h) in
+      let behind : Laid Q (between mark.Open a ps mark.Close z ++ block) = rest (named x s) (between mark.Open a ps mark.Close z ++ block) name in
+      let held : Laid Q (us ++ last) = inside mark.OpenBrace mark.CloseBrace b y (us ++ last) (back (between mark.Open a ps mark.Close z) block behind) in
+      helper_parts_placed f name.laid.2.0 (params_placed ps params parameters (inside mark.Open mark.Close a z ps (front (between mark.Open a ps mark.Close z) block behind)))
+      (items_placed us body items (front us last held))
+      (expr_placed 0 ws v value (front ws (marked mark.Semicolon e ∷ []) (rest (keyed key.Return r) (ws ++ marked mark.Semicolon e ∷ []) (back us last held))))
+
+  helpers_placed : (ts : List Token) (fs : List Helper) → DerivesHelpers ts fs → Laid Q ts → HelpersPlaced fs
+  helpers_placed ts fs DerivesHelpers.no_more h = tt
+  helpers_placed ts fs (DerivesHelpers.one_more us ws f more d ds) h = (helper_placed us f d (front us ws h), helpers_placed ws more ds (back us ws h))
+
+  helpers_faults_placed : (names : Sorts) (fs : List Helper) → HelpersPlaced fs → ArePlaced (helpers_faults names fs)
+  helpers_faults_placed names [] h = tt
+  helpers_faults_placed names (f ∷ fs) h =
+      both (helper_faults names f) (helpers_faults (sorts_after_helper names f) fs) (h.0.0 names) (helpers_faults_placed (sorts_after_helper names f) fs h.1)
+
+  helpers_calls_placed : (fs : List Helper) → HelpersPlaced fs → ArePlaced (helpers_places fs)
+  helpers_calls_placed [] h = tt
+  helpers_calls_placed (f ∷ fs) h = both (helper_places f) (helpers_places fs) h.0.1 (helpers_calls_placed fs h.1)
+
+  -- ---- kernels and programs
+
+  abbrev KernelPlaced : Tree → Type 0
+  KernelPlaced tree = ((names : Sorts) → ArePlaced (kernel_faults names tree)) × ArePlaced (stmts_places tree.body)
+
+  kernel_placed : (ts : List Token) (tree : Tree) → Derives ts tree → Laid Q ts → KernelPlaced tree
+  kernel_placed ts tree (Derives.kernel rs ps us x s a z b e r params body result parameters items) h =
+      let head : List Token = between mark.Open a ps mark.Close z in
+      let block : List Token = between mark.OpenBrace b us mark.CloseBrace e in
+      let name : Laid Q (named x s ∷ (head ++ block)) = back rs (named x s ∷ (head ++ block)) h in
+      let behind : Laid Q (head ++ block) = rest (named x s) (head ++ block) name in
+      let all_params = params_placed ps params parameters (inside mark.Open mark.Close a z ps (front head block behind)) in
+      let all_items = items_placed us body items (inside mark.OpenBrace mark.CloseBrace b e us (back head block behind)) in (
+        λ names. both (unless (is_new_in names x) rule.Redeclared s) (block_faults ([] ∷ names) params body r) (unless_placed (is_new_in names x) rule.Redeclared s name.laid.2.0)
+            (block_faults_placed ([] ∷ names) params body r all_params all_items),
+        stmts_calls_placed body all_items,
+      )
+
+  pub program_placed : (ts : List Token) (p : Program) → DerivesProgram ts p → Laid Q ts → ArePlaced (program_faults p)
+  program_placed ts p (DerivesProgram.program us ws fs tree ds d) h =
+      let helpers = helpers_placed us fs ds (front us ws h) in
+      let kernel = kernel_placed ws tree d (back us ws h) in
+      let names : Sorts = sorts_after_helpers ([] ∷ []) fs in
+      both (helpers_faults ([] ∷ []) fs ++ kernel_faults names tree) (helpers_places fs ++ stmts_places tree.body)
+      (both (helpers_faults ([] ∷ []) fs) (kernel_faults names tree) (helpers_faults_placed ([] ∷ []) fs helpers) (kernel.0 names))
+      (both (helpers_places fs) (stmts_places tree.body) (helpers_calls_placed fs helpers) kernel.1)

@@ -1,27 +1,27 @@
--- A tree that a text spells has one fault that goes first.
+-- A program that a text spells has one fault that goes first.
 use Rattle.std.proofs.Common.{◌≡◌, ℕ, false, ◌==◌, ◌&&◌, ◌||◌, nat_lt, nat_eq, if◌then◌else◌, List, [], ◌∷◌, All, Some, refl, sym, ap, ◌∙◌, arith}
 use Rattle.std.proofs.lemmas.Bool.Decides.{nat_tests}
 use Rattle.std.proofs.lemmas.List.Elements.{All-nil, All-cons, All-contains}
 use Rattle.el_base.specs.declared.span.Span.{Span}
 use Rattle.c_ast.specs.declared.token.Token.{Token}
-use Rattle.c_ast.specs.declared.tree.Tree.{Tree}
-use Rattle.c_ast.specs.Derives.{Derives}
+use Rattle.c_ast.specs.declared.tree.Program.{Program}
+use Rattle.c_ast.specs.ProgramTexts.{DerivesProgram}
 use Rattle.c_ast.specs.Tokens.{Tokens}
 use Rattle.c_types.specs.declared.fault.Rule.{Rule}
 use Rattle.c_types.specs.declared.fault.Rule.TheVariants as rule
 use Rattle.c_types.specs.declared.fault.Fault.{Fault}
 use Rattle.c_types.specs.Places.{fault, is_before, IsFirst}
 use Rattle.c_types.specs.Refusals.{rule_number}
-use Rattle.c_types.specs.Faults.{tree_faults}
+use Rattle.c_types.specs.ProgramFaults.{program_faults}
 use Rattle.kernel_front.proofs.Laid.{IsPlaceOf, place_from, tokens_laid}
-use Rattle.kernel_front.proofs.FaultPlaces.{ArePlaced, tree_placed}
+use Rattle.kernel_front.proofs.FaultPlaces.{ArePlaced, program_placed}
 
 -- ---- a rule is known by its number
 
 rule_by : ℕ → Rule
 rule_by n =
     if n == 20 then rule.Undeclared else (if n == 21 then rule.Redeclared else (if n == 22 then rule.NotArray else (if n == 23 then rule.NotScalar
-    else (if n == 24 then rule.Dimensions else (if n == 25 then rule.Length else (if n == 26 then rule.ReturnKind else (if n == 27 then rule.OutsideLoop else (if n == 17 then rule.NotHelper else rule.Arguments))))))))
+    else (if n == 24 then rule.Dimensions else (if n == 25 then rule.Length else (if n == 26 then rule.ReturnKind else (if n == 27 then rule.OutsideLoop else (if n == 17 then rule.NotHelper else (if n == 28 then rule.CallPlace else rule.Arguments)))))))))
 
 rule_back : (r : Rule) → rule_by (rule_number r) ≡ r
 unfolding rule_by
@@ -34,6 +34,7 @@ rule_back rule.Length = refl
 rule_back rule.ReturnKind = refl
 rule_back rule.OutsideLoop = refl
 rule_back rule.NotHelper = refl
+rule_back rule.CallPlace = refl
 rule_back rule.Arguments = refl
 
 same_rule : (r q : Rule) → rule_number r ≡ rule_number q → r ≡ q
@@ -59,10 +60,10 @@ same_some a b e = cc
 same_span : (ts : List Token) (s z : Span) → IsPlaceOf ts s → IsPlaceOf ts z → s.start ≡ z.start → s ≡ z
 same_span ts s z h k e = same_some s z (sym h ∙ ap (place_from ts) e ∙ k)
 
-pub one_fault : (bytes : List ℕ) (ts : List Token) (tree : Tree) (f g : Fault) → Tokens bytes ts → Derives ts tree → IsFirst f (tree_faults tree) → IsFirst g (tree_faults tree) → f ≡ g
-one_fault bytes ts tree f g read derived h k =
-    let fs = tree_faults tree in
-    let places = all_placed (IsPlaceOf ts) fs (tree_placed (IsPlaceOf ts) ts tree derived (record { from = 0; laid = tokens_laid bytes ts read })) in
+pub one_fault : (bytes : List ℕ) (ts : List Token) (p : Program) (f g : Fault) → Tokens bytes ts → DerivesProgram ts p → IsFirst f (program_faults p) → IsFirst g (program_faults p) → f ≡ g
+one_fault bytes ts p f g read derived h k =
+    let fs = program_faults p in
+    let places = all_placed (IsPlaceOf ts) fs (program_placed (IsPlaceOf ts) ts p derived (record { from = 0; laid = tokens_laid bytes ts read })) in
     let not_after = All-contains (λ q. is_before q f ≡ false) fs g h.none_before k.one_of_them in
     let not_before = All-contains (λ q. is_before q g ≡ false) fs f k.none_before h.one_of_them in
     let starts : f.span.start ≡ g.span.start = same_start f.span.start g.span.start (rule_number f.rule) (rule_number g.rule) not_before not_after in

@@ -1,21 +1,13 @@
--- Texts that spell and type are kernels.
-use Rattle.std.proofs.Common.{◌≡◌, List, refl, sym, All}
-use Rattle.std.specs.Prelude.{Ok}
-use Rattle.c_ast.specs.declared.token.Token.{Token}
-use Rattle.c_ast.specs.declared.tree.Tree.{Tree}
-use Rattle.c_ast.specs.declared.typed.Typed.{Typed}
-use Rattle.c_ast.specs.Constants.{NumberFits, NumbersFit}
-use Rattle.c_ast.specs.Nodes.{tree_nodes, typed_nodes}
-use Rattle.c_ast.specs.Typing.{Typing}
-use Rattle.c_ast.specs.Casts.{Casts}
-use Rattle.c_ast.specs.Derives.{Derives}
-use Rattle.c_lex.proofs.Fitting.{answer_fits}
-use Rattle.c_meaning.specs.Lawful.{Lawful}
-use Rattle.kernel_front.specs.Laws.{TextsThatTypeAreKernels}
+-- Texts that spell and type are kernels, and kernels end where their programs do.
+use Rattle.std.proofs.Common.{refl}
+use Rattle.c_calls.specs.Laws.{CallsAreInlined, InlinedIsLawful}
+use Rattle.c_calls.specs.Texts.{TypedIsLawful}
+use Rattle.kernel_front.specs.Laws.{TextsThatTypeAreKernels, KernelsEndAsPrograms}
+use Rattle.kernel_front.proofs.Answering.{OfTexts, lawful_program}
 
-pub are_kernels : ((tree : Tree) (k : Typed) → Typing tree → NumbersFit tree → Casts tree k → Lawful k)
-    → ((tokens : List Token) (tree : Tree) → Derives tokens tree → All NumberFits tokens → NumbersFit tree)
-    → ((tree : Tree) (k : Typed) → Casts tree k → typed_nodes k ≡ tree_nodes tree) → TextsThatTypeAreKernels
-are_kernels lawful numbers nodes bytes tree k spelled typing casts =
-    let fit = numbers spelled.spells.tokens tree spelled.spells.derived (answer_fits bytes (Ok spelled.spells.tokens) spelled.spells.read) in
-    record { tree = tree; within = spelled; typing = typing; casts = casts; lawful = lawful tree k typing fit casts; nodes = refl; typed_nodes = sym (nodes tree k casts); small = spelled.small }
+pub are_kernels : TypedIsLawful → OfTexts → InlinedIsLawful → TextsThatTypeAreKernels
+are_kernels law of_texts lawful bytes program k spelled made small =
+    record { program = program; spelled = spelled; inlined = made; lawful = lawful program k (lawful_program law of_texts bytes program spelled) made; typed_nodes = refl; small = small }
+
+pub end_as_programs : TypedIsLawful → OfTexts → CallsAreInlined → KernelsEndAsPrograms
+end_as_programs law of_texts inlined bytes kernel is = inlined is.program kernel.typed (lawful_program law of_texts bytes is.program is.spelled) is.inlined

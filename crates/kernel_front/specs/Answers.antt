@@ -3,21 +3,25 @@ use Rattle.std.specs.Prelude.{◌≡◌, ◌≢◌, ◌⊎◌, ℕ, ◌≤◌, L
 use Rattle.el_base.specs.Limits.{max_nodes}
 use Rattle.el_base.specs.declared.span.Span.{Span}
 use Rattle.c_ast.specs.declared.token.Token.{Token}
-use Rattle.c_ast.specs.declared.tree.Tree.{Tree}
+use Rattle.c_ast.specs.declared.tree.Program.{Program}
+use Rattle.c_ast.specs.declared.program.TypedProgram.{TypedProgram}
 use Rattle.c_ast.specs.Tokens.{Tokens, span_at}
-use Rattle.c_ast.specs.Spells.{Spells}
-use Rattle.c_ast.specs.Prefixes.{IsShallow}
-use Rattle.c_ast.specs.Nodes.{tree_nodes, typed_nodes}
-use Rattle.c_ast.specs.Typing.{Typing}
-use Rattle.c_ast.specs.Casts.{Casts}
+use Rattle.c_ast.specs.ProgramTexts.{DerivesProgram, IsShallowProgram}
+use Rattle.c_ast.specs.Nodes.{typed_nodes}
+use Rattle.c_ast.specs.Programs.{program_nodes, TypingProgram}
+use Rattle.c_ast.specs.ProgramCasts.{CastsProgram}
 use Rattle.c_meaning.specs.Lawful.{Lawful}
+use Rattle.c_calls.specs.Inlined.{Inlined}
+use Rattle.c_inline.specs.Refusals.{IsGrown}
+use Rattle.c_inline.specs.declared.refusal.InlineRefusal.{InlineRefusal}
+use Rattle.c_inline.specs.declared.refusal.InlineRefusal.TheVariants as inline
 use Rattle.c_lex.specs.Refusals as lexer
 use Rattle.c_lex.specs.declared.refusal.LexRefusal.{LexRefusal}
 use Rattle.c_lex.specs.declared.refusal.LexRefusal.TheVariants as lex
-use Rattle.c_parse.specs.Refusals as parser
+use Rattle.c_parse.specs.ProgramRefusals as parser
 use Rattle.c_parse.specs.declared.refusal.ParseRefusal.{ParseRefusal}
 use Rattle.c_parse.specs.declared.refusal.ParseRefusal.TheVariants as parse
-use Rattle.c_types.specs.Causes.{IsCause}
+use Rattle.c_types.specs.Causes.{IsProgramCause}
 use Rattle.c_types.specs.declared.fault.TypeRefusal.{TypeRefusal}
 use Rattle.c_types.specs.declared.fault.TypeRefusal.TheVariants as types
 use Rattle.kernel_front.specs.declared.reading.Kernel.{Kernel}
@@ -28,20 +32,27 @@ use Rattle.kernel_front.specs.declared.refusal.KernelRefusal.TheVariants as refu
 abbrev pub end_of_text : List ℕ → Span
 end_of_text bytes = span_at bytes (length bytes) 0
 
--- the bytes spell a tree within the limits on nesting and on nodes
-pub record SpellsWithin (bytes : List ℕ) (tree : Tree) : Type 0 where
-  pub spells : Spells bytes tree
-  pub shallow : IsShallow spells.tokens
-  pub small : tree_nodes tree ≤ max_nodes
+-- the bytes spell a program, helpers and a kernel, within the limits on nesting and on nodes, which are those of the text
+pub record SpellsWithin (bytes : List ℕ) (program : Program) : Type 0 where
+  pub tokens : List Token
+  pub read : Tokens bytes tokens
+  pub derived : DerivesProgram tokens program
+  pub shallow : IsShallowProgram tokens
+  pub small : program_nodes program ≤ max_nodes
 
--- the bytes spell a tree that keeps the typing rules, and the kernel is its typed tree, with their number of nodes
+-- the bytes spell a program within the limits that keeps the typing rules, and this is its typed program
+pub record SpellsTyped (bytes : List ℕ) (typed : TypedProgram) : Type 0 where
+  pub program : Program
+  pub within : SpellsWithin bytes program
+  pub typing : TypingProgram program
+  pub casts : CastsProgram program typed
+
+-- the bytes spell a program that keeps the typing rules, and the kernel is the tree without calls that its typed program becomes, with the number of its nodes
 pub record IsKernel (bytes : List ℕ) (kernel : Kernel) : Type 0 where
-  pub tree : Tree
-  pub within : SpellsWithin bytes tree
-  pub typing : Typing tree
-  pub casts : Casts tree kernel.typed
+  pub program : TypedProgram
+  pub spelled : SpellsTyped bytes program
+  pub inlined : Inlined program kernel.typed
   pub lawful : Lawful kernel.typed
-  pub nodes : kernel.nodes ≡ tree_nodes tree
   pub typed_nodes : kernel.nodes ≡ typed_nodes kernel.typed
   pub small : kernel.nodes ≤ max_nodes
 
@@ -57,14 +68,21 @@ pub record IsParsed (bytes : List ℕ) (e : ParseRefusal) : Type 0 where
   pub told : e ≢ parse.Memory
   pub tokens : List Token
   pub read : Tokens bytes tokens
-  pub cause : parser.Says tokens (end_of_text bytes) (Err e)
+  pub cause : parser.SaysProgram tokens (end_of_text bytes) (Err e)
 
--- the bytes spell a tree within the limits, and it is refused
+-- the bytes spell a program within the limits, and it is refused
 pub record IsTyped (bytes : List ℕ) (e : TypeRefusal) : Type 0 where
   pub told : e ≢ types.Memory
-  pub tree : Tree
-  pub within : SpellsWithin bytes tree
-  pub cause : IsCause tree e
+  pub program : Program
+  pub within : SpellsWithin bytes program
+  pub cause : IsProgramCause program e
+
+-- the bytes spell a program that keeps the typing rules, and the tree without calls that it becomes is refused
+pub record IsInlined (bytes : List ℕ) (e : InlineRefusal) : Type 0 where
+  pub told : e ≢ inline.Memory
+  pub program : TypedProgram
+  pub spelled : SpellsTyped bytes program
+  pub cause : IsGrown program e
 
 -- ---- answers
 
@@ -74,6 +92,7 @@ Says bytes (Ok kernel) = IsKernel bytes kernel
 Says bytes (Err (refusal.Lex e)) = IsLexed bytes e
 Says bytes (Err (refusal.Parse e)) = IsParsed bytes e
 Says bytes (Err (refusal.Types e)) = IsTyped bytes e
+Says bytes (Err (refusal.Inline e)) = IsInlined bytes e
 Says bytes (Err refusal.Memory) = Unit {0}
 
 -- no other answer but want of memory says what holds of the bytes

@@ -1,13 +1,31 @@
--- The law of texts that type.
-use Rattle.std.specs.Prelude.{ℕ, List}
-use Rattle.c_ast.specs.declared.tree.Tree.{Tree}
+-- The laws of texts that type: they are kernels, and a kernel ends where its program does.
+use Rattle.std.specs.Prelude.{◌↔◌, ◌≤◌, ℕ, ℤ, List, Option}
+use Rattle.el_base.specs.Limits.{max_nodes}
+use Rattle.c_ast.specs.declared.tree.Program.{Program}
+use Rattle.c_ast.specs.declared.program.TypedProgram.{TypedProgram}
 use Rattle.c_ast.specs.declared.typed.Typed.{Typed}
-use Rattle.c_ast.specs.Nodes.{tree_nodes}
-use Rattle.c_ast.specs.Typing.{Typing}
-use Rattle.c_ast.specs.Casts.{Casts}
-use Rattle.kernel_front.specs.Answers.{SpellsWithin, IsKernel}
+use Rattle.c_ast.specs.Nodes.{typed_nodes}
+use Rattle.c_ast.specs.ProgramCasts.{CastsProgram}
+use Rattle.c_meaning.specs.declared.profile.Profile.{Profile}
+use Rattle.c_meaning.specs.Stores.{Inputs}
+use Rattle.c_meaning.specs.Statements.{Ends}
+use Rattle.c_calls.specs.Inlined.{Inlined}
+use Rattle.c_calls.specs.Meanings.{Calls}
+use Rattle.kernel_front.specs.declared.reading.Kernel.{Kernel}
+use Rattle.kernel_front.specs.Answers.{SpellsTyped, IsKernel}
 
--- bytes that spell a tree within the limits which keeps the typing rules are a kernel: its typed tree, with the nodes of the tree
+-- whatever tree without calls a program becomes has no more nodes than a kernel may have
+abbrev pub BecomesSmall : Program → Type 0
+BecomesSmall program = (typed : TypedProgram) (k : Typed) → CastsProgram program typed → Inlined typed k → typed_nodes k ≤ max_nodes
+
+-- bytes that spell a program within the limits which keeps the typing rules, and whose tree without calls has no more nodes than a kernel may have, are a kernel:
+-- that tree, with its nodes
 abbrev pub TextsThatTypeAreKernels : Type 0
-TextsThatTypeAreKernels = (bytes : List ℕ) (tree : Tree) (k : Typed) → SpellsWithin bytes tree → Typing tree → Casts tree k
-    → IsKernel bytes (record { typed = k; nodes = tree_nodes tree })
+TextsThatTypeAreKernels = (bytes : List ℕ) (program : TypedProgram) (k : Typed) → SpellsTyped bytes program → Inlined program k → typed_nodes k ≤ max_nodes
+    → IsKernel bytes (record { typed = k; nodes = typed_nodes k })
+
+-- where bytes spell a typed program, and a kernel is the tree without calls that it becomes, then for every profile and all inputs the program ends with these arrays
+-- and this result exactly where the kernel does
+abbrev pub KernelsEndAsPrograms : Type 0
+KernelsEndAsPrograms = (bytes : List ℕ) (kernel : Kernel) (is : IsKernel bytes kernel)
+    → (p : Profile) (i : Inputs) (out : List (List ℤ)) (r : Option ℤ) → Calls is.program p i out r ↔ ((t : ℕ) × Ends kernel.typed p i out r t)

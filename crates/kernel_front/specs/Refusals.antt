@@ -1,4 +1,4 @@
--- The number, the word and the place by which refusals of kernels are printed, each by the table of the lexer, the parser or the type checker.
+-- The number, the word and the place by which refusals of kernels are printed, each by the table of the lexer, of the parser, of the type checker or of the maker of trees without calls.
 use Rattle.std.specs.Prelude.{ℕ, List, Option, None, codes}
 use Rattle.el_base.specs.Labels.{printed}
 use Rattle.el_base.specs.declared.span.Span.{Span}
@@ -11,6 +11,9 @@ use Rattle.c_parse.specs.declared.refusal.ParseRefusal.TheVariants as parse
 use Rattle.c_types.specs.Refusals as checker
 use Rattle.c_types.specs.declared.fault.TypeRefusal.{TypeRefusal}
 use Rattle.c_types.specs.declared.fault.TypeRefusal.TheVariants as types
+use Rattle.c_inline.specs.Printed as inliner
+use Rattle.c_inline.specs.declared.refusal.InlineRefusal.{InlineRefusal}
+use Rattle.c_inline.specs.declared.refusal.InlineRefusal.TheVariants as inline
 use Rattle.kernel_front.specs.declared.refusal.KernelRefusal.{KernelRefusal}
 use Rattle.kernel_front.specs.declared.refusal.KernelRefusal.TheVariants as refusal
 
@@ -19,12 +22,14 @@ abbrev pub refusal_number : KernelRefusal → Option ℕ
 refusal_number (refusal.Lex e) = lexer.refusal_number e
 refusal_number (refusal.Parse e) = parser.refusal_number e
 refusal_number (refusal.Types e) = checker.number_of e
+refusal_number (refusal.Inline e) = inliner.refusal_number e
 refusal_number refusal.Memory = None
 
 abbrev pub refusal_word : KernelRefusal → List ℕ
 refusal_word (refusal.Lex e) = lexer.refusal_word e
 refusal_word (refusal.Parse e) = parser.refusal_word e
 refusal_word (refusal.Types e) = checker.word_of e
+refusal_word (refusal.Inline e) = inliner.refusal_word e
 refusal_word refusal.Memory = codes "Memory"
 
 -- want of memory has no place
@@ -32,13 +37,14 @@ abbrev pub refusal_span : KernelRefusal → Option Span
 refusal_span (refusal.Lex e) = lexer.refusal_span e
 refusal_span (refusal.Parse e) = parser.refusal_span e
 refusal_span (refusal.Types e) = checker.span_of e
+refusal_span (refusal.Inline e) = inliner.refusal_span e
 refusal_span refusal.Memory = None
 
 -- what is printed: the number, a space (32) and the word
 abbrev pub refusal_text : KernelRefusal → List ℕ
 refusal_text r = printed (refusal_number r) (refusal_word r)
 
--- ---- the refusal of a kernel whose text, tokens or tree are refused so; want of memory is the same everywhere
+-- ---- the refusal of a kernel whose text, tokens, program or tree without calls are refused so; want of memory is the same everywhere
 
 abbrev pub of_lexer : LexRefusal → KernelRefusal
 of_lexer lex.Memory = refusal.Memory
@@ -59,3 +65,7 @@ of_parser (parse.TooLarge s n) = refusal.Parse (parse.TooLarge s n)
 abbrev pub of_types : TypeRefusal → KernelRefusal
 of_types types.Memory = refusal.Memory
 of_types (types.Broken f) = refusal.Types (types.Broken f)
+
+abbrev pub of_inliner : InlineRefusal → KernelRefusal
+of_inliner inline.Memory = refusal.Memory
+of_inliner (inline.Grown s n) = refusal.Inline (inline.Grown s n)

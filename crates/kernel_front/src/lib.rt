@@ -5,7 +5,7 @@ mod reading;
 mod refusal;
 
 pub use reading::{
-    Kernel, one_text_has_one_answer, places_count_lines_and_columns, read_kernel,
-    texts_that_type_are_kernels,
+    Kernel, kernels_end_as_programs, one_text_has_one_answer, places_count_lines_and_columns,
+    read_kernel, texts_that_type_are_kernels,
 };
 pub use refusal::KernelRefusal;

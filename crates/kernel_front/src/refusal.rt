@@ -2,6 +2,7 @@
 ghost use Rattle.std.specs.Prelude.{◌≡◌};
 ghost use Rattle.kernel_front.specs.Refusals.{refusal_number, refusal_word, refusal_span};
 
+use c_inline::InlineRefusal;
 use c_lex::LexRefusal;
 use c_parse::ParseRefusal;
 use c_types::TypeRefusal;
@@ -9,23 +10,25 @@ use el_base::{Label, Memory, Span};
 use std::error::Error;
 use std::fmt;
 
-/// Why the bytes of a kernel have no typed tree: what the first of lexer, parser and type checker to
-/// refuse it says. Want of memory is [`KernelRefusal::Memory`] whichever of them wanted it.
+/// Why the bytes of a kernel have no typed tree: what the first of lexer, parser, type checker and
+/// inliner to refuse it says. Want of memory is [`KernelRefusal::Memory`] whichever of them wanted it.
 #[derive(Debug, Drop)]
 pub enum KernelRefusal {
     /// The text has no tokens.
     Lex(LexRefusal),
-    /// Its tokens have no tree.
+    /// Its tokens have no program.
     Parse(ParseRefusal),
-    /// Its tree has no typed tree.
+    /// Its program has no typed program.
     Types(TypeRefusal),
+    /// Its typed program has no tree without calls that is small enough.
+    Inline(InlineRefusal),
     /// Memory ran out.
     Memory,
 }
 
 impl KernelRefusal {
-    /// The number by which it is printed: 1 to 6 from the lexer, 10 to 13 from the parser, 20 to 27 from
-    /// the type checker; none for want of memory.
+    /// The number by which it is printed: 1 to 6 from the lexer, 10 to 13 from the parser, 17 and 20 to 29
+    /// from the type checker, 15 from the inliner; none for want of memory.
     pub fn number(&self) -> Option<u32>
         ensures { result ≡ refusal_number self.now }
     {
@@ -33,6 +36,7 @@ impl KernelRefusal {
             KernelRefusal::Lex(refusal) => refusal.number(),
             KernelRefusal::Parse(refusal) => refusal.number(),
             KernelRefusal::Types(refusal) => refusal.number(),
+            KernelRefusal::Inline(refusal) => refusal.number(),
             KernelRefusal::Memory => None,
         }
     }
@@ -45,6 +49,7 @@ impl KernelRefusal {
             KernelRefusal::Lex(refusal) => refusal.word(),
             KernelRefusal::Parse(refusal) => refusal.word(),
             KernelRefusal::Types(refusal) => refusal.word(),
+            KernelRefusal::Inline(refusal) => refusal.word(),
             KernelRefusal::Memory => "Memory",
         }
     }
@@ -57,6 +62,7 @@ impl KernelRefusal {
             KernelRefusal::Lex(refusal) => refusal.span(),
             KernelRefusal::Parse(refusal) => refusal.span(),
             KernelRefusal::Types(refusal) => refusal.span(),
+            KernelRefusal::Inline(refusal) => refusal.span(),
             KernelRefusal::Memory => None,
         }
     }
@@ -125,6 +131,19 @@ impl From<TypeRefusal> for KernelRefusal {
         match refusal {
             TypeRefusal::Memory => KernelRefusal::Memory,
             _ => KernelRefusal::Types(refusal),
+        }
+    }
+}
+
+impl From<InlineRefusal> for KernelRefusal {
+    ghost use Rattle.kernel_front.specs.Refusals.{of_inliner};
+
+    ghost from_gives = { λ r e. e ≡ of_inliner r };
+
+    fn from(refusal: InlineRefusal) -> KernelRefusal {
+        match refusal {
+            InlineRefusal::Memory => KernelRefusal::Memory,
+            _ => KernelRefusal::Inline(refusal),
         }
     }
 }

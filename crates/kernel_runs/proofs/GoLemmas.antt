@@ -25,6 +25,7 @@ pub kernel_goes : (bytes inputs : Bytes) (c : CircuitOptions) (o : RunOptions) (
 kernel_goes bytes inputs c o (front.Lex r) is = is
 kernel_goes bytes inputs c o (front.Parse r) is = is
 kernel_goes bytes inputs c o (front.Types r) is = is
+kernel_goes bytes inputs c o (front.Inline r) is = is
 kernel_goes bytes inputs c o front.Memory is = tt
 
 module _ (bytes inputs : Bytes) (c : CircuitOptions) (o : RunOptions) (kernel : Kernel) (net : Net) (read : IsKernel bytes kernel)

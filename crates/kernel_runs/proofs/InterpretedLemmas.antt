@@ -24,7 +24,7 @@ use Rattle.kernel_ref.specs.declared.options.InterpretOptions.{InterpretOptions}
 use Rattle.kernel_ref.specs.Texts.{On, Gives}
 use Rattle.kernel_ref.specs.Results.{EndsWith}
 use Rattle.net_runs.specs.Given.{Bytes}
-use Rattle.kernel_runs.specs.Goes.{GivesNumbers, Begins, BeginsWithEnd, IsRight}
+use Rattle.kernel_runs.specs.Goes.{GivesNumbers, IsFront, BeginsWithEnd, IsRight}
 use Rattle.kernel_runs.specs.Laws.{EndingKernelsRun, GoesAsInterpreted}
 use Rattle.kernel_runs.specs.Printed.{InterpretedKernelsGo}
 use Rattle.kernel_runs.proofs.RefusedLemmas.{one_kernel}
@@ -69,7 +69,7 @@ module _ (again : (t : Ty) (p : ℕ) → p < 2 ^ ty_width t → pattern t (numbe
     given_numbers : (k : Typed) (bytes : Bytes) (i : Inputs) → Gives k bytes i → InputsFit k i → GivesNumbers k bytes (input_numbers k i)
     given_numbers k bytes i given fit = record { fitting = inputs_fit k i stand fit; given = subst (Gives k bytes) (sym (inputs_back k i fit)) given }
 
-    begins : (k : Typed) (bytes text : Bytes) (made : ℕ) (o : InterpretOptions) (told : Bytes) → IsRight k bytes text made → (on : On k bytes (EndsWith o told k)) → Begins on.holds.results text
+    begins : (k : Typed) (bytes text : Bytes) (made : ℕ) (o : InterpretOptions) (told : Bytes) → IsRight k bytes text made → (on : On k bytes (EndsWith o told k)) → IsFront on.holds.results text
     begins k bytes text made o told right on =
         let e = on.holds in
         let so = e.ends in
@@ -77,7 +77,7 @@ module _ (again : (t : Ty) (p : ℕ) → p < 2 ^ ty_width t → pattern t (numbe
         let same : end.results ≡ e.results =
         end.shown ∙ ap (λ xs. array_lines (map flat k.arrays) xs ++ return_line k.result (result_pattern k.result so.r)) (sym so.arrays_are)
         ∙ ap (λ v. array_lines (map flat k.arrays) e.arrays ++ return_line k.result v) (sym so.value_is) ∙ sym e.shown in
-        subst (λ front. Begins front text) same end.front
+        subst (λ front. IsFront front text) same end.front
 
     pub as_interpreted : ((bytes : List ℕ) → HasOneAnswer bytes) → GoesAsInterpreted
     as_interpreted one bytes inputs kernel c o i text told read goes ends =

@@ -54,18 +54,21 @@ said : (bytes : Bytes) (c : CircuitOptions) (r : KernelRefusal) → Compiles byt
 said bytes c (front.Lex r) is = is
 said bytes c (front.Parse r) is = is
 said bytes c (front.Types r) is = is
+said bytes c (front.Inline r) is = is
 said bytes c front.Memory is = tt
 
 abbrev is_want : KernelRefusal → Bool
 is_want (front.Lex r) = false
 is_want (front.Parse r) = false
 is_want (front.Types r) = false
+is_want (front.Inline r) = false
 is_want front.Memory = true
 
 told : (bytes : Bytes) (r : KernelRefusal) → IsNoKernel bytes r → (r ≢ front.Memory) × Says bytes (Err r)
 told bytes (front.Lex r) is = (λ e. absurd (cc), is)
 told bytes (front.Parse r) is = (λ e. absurd (cc), is)
 told bytes (front.Types r) is = (λ e. absurd (cc), is)
+told bytes (front.Inline r) is = (λ e. absurd (cc), is)
 told bytes front.Memory is = absurd is
 
 abbrev refusal_or : KernelRefusal → Result Kernel KernelRefusal → KernelRefusal

@@ -55,12 +55,14 @@ module _ (one : (bytes : List ℕ) → HasOneAnswer bytes) where
   no_kernel bytes k (front.Lex r) is told = kernel_or_not bytes k (front.Lex r) is (λ e. absurd (cc)) told
   no_kernel bytes k (front.Parse r) is told = kernel_or_not bytes k (front.Parse r) is (λ e. absurd (cc)) told
   no_kernel bytes k (front.Types r) is told = kernel_or_not bytes k (front.Types r) is (λ e. absurd (cc)) told
+  no_kernel bytes k (front.Inline r) is told = kernel_or_not bytes k (front.Inline r) is (λ e. absurd (cc)) told
   no_kernel bytes k front.Memory is told = told
 
   pub compile : KernelsCompile
   compile bytes kernel o (front.Lex r) is some told = kernel_or_not bytes kernel (front.Lex r) is some told
   compile bytes kernel o (front.Parse r) is some told = kernel_or_not bytes kernel (front.Parse r) is some told
   compile bytes kernel o (front.Types r) is some told = kernel_or_not bytes kernel (front.Types r) is some told
+  compile bytes kernel o (front.Inline r) is some told = kernel_or_not bytes kernel (front.Inline r) is some told
   compile bytes kernel o front.Memory is some told = some refl
 
   -- ---- a kernel that ends in time

@@ -32,7 +32,7 @@ use Rattle.net_runs.specs.Given.{Bytes, Gives, On}
 use Rattle.net_runs.specs.Results.{AreElementsIn, IsTextOf, count_line, cycles_line, log_lines}
 use Rattle.net_runs.specs.Runs.{Runs, Sticks}
 use Rattle.net_runs.proofs.OneRuns.{exit_kind}
-use Rattle.kernel_runs.specs.Goes.{GivesNumbers, Begins, IsRight, GoesTo}
+use Rattle.kernel_runs.specs.Goes.{GivesNumbers, IsFront, IsRight, GoesTo}
 use Rattle.kernel_runs.specs.Joined.{IsJoinedText}
 
 -- as many arrays of patterns as arrays
@@ -42,7 +42,7 @@ patterns_counted [] (zs ∷ zss) h = absurd h
 patterns_counted (x ∷ xs) [] h = absurd h
 patterns_counted (x ∷ xs) (zs ∷ zss) h = ap suc (patterns_counted xs zss h.2)
 
-front_of : (front a b c text : Bytes) → text ≡ front ++ a ++ b ++ c → Begins front text
+front_of : (front a b c text : Bytes) → text ≡ front ++ a ++ b ++ c → IsFront front text
 front_of front a b c text is = record { rest = a ++ (b ++ c); whole = is ∙ append_assoc (front ++ a) b c ∙ append_assoc front a (b ++ c) }
 
 -- ---- headers

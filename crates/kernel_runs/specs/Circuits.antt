@@ -7,12 +7,12 @@ use Rattle.net_text.specs.Refusals.{ReadsBack}
 use Rattle.kernel_front.specs.declared.reading.Kernel.{Kernel}
 use Rattle.kernel_front.specs.declared.refusal.KernelRefusal.{KernelRefusal}
 use Rattle.kernel_front.specs.declared.refusal.KernelRefusal.TheVariants as front
-use Rattle.kernel_front.specs.Answers.{IsKernel, IsLexed, IsParsed, IsTyped}
+use Rattle.kernel_front.specs.Answers.{IsKernel, IsLexed, IsParsed, IsTyped, IsInlined}
 use Rattle.kernel_compile.specs.Compiling.{IsCircuit}
 use Rattle.net_runs.specs.Given.{Bytes}
 use Rattle.kernel_runs.specs.declared.options.CircuitOptions.{CircuitOptions}
 
--- the bytes spell and type a kernel, and some net is its circuit, as it is asked for; of both that holds
+-- the bytes are a kernel, and some net is its circuit, as it is asked for; of both that holds
 pub record OfCircuit (bytes : Bytes) (o : CircuitOptions) (Holds : Typed → Net → Type 0) : Type 0 where
   pub kernel : Kernel
   pub read : IsKernel bytes kernel
@@ -30,6 +30,7 @@ abbrev pub IsNoKernel : Bytes → KernelRefusal → Type 0
 IsNoKernel bytes (front.Lex r) = IsLexed bytes r
 IsNoKernel bytes (front.Parse r) = IsParsed bytes r
 IsNoKernel bytes (front.Types r) = IsTyped bytes r
+IsNoKernel bytes (front.Inline r) = IsInlined bytes r
 IsNoKernel bytes front.Memory = ⊥
 
 -- what a compilation answers for the bytes of a kernel; want of memory says nothing
@@ -38,4 +39,5 @@ Compiles bytes o (Ok text) = OfCircuit bytes o (λ k net. IsPrinted net text)
 Compiles bytes o (Err (front.Lex r)) = IsLexed bytes r
 Compiles bytes o (Err (front.Parse r)) = IsParsed bytes r
 Compiles bytes o (Err (front.Types r)) = IsTyped bytes r
+Compiles bytes o (Err (front.Inline r)) = IsInlined bytes r
 Compiles bytes o (Err front.Memory) = Unit {0}

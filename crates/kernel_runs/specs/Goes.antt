@@ -29,7 +29,7 @@ pub record GivesNumbers (k : Typed) (bytes : Bytes) (z : Numbers) : Type 0 where
   pub given : Gives k bytes (input_patterns k z)
 
 -- the text begins so
-pub record Begins (front text : Bytes) : Type 0 where
+pub record IsFront (front text : Bytes) : Type 0 where
   pub rest : Bytes
   pub whole : text ≡ front ++ rest
 
@@ -37,7 +37,7 @@ pub record Begins (front text : Bytes) : Type 0 where
 pub record BeginsWithEnd (k : Typed) (out : List (List ℤ)) (r : Option ℤ) (text : Bytes) : Type 0 where
   pub results : Bytes
   pub shown : ResultText (map flat k.arrays) k.result (array_patterns k.arrays out) (result_pattern k.result r) results
-  pub front : Begins results text
+  pub front : IsFront results text
 
 -- Where under some profile the kernel ends in t turns on numbers that the bytes give, the text begins with its arrays and its result, and the firings that were
 -- made are at most 256 for each of its nodes, once for each turn and once more.

@@ -17,7 +17,7 @@ use Rattle.kernel_runs.specs.declared.options.CircuitOptions.{CircuitOptions}
 use Rattle.kernel_runs.specs.declared.refusal.GoRefusal.{GoRefusal}
 use Rattle.kernel_runs.specs.declared.refusal.GoRefusal.TheVariants as refusal
 use Rattle.kernel_runs.specs.Circuits.{Compiles}
-use Rattle.kernel_runs.specs.Goes.{GivesNumbers, Begins, Goes}
+use Rattle.kernel_runs.specs.Goes.{GivesNumbers, IsFront, Goes}
 
 -- where the bytes spell a kernel, nothing but want of memory is refused
 abbrev pub KernelsCompile : Type 0
@@ -49,4 +49,4 @@ EndingKernelsRun = (bytes inputs : Bytes) (c : CircuitOptions) (o : RunOptions) 
 -- where the plain interpreter has results for the same bytes, under whichever profile, the text of the circuit's run begins with them
 abbrev pub GoesAsInterpreted : Type 0
 GoesAsInterpreted = (bytes inputs : Bytes) (kernel : Kernel) (c : CircuitOptions) (o : RunOptions) (i : InterpretOptions) (text told : Bytes) → IsKernel bytes kernel
-    → (goes : Goes bytes inputs c o (Ok text)) (ends : Interprets kernel.typed inputs i (Ok told)) → Begins ends.holds.results goes.holds.run_text
+    → (goes : Goes bytes inputs c o (Ok text)) (ends : Interprets kernel.typed inputs i (Ok told)) → IsFront ends.holds.results goes.holds.run_text

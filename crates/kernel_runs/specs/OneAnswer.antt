@@ -45,14 +45,14 @@ TextsShowOneRun = (bytes inputs s t : Bytes) (c : CircuitOptions) (o : RunOption
 -- ---- both
 
 -- the second text is the first, a line `%%` and the text of a run of the net that is read from the first
-pub record GoesOnFrom (text gone inputs : Bytes) (o : RunOptions) : Type 0 where
+pub record IsFollowedByRun (text gone inputs : Bytes) (o : RunOptions) : Type 0 where
   pub run_text : Bytes
   pub whole : gone ≡ text ++ codes "%%\n" ++ run_text
   pub runs : (net : Net) → SaysNet text (Ok net) → Runs net inputs o (Ok run_text)
 
 -- so it is with the text that a compilation has, and the text of the circuit and of a run
 abbrev pub OneNetIsPrinted : Type 0
-OneNetIsPrinted = (bytes inputs text gone : Bytes) (c : CircuitOptions) (o : RunOptions) → Compiles bytes c (Ok text) → Goes bytes inputs c o (Ok gone) → GoesOnFrom text gone inputs o
+OneNetIsPrinted = (bytes inputs text gone : Bytes) (c : CircuitOptions) (o : RunOptions) → Compiles bytes c (Ok text) → Goes bytes inputs c o (Ok gone) → IsFollowedByRun text gone inputs o
 
 -- for the limit of the options to be refused is that the net has runs of more firings on the inputs that the bytes give
 pub record LimitDecides (net : Net) (kernel bytes : Bytes) (c : CircuitOptions) (o : RunOptions) (inputs : Inputs) : Type 0 where

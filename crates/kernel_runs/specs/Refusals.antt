@@ -26,6 +26,7 @@ abbrev pub of_kernel : KernelRefusal → GoRefusal
 of_kernel (front.Lex r) = refusal.Kernel (front.Lex r)
 of_kernel (front.Parse r) = refusal.Kernel (front.Parse r)
 of_kernel (front.Types r) = refusal.Kernel (front.Types r)
+of_kernel (front.Inline r) = refusal.Kernel (front.Inline r)
 of_kernel front.Memory = refusal.Memory
 
 abbrev pub of_run : RunRefusal → GoRefusal

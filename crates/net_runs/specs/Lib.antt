@@ -3,4 +3,7 @@ pub mod Refusals
 pub mod Results
 pub mod Runs
 pub mod Replays
+pub mod Saves
+pub mod Resumes
+pub mod ResumeRefusals
 pub mod Laws

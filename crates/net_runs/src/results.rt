@@ -39,7 +39,8 @@ pub(crate) fn run_text_of(
     Ok(text)
 }
 
-fn put_count(text: &mut Vec<u8>, asked: bool, made: u64) -> Result<(), Memory>
+/// Appends the number of firings, where it is asked for.
+pub(crate) fn put_count(text: &mut Vec<u8>, asked: bool, made: u64) -> Result<(), Memory>
     ensures { OnOk result (text.new.items ≡ text.old.items ++ count_line asked made) }
 {
     if !asked {

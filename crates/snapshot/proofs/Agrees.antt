@@ -1,5 +1,5 @@
 -- Lists that agree below a place, and the lines of their items.
-use Rattle.std.proofs.Common.{◌≡◌, ℕ, zero, suc, ◌+◌, ◌-◌, ◌<◌, ◌≤◌, ◌⊎◌, List, [], ◌∷◌, ◌++◌, length, get_or, set, refl, sym, ap, ◌∙◌, inl, inr, arith, get_or-set_same, get_or-set_other}
+use Rattle.std.proofs.Common.{◌≡◌, ℕ, zero, suc, ◌+◌, ◌-◌, ◌<◌, ◌≤◌, ◌⊎◌, List, [], ◌∷◌, ◌++◌, length, drop, get_or, set, refl, sym, ap, subst, ◌∙◌, inl, inr, arith, get_or-set_same, get_or-set_other}
 use Rattle.std.proofs.lemmas.Bool.{cases_lt}
 use Rattle.snapshot.specs.Texts.{each}
 use Rattle.snapshot.specs.private.Drafts.{AgreeBelow, BlankFrom}
@@ -24,6 +24,14 @@ each_unroll f j n l =
     let e : n - j ≡ suc (n - (j + 1)) = omega arith in
     let z : suc j ≡ j + 1 = omega arith in
     ap (each f j) e ∙ ap (λ k. f j ++ each f k (n - (j + 1))) z
+
+-- what holds at a place and after it
+pub from_here : {P : ℕ → Type 0} (i n : ℕ) → P i → ((j : ℕ) → suc i ≤ j → j < n → P j) → (j : ℕ) → i ≤ j → j < n → P j
+from_here {P} i n here later j low high = by (cases_lt i j)
+  where
+    by : (i < j) ⊎ (j ≤ i) → P j
+    by (inl l) = later j (omega arith) high
+    by (inr l) = let z : i ≡ j = omega arith in subst P z here
 
 -- past the last place there are none
 pub each_none : (f : ℕ → List (List ℕ)) (j n : ℕ) → n ≤ j → each f j (n - j) ≡ []
@@ -129,3 +137,43 @@ module _ {V : Type 0} (v : V) (g : ℕ → V → List (List ℕ)) (empty : (i : 
     λ j d. h j (omega arith),
     ap (λ ls. ls ++ rest) (skip xs i n n a (omega arith) (λ j d f. h j f ∙ blank j d) ∙ each_none (lines xs) n n (omega arith)),
   )
+
+  -- no two lines of different items are the same, and none is the first of what follows
+  pub record Apart (xs ys : List V) (n : ℕ) (r q : List (List ℕ)) : Type 0 where
+    pub one : (j : ℕ) (x : V) (l : List ℕ) (t : List (List ℕ)) → g j x ≡ l ∷ t → t ≡ []
+    pub same : (i j : ℕ) (l : List ℕ) (t u : List (List ℕ)) → i < n → j < n → lines xs i ≡ l ∷ t → lines ys j ≡ l ∷ u → (i ≡ j) × (get_or xs i v ≡ get_or ys j v)
+    pub no_left : (i : ℕ) (l : List ℕ) (t more : List (List ℕ)) → lines xs i ≡ l ∷ t → q ≡ l ∷ more → ⊥
+    pub no_right : (j : ℕ) (l : List ℕ) (t more : List (List ℕ)) → lines ys j ≡ l ∷ t → r ≡ l ∷ more → ⊥
+
+  abbrev Same : List V → List V → ℕ → ℕ → List (List ℕ) → List (List ℕ) → Type 0
+  Same xs ys i n r q = ((j : ℕ) → i ≤ j → j < n → get_or xs j v ≡ get_or ys j v) × (r ≡ q)
+
+  abbrev Next : List V → List V → ℕ → ℕ → ℕ → List (List ℕ) → List (List ℕ) → Type 0
+  Next xs ys i m n r q = each (lines xs) (suc i) m ++ r ≡ each (lines ys) (suc i) m ++ q → Same xs ys (suc i) n r q
+
+  -- lists that have the same lines are the same
+  pub same_items : (xs ys : List V) (i m n : ℕ) (r q : List (List ℕ)) → i + m ≡ n → Apart xs ys n r q → each (lines xs) i m ++ r ≡ each (lines ys) i m ++ q → Same xs ys i n r q
+  same_items xs ys i zero n r q z a e = (λ j low high. absurd (omega arith), e)
+  same_items xs ys i (suc m) n r q z a e = by (λ c. same_items xs ys (suc i) m n r q (omega arith) a c) (lines xs i) (lines ys i) refl refl e
+    where
+      later : Next xs ys i m n r q → each (lines xs) (suc i) m ++ r ≡ each (lines ys) (suc i) m ++ q → get_or xs i v ≡ get_or ys i v → Same xs ys i n r q
+      later next f here = let rest = next f in (from_here i n here rest.0, rest.1)
+
+      only_right : (l : List ℕ) (u more : List (List ℕ)) → lines ys i ≡ l ∷ u → Head xs (suc i) n l ⊎ NoHead xs (suc i) n r l more → ⊥
+      only_right l u more h (inl w) = let p = (a.same w.place i l w.rest u w.high (omega arith) w.is h).0 in let o = w.low in omega arith
+      only_right l u more h (inr w) = a.no_right i l u more h w.1
+
+      only_left : (l : List ℕ) (t more : List (List ℕ)) → lines xs i ≡ l ∷ t → Head ys (suc i) n l ⊎ NoHead ys (suc i) n q l more → ⊥
+      only_left l t more f (inl w) = let p = (a.same i w.place l t w.rest (omega arith) w.high f w.is).0 in let o = w.low in omega arith
+      only_left l t more f (inr w) = a.no_left i l t more f w.1
+
+      by : Next xs ys i m n r q → (ls ks : List (List ℕ)) → lines xs i ≡ ls → lines ys i ≡ ks → (ls ++ each (lines xs) (suc i) m) ++ r ≡ (ks ++ each (lines ys) (suc i) m) ++ q → Same xs ys i n r q
+      by next [] [] f h c = later next c (told i (get_or xs i v) f ∙ sym (told i (get_or ys i v) h))
+      by next [] (l ∷ u) f h c = absurd (only_right l u _ h (head_by xs (suc i) m n l r ((u ++ each (lines ys) (suc i) m) ++ q) (omega arith) c))
+      by next (l ∷ t) [] f h c = absurd (only_left l t _ f (head_by ys (suc i) m n l q ((t ++ each (lines xs) (suc i) m) ++ r) (omega arith) (sym c)))
+      by next (l ∷ t) (k ∷ u) f h c =
+          let first : k ≡ l = ap (λ ls. get_or ls 0 []) (sym c) in
+          let none : t ≡ [] = a.one i (get_or xs i v) l t f in
+          let nor : u ≡ [] = a.one i (get_or ys i v) k u h in
+          later next (ap (λ ls. (ls ++ each (lines xs) (suc i) m) ++ r) (sym none) ∙ ap (drop 1) c ∙ ap (λ ls. (ls ++ each (lines ys) (suc i) m) ++ q) nor)
+          (a.same i i l t u (omega arith) (omega arith) f (h ∙ ap (λ x. x ∷ u) first)).1

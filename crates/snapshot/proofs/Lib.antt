@@ -25,6 +25,7 @@ pub mod FullLines
 pub mod InnerLines
 pub mod Progress
 pub mod OnlyAnswers
+pub mod OneTexts
 pub mod Turns
 pub mod ExitLemmas
 pub mod EntriesLemmas

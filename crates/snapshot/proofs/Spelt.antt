@@ -5,7 +5,7 @@ use Rattle.std.specs.List.{All, slice_split, join_with_byte}
 use Rattle.std.proofs.lemmas.Bool.{false≢true}
 use Rattle.std.proofs.lemmas.Fmt.{decimal_injective}
 use Rattle.std.proofs.lemmas.Int.{ints}
-use Rattle.std.proofs.lemmas.List.{append-nil, map-id}
+use Rattle.std.proofs.lemmas.List.{append-nil, append_cancel_left, map-id}
 use Rattle.std.proofs.lemmas.List.Elements.{All-nil, All-head, All-tail}
 use Rattle.el_base.specs.declared.digits.Number.{Number}
 use Rattle.el_base.specs.declared.ty.Ty.{Ty}
@@ -98,6 +98,14 @@ split_words w ws h =
 
 pub same_words : (w : List ℕ) (vs ws : List (List ℕ)) → LackAll 32 (w ∷ vs) → AreWords ws → words (w ∷ vs) ≡ words ws → w ∷ vs ≡ ws
 same_words w vs ws h a e = sym (split_words w vs h) ∙ ap (slice_split (λ b. b == 32)) e ∙ sym a
+
+-- lines of words are the same where their words are
+pub one_words : (v w : List ℕ) (vs ws : List (List ℕ)) → LackAll 32 (v ∷ vs) → LackAll 32 (w ∷ ws) → words (v ∷ vs) ≡ words (w ∷ ws) → v ∷ vs ≡ w ∷ ws
+one_words v w vs ws h k e = same_words v vs (w ∷ ws) h (sym (split_words w ws k)) e
+
+-- a word that both begin with aside
+pub after_word : (v : List ℕ) (w u : List ℕ) (ws us : List (List ℕ)) → words (v ∷ w ∷ ws) ≡ words (v ∷ u ∷ us) → words (w ∷ ws) ≡ words (u ∷ us)
+after_word v w u ws us e = ap (drop 1) (append_cancel_left v (32 ∷ words (w ∷ ws)) (32 ∷ words (u ∷ us)) e)
 
 -- ---- fields
 

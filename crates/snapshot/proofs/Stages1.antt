@@ -190,14 +190,14 @@ scalars_pass net l j d low past = record {
 
 -- ---- units that have fired
 
-flag_empty : (i : ℕ) → flag_lines i false ≡ []
+pub flag_empty : (i : ℕ) → flag_lines i false ≡ []
 flag_empty i = refl
 
-flag_told : (i : ℕ) (b : Bool) → flag_lines i b ≡ [] → b ≡ false
+pub flag_told : (i : ℕ) (b : Bool) → flag_lines i b ≡ [] → b ≡ false
 flag_told i false e = refl
 flag_told i true e = absurd (let z = ap length e in omega arith)
 
-flag_is : (i : ℕ) (b : Bool) (l : List ℕ) (t : List (List ℕ)) → flag_lines i b ≡ l ∷ t → (b ≡ true) × (words (number_words (codes "fired") i) ≡ l)
+pub flag_is : (i : ℕ) (b : Bool) (l : List ℕ) (t : List (List ℕ)) → flag_lines i b ≡ l ∷ t → (b ≡ true) × (words (number_words (codes "fired") i) ≡ l)
 flag_is i false l t e = absurd (let z = ap length e in omega arith)
 flag_is i true l t e = (refl, first_of _ [] l t e)
 

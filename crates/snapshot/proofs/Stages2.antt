@@ -96,14 +96,14 @@ module _ (net : Net) (checked : IsChecked net) (ws : List (List ℕ)) (a : AreWo
 
 -- ---- lists by number
 
-list_empty : (word : List ℕ) (i : ℕ) → list_lines word i [] ≡ []
+pub list_empty : (word : List ℕ) (i : ℕ) → list_lines word i [] ≡ []
 list_empty word i = refl
 
-list_told : (word : List ℕ) (i : ℕ) (vs : List ℕ) → list_lines word i vs ≡ [] → vs ≡ []
+pub list_told : (word : List ℕ) (i : ℕ) (vs : List ℕ) → list_lines word i vs ≡ [] → vs ≡ []
 list_told word i [] e = refl
 list_told word i (v ∷ vs) e = absurd (let z = ap length e in omega arith)
 
-list_is : (word : List ℕ) (i : ℕ) (vs : List ℕ) (l : List ℕ) (t : List (List ℕ)) → list_lines word i vs ≡ l ∷ t → (vs ≢ []) × (words (list_words word (i, vs)) ≡ l)
+pub list_is : (word : List ℕ) (i : ℕ) (vs : List ℕ) (l : List ℕ) (t : List (List ℕ)) → list_lines word i vs ≡ l ∷ t → (vs ≢ []) × (words (list_words word (i, vs)) ≡ l)
 list_is word i [] l t e = absurd (let z = ap length e in omega arith)
 list_is word i (v ∷ vs) l t e = ((λ z. absurd (let y = ap length z in omega arith)), first_of _ [] l t e)
 
@@ -111,15 +111,15 @@ list_line : (word : List ℕ) (i : ℕ) (vs : List ℕ) → vs ≢ [] → list_l
 list_line word i [] n = absurd (n refl)
 list_line word i (v ∷ vs) n = refl
 
-list_lack : (word : List ℕ) (i : ℕ) (vs : List ℕ) → lacks 32 word ≡ true → i < 2 ^ 64 → All (λ v. v < 2 ^ 64) vs → LackAll 32 (list_words word (i, vs))
+pub list_lack : (word : List ℕ) (i : ℕ) (vs : List ℕ) → lacks 32 word ≡ true → i < 2 ^ 64 → All (λ v. v < 2 ^ 64) vs → LackAll 32 (list_words word (i, vs))
 list_lack word i vs w small all =
     lack_more 32 word _ w (lack_more 32 (decimal i) _ (decimal_lacks 32 i (lit< tt) small) (lack_map 32 (λ v. v < 2 ^ 64) decimal (λ v s. decimal_lacks 32 v (lit< tt) s) vs all))
 
-all_mono : (P Q : ℕ → Type 0) → ((v : ℕ) → P v → Q v) → (vs : List ℕ) → All P vs → All Q vs
+pub all_mono : (P Q : ℕ → Type 0) → ((v : ℕ) → P v → Q v) → (vs : List ℕ) → All P vs → All Q vs
 all_mono P Q f vs h = λ k d l. f _ (h k d l)
 
 -- what two lists of words of one text share
-list_same : (word : List ℕ) (i j : ℕ) (us vs : List ℕ) → i < 2 ^ 64 → j < 2 ^ 64 → All (λ v. v < 2 ^ 64) us → All (λ v. v < 2 ^ 64) vs → list_words word (i, us) ≡ list_words word (j, vs) → (i ≡ j) × (us ≡ vs)
+pub list_same : (word : List ℕ) (i j : ℕ) (us vs : List ℕ) → i < 2 ^ 64 → j < 2 ^ 64 → All (λ v. v < 2 ^ 64) us → All (λ v. v < 2 ^ 64) vs → list_words word (i, us) ≡ list_words word (j, vs) → (i ≡ j) × (us ≡ vs)
 list_same word i j us vs a b f g e = (decimal_injective i j a b (ap (λ x. get_or x 1 []) e), decimals_same us vs f g (ap (drop 2) e))
 
 -- ---- channels

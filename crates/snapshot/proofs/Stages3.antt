@@ -38,7 +38,7 @@ use Rattle.snapshot.specs.private.Drafts.{AgreeBelow, BlankFrom, ToForks, ToQueu
 use Rattle.snapshot.proofs.Agrees.{agree_set, agree_unset, each_unroll, each_none, skip}
 use Rattle.snapshot.proofs.Frames.{QueueFits, fits_queue}
 use Rattle.snapshot.proofs.Keys.{key, no_entry}
-use Rattle.snapshot.proofs.Spelt.{LackAll, lack_more, lack_none, same_words, MaybeSmall, maybe_same, maybe_lacks, digit_same, digit_lacks}
+use Rattle.snapshot.proofs.Spelt.{LackAll, lack_more, lack_none, same_words, one_words, MaybeSmall, maybe_same, maybe_lacks, digit_same, digit_lacks}
 use Rattle.snapshot.proofs.Stages1.{Passes, first_of, each_start}
 
 -- ---- entries and their words
@@ -217,3 +217,14 @@ module _ (net : Net) (checked : IsChecked net) (thin : (x v : ℕ) → v < 2 ^ a
 
   pub entry_line_same : (u : ℕ) (x y : Entry) → EntryOf net (kind_of net u) x → EntryOf net (kind_of net u) y → entry_words x ≡ entry_words y → x ≡ y
   entry_line_same u x y g h e = line_same_of (kind_of net u) x y (λ b d ps gs f is. checked.numbered.ports u b d ps gs f is) g h e
+
+  entry_one_of : (k : Kind) (x y : Entry) → ((b d : ℕ) (ps : List Port) (gs : List (List ℕ)) (f : Bool) → k ≡ Lsq b d ps gs f → length ps < 2 ^ 32) → EntryOf net k x → EntryOf net k y → entry_line x ≡ entry_line y → x ≡ y
+  entry_one_of (Lsq b d ps gs f) x y few g h e =
+      let lack : (z : Entry) → EntryIsOf (array_width net.arrays b) ps z → LackAll 32 (entry_words z) = λ z i. entry_lack (array_width net.arrays b) (thin b) ps (few b d ps gs f refl) 32 refl (lit< tt) z i in
+      entry_same (array_width net.arrays b) (thin b) ps (few b d ps gs f refl) x y g h (one_words (codes "entry") (codes "entry") (entry_fields x) (entry_fields y) (lack x g) (lack y h) e)
+  entry_one_of Start x y few g h e = absurd h
+  entry_one_of k x y few g h e = absurd h
+
+  -- a line is that of one entry
+  pub entry_one : (u : ℕ) (x y : Entry) → EntryOf net (kind_of net u) x → EntryOf net (kind_of net u) y → entry_line x ≡ entry_line y → x ≡ y
+  entry_one u x y g h e = entry_one_of (kind_of net u) x y (λ b d ps gs f is. checked.numbered.ports u b d ps gs f is) g h e

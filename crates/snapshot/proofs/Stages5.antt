@@ -24,7 +24,7 @@ use Rattle.snapshot.proofs.Stages1.{Passes, first_of}
 use Rattle.snapshot.proofs.Stages3.{QueueFacts, facts_at, made_at, entry_line_same, entry_line_words, opened_facts, set_facts}
 use Rattle.snapshot.proofs.Stages4.{forks_like}
 
-same_part : (p q : QueuePart) → p.next ≡ q.next → p.entries ≡ q.entries → p ≡ q
+pub same_part : (p q : QueuePart) → p.next ≡ q.next → p.entries ≡ q.entries → p ≡ q
 same_part p q a b = λ i. record { next = a i; entries = b i }
 
 -- agreement below the next place, from that at this one

@@ -158,6 +158,25 @@ arrays_pass net l j d low past = record {
 
 -- ---- the last line
 
+-- a state that shares all with another is that one
+pub all_same : (net : Net) (j : ℕ) → length net.arrays ≤ j → (d s : Saved) → MaySave net d → MaySave net s → ToStrays net j d s → s ≡ d
+all_same net j past d s m k t =
+    let made = t.before.before.before.before.before.before.made in
+    let scalars = ext_get_or 0 s.parts.given.scalars d.parts.given.scalars (zip_long net.scalars _ k.fits.stands.fit.scalars ∙ sym (zip_long net.scalars _ m.fits.stands.fit.scalars))
+    (λ i l. t.before.before.before.before.before.before.scalars i (let z = zip_long net.scalars _ k.fits.stands.fit.scalars in omega arith)) in
+    let fired = ext_get_or false s.parts.fired d.parts.fired (k.fits.by_unit.fired_long ∙ sym m.fits.by_unit.fired_long) (λ i l. t.before.before.before.before.before.fired i (let z = k.fits.by_unit.fired_long in omega arith)) in
+    let value = t.before.before.before.before.value in
+    let tokens = ext_get_or [] s.parts.tokens d.parts.tokens (k.fits.stands.chans ∙ sym m.fits.stands.chans) (λ i l. t.before.before.before.before.tokens i (let z = k.fits.stands.chans in omega arith)) in
+    let sent = ext_get_or [] s.parts.sent d.parts.sent (k.fits.by_unit.sent_long ∙ sym m.fits.by_unit.sent_long) (λ i l. t.before.before.before.sent i (let z = k.fits.by_unit.sent_long in omega arith)) in
+    let queues = ext_get_or no_part s.parts.queues d.parts.queues (k.fits.by_unit.queues_long ∙ sym m.fits.by_unit.queues_long) (λ i l. t.before.before.queues i (let z = k.fits.by_unit.queues_long in omega arith)) in
+    let arrays = ext_get_or [] s.parts.given.arrays d.parts.given.arrays (array_long net.arrays _ k.fits.stands.fit.arrays ∙ sym (array_long net.arrays _ m.fits.stands.fit.arrays))
+    (λ i l. t.before.arrays i (let z = array_long net.arrays _ k.fits.stands.fit.arrays in omega arith)) in
+    let strays = ext_get_or 0 s.parts.strays d.parts.strays (k.fits.stands.strays ∙ sym m.fits.stands.strays) (λ i l. t.strays i (let z = k.fits.stands.strays in omega arith)) in
+    λ i. record {
+      made = made i;
+      parts = record { given = record { scalars = scalars i; arrays = arrays i }; tokens = tokens i; sent = sent i; fired = fired i; value = value i; queues = queues i; strays = strays i };
+    }
+
 module _ (net : Net) (ws : List (List ℕ)) (a : AreWords ws) (j : ℕ) (low : j ≤ length net.arrays) (past : length net.arrays ≤ j) where
   end_is : (s : Saved) → at_strays net j s ≡ end_line ∷ []
   end_is s = ap (λ ls. ls ++ end_line ∷ []) (each_none (stray_lines net.arrays s.parts.strays) j (length net.arrays) past)
@@ -165,30 +184,11 @@ module _ (net : Net) (ws : List (List ℕ)) (a : AreWords ws) (j : ℕ) (low : j
   pub end_refused : (d : Saved) → (end_words ≡ ws → ⊥) → Refuses net (ToStrays net j d) (at_strays net j) (words ws)
   end_refused d never s m t more e = never (same_words (codes "end") [] ws (lack_more 32 (codes "end") [] refl (lack_none 32)) a (first_of end_line [] (words ws) more (sym (end_is s) ∙ e)))
 
-  -- a state that shares all is the draft's
-  all_same : (d s : Saved) → MaySave net d → MaySave net s → ToStrays net j d s → s ≡ d
-  all_same d s m k t =
-      let made = t.before.before.before.before.before.before.made in
-      let scalars = ext_get_or 0 s.parts.given.scalars d.parts.given.scalars (zip_long net.scalars _ k.fits.stands.fit.scalars ∙ sym (zip_long net.scalars _ m.fits.stands.fit.scalars))
-      (λ i l. t.before.before.before.before.before.before.scalars i (let z = zip_long net.scalars _ k.fits.stands.fit.scalars in omega arith)) in
-      let fired = ext_get_or false s.parts.fired d.parts.fired (k.fits.by_unit.fired_long ∙ sym m.fits.by_unit.fired_long) (λ i l. t.before.before.before.before.before.fired i (let z = k.fits.by_unit.fired_long in omega arith)) in
-      let value = t.before.before.before.before.value in
-      let tokens = ext_get_or [] s.parts.tokens d.parts.tokens (k.fits.stands.chans ∙ sym m.fits.stands.chans) (λ i l. t.before.before.before.before.tokens i (let z = k.fits.stands.chans in omega arith)) in
-      let sent = ext_get_or [] s.parts.sent d.parts.sent (k.fits.by_unit.sent_long ∙ sym m.fits.by_unit.sent_long) (λ i l. t.before.before.before.sent i (let z = k.fits.by_unit.sent_long in omega arith)) in
-      let queues = ext_get_or no_part s.parts.queues d.parts.queues (k.fits.by_unit.queues_long ∙ sym m.fits.by_unit.queues_long) (λ i l. t.before.before.queues i (let z = k.fits.by_unit.queues_long in omega arith)) in
-      let arrays = ext_get_or [] s.parts.given.arrays d.parts.given.arrays (array_long net.arrays _ k.fits.stands.fit.arrays ∙ sym (array_long net.arrays _ m.fits.stands.fit.arrays))
-      (λ i l. t.before.arrays i (let z = array_long net.arrays _ k.fits.stands.fit.arrays in omega arith)) in
-      let strays = ext_get_or 0 s.parts.strays d.parts.strays (k.fits.stands.strays ∙ sym m.fits.stands.strays) (λ i l. t.strays i (let z = k.fits.stands.strays in omega arith)) in
-      λ i. record {
-        made = made i;
-        parts = record { given = record { scalars = scalars i; arrays = arrays i }; tokens = tokens i; sent = sent i; fired = fired i; value = value i; queues = queues i; strays = strays i };
-      }
-
   pub end_taken : (d : Saved) → MaySave net d → end_words ≡ ws → Taken net (ToStrays net j d) (at_strays net j) (words ws) (record { stage = Ended; saved = d })
   end_taken d m e = record {
     stands = record { may = m; blank = tt };
     takes = record {
-      forth = λ s k t more is. all_same d s m k t;
+      forth = λ s k t more is. all_same net j past d s m k t;
       back = λ s k same. (shares s same, end_is s ∙ ap (λ x. words x ∷ []) e);
     };
   }

@@ -1,5 +1,5 @@
 //! Laws, as contracts of functions that do nothing.
-ghost use Rattle.snapshot.specs.Laws.{FitsStay, OneForm, OpeningFits, PartsFit, ResumesAsRun, RunsFit};
+ghost use Rattle.snapshot.specs.Laws.{FitsStay, OneForm, OpeningFits, PartsFit, ResumesAsRun, RunsFit, SavedCountsFit, SnapshotsHaveOneAnswer, TextsSpellOneState};
 
 use lsq_core::acts_keep_a_queue;
 use net_core::{completion, limit_decides};
@@ -32,6 +32,11 @@ pub fn one_form()
     ensures fit { PartsFit }
 {}
 
+/// The serial numbers and strays of a state that may be saved are within what is saved.
+pub fn saved_counts_fit()
+    ensures { SavedCountsFit }
+{}
+
 /// What is resumed from a state of a run goes as the run.
 pub fn resumed_as_run()
     ensures { ResumesAsRun }
@@ -39,3 +44,9 @@ pub fn resumed_as_run()
     completion();
     limit_decides();
 }
+
+/// A text is that of one state of a net that may be saved, and the reader has one answer to it, want of memory aside.
+pub fn texts_spell_one_state()
+    ensures one { TextsSpellOneState }
+    ensures answer { SnapshotsHaveOneAnswer }
+{}

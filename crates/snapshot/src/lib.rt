@@ -11,7 +11,10 @@ mod refusal;
 mod saved;
 mod stages;
 
-pub use laws::{fits_stay, one_form, opening_fits, resumed_as_run, runs_fit};
+pub use laws::{
+    fits_stay, one_form, opening_fits, resumed_as_run, runs_fit, saved_counts_fit,
+    texts_spell_one_state,
+};
 pub use printer::print_snapshot;
 pub use reader::read_snapshot;
 pub use refusal::SnapRefusal;

@@ -8,7 +8,7 @@ ghost use Rattle.net_check.specs.Ends.{is_lsq};
 ghost use Rattle.net_text.specs.Reads.{Reads};
 ghost use Rattle.snapshot.specs.Refusals.{MaySave};
 ghost use Rattle.snapshot.specs.private.Words.{AreWords, EntryOf, IsFirstQueue, depth_of, entry_words, first_stores, value_after};
-ghost use Rattle.snapshot.specs.private.Drafts.{Answers, BlankChans, BlankFired, BlankForks, BlankScalars, IsOpened, IsQueueAt, Shares, Stands, ToArrays, ToChans, ToEntries, ToFired, ToForks, ToOpened, ToQueues, ToScalars, ToStrays, ToValue, at_arrays, at_chans, at_entries, at_fired, at_forks, at_queues, at_scalars, at_strays, at_value, left_at, line_of};
+ghost use Rattle.snapshot.specs.private.Drafts.{SaysOfLine, BlankChans, BlankFired, BlankForks, BlankScalars, IsOpened, IsQueueAt, Shares, Stands, ToArrays, ToChans, ToEntries, ToFired, ToForks, ToOpened, ToQueues, ToScalars, ToStrays, ToValue, at_arrays, at_chans, at_entries, at_fired, at_forks, at_queues, at_scalars, at_strays, at_value, left_at, line_of_words};
 
 use crate::draft::{Draft, Stage, entries_from, set_entry};
 use crate::fields::{after_word, is_store, read_entry};
@@ -37,8 +37,8 @@ pub(crate) fn take_line(
     requires words { AreWords (map (λ w. w.now) words.now) }
     requires checked { IsChecked net.now }
     requires stands { Stands net.now draft.old }
-    ensures { IfOk result (λ t. Answers net.now (Shares net.now draft.old.stage draft.old.saved)
-        (left_at net.now draft.old.stage) (line_of (map (λ w. w.now) words.now)) t draft.new) }
+    ensures { IfOk result (λ t. SaysOfLine net.now (Shares net.now draft.old.stage draft.old.saved)
+        (left_at net.now draft.old.stage) (line_of_words (map (λ w. w.now) words.now)) t draft.new) }
 {
     match draft.stage {
         Stage::First => {
@@ -80,8 +80,8 @@ fn take_scalar(
     requires checked { IsChecked net.now }
     requires may { MaySave net.now draft.old.saved }
     requires blank { BlankScalars net.now next draft.old.saved }
-    ensures { IfOk result (λ t. Answers net.now (ToScalars next draft.old.saved)
-        (at_scalars net.now next) (line_of (map (λ w. w.now) words.now)) t draft.new) }
+    ensures { IfOk result (λ t. SaysOfLine net.now (ToScalars next draft.old.saved)
+        (at_scalars net.now next) (line_of_words (map (λ w. w.now) words.now)) t draft.new) }
 {
     let scalars = net.net().scalars.as_slice();
     if next >= scalars.len() {
@@ -106,8 +106,8 @@ fn take_fired(
     requires checked { IsChecked net.now }
     requires may { MaySave net.now draft.old.saved }
     requires blank { BlankFired net.now from draft.old.saved }
-    ensures { IfOk result (λ t. Answers net.now (ToFired net.now from draft.old.saved)
-        (at_fired net.now from) (line_of (map (λ w. w.now) words.now)) t draft.new) }
+    ensures { IfOk result (λ t. SaysOfLine net.now (ToFired net.now from draft.old.saved)
+        (at_fired net.now from) (line_of_words (map (λ w. w.now) words.now)) t draft.new) }
 {
     let units = net.net().units.as_slice();
     let Some(unit) = read_fired(units, from, words) else {
@@ -140,8 +140,8 @@ fn take_value(
     requires checked { IsChecked net.now }
     requires may { MaySave net.now draft.old.saved }
     requires blank { BlankChans net.now 0 draft.old.saved }
-    ensures { IfOk result (λ t. Answers net.now (ToValue net.now draft.old.saved)
-        (at_value net.now) (line_of (map (λ w. w.now) words.now)) t draft.new) }
+    ensures { IfOk result (λ t. SaysOfLine net.now (ToValue net.now draft.old.saved)
+        (at_value net.now) (line_of_words (map (λ w. w.now) words.now)) t draft.new) }
 {
     let Some(_) = draft.saved.parts.value else {
         return take_chan(alloc, net, draft, 0, words);
@@ -165,8 +165,8 @@ fn take_chan(
     requires checked { IsChecked net.now }
     requires may { MaySave net.now draft.old.saved }
     requires blank { BlankChans net.now from draft.old.saved }
-    ensures { IfOk result (λ t. Answers net.now (ToChans net.now from draft.old.saved)
-        (at_chans net.now from) (line_of (map (λ w. w.now) words.now)) t draft.new) }
+    ensures { IfOk result (λ t. SaysOfLine net.now (ToChans net.now from draft.old.saved)
+        (at_chans net.now from) (line_of_words (map (λ w. w.now) words.now)) t draft.new) }
 {
     let Some((chan, tokens)) = read_chan(alloc, net.net().chans.as_slice(), from, words)? else {
         return take_fork(alloc, net, draft, 0, words);
@@ -187,8 +187,8 @@ fn take_fork(
     requires checked { IsChecked net.now }
     requires may { MaySave net.now draft.old.saved }
     requires blank { BlankForks net.now from draft.old.saved }
-    ensures { IfOk result (λ t. Answers net.now (ToForks net.now from draft.old.saved)
-        (at_forks net.now from) (line_of (map (λ w. w.now) words.now)) t draft.new) }
+    ensures { IfOk result (λ t. SaysOfLine net.now (ToForks net.now from draft.old.saved)
+        (at_forks net.now from) (line_of_words (map (λ w. w.now) words.now)) t draft.new) }
 {
     let Some((unit, outs)) = read_fork(alloc, net.net().units.as_slice(), from, words)? else {
         return take_queue(alloc, net, draft, 0, words);
@@ -236,8 +236,8 @@ fn take_queue(
     requires checked { IsChecked net.now }
     requires may { MaySave net.now draft.old.saved }
     requires within { from ≤ length net.now.units }
-    ensures { IfOk result (λ t. Answers net.now (ToQueues net.now from draft.old.saved)
-        (at_queues net.now from) (line_of (map (λ w. w.now) words.now)) t draft.new) }
+    ensures { IfOk result (λ t. SaysOfLine net.now (ToQueues net.now from draft.old.saved)
+        (at_queues net.now from) (line_of_words (map (λ w. w.now) words.now)) t draft.new) }
 {
     let units = net.net().units.as_slice();
     let queue = queue_from(units, from);
@@ -304,8 +304,8 @@ fn take_opened(
     requires checked { IsChecked net.now }
     requires may { MaySave net.now draft.old.saved }
     requires opened { IsOpened net.now queue draft.old.saved }
-    ensures { IfOk result (λ t. Answers net.now (ToOpened net.now queue draft.old.saved)
-        (at_entries net.now queue 0) (line_of (map (λ w. w.now) words.now)) t draft.new) }
+    ensures { IfOk result (λ t. SaysOfLine net.now (ToOpened net.now queue draft.old.saved)
+        (at_entries net.now queue 0) (line_of_words (map (λ w. w.now) words.now)) t draft.new) }
 {
     let Some(entry) = read_entry_of(net, queue, words) else {
         return take_queue(alloc, net, draft, queue + 1, words);
@@ -334,8 +334,8 @@ fn take_entry(
     requires checked { IsChecked net.now }
     requires may { MaySave net.now draft.old.saved }
     requires queue { IsQueueAt net.now queue }
-    ensures { IfOk result (λ t. Answers net.now (ToEntries net.now queue read draft.old.saved)
-        (at_entries net.now queue read) (line_of (map (λ w. w.now) words.now)) t draft.new) }
+    ensures { IfOk result (λ t. SaysOfLine net.now (ToEntries net.now queue read draft.old.saved)
+        (at_entries net.now queue read) (line_of_words (map (λ w. w.now) words.now)) t draft.new) }
 {
     let entries = draft.saved.parts.queues.as_slice()[queue]
         .entries
@@ -370,8 +370,8 @@ fn take_array(
     requires checked { IsChecked net.now }
     requires may { MaySave net.now draft.old.saved }
     requires within { next ≤ length net.now.arrays }
-    ensures { IfOk result (λ t. Answers net.now (ToArrays net.now next draft.old.saved)
-        (at_arrays net.now next) (line_of (map (λ w. w.now) words.now)) t draft.new) }
+    ensures { IfOk result (λ t. SaysOfLine net.now (ToArrays net.now next draft.old.saved)
+        (at_arrays net.now next) (line_of_words (map (λ w. w.now) words.now)) t draft.new) }
 {
     let arrays = net.net().arrays.as_slice();
     if next >= arrays.len() {
@@ -390,8 +390,8 @@ fn take_stray(net: &Checked, draft: &mut Draft, next: usize, words: &[&[u8]]) ->
     requires checked { IsChecked net.now }
     requires may { MaySave net.now draft.old.saved }
     requires within { next ≤ length net.now.arrays }
-    ensures { Answers net.now (ToStrays net.now next draft.old.saved)
-        (at_strays net.now next) (line_of (map (λ w. w.now) words.now)) result draft.new }
+    ensures { SaysOfLine net.now (ToStrays net.now next draft.old.saved)
+        (at_strays net.now next) (line_of_words (map (λ w. w.now) words.now)) result draft.new }
 {
     let arrays = net.net().arrays.as_slice();
     if next >= arrays.len() {

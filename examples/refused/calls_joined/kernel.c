@@ -1,4 +1,6 @@
 #include <stdint.h>
+static int is_even(int32_t x) { return x % 2 == 0; }
+static int is_small(int32_t x) { return x < 100; }
 int32_t count(int32_t n, int32_t x[8]) {
   int32_t found = 0;
   for (int i = 0; i < n; i++)
@@ -6,5 +8,3 @@ int32_t count(int32_t n, int32_t x[8]) {
       found++;
   return found;
 }
-int is_even(int32_t x) { return x % 2 == 0; }
-int is_small(int32_t x) { return x < 100; }

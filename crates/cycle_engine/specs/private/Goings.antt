@@ -17,7 +17,8 @@ use Rattle.cycle_engine.specs.Cycles.{Dated, dated_opening, May, IsOldest, IsUnu
 use Rattle.cycle_engine.specs.Bounds.{firing_count}
 use Rattle.cycle_engine.specs.Cuts.{joined, IsCut}
 use Rattle.cycle_engine.specs.private.Trials.{dated_of, IsBegun, IsEngine}
-use Rattle.cycle_engine.specs.private.Marking.{AreSince, Holds, HasUnit, IsMarked, IsStarved, IsListed, AreListed, cell, entries_at}
+use Rattle.cycle_engine.specs.private.Used.{AreTold}
+use Rattle.cycle_engine.specs.private.Marking.{Holds, HasUnit, IsMarked, IsStarved, IsListed, AreListed, cell, entries_at}
 
 -- how many firings are made in all
 abbrev pub all_made : Engine → ℕ
@@ -35,7 +36,7 @@ pub record IsReady (net : Net) (b : Bounds) (e : Engine) : Type 0 where
   pub marked : length e.marks.marked.items ≡ length net.units
   pub listed : IsListed net e.marks
   pub cells : length e.notes.coming.items ≡ 1024
-  pub since : AreSince e.fired.items e.since.items
+  pub told : AreTold e.used e.made e.fired.items
 
 -- what the loop over marked units counts down: each firing adds five numbers to the list at most
 abbrev pub to_visit : Bounds → Engine → ℕ

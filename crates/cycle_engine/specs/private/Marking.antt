@@ -39,21 +39,6 @@ pub record HasUnit (u : ℕ) (fs : List Firing) : Type 0 where
   pub within : at < length fs
   pub is : (get_or fs at no_firing).unit ≡ u
 
--- no firing before the number n is of the unit
-abbrev pub IsNotBefore : List Firing → ℕ → ℕ → Type 0
-IsNotBefore fs u n = (k : ℕ) → k < length fs → k < n → (get_or fs k no_firing).unit ≢ u
-
--- the numbers tell from where on units have fired
-abbrev pub AreSince : List Firing → List ℕ → Type 0
-AreSince fs since = (k : ℕ) → k < length fs → (get_or fs k no_firing).unit < length since → (0 < get_or since (get_or fs k no_firing).unit 0) × (get_or since (get_or fs k no_firing).unit 0 ≤ k + 1)
-
--- the unit fires after n firings: where its number told of no earlier one it is n + 1
-pub record IsSinceNoted (u n : ℕ) (old new : List ℕ) : Type 0 where
-  pub long : length new ≡ length old
-  pub others : (v : ℕ) → v ≢ u → get_or new v 0 ≡ get_or old v 0
-  pub kept : 0 < get_or old u 0 → get_or old u 0 ≤ n → get_or new u 0 ≡ get_or old u 0
-  pub own : u < length old → (0 < get_or new u 0) × (get_or new u 0 ≤ n + 1)
-
 -- ---- marks
 
 abbrev pub IsMarked : Marks → ℕ → Type 0

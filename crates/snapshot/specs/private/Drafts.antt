@@ -196,13 +196,13 @@ pub record Taken (net : Net) (Before : Saved → Type 0) (left : Saved → List 
   pub stands : Stands net d
   pub takes : Takes net Before left line (Shares net d.stage d.saved) (left_at net d.stage)
 
-abbrev pub Answers : Net → (Saved → Type 0) → (Saved → List (List ℕ)) → List ℕ → Bool → Draft → Type 0
-Answers net Before left line true d = Taken net Before left line d
-Answers net Before left line false d = Refuses net Before left line
+abbrev pub SaysOfLine : Net → (Saved → Type 0) → (Saved → List (List ℕ)) → List ℕ → Bool → Draft → Type 0
+SaysOfLine net Before left line true d = Taken net Before left line d
+SaysOfLine net Before left line false d = Refuses net Before left line
 
 -- the line of these words
-abbrev pub line_of : List (List ℕ) → List ℕ
-line_of ws = words ws
+abbrev pub line_of_words : List (List ℕ) → List ℕ
+line_of_words ws = words ws
 
 -- the data before the first line
 abbrev pub zero_elements : Array → List ℕ

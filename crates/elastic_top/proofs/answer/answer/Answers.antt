@@ -1,15 +1,18 @@
-use Rattle.std.proofs.Common.{subst}
+use Rattle.std.proofs.Common.{subst, ◌∙◌}
 use Rattle.std.specs.Prelude.{IfOk, IfErr, Ok, Err}
 use Rattle.net_runs.specs.Runs.{Runs}
 use Rattle.net_runs.specs.Replays.{Replays}
+use Rattle.net_runs.specs.Saves.{Saves}
+use Rattle.net_runs.specs.Resumes.{Resumes}
 use Rattle.kernel_ref.specs.Answers.{Interprets}
 use Rattle.kernel_runs.specs.Circuits.{Compiles}
 use Rattle.kernel_runs.specs.Goes.{Goes}
 use Rattle.command_words.specs.Commands.{word_texts}
-use Rattle.elastic_top.specs.Answers.{CompilesKernel, GoesKernel, InterpretsKernel, OfKernel, OfNet, ReplaysNet, RunsNet, at}
+use Rattle.elastic_top.specs.Answers.{CompilesKernel, GoesKernel, InterpretsKernel, OfKernel, OfNet, ReplaysNet, ResumesNet, RunsNet, SavesNet, at}
 use Rattle.elastic_top.specs.Reading.{contents_of}
-use Rattle.elastic_top.specs.Options.{circuit_of, interpretation_of, options_of}
-use Rattle.elastic_top.proofs.AnswerLemmas.{bytes_of_one, bytes_of_two, bytes_of_three, of_one, of_two, of_three}
+use Rattle.elastic_top.specs.Options.{at_or, circuit_of, interpretation_of, limit_or, options_of}
+use Rattle.elastic_top.proofs.AnswerLemmas.{bytes_of_one, bytes_of_two, bytes_of_three, of_one, of_two, of_three, some_seed}
+use Rattle.elastic_top.proofs.PlanLemmas.{length-texts}
 use Rattle.elastic_top.proofs.answer.answer.Goals as goal
 
 pub returns-in-Compile-clause-ok : goal.returns-in-Compile-clause-ok
@@ -100,3 +103,48 @@ go-requires-clause-shared g c = λ κs lives. rw c.options_of.ensures c.requires
 
 pub run-requires-clause-shared : goal.run-requires-clause-shared
 run-requires-clause-shared g c = λ κs lives. rw c.options_of-in-Run.ensures c.requires.chosen.shared
+
+pub bench-requires : goal.bench-requires
+bench-requires g c =
+    some_seed (word_texts c.args.command.now.plain.items) c.args.command.now.chosen.seed
+    (length-texts c.args.command.now.plain.items ∙ rw c.in-Bench.is at c.requires.plain) (rw c.in-Bench.is at c.requires.seed)
+
+pub returns-in-Bench-clause-ok : goal.returns-in-Bench-clause-ok
+returns-in-Bench-clause-ok g c = rw c.in-Bench.is c.bench.ensures.ok
+
+pub returns-in-Bench-clause-err : goal.returns-in-Bench-clause-err
+returns-in-Bench-clause-err g c = rw c.in-Bench.is c.bench.ensures.err
+
+pub returns-in-Save-clause-ok : goal.returns-in-Save-clause-ok
+returns-in-Save-clause-ok g c =
+    rw c.in-Save.is
+    (bytes_of_two (λ a b. IfOk c.save.result (λ text. OfNet a (λ net. Saves net b (at_or c.args.command.now.chosen.at) (Ok text.items)))) c.args.contents.now _ _
+    (rw c.in-Save.is at c.requires.count) c.index-contents-0-in-Save.is c.index-contents-1-in-Save.is
+    (subst (λ k. IfOk c.save.result (λ text. OfNet c.index-contents-0-in-Save.result.items (λ net. Saves net c.index-contents-1-in-Save.result.items k (Ok text.items)))) c.at_or.ensures
+    (subst (λ x. IfOk c.save.result (λ text. OfNet x (λ net. Saves net c.index-contents-1-in-Save.result.items c.at_or.result (Ok text.items)))) c.as_slice-in-Save.ensures.value
+    (subst (λ y. IfOk c.save.result (λ text. OfNet c.as_slice-in-Save.result.now (λ net. Saves net y c.at_or.result (Ok text.items)))) c.as_slice-in-Save-2.ensures.value c.save.ensures.ok))))
+
+pub returns-in-Save-clause-err : goal.returns-in-Save-clause-err
+returns-in-Save-clause-err g c =
+    rw c.in-Save.is
+    (subst (λ k. IfErr c.save.result (λ refusal. SavesNet (at (word_texts c.args.command.now.plain.items) 0) (at (word_texts c.args.command.now.plain.items) 1) k (at (contents_of c.args.contents.now) 0) (at (contents_of c.args.contents.now) 1) (Err refusal))) c.at_or.ensures
+    (of_two (λ v w a b. IfErr c.save.result (λ refusal. SavesNet v w c.at_or.result a b (Err refusal))) c.args.command.now.plain.items _ c.args.contents.now _ _ _ _ _ _
+    c.as_slice-words.ensures.value c.as_slice-in-Save.ensures.value c.as_slice-in-Save-2.ensures.value
+    (rw c.in-Save.is at c.requires.plain) (rw c.in-Save.is at c.requires.count) c.index-contents-0-in-Save.is c.index-contents-1-in-Save.is c.save.ensures.err))
+
+pub returns-in-Resume-clause-ok : goal.returns-in-Resume-clause-ok
+returns-in-Resume-clause-ok g c =
+    rw c.in-Resume.is
+    (bytes_of_two (λ a b. IfOk c.resume.result (λ text. OfNet a (λ net. Resumes net b (limit_or c.args.command.now.chosen.limit) c.args.command.now.chosen.count (Ok text.items)))) c.args.contents.now _ _
+    (rw c.in-Resume.is at c.requires.count) c.index-contents-0-in-Resume.is c.index-contents-1-in-Resume.is
+    (subst (λ n. IfOk c.resume.result (λ text. OfNet c.index-contents-0-in-Resume.result.items (λ net. Resumes net c.index-contents-1-in-Resume.result.items n c.args.command.now.chosen.count (Ok text.items)))) c.limit_or.ensures
+    (subst (λ x. IfOk c.resume.result (λ text. OfNet x (λ net. Resumes net c.index-contents-1-in-Resume.result.items c.limit_or.result c.args.command.now.chosen.count (Ok text.items)))) c.as_slice-in-Resume.ensures.value
+    (subst (λ y. IfOk c.resume.result (λ text. OfNet c.as_slice-in-Resume.result.now (λ net. Resumes net y c.limit_or.result c.args.command.now.chosen.count (Ok text.items)))) c.as_slice-in-Resume-2.ensures.value c.resume.ensures.ok))))
+
+pub returns-in-Resume-clause-err : goal.returns-in-Resume-clause-err
+returns-in-Resume-clause-err g c =
+    rw c.in-Resume.is
+    (subst (λ n. IfErr c.resume.result (λ refusal. ResumesNet (at (word_texts c.args.command.now.plain.items) 0) (at (word_texts c.args.command.now.plain.items) 1) n c.args.command.now.chosen.count (at (contents_of c.args.contents.now) 0) (at (contents_of c.args.contents.now) 1) (Err refusal))) c.limit_or.ensures
+    (of_two (λ v w a b. IfErr c.resume.result (λ refusal. ResumesNet v w c.limit_or.result c.args.command.now.chosen.count a b (Err refusal))) c.args.command.now.plain.items _ c.args.contents.now _ _ _ _ _ _
+    c.as_slice-words.ensures.value c.as_slice-in-Resume.ensures.value c.as_slice-in-Resume-2.ensures.value
+    (rw c.in-Resume.is at c.requires.plain) (rw c.in-Resume.is at c.requires.count) c.index-contents-0-in-Resume.is c.index-contents-1-in-Resume.is c.resume.ensures.err))

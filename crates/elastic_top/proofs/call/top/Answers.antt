@@ -6,7 +6,7 @@ use Rattle.command_words.specs.Commands.{asked, texts, Command}
 use Rattle.elastic_top.specs.Faults.{IsTold, fault_code}
 use Rattle.elastic_top.specs.Statuses.{statuses_of}
 use Rattle.elastic_top.specs.Causes.{AreSound, Unread, TooLong, Writes, RefusesWith}
-use Rattle.elastic_top.proofs.CallLemmas.{outside, status_of, any_status, unread_of, long_of, cut_of, refused_of, unwritten_of, memory_of, sound_status}
+use Rattle.elastic_top.proofs.CallLemmas.{outside, status_of, spelled_of, not_done, any_status, unread_of, long_of, cut_of, refused_of, unwritten_of, memory_of, sound_status}
 use Rattle.elastic_top.proofs.RangeLemmas.{spelled_within}
 use Rattle.elastic_top.proofs.call.top.Goals as goal
 
@@ -14,6 +14,11 @@ pub run_command-requires-clause-chosen : goal.run_command-requires-clause-chosen
 run_command-requires-clause-chosen g c = λ κs lives.
     let spells : Command (texts c.args.words.now) (asked c.in-Ok-Some.command) = rw c.in-Ok-Some.field-0-is at c.in-Ok-Some.ensures.some in
     spelled_within (texts c.args.words.now) (asked c.in-Ok-Some.command) spells
+
+pub run_command-requires-clause-seed : goal.run_command-requires-clause-seed
+run_command-requires-clause-seed g c = λ κs lives.
+    let spells : Command (texts c.args.words.now) (asked c.in-Ok-Some.command) = rw c.in-Ok-Some.field-0-is at c.in-Ok-Some.ensures.some in
+    spells.spelled.seed
 
 pub returns-in-Ok-None-clause-usage : goal.returns-in-Ok-None-clause-usage
 returns-in-Ok-None-clause-usage g c = λ is. c.in-Ok-None.ensures.none (ap is_some c.in-Ok-None.field-0-is)
@@ -35,6 +40,15 @@ returns-in-Ok-clause-statuses g c = λ d spelled. (outside d.verb spelled.built)
 
 pub returns-clause-codes : goal.returns-clause-codes
 returns-clause-codes g c = rw c.code.ensures (any_status c.in-Err-run_command.fault)
+
+pub returns-clause-usage : goal.returns-clause-usage
+returns-clause-usage g c = λ is.
+    absurd (spelled_of (g.F.Files.holds c.args.files.now) (g.F.Files.steady c.args.files.now) (g.F.Files.long c.run_command.new.files)
+    (IsCut (g.O.Sink.written c.args.out.now) (g.O.Sink.written c.run_command.new.out))
+    (asked c.in-Ok-Some.command) c.in-Err-run_command.fault c.in-Err-run_command.ensures.fault (sym c.code.ensures ∙ is))
+
+pub returns-clause-done : goal.returns-clause-done
+returns-clause-done g c = λ is. absurd (not_done c.in-Err-run_command.fault (sym c.code.ensures ∙ is))
 
 pub returns-in-Ok-clause-done : goal.returns-in-Ok-clause-done
 returns-in-Ok-clause-done g c = λ is d spelled.

@@ -14,3 +14,9 @@ returns-in-Go g c = rw c.in-Go.is c.tell_go.ensures
 
 pub returns-in-Interpret : goal.returns-in-Interpret
 returns-in-Interpret g c = rw c.in-Interpret.is c.tell_interpret.ensures
+
+pub returns-in-Resume : goal.returns-in-Resume
+returns-in-Resume g c = rw c.in-Resume.is c.tell_resume.ensures
+
+pub returns-in-Bench : goal.returns-in-Bench
+returns-in-Bench g c = rw c.in-Bench.is c.tell_line.ensures

@@ -4,7 +4,7 @@ use Rattle.net_types.specs.declared.net.Net.{Net}
 use Rattle.snapshot.specs.Texts.{no_array, no_scalar, words}
 use Rattle.snapshot.specs.declared.draft.Stage.{Stage}
 use Rattle.snapshot.specs.declared.draft.Stage.TheVariants.{First, Made, Scalars, Fired, Chans, Forks, Queues, Opened, Entries, Arrays, Strays, Ended}
-use Rattle.snapshot.specs.private.Drafts.{Answers, IsBlank, Refuses, Shares, Taken, left_at}
+use Rattle.snapshot.specs.private.Drafts.{SaysOfLine, IsBlank, Refuses, Shares, Taken, left_at}
 use Rattle.snapshot.proofs.Stages1.{made_refused, made_taken}
 use Rattle.snapshot.proofs.Steps.{at_stage}
 use Rattle.snapshot.proofs.stages.take_line.Goals as goal
@@ -62,5 +62,5 @@ pub returns-in-Strays : goal.returns-in-Strays
 returns-in-Strays c =
     let net = c.args.net.now in
     let d = c.args.draft.now.saved in
-    let P : Stage → Type 0 = λ s. Answers net (Shares net s d) (left_at net s) (words (map (λ w. w.now) c.args.words.now)) c.take_stray.result c.take_stray.new.draft in
+    let P : Stage → Type 0 = λ s. SaysOfLine net (Shares net s d) (left_at net s) (words (map (λ w. w.now) c.args.words.now)) c.take_stray.result c.take_stray.new.draft in
     subst P (sym c.in-Strays.is) c.take_stray.ensures

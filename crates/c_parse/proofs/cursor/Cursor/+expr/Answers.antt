@@ -1,10 +1,13 @@
 use Rattle.std.proofs.Common.{rules, suc, [], ◌∷◌, refl, sym, subst, arith}
 use Rattle.c_parse.specs.Symbols.{Symbol, Reduction, Fixed, in_group}
 use Rattle.c_parse.specs.Stops.{IsLooserAt}
-use Rattle.c_parse.proofs.Rules.{reads_tighter, reads_choice, reads_joined, reads_name, reads_element, reads_unary, reads_cast, reads_parens, reads_group, reads_brackets, reads_no_indices, reads_index_after, reads_same, if_ok, no_items, some_items}
+use Rattle.c_parse.specs.Parts.{argument_list_symbols}
+use Rattle.c_parse.proofs.Rules.{reads_tighter, reads_choice, reads_joined, reads_name, reads_element, reads_call, reads_unary, reads_cast, reads_parens, reads_group, reads_brackets, reads_no_indices, reads_index_after, reads_same, if_ok, no_items, some_items}
 use Rattle.c_parse.proofs.Chains.{same_done, same_then, same_to, same_part, same_fixed, same_name, same_reduces, fails_then, part_fails, fixed_fails, fixed_deep, name_fails, deep_fails, known_fails, stopped, told, went, judges_on, judges_reduced, within, full, inner, room}
 use Rattle.c_parse.proofs.Climbing.{reads_looser, operates_as, same_climbed, same_no_tails, climbs, same_right, right_fails}
-use Rattle.c_parse.proofs.JudgedExprs.{same_unrolled, same_choice, same_no_choice, same_signed, signed_deep, sign_fails, same_as_name, same_as_number, same_as_cast, same_as_group, no_operand, same_index, same_no_index}
+use Rattle.c_parse.proofs.JudgedExprs.{same_unrolled, same_choice, same_no_choice, same_signed, signed_deep, sign_fails, same_as_name, same_as_number, same_as_cast, same_as_group, no_operand, same_index, same_no_index, same_as_indices, same_call}
+use Rattle.c_parse.proofs.CallRules.{reads_arguments, reads_no_arguments, reads_first_argument, reads_argument_after, reads_argument_list}
+use Rattle.c_parse.proofs.JudgedCalls.{arguments_none, arguments_judged, argument_list_stops, first_argument_read, more_arguments_read, more_arguments_stop, argument_list_read}
 use Rattle.c_parse.proofs.cursor.Cursor.+expr.Goals as goal
 
 pub expr-returns-in_err-cond-clause-judged : goal.expr-returns-in_err-cond-clause-judged
@@ -136,22 +139,76 @@ pub indices-returns-clause-judged : goal.indices-returns-clause-judged
 indices-returns-clause-judged t c = λ n all. went (Symbol.indices n ∷ []) ([]) (same_then (c.brackets.invariant.1 n all) (same_no_index (search rules)))
 
 pub named-returns-in_err-name-clause-judged : goal.named-returns-in_err-name-clause-judged
-named-returns-in_err-name-clause-judged t c = λ n all. rw (stopped _ _ c.from_residual.ensures.1) (told (Symbol.a_name n ∷ Symbol.indices n ∷ []) (name_fails c.in_err-name.ensures.refused))
+named-returns-in_err-name-clause-judged t c = λ n all. rw (stopped _ _ c.from_residual.ensures.1) (told (Symbol.a_name n ∷ Symbol.postfix n ∷ []) (name_fails c.in_err-name.ensures.refused))
+
+pub named-returns-in_err-args-clause-judged : goal.named-returns-in_err-args-clause-judged
+named-returns-in_err-args-clause-judged t c = λ n all. rw (stopped _ _ c.from_residual-in_err-args.ensures.1) (told (Symbol.a_name n ∷ Symbol.postfix n ∷ []) (fails_then (same_name (within _ _ all) c.in_ok-name.ensures.read) (part_fails (Symbol.postfix n ∷ []) [] (c.in_err-args.ensures.judged n all (search rules)))))
+
+pub named-returns-then-is_at-clause-derived : goal.named-returns-then-is_at-clause-derived
+named-returns-then-is_at-clause-derived t c = reads_call _ _ _ _ _ _ _ c.in_ok-name.ensures.read c.in_ok-args.ensures.derived c.place.ensures
+
+pub named-returns-then-is_at-clause-judged : goal.named-returns-then-is_at-clause-judged
+named-returns-then-is_at-clause-judged t c = λ n all. went (Symbol.a_name n ∷ Symbol.postfix n ∷ []) ([]) (same_then (same_name (within _ _ all) c.in_ok-name.ensures.read) (same_part (Symbol.postfix n ∷ []) (c.in_ok-args.ensures.judged n all (search rules))))
+
+pub arguments-returns-in_err-open-clause-judged : goal.arguments-returns-in_err-open-clause-judged
+arguments-returns-in_err-open-clause-judged t c = λ n all known. rw (stopped _ _ c.from_residual.ensures.1) (told (Symbol.postfix n ∷ []) (known_fails known c.in_err-open.ensures.refused))
+
+pub arguments-returns-in_err-depth-clause-judged : goal.arguments-returns-in_err-depth-clause-judged
+arguments-returns-in_err-depth-clause-judged t c = λ n all known. rw (stopped _ _ c.from_residual-in_err-depth.ensures.1) (told (Symbol.postfix n ∷ []) (deep_fails c.in_ok-open.ensures.read refl (full _ _ all c.in_err-depth.ensures.none_left) c.in_err-depth.ensures.place))
+
+pub arguments-returns-in_err-args-clause-judged : goal.arguments-returns-in_err-args-clause-judged
+arguments-returns-in_err-args-clause-judged t c = λ n all known. rw (stopped _ _ c.from_residual-in_err-args.ensures.1) (told (Symbol.postfix n ∷ []) (fails_then (same_call (room _ _ _ all c.in_ok-depth.ensures.one_less) c.in_ok-open.ensures.read) (part_fails (Symbol.arguments (suc n) ∷ []) [] (c.in_err-args.ensures.judged (suc n) (inner _ _ _ all c.in_ok-depth.ensures.one_less)))))
+
+pub arguments-returns-in_err-mark-clause-judged : goal.arguments-returns-in_err-mark-clause-judged
+arguments-returns-in_err-mark-clause-judged t c = λ n all known. rw (stopped _ _ c.from_residual-in_err-mark.ensures.1) (told (Symbol.postfix n ∷ []) (fails_then (same_call (room _ _ _ all c.in_ok-depth.ensures.one_less) c.in_ok-open.ensures.read) (fails_then (record { holds = c.in_ok-args.ensures.judged (suc n) (inner _ _ _ all c.in_ok-depth.ensures.one_less) }) (fixed_fails {more = []} refl c.in_err-mark.ensures.refused))))
+
+pub arguments-returns-clause-derived : goal.arguments-returns-clause-derived
+arguments-returns-clause-derived t c = reads_arguments _ _ _ _ _ _ _ c.in_ok-open.ensures.read c.in_ok-args.ensures.derived c.in_ok-mark.ensures.read
+
+pub arguments-returns-clause-judged : goal.arguments-returns-clause-judged
+arguments-returns-clause-judged t c = λ n all known. went (Symbol.postfix n ∷ []) ([]) (same_then (same_call (room _ _ _ all c.in_ok-depth.ensures.one_less) c.in_ok-open.ensures.read) (same_then (record { holds = c.in_ok-args.ensures.judged (suc n) (inner _ _ _ all c.in_ok-depth.ensures.one_less) }) (same_fixed refl (room _ _ _ all c.in_ok-depth.ensures.one_less) c.in_ok-mark.ensures.read)))
+
+pub any_arguments-returns-then-is_at-clause-derived : goal.any_arguments-returns-then-is_at-clause-derived
+any_arguments-returns-then-is_at-clause-derived t c = reads_no_arguments _ _ c.new.ensures
+
+pub any_arguments-returns-then-is_at-clause-judged : goal.any_arguments-returns-then-is_at-clause-judged
+any_arguments-returns-then-is_at-clause-judged t c = λ n all. went (Symbol.arguments n ∷ []) (Symbol.fixed n Fixed.closing ∷ []) (arguments_none n _ (search rules))
+
+pub any_arguments-returns-clause-judged : goal.any_arguments-returns-clause-judged
+any_arguments-returns-clause-judged t c = λ n all. arguments_judged n _ _ _ (search rules) (c.argument_list.ensures.judged n all)
+
+pub argument_list-returns-in_err-first-clause-judged : goal.argument_list-returns-in_err-first-clause-judged
+argument_list-returns-in_err-first-clause-judged t c = λ n all. rw (stopped _ _ c.from_residual.ensures.1) (told (argument_list_symbols n) (argument_list_stops n _ _ (c.in_err-first.ensures.judged n all)))
+
+pub argument_list-arguments-init : goal.argument_list-arguments-init
+argument_list-arguments-init t c = (reads_first_argument _ _ _ _ _ c.in_ok-first.ensures.derived c.new-args.ensures c.in_ok-push.ensures.ok, λ n all. first_argument_read n _ _ (c.in_ok-first.ensures.judged n all))
+
+pub argument_list-returns-in_err-more-clause-judged : goal.argument_list-returns-in_err-more-clause-judged
+argument_list-returns-in_err-more-clause-judged t c = λ n all. rw (stopped _ _ c.from_residual-in_err-more.ensures.1) (told (argument_list_symbols n) (more_arguments_stop n _ _ c.arguments.self.rest.now _ _ (within _ _ all) (c.arguments.invariant.1 n all) c.in_ok-mark.ensures.read (c.in_err-more.ensures.judged n all)))
+
+pub argument_list-arguments-preserved : goal.argument_list-arguments-preserved
+argument_list-arguments-preserved t c = (reads_argument_after _ _ _ _ _ _ _ _ c.arguments.invariant.0 c.in_ok-mark.ensures.read c.in_ok-more.ensures.derived c.in_ok-push-2.ensures.ok, λ n all. more_arguments_read n _ _ c.arguments.self.rest.now _ _ (within _ _ all) (c.arguments.invariant.1 n all) c.in_ok-mark.ensures.read (c.in_ok-more.ensures.judged n all))
+
+pub argument_list-returns-clause-derived : goal.argument_list-returns-clause-derived
+argument_list-returns-clause-derived t c = reads_argument_list _ _ _ c.arguments.invariant.0
+
+pub argument_list-returns-clause-judged : goal.argument_list-returns-clause-judged
+argument_list-returns-clause-judged t c = λ n all. went (argument_list_symbols n) [] (argument_list_read n _ _ (c.arguments.invariant.1 n all) (search rules))
 
 pub named-returns-in_err-indices-clause-judged : goal.named-returns-in_err-indices-clause-judged
-named-returns-in_err-indices-clause-judged t c = λ n all. rw (stopped _ _ c.from_residual-in_err-indices.ensures.1) (told (Symbol.a_name n ∷ Symbol.indices n ∷ []) (fails_then (same_name (within _ _ all) c.in_ok-name.ensures.read) (part_fails (Symbol.indices n ∷ []) _ (c.in_err-indices.ensures.judged n all))))
+named-returns-in_err-indices-clause-judged t c = λ n all. rw (stopped _ _ c.from_residual-in_err-indices.ensures.1) (told (Symbol.a_name n ∷ Symbol.postfix n ∷ []) (fails_then (same_name (within _ _ all) c.in_ok-name.ensures.read) (fails_then (same_as_indices (search rules)) (part_fails (Symbol.indices n ∷ []) _ (c.in_err-indices.ensures.judged n all)))))
 
 pub named-returns-then-is_empty-clause-derived : goal.named-returns-then-is_empty-clause-derived
 named-returns-then-is_empty-clause-derived t c = reads_name _ _ _ _ _ _ _ c.in_ok-name.ensures.read c.in_ok-indices.ensures.derived (no_items _ (search rules)) c.place-at.ensures
 
 pub named-returns-then-is_empty-clause-judged : goal.named-returns-then-is_empty-clause-judged
-named-returns-then-is_empty-clause-judged t c = λ n all. went (Symbol.a_name n ∷ Symbol.indices n ∷ []) ([]) (same_then (same_name (within _ _ all) c.in_ok-name.ensures.read) (same_part (Symbol.indices n ∷ []) (c.in_ok-indices.ensures.judged n all)))
+named-returns-then-is_empty-clause-judged t c = λ n all. went (Symbol.a_name n ∷ Symbol.postfix n ∷ []) ([]) (same_then (same_name (within _ _ all) c.in_ok-name.ensures.read) (same_then (same_as_indices (search rules)) (same_part (Symbol.indices n ∷ []) (c.in_ok-indices.ensures.judged n all))))
 
 pub named-returns-clause-derived : goal.named-returns-clause-derived
 named-returns-clause-derived t c = reads_element _ _ _ _ _ _ _ c.in_ok-name.ensures.read c.in_ok-indices.ensures.derived (some_items _ (search rules)) c.place-at.ensures
 
 pub named-returns-clause-judged : goal.named-returns-clause-judged
-named-returns-clause-judged t c = λ n all. went (Symbol.a_name n ∷ Symbol.indices n ∷ []) ([]) (same_then (same_name (within _ _ all) c.in_ok-name.ensures.read) (same_part (Symbol.indices n ∷ []) (c.in_ok-indices.ensures.judged n all)))
+named-returns-clause-judged t c = λ n all. went (Symbol.a_name n ∷ Symbol.postfix n ∷ []) ([]) (same_then (same_name (within _ _ all) c.in_ok-name.ensures.read) (same_then (same_as_indices (search rules)) (same_part (Symbol.indices n ∷ []) (c.in_ok-indices.ensures.judged n all))))
 
 pub signed-returns-in_err-op-clause-judged : goal.signed-returns-in_err-op-clause-judged
 signed-returns-in_err-op-clause-judged t c = λ n all plain. rw (stopped _ _ c.from_residual.ensures.1) (told (Symbol.expression n 11 ∷ []) (sign_fails plain c.in_err-op.ensures.refused))
@@ -169,7 +226,7 @@ pub signed-returns-clause-judged : goal.signed-returns-clause-judged
 signed-returns-clause-judged t c = λ n all plain. went (Symbol.expression n 11 ∷ []) ([]) (same_then (same_signed (room _ _ _ all c.in_ok-depth.ensures.one_less) c.in_ok-op.ensures.read) (same_then (same_part (Symbol.expression (suc n) 11 ∷ []) (c.in_ok-arg.ensures.judged (suc n) (inner _ _ _ all c.in_ok-depth.ensures.one_less))) same_reduces))
 
 pub unary-returns-then-is_at_name-clause-judged : goal.unary-returns-then-is_at_name-clause-judged
-unary-returns-then-is_at_name-clause-judged t c = λ n all. judges_on [] c.named.new.self.rest.now c.named.result (same_as_name (sym c.if-is_at_name.ensures)) (judges_reduced (Symbol.a_name n ∷ Symbol.indices n ∷ []) Reduction.named _ _ c.named.result (c.named.ensures.judged n all))
+unary-returns-then-is_at_name-clause-judged t c = λ n all. judges_on [] c.named.new.self.rest.now c.named.result (same_as_name (sym c.if-is_at_name.ensures)) (judges_reduced (Symbol.a_name n ∷ Symbol.postfix n ∷ []) Reduction.named _ _ c.named.result (c.named.ensures.judged n all))
 
 pub unary-returns-then-is_at_number-clause-judged : goal.unary-returns-then-is_at_number-clause-judged
 unary-returns-then-is_at_number-clause-judged t c = λ n all. judges_on [] c.constant.new.self.rest.now c.constant.result (same_as_number (sym c.if-is_at_number.ensures)) (c.constant.ensures.judged n (within _ _ all))

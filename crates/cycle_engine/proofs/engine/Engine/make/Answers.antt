@@ -1,7 +1,7 @@
 use Rattle.cycle_engine.proofs.MakeLemmas.{dates_within, date_room, dates_made, made_is, made_engine}
-use Rattle.std.proofs.Common.{◌∙◌, ap, arith}
+use Rattle.std.proofs.Common.{◌+◌, ◌∙◌, ap, arith}
 use Rattle.cycle_engine.specs.private.Trials.{dated_moves}
-use Rattle.cycle_engine.proofs.MarkLemmas.{since_more}
+use Rattle.cycle_engine.proofs.UsedLemmas.{told_more}
 use Rattle.cycle_engine.proofs.engine.Engine.make.Goals as goal
 
 pub make-requires-clause-within : goal.make-requires-clause-within
@@ -15,7 +15,7 @@ make-requires-clause-room c =
 pub returns-clause-after : goal.returns-clause-after
 returns-clause-after c =
     made_is c.args.net.now c.args.now c.args.self.now
-    (record { state = c.make_moves.new.self; dates = c.make.new.self; begun = c.args.self.now.begun; fired = c.note_fired.new.fired; since = c.note_since.new.since; made = c.args.self.now.made; log = c.note-3.new.log; marks = c.args.self.now.marks; notes = c.note-2.new.self; freed = c.note.new.self })
+    (record { state = c.make_moves.new.self; dates = c.make.new.self; begun = c.args.self.now.begun; fired = c.note_fired.new.fired; used = c.note.new.self; made = c.args.self.now.made; log = c.note-4.new.log; marks = c.args.self.now.marks; notes = c.note-3.new.self; freed = c.note-2.new.self })
     c.args.firing c.args.planned.plan c.requires.effect c.make_moves.ensures.state
     (dates_made c.args.net.now c.args.now c.args.self.now c.args.firing c.args.planned.plan c.dated.result c.make.new.self.tokens c.requires.engine c.requires.effect c.requires.apart
     (c.dated.ensures ∙ ap (dated_moves c.args.now) c.requires.moves) c.make.ensures.tokens)
@@ -23,9 +23,10 @@ returns-clause-after c =
 pub returns-clause-engine : goal.returns-clause-engine
 returns-clause-engine c =
     made_engine c.args.net.now c.args.now c.args.self.now
-    (record { state = c.make_moves.new.self; dates = c.make.new.self; begun = c.args.self.now.begun; fired = c.note_fired.new.fired; since = c.note_since.new.since; made = c.args.self.now.made; log = c.note-3.new.log; marks = c.args.self.now.marks; notes = c.note-2.new.self; freed = c.note.new.self })
+    (record { state = c.make_moves.new.self; dates = c.make.new.self; begun = c.args.self.now.begun; fired = c.note_fired.new.fired; used = c.note.new.self; made = c.args.self.now.made; log = c.note-4.new.log; marks = c.args.self.now.marks; notes = c.note-3.new.self; freed = c.note-2.new.self })
     c.args.firing c.args.planned.plan c.requires.engine c.requires.effect (returns-clause-after c) c.make_moves.ensures.of c.make.ensures.slots
 
-pub returns-clause-since : goal.returns-clause-since
-returns-clause-since c =
-    since_more c.args.self.now.fired.items c.note_fired.new.fired.items c.args.firing c.len.result c.args.self.now.since.items c.note_since.new.since.items (omega (arith, c.len.ensures, c.args.self.now.fired.ok.0)) c.in_ok-note_fired.ensures.fired c.note_since.ensures c.requires.since
+pub returns-clause-told : goal.returns-clause-told
+returns-clause-told c =
+    told_more c.args.self.now.fired.items c.note_fired.new.fired.items c.args.firing c.args.self.now.made (c.args.self.now.made + c.len.result) c.args.self.now.used c.note.new.self
+    (omega (arith, c.len.ensures, c.args.self.now.fired.ok.0)) c.in_ok-note_fired.ensures.fired c.note.ensures c.requires.told

@@ -13,8 +13,8 @@ returns-clause-ready c =
       state = c.in_ok-state.state;
       dates = c.in_ok-dates.dates;
       begun = c.in_ok-begun.begun;
-      fired = c.new-6.result;
-      since = c.in_ok-since.since;
+      fired = c.new-7.result;
+      used = c.in_ok-used.used;
       made = 0;
       log = c.in_ok-log.log;
       marks = c.in_ok-marks.marks;
@@ -25,7 +25,7 @@ returns-clause-ready c =
     let units : c.as_slice-units.result.now ≡ c.args.net.now.units = c.as_slice-units.ensures ∙ ap (λ (n : Net). n.units) c.net-2.ensures.net in
     opened_ready c.args.net.now c.args.inputs.now c.args.bounds e c.in_ok-state.ensures.of (c.in_ok-dates.ensures.slots ∙ ap (map (λ (d : Chan). d.slots)) chans)
     (opened_as c.args.net.now c.args.inputs.now e c.in_ok-state.ensures.state (c.in_ok-dates.ensures.tokens ∙ ap (map (λ (d : Chan). [])) chans))
-    c.requires.few refl c.new-6.ensures.items c.in_ok-state.ensures.counts (c.in_ok-log.ensures.room ∙ c.log_room.ensures)
+    c.requires.few refl c.new-7.ensures.items c.in_ok-state.ensures.counts (c.in_ok-log.ensures.room ∙ c.log_room.ensures)
     (ap (λ (xs : List Bool). length xs) c.in_ok-freed.ensures.marked ∙ (length-replicate _ _ ∙ ap (λ (xs : List Chan). length xs) chans))
     (ap (λ (xs : List ℕ). length xs) c.in_ok-begun.ensures ∙ (length-replicate _ _ ∙ ap (λ (xs : List Kind). length xs) units))
     c.in_ok-marks.ensures.long c.in_ok-marks.ensures.listed c.in_ok-notes.ensures
@@ -36,8 +36,8 @@ returns-clause-done c =
       state = c.in_ok-state.state;
       dates = c.in_ok-dates.dates;
       begun = c.in_ok-begun.begun;
-      fired = c.new-6.result;
-      since = c.in_ok-since.since;
+      fired = c.new-7.result;
+      used = c.in_ok-used.used;
       made = 0;
       log = c.in_ok-log.log;
       marks = c.in_ok-marks.marks;
@@ -48,6 +48,6 @@ returns-clause-done c =
     let units : c.as_slice-units.result.now ≡ c.args.net.now.units = c.as_slice-units.ensures ∙ ap (λ (n : Net). n.units) c.net-2.ensures.net in
     opened_done c.args.net.now c.args.inputs.now c.args.bounds e
     (opened_as c.args.net.now c.args.inputs.now e c.in_ok-state.ensures.state (c.in_ok-dates.ensures.tokens ∙ ap (map (λ (d : Chan). [])) chans))
-    refl c.new-6.ensures.items c.in_ok-log.ensures.items c.net.ensures.checked
+    refl c.new-7.ensures.items c.in_ok-log.ensures.items c.net.ensures.checked
     (c.in_ok-freed.ensures.marked ∙ ap (λ (xs : List Chan). replicate (length xs) false) chans) (c.in_ok-begun.ensures ∙ ap (λ (xs : List Kind). replicate (length xs) 0) units)
     c.in_ok-marks.ensures.all
