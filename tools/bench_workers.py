@@ -1,10 +1,10 @@
 #!/usr/bin/env python3
-"""Times the proved program by cycles and by workers, and tells the most memory of each run: a kernel of 20 recurrences in one
-loop, each with a loop of units of its own, `examples/matrix`, a loop over an array of 2^20 elements, and a net of 983,044 units.
-Then it counts, where valgrind is there, what sweeping and gathering cost.
+"""Times the proved program by cycles, by the plain runner and by workers, and tells the most memory of each run: a kernel of 20
+recurrences in one loop, each with a loop of units of its own, `examples/matrix`, a loop over an array of 2^20 elements, and a net
+of 983,044 units. Then it counts, where valgrind is there, what sweeping and gathering cost. A run by the plain runner is `resume`
+of the state before the first firing.
 
 usage: tools/bench_workers.py [PROGRAM]"""
-import os
 import pathlib
 import re
 import shutil
@@ -36,30 +36,39 @@ def compiled(folder, name, kernel):
 
 
 def measured(words, folder):
-    """The output of a call, its seconds and its most memory in MB."""
+    """The output of a call, its seconds and its most memory in MB. (Of a child the system counts the memory of who started it
+    too, and that is little of /usr/bin/time and much of this script.)"""
     began = time.time()
     with open(folder / "out", "wb") as out:
-        child = subprocess.Popen([load.PROGRAM, *words], cwd=folder, stdout=out, stderr=subprocess.PIPE)
-        errors = child.stderr.read()
-        _, status, usage = os.wait4(child.pid, 0)
-    child.returncode = os.waitstatus_to_exitcode(status)
-    if child.returncode:
-        sys.exit(f"{' '.join(words)}: status {child.returncode}: {errors.decode().strip()}")
-    return (folder / "out").read_bytes(), time.time() - began, usage.ru_maxrss / 1024
+        timed = ["/usr/bin/time", "-f", "%M", "-o", "memory", load.PROGRAM, *words]
+        ran = subprocess.run(timed, cwd=folder, stdout=out, stderr=subprocess.PIPE, check=False)
+    seconds = time.time() - began
+    if ran.returncode:
+        sys.exit(f"{' '.join(words)}: status {ran.returncode}: {ran.stderr.decode().strip()}")
+    return (folder / "out").read_bytes(), seconds, int((folder / "memory").read_text()) / 1024
+
+
+def plain(folder, net, inputs, name):
+    """The words of a run by the plain runner."""
+    state, _, _ = measured(["save", net, inputs], folder)
+    (folder / f"{name}.state").write_bytes(state)
+    return ["resume", net, f"{name}.state"]
 
 
 def put_row(folder, name, what, numbers, runs):
-    """A line of the table: the shortest time of some runs, and the most memory, by cycles and by each number of workers."""
-    words = ["run", f"{name}.net", f"{name}.in", "--count", "--limit", LIMIT]
+    """A line of the table: the shortest time of some runs, and the most memory, by each way and by each number of workers."""
+    net, inputs = f"{name}.net", f"{name}.in"
+    ways = [["run", net, inputs], plain(folder, net, inputs, name)]
+    ways += [["run", net, inputs, "--workers", str(number)] for number in numbers]
     wanted, cells = None, []
-    for more in [[], *(["--workers", str(number)] for number in numbers)]:
-        ran = [measured(words + more, folder) for _ in range(runs)]
+    for words in ways:
+        ran = [measured([*words, "--count", "--limit", LIMIT], folder) for _ in range(runs)]
         wanted = wanted or ran[0][0]
         if any(out != wanted for out, _, _ in ran):
-            sys.exit(f"{name}: {' '.join(more)} prints something else")
+            sys.exit(f"{name}: {' '.join(words)} prints something else")
         cells.append(f"{min(seconds for _, seconds, _ in ran):.2f} s, {max(memory for _, _, memory in ran):,.0f} MB")
     firings = int(re.search(rb"# firings (\d+)", wanted).group(1))
-    cells += ["not tried"] * (5 - len(cells))
+    cells += ["not tried"] * (6 - len(cells))
     print(f"| {what} | {firings:,} | {' | '.join(cells)} |", flush=True)
 
 
@@ -76,13 +85,18 @@ def put_counts(folder):
         print("instructions are counted by valgrind, which is not here")
         return
     (folder / "count.in").write_text("n = 20000\n")
-    words = ["run", str(TOP / "examples/countdown/net.txt"), "count.in"]
+    net = str(TOP / "examples/countdown/net.txt")
+    words = ["run", net, "count.in"]
+    ways = {"by cycles": words, "by the plain runner": plain(folder, net, "count.in", "count"), "by one worker": [*words, "--workers", "1"]}
     print("\n| A countdown from 20,000, 260,013 firings | Instructions |\n|---|---|")
-    for what, more in {"by cycles": [], "by one worker": ["--workers", "1"]}.items():
-        print(f"| {what} | {counted(folder, words + more):,} |")
-    for what, name in {"its sweeps": "*sweep_all*", "gathering its log": "*gather*"}.items():
-        count = counted(folder, [*words, "--workers", "1"], f"--toggle-collect={name}")
-        print(f"| {what} | {f'{count:,}' if count else 'has no name in the program'} |")
+    counts = {what: counted(folder, way) for what, way in ways.items()}
+    for what, count in counts.items():
+        print(f"| {what} | {count:,} |")
+    sweeps = counted(folder, ways["by one worker"], "--toggle-collect=*thread::fork::chunks_from*")
+    if sweeps:
+        print(f"| its sweeps | {sweeps:,} |\n| all else, above all gathering its log | {counts['by one worker'] - sweeps:,} |")
+    else:
+        print("| its sweeps | have no name in the program |")
 
 
 def main():
@@ -96,7 +110,7 @@ def main():
         (folder / "array.in").write_text(f"n = 1000\na = {' '.join('1' * ELEMENTS)}\n")
         (folder / "wide.net").write_text(load.wide_net(OUTPUTS, EACH, load.NETLIST))
         (folder / "wide.in").write_text("a = 5\n")
-        print("| Net | Firings | By cycles | 1 worker | 2 | 4 | 64 |\n|---|---|---|---|---|---|---|")
+        print("| Net | Firings | By cycles | Plain runner | 1 worker | 2 | 4 | 64 |\n|---|---|---|---|---|---|---|---|")
         put_row(folder, "twenty", f"{RECURRENCES} recurrences in a loop of {TURNS:,} turns", (1, 2, 4, 64), 3)
         put_row(folder, "matrix", "`examples/matrix`", (1, 2, 4, 64), 5)
         put_row(folder, "array", "1,000 turns of a loop over 2^20 elements", (1, 2, 4, 64), 3)

@@ -3,7 +3,6 @@
 prints how each call ended, how long it took and the most memory that it held. Fails where one ended otherwise than it must.
 
 usage: tools/load.py [PROGRAM]"""
-import os
 import pathlib
 import resource
 import subprocess
@@ -13,7 +12,7 @@ import time
 
 TOOLS = pathlib.Path(__file__).resolve().parent
 PROGRAM = pathlib.Path(sys.argv[1] if len(sys.argv) > 1 else TOOLS.parent / "crates/elastic/out/elastic").resolve()
-KERNEL, INPUTS, NETLIST, SCHEDULE = 65_536, 33_554_432, 67_108_864, 16_777_216
+KERNEL, INPUTS, NETLIST, SCHEDULE, SNAPSHOT = 65_536, 33_554_432, 67_108_864, 16_777_216, 67_108_864
 
 
 def wide_net(outputs, each, size):
@@ -36,6 +35,21 @@ def element_inputs(count, size):
     return text + f" {1:0{size - len(text) - 2}}\n"
 
 
+def full_state(size):
+    """A net of a fork into sinks, and a state of it with 1,024 tokens on each channel into a sink, padded to a size by the scalar's name."""
+    tokens = " ".join(["18446744073709551615"] * 1024)
+    front, back = "elastic state 1\nmade 0\nscalar {} = -1\n", "end\n"
+    lines = [f"chan {chan} {tokens}\n" for chan in range(2, size // len(tokens) + 1)]
+    while sum(map(len, lines)) > size - len(front) - len(back):
+        lines.pop()
+    name = "s" * (size - sum(map(len, lines)) - len(front.format("")) - len(back))
+    sinks = len(lines)
+    net = ["elastic 2", "kernel k", f"scalar {name} i64", "result none", "unit entry", "unit param 0", "unit exit", f"unit fork 64 {sinks}"]
+    net += ["unit sink 64"] * sinks + ["chan 0.0 2.0 32 1 0 control", "chan 1.0 3.0 64 1 0"]
+    net += [f"chan 3.{j} {4 + j}.0 64 1024 0" for j in range(sinks)]
+    return "\n".join(net) + "\nend\n", front.format(name) + "".join(lines) + back
+
+
 def long_schedule(net, inputs, folder, size):
     """The first whole lines of a run that take no more than a size."""
     (folder / "n").write_text(net)
@@ -50,6 +64,7 @@ def files():
     net = wide_net(65_536, 14, NETLIST)
     hostile = (TOOLS.parent / "examples/net/net.txt").read_text().replace("unit fork 32 2", "unit fork 32 4294967295", 1)
     inputs = element_inputs(1_048_576, INPUTS)
+    full, state = full_state(SNAPSHOT)
     return {
         "kernel": (each + "//").ljust(KERNEL, "x"),
         "kernel_past": (each + "//").ljust(KERNEL + 1, "x"),
@@ -58,6 +73,9 @@ def files():
         "net": net,
         "net_past": net.replace("kernel k", "kernel kk", 1),
         "one": "a = 5\n",
+        "full": full,
+        "state": state,
+        "state_past": state.replace("end\n", " end\n"),
         "hostile": hostile,
     }
 
@@ -74,6 +92,8 @@ CALLS = [
     (["run", "net", "one"], 0, "a run of it"),
     (["replay", "loop", "given", "schedule"], 0, "a schedule of at most 16,777,216 bytes"),
     (["replay", "loop", "given", "schedule_past"], 12, "a longer one"),
+    (["resume", "full", "state"], 0, "a state of 67,108,864 bytes: some 3,200,000 tokens"),
+    (["resume", "full", "state_past"], 12, "one more"),
 ]
 
 
@@ -83,13 +103,14 @@ SMALL = 64 * 1024 * 1024
 
 
 def measured(words, folder, most=resource.RLIM_INFINITY):
+    """The status of a call, its line, its seconds and its most memory in MB. (Of a child the system counts the memory of who
+    started it too, and that is little of /usr/bin/time and much of this script.)"""
     began = time.time()
     limit = lambda: resource.setrlimit(resource.RLIMIT_AS, (most, most))
-    child = subprocess.Popen([PROGRAM, *words], cwd=folder, stdout=subprocess.DEVNULL, stderr=subprocess.PIPE, preexec_fn=limit)
-    errors = child.stderr.read()
-    _, status, usage = os.wait4(child.pid, 0)
-    child.returncode = os.waitstatus_to_exitcode(status)
-    return child.returncode, errors.decode().strip(), time.time() - began, usage.ru_maxrss / 1024
+    timed = ["/usr/bin/time", "-f", "%M", "-o", "memory", PROGRAM, *words]
+    ran = subprocess.run(timed, cwd=folder, stdout=subprocess.DEVNULL, stderr=subprocess.PIPE, preexec_fn=limit, check=False)
+    memory = int((folder / "memory").read_text().split()[-1])
+    return ran.returncode, ran.stderr.decode().strip(), time.time() - began, memory / 1024
 
 
 def main():

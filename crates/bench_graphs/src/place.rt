@@ -1,5 +1,6 @@
 //! The bench of buffer placement places the usual timing on three nets, of a hundredth, a tenth and all of so many channels,
-//! loops of three lengths beside one another, and prints the time of a channel and its ratio to that of the first net.
+//! loops of three lengths beside one another and a chain that is numbered against its way, and prints the time of a channel
+//! and its ratio to that of the first net.
 
 use crate::put_ratio;
 use anyhow::{Context, Result, bail, ensure};
@@ -14,8 +15,11 @@ use std::time::Instant;
 /// The part of the channels that each net has.
 const PARTS: [u32; 3] = [100, 10, 1];
 
-/// The channels of three loops: one of two units, one of three and one of five.
-const CHANNELS_A_GROUP: u32 = 13;
+/// The units of the chain for each group of three loops.
+const CHAIN_A_GROUP: u32 = 5;
+
+/// The channels of three loops, one of two units, one of three and one of five, and of their part of the chain.
+const CHANNELS_A_GROUP: u32 = 18;
 
 /// Times the placements on the three nets.
 pub fn run(rt: &HostRuntime, words: &[&str], out: &mut Output) -> Result<()> {
@@ -64,7 +68,7 @@ fn time(rt: &HostRuntime, checked: &Checked) -> Result<u128> {
     Ok(nanos)
 }
 
-/// The control token's way from the entry to the exit, and so many groups of loops beside it.
+/// The control token's way from the entry to the exit, a chain, and so many groups of loops beside it.
 fn loops(alloc: Global, groups: u32) -> Result<Option<Net>, Memory> {
     let Some(name) = Name::new(alloc, b"loops")? else {
         return Ok(None);
@@ -80,6 +84,7 @@ fn loops(alloc: Global, groups: u32) -> Result<Option<Net>, Memory> {
     net.units.push(Unit::Entry)?;
     net.units.push(Unit::Exit)?;
     connect(&mut net, (0, 0), (1, 0), true)?;
+    add_chain(&mut net, groups.saturating_mul(CHAIN_A_GROUP))?;
     for _ in 0..groups {
         add_loop(&mut net, 0)?;
         add_loop(&mut net, 1)?;
@@ -103,6 +108,28 @@ fn add_loop(net: &mut Net, between: u32) -> Result<(), Memory> {
         last = next;
     }
     connect(net, (last, 0), (fork, 0), false)
+}
+
+/// A loop of a fork and a sum, whose tokens also go along a chain of so many units to a sink. Each unit of the chain has a lower
+/// number than the one that feeds it.
+fn add_chain(net: &mut Net, length: u32) -> Result<(), Memory> {
+    let sink = u32::try_from(net.units.as_slice().len()).unwrap_or(u32::MAX);
+    let fork = sink.saturating_add(length).saturating_add(1);
+    let sum = fork.saturating_add(1);
+    net.units.push(Unit::Sink { width: 32 })?;
+    for _ in 0..length {
+        net.units.push(Unit::Op1(Op1::Neg32))?;
+    }
+    net.units.push(Unit::Fork { width: 32, outs: 3 })?;
+    net.units.push(Unit::Op2(Op2::Add32))?;
+    connect(net, (fork, 0), (sum, 0), false)?;
+    connect(net, (fork, 1), (sum, 1), false)?;
+    connect(net, (sum, 0), (fork, 0), false)?;
+    connect(net, (fork, 2), (fork.saturating_sub(1), 0), false)?;
+    for unit in sink..fork.saturating_sub(1) {
+        connect(net, (unit.saturating_add(1), 0), (unit, 0), false)?;
+    }
+    Ok(())
 }
 
 /// A channel of one slot and delay 1.

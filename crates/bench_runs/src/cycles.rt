@@ -2,12 +2,14 @@
 //! firing takes once the run is opened, in tenths of a nanosecond, for the second also how long the opening takes and how
 //! many cycles there are in a second, and how many times as long a firing takes by cycles.
 
+ghost use Rattle.std.specs.Prelude.{length};
+ghost use Rattle.el_base.specs.Limits.{IsNumbered};
 ghost use Rattle.net_types.specs.Inputs.{InputsFit};
 
 use crate::nets::{Timed, read_file, read_net, time_finish};
 use crate::put;
-use anyhow::{Result, bail};
-use cycle_engine::run_cycles;
+use anyhow::{Context, Result, bail, ensure};
+use cycle_engine::{Timed as Run, run_cycles};
 use el_base::MAX_FIRINGS;
 use inputs_text::read_inputs;
 use net_check::Checked;
@@ -22,10 +24,17 @@ pub fn run<W: Write>(rt: &HostRuntime, words: &[&str], out: &mut W) -> Result<()
     let [netlist, inputs] = words else {
         bail!("write bench_runs cycles NETLIST INPUTS");
     };
-    let net = read_net(rt, netlist)?;
     let text = read_file(rt, inputs)?;
-    let inputs = read_inputs(rt.alloc(), &net, text.as_slice())?;
-    compare(rt, &net, &inputs, out)
+    let net = read_net(rt, netlist)?;
+    compare_text(rt, &net, text.as_slice(), out)
+}
+
+/// Times both ways on the inputs of a text.
+fn compare_text<W: Write>(rt: &HostRuntime, net: &Checked, text: &[u8], out: &mut W) -> Result<()>
+    requires { IsNumbered (length text.now) }
+{
+    let inputs = read_inputs(rt.alloc(), net, text)?;
+    compare(rt, net, &inputs, out)
 }
 
 /// Times both ways.
@@ -77,13 +86,17 @@ fn time_opening(rt: &HostRuntime, net: &Checked, inputs: &Inputs) -> Result<u128
 {
     let start = Instant::now(rt)?;
     let opened = run_cycles(rt.alloc(), net, inputs, 0, false);
-    let nanos = start.elapsed(rt)?.as_nanos();
+    let took = start.elapsed(rt);
+    ensure!(is_opened(opened), "want of memory");
+    Ok(took?.as_nanos())
+}
+
+/// Whether a run was opened.
+fn is_opened(opened: Result<Run, RunFault>) -> bool {
     match opened {
-        Ok(_) => {}
-        Err(RunFault::Limit { .. }) => {}
-        Err(_) => bail!("want of memory"),
+        Ok(_) => true,
+        Err(fault) => fault != RunFault::Memory,
     }
-    Ok(nanos)
 }
 
 /// Times the cycles and the firings of a run by cycles, less the nanoseconds of its opening.
@@ -96,19 +109,27 @@ fn time_cycles(
     requires { InputsFit net.now inputs.now }
 {
     let start = Instant::now(rt)?;
-    let Ok(timed) = run_cycles(rt.alloc(), net, inputs, MAX_FIRINGS, false) else {
-        bail!("want of memory");
-    };
-    let nanos = start.elapsed(rt)?.as_nanos().saturating_sub(opening);
+    let run = run_cycles(rt.alloc(), net, inputs, MAX_FIRINGS, false);
+    let took = start.elapsed(rt);
+    let (cycles, firings) = counts_of(run).context("want of memory")?;
+    let nanos = took?.as_nanos().saturating_sub(opening);
     let cycles = Timed {
-        made: timed.cycles,
+        made: cycles,
         nanos,
     };
     let firings = Timed {
-        made: timed.firings,
+        made: firings,
         nanos,
     };
     Ok((cycles, firings))
+}
+
+/// How many cycles and firings a run has.
+fn counts_of(run: Result<Run, RunFault>) -> Option<(u64, u64)> {
+    match run {
+        Ok(run) => Some((run.cycles, run.firings)),
+        Err(_) => None,
+    }
 }
 
 /// The picoseconds that one takes.

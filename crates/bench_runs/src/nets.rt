@@ -3,6 +3,7 @@
 ghost use Rattle.std.specs.Prelude.{◌≤◌, length, IfOk};
 ghost use Rattle.el_base.specs.Limits.{IsNumbered, max_firings};
 ghost use Rattle.net_types.specs.Inputs.{InputsFit};
+ghost use Rattle.net_core.specs.States.{CountsWithin, IsOf, state_of};
 
 use anyhow::{Result, bail, ensure};
 use el_base::Log;
@@ -42,19 +43,28 @@ pub fn read_net(rt: &HostRuntime, path: &str) -> Result<Checked> {
 }
 
 /// Times so many firings by the plain runner, or all that there are.
-#[tactic(auto, using(crate::proofs::Counts::counts_within))]
 pub fn time_finish(rt: &HostRuntime, net: &Checked, inputs: &Inputs, limit: u64) -> Result<Timed>
     requires fit { InputsFit net.now inputs.now }
     requires limit { limit ≤ max_firings }
 {
-    let Ok(mut state) = State::new(rt.alloc(), net, inputs) else {
-        bail!("want of memory");
-    };
+    match State::new(rt.alloc(), net, inputs) {
+        Ok(mut state) => time_from(rt, net, &mut state, limit),
+        Err(_) => bail!("want of memory"),
+    }
+}
+
+/// The same, from an opening state.
+#[tactic(auto, using(crate::proofs::Counts::counts_within))]
+fn time_from(rt: &HostRuntime, net: &Checked, state: &mut State, limit: u64) -> Result<Timed>
+    requires of { IsOf net.now state.old }
+    requires counts { CountsWithin 0 (state_of state.old) }
+    requires limit { limit ≤ max_firings }
+{
     let Ok(mut log) = Log::<Firing>::with_room(rt.alloc(), 0) else {
         bail!("want of memory");
     };
     let start = Instant::now(rt)?;
-    let ended = finish(net, &mut state, 0, limit, false, &mut log);
+    let ended = finish(net, state, 0, limit, false, &mut log);
     let nanos = start.elapsed(rt)?.as_nanos();
     let made = match ended {
         Ended::Rest { made } => made,

@@ -89,21 +89,21 @@ fn time_body(rt: &HostRuntime, body: Body, depth: u32, forward: bool, acts: u32)
     match body {
         Body::List => match new_list(rt.alloc(), depth, forward) {
             Err(_) => bail!("memory ran out"),
-            Ok(queue) => time(rt, queue, acts),
+            Ok(mut queue) => time(rt, &mut queue, acts),
         },
         Body::Indexed => match new_indexed(rt.alloc(), depth, forward) {
             Err(_) => bail!("memory ran out"),
-            Ok(queue) => time(rt, queue, acts),
+            Ok(mut queue) => time(rt, &mut queue, acts),
         },
     }
 }
 
 /// The nanoseconds that so many acts take on a queue that is new.
-fn time<Q: Queue + Drop>(rt: &HostRuntime, mut queue: Q, acts: u32) -> Result<u128>
-    requires { (Q.state queue).queue.next ≡ 0 }
+fn time<Q: Queue>(rt: &HostRuntime, queue: &mut Q, acts: u32) -> Result<u128>
+    requires { (Q.state queue.old).queue.next ≡ 0 }
 {
     let start = Instant::now(rt)?;
-    let made = drive(&mut queue, Driver::new(), acts);
+    let made = drive(queue, Driver::new(), acts);
     let took = start.elapsed(rt)?.as_nanos();
     ensure!(made == acts, "the queue stands still");
     Ok(took)

@@ -2,9 +2,10 @@
 //! opening state again, so many by plain sweeps over its units, and prints for each how long a firing takes, in tenths of a
 //! nanosecond, and how many firings there are in a second.
 
-ghost use Rattle.std.specs.Prelude.{◌≤◌};
-ghost use Rattle.el_base.specs.Limits.{max_firings};
+ghost use Rattle.std.specs.Prelude.{◌≤◌, length};
+ghost use Rattle.el_base.specs.Limits.{IsNumbered, max_firings};
 ghost use Rattle.net_types.specs.Inputs.{InputsFit};
+ghost use Rattle.net_core.specs.States.{CountsWithin, IsOf, state_of};
 
 use crate::nets::{Timed, read_file, read_net, time_finish};
 use crate::put;
@@ -14,7 +15,7 @@ use el_base::MAX_FIRINGS;
 use inputs_text::read_inputs;
 use net_check::Checked;
 use net_core::State;
-use net_types::Inputs;
+use net_types::{Firing, Inputs};
 use row_fields::Output;
 use std::io::Write;
 use std::time::Instant;
@@ -27,10 +28,25 @@ pub fn run<W: Write>(rt: &HostRuntime, words: &[&str], out: &mut W) -> Result<()
     let limit: u64 = firings.parse().context("FIRINGS is a number")?;
     ensure!(limit <= MAX_FIRINGS, "too many firings");
     let swept: u64 = swept.parse().context("SWEPT is a number")?;
-    let net = read_net(rt, netlist)?;
     let text = read_file(rt, inputs)?;
-    let inputs = read_inputs(rt.alloc(), &net, text.as_slice())?;
-    compare(rt, &net, &inputs, limit, swept, out)
+    let net = read_net(rt, netlist)?;
+    compare_text(rt, &net, text.as_slice(), limit, swept, out)
+}
+
+/// Times both ways on the inputs of a text.
+fn compare_text<W: Write>(
+    rt: &HostRuntime,
+    net: &Checked,
+    text: &[u8],
+    limit: u64,
+    swept: u64,
+    out: &mut W,
+) -> Result<()>
+    requires text { IsNumbered (length text.now) }
+    requires limit { limit ≤ max_firings }
+{
+    let inputs = read_inputs(rt.alloc(), net, text)?;
+    compare(rt, net, &inputs, limit, swept, out)
 }
 
 /// Times both ways, so many firings by the first and so many by the second.
@@ -56,16 +72,30 @@ fn time_sweeps(rt: &HostRuntime, net: &Checked, inputs: &Inputs, limit: u64) -> 
     requires fit { InputsFit net.now inputs.now }
 {
     let firings = all_firings(rt.alloc(), net)?;
-    let Ok(mut state) = State::new(rt.alloc(), net, inputs) else {
-        bail!("want of memory");
-    };
+    match State::new(rt.alloc(), net, inputs) {
+        Ok(mut state) => time_sweeps_from(rt, net, &mut state, firings.as_slice(), limit),
+        Err(_) => bail!("want of memory"),
+    }
+}
+
+/// Times plain sweeps from an opening state.
+fn time_sweeps_from(
+    rt: &HostRuntime,
+    net: &Checked,
+    state: &mut State,
+    firings: &[Firing],
+    limit: u64,
+) -> Result<Timed>
+    requires of { IsOf net.now state.old }
+    requires counts { CountsWithin 0 (state_of state.old) }
+{
     let mut tally = Tally {
         made: 0,
         tries: 0,
         limit,
     };
     let start = Instant::now(rt)?;
-    sweep_all(net, &mut state, firings.as_slice(), &mut tally);
+    sweep_all(net, state, firings, &mut tally);
     let nanos = start.elapsed(rt)?.as_nanos();
     Ok(Timed {
         made: tally.made,

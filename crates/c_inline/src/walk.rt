@@ -189,6 +189,7 @@ fn option(
 
 /// The fresh variable of a call, whose block goes behind those of its arguments.
 #[cycle(walk)]
+#[inline(never)]
 fn call(
     alloc: Global,
     helpers: &[TypedHelper],

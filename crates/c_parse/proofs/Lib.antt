@@ -45,6 +45,7 @@ pub mod ProgramFitting
 pub mod Refusing
 pub mod Rules
 pub mod Runs
+pub mod SameWords
 pub mod Sample
 pub mod Slices
 pub mod Starting

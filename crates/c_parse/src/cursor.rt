@@ -179,10 +179,9 @@ impl<'a> Cursor<'a> {
         ensures refused { IfErr result (λ e. Refuses (λ w. w ≡ word.Mark mark
             → ⊥) self.old.rest.now e) }
     {
-        let token = self.next()?;
-        match token.word {
-            Word::Mark(m) if m == mark => Ok(token.span),
-            _ => Err(Stop::Unexpected { span: token.span }),
+        match self.take(mark) {
+            Some(at) => Ok(at),
+            None => Err(self.refusal()),
         }
     }
 
@@ -192,10 +191,9 @@ impl<'a> Cursor<'a> {
         ensures refused { IfErr result (λ e. Refuses (λ w. w ≡ word.Key key
             → ⊥) self.old.rest.now e) }
     {
-        let token = self.next()?;
-        match token.word {
-            Word::Key(k) if k == key => Ok(token.span),
-            _ => Err(Stop::Unexpected { span: token.span }),
+        match self.take_key(key) {
+            Some(at) => Ok(at),
+            None => Err(self.refusal()),
         }
     }
 

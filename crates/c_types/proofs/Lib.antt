@@ -1,11 +1,14 @@
 pub mod AfterCasts
 pub mod AfterProgramCasts
+pub mod AloneKernels
 pub mod Arms
 pub mod CallLayers
+pub mod CallsAhead
 pub mod CallsKept
 pub mod CastLemmas
 pub mod CastParams
 pub mod CastStatements
+pub mod EmptyScope
 pub mod ExpressionParts
 pub mod First
 pub mod FirstFaults

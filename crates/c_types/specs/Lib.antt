@@ -2,6 +2,7 @@ pub mod CallPlaces
 pub mod Causes
 pub mod Contexts
 pub mod Faults
+pub mod Laws
 pub mod Places
 pub mod ProgramContexts
 pub mod ProgramFaults

@@ -9,6 +9,7 @@ mod conversions;
 mod fault;
 mod faults;
 mod known;
+mod laws;
 mod program_casts;
 mod program_conversions;
 mod programs;
@@ -17,3 +18,4 @@ mod sort;
 
 pub use checker::{check, check_program, check_program_rules, check_rules};
 pub use fault::{Fault, Rule, TypeRefusal};
+pub use laws::trees_are_checked_as_programs;

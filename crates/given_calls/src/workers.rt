@@ -1,9 +1,10 @@
 //! Calls by workers that a gate stops or lets meet, and schedules of workers that are replayed.
 use crate::calls::{SOUND, add_file, answer};
-use crate::gates::{Meeting, Stop};
+use crate::gates::Stop;
 use crate::tries::{Told, held_files, parted, put_answered, put_parts};
 use anyhow::{Context, Result};
 use el_io::Open;
+use meeting_gate::Meeting;
 use row_fields::Output;
 use std::alloc::Global;
 use std::thread::Threads;
@@ -43,7 +44,7 @@ pub fn put_meeting<R: Threads + Sync>(
     files: &[&str],
     out: &mut Output,
 ) -> Result<()> {
-    let gate = Meeting::new();
+    let gate = Meeting::new(alloc, 2)?;
     let held = held_files(alloc, files)?;
     let answered = answer(rt, alloc, words, held, &SOUND, &gate)?;
     put_answered(alloc, &answered, Told::Whole, out)?;

@@ -1,12 +1,14 @@
-//! Answers given rows of workers that sweep in turn: what each sweep answers and logs, the logs merged, and what is gathered
-//! of them. Rows stand one a line in the file of its folder.
+//! Answers given rows on workers, one a line of the files of its folder, each file below its name: sweeps in turn, with what is
+//! gathered of them; one worker alone beside the plain runner; workers that meet at a gate.
 #![tactic(auto)]
 
+mod alone;
+mod meetings;
 mod nets;
 mod rows;
 mod sweeps;
 
-use crate::rows::put_answer;
+use crate::rows::FILES;
 use anyhow::Result;
 use row_fields::Output;
 use std::io::Write;
@@ -14,10 +16,15 @@ use std::{fs, io};
 
 fn main(rt: HostRuntime) -> Result<()> {
     let mut out = Output::new(rt.alloc());
-    let text = fs::read_to_string(&rt, "sweeps.tsv")?;
-    for line in text.as_str().lines().skip(1) {
-        put_answer(rt.alloc(), line, &mut out)?;
+    for (name, rows) in FILES {
+        let text = fs::read_to_string(&rt, name)?;
+        out.word("== ");
+        out.word(name);
         out.word("\n");
+        for line in text.as_str().lines().skip(1) {
+            rows.put_answer(&rt, rt.alloc(), line, &mut out)?;
+            out.word("\n");
+        }
     }
     io::writer(&rt).write_all(out.finish()?.as_slice())?;
     Ok(())

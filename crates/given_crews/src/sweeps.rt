@@ -98,7 +98,7 @@ fn sweep_in_turn(alloc: Global, crew: &mut Crew, turns: &[u32], out: &mut Output
 }
 
 /// One sweep of a worker of a crew.
-fn sweep_one(crew: &mut Crew, at: usize) -> Swept
+pub fn sweep_one(crew: &mut Crew, at: usize) -> Swept
     requires within { at < length crew.old.workers.items }
     requires crew { AreACrew crew.old.tables crew.old.workers.items }
     requires whole { AllWhole crew.old.tables crew.old.workers.items }

@@ -25,6 +25,7 @@ fn words_and_trees() {
     c_ast::typed_expressions_count_their_parts();
     c_ast::typed_statements_count_their_parts();
     c_parse::tokens_have_one_tree();
+    c_types::trees_are_checked_as_programs();
     word_ops::laws::operations_have_laws();
     word_ops::laws::operands_are_reduced();
     word_ops::laws::divisions_are_total();

@@ -50,15 +50,22 @@ pub fn put_calls(alloc: Global, slots: &str, calls: &str, out: &mut Output) -> R
     if slots == 0 || slots > 1_024 {
         bail!("a link has 1 to 1,024 slots");
     }
-    let Ok((put, take)) = link(alloc, slots) else {
-        bail!("want of memory");
-    };
-    let mut ends = Ends {
-        put,
-        take,
-        last: 0,
-        repaid: 0,
-    };
+    match link(alloc, slots) {
+        Ok((put, take)) => {
+            let mut ends = Ends {
+                put,
+                take,
+                last: 0,
+                repaid: 0,
+            };
+            put_answers(alloc, &mut ends, calls, out)
+        }
+        Err(_) => bail!("want of memory"),
+    }
+}
+
+/// Makes calls, and writes their answers with a space between two.
+fn put_answers(alloc: Global, ends: &mut Ends, calls: &str, out: &mut Output) -> Result<()> {
     let mut is_first = true;
     for call in calls.split(';') {
         if !is_first {
@@ -66,7 +73,7 @@ pub fn put_calls(alloc: Global, slots: &str, calls: &str, out: &mut Output) -> R
         }
         is_first = false;
         let words: Vec<&str> = call.split(' ').collect(alloc)?;
-        put_answer(&mut ends, words.as_slice(), out)?;
+        put_answer(ends, words.as_slice(), out)?;
     }
     Ok(())
 }

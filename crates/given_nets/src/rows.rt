@@ -1,6 +1,6 @@
 //! The files of rows and what their lines are.
 use crate::links::put_calls;
-use crate::runs::{put_cycles, put_replay, put_run};
+use crate::runs::{Asked, put_asked};
 use crate::timings::{put_placed, put_retimed};
 use anyhow::{Result, bail};
 use row_fields::Output;
@@ -34,15 +34,29 @@ pub const FILES: [(&str, Rows); 6] = [
 ];
 
 impl Rows {
+    /// Writes the answers to the lines of a text after its first, one a line.
+    pub fn put_answers(self, alloc: Global, text: &str, out: &mut Output) -> Result<()> {
+        for line in text.lines().skip(1) {
+            self.put_answer(alloc, line, out)?;
+            out.word("\n");
+        }
+        Ok(())
+    }
+
     /// Writes the answer to a line.
-    pub fn put_answer(self, alloc: Global, line: &str, out: &mut Output) -> Result<()> {
+    fn put_answer(self, alloc: Global, line: &str, out: &mut Output) -> Result<()> {
         let fields: Vec<&str> = line.split('\t').collect(alloc)?;
-        match (self, fields.as_slice()) {
-            (Rows::Runs, [net, inputs]) => put_run(alloc, net, inputs, out),
+        self.put_fields(alloc, fields.as_slice(), out)
+    }
+
+    /// Writes the answer to the fields of a line.
+    fn put_fields(self, alloc: Global, fields: &[&str], out: &mut Output) -> Result<()> {
+        match (self, fields) {
+            (Rows::Runs, [net, inputs]) => put_asked(alloc, net, inputs, Asked::Run, out),
             (Rows::Replays, [net, inputs, schedule]) => {
-                put_replay(alloc, net, inputs, schedule, out)
+                put_asked(alloc, net, inputs, Asked::Replay(*schedule), out)
             }
-            (Rows::Cycles, [net, inputs]) => put_cycles(alloc, net, inputs, out),
+            (Rows::Cycles, [net, inputs]) => put_asked(alloc, net, inputs, Asked::Cycles, out),
             (Rows::Places, [net, timing]) => put_placed(alloc, net, timing, out),
             (Rows::Changes, [net, changes]) => put_retimed(alloc, net, changes, out),
             (Rows::Links, [slots, calls]) => put_calls(alloc, slots, calls, out),

@@ -1,7 +1,7 @@
 //! Runs of nets on inputs, by the plain runner, by cycles and by given schedules.
 ghost use Rattle.net_types.specs.Inputs.{InputsFit};
 ghost use Rattle.net_core.specs.Runs.{AtRest};
-ghost use Rattle.net_core.specs.States.{IsOf, state_of};
+ghost use Rattle.net_core.specs.States.{CountsWithin, IsOf, state_of};
 
 use crate::nets::{inputs_of, net_of};
 use anyhow::{Context, Result, bail};
@@ -30,11 +30,40 @@ enum Told {
     Cycles { made: u64, cycles: u64 },
 }
 
-/// Writes what a run of a net on inputs ends with: a status, and the results with the number of firings, or what is wrong.
-pub fn put_run(alloc: Global, net: &str, inputs: &str, out: &mut Output) -> Result<()> {
+/// What is asked of a net on inputs.
+#[derive(Clone, Copy)]
+pub enum Asked<'a> {
+    /// What a run by the plain runner ends with: a status, and the results with the number of firings, or what is wrong.
+    Run,
+    /// How many firings and cycles a run by cycles has, or what is wrong.
+    Cycles,
+    /// What the net comes to by a schedule: what it ends with where it is at rest, the least enabled firing and what is held
+    /// where it goes on, or why it is no run.
+    Replay(&'a str),
+}
+
+/// Writes what is asked of a net on inputs, or why the inputs are refused.
+pub fn put_asked(
+    alloc: Global,
+    net: &str,
+    inputs: &str,
+    asked: Asked<'_>,
+    out: &mut Output,
+) -> Result<()> {
     let net = net_of(alloc, net)?;
-    match inputs_of(alloc, &net, inputs)? {
-        Ok(inputs) => put_end(alloc, &net, &inputs, out),
+    put_on_net(alloc, &net, inputs, asked, out)
+}
+
+/// The same, on a net.
+fn put_on_net(
+    alloc: Global,
+    net: &Checked,
+    inputs: &str,
+    asked: Asked<'_>,
+    out: &mut Output,
+) -> Result<()> {
+    match inputs_of(alloc, net, inputs)? {
+        Ok(inputs) => put_on_inputs(alloc, net, &inputs, asked, out),
         Err(refusal) => {
             put_refusal(&refusal, out);
             Ok(())
@@ -42,74 +71,100 @@ pub fn put_run(alloc: Global, net: &str, inputs: &str, out: &mut Output) -> Resu
     }
 }
 
+/// The same, on fitting inputs.
+fn put_on_inputs(
+    alloc: Global,
+    net: &Checked,
+    inputs: &Inputs,
+    asked: Asked<'_>,
+    out: &mut Output,
+) -> Result<()>
+    requires { InputsFit net.now inputs.now }
+{
+    match asked {
+        Asked::Run => put_run(alloc, net, inputs, out),
+        Asked::Cycles => put_cycles(alloc, net, inputs, out),
+        Asked::Replay(schedule) => put_replay(alloc, net, inputs, schedule, out),
+    }
+}
+
 /// Writes the line or the name of a refusal after its number and its word.
 fn put_refusal(refusal: &InputRefusal, out: &mut Output) {
     out.word("6 ");
     out.show(refusal);
-    if let Some(line) = refusal.line() {
-        out.word(" ");
-        out.number(line);
-    }
+    put_line(refusal.line(), out);
     if let Some(name) = refusal.name() {
         out.word(" ");
         out.bytes(name.as_slice());
     }
 }
 
-/// Runs the net on fitting inputs and writes how the run ends.
-#[tactic(auto, using(crate::proofs::Counts::counts_within))]
-fn put_end(alloc: Global, net: &Checked, inputs: &Inputs, out: &mut Output) -> Result<()>
-    requires { InputsFit net.now inputs.now }
-{
-    let Ok(mut state) = State::new(alloc, net, inputs) else {
-        bail!("want of memory");
-    };
-    let Ok(mut log) = Log::<Firing>::with_room(alloc, 0) else {
-        bail!("want of memory");
-    };
-    match finish(net, &mut state, 0, LIMIT, false, &mut log) {
-        Ended::Limit => put_fault(net, &RunFault::Limit { limit: LIMIT }, out),
-        Ended::Rest { made } => put_rest(net, &state, Told::Results { made }, out),
+/// Writes the number of a line behind a space, where there is one.
+fn put_line(line: Option<u32>, out: &mut Output) {
+    if let Some(line) = line {
+        out.word(" ");
+        out.number(line);
     }
 }
 
-/// Writes how many firings and cycles a run by cycles of a net on inputs has, or what is wrong.
-pub fn put_cycles(alloc: Global, net: &str, inputs: &str, out: &mut Output) -> Result<()> {
-    let net = net_of(alloc, net)?;
-    let inputs = inputs_of(alloc, &net, inputs)??;
-    match run_cycles(alloc, &net, &inputs, LIMIT, true) {
+/// Runs the net and writes how the run ends.
+fn put_run(alloc: Global, net: &Checked, inputs: &Inputs, out: &mut Output) -> Result<()>
+    requires { InputsFit net.now inputs.now }
+{
+    match State::new(alloc, net, inputs) {
+        Ok(mut state) => put_finished(alloc, net, &mut state, out),
+        Err(_) => bail!("want of memory"),
+    }
+}
+
+/// Runs the net on from its opening state and writes how the run ends.
+#[tactic(auto, using(crate::proofs::Counts::counts_within))]
+fn put_finished(alloc: Global, net: &Checked, state: &mut State, out: &mut Output) -> Result<()>
+    requires of { IsOf net.now state.old }
+    requires counts { CountsWithin 0 (state_of state.old) }
+{
+    let Ok(mut log) = Log::<Firing>::with_room(alloc, 0) else {
+        bail!("want of memory");
+    };
+    match finish(net, state, 0, LIMIT, false, &mut log) {
+        Ended::Limit => put_fault(net, RunFault::Limit { limit: LIMIT }, out),
+        Ended::Rest { made } => put_rest(net, state, Told::Results { made }, out),
+    }
+}
+
+/// Runs the net by cycles and writes how many firings and cycles the run has, or what is wrong.
+fn put_cycles(alloc: Global, net: &Checked, inputs: &Inputs, out: &mut Output) -> Result<()>
+    requires { InputsFit net.now inputs.now }
+{
+    match run_cycles(alloc, net, inputs, LIMIT, true) {
         Ok(timed) => {
             let told = Told::Cycles {
                 made: timed.firings,
                 cycles: timed.cycles,
             };
-            put_rest(&net, &timed.state, told, out)
+            put_rest(net, &timed.state, told, out)
         }
-        Err(fault) => put_fault(&net, &fault, out),
+        Err(fault) => put_fault(net, fault, out),
     }
 }
 
-/// Writes what a net on inputs comes to by a schedule: what it ends with where it is at rest, the least enabled firing and
-/// what is held where it goes on, or why it is no run.
-pub fn put_replay(
+/// Writes where a schedule leads, or why it is none.
+fn put_replay(
     alloc: Global,
-    net: &str,
-    inputs: &str,
+    net: &Checked,
+    inputs: &Inputs,
     schedule: &str,
     out: &mut Output,
-) -> Result<()> {
-    let net = net_of(alloc, net)?;
-    let inputs = inputs_of(alloc, &net, inputs)??;
+) -> Result<()>
+    requires { InputsFit net.now inputs.now }
+{
     let schedule = text_within(alloc, schedule, MAX_SCHEDULE_BYTES)?;
     match read_schedule(alloc, schedule.as_slice()) {
-        Ok(firings) => put_replayed(alloc, &net, &inputs, firings.as_slice(), out),
+        Ok(firings) => put_replayed(alloc, net, inputs, firings.as_slice(), out),
         Err(refusal) => {
             out.word("7 ");
             out.show(&refusal);
-            if let Some(line) = refusal.line() {
-                out.word(" ");
-                out.number(line);
-            }
+            put_line(refusal.line(), out);
             Ok(())
         }
     }
@@ -128,20 +183,10 @@ fn put_replayed(
     let Ok(made) = u32::try_from(firings.len()) else {
         bail!("a schedule that is too long");
     };
+    let told = Told::Results { made: made as u64 };
     match replay(alloc, net, inputs, firings) {
-        Ok(Replay::AtRest(state)) => {
-            put_rest(net, &state, Told::Results { made: made as u64 }, out)
-        }
-        Ok(Replay::Goes { state, next }) => {
-            let Ok(text) = print_schedule(alloc, &[next]) else {
-                bail!("want of memory");
-            };
-            out.word("0 next ");
-            out.bytes(text.as_slice().trim_ascii_end());
-            out.word("\\n");
-            put_held(net, &state, out);
-            Ok(())
-        }
+        Ok(Replay::AtRest(state)) => put_rest(net, &state, told, out),
+        Ok(Replay::Goes { state, next }) => put_going(alloc, net, &state, next, out),
         Err(ReplayFault::NotEnabled { index }) => {
             out.word("7 61 NotEnabled ");
             out.number(index);
@@ -149,6 +194,26 @@ fn put_replayed(
         }
         Err(ReplayFault::Memory) => bail!("want of memory"),
     }
+}
+
+/// Writes the next firing of a run that goes on, and what is held before it.
+fn put_going(
+    alloc: Global,
+    net: &Checked,
+    state: &State,
+    next: Firing,
+    out: &mut Output,
+) -> Result<()>
+    requires { IsOf net.now state.now }
+{
+    let Ok(text) = print_schedule(alloc, &[next]) else {
+        bail!("want of memory");
+    };
+    out.word("0 next ");
+    out.bytes(text.as_slice().trim_ascii_end());
+    out.word("\\n");
+    put_held(net, state, out);
+    Ok(())
 }
 
 /// Writes how many tokens each channel holds, and how many entries each queue, a line each.
@@ -174,10 +239,12 @@ fn put_rest(net: &Checked, state: &State, told: Told, out: &mut Output) -> Resul
     requires of { IsOf net.now state.now }
     requires rest { AtRest net.now (state_of state.now) }
 {
-    match (judge(net, state), told) {
-        (Err(fault), _) => put_fault(net, &fault, out),
-        (Ok(()), Told::Results { made }) => put_results(net, state, made, out),
-        (Ok(()), Told::Cycles { made, cycles }) => {
+    if let Err(fault) = judge(net, state) {
+        return put_fault(net, fault, out);
+    }
+    match told {
+        Told::Results { made } => put_results(net, state, made, out),
+        Told::Cycles { made, cycles } => {
             out.word("0 firings ");
             out.number(made);
             out.word(" cycles ");
@@ -188,29 +255,30 @@ fn put_rest(net: &Checked, state: &State, told: Told, out: &mut Output) -> Resul
 }
 
 /// Writes a status and a fault, with the limit of a run that is too long, and with the name of the array of a stray.
-fn put_fault(net: &Checked, fault: &RunFault, out: &mut Output) -> Result<()> {
+fn put_fault(net: &Checked, fault: RunFault, out: &mut Output) -> Result<()> {
     match fault {
         RunFault::Limit { limit } => {
-            out.word("8 ");
-            out.show(fault);
+            put_status("8 ", fault, out);
             out.word(" ");
-            out.number(*limit);
+            out.number(limit);
         }
-        RunFault::Stuck => {
-            out.word("9 ");
-            out.show(fault);
-        }
+        RunFault::Stuck => put_status("9 ", fault, out),
         RunFault::Stray { array } => {
             let arrays = net.net().arrays.as_slice();
-            let array = arrays.get(*array as usize).context("no such array")?;
-            out.word("10 ");
-            out.show(fault);
+            let array = arrays.get(array as usize).context("no such array")?;
+            put_status("10 ", fault, out);
             out.word(" ");
             out.bytes(array.name.as_slice());
         }
         RunFault::Memory => bail!("want of memory"),
     }
     Ok(())
+}
+
+/// Writes a status and a fault.
+fn put_status(status: &str, fault: RunFault, out: &mut Output) {
+    out.word(status);
+    out.show(&fault);
 }
 
 /// Writes the arrays, the result and the number of firings of a run, a line each.

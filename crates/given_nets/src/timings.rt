@@ -1,5 +1,7 @@
 //! Placements of timings and changes of checked nets.
 ghost use Rattle.std.specs.Prelude.{◌≡◌, ◌<◌, ℕ, Some, IfOk, length};
+ghost use Rattle.net_types.specs.Numbered.{AreNumbered};
+ghost use Rattle.net_types.specs.Rules.{KeepsC1};
 ghost use Rattle.net_check.specs.Retimed.{NameChannels};
 ghost use Rattle.buffer_place.specs.Timings.{IsTiming};
 
@@ -8,32 +10,53 @@ use anyhow::{Result, bail, ensure};
 use buffer_place::{Timing, place};
 use el_base::{MAX_DELAY, MAX_SLOTS, MAX_SUM_OF_SLOTS};
 use net_check::{At, Change, Checked, NetRefusal};
-use net_types::Chan;
+use net_types::{Chan, Net};
 use row_fields::{Output, numbers_of};
 use std::alloc::Global;
 
 /// Writes the slots and the delay of each channel of a net where a timing is placed.
 pub fn put_placed(alloc: Global, net: &str, timing: &str, out: &mut Output) -> Result<()> {
-    let net = net_of(alloc, net)?;
     let timing = timing_of(alloc, timing)?;
-    let Ok(mut placed) = net.net().copy(alloc) else {
-        bail!("want of memory");
-    };
+    let net = net_of(alloc, net)?;
+    put_copied(alloc, &net, timing, out)
+}
+
+/// The same, on a copy of a net.
+fn put_copied(alloc: Global, net: &Checked, timing: Timing, out: &mut Output) -> Result<()>
+    requires { IsTiming timing }
+{
+    match net.net().copy(alloc) {
+        Ok(mut net) => put_timed(alloc, &mut net, timing, out),
+        Err(_) => bail!("want of memory"),
+    }
+}
+
+/// Places a timing, and writes the slots and the delays that the net then has.
+fn put_timed(alloc: Global, net: &mut Net, timing: Timing, out: &mut Output) -> Result<()>
+    requires numbered { AreNumbered net.old }
+    requires wired { KeepsC1 net.old }
+    requires timing { IsTiming timing }
+{
     ensure!(
-        placed.chans.as_slice().len() as u64 <= MAX_SUM_OF_SLOTS,
+        net.chans.as_slice().len() as u64 <= MAX_SUM_OF_SLOTS,
         "too many channels"
     );
-    if place(alloc, &mut placed, timing).is_err() {
+    if place(alloc, net, timing).is_err() {
         bail!("want of memory");
     }
-    put_times(placed.chans.as_slice(), out);
+    put_times(net.chans.as_slice(), out);
     Ok(())
 }
 
 /// Writes `ok` or the refusal of changes of a net, and the slots and the delays that the net then has.
 pub fn put_retimed(alloc: Global, net: &str, changes: &str, out: &mut Output) -> Result<()> {
     let mut net = net_of(alloc, net)?;
-    let changes = changes_of(alloc, changes, &net)?;
+    put_changed(alloc, &mut net, changes, out)
+}
+
+/// The same, on a net.
+fn put_changed(alloc: Global, net: &mut Checked, changes: &str, out: &mut Output) -> Result<()> {
+    let changes = changes_of(alloc, changes, net)?;
     match net.retime(alloc, changes.as_slice()) {
         Ok(()) => out.word("ok"),
         Err(refusal) => put_refusal(&refusal, out)?,

@@ -1,7 +1,7 @@
 //! What reading the inputs of a net answers, and how what was read is printed.
 ghost use Rattle.net_types.specs.Inputs.{InputsFit};
 
-use anyhow::{Context, Result, anyhow, bail, ensure};
+use anyhow::{Context, Result, bail, ensure};
 use el_base::{MAX_INPUTS_BYTES, MAX_NETLIST_BYTES, number};
 use inputs_text::{InputRefusal, print_results_of, read_inputs};
 use net_check::{Checked, check_net};
@@ -16,8 +16,13 @@ pub fn put_reading(alloc: Global, line: &str, out: &mut Output) -> Result<()> {
         .split_once('\t')
         .context("a line is a net text and an inputs text")?;
     let net = checked(alloc, net)?;
+    put_read(alloc, &net, inputs, out)
+}
+
+/// Writes what reading inputs of a net answers to a field.
+fn put_read(alloc: Global, net: &Checked, inputs: &str, out: &mut Output) -> Result<()> {
     let text = text_within(alloc, inputs, MAX_INPUTS_BYTES)?;
-    match read_inputs(alloc, &net, text.as_slice()) {
+    match read_inputs(alloc, net, text.as_slice()) {
         Ok(inputs) => put_inputs(alloc, net.net(), &inputs, out),
         Err(refusal) => put_refusal(&refusal, out),
     }
@@ -26,9 +31,14 @@ pub fn put_reading(alloc: Global, line: &str, out: &mut Output) -> Result<()> {
 /// The net of a field's text that keeps the rules.
 fn checked(alloc: Global, field: &str) -> Result<Checked> {
     let text = text_within(alloc, field, MAX_NETLIST_BYTES)?;
-    let net = read(alloc, text.as_slice()).map_err(|_| anyhow!("no text of a net"))?;
+    let Ok(net) = read(alloc, text.as_slice()) else {
+        bail!("no text of a net");
+    };
     ensure!(net.is_numbered(), "a net of too many units or channels");
-    check_net(alloc, net).map_err(|_| anyhow!("a net that breaks a rule"))
+    match check_net(alloc, net) {
+        Ok(net) => Ok(net),
+        Err(_) => bail!("a net that breaks a rule"),
+    }
 }
 
 /// Writes the number of each scalar and the printed lines of the arrays, each with a slash after it.

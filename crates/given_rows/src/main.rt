@@ -25,19 +25,26 @@ use std::{env, fs, io};
 fn main(rt: HostRuntime) -> Result<()> {
     let mut out = Output::new(rt.alloc());
     match env::args(&rt)?.nth(1) {
-        None => {
-            for (name, rows) in FILES {
-                answer(&rt, name, name, rows, &mut out)?;
-            }
-        }
-        Some(path) => {
-            let name = Path::new(path.as_str()).file_name().unwrap_or("");
-            let rows = rows_of(name).context("no file of rows has that name")?;
-            answer(&rt, path.as_str(), name, rows, &mut out)?;
-        }
+        None => answer_all(&rt, &mut out)?,
+        Some(path) => answer_one(&rt, path.as_str(), &mut out)?,
     }
     io::writer(&rt).write_all(out.finish()?.as_slice())?;
     Ok(())
+}
+
+/// Writes the answers to all files in turn.
+fn answer_all(rt: &HostRuntime, out: &mut Output) -> Result<()> {
+    for (name, rows) in FILES {
+        answer(rt, name, name, rows, out)?;
+    }
+    Ok(())
+}
+
+/// Writes the answers to the file of a path.
+fn answer_one(rt: &HostRuntime, path: &str, out: &mut Output) -> Result<()> {
+    let name = Path::new(path).file_name().unwrap_or("");
+    let rows = rows_of(name).context("no file of rows has that name")?;
+    answer(rt, path, name, rows, out)
 }
 
 /// Writes the answers to a file below its name.

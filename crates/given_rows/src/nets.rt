@@ -2,7 +2,8 @@
 use crate::refusals::put_cause;
 use anyhow::{Result, ensure};
 use net_check::{At, NetRefusal, check_net};
-use net_text::read;
+use net_text::{TextRefusal, read};
+use net_types::Net;
 use row_fields::Output;
 use std::alloc::Global;
 
@@ -13,17 +14,24 @@ pub fn put_verdict(alloc: Global, text: &[u8], out: &mut Output) -> Result<()> {
         u32::try_from(text.len()).is_ok(),
         "a net text that is too long"
     );
-    let net = match read(alloc, text) {
-        Ok(net) => net,
-        Err(refusal) => {
-            put_cause(refusal.number(), refusal.word(), out)?;
-            if let Some(line) = refusal.line() {
-                out.word(" ");
-                out.number(line);
-            }
-            return Ok(());
-        }
-    };
+    match read(alloc, text) {
+        Ok(net) => put_checked(alloc, net, out),
+        Err(refusal) => put_unread(&refusal, out),
+    }
+}
+
+/// Writes why a text is no net's, and the line.
+fn put_unread(refusal: &TextRefusal, out: &mut Output) -> Result<()> {
+    put_cause(refusal.number(), refusal.word(), out)?;
+    if let Some(line) = refusal.line() {
+        out.word(" ");
+        out.number(line);
+    }
+    Ok(())
+}
+
+/// Writes the checker's answer.
+fn put_checked(alloc: Global, net: Net, out: &mut Output) -> Result<()> {
     ensure!(net.is_numbered(), "a net of too many units or channels");
     match check_net(alloc, net) {
         Ok(_) => {

@@ -7,7 +7,12 @@ use word_ops::{Op1, Op2, apply1, apply2};
 /// Writes the result of the operation that a line names, on the line's operands.
 pub fn put_result(alloc: Global, line: &str, out: &mut Output) -> Result<()> {
     let fields: Vec<&str> = line.split('\t').collect(alloc)?;
-    let [name, first, second] = fields.as_slice() else {
+    put_fields(fields.as_slice(), out)
+}
+
+/// The same of the fields of a line.
+fn put_fields(fields: &[&str], out: &mut Output) -> Result<()> {
+    let [name, first, second] = fields else {
         bail!("a line is an operation and two fields");
     };
     let a: u64 = first.parse()?;

@@ -14,9 +14,15 @@ pub fn put_whole(alloc: Global, line: &str, out: &mut Output) -> Result<()> {
     text.word(" a ");
     text.word(right);
     text.word(" a; }");
-    let tree = tree_of(alloc, text.finish()?.as_slice())?;
-    let whole = returned(&tree).and_then(whole_of);
-    out.word(whole.context("a value of another form")?);
+    let text = text.finish()?;
+    let tree = tree_of(alloc, text.as_slice())?;
+    put_side(&tree, out)
+}
+
+/// Writes which side's operator the returned value is of.
+fn put_side(tree: &Tree, out: &mut Output) -> Result<()> {
+    let value = returned(tree).context("a kernel of another form")?;
+    out.word(whole_of(value).context("a value of another form")?);
     Ok(())
 }
 

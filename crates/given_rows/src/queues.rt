@@ -18,18 +18,50 @@ use std::alloc::Global;
 /// A line is the elements of the array, the queue as in the text of a net, and the acts, each with its token.
 pub fn put_run(alloc: Global, line: &str, out: &mut Output) -> Result<()> {
     let fields: Vec<&str> = line.split('\t').collect(alloc)?;
-    let [elements, queue, acts] = fields.as_slice() else {
+    put_fields(alloc, fields.as_slice(), out)
+}
+
+/// The same of the fields of a line.
+fn put_fields(alloc: Global, fields: &[&str], out: &mut Output) -> Result<()> {
+    let [elements, queue, acts] = fields else {
         bail!("a line is an array, a queue and acts");
     };
-    let elements: Vec<&str> = elements.split(' ').collect(alloc)?;
-    let array: Vec<u64> = numbers_of(alloc, elements.as_slice())?;
+    let array = elements_of(alloc, elements)?;
     let acts = acts_of(alloc, acts)?;
+    put_text(alloc, array.as_slice(), queue, acts.as_slice(), out)
+}
+
+/// The elements of an array, with a space between two.
+fn elements_of(alloc: Global, field: &str) -> Result<Vec<u64>> {
+    let elements: Vec<&str> = field.split(' ').collect(alloc)?;
+    Ok(numbers_of(alloc, elements.as_slice())?)
+}
+
+/// Writes what the queue of a text answers.
+fn put_text(
+    alloc: Global,
+    array: &[u64],
+    queue: &str,
+    acts: &[(Act, u64)],
+    out: &mut Output,
+) -> Result<()> {
     let net = net_of(alloc, queue)?;
+    put_net(alloc, array, &net, acts, out)
+}
+
+/// Writes what the queue of a net answers.
+fn put_net(
+    alloc: Global,
+    array: &[u64],
+    net: &Net,
+    acts: &[(Act, u64)],
+    out: &mut Output,
+) -> Result<()> {
     ensure!(net.is_numbered(), "a net of too many units or channels");
-    match check_shapes(alloc, &net) {
+    match check_shapes(alloc, net) {
         Err(_) => bail!("memory ran out"),
         Ok(Some(_)) => bail!("no shape of a queue"),
-        Ok(None) => put_queues(alloc, array.as_slice(), &net, acts.as_slice(), out),
+        Ok(None) => put_queues(alloc, array, net, acts, out),
     }
 }
 
@@ -197,9 +229,26 @@ fn answer_of_indexed(
         forward,
     } = *shape;
     match Lsq::new(alloc, array, depth, ports, groups, forward) {
-        Ok(mut queue) => answer_of(alloc, &mut queue, acts),
+        Ok(mut queue) => answer_of_lsq(alloc, &mut queue, acts),
         Err(_) => bail!("memory ran out"),
     }
+}
+
+/// What a queue with an index that is new answers.
+fn answer_of_lsq(alloc: Global, queue: &mut Lsq, acts: &[(Act, u64)]) -> Result<Vec<u8>>
+    requires { queue.old.queue.next ≤ 2 ^ 60 }
+{
+    let answer = answer_of(alloc, queue, acts)?;
+    test_next_reply(queue)?;
+    Ok(answer)
+}
+
+/// Stops where a queue allows no reply at the least port at which it says that it allows one.
+fn test_next_reply(queue: &Lsq) -> Result<()> {
+    if let Some(port) = queue.next_reply(0) {
+        ensure!(queue.can(Act::Reply(port)), "a reply that is not allowed");
+    }
+    Ok(())
 }
 
 /// What a queue that is new answers.
@@ -211,11 +260,16 @@ fn answer_of<Q: Queue>(alloc: Global, queue: &mut Q, acts: &[(Act, u64)]) -> Res
         bail!("memory ran out");
     };
     let made = run_acts(queue, acts, &mut puts);
+    told(alloc, queue, made, puts.as_slice())
+}
+
+/// What is told of a queue that made so many acts.
+fn told<Q: Queue>(alloc: Global, queue: &Q, made: u64, puts: &[u64]) -> Result<Vec<u8>> {
     let mut out = Output::new(alloc);
     out.word("made ");
     out.number(made);
     out.word(" puts");
-    put_numbers(puts.as_slice(), &mut out);
+    put_numbers(puts, &mut out);
     out.word(" array");
     put_numbers(queue.array(), &mut out);
     out.word(" len ");

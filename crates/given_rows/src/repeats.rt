@@ -8,17 +8,22 @@ use std::alloc::Global;
 /// times the return piece, and the closing.
 pub fn text_of(alloc: Global, line: &str) -> Result<Vec<u8>> {
     let fields: Vec<&str> = line.split('\t').collect(alloc)?;
-    let [times, opening, piece, middle, back, closing] = fields.as_slice() else {
+    let mut text = Vec::new(alloc);
+    add_parts(alloc, fields.as_slice(), &mut text)?;
+    Ok(text)
+}
+
+/// Adds what the fields of a line stand for.
+fn add_parts(alloc: Global, fields: &[&str], text: &mut Vec<u8>) -> Result<()> {
+    let [times, opening, piece, middle, back, closing] = fields else {
         bail!("a line is a number and five parts");
     };
     let times: u32 = times.parse()?;
-    let mut text = Vec::new(alloc);
-    add_times(alloc, 1, opening, &mut text)?;
-    add_times(alloc, times, piece, &mut text)?;
-    add_times(alloc, 1, middle, &mut text)?;
-    add_times(alloc, times, back, &mut text)?;
-    add_times(alloc, 1, closing, &mut text)?;
-    Ok(text)
+    add_times(alloc, 1, opening, text)?;
+    add_times(alloc, times, piece, text)?;
+    add_times(alloc, 1, middle, text)?;
+    add_times(alloc, times, back, text)?;
+    add_times(alloc, 1, closing, text)
 }
 
 /// Adds what a field stands for so many times.

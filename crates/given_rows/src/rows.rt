@@ -79,30 +79,33 @@ impl Rows {
     /// Writes the answer to a line.
     fn put_answer(self, alloc: Global, line: &str, out: &mut Output) -> Result<()> {
         match self {
-            Rows::Kernels => {
-                let text = text_within(alloc, line, MAX_KERNEL_BYTES)?;
-                put_kernel(alloc, text.as_slice(), out)
+            Rows::Kernels | Rows::Words | Rows::Trees | Rows::Nets => {
+                self.put_field(alloc, line, out)
             }
             Rows::Repeats => {
                 let text = text_of(alloc, line)?;
                 put_kernel(alloc, text.as_slice(), out)
             }
-            Rows::Words => {
-                let text = text_within(alloc, line, MAX_KERNEL_BYTES)?;
-                put_words(alloc, text.as_slice(), out)
-            }
-            Rows::Trees => {
-                let text = text_within(alloc, line, MAX_KERNEL_BYTES)?;
-                put_returned(alloc, text.as_slice(), out)
-            }
-            Rows::Nets => {
-                let text = text_within(alloc, line, MAX_NETLIST_BYTES)?;
-                put_verdict(alloc, text.as_slice(), out)
-            }
             Rows::Pairs => put_whole(alloc, line, out),
             Rows::Operations => put_result(alloc, line, out),
             Rows::Queues => put_run(alloc, line, out),
             Rows::Inputs => put_reading(alloc, line, out),
+        }
+    }
+
+    /// Writes the answer to a line of one field, the text of a net or of a kernel.
+    fn put_field(self, alloc: Global, line: &str, out: &mut Output) -> Result<()> {
+        let most = if self == Rows::Nets {
+            MAX_NETLIST_BYTES
+        } else {
+            MAX_KERNEL_BYTES
+        };
+        let text = text_within(alloc, line, most)?;
+        match self {
+            Rows::Nets => put_verdict(alloc, text.as_slice(), out),
+            Rows::Words => put_words(alloc, text.as_slice(), out),
+            Rows::Trees => put_returned(alloc, text.as_slice(), out),
+            _ => put_kernel(alloc, text.as_slice(), out),
         }
     }
 }

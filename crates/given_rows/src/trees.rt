@@ -1,6 +1,6 @@
 //! Typed expressions as text.
 use anyhow::{Result, bail, ensure};
-use c_ast::{Boxed, List, Typed, TypedExpr, TypedExprKind, TypedStmtKind};
+use c_ast::{Boxed, List, Typed, TypedExpr, TypedExprKind, TypedStmt, TypedStmtKind};
 use el_base::MAX_KERNEL_BYTES;
 use kernel_front::read_kernel;
 use row_fields::Output;
@@ -12,18 +12,23 @@ pub fn put_returned(alloc: Global, text: &[u8], out: &mut Output) -> Result<()> 
         text.len() as u64 <= MAX_KERNEL_BYTES,
         "a kernel text that is too long"
     );
-    let Ok(kernel) = read_kernel(alloc, text) else {
-        bail!("a kernel text that is refused");
+    match read_kernel(alloc, text) {
+        Ok(kernel) => put_body(kernel.typed.body.as_slice(), out),
+        Err(_) => bail!("a kernel text that is refused"),
+    }
+}
+
+/// Writes the expression that the one statement of a body returns.
+fn put_body(body: &[TypedStmt], out: &mut Output) -> Result<()> {
+    let [only] = body else {
+        bail!("a kernel of more than one statement");
     };
-    match kernel.typed.body.as_slice() {
-        [only] => match &only.kind {
-            TypedStmtKind::Return(Some(value)) => {
-                put(value, out);
-                Ok(())
-            }
-            _ => bail!("a kernel of another statement"),
-        },
-        _ => bail!("a kernel of more than one statement"),
+    match &only.kind {
+        TypedStmtKind::Return(Some(value)) => {
+            put(value, out);
+            Ok(())
+        }
+        _ => bail!("a kernel of another statement"),
     }
 }
 

@@ -15,27 +15,47 @@ use std::{fs, io};
 
 fn main(rt: HostRuntime) -> Result<()> {
     let mut out = Output::new(rt.alloc());
-    let lists = fs::read_to_string(&rt, "words.tsv")?;
+    put_answers(&rt, &mut out)?;
+    io::writer(&rt).write_all(out.finish()?.as_slice())?;
+    Ok(())
+}
+
+/// Writes the answers to the lines of the file.
+fn put_answers(rt: &HostRuntime, out: &mut Output) -> Result<()> {
+    let lists = fs::read_to_string(rt, "words.tsv")?;
     for line in lists.as_str().lines().skip(1) {
-        put_answer(rt.alloc(), line, &mut out)?;
+        put_answer(rt.alloc(), line, out)?;
         out.word("\n");
     }
-    io::writer(&rt).write_all(out.finish()?.as_slice())?;
     Ok(())
 }
 
 /// Writes what the words of a line spell: the command with its plain words and its options in the order of the table.
 fn put_answer(alloc: Global, line: &str, out: &mut Output) -> Result<()> {
+    let words = words_of(alloc, line)?;
+    put_words(alloc, words.as_slice(), out)
+}
+
+/// The words of a line, but for its first field.
+fn words_of(alloc: Global, line: &str) -> Result<Vec<String>> {
     let mut words = Vec::new(alloc);
     for word in line.split('\t').skip(1) {
-        words.push(String::from_str(alloc, word)?)?;
+        push_word(alloc, &mut words, word)?;
     }
-    let first = told(alloc, words.as_slice())?;
+    Ok(words)
+}
+
+/// Adds a word.
+fn push_word(alloc: Global, words: &mut Vec<String>, word: &str) -> Result<()> {
+    words.push(String::from_str(alloc, word)?)?;
+    Ok(())
+}
+
+/// Writes what words spell, and where `clap` takes them otherwise, what they spell by it.
+fn put_words(alloc: Global, words: &[String], out: &mut Output) -> Result<()> {
+    let first = told(alloc, words)?;
+    let second = told_by_clap(alloc, words)?;
     out.bytes(first.as_slice());
-    let second = match ordered(alloc, words.as_slice())? {
-        Some(ordered) => told(alloc, ordered.as_slice())?,
-        None => told(alloc, &[])?,
-    };
     if first != second {
         out.word(" and otherwise by clap: ");
         out.bytes(second.as_slice());
@@ -43,15 +63,28 @@ fn put_answer(alloc: Global, line: &str, out: &mut Output) -> Result<()> {
     Ok(())
 }
 
+/// What words spell that `clap` orders, as text.
+fn told_by_clap(alloc: Global, words: &[String]) -> Result<Vec<u8>> {
+    match ordered(alloc, words)? {
+        Some(ordered) => told(alloc, ordered.as_slice()),
+        None => told(alloc, &[]),
+    }
+}
+
 /// What words spell, as text: `usage` where they spell nothing, as no words do.
 fn told(alloc: Global, words: &[String]) -> Result<Vec<u8>> {
     let mut out = Output::new(alloc);
+    put_told(alloc, words, &mut out)?;
+    Ok(out.finish()?)
+}
+
+fn put_told(alloc: Global, words: &[String], out: &mut Output) -> Result<()> {
     match read_words(alloc, words) {
-        Ok(Some(command)) => put_command(&command, &mut out),
+        Ok(Some(command)) => put_command(&command, out),
         Ok(None) => out.word("usage"),
         Err(Memory) => bail!("want of memory"),
     }
-    Ok(out.finish()?)
+    Ok(())
 }
 
 fn put_command(command: &Command<'_>, out: &mut Output) {

@@ -1,5 +1,6 @@
 //! The same words read with `clap`, a second reader beside the definition's.
 
+use crate::push_word;
 use anyhow::{Result, bail};
 use clap::error::ErrorKind;
 use clap::{Arg, ArgAction, ArgMatches, Command};
@@ -9,11 +10,15 @@ use std::alloc::Global;
 /// The words that `clap` takes, in one order: the command, its options as `--x` or `--x=v`, `--`, its plain words; `None`
 /// where it refuses them.
 pub fn ordered(alloc: Global, words: &[String]) -> Result<Option<Vec<String>>> {
-    let matches = match program(alloc)?.try_get_matches_from(words) {
-        Ok(matches) => matches,
+    match program(alloc)?.try_get_matches_from(words) {
+        Ok(matches) => ordered_of(alloc, &matches),
         Err(error) if error.kind() == ErrorKind::OutOfMemory => bail!("want of memory"),
-        Err(_) => return Ok(None),
-    };
+        Err(_) => Ok(None),
+    }
+}
+
+/// The words that were found, in the order; `None` where they begin with no command.
+fn ordered_of(alloc: Global, matches: &ArgMatches<'_>) -> Result<Option<Vec<String>>> {
     let Some((name, found)) = matches.subcommand() else {
         return Ok(None);
     };
@@ -21,40 +26,58 @@ pub fn ordered(alloc: Global, words: &[String]) -> Result<Option<Vec<String>>> {
         return Ok(None);
     };
     let mut ordered = Vec::new(alloc);
-    ordered.push(String::from_str(alloc, name)?)?;
-    for choice in built_choices(verb) {
-        push_option(alloc, &mut ordered, found, *choice)?;
-    }
-    ordered.push(String::from_str(alloc, "--")?)?;
-    for at in 0..verb.plain().len() {
-        if let Some(word) = found.get_str(plain_name(at)) {
-            ordered.push(String::from_str(alloc, word)?)?;
-        }
-    }
+    push_found(alloc, &mut ordered, verb, found)?;
     Ok(Some(ordered))
 }
 
+/// Adds a command's word, its options, `--` and its plain words.
+fn push_found(
+    alloc: Global,
+    words: &mut Vec<String>,
+    verb: Verb,
+    found: &ArgMatches<'_>,
+) -> Result<()> {
+    push_word(alloc, words, verb.word())?;
+    for choice in built_choices(verb) {
+        push_option(alloc, words, found, *choice)?;
+    }
+    push_word(alloc, words, "--")?;
+    for at in 0..verb.plain().len() {
+        if let Some(word) = found.get_str(plain_name(at)) {
+            push_word(alloc, words, word)?;
+        }
+    }
+    Ok(())
+}
+
+/// Adds an option, where it was found.
 fn push_option(
     alloc: Global,
     words: &mut Vec<String>,
     found: &ArgMatches<'_>,
     choice: Choice,
 ) -> Result<()> {
-    let mut word = String::from_str(alloc, choice.word())?;
     match choice.kind() {
         ValueKind::Flag => {
             if found.get_flag(name_of(choice)) {
-                words.push(word)?;
+                push_word(alloc, words, choice.word())?;
             }
         }
         ValueKind::Number(_, _) | ValueKind::Delays => {
             if let Some(value) = found.get_str(name_of(choice)) {
-                word.push_str("=")?;
-                word.push_str(value)?;
-                words.push(word)?;
+                push_value(alloc, words, choice.word(), value)?;
             }
         }
     }
+    Ok(())
+}
+
+/// Adds an option with its value.
+fn push_value(alloc: Global, words: &mut Vec<String>, option: &str, value: &str) -> Result<()> {
+    let mut word = String::from_str(alloc, option)?;
+    word.push_str("=")?;
+    word.push_str(value)?;
+    words.push(word)?;
     Ok(())
 }
 
@@ -65,11 +88,18 @@ fn program<'a>(alloc: Global) -> Result<Command<'a>> {
         .disable_help_subcommand(true)
         .subcommand_required(true);
     for verb in VERBS {
-        if verb.is_built() {
-            program = program.subcommand(command(alloc, verb)?)?;
-        }
+        program = with_verb(alloc, program, verb)?;
     }
     Ok(program)
+}
+
+/// A program with a command more, where it is built.
+fn with_verb<'a>(alloc: Global, program: Command<'a>, verb: Verb) -> Result<Command<'a>> {
+    if !verb.is_built() {
+        return Ok(program);
+    }
+    let command = command(alloc, verb)?;
+    Ok(program.subcommand(command)?)
 }
 
 fn command<'a>(alloc: Global, verb: Verb) -> Result<Command<'a>> {

@@ -1,5 +1,5 @@
 -- Rows of places in a ring, as entries change, are added and are dropped.
-use Rattle.std.proofs.Common.{◌≡◌, ℕ, suc, ◌+◌, ◌-◌, ◌*◌, ◌/◌, ◌%◌, ◌^◌, ◌<◌, ◌≤◌, ◌⊎◌, nat_lt, max, Bool, true, false, Option, Some, None, List, [], ◌∷◌, ◌++◌, length, set, eqb, refl, sym, ap, ◌∙◌, inl, inr, arith}
+use Rattle.std.proofs.Common.{◌≡◌, ℕ, suc, ◌+◌, ◌-◌, ◌*◌, ◌/◌, ◌%◌, ◌^◌, ◌<◌, ◌≤◌, ◌⊎◌, ◌&&◌, nat_lt, max, Bool, true, false, Option, Some, None, List, [], ◌∷◌, ◌++◌, length, set, eqb, refl, sym, ap, ◌∙◌, inl, inr, arith}
 use Rattle.std.proofs.Math.Nat.{mul-le-mul_right, mod-lt}
 use Rattle.std.proofs.lemmas.Bool.{cases_eq, cases_lt, lt-ltb, le-ltb, ne_eqb, eq-eqb, false≢true}
 use Rattle.std.proofs.lemmas.List.{get_or-set_same, get_or-set_other, length-set, length_push, get_or_push, get_or_append_left}
@@ -10,7 +10,7 @@ use Rattle.lsq_core.specs.declared.marks.Marks.{Marks}
 use Rattle.lsq_core.specs.Acts.{rest, or_zero}
 use Rattle.lsq_core.specs.Views.{entry_at, front_of, count_of}
 use Rattle.lsq_core.specs.Bits.{has, IsSet, IsNext}
-use Rattle.lsq_core.specs.Index.{bucket, row_of, stands, in_row, wrapped, shown, HasRoom, Shows, KeepsShape, IsMarks, IsNextIn}
+use Rattle.lsq_core.specs.Index.{bucket, row_of, stands, in_row, wrapped, shown, HasRoom, AreAlike, Shows, KeepsShape, IsMarks, IsNextIn}
 
 -- places of a ring
 pub wrapped_cases : (w h k : ℕ) → ((h + k < w) × (wrapped w h k ≡ h + k)) ⊎ ((w ≤ h + k) × (wrapped w h k + w ≡ h + k))
@@ -245,6 +245,74 @@ retired m n head r (z ∷ zs) x re mn p is h =
     below (inl t) = let a = t.1 in let b = t.0 in omega arith
     below (inr t) = let a = t.1 in let b = h.within in omega arith
 
+-- entries that stand in the same rows, or in none
+and_false : (b : Bool) → b && false ≡ false
+and_false true = refl
+and_false false = refl
+
+in_none : (kd : Kind) (rows r : ℕ) (x : Entry) → stands kd x ≡ false → in_row kd rows r x ≡ false
+in_none kd rows r x out = rw out (and_false (eqb (row_of kd rows x) r))
+
+pub alike_out : (kd : Kind) (rows : ℕ) (x y : Entry) → stands kd x ≡ false → stands kd y ≡ false → AreAlike kd rows x y
+alike_out kd rows x y a b r = in_none kd rows r x a ∙ sym (in_none kd rows r y b)
+
+pub alike_in : (kd : Kind) (rows : ℕ) (x y : Entry) → stands kd x ≡ true → stands kd y ≡ true → row_of kd rows x ≡ row_of kd rows y → AreAlike kd rows x y
+alike_in kd rows x y a b e r = rw (a, b, e) refl
+
+keeps_shape : (m : Marks) → KeepsShape m m
+keeps_shape m = record { kind = refl; rows = refl; width = refl; size = refl }
+
+pub changed_alike : (m : Marks) (head at : ℕ) (items : List Entry) (x y : Entry) → AreAlike m.kind m.rows x y → row_of m.kind m.rows y < m.rows
+    → at < length items → entry_at items at ≡ x → Shows m head items → Shows m head (set items at y)
+changed_alike m head at items x y same yl l is h = record {
+  room = h.room;
+  within = h.within;
+  most = rw (length-set items at y) h.most;
+  shows = λ r k rl kl. h.shows r k rl kl ∙ sym (shown_too r k (cases_eq k at));
+  rows = λ k kl. row k (rw (← length-set items at y) kl) (cases_eq k at);
+}
+  where
+    shown_too : (r k : ℕ) → (k ≡ at) ⊎ (k ≡ at → ⊥) → shown m.kind m.rows r (set items at y) k ≡ shown m.kind m.rows r items k
+    shown_too r k (inl e) =
+        rw e
+        (shown_within m.kind m.rows r at (set items at y) y (rw (length-set items at y) l) (get_or-set_same items at y _ l)
+        ∙ sym (same r) ∙ sym (shown_within m.kind m.rows r at items x l is))
+    shown_too r k (inr ne) = rw (length-set items at y, get_or-set_other items at k y _ ne) refl
+
+    row : (k : ℕ) → k < length items → (k ≡ at) ⊎ (k ≡ at → ⊥) → row_of m.kind m.rows (entry_at (set items at y) k) < m.rows
+    row k kl (inl e) = rw (e, get_or-set_same items at y _ l) yl
+    row k kl (inr ne) = rw (get_or-set_other items at k y _ ne) (h.rows k kl)
+
+pub added_out : (m : Marks) (head at : ℕ) (items : List Entry) (y : Entry) → at < m.width → row_of m.kind m.rows y < m.rows → stands m.kind y ≡ false
+    → length items ≡ at → Shows m head items → Shows m head (items ++ y ∷ [])
+added_out m head at items y al yl out l h =
+    added m m head at (row_of m.kind m.rows y) (stands m.kind y) items y al yl refl refl (keeps_shape m) (record { size = refl; here = here; other = λ j ne. refl }) l h
+  where
+    here : has m.bits (slot m.width head (row_of m.kind m.rows y) at) ≡ stands m.kind y
+    here = h.shows (row_of m.kind m.rows y) at yl al ∙ shown_past m.kind m.rows (row_of m.kind m.rows y) at items (omega arith) ∙ sym out
+
+pub retired_out : (m : Marks) (head : ℕ) (items : List Entry) (x : Entry) → stands m.kind x ≡ false → row_of m.kind m.rows x < m.rows
+    → front_of items ≡ Some x → Shows m head items → Shows m (wrapped m.width head 1) (rest items)
+retired_out m head items x out xl is h =
+    retired m m head (row_of m.kind m.rows x) items x refl (keeps_shape m) (record { size = refl; here = here items is h; other = λ j ne. refl }) is h
+  where
+    here : (items : List Entry) → front_of items ≡ Some x → Shows m head items → has m.bits (slot m.width head (row_of m.kind m.rows x) 0) ≡ false
+    here [] is h = absurd (none_some is)
+      where
+        none_some : None ≡ Some x → ⊥
+        none_some e = cc
+    here (z ∷ zs) is h =
+        let w = h.within in
+        let some : 0 < length (z ∷ zs) = omega arith in
+        h.shows (row_of m.kind m.rows x) 0 xl (omega arith) ∙ shown_within m.kind m.rows (row_of m.kind m.rows x) 0 (z ∷ zs) x some (own is) ∙ in_none m.kind m.rows (row_of m.kind m.rows x) x out
+      where
+        first_or : Entry → Option Entry → Entry
+        first_or d None = d
+        first_or d (Some y) = y
+
+        own : Some z ≡ Some x → z ≡ x
+        own e = ap (first_or z) e
+
 -- what a set shows of a number
 shown_yes : (kd : Kind) (rows r k : ℕ) (items : List Entry) → shown kd rows r items k ≡ true → (k < length items) × (in_row kd rows r (entry_at items k) ≡ true)
 shown_yes kd rows r k items e = by (cases_lt k (length items))
@@ -342,3 +410,10 @@ pending_below w x l =
 -- the row of an entry within sets of this kind and size
 pub row_within : (kd : Kind) (rows w : ℕ) (m : Marks) (x : Entry) → IsMarks kd rows w m → row_of kd rows x < rows → row_of m.kind m.rows x < m.rows
 row_within kd rows w m x i l = rw (i.kind, i.rows) l
+
+-- the port of an entry that shows is one of the rows by port
+pub port_within : (m : Marks) (head at rows w : ℕ) (items : List Entry) → IsMarks kind.Addr rows w m → Shows m head items → at < length items → (entry_at items at).port < m.rows
+port_within m head at rows w items i s l =
+    let r = s.rows at l in
+    let e : (entry_at items at).port ≡ row_of m.kind m.rows (entry_at items at) = sym (ap (λ k. row_of k m.rows (entry_at items at)) i.kind) in
+    omega arith

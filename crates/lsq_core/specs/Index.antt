@@ -22,6 +22,7 @@ row_of kind.Reply rows x = x.port
 row_of kind.Blank rows x = count_of x.store
 row_of kind.Ready rows x = count_of x.store
 row_of kind.Pending rows x = 2 * bucket (max 1 (rows / 2)) (or_zero x.addr) + count_of x.store
+row_of kind.Answer rows x = 0
 
 -- whether an entry stands in its row
 abbrev pub stands : Kind → Entry → Bool
@@ -31,9 +32,14 @@ stands kind.Reply x = not x.store && not x.replied
 stands kind.Blank x = is_none x.addr
 stands kind.Ready x = ready x
 stands kind.Pending x = is_some x.addr && not x.done
+stands kind.Answer x = not x.store && (x.done && not x.replied)
 
 abbrev pub in_row : Kind → ℕ → ℕ → Entry → Bool
 in_row k rows r x = (row_of k rows x == r) && stands k x
+
+-- two entries stand in the same rows
+abbrev pub AreAlike : Kind → ℕ → Entry → Entry → Type 0
+AreAlike k rows x y = (r : ℕ) → in_row k rows r x ≡ in_row k rows r y
 
 -- the place of the entry of a number in a ring
 abbrev pub wrapped : ℕ → ℕ → ℕ → ℕ
@@ -80,6 +86,10 @@ pub record IsNextIn (m : Marks) (row from at : ℕ) (items : List Entry) : Type 
 abbrev pub HasNoMoreIn : Marks → ℕ → ℕ → List Entry → Type 0
 HasNoMoreIn m row from items = (k : ℕ) → from ≤ k → k < length items → in_row m.kind m.rows row (entry_at items k) ≡ false
 
+-- how many rows there are for addresses of a side, for so many places
+abbrev pub buckets : ℕ → ℕ
+buckets width = width / 8
+
 -- the sets of all kinds
 pub record IsIndex (ports width : ℕ) (i : Index) : Type 0 where
   pub addr : IsMarks kind.Addr ports width i.addr
@@ -87,8 +97,9 @@ pub record IsIndex (ports width : ℕ) (i : Index) : Type 0 where
   pub reply : IsMarks kind.Reply ports width i.reply
   pub blank : IsMarks kind.Blank 2 width i.blank
   pub ready : IsMarks kind.Ready 2 width i.ready
-  pub pending : IsMarks kind.Pending (2 * width) width i.pending
-  pub some : 0 < width
+  pub pending : IsMarks kind.Pending (2 * buckets width) width i.pending
+  pub answer : IsMarks kind.Answer 1 width i.answer
+  pub some : 64 ≤ width
 
 -- they show the entries
 pub record Indexes (i : Index) (head : ℕ) (items : List Entry) : Type 0 where
@@ -98,6 +109,7 @@ pub record Indexes (i : Index) (head : ℕ) (items : List Entry) : Type 0 where
   pub blank : Shows i.blank head items
   pub ready : Shows i.ready head items
   pub pending : Shows i.pending head items
+  pub answer : Shows i.answer head items
 
 -- o is no older entry of a side whose address is not known
 abbrev pub filled : Bool → Entry → Entry → Bool

@@ -1,9 +1,9 @@
 //! Sets of small numbers, one bit each.
 
-ghost use Rattle.std.specs.Prelude.{◌*◌, ◌^◌, ◌<◌, ◌≤◌, length, IfOk};
+ghost use Rattle.std.specs.Prelude.{◌≡◌, ◌*◌, ◌^◌, ◌<◌, ◌≤◌, length, IfOk};
 ghost use Rattle.lsq_core.specs.Bits.{IsNext, IsSet, HasNoneIn};
 
-use net_types::{List, Memory};
+use net_types::Memory;
 use std::alloc::Global;
 use std::marker::Model;
 
@@ -12,8 +12,8 @@ const WORD: usize = 64;
 
 /// A set of numbers below a bound.
 #[derive(Drop)]
-pub(crate) struct Bits {
-    words: List<u64>,
+pub struct Bits {
+    words: Vec<u64>,
 }
 
 impl Model for Bits {
@@ -24,34 +24,39 @@ impl Model for Bits {
 
     ghost coded = { coded_list coded_ℕ };
 
-    ghost view = { λ b. b.words };
+    ghost view = { λ b. b.words.items };
 }
 
 impl Bits {
     /// No number, and room for those below 64 times so many.
-    pub(crate) fn new(alloc: Global, words: usize) -> Result<Bits, Memory>
+    pub fn new(alloc: Global, words: usize) -> Result<Bits, Memory>
         ensures { IfOk result (λ b. HasNoneIn words b) }
     {
-        let mut list = List::new(alloc);
-        for _ in 0..words {
-            list.push(0)?;
-        }
-        Ok(Bits { words: list })
+        Ok(Bits {
+            words: vec![in alloc; 0; words]?,
+        })
+    }
+
+    /// How many words it has: there is room for the numbers below 64 times so many.
+    pub fn words(&self) -> usize
+        ensures { result ≡ length self.now }
+    {
+        self.words.len()
     }
 
     /// Puts a number into the set or takes it out.
-    pub(crate) fn set(&mut self, at: usize, within: bool)
+    pub fn set(&mut self, at: usize, within: bool)
         requires { at < 64 * length self.old }
         ensures { IsSet at within self.old self.new }
     {
         let word = self.words.as_slice()[at / WORD];
         let bit = 1 << (at % WORD);
         let new = if within { word | bit } else { word & !bit };
-        self.words.set(at / WORD, new);
+        self.words[at / WORD] = new;
     }
 
     /// The least number of the set from one place on, or the other where there is none below it.
-    pub(crate) fn next(&self, from: usize, to: usize) -> usize
+    pub fn next(&self, from: usize, to: usize) -> usize
         requires order { from ≤ to }
         requires within { to ≤ 64 * length self.now }
         requires small { to ≤ 2 ^ 60 }

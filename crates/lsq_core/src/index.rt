@@ -21,6 +21,7 @@ pub(crate) struct Index {
     pub(crate) blank: Marks,
     pub(crate) ready: Marks,
     pub(crate) pending: Marks,
+    pub(crate) answer: Marks,
 }
 
 impl Index {
@@ -41,7 +42,8 @@ impl Index {
             reply: Marks::new(alloc, Kind::Reply, ports, blocks)?,
             blank: Marks::new(alloc, Kind::Blank, 2, blocks)?,
             ready: Marks::new(alloc, Kind::Ready, 2, blocks)?,
-            pending: Marks::new(alloc, Kind::Pending, 128 * blocks, blocks)?,
+            pending: Marks::new(alloc, Kind::Pending, 16 * blocks, blocks)?,
+            answer: Marks::new(alloc, Kind::Answer, 1, blocks)?,
         })
     }
 
@@ -63,6 +65,7 @@ impl Index {
         self.blank.change(head, at, old, new);
         self.ready.change(head, at, old, new);
         self.pending.change(head, at, old, new);
+        self.answer.change(head, at, old, new);
     }
 
     /// Notes that an entry is added after so many.
@@ -82,6 +85,7 @@ impl Index {
         self.blank.add(head, len, new);
         self.ready.add(head, len, new);
         self.pending.add(head, len, new);
+        self.answer.add(head, len, new);
     }
 
     /// Notes that the first entry is dropped.
@@ -101,6 +105,7 @@ impl Index {
         self.blank.retire(head, old);
         self.ready.retire(head, old);
         self.pending.retire(head, old);
+        self.answer.retire(head, old);
     }
 
     /// The row of the entries of a side that wait with the address of an entry.

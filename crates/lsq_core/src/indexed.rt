@@ -5,7 +5,7 @@ ghost use Rattle.std.specs.List.{find, list_all};
 ghost use Rattle.lsq_core.specs.Acts.{first_changed, is_nil, executes, last_such, waiting, lets, source_ok, order_ok, rest, fresh_entry};
 ghost use Rattle.lsq_core.specs.Views.{InOrder, InPorts, no_entries, oldest_of, front_of, entry_at, count_of};
 ghost use Rattle.lsq_core.specs.Parts.{none_from, IsPartOf};
-ghost use Rattle.lsq_core.specs.Wants.{wanted, changed_by, IsFirst, HasNone};
+ghost use Rattle.lsq_core.specs.Wants.{wanted, changed_by, replies, nearer, IsFirst, HasNone, HasNoReply, IsNextReply};
 ghost use Rattle.lsq_core.specs.Index.{filled, clear, reached, runs, wrapped};
 ghost use Rattle.lsq_core.specs.declared.entry.Want.TheVariants as want;
 
@@ -158,6 +158,44 @@ impl Indexed {
             None => None,
             Some(at) => Some(self.at(at)),
         }
+    }
+
+    /// Whether a reply is allowed at a port.
+    fn may_reply(&self, port: u32) -> bool
+        ensures { result ≡ replies self.now.queue.items port }
+    {
+        match self.first(Want::Reply(port)) {
+            None => false,
+            Some(entry) => entry.done,
+        }
+    }
+
+    /// The lesser of a port that was found and another, where the other is from a number on and a reply is allowed at it.
+    fn nearer(&self, found: Option<u32>, from: u32, port: u32) -> Option<u32>
+        ensures { result ≡ nearer (replies self.now.queue.items port) found from port }
+    {
+        if port < from || !self.may_reply(port) {
+            return found;
+        }
+        match found {
+            None => Some(port),
+            Some(other) => Some(other.min(port)),
+        }
+    }
+
+    /// The least port from a number on at which a reply is allowed.
+    pub(crate) fn next_reply(&self, from: u32) -> Option<u32>
+        ensures { MatchOption result (HasNoReply self.now.queue.items from)
+            (IsNextReply self.now.queue.items from) }
+    {
+        let mut found = None;
+        let mut at = 0;
+        while let Some(place) = self.index.answer.next(self.head, 0, at) {
+            let port = self.at(place).port;
+            found = self.nearer(found, from, port);
+            at = place + 1;
+        }
+        found
     }
 
     /// Changes the first entry that an act asks for, and no other.

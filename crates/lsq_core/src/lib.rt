@@ -14,6 +14,7 @@ mod part;
 mod queue;
 mod runs;
 
+pub use bits::Bits;
 pub use entry::Entry;
 pub use laws::{acts_join, acts_keep_a_queue, acts_stay_refused, mark_allows_more, rows_hold};
 pub use list_lsq::ListLsq;

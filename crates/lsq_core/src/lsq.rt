@@ -1,12 +1,13 @@
 //! The load-store queue over entries with an index.
 
-ghost use Rattle.std.specs.Prelude.{◌≡◌, ℕ, ◌+◌, ◌<◌, ◌≤◌, ◌^◌, ◌++◌, Some, None, [], true, false, length, get_or, IfOk};
+ghost use Rattle.std.specs.Prelude.{◌≡◌, ℕ, ◌+◌, ◌<◌, ◌≤◌, ◌^◌, ◌++◌, Some, None, [], true, false, length, get_or, IfOk, MatchOption};
 ghost use Rattle.net_types.specs.declared.net.Port.TheVariants.{Load};
 ghost use Rattle.net_types.specs.Queues.{IsQueueShape};
 ghost use Rattle.net_types.specs.declared.firing.Act.TheVariants.{Alloc, Exec, Retire};
 ghost use Rattle.lsq_core.specs.Acts.{is_store, fresh, or_zero, exec_value, exec_array, load_value, stray_of};
 ghost use Rattle.lsq_core.specs.Views.{QueueView, InOrder, InPorts, IsNumberBelow, allows, acted, given, shaped, count_of};
 ghost use Rattle.lsq_core.specs.Parts.{IsPartOf, MayStand, queue_of, holding};
+ghost use Rattle.lsq_core.specs.Wants.{HasNoReply, IsNextReply};
 
 use crate::entry::{Entry, Made, Want};
 use crate::indexed::Indexed;
@@ -101,6 +102,15 @@ impl Lsq {
     {
         let _ = &self.depth;
         fill(&mut self.entries, part);
+    }
+
+    /// The least port from a number on at which the queue allows a reply, where it allows one.
+    pub fn next_reply(&self, from: u32) -> Option<u32>
+        ensures { MatchOption result (HasNoReply self.now.queue.items from)
+            (IsNextReply self.now.queue.items from) }
+    {
+        let _ = &self.depth;
+        self.entries.next_reply(from)
     }
 
     /// Whether the free depth holds a group.

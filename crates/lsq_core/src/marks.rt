@@ -1,11 +1,11 @@
 //! Which entries stand in a row, as sets of places.
 
-ghost use Rattle.std.specs.Prelude.{◌≡◌, ℕ, ◌+◌, ◌*◌, ◌^◌, ◌<◌, ◌≤◌, ◌++◌, ◌∷◌, [], Some, List, length, set, max, MatchOption, IfOk};
+ghost use Rattle.std.specs.Prelude.{◌≡◌, ℕ, ◌+◌, ◌*◌, ◌^◌, ◌<◌, ◌≤◌, ◌++◌, ◌∷◌, [], Some, true, List, length, set, max, MatchOption, IfOk};
 ghost use Rattle.lsq_core.specs.declared.entry.Entry.{Entry};
 ghost use Rattle.lsq_core.specs.Acts.{or_zero, rest};
 ghost use Rattle.lsq_core.specs.Views.{entry_at, front_of};
 ghost use Rattle.lsq_core.specs.Bits.{IsSet, IsNext};
-ghost use Rattle.lsq_core.specs.Index.{bucket, row_of, stands, wrapped, HasRoom, Shows, KeepsShape, IsMarks, IsNextIn, HasNoMoreIn};
+ghost use Rattle.lsq_core.specs.Index.{bucket, row_of, stands, wrapped, HasRoom, AreAlike, Shows, KeepsShape, IsMarks, IsNextIn, HasNoMoreIn};
 
 use crate::bits::Bits;
 use crate::entry::Entry;
@@ -30,6 +30,8 @@ pub(crate) enum Kind {
     Ready,
     /// They are not executed and have their address; by address, of loads or of stores.
     Pending,
+    /// They are executed loads that have not replied; all in one row.
+    Answer,
 }
 
 /// Sets of places in a ring of entries, one for each row.
@@ -93,6 +95,7 @@ impl Marks {
             Kind::Blank => side,
             Kind::Ready => side,
             Kind::Pending => 2 * bucket((self.rows / 2).max(1), entry.address()) + side,
+            Kind::Answer => 0,
         }
     }
 
@@ -107,6 +110,19 @@ impl Marks {
             Kind::Blank => entry.addr.is_none(),
             Kind::Ready => entry.is_ready(),
             Kind::Pending => entry.addr.is_some() && !entry.done,
+            Kind::Answer => !entry.store && (entry.done && !entry.replied),
+        }
+    }
+
+    /// Whether two entries stand in the same row, or neither stands in one.
+    fn are_alike(&self, old: &Entry, new: &Entry) -> bool
+        requires { self.now.rows ≤ 2 ^ 60 }
+        ensures { result ≡ true → AreAlike self.now.kind self.now.rows old.now new.now }
+    {
+        if self.has(old) {
+            self.has(new) && self.row(old) == self.row(new)
+        } else {
+            !self.has(new)
         }
     }
 
@@ -152,6 +168,9 @@ impl Marks {
         ensures shows { (items : List Entry) → at < length items → entry_at items at ≡ old.now
             → Shows self.old head items → Shows self.new head (set items at new.now) }
     {
+        if self.are_alike(old, new) {
+            return;
+        }
         let row = self.row(old);
         self.put(head, row, at, false);
         let row = self.row(new);
@@ -169,9 +188,10 @@ impl Marks {
         ensures shows { (items : List Entry) → length items ≡ len
             → Shows self.old head items → Shows self.new head (items ++ new.now ∷ []) }
     {
-        let row = self.row(new);
-        let within = self.has(new);
-        self.put(head, row, len, within);
+        if self.has(new) {
+            let row = self.row(new);
+            self.put(head, row, len, true);
+        }
     }
 
     /// Notes that the first entry is dropped.
@@ -184,8 +204,10 @@ impl Marks {
             → Shows self.old head items
             → Shows self.new (wrapped self.old.width head 1) (rest items) }
     {
-        let row = self.row(old);
-        self.put(head, row, 0, false);
+        if self.has(old) {
+            let row = self.row(old);
+            self.put(head, row, 0, false);
+        }
     }
 
     /// The first entry from a number on that stands in a row.

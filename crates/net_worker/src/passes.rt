@@ -11,15 +11,12 @@ use crate::worker::Worker;
 use lsq_core::Queue;
 use net_types::{Act, Firing, acts_follow};
 
-/// How many firings a pass makes before it begins no other visit.
+/// How many firings a pass makes before it begins no other visit, unless the exit has fired.
 const PASS_FIRINGS: u32 = 4096;
 
-/// How many units a pass visits at most.
-const PASS_VISITS: u32 = 65_536;
-
 impl Worker {
-    /// Visits marked units in ascending order, going round, until none is marked, the log is full, or it has made as many
-    /// firings as a pass makes; answers how many.
+    /// Visits marked units in ascending order, going round from where the pass before ended, until none is marked or it has
+    /// made as many firings as a pass makes; after the exit until none is marked. Answers how many it made.
     pub(crate) fn pass(&mut self, tables: &Tables) -> u32
         requires made { IsMadeOf tables.now self.old }
         requires whole { IsWhole tables.now self.old }
@@ -29,17 +26,15 @@ impl Worker {
         ensures none { result ≡ 0 → IsAsked self.old self.new }
     {
         let mut fired = 0;
-        let mut from = 0;
-        'visits: for _ in 0..PASS_VISITS {
-            if fired >= PASS_FIRINGS {
+        'visits: for _ in 0..u32::MAX {
+            if fired >= PASS_FIRINGS && !self.state.exited() {
                 return fired;
             }
-            let Some(unit) = self.ready.next_from(from) else {
+            let Some(unit) = self.ready.take() else {
                 return fired;
             };
             let made = self.visit(tables, unit);
             fired += made;
-            from = unit;
         }
         fired
     }

@@ -4,10 +4,12 @@ ghost use Rattle.std.specs.Prelude.{◌≡◌, ◌≤◌, ◌<◌, IfSome};
 use net_types::Memory;
 use std::alloc::Global;
 
-/// A set of units, by bits.
+/// A set of units, by bits, which are taken in ascending order, going round.
 #[derive(Drop)]
 pub struct Ready {
     words: Vec<u64>,
+    /// The unit from which on the next one is looked for.
+    at: u32,
 }
 
 impl Ready {
@@ -17,6 +19,7 @@ impl Ready {
     pub(crate) fn new(alloc: Global, units: usize) -> Result<Ready, Memory> {
         Ok(Ready {
             words: vec![in alloc; 0; units / 64 + 1]?,
+            at: 0,
         })
     }
 
@@ -28,7 +31,7 @@ impl Ready {
     }
 
     /// The least marked unit from a unit on, whose mark is taken away.
-    pub(crate) fn take_from(&mut self, unit: u32) -> Option<u32> {
+    fn take_from(&mut self, unit: u32) -> Option<u32> {
         let first = unit as usize / 64;
         for word in first..self.words.len() {
             let from = if word == first { unit % 64 } else { 0 };
@@ -43,11 +46,13 @@ impl Ready {
         None
     }
 
-    /// The least marked unit from a unit on, or else the least one, whose mark is taken away.
-    pub(crate) fn next_from(&mut self, unit: u32) -> Option<u32> {
-        match self.take_from(unit) {
-            Some(unit) => Some(unit),
-            None => self.take_from(0),
-        }
+    /// The next marked unit after the one that was taken last, going round, whose mark is taken away.
+    pub(crate) fn take(&mut self) -> Option<u32> {
+        let unit = match self.take_from(self.at) {
+            Some(unit) => unit,
+            None => self.take_from(0)?,
+        };
+        self.at = unit.wrapping_add(1);
+        Some(unit)
     }
 }

@@ -12,7 +12,7 @@ use crate::worker::Worker;
 
 impl Worker {
     /// Looks at the channels from other workers and makes firings of the worker's own units: some 4,096 where it sees as
-    /// many that it may make. Takes no memory, and waits for nobody.
+    /// many that it may make, and once the exit has fired all that it sees. Takes no memory, and waits for nobody.
     pub fn sweep(&mut self, tables: &Tables) -> Swept
         requires made { IsMadeOf tables.now self.old }
         requires whole { IsWhole tables.now self.old }

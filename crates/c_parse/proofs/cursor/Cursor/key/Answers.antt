@@ -1,8 +1,8 @@
-use Rattle.std.proofs.Common.{rules, refl}
-use Rattle.c_parse.proofs.Refusing.{no_key}
-use Rattle.c_parse.specs.Stops.{Refuses}
+use Rattle.c_parse.proofs.SameWords.{refuses_key}
 use Rattle.c_parse.proofs.cursor.Cursor.key.Goals as goal
-use Rattle.c_parse.proofs.cursor.Cursor.key.Goals.{in_default-via-in-Key+else-eq, in_default-via-in_default}
 
-pub returns-in_default-clause-refused : goal.returns-in_default-clause-refused
-returns-in_default-clause-refused c = Refuses.unfit _ _ c.in_ok-token.ensures.read (elim c.in_default.branch [ in_default-via-in-Key+else-eq w ↦ no_key _ _ _ w.in-Key.is (λ h. search (rules, h, w.if-eq.ensures)) | in_default-via-in_default w ↦ w.in_default.not-Key _ ]) refl
+pub returns-in-Some : goal.returns-in-Some
+returns-in-Some c = record { read = c.in-Some.ensures.some; refused = tt }
+
+pub returns-in-None : goal.returns-in-None
+returns-in-None c = record { read = tt; refused = refuses_key _ _ _ _ c.in-None.ensures.none c.in-None.ensures.other c.refusal.ensures }

@@ -1,12 +1,12 @@
 use Rattle.std.proofs.Common.{not, length, sym, ap, ◌∙◌, arith}
-use Rattle.lsq_core.specs.Index.{clear}
+use Rattle.lsq_core.specs.Index.{buckets, clear}
 use Rattle.lsq_core.proofs.IndexLemmas.{pending_below}
 use Rattle.lsq_core.proofs.ExecLemmas.{clear_more, clear_all}
 use Rattle.lsq_core.proofs.indexed.Indexed.is_clear.Goals as goal
 
 pub next-requires-clause-row : goal.next-requires-clause-row
 next-requires-clause-row c =
-    let b = pending_below c.self.inside.width (record c.args.entry.now { store = c.args.side }) c.self.invariant.index.some in
+    let b = pending_below (buckets c.self.inside.width) (record c.args.entry.now { store = c.args.side }) (let w = c.self.invariant.index.some in omega arith) in
     rw (c.address_row-row.ensures, c.self.invariant.index.pending.rows) b
 
 pub loop-at-preserved : goal.loop-at-preserved

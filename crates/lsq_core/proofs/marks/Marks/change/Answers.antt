@@ -1,5 +1,8 @@
-use Rattle.lsq_core.proofs.IndexLemmas.{changed}
+use Rattle.lsq_core.proofs.IndexLemmas.{changed, changed_alike}
 use Rattle.lsq_core.proofs.marks.Marks.change.Goals as goal
+
+pub returns-then-are_alike-clause-shows : goal.returns-then-are_alike-clause-shows
+returns-then-are_alike-clause-shows c = λ items. changed_alike c.args.self.now c.args.head c.args.at items c.args.old.now c.args.new.now (c.are_alike.ensures c.if-are_alike.true) c.requires.new
 
 pub returns-clause-shows : goal.returns-clause-shows
 returns-clause-shows c = λ items.

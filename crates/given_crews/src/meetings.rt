@@ -1,0 +1,81 @@
+//! Workers that meet at a gate.
+ghost use Rattle.std.specs.Prelude.{◌≤◌, ◌<◌};
+ghost use Rattle.el_base.specs.Limits.{max_workers};
+ghost use Rattle.net_types.specs.Inputs.{InputsFit};
+
+use anyhow::{Result, bail, ensure};
+use el_base::MAX_WORKERS;
+use meeting_gate::Meeting;
+use net_check::Checked;
+use net_types::Inputs;
+use row_fields::Output;
+use std::alloc::Global;
+use std::thread::Threads;
+use worker_run::run_workers;
+
+/// How often the workers of a row meet.
+const RUNS: u32 = 20;
+
+/// How many firings they make at most.
+const LIMIT: u64 = 100_000;
+
+/// Writes how many firings the runs of so many workers make whose first turns are held until all have asked for theirs, and
+/// of each run whether they met.
+pub fn put_meetings<R: Threads + Sync>(
+    rt: &R,
+    alloc: Global,
+    net: &Checked,
+    inputs: &Inputs,
+    count: u32,
+    out: &mut Output,
+) -> Result<()>
+    requires { InputsFit net.now inputs.now }
+{
+    ensure!(0 < count && count <= MAX_WORKERS, "1 to 64 workers");
+    for _ in 0..RUNS {
+        put_meeting(rt, alloc, net, inputs, count, out)?;
+    }
+    Ok(())
+}
+
+/// The same of one run.
+fn put_meeting<R: Threads + Sync>(
+    rt: &R,
+    alloc: Global,
+    net: &Checked,
+    inputs: &Inputs,
+    count: u32,
+    out: &mut Output,
+) -> Result<()>
+    requires fit { InputsFit net.now inputs.now }
+    requires some { 0 < count }
+    requires most { count ≤ max_workers }
+{
+    let gate = Meeting::new(alloc, count)?;
+    let made = firings(rt, alloc, net, inputs, count, &gate)?;
+    out.number(made);
+    out.word(" ");
+    out.word(gate.outcome());
+    out.word("; ");
+    ensure!(gate.outcome() == "met", "workers that did not meet");
+    Ok(())
+}
+
+/// How many firings a run makes whose workers ask a gate.
+fn firings<R: Threads + Sync>(
+    rt: &R,
+    alloc: Global,
+    net: &Checked,
+    inputs: &Inputs,
+    count: u32,
+    gate: &Meeting,
+) -> Result<u64>
+    requires fit { InputsFit net.now inputs.now }
+    requires some { 0 < count }
+    requires most { count ≤ max_workers }
+{
+    let Ok(report) = run_workers(rt, alloc, net, inputs, count, LIMIT, false, gate) else {
+        bail!("a net that is refused");
+    };
+    Ok(report.firings)
+}
