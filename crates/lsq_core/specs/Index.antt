@@ -88,7 +88,7 @@ HasNoMoreIn m row from items = (k : ℕ) → from ≤ k → k < length items →
 
 -- how many rows there are for addresses of a side, for so many places
 abbrev pub buckets : ℕ → ℕ
-buckets width = width / 8
+buckets width = width / 16
 
 -- the sets of all kinds
 pub record IsIndex (ports width : ℕ) (i : Index) : Type 0 where

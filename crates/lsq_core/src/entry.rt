@@ -14,11 +14,11 @@ pub struct Entry {
     pub serial: u64,
     pub port: u32,
     pub store: bool,
+    pub done: bool,
+    pub replied: bool,
     pub addr: Option<u64>,
     pub datum: Option<u64>,
-    pub done: bool,
     pub value: u64,
-    pub replied: bool,
 }
 
 /// What an act asks of the entry that it changes.

@@ -42,7 +42,7 @@ impl Index {
             reply: Marks::new(alloc, Kind::Reply, ports, blocks)?,
             blank: Marks::new(alloc, Kind::Blank, 2, blocks)?,
             ready: Marks::new(alloc, Kind::Ready, 2, blocks)?,
-            pending: Marks::new(alloc, Kind::Pending, 16 * blocks, blocks)?,
+            pending: Marks::new(alloc, Kind::Pending, 8 * blocks, blocks)?,
             answer: Marks::new(alloc, Kind::Answer, 1, blocks)?,
         })
     }
