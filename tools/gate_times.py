@@ -1,8 +1,9 @@
 #!/usr/bin/env python3
 """Runs the gate and prints its processor time in all and by crate, as a table for docs/TIMES.md.
 
-usage: tools/gate_times.py [WORD..]   (the words of the gate; `rt ci WORD..` is run where this is called. A kit whose gate
-keeps what passed needs --anew to begin from nothing; rattle-kit-13b begins from nothing always, and takes no word)
+usage: tools/gate_times.py [WORD..]   (the words of the gate; `rt ci WORD..` is run where this is called. rattle-kit-13f keeps
+what passed on its machine: with --anew it begins from nothing, with names of crates it proves these and those below them alone.
+rattle-kit-13b begins from nothing always, and takes no word)
 
 The time in all is that of all its processes, as the system counts it. The time by crate is that of the prover's and the
 compilers' processes that name the crate, sampled twice a second: what a process takes after its last sample is missed."""

@@ -14,7 +14,7 @@ files=
 data=
 explained=
 while [ "$1" != -- ]; do
-  [ -r "$1" ] || { echo "elastic: $1 cannot be read" >&2; exit 2; }
+  { [ -f "$1" ] && [ -r "$1" ]; } || { echo "elastic: cannot read $1" >&2; exit 2; }
   name=$(basename "$1" | tr -c 'A-Za-z0-9._\n-' _)
   while [ -e "$folder/$name" ]; do name=other_$name; done
   cp "$1" "$folder/$name"
@@ -31,6 +31,9 @@ status=0
 # shellcheck disable=SC2086
 rt try --seconds "$seconds" $data -- "$command" $files "$@" 2> "$folder/errors" || status=$?
 cat "$folder/errors" >&2
+if grep -q 'did not end within the time limit' "$folder/errors"; then
+  echo "elastic: the unproved program was not done in $seconds seconds: make SECONDS=N gives it N, make build a quicker program" >&2
+fi
 if [ "$status" -ne 0 ] && grep -qE '(: [0-9]+ [A-Z])|^elastic: ' "$folder/errors"; then
   echo >&2
   # shellcheck disable=SC2086

@@ -25,6 +25,8 @@ def header_of_kernel(path):
     text = re.sub(r"^\s*#.*$", "", text, flags=re.M)
     while "{" in text and text != (text := re.sub(r"\{[^{}]*\}", ";", text)):
         pass
+    if "{" in text:
+        sys.exit(f"{path}: a `{{` is never closed: `elastic compile {path}` says more")
     found = re.findall(r"\w+\s*\(([^()]*)\)\s*;", text)
     if not found:
         sys.exit(f"{path}: no kernel: a type, a name, parameters in parentheses and a block are looked for")

@@ -339,6 +339,9 @@ def step_or_assignment(spot):
                 "write `==` to compare; else assign in a statement before.")
     if word == "," and spot.braces:
         in_for = inside and spot.tokens[opener - 1].text == "for"
+        if inside and spot.tokens[opener].text == "[":
+            name, inner = spot.tokens[opener - 1].text, " ".join(it.text for it in spot.tokens[opener + 1:spot.at])
+            return ("Each dimension of an array has brackets of its own.", f"write `{name}[{inner}][..]`.")
         return ("The comma does not join expressions in a kernel.",
                 "the three parts of `for` are parted by `;`. Where it has two variables, write the second one's start as a "
                 "statement "

@@ -51,6 +51,9 @@ def directive(source, line, column):
     word, rest = found.groups()
     if word == "include":
         name = rest.strip("<>\" ")
+        if name == "stdbool.h":
+            return ("`stdbool.h` is not read, and `bool` is no type of a kernel.",
+                    "leave the line away; write `uint8_t` for `bool`, 1 for `true` and 0 for `false`.")
         return (f"`{name}` is not read: a kernel is one file, and only `#include <stdint.h>` stands in it.",
                 "leave the line away, and write what is used of it into the kernel." if rest.startswith('"') else
                 "leave the line away; its functions and names are not in the language.")
