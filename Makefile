@@ -3,7 +3,7 @@
 # compile: the circuit of your own kernel alone, without the proofs: make compile KERNEL=my.c
 # ref: your own kernel and inputs, run as C, without the proofs: make ref KERNEL=my.c INPUTS=my.txt
 #   After a refusal go, compile, ref and run say in words why, and what to write instead (tools/explain.py). The unproved
-#   program makes some 100,000 firings a second (the proved one some millions); SECONDS, 600 by default, is the time it has.
+#   program makes tens of thousands of firings a second (the proved one some millions); SECONDS, 600 by default, is the time it has.
 # run: a netlist and inputs of your own, without the proofs: make run NETLIST=my.net INPUTS=my.txt
 # build: proves the program and all below it, and leaves it as crates/elastic/out/elastic. From nothing this takes
 #   most of the gate's time (docs/PROVED.md); what an earlier run proved on this machine is not proved again.
