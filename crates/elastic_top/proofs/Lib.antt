@@ -2,6 +2,7 @@ pub mod AnswerLemmas
 pub mod CallLemmas
 pub mod ContinuedLemmas
 pub mod Cuts
+pub mod EndLemmas
 pub mod PieceLemmas
 pub mod PlanLemmas
 pub mod RangeLemmas

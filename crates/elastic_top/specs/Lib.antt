@@ -1,6 +1,7 @@
 pub mod Answers
 pub mod Causes
 pub mod Continued
+pub mod Ends
 pub mod Faults
 pub mod Files
 pub mod Laws

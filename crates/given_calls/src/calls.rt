@@ -59,7 +59,7 @@ pub fn answer<R: Threads + Sync, G: Gate + Sync>(
 }
 
 /// Words with spaces between them.
-fn parted(alloc: Global, words: &str) -> Result<Vec<String>, AllocError> {
+pub fn parted(alloc: Global, words: &str) -> Result<Vec<String>, AllocError> {
     let mut given = Vec::new(alloc);
     for word in words.split(' ') {
         if !word.is_empty() {
@@ -75,6 +75,11 @@ pub fn add_file(files: &mut MemFiles, name: &str, content: &[u8]) -> Result<()> 
         Ok(()) => Ok(()),
         Err(_) => bail!("want of memory"),
     }
+}
+
+/// An output that takes all at once and never fails.
+pub fn sound_sink(alloc: Global) -> Result<MemSink> {
+    sink(alloc, SOUND.piece, SOUND.put)
 }
 
 /// An output that takes so many bytes at once, and fails at a call.

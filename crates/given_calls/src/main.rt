@@ -4,6 +4,7 @@
 mod calls;
 mod gates;
 mod kernels;
+mod processes;
 mod rows;
 mod states;
 mod tries;

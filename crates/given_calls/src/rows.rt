@@ -1,5 +1,6 @@
 //! The files of rows and what their lines are.
 use crate::kernels::{put_agreement, put_count};
+use crate::processes::put_process;
 use crate::states::put_resumed;
 use crate::tries::{Told, put_failing, put_long, put_try};
 use crate::workers::{put_meeting, put_replayed, put_stopped};
@@ -27,12 +28,14 @@ pub enum Rows {
     Meetings,
     /// The words of a run that writes its schedule, and files.
     Replays,
+    /// The error that a host hands over, or none and its words, and files.
+    Processes,
     /// The words of a call of `save`, those of a call of `resume` of what it printed, and files.
     Resumed,
 }
 
 /// The files, in the order in which they are answered.
-pub const FILES: [(&str, Rows); 16] = [
+pub const FILES: [(&str, Rows); 17] = [
     ("calls.tsv", Rows::Calls(Told::Whole)),
     ("schedules.tsv", Rows::Calls(Told::Whole)),
     ("runs.tsv", Rows::Calls(Told::Whole)),
@@ -49,6 +52,7 @@ pub const FILES: [(&str, Rows); 16] = [
     ("gates.tsv", Rows::Gates),
     ("meetings.tsv", Rows::Meetings),
     ("replays.tsv", Rows::Replays),
+    ("processes.tsv", Rows::Processes),
 ];
 
 impl Rows {
@@ -84,6 +88,9 @@ impl Rows {
             (Rows::Replays, [words, files @ ..]) => put_replayed(rt, alloc, words, files, out),
             (Rows::Resumed, [save, resume, files @ ..]) => {
                 put_resumed(rt, alloc, save, resume, files, out)
+            }
+            (Rows::Processes, [error, words, files @ ..]) => {
+                put_process(rt, alloc, error, words, files, out)
             }
             (rows, _) => bail!("a line of {rows:?} of other fields"),
         }

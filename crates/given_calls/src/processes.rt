@@ -1,0 +1,45 @@
+//! Processes, with what their hosts hand over.
+use crate::calls::{parted, sound_sink};
+use crate::tries::held_files;
+use anyhow::{Result, bail};
+use el_io::Open;
+use elastic_top::process;
+use row_fields::{Output, escaped};
+use std::alloc::Global;
+use std::env::Args;
+use std::io;
+use std::thread::Threads;
+
+/// Writes the exit code of a process on sound devices, what was written to the output, and what to the error output.
+pub fn put_process<R: Threads + Sync>(
+    rt: &R,
+    alloc: Global,
+    error: &str,
+    words: &str,
+    files: &[&str],
+    out: &mut Output,
+) -> Result<()> {
+    let args = handed_over(alloc, error, words)?;
+    let mut files = held_files(alloc, files)?;
+    let mut text = sound_sink(alloc)?;
+    let mut lines = sound_sink(alloc)?;
+    let code = process(rt, alloc, args, &mut files, &mut text, &mut lines, &Open);
+    out.debug(&code);
+    out.word("\t");
+    out.bytes(escaped(alloc, text.bytes())?.as_slice());
+    out.word("\t");
+    out.bytes(escaped(alloc, lines.bytes())?.as_slice());
+    Ok(())
+}
+
+/// What a host hands over: the words, where there is no error, or the error of a kind.
+fn handed_over(alloc: Global, error: &str, words: &str) -> Result<io::Result<Args>> {
+    let kind = match error {
+        "-" => return Ok(Ok(parted(alloc, words)?.into_iter())),
+        "OutOfMemory" => io::ErrorKind::OutOfMemory,
+        "InvalidData" => io::ErrorKind::InvalidData,
+        "Interrupted" => io::ErrorKind::Interrupted,
+        _ => bail!("an error of another kind"),
+    };
+    Ok(Err(io::Error::from(kind)))
+}
