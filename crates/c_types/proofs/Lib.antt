@@ -26,7 +26,6 @@ pub mod ProgramNames
 pub mod ProgramRefusals
 pub mod ProgramStatementParts
 pub mod ProgramsKept
-pub mod Refusals
 pub mod Renamed
 pub mod StatementNodes
 pub mod StatementParts

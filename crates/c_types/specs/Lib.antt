@@ -10,5 +10,4 @@ pub mod ProgramNodes
 pub mod ProgramParts
 pub mod Refusals
 pub mod Scopes
-pub mod TypedNodes
 pub mod TypingParts

@@ -1,5 +1,4 @@
-//! The type checker: the first rule that a kernel's tree or a program breaks, or its typed tree or
-//! typed program.
+//! The type checker: the first rule that a program breaks, or its typed program.
 #![tactic(auto)]
 
 mod calls;
@@ -10,12 +9,11 @@ mod fault;
 mod faults;
 mod known;
 mod laws;
-mod program_casts;
-mod program_conversions;
+mod parameters;
 mod programs;
 mod scopes;
 mod sort;
 
-pub use checker::{check, check_program, check_program_rules, check_rules};
+pub use checker::{check_program, check_program_rules};
 pub use fault::{Fault, Rule, TypeRefusal};
 pub use laws::trees_are_checked_as_programs;
