@@ -52,6 +52,7 @@ FILES = {
         "what reading the inputs answers: ok and each line printed anew with a slash after it, or NUMBER WORD and a line or name",
         "a net text and the text of its inputs, with \\n \\t \\r \\\\ \\xHH escaped",
     ),
+    "lists.tsv": (0, "what the words spell, or usage", "a list of words, each after a tab"),
 }
 
 

@@ -1,10 +1,12 @@
-//! Answers given rows: kernel texts, net texts, operations, acts of queues and inputs, one a line of the files of its folder.
+//! Answers given rows: kernel texts, net texts, operations, acts of queues, inputs and lists of words, one a line of the files
+//! of its folder.
 //!
 //! With no word it answers all files in turn, each below its name. With the path of a file it answers that one.
 #![tactic(auto)]
 
 mod inputs;
 mod kernels;
+mod lists;
 mod nets;
 mod operations;
 mod pairs;
@@ -12,6 +14,7 @@ mod queues;
 mod refusals;
 mod repeats;
 mod rows;
+mod second;
 mod trees;
 mod words;
 

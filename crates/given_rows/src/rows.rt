@@ -1,6 +1,7 @@
 //! The files of rows and what their lines are.
 use crate::inputs::put_reading;
 use crate::kernels::put_kernel;
+use crate::lists::put_list;
 use crate::nets::put_verdict;
 use crate::operations::put_result;
 use crate::pairs::put_whole;
@@ -34,10 +35,12 @@ pub enum Rows {
     Queues,
     /// A net text and the text of its inputs.
     Inputs,
+    /// A list of words, each after a tab.
+    Lists,
 }
 
 /// The files, in the order in which they are answered.
-pub const FILES: [(&str, Rows); 16] = [
+pub const FILES: [(&str, Rows); 17] = [
     ("kernels.tsv", Rows::Kernels),
     ("guide.tsv", Rows::Kernels),
     ("lexer.tsv", Rows::Kernels),
@@ -54,6 +57,7 @@ pub const FILES: [(&str, Rows); 16] = [
     ("operations.tsv", Rows::Operations),
     ("queues.tsv", Rows::Queues),
     ("inputs.tsv", Rows::Inputs),
+    ("lists.tsv", Rows::Lists),
 ];
 
 /// What the lines of the file of this name are.
@@ -90,6 +94,7 @@ impl Rows {
             Rows::Operations => put_result(alloc, line, out),
             Rows::Queues => put_run(alloc, line, out),
             Rows::Inputs => put_reading(alloc, line, out),
+            Rows::Lists => put_list(alloc, line, out),
         }
     }
 

@@ -1,6 +1,6 @@
 //! The same words read with `clap`, a second reader beside the definition's.
 
-use crate::push_word;
+use crate::lists::push_word;
 use anyhow::{Result, bail};
 use clap::error::ErrorKind;
 use clap::{Arg, ArgAction, ArgMatches, Command};

@@ -1,37 +1,13 @@
-//! Answers given lists of words, one a line of the file of its folder: what they spell, read by the definition; and whether
-//! `clap`, a second reader, takes them otherwise.
-#![tactic(auto)]
-
-mod second;
-
+//! Lists of words: what they spell, read by the definition, and whether `clap`, a second reader, takes them otherwise.
 use crate::second::ordered;
 use anyhow::{Result, bail};
 use command_words::{Chosen, Command, read_words};
 use el_base::Memory;
 use row_fields::Output;
 use std::alloc::Global;
-use std::io::Write;
-use std::{fs, io};
-
-fn main(rt: HostRuntime) -> Result<()> {
-    let mut out = Output::new(rt.alloc());
-    put_answers(&rt, &mut out)?;
-    io::writer(&rt).write_all(out.finish()?.as_slice())?;
-    Ok(())
-}
-
-/// Writes the answers to the lines of the file.
-fn put_answers(rt: &HostRuntime, out: &mut Output) -> Result<()> {
-    let lists = fs::read_to_string(rt, "words.tsv")?;
-    for line in lists.as_str().lines().skip(1) {
-        put_answer(rt.alloc(), line, out)?;
-        out.word("\n");
-    }
-    Ok(())
-}
 
 /// Writes what the words of a line spell: the command with its plain words and its options in the order of the table.
-fn put_answer(alloc: Global, line: &str, out: &mut Output) -> Result<()> {
+pub fn put_list(alloc: Global, line: &str, out: &mut Output) -> Result<()> {
     let words = words_of(alloc, line)?;
     put_words(alloc, words.as_slice(), out)
 }
@@ -46,7 +22,7 @@ fn words_of(alloc: Global, line: &str) -> Result<Vec<String>> {
 }
 
 /// Adds a word.
-fn push_word(alloc: Global, words: &mut Vec<String>, word: &str) -> Result<()> {
+pub fn push_word(alloc: Global, words: &mut Vec<String>, word: &str) -> Result<()> {
     words.push(String::from_str(alloc, word)?)?;
     Ok(())
 }
