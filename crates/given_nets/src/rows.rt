@@ -1,10 +1,11 @@
 //! The files of rows and what their lines are.
+use crate::asked::{Asked, put_asked};
 use crate::links::put_calls;
-use crate::runs::{Asked, put_asked};
 use crate::timings::{put_placed, put_retimed};
 use anyhow::{Result, bail};
 use row_fields::Output;
 use std::alloc::Global;
+use std::thread::Threads;
 
 /// What the lines of a file are, after the first, which says so in words.
 #[derive(Clone, Copy, Debug, PartialEq, Eq)]
@@ -21,45 +22,91 @@ pub enum Rows {
     Changes,
     /// The slots of a link, and calls on its two ends in one thread.
     Links,
+    /// A net and inputs, how many workers, a limit, and the workers that sweep, in turn, with spaces between their numbers.
+    Sweeps,
+    /// A net and inputs, and a limit for one worker alone.
+    Alone,
+    /// A net and inputs, and how many workers meet.
+    Meetings,
 }
 
 /// The files, in the order in which they are answered.
-pub const FILES: [(&str, Rows); 6] = [
+pub const FILES: [(&str, Rows); 9] = [
     ("runs.tsv", Rows::Runs),
     ("replays.tsv", Rows::Replays),
     ("cycles.tsv", Rows::Cycles),
     ("places.tsv", Rows::Places),
     ("changes.tsv", Rows::Changes),
     ("links.tsv", Rows::Links),
+    ("sweeps.tsv", Rows::Sweeps),
+    ("alone.tsv", Rows::Alone),
+    ("meetings.tsv", Rows::Meetings),
 ];
 
 impl Rows {
     /// Writes the answers to the lines of a text after its first, one a line.
-    pub fn put_answers(self, alloc: Global, text: &str, out: &mut Output) -> Result<()> {
+    pub fn put_answers<R: Threads + Sync>(
+        self,
+        rt: &R,
+        alloc: Global,
+        text: &str,
+        out: &mut Output,
+    ) -> Result<()> {
         for line in text.lines().skip(1) {
-            self.put_answer(alloc, line, out)?;
+            self.put_answer(rt, alloc, line, out)?;
             out.word("\n");
         }
         Ok(())
     }
 
     /// Writes the answer to a line.
-    fn put_answer(self, alloc: Global, line: &str, out: &mut Output) -> Result<()> {
+    fn put_answer<R: Threads + Sync>(
+        self,
+        rt: &R,
+        alloc: Global,
+        line: &str,
+        out: &mut Output,
+    ) -> Result<()> {
         let fields: Vec<&str> = line.split('\t').collect(alloc)?;
-        self.put_fields(alloc, fields.as_slice(), out)
+        self.put_fields(rt, alloc, fields.as_slice(), out)
     }
 
     /// Writes the answer to the fields of a line.
-    fn put_fields(self, alloc: Global, fields: &[&str], out: &mut Output) -> Result<()> {
+    fn put_fields<R: Threads + Sync>(
+        self,
+        rt: &R,
+        alloc: Global,
+        fields: &[&str],
+        out: &mut Output,
+    ) -> Result<()> {
         match (self, fields) {
-            (Rows::Runs, [net, inputs]) => put_asked(alloc, net, inputs, Asked::Run, out),
-            (Rows::Replays, [net, inputs, schedule]) => {
-                put_asked(alloc, net, inputs, Asked::Replay(*schedule), out)
-            }
-            (Rows::Cycles, [net, inputs]) => put_asked(alloc, net, inputs, Asked::Cycles, out),
             (Rows::Places, [net, timing]) => put_placed(alloc, net, timing, out),
             (Rows::Changes, [net, changes]) => put_retimed(alloc, net, changes, out),
             (Rows::Links, [slots, calls]) => put_calls(alloc, slots, calls, out),
+            (rows, [net, inputs, rest @ ..]) => {
+                put_asked(rt, alloc, net, inputs, rows.asked(rest)?, out)
+            }
+            (rows, _) => bail!("a line of {rows:?} of other fields"),
+        }
+    }
+
+    /// What the fields of a line behind its net and its inputs ask for.
+    fn asked<'a>(self, fields: &[&'a str]) -> Result<Asked<'a>> {
+        match (self, fields) {
+            (Rows::Runs, []) => Ok(Asked::Run),
+            (Rows::Cycles, []) => Ok(Asked::Cycles),
+            (Rows::Replays, [schedule]) => Ok(Asked::Replay(*schedule)),
+            (Rows::Sweeps, [count, limit, turns]) => Ok(Asked::Sweeps {
+                count: count.parse()?,
+                limit: limit.parse()?,
+                turns: *turns,
+            }),
+            (Rows::Alone, [limit]) => Ok(Asked::Alone {
+                limit: limit.parse()?,
+            }),
+            (Rows::Meetings, [count]) => Ok(Asked::Meetings {
+                count: count.parse()?,
+            }),
             (rows, _) => bail!("a line of {rows:?} of other fields"),
         }
     }

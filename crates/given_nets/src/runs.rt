@@ -3,7 +3,6 @@ ghost use Rattle.net_types.specs.Inputs.{InputsFit};
 ghost use Rattle.net_core.specs.Runs.{AtRest};
 ghost use Rattle.net_core.specs.States.{CountsWithin, IsOf, state_of};
 
-use crate::nets::{inputs_of, net_of};
 use anyhow::{Context, Result, bail};
 use cycle_engine::run_cycles;
 use el_base::{Array, Log, MAX_SCHEDULE_BYTES, number};
@@ -30,66 +29,8 @@ enum Told {
     Cycles { made: u64, cycles: u64 },
 }
 
-/// What is asked of a net on inputs.
-#[derive(Clone, Copy)]
-pub enum Asked<'a> {
-    /// What a run by the plain runner ends with: a status, and the results with the number of firings, or what is wrong.
-    Run,
-    /// How many firings and cycles a run by cycles has, or what is wrong.
-    Cycles,
-    /// What the net comes to by a schedule: what it ends with where it is at rest, the least enabled firing and what is held
-    /// where it goes on, or why it is no run.
-    Replay(&'a str),
-}
-
-/// Writes what is asked of a net on inputs, or why the inputs are refused.
-pub fn put_asked(
-    alloc: Global,
-    net: &str,
-    inputs: &str,
-    asked: Asked<'_>,
-    out: &mut Output,
-) -> Result<()> {
-    let net = net_of(alloc, net)?;
-    put_on_net(alloc, &net, inputs, asked, out)
-}
-
-/// The same, on a net.
-fn put_on_net(
-    alloc: Global,
-    net: &Checked,
-    inputs: &str,
-    asked: Asked<'_>,
-    out: &mut Output,
-) -> Result<()> {
-    match inputs_of(alloc, net, inputs)? {
-        Ok(inputs) => put_on_inputs(alloc, net, &inputs, asked, out),
-        Err(refusal) => {
-            put_refusal(&refusal, out);
-            Ok(())
-        }
-    }
-}
-
-/// The same, on fitting inputs.
-fn put_on_inputs(
-    alloc: Global,
-    net: &Checked,
-    inputs: &Inputs,
-    asked: Asked<'_>,
-    out: &mut Output,
-) -> Result<()>
-    requires { InputsFit net.now inputs.now }
-{
-    match asked {
-        Asked::Run => put_run(alloc, net, inputs, out),
-        Asked::Cycles => put_cycles(alloc, net, inputs, out),
-        Asked::Replay(schedule) => put_replay(alloc, net, inputs, schedule, out),
-    }
-}
-
 /// Writes the line or the name of a refusal after its number and its word.
-fn put_refusal(refusal: &InputRefusal, out: &mut Output) {
+pub fn put_refusal(refusal: &InputRefusal, out: &mut Output) {
     out.word("6 ");
     out.show(refusal);
     put_line(refusal.line(), out);
@@ -108,7 +49,7 @@ fn put_line(line: Option<u32>, out: &mut Output) {
 }
 
 /// Runs the net and writes how the run ends.
-fn put_run(alloc: Global, net: &Checked, inputs: &Inputs, out: &mut Output) -> Result<()>
+pub fn put_run(alloc: Global, net: &Checked, inputs: &Inputs, out: &mut Output) -> Result<()>
     requires { InputsFit net.now inputs.now }
 {
     match State::new(alloc, net, inputs) {
@@ -133,7 +74,7 @@ fn put_finished(alloc: Global, net: &Checked, state: &mut State, out: &mut Outpu
 }
 
 /// Runs the net by cycles and writes how many firings and cycles the run has, or what is wrong.
-fn put_cycles(alloc: Global, net: &Checked, inputs: &Inputs, out: &mut Output) -> Result<()>
+pub fn put_cycles(alloc: Global, net: &Checked, inputs: &Inputs, out: &mut Output) -> Result<()>
     requires { InputsFit net.now inputs.now }
 {
     match run_cycles(alloc, net, inputs, LIMIT, true) {
@@ -149,7 +90,7 @@ fn put_cycles(alloc: Global, net: &Checked, inputs: &Inputs, out: &mut Output) -
 }
 
 /// Writes where a schedule leads, or why it is none.
-fn put_replay(
+pub fn put_replay(
     alloc: Global,
     net: &Checked,
     inputs: &Inputs,

@@ -1,6 +1,6 @@
 use Rattle.std.proofs.Common.{◌≡◌}
 use Rattle.worker_run.specs.Crews.{AllWhole, AreACrew}
-use Rattle.given_crews.proofs.sweeps.sweep_in_turn.Given as goal
+use Rattle.given_nets.proofs.sweeps.sweep_in_turn.Given as goal
 
 abbrev pub invariant-loop-turn : goal.invariant-loop-turn
 invariant-loop-turn l = record {

@@ -1,5 +1,6 @@
 //! One worker alone beside the plain runner.
 ghost use Rattle.std.specs.Prelude.{◌≤◌, ◌<◌};
+ghost use Rattle.net_core.specs.States.{CountsWithin, IsOf, state_of};
 ghost use Rattle.net_types.specs.Inputs.{InputsFit};
 ghost use Rattle.net_worker.specs.Shares.{max_share};
 ghost use Rattle.worker_run.specs.Crews.{AllWhole, AreACrew};
@@ -34,25 +35,52 @@ pub fn put_alone(
         "a limit of workers"
     );
     let plain = plain_firings(alloc, net, inputs, limit)?;
+    put_beside(alloc, net, inputs, limit, plain.as_slice(), out)
+}
+
+/// The same, of the firings of the plain runner.
+fn put_beside(
+    alloc: Global,
+    net: &Checked,
+    inputs: &Inputs,
+    limit: u64,
+    plain: &[Firing],
+    out: &mut Output,
+) -> Result<()>
+    requires fit { InputsFit net.now inputs.now }
+    requires one { 0 < limit }
+    requires limit { limit ≤ max_share }
+{
     let worker = worker_firings(alloc, net, inputs, limit)?;
-    put_compared(plain.as_slice(), worker.as_slice(), out);
+    put_compared(plain, worker.as_slice(), out);
     Ok(())
 }
 
 /// The firings of the plain runner, in their order.
-#[tactic(auto, using(crate::proofs::Counts::counts_within))]
 fn plain_firings(alloc: Global, net: &Checked, inputs: &Inputs, limit: u64) -> Result<Log<Firing>>
     requires fit { InputsFit net.now inputs.now }
     requires limit { limit ≤ max_share }
 {
-    let Ok(mut log) = Log::with_room(alloc, limit) else {
-        bail!("want of memory");
-    };
-    let Ok(mut state) = State::new(alloc, net, inputs) else {
-        bail!("want of memory");
-    };
-    let _ = finish(net, &mut state, 0, limit, true, &mut log);
-    Ok(log)
+    match State::new(alloc, net, inputs) {
+        Ok(mut state) => firings_from(alloc, net, &mut state, limit),
+        Err(_) => bail!("want of memory"),
+    }
+}
+
+/// The firings of the plain runner from an opening state, in their order.
+#[tactic(auto, using(crate::proofs::Counts::counts_within))]
+fn firings_from(alloc: Global, net: &Checked, state: &mut State, limit: u64) -> Result<Log<Firing>>
+    requires of { IsOf net.now state.old }
+    requires counts { CountsWithin 0 (state_of state.old) }
+    requires limit { limit ≤ max_share }
+{
+    match Log::with_room(alloc, limit) {
+        Ok(mut log) => {
+            let _ = finish(net, state, 0, limit, true, &mut log);
+            Ok(log)
+        }
+        Err(_) => bail!("want of memory"),
+    }
 }
 
 /// The firings of one worker that has all units, in their order.
@@ -61,14 +89,22 @@ fn worker_firings(alloc: Global, net: &Checked, inputs: &Inputs, limit: u64) -> 
     requires one { 0 < limit }
     requires limit { limit ≤ max_share }
 {
-    let Ok(mut crew) = workers(alloc, net, inputs, 1, limit) else {
-        bail!("want of memory");
-    };
-    sweep_to_end(&mut crew);
-    let Ok(log) = merged_log(alloc, &crew) else {
-        bail!("want of memory");
-    };
-    Ok(log)
+    match workers(alloc, net, inputs, 1, limit) {
+        Ok(mut crew) => firings_of(alloc, &mut crew),
+        Err(_) => bail!("want of memory"),
+    }
+}
+
+/// The firings of the first worker of a crew, in their order.
+fn firings_of(alloc: Global, crew: &mut Crew) -> Result<List<Firing>>
+    requires crew { AreACrew crew.old.tables crew.old.workers.items }
+    requires whole { AllWhole crew.old.tables crew.old.workers.items }
+{
+    sweep_to_end(crew);
+    match merged_log(alloc, crew) {
+        Ok(log) => Ok(log),
+        Err(_) => bail!("want of memory"),
+    }
 }
 
 /// Sweeps the first worker of a crew until a sweep makes no firing.

@@ -13,7 +13,7 @@ use el_base::{MAX_SHARED_FIRINGS, MAX_WORKERS};
 use net_check::Checked;
 use net_core::State;
 use net_replay::print_schedule;
-use net_types::Inputs;
+use net_types::{Firing, Inputs};
 use net_worker::{Entry, Swept};
 use row_fields::{Output, escaped};
 use std::alloc::Global;
@@ -55,10 +55,10 @@ fn put_made(
     requires one { 0 < limit }
     requires limit { limit ≤ max_share }
 {
-    let Ok(mut crew) = workers(alloc, net, inputs, count, limit) else {
-        bail!("want of memory");
-    };
-    put_turned(alloc, net, inputs, &mut crew, turns, out)
+    match workers(alloc, net, inputs, count, limit) {
+        Ok(mut crew) => put_turned(alloc, net, inputs, &mut crew, turns, out),
+        Err(_) => bail!("want of memory"),
+    }
 }
 
 /// The same, of a crew.
@@ -122,27 +122,44 @@ fn put_swept(
     out.word(" ");
     out.debug(&swept);
     for entry in log {
-        let Ok(text) = print_schedule(alloc, &[entry.firing]) else {
-            bail!("want of memory");
-        };
-        out.word(" ");
-        out.bytes(text.as_slice().trim_ascii_end());
-        out.word("@");
-        out.number(entry.stamp);
+        put_entry(alloc, entry, out)?;
     }
     out.word("; ");
     Ok(())
 }
 
+/// Writes an entry of a log behind a space: its firing and its stamp.
+fn put_entry(alloc: Global, entry: &Entry, out: &mut Output) -> Result<()> {
+    let Ok(text) = print_schedule(alloc, &[entry.firing]) else {
+        bail!("want of memory");
+    };
+    out.word(" ");
+    out.bytes(text.as_slice().trim_ascii_end());
+    out.word("@");
+    out.number(entry.stamp);
+    Ok(())
+}
+
 /// Writes the merged log of a crew, as a schedule.
 fn put_log(alloc: Global, crew: &Crew, out: &mut Output) -> Result<()> {
-    let Ok(merged) = merged_log(alloc, crew) else {
-        bail!("want of memory");
-    };
-    let Ok(schedule) = print_schedule(alloc, merged.as_slice()) else {
-        bail!("want of memory");
-    };
-    out.bytes(escaped(alloc, schedule.as_slice())?.as_slice());
+    match merged_log(alloc, crew) {
+        Ok(merged) => put_schedule(alloc, merged.as_slice(), out),
+        Err(_) => bail!("want of memory"),
+    }
+}
+
+/// Writes firings as a schedule.
+fn put_schedule(alloc: Global, firings: &[Firing], out: &mut Output) -> Result<()> {
+    match print_schedule(alloc, firings) {
+        Ok(schedule) => put_text(alloc, schedule.as_slice(), out),
+        Err(_) => bail!("want of memory"),
+    }
+}
+
+/// Writes a text as a field.
+fn put_text(alloc: Global, text: &[u8], out: &mut Output) -> Result<()> {
+    let field = escaped(alloc, text)?;
+    out.bytes(field.as_slice());
     out.word("; ");
     Ok(())
 }
@@ -160,11 +177,13 @@ fn put_gathered(
     requires inputs { inputs_of crew.old.tables ≡ inputs.now }
     requires whole { AllWhole crew.old.tables crew.old.workers.items }
 {
-    let Ok(mut state) = State::new(alloc, net, inputs) else {
-        bail!("want of memory");
-    };
-    put_result(net, crew, &mut state, out);
-    Ok(())
+    match State::new(alloc, net, inputs) {
+        Ok(mut state) => {
+            put_result(net, crew, &mut state, out);
+            Ok(())
+        }
+        Err(_) => bail!("want of memory"),
+    }
 }
 
 /// The same, with the opening state of the net.

@@ -1,6 +1,6 @@
 use Rattle.std.proofs.Common.{◌<◌, length}
 use Rattle.worker_run.specs.Crews.{AllWhole, AreACrew}
-use Rattle.given_crews.proofs.alone.sweep_to_end.Given as goal
+use Rattle.given_nets.proofs.alone.sweep_to_end.Given as goal
 
 abbrev pub invariant-sweeps : goal.invariant-sweeps
 invariant-sweeps l = record {

@@ -1,5 +1,5 @@
-use Rattle.given_crews.proofs.Turns.{crew_later, whole_later}
-use Rattle.given_crews.proofs.sweeps.sweep_one.Goals as goal
+use Rattle.given_nets.proofs.Turns.{crew_later, whole_later}
+use Rattle.given_nets.proofs.sweeps.sweep_one.Goals as goal
 
 pub invariant_of-crew : goal.invariant_of-crew
 invariant_of-crew c =

@@ -52,30 +52,30 @@ fn put_meeting<R: Threads + Sync>(
     requires most { count ≤ max_workers }
 {
     let gate = Meeting::new(alloc, count)?;
-    let made = firings(rt, alloc, net, inputs, count, &gate)?;
-    out.number(made);
-    out.word(" ");
-    out.word(gate.outcome());
-    out.word("; ");
-    ensure!(gate.outcome() == "met", "workers that did not meet");
-    Ok(())
+    put_met(rt, alloc, net, inputs, count, &gate, out)
 }
 
-/// How many firings a run makes whose workers ask a gate.
-fn firings<R: Threads + Sync>(
+/// Writes how many firings a run makes whose workers ask a gate, and whether they met there.
+fn put_met<R: Threads + Sync>(
     rt: &R,
     alloc: Global,
     net: &Checked,
     inputs: &Inputs,
     count: u32,
     gate: &Meeting,
-) -> Result<u64>
+    out: &mut Output,
+) -> Result<()>
     requires fit { InputsFit net.now inputs.now }
     requires some { 0 < count }
     requires most { count ≤ max_workers }
 {
-    let Ok(report) = run_workers(rt, alloc, net, inputs, count, LIMIT, false, gate) else {
-        bail!("a net that is refused");
-    };
-    Ok(report.firings)
+    match run_workers(rt, alloc, net, inputs, count, LIMIT, false, gate) {
+        Ok(report) => out.number(report.firings),
+        Err(_) => bail!("a net that is refused"),
+    }
+    out.word(" ");
+    out.word(gate.outcome());
+    out.word("; ");
+    ensure!(gate.outcome() == "met", "workers that did not meet");
+    Ok(())
 }
