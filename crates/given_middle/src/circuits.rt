@@ -5,7 +5,7 @@ use anyhow::{Context, Result, bail, ensure};
 use circuit_build::build;
 use el_base::MAX_INPUTS_BYTES;
 use el_io::Open;
-use ir::Ir;
+use ir::{Groups, Ir};
 use lsq_groups::groups;
 use net_check::{At, Checked, NetRefusal, check_net};
 use net_runs::{RunOptions, RunRefusal, run_text};
@@ -59,12 +59,22 @@ pub fn put_circuit<R: Threads + Sync>(
     let net = built(alloc, graph)?;
     ensure!(net.is_numbered(), "a net of too many units or channels");
     match check_net(alloc, net) {
-        Ok(net) => {
-            put_counts(graph, net.net(), out)?;
-            put_run(rt, alloc, &net, inputs, out)
-        }
+        Ok(net) => put_checked(rt, alloc, graph, &net, inputs, out),
         Err(broken) => put_broken(&broken, out),
     }
+}
+
+/// Writes the counts of a graph and of its circuit, and how its run on inputs ends.
+fn put_checked<R: Threads + Sync>(
+    rt: &R,
+    alloc: Global,
+    graph: &Ir,
+    net: &Checked,
+    inputs: &str,
+    out: &mut Output,
+) -> Result<()> {
+    put_counts(graph, net.net(), out)?;
+    put_run(rt, alloc, net, inputs, out)
 }
 
 /// The net that is built of a graph.
@@ -72,10 +82,15 @@ fn built(alloc: Global, graph: &Ir) -> Result<Net> {
     let within = graph.has_size_within(8_000_000);
     ensure!(within, "a graph that is too great");
     ensure!(u32::try_from(graph.arrays.len()).is_ok(), "too many arrays");
-    let Ok(groups) = groups(alloc, graph) else {
-        bail!("want of memory");
-    };
-    match build(alloc, graph, &groups) {
+    match groups(alloc, graph) {
+        Ok(groups) => built_of(alloc, graph, &groups),
+        Err(_) => bail!("want of memory"),
+    }
+}
+
+/// The net that is built of a graph, whose loads and stores stand in groups.
+fn built_of(alloc: Global, graph: &Ir, groups: &Groups) -> Result<Net> {
+    match build(alloc, graph, groups) {
         Ok(net) => Ok(net),
         Err(_) => bail!("want of memory"),
     }
@@ -140,12 +155,16 @@ fn put_run<R: Threads + Sync>(
 ) -> Result<()> {
     let text = text_within(alloc, inputs, MAX_INPUTS_BYTES)?;
     match run_text(rt, alloc, net, text.as_slice(), OPTIONS, &Open) {
-        Ok(results) => {
-            out.word("0 ");
-            out.bytes(escaped(alloc, results.as_slice())?.as_slice());
-        }
-        Err(refused) => put_refused(&refused, out)?,
+        Ok(results) => put_results(alloc, results.as_slice(), out),
+        Err(refused) => put_refused(&refused, out),
     }
+}
+
+/// Writes the status of a run that ended well, and its results.
+fn put_results(alloc: Global, results: &[u8], out: &mut Output) -> Result<()> {
+    let field = escaped(alloc, results)?;
+    out.word("0 ");
+    out.bytes(field.as_slice());
     Ok(())
 }
 
@@ -153,18 +172,13 @@ fn put_run<R: Threads + Sync>(
 fn put_refused(refused: &RunRefusal, out: &mut Output) -> Result<()> {
     match refused {
         RunRefusal::Limit { limit } => {
-            out.word("8 ");
-            out.show(refused);
+            put_status("8 ", refused, out);
             out.word(" ");
             out.number(*limit);
         }
-        RunRefusal::Stuck => {
-            out.word("9 ");
-            out.show(refused);
-        }
+        RunRefusal::Stuck => put_status("9 ", refused, out),
         RunRefusal::Stray { name, .. } => {
-            out.word("10 ");
-            out.show(refused);
+            put_status("10 ", refused, out);
             out.word(" ");
             out.bytes(name.as_slice());
         }
@@ -173,4 +187,10 @@ fn put_refused(refused: &RunRefusal, out: &mut Output) -> Result<()> {
         RunRefusal::Memory => bail!("want of memory"),
     }
     Ok(())
+}
+
+/// Writes a status, and the number and the word of a refusal.
+fn put_status(status: &str, refused: &RunRefusal, out: &mut Output) {
+    out.word(status);
+    out.show(refused);
 }

@@ -13,24 +13,33 @@ mod rows;
 mod stmts;
 mod walks;
 
-use crate::rows::FILES;
+use crate::rows::{FILES, Rows};
 use anyhow::Result;
 use row_fields::Output;
 use std::io::Write;
+use std::thread::Threads;
 use std::{fs, io};
 
 fn main(rt: HostRuntime) -> Result<()> {
     let mut out = Output::new(rt.alloc());
     for (name, rows) in FILES {
-        let text = fs::read_to_string(&rt, name)?;
-        out.word("== ");
-        out.word(name);
-        out.word("\n");
-        for line in text.as_str().lines().skip(1) {
-            rows.put_answer(&rt, rt.alloc(), line, &mut out)?;
-            out.word("\n");
-        }
+        put_file(&rt, &rt, name, rows, &mut out)?;
     }
     io::writer(&rt).write_all(out.finish()?.as_slice())?;
     Ok(())
+}
+
+/// Writes the answers to a file below its name.
+fn put_file<R: Threads + Sync>(
+    threads: &R,
+    rt: &HostRuntime,
+    name: &str,
+    rows: Rows,
+    out: &mut Output,
+) -> Result<()> {
+    let text = fs::read_to_string(rt, name)?;
+    out.word("== ");
+    out.word(name);
+    out.word("\n");
+    rows.put_answers(threads, rt.alloc(), text.as_str(), out)
 }

@@ -1,9 +1,9 @@
 //! Merged graphs, as text in the form in which graphs are told, without the word `times`.
 use crate::circuits::put_circuit;
 use crate::graphs::read_graph;
-use anyhow::{Context, Result, ensure};
+use anyhow::{Result, bail, ensure};
 use block_merge::merge;
-use ir::{Block, Instr, Jump, To};
+use ir::{Block, Instr, Ir, Jump, To};
 use row_fields::Output;
 use std::alloc::Global;
 use std::thread::Threads;
@@ -19,10 +19,23 @@ pub fn put_merged<R: Threads + Sync>(
     let graph = read_graph(alloc, graph)?;
     let within = graph.has_size_within(8_000_000);
     ensure!(within, "a graph that is too great");
-    let merged = merge(alloc, &graph).ok().context("want of memory")?;
-    put_blocks(merged.look(), out);
+    match merge(alloc, &graph) {
+        Ok(merged) => put_both(rt, alloc, &merged, inputs, out),
+        Err(_) => bail!("want of memory"),
+    }
+}
+
+/// Writes the blocks of a graph, and behind a tab what its circuit comes to on inputs, or that it has none.
+fn put_both<R: Threads + Sync>(
+    rt: &R,
+    alloc: Global,
+    graph: &Ir,
+    inputs: &str,
+    out: &mut Output,
+) -> Result<()> {
+    put_blocks(graph.look(), out);
     out.word("\t");
-    put_circuit(rt, alloc, &merged, inputs, out)
+    put_circuit(rt, alloc, graph, inputs, out)
 }
 
 fn put_blocks(blocks: &[Block], out: &mut Output) {

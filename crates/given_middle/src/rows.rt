@@ -43,8 +43,23 @@ pub const FILES: [(&str, Rows); 9] = [
 ];
 
 impl Rows {
+    /// Writes the answers to the lines of a text after its first, one a line.
+    pub fn put_answers<R: Threads + Sync>(
+        self,
+        rt: &R,
+        alloc: Global,
+        text: &str,
+        out: &mut Output,
+    ) -> Result<()> {
+        for line in text.lines().skip(1) {
+            self.put_answer(rt, alloc, line, out)?;
+            out.word("\n");
+        }
+        Ok(())
+    }
+
     /// Writes the answer to a line.
-    pub fn put_answer<R: Threads + Sync>(
+    fn put_answer<R: Threads + Sync>(
         self,
         rt: &R,
         alloc: Global,
@@ -52,7 +67,18 @@ impl Rows {
         out: &mut Output,
     ) -> Result<()> {
         let fields: Vec<&str> = line.split('\t').collect(alloc)?;
-        match (self, fields.as_slice()) {
+        self.put_fields(rt, alloc, fields.as_slice(), out)
+    }
+
+    /// Writes the answer to the fields of a line.
+    fn put_fields<R: Threads + Sync>(
+        self,
+        rt: &R,
+        alloc: Global,
+        fields: &[&str],
+        out: &mut Output,
+    ) -> Result<()> {
+        match (self, fields) {
             (Rows::Forms(places), [kernel]) => put_form(alloc, kernel, places, out),
             (Rows::Walks, [kernel, inputs]) => put_walk(alloc, kernel, inputs, out),
             (Rows::Arguments, [kernel]) => put_arguments(alloc, kernel, out),

@@ -1,6 +1,13 @@
 //! Walks along the block graphs of kernels.
+ghost use Rattle.std.specs.Prelude.{◌≡◌, ◌≤◌, map};
+ghost use Rattle.el_base.specs.Limits.{max_nodes};
+ghost use Rattle.c_ast.specs.Nodes.{typed_nodes};
+ghost use Rattle.c_meaning.specs.Headers.{flat};
+ghost use Rattle.c_meaning.specs.Lawful.{Lawful};
+
 use crate::kernels::{graph_of, inputs_of, kernel_of};
 use anyhow::{Result, bail};
+use c_ast::Typed;
 use el_base::{Array, number};
 use ir::{Ending, Ir, Walk};
 use kernel_graph::block_graph;
@@ -14,18 +21,56 @@ const LIMIT: u32 = 40_000;
 /// Writes what the graph of a kernel returns on inputs.
 pub fn put_walk(alloc: Global, kernel: &str, inputs: &str, out: &mut Output) -> Result<()> {
     let kernel = kernel_of(alloc, kernel)?;
-    let Ok(arrays) = flat_arrays(alloc, &kernel.typed) else {
-        bail!("want of memory");
-    };
-    let inputs = inputs_of(alloc, &kernel.typed, arrays.as_slice(), inputs)?;
-    let Ok(graph) = block_graph(alloc, &kernel.typed) else {
-        bail!("want of memory");
-    };
-    let Ok(walk) = graph.walk(alloc, inputs.scalars, inputs.arrays, LIMIT) else {
-        bail!("want of memory");
-    };
-    put_end(&graph, &walk, out);
-    Ok(())
+    put_typed(alloc, &kernel.typed, inputs, out)
+}
+
+/// The same, of a typed kernel.
+fn put_typed(alloc: Global, typed: &Typed, inputs: &str, out: &mut Output) -> Result<()>
+    requires lawful { Lawful typed.now }
+    requires few { typed_nodes typed.now ≤ max_nodes }
+{
+    match block_graph(alloc, typed) {
+        Ok(graph) => put_on_graph(alloc, typed, &graph, inputs, out),
+        Err(_) => bail!("want of memory"),
+    }
+}
+
+/// The same, of a typed kernel with its graph.
+fn put_on_graph(
+    alloc: Global,
+    typed: &Typed,
+    graph: &Ir,
+    inputs: &str,
+    out: &mut Output,
+) -> Result<()>
+    requires { Lawful typed.now }
+{
+    match flat_arrays(alloc, typed) {
+        Ok(arrays) => put_on_arrays(alloc, typed, graph, arrays.as_slice(), inputs, out),
+        Err(_) => bail!("want of memory"),
+    }
+}
+
+/// The same, of a typed kernel with its graph and its arrays.
+fn put_on_arrays(
+    alloc: Global,
+    typed: &Typed,
+    graph: &Ir,
+    arrays: &[Array],
+    inputs: &str,
+    out: &mut Output,
+) -> Result<()>
+    requires lawful { Lawful typed.now }
+    requires header { arrays.now ≡ map flat typed.now.arrays }
+{
+    let inputs = inputs_of(alloc, typed, arrays, inputs)?;
+    match graph.walk(alloc, inputs.scalars, inputs.arrays, LIMIT) {
+        Ok(walk) => {
+            put_end(graph, &walk, out);
+            Ok(())
+        }
+        Err(_) => bail!("want of memory"),
+    }
 }
 
 /// Writes how many arguments each block of the graph of a kernel has, but block 0.
