@@ -28,7 +28,7 @@
 #   net, alone and among up to a million idle units, and on forks of up to 65,536 outputs, beside the plain runner; and runs
 #   by one, two, four and 64 workers beside runs by cycles, with the most memory of each.
 #   At last it counts instructions of some calls and compares them with docs/TIMES.md, where valgrind is there.
-#   With BEFORE=PROGRAM another bench_text is timed beside this one. BENCH_ACTS, BENCH_SIZE and the like give other sizes.
+#   With BEFORE=PROGRAM another build of benches is timed beside this one. BENCH_ACTS, BENCH_SIZE and the like give other sizes.
 # instructions: that count alone.
 # stack: reads long and deep kernel texts, and compiles and runs long chains of operators, with a stack of 1 MiB, and helpers
 #   that nest deepest with one of 4 MiB.
@@ -128,19 +128,19 @@ memory:
 	@python3 tools/memories.py
 
 bench: build
-	@cd crates/bench_graphs && rt run -- compile ../../examples/fir/kernel.c 1
-	@sh tools/bench_compile.sh crates/bench_graphs/out/bench_graphs crates/elastic/out/elastic
-	@cd crates/bench_text && rt run -- front ../../examples/sum/kernel.c 1
-	@sh tools/bench_front.sh crates/bench_text/out/bench_text $(BEFORE)
-	@cd crates/bench_runs && rt run -- queue $(BENCH_ACTS)
-	@cd crates/bench_graphs && rt run -- place $(BENCH_SIZE)
-	@sh tools/bench_inputs.sh crates/bench_text/out/bench_text
-	@cd crates/bench_graphs && rt run -- args $(BENCH_BLOCKS) $(BENCH_VARIABLES)
-	@cd crates/bench_graphs && rt run -- merge $(BENCH_BLOCKS)
-	@cd crates/bench_graphs && rt run -- build $(BENCH_SIZE)
-	@sh tools/bench_ref.sh crates/bench_runs/out/bench_runs $(BENCH_ROUNDS)
-	@sh tools/bench_core.sh crates/bench_runs/out/bench_runs examples/histogram/net.txt $(BENCH_FIRINGS)
-	@sh tools/bench_cycles.sh crates/bench_runs/out/bench_runs examples/histogram/net.txt $(BENCH_TURNS)
+	@cd crates/benches && rt run -- compile ../../examples/fir/kernel.c 1
+	@sh tools/bench_compile.sh crates/benches/out/benches crates/elastic/out/elastic
+	@cd crates/benches && rt run -- front ../../examples/sum/kernel.c 1
+	@sh tools/bench_front.sh crates/benches/out/benches $(BEFORE)
+	@cd crates/benches && rt run -- queue $(BENCH_ACTS)
+	@cd crates/benches && rt run -- place $(BENCH_SIZE)
+	@sh tools/bench_inputs.sh crates/benches/out/benches
+	@cd crates/benches && rt run -- args $(BENCH_BLOCKS) $(BENCH_VARIABLES)
+	@cd crates/benches && rt run -- merge $(BENCH_BLOCKS)
+	@cd crates/benches && rt run -- build $(BENCH_SIZE)
+	@sh tools/bench_ref.sh crates/benches/out/benches $(BENCH_ROUNDS)
+	@sh tools/bench_core.sh crates/benches/out/benches examples/histogram/net.txt $(BENCH_FIRINGS)
+	@sh tools/bench_cycles.sh crates/benches/out/benches examples/histogram/net.txt $(BENCH_TURNS)
 	@tools/bench_workers.py $(PROGRAM)
 	@python3 tools/instructions.py
 

@@ -65,11 +65,11 @@ def calls(folder):
     net, countdown = (str(pathlib.Path("examples", name, "net.txt").resolve()) for name in ("histogram", "countdown"))
     return {
         PRINTING: [program("elastic"), "ref", "copy.c", "elements"],
-        "placing buffers on some 20,000 channels": [program("bench_graphs"), "place", "20000"],
-        f"a histogram among {IDLE_LOOPS:,} idle loops, by cycles": [program("bench_runs"), "cycles", "idle.net", "idle"],
-        "a countdown from 20,000, by cycles": [program("bench_runs"), "cycles", countdown, "count"],
-        "a countdown from 6,000 with delays of 100, by cycles": [program("bench_runs"), "cycles", "slow.net", "slow"],
-        "a histogram by the plain runner": [program("bench_runs"), "core", net, "histogram", "28672", "1"],
+        "placing buffers on some 20,000 channels": [program("benches"), "place", "20000"],
+        f"a histogram among {IDLE_LOOPS:,} idle loops, by cycles": [program("benches"), "cycles", "idle.net", "idle"],
+        "a countdown from 20,000, by cycles": [program("benches"), "cycles", countdown, "count"],
+        "a countdown from 6,000 with delays of 100, by cycles": [program("benches"), "cycles", "slow.net", "slow"],
+        "a histogram by the plain runner": [program("benches"), "core", net, "histogram", "28672", "1"],
     }
 
 

@@ -1,9 +1,0 @@
-use Rattle.net_core.specs.States.{IsOf, state_of}
-use Rattle.bench_runs.specs.Sweeps.{MaySweep}
-use Rattle.bench_runs.proofs.sweeps.sweep.Given as goal
-
-abbrev pub invariant-loop-firing : goal.invariant-loop-firing
-invariant-loop-firing l = record {
-  of : IsOf l.net l.state;
-  may : MaySweep (state_of l.state) l.tally;
-}
