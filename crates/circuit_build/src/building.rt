@@ -1,5 +1,6 @@
 //! The net of a block graph.
-ghost use Rattle.std.specs.Prelude.{◌≡◌, IfOk};
+ghost use Rattle.std.specs.Prelude.{◌≡◌, [], IfOk, OnOk};
+ghost use Rattle.ir.specs.declared.groups.Groups.{Groups as GroupsValue};
 ghost use Rattle.circuit_build.specs.Built.{front_of, with_blocks, whole_draft, built};
 ghost use Rattle.circuit_build.specs.Edges.{edge_counts};
 ghost use Rattle.circuit_build.specs.Follows.{CompletesIfAsked, FollowsIfAsked};
@@ -9,7 +10,7 @@ use crate::blocks::ins_of;
 use crate::draft::{Draft, number};
 use crate::edges::{count_at, edge_counts};
 use crate::fronts::start;
-use el_base::{Memory, copy_arrays, copy_scalars};
+use el_base::{List, Memory, copy_arrays, copy_scalars};
 use ir::{Groups, Ir};
 use net_core::spent_is_at_rest;
 use net_types::Net;
@@ -44,20 +45,57 @@ fn lay_to_blocks(
     Ok(draft)
 }
 
+// What stands behind the blocks, and the channels of the edges to merges.
+fn lay_end(alloc: Global, draft: &mut Draft, graph: &Ir, counts: &[u32]) -> Result<(), Memory>
+    requires { counts.now ≡ edge_counts graph.now.blocks }
+    ensures { (groups : GroupsValue) → draft.old ≡ with_blocks graph.now groups
+        → OnOk result (draft.new ≡ whole_draft graph.now groups) }
+{
+    let blocks = graph.blocks.as_slice();
+    let join = number(blocks.len());
+    draft.lay_feeders(alloc, counts, blocks)?;
+    draft.lay_last_feeder(alloc, count_at(counts, join), join, graph.result)?;
+    draft.lay_join(alloc, ins_of(counts, join), join, graph.result)?;
+    draft.connect(alloc, blocks.len() + 1)
+}
+
+// All units and channels, by the counts of edges.
+fn lay_counted(alloc: Global, graph: &Ir, groups: &Groups, counts: &[u32]) -> Result<Draft, Memory>
+    requires { counts.now ≡ edge_counts graph.now.blocks }
+    ensures { IfOk result (λ d. d ≡ whole_draft graph.now groups.now) }
+{
+    let mut draft = lay_to_blocks(alloc, graph, groups, counts)?;
+    lay_end(alloc, &mut draft, graph, counts)?;
+    Ok(draft)
+}
+
 // All units and channels.
 fn lay_all(alloc: Global, graph: &Ir, groups: &Groups) -> Result<Draft, Memory>
     ensures { IfOk result (λ d. d ≡ whole_draft graph.now groups.now) }
 {
-    let blocks = graph.blocks.as_slice();
-    let join = number(blocks.len());
-    let counts = edge_counts(alloc, blocks)?;
-    let counts = counts.as_slice();
-    let mut draft = lay_to_blocks(alloc, graph, groups, counts)?;
-    draft.lay_feeders(alloc, counts, blocks)?;
-    draft.lay_last_feeder(alloc, count_at(counts, join), join, graph.result)?;
-    draft.lay_join(alloc, ins_of(counts, join), join, graph.result)?;
-    draft.connect(alloc, blocks.len() + 1)?;
-    Ok(draft)
+    let counts = edge_counts(alloc, graph.blocks.as_slice())?;
+    lay_counted(alloc, graph, groups, counts.as_slice())
+}
+
+// The header of a graph, before any unit.
+fn header(alloc: Global, graph: &Ir) -> Result<Net, Memory>
+    ensures { IfOk result (λ net. net ≡ record {
+      name = graph.now.name;
+      scalars = graph.now.scalars;
+      arrays = graph.now.arrays;
+      result = graph.now.result;
+      units = [];
+      chans = [];
+    }) }
+{
+    Ok(Net {
+        name: graph.name.copy()?,
+        scalars: copy_scalars(alloc, graph.scalars.as_slice())?,
+        arrays: copy_arrays(alloc, graph.arrays.as_slice())?,
+        result: graph.result,
+        units: List::new(alloc),
+        chans: List::new(alloc),
+    })
 }
 
 /// The net of a block graph, with the accesses of its blocks in order.
@@ -78,13 +116,9 @@ pub fn build(alloc: Global, graph: &Ir, groups: &Groups) -> Result<Net, Memory>
     ensures completes { IfOk result (CompletesIfAsked graph.now groups.now) }
 {
     spent_is_at_rest();
-    let draft = lay_all(alloc, graph, groups)?;
-    Ok(Net {
-        name: graph.name.copy()?,
-        scalars: copy_scalars(alloc, graph.scalars.as_slice())?,
-        arrays: copy_arrays(alloc, graph.arrays.as_slice())?,
-        result: graph.result,
-        units: draft.units,
-        chans: draft.chans,
-    })
+    let mut net = header(alloc, graph)?;
+    let Draft { units, chans, .. } = lay_all(alloc, graph, groups)?;
+    net.units = units;
+    net.chans = chans;
+    Ok(net)
 }

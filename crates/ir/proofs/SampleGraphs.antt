@@ -1,5 +1,5 @@
 -- The worked graph is well formed.
-use Rattle.std.proofs.Common.{◌≡◌, ℕ, List, [], ◌∷◌, refl, sym, subst, arith, inl, inr}
+use Rattle.std.proofs.Common.{ℕ, List, [], ◌∷◌, refl, arith, inl, inr}
 use Rattle.std.specs.Prelude.{All}
 use Rattle.std.proofs.lemmas.List.Elements.{All-cons, All-nil}
 use Rattle.el_base.specs.declared.ty.Ty.TheVariants.{U32}
@@ -50,7 +50,7 @@ module _ (name n a : List ℕ) where
   end : IsBlock g end_block
   end = record { args = one_width; steps = tt; jump = refl }
 
-  sample_is_graph : IsGraph g
+  pub sample_is_graph : IsGraph g
   sample_is_graph =
       let P = IsBlock g in
       record {
@@ -60,6 +60,3 @@ module _ (name n a : List ℕ) where
         first = refl;
         scalars = refl;
       }
-
-pub is_sample : (g : Graph) (name n a : List ℕ) → g ≡ sample_graph name n a → IsGraph g
-is_sample g name n a e = subst IsGraph (sym e) (sample_is_graph name n a)

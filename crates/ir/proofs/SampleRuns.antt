@@ -5,6 +5,7 @@ use Rattle.word_ops.specs.Operations.{op1_on, op2_on, op1_result, op2_result}
 use Rattle.ir.specs.Visits.{Finishes, over_visits, strays_of}
 use Rattle.ir.specs.Graphs.{Graph, passage, weight, size}
 use Rattle.ir.specs.Accesses.{IsStoredTo, GroupsShare}
+use Rattle.ir.proofs.SampleGraphs.{sample_is_graph}
 use Rattle.ir.specs.Sample.{body_block, sample_graph, sample_first, sample_rest, sample_groups, SamplesRun}
 
 module _ (name n a : List ℕ) where
@@ -38,4 +39,11 @@ module _ (name n a : List ℕ) where
 
 pub samples_run : SamplesRun
 samples_run name n a =
-    record { finishes = finishes name n a; strays = strays name n a; weight_is = weights name n a; size_is = sizes name n a; groups = groups name n a }
+    record {
+      formed = sample_is_graph name n a;
+      finishes = finishes name n a;
+      strays = strays name n a;
+      weight_is = weights name n a;
+      size_is = sizes name n a;
+      groups = groups name n a;
+    }

@@ -10,7 +10,7 @@ use Rattle.ir.specs.declared.graph.Block.{Block}
 use Rattle.ir.specs.declared.graph.Jump.TheVariants as jump
 use Rattle.ir.specs.declared.groups.Groups.{Groups}
 use Rattle.ir.specs.Visits.{Visit, Finishes, over_visits, strays_of}
-use Rattle.ir.specs.Graphs.{Graph, passage, first_visit, weight, size}
+use Rattle.ir.specs.Graphs.{Graph, IsGraph, passage, first_visit, weight, size}
 use Rattle.ir.specs.Accesses.{GroupsShare}
 
 -- the count begins at 0
@@ -63,6 +63,7 @@ sample_groups = record { read_only = false ∷ []; of = record { block = 2; arra
 
 -- what is computed of the graph by the definitions
 pub record SampleRun (g : Graph) : Type 0 where
+  pub formed : IsGraph g
   pub finishes : Finishes (passage g) sample_first sample_rest (Some 3) ((6 ∷ 8 ∷ []) ∷ [])
   pub strays : strays_of (passage g) (sample_first ∷ sample_rest) ≡ 2
   pub weight_is : over_visits (weight g) (sample_first ∷ sample_rest) ≡ 68

@@ -18,4 +18,4 @@ pub use groups::{Access, Groups};
 pub use instr::Instr;
 pub use laws::{graphs_are_strict, renamed_steps_do_the_same, renamed_steps_fit};
 pub use walk::{Ending, Walk};
-pub use worked::{sample, samples_run};
+pub use worked::samples_run;
