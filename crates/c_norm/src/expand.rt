@@ -249,6 +249,7 @@ fn joined(
 }
 
 /// An operator with both its operands.
+#[inline(never)]
 pub(crate) fn operation(
     alloc: Global,
     op: Binary,
@@ -303,6 +304,7 @@ fn decided_out(
 }
 
 /// Sets a new variable to the truth of `&&` or `||`.
+#[inline(never)]
 fn set_logical(
     alloc: Global,
     decided: bool,
@@ -366,6 +368,7 @@ fn choose(
 }
 
 /// `?:` with both its sides.
+#[inline(never)]
 fn kept(
     alloc: Global,
     cond: TypedExpr,
@@ -381,6 +384,7 @@ fn kept(
 }
 
 /// Sets a new variable to the value of the side of `?:` that is evaluated.
+#[inline(never)]
 fn set_choice(
     alloc: Global,
     e: &TypedExpr,
