@@ -9,7 +9,7 @@ ghost use Rattle.c_norm.specs.Code.{HasRoom, IsOut, AreOut, set_out, IsMade, pla
 ghost use Rattle.c_norm.specs.Expand.{decided_by, set_all};
 ghost use Rattle.c_norm.specs.Forms.{object_kind, cast_to, new_value, target_with, assignment_form, step_form};
 
-use crate::expand::{decided_by, expand, expand_all};
+use crate::expand::{decided_by, expand, expand_all, operation};
 use crate::settings::{fresh, put, setting};
 use crate::types::object_type;
 use c_ast::{
@@ -202,9 +202,25 @@ fn update(
 ) -> Result<NormalStmtKind, Memory>
     ensures { IfOk result (λ k. k ≡ update_of target op ty joint value at) }
 {
-    let old = object_value(target.copy(alloc)?, ty);
-    let value = new_value(alloc, op, ty, joint, old, value, at)?;
+    let value = updated(alloc, &target, op, ty, joint, value, at)?;
     Ok(NormalStmtKind::Assign { target, value })
+}
+
+/// The old value of a target of type `ty`, joined with another value in the type `joint`.
+fn updated(
+    alloc: Global,
+    target: &TypedTarget,
+    op: Binary,
+    ty: Ty,
+    joint: Ty,
+    value: TypedExpr,
+    at: Span,
+) -> Result<TypedExpr, Memory>
+    ensures { IfOk result (λ e. e ≡ new_value (decided_by op) op ty joint
+        (of_type (object_kind target.now.to target.now.indices) ty target.now.at) value at) }
+{
+    let old = object_value(target.copy(alloc)?, ty);
+    new_value(alloc, op, ty, joint, old, value, at)
 }
 
 /// The value of an object.
@@ -233,17 +249,30 @@ fn new_value(
 {
     match decided_by(op) {
         Some(_) => Ok(number(0, ty, at)),
-        None => {
-            let left = Boxed::new(alloc, cast_to(alloc, joint, old)?)?;
-            let right = Boxed::new(alloc, value)?;
-            let joined = TypedExpr {
-                kind: TypedExprKind::Binary(op, left, right),
-                ty: result_type(op, joint),
-                at,
-            };
-            cast_to(alloc, ty, joined)
-        }
+        None => joined_value(alloc, op, ty, joint, old, value, at),
     }
+}
+
+/// The new value of a target by an operator that evaluates both its operands.
+fn joined_value(
+    alloc: Global,
+    op: Binary,
+    ty: Ty,
+    joint: Ty,
+    old: TypedExpr,
+    value: TypedExpr,
+    at: Span,
+) -> Result<TypedExpr, Memory>
+    ensures { IfOk result (λ e. e ≡ new_value None op ty joint old value at) }
+{
+    let old = cast_to(alloc, joint, old)?;
+    let kind = operation(alloc, op, old, value)?;
+    let joined = TypedExpr {
+        kind,
+        ty: result_type(op, joint),
+        at,
+    };
+    cast_to(alloc, ty, joined)
 }
 
 /// A conversion that is written.

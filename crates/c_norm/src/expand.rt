@@ -1,14 +1,15 @@
 //! Expressions are expanded: what must be set for them is set before, and what is left stays an expression.
-ghost use Rattle.std.specs.Prelude.{◌≡◌, ◌+◌, ◌≤◌, ◌&&◌, length, Some, None, IfOk, OnOk};
+ghost use Rattle.std.specs.Prelude.{◌≡◌, ◌+◌, ◌≤◌, ◌&&◌, [], ◌∷◌, ◌++◌, length, Some, None, IfOk, OnOk};
+ghost use Rattle.el_base.specs.declared.ty.Ty.TheVariants.{I32};
 ghost use Rattle.c_ast.specs.declared.typed.TypedExprKind.TheVariants as expr;
 ghost use Rattle.c_ast.specs.Nodes.{typed_expr_nodes, typed_exprs_nodes};
 ghost use Rattle.c_ast.specs.Casts.{of_type};
 ghost use Rattle.c_norm.specs.Code.{HasRoom, IsExpanded, AreOut};
-ghost use Rattle.c_norm.specs.Expand.{decided_by, expand_all};
+ghost use Rattle.c_norm.specs.Expand.{decided_by, expand_all, side, choice, logical};
 
 use crate::settings::{choice, fresh, logical, side};
 use c_ast::{Binary, NormalStmt, TypedExpr, TypedExprKind, Unary};
-use el_base::{Boxed, List, Memory, Ty};
+use el_base::{Boxed, List, Memory, Span, Ty};
 use std::alloc::Global;
 
 /// What is left of an expression, and whether the expression reads no array: then nothing is set for it, and all of it is left.
@@ -78,6 +79,13 @@ fn left_of(e: &TypedExpr, kind: TypedExprKind, plain: bool) -> Rest
         },
         plain,
     }
+}
+
+/// A side of a choice: what is set for its value, and the value.
+#[derive(Drop)]
+struct Side {
+    before: List<NormalStmt>,
+    value: TypedExpr,
 }
 
 fn neither_reads(first: &Rest, second: &Rest) -> bool
@@ -236,9 +244,23 @@ fn joined(
     let first = expand(alloc, left, before, vars)?;
     let second = expand(alloc, right, before, vars)?;
     let plain = neither_reads(&first, &second);
-    let left = Boxed::new(alloc, first.expr)?;
-    let right = Boxed::new(alloc, second.expr)?;
-    Ok(left_of(e, TypedExprKind::Binary(op, left, right), plain))
+    let kind = operation(alloc, op, first.expr, second.expr)?;
+    Ok(left_of(e, kind, plain))
+}
+
+/// An operator with both its operands.
+#[inline(never)]
+pub(crate) fn operation(
+    alloc: Global,
+    op: Binary,
+    left: TypedExpr,
+    right: TypedExpr,
+) -> Result<TypedExprKind, Memory>
+    ensures { IfOk result (λ k. k ≡ expr.Binary op left right) }
+{
+    let left = Boxed::new(alloc, left)?;
+    let right = Boxed::new(alloc, right)?;
+    Ok(TypedExprKind::Binary(op, left, right))
 }
 
 /// `&&` or `||`. What is set for the right operand is kept apart: it is set where that operand is evaluated.
@@ -265,13 +287,44 @@ fn decided_out(
     let second = expand(alloc, right, &mut inside, vars)?;
     let plain = neither_reads(&first, &second);
     if plain {
-        let left = Boxed::new(alloc, first.expr)?;
-        let right = Boxed::new(alloc, second.expr)?;
-        return Ok(left_of(e, TypedExprKind::Binary(op, left, right), true));
+        let kind = operation(alloc, op, first.expr, second.expr)?;
+        return Ok(left_of(e, kind, true));
     }
-    let var = fresh(vars, Ty::I32)?;
-    before.push(logical(alloc, decided, var, first.expr, inside, second.expr, e.at)?)?;
+    let var = set_logical(
+        alloc,
+        decided,
+        first.expr,
+        inside,
+        second.expr,
+        e.at,
+        before,
+        vars,
+    )?;
     Ok(left_of(e, TypedExprKind::Var(var), false))
+}
+
+/// Sets a new variable to the truth of `&&` or `||`.
+#[inline(never)]
+fn set_logical(
+    alloc: Global,
+    decided: bool,
+    left: TypedExpr,
+    inside: List<NormalStmt>,
+    right: TypedExpr,
+    at: Span,
+    before: &mut List<NormalStmt>,
+    vars: &mut List<Ty>,
+) -> Result<u32, Memory>
+    requires { HasRoom vars.old 1 }
+    ensures number { IfOk result (λ v. v ≡ length vars.old) }
+    ensures set { IfOk result (λ v.
+        before.new ≡ before.old ++ logical decided v left inside right at ∷ []) }
+    ensures made { OnOk result (vars.new ≡ vars.old ++ I32 ∷ []) }
+{
+    let var = fresh(vars, Ty::I32)?;
+    let set = logical(alloc, decided, var, left, inside, right, at)?;
+    before.push(set)?;
+    Ok(var)
 }
 
 /// `?:`. What is set for a side is kept apart: it is set where that side is evaluated.
@@ -299,14 +352,80 @@ fn choose(
     let second = expand(alloc, other, &mut inside_other, vars)?;
     let plain = neither_reads(&first, &second);
     if plain {
-        let cond = Boxed::new(alloc, test.expr)?;
-        let then = Boxed::new(alloc, first.expr)?;
-        let other = Boxed::new(alloc, second.expr)?;
-        return Ok(left_of(e, TypedExprKind::Choose(cond, then, other), test.plain));
+        let kind = kept(alloc, test.expr, first.expr, second.expr)?;
+        return Ok(left_of(e, kind, test.plain));
     }
-    let var = fresh(vars, e.ty)?;
-    let then = side(alloc, var, inside, first.expr, e.at)?;
-    let other = side(alloc, var, inside_other, second.expr, e.at)?;
-    before.push(choice(alloc, test.expr, then, other, e.at))?;
+    let then = Side {
+        before: inside,
+        value: first.expr,
+    };
+    let other = Side {
+        before: inside_other,
+        value: second.expr,
+    };
+    let var = set_choice(alloc, e, test.expr, then, other, before, vars)?;
     Ok(left_of(e, TypedExprKind::Var(var), false))
+}
+
+/// `?:` with both its sides.
+#[inline(never)]
+fn kept(
+    alloc: Global,
+    cond: TypedExpr,
+    then: TypedExpr,
+    other: TypedExpr,
+) -> Result<TypedExprKind, Memory>
+    ensures { IfOk result (λ k. k ≡ expr.Choose cond then other) }
+{
+    let cond = Boxed::new(alloc, cond)?;
+    let then = Boxed::new(alloc, then)?;
+    let other = Boxed::new(alloc, other)?;
+    Ok(TypedExprKind::Choose(cond, then, other))
+}
+
+/// Sets a new variable to the value of the side of `?:` that is evaluated.
+#[inline(never)]
+fn set_choice(
+    alloc: Global,
+    e: &TypedExpr,
+    cond: TypedExpr,
+    then: Side,
+    other: Side,
+    before: &mut List<NormalStmt>,
+    vars: &mut List<Ty>,
+) -> Result<u32, Memory>
+    requires { HasRoom vars.old 1 }
+    ensures number { IfOk result (λ v. v ≡ length vars.old) }
+    ensures set { IfOk result (λ v. before.new ≡ before.old
+        ++ choice v cond (side v then.before then.value e.now.at)
+        (side v other.before other.value e.now.at) e.now.at ∷ []) }
+    ensures made { OnOk result (vars.new ≡ vars.old ++ e.now.ty ∷ []) }
+{
+    let var = fresh(vars, e.ty)?;
+    let set = choice_of(alloc, var, cond, then, other, e.at)?;
+    before.push(set)?;
+    Ok(var)
+}
+
+/// The choice that sets a variable to the value of a side.
+fn choice_of(
+    alloc: Global,
+    var: u32,
+    cond: TypedExpr,
+    then: Side,
+    other: Side,
+    at: Span,
+) -> Result<NormalStmt, Memory>
+    ensures { IfOk result (λ s. s ≡ choice var cond (side var then.before then.value at)
+        (side var other.before other.value at) at) }
+{
+    let then = side_of(alloc, var, then, at)?;
+    let other = side_of(alloc, var, other, at)?;
+    Ok(choice(alloc, cond, then, other, at))
+}
+
+fn side_of(alloc: Global, var: u32, of: Side, at: Span) -> Result<Boxed<NormalStmt>, Memory>
+    ensures { IfOk result (λ s. s ≡ side var of.before of.value at) }
+{
+    side(alloc, var, of.before, of.value, at)
 }

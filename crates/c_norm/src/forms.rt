@@ -1,5 +1,5 @@
 //! Statements: each becomes a list of statements, and each part of `if` and of a loop a block.
-ghost use Rattle.std.specs.Prelude.{◌≡◌, ◌+◌, ◌≤◌, length, IfOk, OnOk};
+ghost use Rattle.std.specs.Prelude.{◌≡◌, ◌+◌, ◌≤◌, [], length, IfOk, OnOk};
 ghost use Rattle.c_ast.specs.declared.typed.TypedStmtKind.TheVariants as act;
 ghost use Rattle.c_ast.specs.Nodes.{
   typed_expr_nodes,
@@ -10,6 +10,7 @@ ghost use Rattle.c_ast.specs.Nodes.{
 };
 ghost use Rattle.c_norm.specs.Code.{
   HasRoom,
+  IsExpanded,
   IsMade,
   IsOptional,
   IsBlock,
@@ -19,12 +20,26 @@ ghost use Rattle.c_norm.specs.Code.{
 };
 
 use crate::assignments::{assignment, step};
-use crate::expand::expand;
+use crate::expand::{Rest, expand};
 use crate::settings::put;
 use crate::types::step_operator;
 use c_ast::{NormalStmt, NormalStmtKind, Typed, TypedExpr, TypedStmt, TypedStmtKind};
 use el_base::{Boxed, List, Memory, Ty};
 use std::alloc::Global;
+
+/// A condition: what is set for it, and what is left of it.
+#[derive(Drop)]
+struct Condition {
+    before: List<NormalStmt>,
+    rest: Rest,
+}
+
+/// The same of a condition that may be absent.
+#[derive(Drop)]
+struct OptionalCondition {
+    before: List<NormalStmt>,
+    left: Option<TypedExpr>,
+}
 
 /// The statements that one is made of go behind `out`, and the variables that are made for them behind `vars`.
 #[cycle(form)]
@@ -189,6 +204,38 @@ fn optional(
     }
 }
 
+/// Expands a condition: what is set for it is kept apart.
+fn expand_condition(
+    alloc: Global,
+    cond: &TypedExpr,
+    vars: &mut List<Ty>,
+) -> Result<Condition, Memory>
+    requires { HasRoom vars.old (typed_expr_nodes cond.now) }
+    ensures expanded { IfOk result (λ c.
+        IsExpanded cond.now [] vars.old c.before vars.new c.rest.expr c.rest.plain) }
+    ensures few { OnOk result (length vars.new + 1 ≤ length vars.old + typed_expr_nodes cond.now) }
+{
+    let mut before = List::new(alloc);
+    let rest = expand(alloc, cond, &mut before, vars)?;
+    Ok(Condition { before, rest })
+}
+
+/// Expands a condition that may be absent: what is set for it is kept apart.
+fn expand_optional_condition(
+    alloc: Global,
+    cond: &Option<TypedExpr>,
+    vars: &mut List<Ty>,
+) -> Result<OptionalCondition, Memory>
+    requires { HasRoom vars.old (typed_opt_nodes cond.now) }
+    ensures expanded { IfOk result (λ c.
+        IsOptional cond.now [] vars.old c.before vars.new c.left) }
+    ensures few { OnOk result (length vars.new ≤ length vars.old + typed_opt_nodes cond.now) }
+{
+    let mut before = List::new(alloc);
+    let left = optional(alloc, cond, &mut before, vars)?;
+    Ok(OptionalCondition { before, left })
+}
+
 #[cycle(form)]
 fn block(
     alloc: Global,
@@ -268,13 +315,12 @@ fn choice(
         (IsMade (stmt_form typed.now (length vars.old) stmt.now)
         out.old vars.old out.new vars.new) }
 {
-    let mut before = List::new(alloc);
-    let test = expand(alloc, cond, &mut before, vars)?;
+    let test = expand_condition(alloc, cond, vars)?;
     let then = inside(alloc, typed, then, vars)?;
     let other = held(alloc, typed, other, vars)?;
     let kind = NormalStmtKind::If {
-        before,
-        cond: test.expr,
+        before: test.before,
+        cond: test.rest.expr,
         then,
         other,
     };
@@ -298,12 +344,11 @@ fn while_loop(
         (IsMade (stmt_form typed.now (length vars.old) stmt.now)
         out.old vars.old out.new vars.new) }
 {
-    let mut before = List::new(alloc);
-    let test = expand(alloc, cond, &mut before, vars)?;
+    let test = expand_condition(alloc, cond, vars)?;
     let body = inside(alloc, typed, body, vars)?;
     let kind = NormalStmtKind::While {
-        before,
-        cond: test.expr,
+        before: test.before,
+        cond: test.rest.expr,
         body,
     };
     put(out, kind, stmt.at)?;
@@ -327,12 +372,11 @@ fn do_loop(
         out.old vars.old out.new vars.new) }
 {
     let body = inside(alloc, typed, body, vars)?;
-    let mut before = List::new(alloc);
-    let test = expand(alloc, cond, &mut before, vars)?;
+    let test = expand_condition(alloc, cond, vars)?;
     let kind = NormalStmtKind::DoWhile {
         body,
-        before,
-        cond: test.expr,
+        before: test.before,
+        cond: test.rest.expr,
     };
     put(out, kind, stmt.at)?;
     Ok(())
@@ -359,14 +403,13 @@ fn for_loop(
 {
     let mut opening = List::new(alloc);
     forms(alloc, typed, first, &mut opening, vars)?;
-    let mut before = List::new(alloc);
-    let cond = optional(alloc, cond, &mut before, vars)?;
+    let test = expand_optional_condition(alloc, cond, vars)?;
     let step = held(alloc, typed, step, vars)?;
     let body = inside(alloc, typed, body, vars)?;
     let kind = NormalStmtKind::For {
         first: opening,
-        before,
-        cond,
+        before: test.before,
+        cond: test.left,
         step,
         body,
     };

@@ -121,13 +121,37 @@ pub(crate) fn logical(
 ) -> Result<NormalStmt, Memory>
     ensures { IfOk result (λ s. s ≡ logical decided var left before right at) }
 {
-    let truth = truth_of(alloc, right, at)?;
-    let evaluated = side(alloc, var, before, truth, at)?;
+    let evaluated = evaluated_side(alloc, var, before, right, at)?;
+    let given = constant_side(alloc, var, u64::from(decided), at)?;
     if decided {
-        let one = side(alloc, var, List::new(alloc), constant(1, at), at)?;
-        Ok(choice(alloc, left, one, evaluated, at))
+        Ok(choice(alloc, left, given, evaluated, at))
     } else {
-        let zero = side(alloc, var, List::new(alloc), constant(0, at), at)?;
-        Ok(choice(alloc, left, evaluated, zero, at))
+        Ok(choice(alloc, left, evaluated, given, at))
     }
+}
+
+/// The side of `&&` or `||` that evaluates the right operand.
+fn evaluated_side(
+    alloc: Global,
+    var: u32,
+    before: List<NormalStmt>,
+    right: TypedExpr,
+    at: Span,
+) -> Result<Boxed<NormalStmt>, Memory>
+    ensures { IfOk result (λ s. s ≡ side var before (truth_of right at) at) }
+{
+    let truth = truth_of(alloc, right, at)?;
+    side(alloc, var, before, truth, at)
+}
+
+/// The side of `&&` or `||` that evaluates nothing: the variable is set to a number.
+fn constant_side(
+    alloc: Global,
+    var: u32,
+    number: u64,
+    at: Span,
+) -> Result<Boxed<NormalStmt>, Memory>
+    ensures { IfOk result (λ s. s ≡ side var [] (constant number at) at) }
+{
+    side(alloc, var, List::new(alloc), constant(number, at), at)
 }

@@ -1,9 +1,16 @@
-use Rattle.std.proofs.Common.{length, arith, rules, ap, ◌∙◌}
+use Rattle.std.proofs.Common.{◌≡◌, length, arith, rules, refl, ap, ◌∙◌}
+use Rattle.std.specs.Prelude.{Bool}
+use Rattle.c_ast.specs.Casts.{of_type}
+use Rattle.c_ast.specs.declared.typed.TypedExpr.{TypedExpr}
+use Rattle.c_ast.specs.declared.typed.TypedExprKind.{TypedExprKind}
 use Rattle.c_ast.specs.declared.typed.TypedExprKind.TheViews.{the_lemmas}
 use Rattle.c_norm.specs.Expand.{expand_all}
 use Rattle.c_norm.specs.declared.expand.Rest.{Rest}
 use Rattle.c_norm.proofs.Coded.{few_expanded, few_expanded_all, whole_number, whole_var, element_arm, unary_arm, cast_arm, joined_arm, plain_arm, logical_arm, kept_arm, choice_arm, goes_first, part_room, room_next, expand_next, expand_end}
 use Rattle.c_norm.proofs.expand.+expand.Goals as goal
+
+kind_left : (e : TypedExpr) (k k2 : TypedExprKind) (p : Bool) (r : Rest) → r ≡ record { expr = of_type k e.ty e.at; plain = p } → k ≡ k2 → r.expr ≡ of_type k2 e.ty e.at
+kind_left e k k2 p r h g = ap (λ (r : Rest). r.expr) h ∙ ap (λ z. of_type z e.ty e.at) g
 
 pub expand-returns-clause-few : goal.expand-returns-clause-few
 expand-returns-clause-few t c = few_expanded c.args.e.now c.args.before.now c.args.vars.now _ _ _ _ c.in_ok-rest.ensures
@@ -25,8 +32,8 @@ element-returns t c = element_arm c.args.e.now c.args.array c.args.indices.now _
 
 pub joined-returns : goal.joined-returns
 joined-returns t c =
-    joined_arm c.args.e.now c.args.op c.args.left.now c.args.right.now _ _ _ _ _ _ c.args.before.now c.args.vars.now _ _ _ _ _ _ c.requires.is c.requires.both c.in_ok-first.ensures.expanded c.in_ok-second.ensures.expanded c.in_ok-left.ensures c.in_ok-right.ensures
-    (ap (λ (r : Rest). r.expr) c.left_of.ensures) (ap (λ (r : Rest). r.plain) c.left_of.ensures ∙ c.neither_reads-plain.ensures)
+    joined_arm c.args.e.now c.args.op c.args.left.now c.args.right.now _ _ _ _ _ _ c.args.before.now c.args.vars.now _ _ _ _ _ _ c.requires.is c.requires.both c.in_ok-first.ensures.expanded c.in_ok-second.ensures.expanded refl refl
+    (kind_left c.args.e.now _ _ _ _ c.left_of.ensures c.in_ok-kind.ensures) (ap (λ (r : Rest). r.plain) c.left_of.ensures ∙ c.neither_reads-plain.ensures)
 
 pub expand_all-loop-e-init : goal.expand_all-loop-e-init
 expand_all-loop-e-init t c = record { goes = goes_first (expand_all (length c.args.vars.now) c.args.exprs.now) c.args.before.now c.args.vars.now _ c.new-rests.ensures; room = omega arith }
@@ -52,19 +59,19 @@ expand_all-returns-clause-few t c = few_expanded_all c.args.exprs.now c.args.bef
 pub decided_out-returns-then-plain : goal.decided_out-returns-then-plain
 decided_out-returns-then-plain t c =
     plain_arm c.args.e.now c.args.op c.args.left.now c.args.right.now _ _ _ _ _ _ _ c.args.before.now c.args.vars.now _ _ _ _ _ _ _ c.requires.is c.in_ok-first.ensures.expanded c.in_ok-second.ensures.expanded c.neither_reads-plain.ensures c.if-plain.true
-    c.in_ok-left.ensures c.in_ok-right.ensures (ap (λ (r : Rest). r.expr) c.left_of.ensures) (ap (λ (r : Rest). r.plain) c.left_of.ensures)
+    refl refl (kind_left c.args.e.now _ _ _ _ c.left_of.ensures c.in_ok-kind.ensures) (ap (λ (r : Rest). r.plain) c.left_of.ensures)
 
 pub decided_out-returns : goal.decided_out-returns
 decided_out-returns t c =
     logical_arm c.args.e.now c.args.op c.args.decided c.args.left.now c.args.right.now _ _ _ _ _ c.args.before.now c.args.vars.now _ _ _ _ _ _ _ _ _ _ _ c.requires.is c.requires.decides c.in_ok-first.ensures.expanded c.new-inside.ensures c.in_ok-second.ensures.expanded c.neither_reads-plain.ensures c.if-plain.false
-    c.in_ok-var.ensures.number c.in_ok-var.ensures.made c.in_ok-logical.ensures c.in_ok-push.ensures.ok (ap (λ (r : Rest). r.expr) c.left_of-2.ensures) (ap (λ (r : Rest). r.plain) c.left_of-2.ensures)
+    c.in_ok-var.ensures.number c.in_ok-var.ensures.made refl c.in_ok-var.ensures.set (ap (λ (r : Rest). r.expr) c.left_of-2.ensures) (ap (λ (r : Rest). r.plain) c.left_of-2.ensures)
 
 pub choose-returns-then-plain : goal.choose-returns-then-plain
 choose-returns-then-plain t c =
     kept_arm c.args.e.now c.args.cond.now c.args.then.now c.args.other.now _ _ _ _ _ _ _ _ _ _ c.args.before.now c.args.vars.now _ _ _ _ _ _ _ _ _ _ c.requires.is c.in_ok-test.ensures.expanded c.in_ok-first.ensures.expanded c.in_ok-second.ensures.expanded c.neither_reads-plain.ensures c.if-plain.true
-    c.in_ok-cond.ensures c.in_ok-then.ensures c.in_ok-other.ensures (ap (λ (r : Rest). r.expr) c.left_of.ensures) (ap (λ (r : Rest). r.plain) c.left_of.ensures)
+    refl refl refl (kind_left c.args.e.now _ _ _ _ c.left_of.ensures c.in_ok-kind.ensures) (ap (λ (r : Rest). r.plain) c.left_of.ensures)
 
 pub choose-returns : goal.choose-returns
 choose-returns t c =
     choice_arm c.args.e.now c.args.cond.now c.args.then.now c.args.other.now _ _ _ _ _ _ _ c.args.before.now c.args.vars.now _ _ _ _ _ _ _ _ _ _ _ _ _ _ _ _ c.requires.is c.in_ok-test.ensures.expanded c.new-inside.ensures c.in_ok-first.ensures.expanded c.new-inside_other.ensures c.in_ok-second.ensures.expanded
-    c.neither_reads-plain.ensures c.if-plain.false c.in_ok-var.ensures.number c.in_ok-var.ensures.made c.in_ok-then-2.ensures c.in_ok-other-2.ensures c.choice.ensures c.in_ok-push.ensures.ok (ap (λ (r : Rest). r.expr) c.left_of-2.ensures) (ap (λ (r : Rest). r.plain) c.left_of-2.ensures)
+    c.neither_reads-plain.ensures c.if-plain.false c.in_ok-var.ensures.number c.in_ok-var.ensures.made refl refl refl c.in_ok-var.ensures.set (ap (λ (r : Rest). r.expr) c.left_of-2.ensures) (ap (λ (r : Rest). r.plain) c.left_of-2.ensures)

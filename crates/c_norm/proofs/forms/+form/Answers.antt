@@ -42,17 +42,17 @@ block-returns t c = block_arm c.args.typed.now c.args.stmt.now c.args.stmts.now 
 
 pub choice-returns : goal.choice-returns
 choice-returns t c =
-    if_arm c.args.typed.now c.args.stmt.now c.args.cond.now c.args.then.now c.args.other.now c.args.out.now c.args.vars.now _ _ _ _ _ _ _ _ _ _ c.requires.is c.new-before.ensures c.in_ok-test.ensures.expanded c.in_ok-then.ensures.made c.in_ok-other.ensures.made c.in_ok-put.ensures
+    if_arm c.args.typed.now c.args.stmt.now c.args.cond.now c.args.then.now c.args.other.now c.args.out.now c.args.vars.now _ _ _ _ _ _ _ _ _ _ c.requires.is refl c.in_ok-test.ensures.expanded c.in_ok-then.ensures.made c.in_ok-other.ensures.made c.in_ok-put.ensures
 
 pub while_loop-returns : goal.while_loop-returns
 while_loop-returns t c =
-    while_arm c.args.typed.now c.args.stmt.now c.args.cond.now c.args.body.now c.args.out.now c.args.vars.now _ _ _ _ _ _ _ _ c.requires.is c.new-before.ensures c.in_ok-test.ensures.expanded c.in_ok-body.ensures.made c.in_ok-put.ensures
+    while_arm c.args.typed.now c.args.stmt.now c.args.cond.now c.args.body.now c.args.out.now c.args.vars.now _ _ _ _ _ _ _ _ c.requires.is refl c.in_ok-test.ensures.expanded c.in_ok-body.ensures.made c.in_ok-put.ensures
 
 pub do_loop-returns : goal.do_loop-returns
 do_loop-returns t c =
-    do_arm c.args.typed.now c.args.stmt.now c.args.body.now c.args.cond.now c.args.out.now c.args.vars.now _ _ _ _ _ _ _ _ c.requires.is c.in_ok-body.ensures.made c.new-before.ensures c.in_ok-test.ensures.expanded c.in_ok-put.ensures
+    do_arm c.args.typed.now c.args.stmt.now c.args.body.now c.args.cond.now c.args.out.now c.args.vars.now _ _ _ _ _ _ _ _ c.requires.is c.in_ok-body.ensures.made refl c.in_ok-test.ensures.expanded c.in_ok-put.ensures
 
 pub for_loop-returns : goal.for_loop-returns
 for_loop-returns t c =
-    for_arm c.args.typed.now c.args.stmt.now c.args.first.now c.args.cond.now c.args.step.now c.args.body.now c.args.out.now c.args.vars.now _ _ _ _ _ _ _ _ _ _ _ _ c.requires.is c.new-opening.ensures c.in_ok-forms.ensures.made c.new-before.ensures c.in_ok-cond.ensures.expanded
+    for_arm c.args.typed.now c.args.stmt.now c.args.first.now c.args.cond.now c.args.step.now c.args.body.now c.args.out.now c.args.vars.now _ _ _ _ _ _ _ _ _ _ _ _ c.requires.is c.new-opening.ensures c.in_ok-forms.ensures.made refl c.in_ok-test.ensures.expanded
     c.in_ok-step.ensures.made c.in_ok-body.ensures.made c.in_ok-put.ensures

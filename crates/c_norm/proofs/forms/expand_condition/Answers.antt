@@ -1,0 +1,13 @@
+use Rattle.std.proofs.Common.{◌≡◌, List, [], subst}
+use Rattle.std.specs.Prelude.{Bool}
+use Rattle.el_base.specs.declared.ty.Ty.{Ty}
+use Rattle.c_ast.specs.declared.typed.TypedExpr.{TypedExpr}
+use Rattle.c_ast.specs.declared.normal.NormalStmt.{NormalStmt}
+use Rattle.c_norm.specs.Code.{IsExpanded}
+use Rattle.c_norm.proofs.forms.expand_condition.Goals as goal
+
+behind_none : (e : TypedExpr) (b : List NormalStmt) (v : List Ty) (b2 : List NormalStmt) (v2 : List Ty) (x : TypedExpr) (p : Bool) → b ≡ [] → IsExpanded e b v b2 v2 x p → IsExpanded e [] v b2 v2 x p
+behind_none e b v b2 v2 x p h i = subst (λ z. IsExpanded e z v b2 v2 x p) h i
+
+pub returns-clause-expanded : goal.returns-clause-expanded
+returns-clause-expanded c = behind_none c.args.cond.now _ c.args.vars.now _ _ _ _ c.new-before.ensures c.in_ok-rest.ensures.expanded
