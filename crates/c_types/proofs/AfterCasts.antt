@@ -1,10 +1,66 @@
--- After a declaration the names in force are those of the rules.
+-- After a statement that is cast: the names in force are those of the rules, and for each variable that it declares it has a node.
 use Rattle.std.proofs.Common.{◌≡◌, ℕ, ◌+◌, ◌≤◌, List, [], ◌∷◌, length, Option, Some, None, refl, ap, ◌∙◌, arith, length-append}
 use Rattle.el_base.specs.declared.ty.Ty.{Ty}
-use Rattle.c_ast.specs.Typing.{with_name}
-use Rattle.c_ast.specs.Casts.{Scope, a_var, into_innermost}
+use Rattle.c_ast.specs.declared.tree.Stmt.{Stmt}
+use Rattle.c_ast.specs.declared.typed.TypedStmt.{TypedStmt}
+use Rattle.c_ast.specs.Nodes.{stmt_nodes, stmts_nodes, held_nodes}
+use Rattle.c_ast.specs.Typing.{with_name, names_after}
+use Rattle.c_ast.specs.Programs.{names_after_list}
+use Rattle.c_ast.specs.Casts.{Context, Scope, a_var, into_innermost, CastsStmt, CastsHeld, CastsStmts}
+use Rattle.c_ast.specs.Casts as rule
 use Rattle.c_types.specs.TypingParts.{names_as}
+use Rattle.c_types.proofs.CastLemmas.{held_scopes}
+use Rattle.c_types.proofs.StatementNodes.{block_nodes, declare_nodes, if_nodes, while_nodes, do_nodes, for_nodes, one_more_nodes}
+
+-- ---- names
 
 pub entered : (x : List ℕ) (n : ℕ) (t : Ty) (ss : List Scope) → names_as (into_innermost (x, a_var n t) ss) ≡ with_name x (names_as ss)
 entered x n t [] = refl
 entered x n t (s ∷ ss) = refl
+
+pub names_after_cast : {r : Option Ty} {c d : Context} {a : Stmt} {b : TypedStmt} → CastsStmt r c a b d → names_as d.scopes ≡ names_after (names_as c.scopes) a.kind
+names_after_cast (rule.block r c d ss ts s h) = refl
+names_after_cast (rule.declare r c x t s) = entered x (length c.types) t c.scopes
+names_after_cast (rule.declare_value r c x t e f s h) = entered x (length c.types) t c.scopes
+names_after_cast (rule.assign r c target to t op e f s h i) = refl
+names_after_cast (rule.step r c target to t up s h) = refl
+names_after_cast (rule.choice r c d d2 e f a b o p s h i j) = ap names_as (held_scopes j)
+names_after_cast (rule.while_loop r c d e f a b s h i) = refl
+names_after_cast (rule.do_loop r c d e f a b s h i) = refl
+names_after_cast (rule.for_loop r c d d2 d3 ss ts e f o p a b s h i j k) = refl
+names_after_cast (rule.leaving r c s) = refl
+names_after_cast (rule.continuing r c s) = refl
+names_after_cast (rule.return_nothing r c s) = refl
+names_after_cast (rule.return_value t c e f s h) = refl
+names_after_cast (rule.empty r c s) = refl
+
+pub names_after_casts : {r : Option Ty} {c d : Context} {ss : List Stmt} {ts : List TypedStmt} → CastsStmts r c ss ts d → names_as d.scopes ≡ names_after_list (names_as c.scopes) ss
+names_after_casts (rule.done r c) = refl
+names_after_casts (rule.more r c d d2 a b ss ts h i) = names_after_casts i ∙ ap (λ names. names_after_list names ss) (names_after_cast h)
+
+-- ---- variables
+
+mutual
+  pub vars_after_cast : {r : Option Ty} {c d : Context} {a : Stmt} {b : TypedStmt} → CastsStmt r c a b d → length d.types ≤ length c.types + stmt_nodes a
+  vars_after_cast (rule.block r c d ss ts s h) = omega (arith, vars_after_casts h, block_nodes ss s)
+  vars_after_cast (rule.declare r c x t s) = omega (arith, declare_nodes x t None s, length-append c.types (t ∷ []))
+  vars_after_cast (rule.declare_value r c x t e f s h) = omega (arith, declare_nodes x t (Some e) s, length-append c.types (t ∷ []))
+  vars_after_cast (rule.assign r c target to t op e f s h i) = omega arith
+  vars_after_cast (rule.step r c target to t up s h) = omega arith
+  vars_after_cast (rule.choice r c d d2 e f a b o p s h i j) = omega (arith, vars_after_cast i, vars_after_held j, if_nodes e a o s)
+  vars_after_cast (rule.while_loop r c d e f a b s h i) = omega (arith, vars_after_cast i, while_nodes e a s)
+  vars_after_cast (rule.do_loop r c d e f a b s h i) = omega (arith, vars_after_cast h, do_nodes a e s)
+  vars_after_cast (rule.for_loop r c d d2 d3 ss ts e f o p a b s h i j k) = omega (arith, vars_after_casts h, vars_after_held j, vars_after_cast k, for_nodes ss e o a s)
+  vars_after_cast (rule.leaving r c s) = omega arith
+  vars_after_cast (rule.continuing r c s) = omega arith
+  vars_after_cast (rule.return_nothing r c s) = omega arith
+  vars_after_cast (rule.return_value t c e f s h) = omega arith
+  vars_after_cast (rule.empty r c s) = omega arith
+
+  pub vars_after_held : {r : Option Ty} {c d : Context} {o : Option Stmt} {p : Option TypedStmt} → CastsHeld r c o p d → length d.types ≤ length c.types + held_nodes o
+  vars_after_held (rule.no_statement r c) = omega arith
+  vars_after_held (rule.a_statement r c d a b h) = omega (arith, vars_after_cast h)
+
+  pub vars_after_casts : {r : Option Ty} {c d : Context} {ss : List Stmt} {ts : List TypedStmt} → CastsStmts r c ss ts d → length d.types ≤ length c.types + stmts_nodes ss
+  vars_after_casts (rule.done r c) = omega arith
+  vars_after_casts (rule.more r c d d2 a b ss ts h i) = omega (arith, vars_after_cast h, vars_after_casts i, one_more_nodes a ss)

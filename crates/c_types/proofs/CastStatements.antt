@@ -1,10 +1,29 @@
--- The scopes of a walk after one was begun, and after one was ended.
+-- What a walk over statements gives for a node, from what it gives for the parts.
 use Rattle.std.proofs.Common.{◌≡◌, ℕ, ◌<◌, Bool, true, List, [], ◌∷◌, ◌++◌, length, Option, Some, None, sym, ap, subst, ◌∙◌}
-use Rattle.c_ast.specs.Casts.{opened, closed}
+use Rattle.el_base.specs.declared.span.Span.{Span}
+use Rattle.el_base.specs.declared.ty.Ty.{Ty}
+use Rattle.c_ast.specs.declared.tree.Binary.{Binary}
+use Rattle.c_ast.specs.declared.tree.Target.{Target}
+use Rattle.c_ast.specs.declared.tree.Expr.{Expr}
+use Rattle.c_ast.specs.declared.tree.Stmt.{Stmt}
+use Rattle.c_ast.specs.declared.tree.StmtKind.{StmtKind}
+use Rattle.c_ast.specs.declared.tree.StmtKind.TheVariants as stmt
+use Rattle.c_ast.specs.declared.typed.TypedTarget.{TypedTarget}
+use Rattle.c_ast.specs.declared.typed.TypedExpr.{TypedExpr}
+use Rattle.c_ast.specs.declared.typed.TypedStmt.{TypedStmt}
+use Rattle.c_ast.specs.declared.typed.TypedStmtKind.TheVariants as act
+use Rattle.c_ast.specs.Casts.{Context, with_var, opened, closed, converted, stmt_at, act_at, assigned_type, CastsStmt, CastsHeld, CastsStmts}
+use Rattle.c_ast.specs.Casts as rule
+use Rattle.c_types.specs.declared.known.Binding.TheVariants as binding
 use Rattle.c_types.specs.declared.known.Known.{Known}
-use Rattle.c_types.specs.Scopes.{without_innermost, scopes_by}
-use Rattle.c_types.specs.Contexts.{declared_by, context_of}
-use Rattle.c_types.proofs.CastLemmas.{opened_is, outside, closed_is}
+use Rattle.c_types.specs.Scopes.{is_new_in, with_entry, without_innermost, scopes_by}
+use Rattle.c_types.specs.Contexts.{Bindings, declared_by, context_in, context_of, IsCastExpr, IsCastOption, IsCastTarget, IsCastValue, no_value, a_value, IsCastStmt, AreCastStmts, IsCastHeld, IsInside, IsCastInside}
+use Rattle.c_types.proofs.CastLemmas.{with_var_is, opened_is, outside, held_scopes, stmts_outside, stmt_outside, closed_is}
+
+-- a statement of a kind, and its typed statement by what it is
+stmt_is : (r : Option Ty) (k l : Known) (a : Stmt) (kind : StmtKind) (b c : TypedStmt) → a.kind ≡ kind → b ≡ c → IsCastStmt r k (stmt_at kind a.at) c l → IsCastStmt r k a b l
+stmt_is r k l a kind b c is same h =
+    subst (λ kind. IsCastStmt r k (record { kind = kind; at = a.at }) b l) (sym is) (subst (λ c. IsCastStmt r k (stmt_at kind a.at) c l) (sym same) h)
 
 -- a scope that was begun
 pub record IsOpened (k m : Known) : Type 0 where
@@ -29,3 +48,159 @@ in_opened dims k m o = opened_is dims k m o.scopes_are o.types_are
 pub after_left : (dims : ℕ → List ℕ) (k m l : Known) → 0 < length k.scopes → IsLeft m l → outside (scopes_by (declared_by dims) m.scopes) ≡ scopes_by (declared_by dims) k.scopes
     → context_of dims l ≡ closed (context_of dims k) (context_of dims m)
 after_left dims k m l some left out = closed_is dims k m l out some left.scopes_are left.types_are
+
+pub block_arm : (r : Option Ty) (k m n l : Known) (a : Stmt) (ss us : List Stmt) (ts : List TypedStmt) (b : TypedStmt) → a.kind ≡ stmt.Block ss → us ≡ ss → IsOpened k m → AreCastStmts r m us ts n → IsLeft n l
+    → b ≡ act_at (act.Block ts) a.at → IsCastStmt r k a b l
+block_arm r k m n l a ss us ts b is same o hs left made =
+    stmt_is r k l a (stmt.Block ss) b (act_at (act.Block ts) a.at) is made
+    (record {
+      casts = λ dims.
+          let d : CastsStmts r (opened (context_of dims k)) ss ts (context_of dims n) =
+          subst (λ us. CastsStmts r (opened (context_of dims k)) us ts (context_of dims n)) same (subst (λ c. CastsStmts r c us ts (context_of dims n)) (in_opened dims k m o) (hs.casts dims)) in
+          subst (λ c. CastsStmt r (context_of dims k) (stmt_at (stmt.Block ss) a.at) (act_at (act.Block ts) a.at) c) (sym (after_left dims k n l o.some left (stmts_outside d)))
+          (rule.block r (context_of dims k) (context_of dims n) ss ts a.at d);
+    })
+
+declared_value : (r : Option Ty) (c : Context) (x : List ℕ) (dims : ℕ → List ℕ) (types : List Ty) (s : Span) {t : Ty} {scopes : Bindings} {e : Option Expr} {g : Option TypedExpr}
+    → context_in dims scopes types ≡ with_var x t c → IsCastValue (Some t) scopes e g
+    → CastsStmt r c (stmt_at (stmt.Declare x t e) s) (act_at (act.Declare (length c.types) g) s) (with_var x t c)
+declared_value r c x dims types s {t} is (no_value q scopes) = rule.declare r c x t s
+declared_value r c x dims types s is (a_value t scopes e f h) =
+    rule.declare_value r c x t e f s (subst (λ c. rule.CastsExpr c e f) is (h.casts dims types))
+
+pub declare_arm : (r : Option Ty) (k l : Known) (a : Stmt) (x : List ℕ) (t : Ty) (e : Option Expr) (v : ℕ) (g : Option TypedExpr) (b : TypedStmt) → a.kind ≡ stmt.Declare x t e
+    → v ≡ length k.types → is_new_in k.scopes x ≡ true → l.scopes ≡ with_entry x (binding.Var (length k.types) t) k.scopes → l.types ≡ k.types ++ t ∷ [] → IsCastValue (Some t) l.scopes e g
+    → b ≡ act_at (act.Declare v g) a.at → IsCastStmt r k a b l
+declare_arm r k l a x t e v g b is number new scopes types h made =
+    stmt_is r k l a (stmt.Declare x t e) b (act_at (act.Declare (length k.types) g) a.at) is (made ∙ ap (λ v. act_at (act.Declare v g) a.at) number)
+    (record {
+      casts = λ dims.
+          let after : context_of dims l ≡ with_var x t (context_of dims k) = with_var_is dims k l x t new scopes types in
+          subst (λ c. CastsStmt r (context_of dims k) (stmt_at (stmt.Declare x t e) a.at) (act_at (act.Declare (length k.types) g) a.at) c) (sym after)
+          (declared_value r (context_of dims k) x dims l.types a.at after h);
+    })
+
+pub assign_arm : (r : Option Ty) (k : Known) (a : Stmt) (x : Target) (to : TypedTarget) (t : Ty) (op : Option Binary) (e : Expr) (f g : TypedExpr) (b : TypedStmt) → a.kind ≡ stmt.Assign x op e
+    → IsCastTarget k.scopes x to t → IsCastExpr k.scopes e f → g ≡ converted (assigned_type op t f.ty) f → b ≡ act_at (act.Assign to op g) a.at → IsCastStmt r k a b k
+assign_arm r k a x to t op e f g b is p q value made =
+    stmt_is r k k a (stmt.Assign x op e) b (act_at (act.Assign to op (converted (assigned_type op t f.ty) f)) a.at) is (made ∙ ap (λ g. act_at (act.Assign to op g) a.at) value)
+    (record { casts = λ dims. rule.assign r (context_of dims k) x to t op e f a.at (p.casts dims k.types) (q.casts dims k.types) })
+
+pub step_arm : (r : Option Ty) (k : Known) (a : Stmt) (x : Target) (to : TypedTarget) (t : Ty) (up : Bool) (b : TypedStmt) → a.kind ≡ stmt.Step x up → IsCastTarget k.scopes x to t
+    → b ≡ act_at (act.Step to up) a.at → IsCastStmt r k a b k
+step_arm r k a x to t up b is p made =
+    stmt_is r k k a (stmt.Step x up) b (act_at (act.Step to up) a.at) is made (record { casts = λ dims. rule.step r (context_of dims k) x to t up a.at (p.casts dims k.types) })
+
+pub if_arm : (r : Option Ty) (k m l : Known) (a : Stmt) (e : Expr) (s : Stmt) (o : Option Stmt) (f : TypedExpr) (t : TypedStmt) (p : Option TypedStmt) (b : TypedStmt) → a.kind ≡ stmt.If e s o
+    → IsCastExpr k.scopes e f → IsCastInside r k s t m → IsCastHeld r m o p l → b ≡ act_at (act.If f t p) a.at → IsCastStmt r k a b l
+if_arm r k m l a e s o f t p b is h i j made =
+    stmt_is r k l a (stmt.If e s o) b (act_at (act.If f t p) a.at) is made
+    (record {
+      casts = λ dims.
+          let d : IsInside r (context_of dims k) s t (context_of dims m) = i.casts dims in
+          rule.choice r (context_of dims k) d.last (context_of dims l) e f s t o p a.at (h.casts dims k.types) d.casts (subst (λ c. CastsHeld r c o p (context_of dims l)) d.after (j.casts dims));
+    })
+
+pub while_arm : (r : Option Ty) (k l : Known) (a : Stmt) (e : Expr) (s : Stmt) (f : TypedExpr) (t : TypedStmt) (b : TypedStmt) → a.kind ≡ stmt.While e s
+    → IsCastExpr k.scopes e f → IsCastInside r k s t l → b ≡ act_at (act.While f t) a.at → IsCastStmt r k a b l
+while_arm r k l a e s f t b is h i made =
+    stmt_is r k l a (stmt.While e s) b (act_at (act.While f t) a.at) is made
+    (record {
+      casts = λ dims.
+          let d : IsInside r (context_of dims k) s t (context_of dims l) = i.casts dims in
+          subst (λ c. CastsStmt r (context_of dims k) (stmt_at (stmt.While e s) a.at) (act_at (act.While f t) a.at) c) (sym d.after)
+          (rule.while_loop r (context_of dims k) d.last e f s t a.at (h.casts dims k.types) d.casts);
+    })
+
+pub do_arm : (r : Option Ty) (k l : Known) (a : Stmt) (e : Expr) (s : Stmt) (f : TypedExpr) (t : TypedStmt) (b : TypedStmt) → a.kind ≡ stmt.DoWhile s e
+    → IsCastExpr k.scopes e f → IsCastInside r k s t l → b ≡ act_at (act.DoWhile t f) a.at → IsCastStmt r k a b l
+do_arm r k l a e s f t b is h i made =
+    stmt_is r k l a (stmt.DoWhile s e) b (act_at (act.DoWhile t f) a.at) is made
+    (record {
+      casts = λ dims.
+          let d : IsInside r (context_of dims k) s t (context_of dims l) = i.casts dims in
+          subst (λ c. CastsStmt r (context_of dims k) (stmt_at (stmt.DoWhile s e) a.at) (act_at (act.DoWhile t f) a.at) c) (sym d.after)
+          (rule.do_loop r (context_of dims k) d.last e f s t a.at d.casts (h.casts dims k.types));
+    })
+
+for_in : (r : Option Ty) (dims : ℕ → List ℕ) (k m n n2 n3 l : Known) (s : Span) (ss us : List Stmt) (ts : List TypedStmt) (e : Option Expr) (f : Option TypedExpr) (o : Option Stmt) (p : Option TypedStmt) (body : Stmt) (t : TypedStmt)
+    → us ≡ ss → IsOpened k m → AreCastStmts r m us ts n → IsCastOption n.scopes e f → IsCastHeld r n o p n2 → IsCastInside r n2 body t n3 → IsLeft n3 l
+    → CastsStmt r (context_of dims k) (stmt_at (stmt.For ss e o body) s) (act_at (act.For ts f p t) s) (context_of dims l)
+for_in r dims k m n n2 n3 l s ss us ts e f o p body t same opens hs he ho hb left =
+    let d : CastsStmts r (opened (context_of dims k)) ss ts (context_of dims n) =
+    subst (λ us. CastsStmts r (opened (context_of dims k)) us ts (context_of dims n)) same (subst (λ c. CastsStmts r c us ts (context_of dims n)) (in_opened dims k m opens) (hs.casts dims)) in
+    let held : CastsHeld r (context_of dims n) o p (context_of dims n2) = ho.casts dims in
+    let b : IsInside r (context_of dims n2) body t (context_of dims n3) = hb.casts dims in
+    let out : outside (scopes_by (declared_by dims) n3.scopes) ≡ scopes_by (declared_by dims) k.scopes =
+    ap (λ c. outside c.scopes) b.after ∙ ap outside (held_scopes held) ∙ stmts_outside d in
+    let last : context_of dims l ≡ closed (context_of dims k) b.last = after_left dims k n3 l opens.some left out ∙ ap (closed (context_of dims k)) b.after in
+    subst (λ c. CastsStmt r (context_of dims k) (stmt_at (stmt.For ss e o body) s) (act_at (act.For ts f p t) s) c) (sym last)
+    (rule.for_loop r (context_of dims k) (context_of dims n) (context_of dims n2) b.last ss ts e f o p body t s d (he.casts dims n.types) held b.casts)
+
+pub for_arm : (r : Option Ty) (k m n n2 n3 l : Known) (a : Stmt) (ss us : List Stmt) (ts : List TypedStmt) (e : Option Expr) (f : Option TypedExpr) (o : Option Stmt) (p : Option TypedStmt) (body : Stmt) (t b : TypedStmt)
+    → a.kind ≡ stmt.For ss e o body → us ≡ ss → IsOpened k m → AreCastStmts r m us ts n → IsCastOption n.scopes e f → IsCastHeld r n o p n2 → IsCastInside r n2 body t n3 → IsLeft n3 l
+    → b ≡ act_at (act.For ts f p t) a.at → IsCastStmt r k a b l
+for_arm r k m n n2 n3 l a ss us ts e f o p body t b is same opens hs he ho hb left made =
+    stmt_is r k l a (stmt.For ss e o body) b (act_at (act.For ts f p t) a.at) is made
+    (record { casts = λ dims. for_in r dims k m n n2 n3 l a.at ss us ts e f o p body t same opens hs he ho hb left })
+
+returned_value : (dims : ℕ → List ℕ) (types : List Ty) (s : Span) {r : Option Ty} {scopes : Bindings} {e : Option Expr} {g : Option TypedExpr} → IsCastValue r scopes e g
+    → CastsStmt r (context_in dims scopes types) (stmt_at (stmt.Return e) s) (act_at (act.Return g) s) (context_in dims scopes types)
+returned_value dims types s (no_value r scopes) = rule.return_nothing r (context_in dims scopes types) s
+returned_value dims types s (a_value t scopes e f h) = rule.return_value t (context_in dims scopes types) e f s (h.casts dims types)
+
+pub return_arm : (r : Option Ty) (k : Known) (a : Stmt) (e : Option Expr) (g : Option TypedExpr) (b : TypedStmt) → a.kind ≡ stmt.Return e → IsCastValue r k.scopes e g → b ≡ act_at (act.Return g) a.at
+    → IsCastStmt r k a b k
+return_arm r k a e g b is h made =
+    stmt_is r k k a (stmt.Return e) b (act_at (act.Return g) a.at) is made (record { casts = λ dims. returned_value dims k.types a.at h })
+
+pub break_arm : (r : Option Ty) (k : Known) (a : Stmt) (b : TypedStmt) → a.kind ≡ stmt.Break → b ≡ act_at act.Break a.at → IsCastStmt r k a b k
+break_arm r k a b is made = stmt_is r k k a stmt.Break b (act_at act.Break a.at) is made (record { casts = λ dims. rule.leaving r (context_of dims k) a.at })
+
+pub continue_arm : (r : Option Ty) (k : Known) (a : Stmt) (b : TypedStmt) → a.kind ≡ stmt.Continue → b ≡ act_at act.Continue a.at → IsCastStmt r k a b k
+continue_arm r k a b is made = stmt_is r k k a stmt.Continue b (act_at act.Continue a.at) is made (record { casts = λ dims. rule.continuing r (context_of dims k) a.at })
+
+pub empty_arm : (r : Option Ty) (k : Known) (a : Stmt) (b : TypedStmt) → a.kind ≡ stmt.Empty → b ≡ act_at act.Empty a.at → IsCastStmt r k a b k
+empty_arm r k a b is made = stmt_is r k k a stmt.Empty b (act_at act.Empty a.at) is made (record { casts = λ dims. rule.empty r (context_of dims k) a.at })
+
+-- ---- statements inside statements
+
+pub inside_arm : (r : Option Ty) (k m n l : Known) (a a2 : Stmt) (b b2 : TypedStmt) → a2 ≡ a → IsOpened k m → IsCastStmt r m a2 b n → IsLeft n l → b2 ≡ b → IsCastInside r k a b2 l
+inside_arm r k m n l a a2 b b2 same o h left made =
+    subst (λ b. IsCastInside r k a b l) (sym made)
+    (record {
+      casts = λ dims.
+          let d : CastsStmt r (opened (context_of dims k)) a b (context_of dims n) =
+          subst (λ a. CastsStmt r (opened (context_of dims k)) a b (context_of dims n)) same (subst (λ c. CastsStmt r c a2 b (context_of dims n)) (in_opened dims k m o) (h.casts dims)) in
+          record { last = context_of dims n; casts = d; after = after_left dims k n l o.some left (stmt_outside d) };
+    })
+
+pub none_held : (r : Option Ty) (k : Known) → IsCastHeld r k None None k
+none_held r k = record { casts = λ dims. rule.no_statement r (context_of dims k) }
+
+pub one_held : (r : Option Ty) (k l : Known) (a : Stmt) (b : TypedStmt) → IsCastInside r k a b l → IsCastHeld r k (Some a) (Some b) l
+one_held r k l a b h =
+    record {
+      casts = λ dims.
+          let d : IsInside r (context_of dims k) a b (context_of dims l) = h.casts dims in
+          subst (λ c. CastsHeld r (context_of dims k) (Some a) (Some b) c) (sym d.after) (rule.a_statement r (context_of dims k) d.last a b d.casts);
+    }
+
+-- ---- statements one after another
+
+pub no_stmts : (r : Option Ty) (k : Known) (ts : List TypedStmt) → ts ≡ [] → AreCastStmts r k [] ts k
+no_stmts r k ts h = subst (λ ts. AreCastStmts r k [] ts k) (sym h) (record { casts = λ dims. rule.done r (context_of dims k) })
+
+more_stmts : {r : Option Ty} {c d : Context} {ss : List Stmt} {ts : List TypedStmt} (d2 : Context) (a : Stmt) (b : TypedStmt) → CastsStmts r c ss ts d → CastsStmt r d a b d2
+    → CastsStmts r c (ss ++ a ∷ []) (ts ++ b ∷ []) d2
+more_stmts d2 a b (rule.done r c) h = rule.more r c d2 d2 a b [] [] h (rule.done r d2)
+more_stmts d2 a b (rule.more r c d e a2 b2 ss ts p q) h = rule.more r c d d2 a2 b2 (ss ++ a ∷ []) (ts ++ b ∷ []) p (more_stmts d2 a b q h)
+
+pub one_more_stmt : (r : Option Ty) (k m l : Known) (ss us : List Stmt) (a : Stmt) (ts vs : List TypedStmt) (b : TypedStmt) → us ≡ ss ++ a ∷ [] → AreCastStmts r k ss ts m → IsCastStmt r m a b l
+    → vs ≡ ts ++ b ∷ [] → AreCastStmts r k us vs l
+one_more_stmt r k m l ss us a ts vs b is hs h made =
+    subst (λ us. AreCastStmts r k us vs l) (sym is) (subst (λ vs. AreCastStmts r k (ss ++ a ∷ []) vs l) (sym made)
+    (record { casts = λ dims. more_stmts (context_of dims l) a b (hs.casts dims) (h.casts dims) }))
+
+pub held_is : (r : Option Ty) (k l : Known) (o o2 : Option Stmt) (p : Option TypedStmt) → o ≡ o2 → IsCastHeld r k o2 p l → IsCastHeld r k o p l
+held_is r k l o o2 p is h = subst (λ o. IsCastHeld r k o p l) (sym is) h

@@ -19,7 +19,7 @@ use Rattle.c_ast.specs.declared.tree.Stmt.{Stmt}
 use Rattle.c_ast.specs.declared.tree.StmtKind.{StmtKind, Row_of-Stmt, end_of-Stmt, more_of-Stmt, Held-StmtKind-If-2}
 use Rattle.c_ast.specs.declared.tree.StmtKind as stmt
 use Rattle.c_ast.specs.Typing as typing
-use Rattle.c_ast.specs.Typing.{Names, a_scalar, an_array, sort_of, with_name, IsNew, IsUsable, IsCallable, a_helper, IsReturnable, row_length, TypingKind, TypingRow, TypingExpr, TypingOption, TypingTarget, names_after, names_after_row, TypingStmt, TypingHeld, TypingStmts, TypingList, elements_of, IsParameter, TypingParams, scope_of, Typing}
+use Rattle.c_ast.specs.Typing.{Names, a_scalar, an_array, sort_in, sort_of, with_name, IsNew, IsUsable, IsCallable, a_helper, IsReturnable, row_length, TypingKind, TypingRow, TypingExpr, TypingOption, TypingTarget, names_after, names_after_row, TypingStmt, TypingHeld, TypingStmts, TypingList, elements_of, IsParameter, TypingParams, scope_of, Typing}
 use Rattle.c_types.specs.declared.fault.Rule.{Rule}
 use Rattle.c_types.specs.declared.fault.Rule.TheVariants as rule
 use Rattle.c_types.specs.declared.fault.Fault.{Fault}

@@ -26,6 +26,7 @@ pub mod ProgramNames
 pub mod ProgramRefusals
 pub mod ProgramStatementParts
 pub mod ProgramsKept
+pub mod Refusals
 pub mod Renamed
 pub mod StatementNodes
 pub mod StatementParts

@@ -20,7 +20,7 @@ use Rattle.c_ast.specs.ResultTypes.{promoted, usual, joint_type, result_type, un
 use Rattle.c_ast.specs.Casts.{Context, declared_as, left_type, right_type, expr_at}
 use Rattle.c_ast.specs.Casts as casts
 use Rattle.c_ast.specs.ProgramCasts as rule
-use Rattle.c_ast.specs.ProgramCasts.{known_of, helper_from, helper_of, prog_of, prog_converted, prog_converted_all, CastsCallExpr, CastsCallExprs, CastsCallTarget, CastsCallStmt, CastsCallHeld, CastsCallStmts}
+use Rattle.c_ast.specs.ProgramCasts.{known_of, helper_from, helper_of, prog_of, prog_converted, prog_converted_all, CastsCallExpr, CastsCallExprs, CastsCallTarget, CastsCallOption, CastsCallStmt, CastsCallHeld, CastsCallStmts}
 use Rattle.c_types.specs.declared.known.Binding.TheVariants as binding
 use Rattle.c_types.specs.Scopes.{declared_in}
 use Rattle.c_types.specs.Contexts.{Bindings, context_in, IsObject, a_variable, an_element}

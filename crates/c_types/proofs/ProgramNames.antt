@@ -6,7 +6,7 @@ use Rattle.std.specs.Cmp.Lexicographic.{bytes_decides}
 use Rattle.std.specs.Map.{lookup}
 use Rattle.c_ast.specs.declared.tree.Param.{Param}
 use Rattle.c_ast.specs.declared.tree.Stmt.{Stmt}
-use Rattle.c_ast.specs.declared.tree.StmtKind.{StmtKind, end_of-Stmt, more_of-Stmt}
+use Rattle.c_ast.specs.declared.tree.StmtKind.{StmtKind, Row_of-Stmt, end_of-Stmt, more_of-Stmt}
 use Rattle.c_ast.specs.declared.tree.StmtKind as row
 use Rattle.c_ast.specs.declared.tree.Helper.{Helper}
 use Rattle.c_ast.specs.Typing.{Sort, a_scalar, a_helper, Names, sort_in, sort_of, with_name, names_after, IsUsable, IsCallable}
@@ -119,6 +119,10 @@ after_some names row.Empty some = some
 pub list_inside : (ss : List Stmt) (names : Names) (known : List (List ℕ × Sort)) → 0 < length names → names_after_list (names ++ known ∷ []) ss ≡ names_after_list names ss ++ known ∷ []
 list_inside [] names known some = refl
 list_inside (s ∷ ss) names known some = ap (λ names. names_after_list names ss) (after_inside names s.kind known some) ∙ list_inside ss (names_after names s.kind) known (after_some names s.kind some)
+
+pub list_some : (ss : List Stmt) (names : Names) → 0 < length names → 0 < length (names_after_list names ss)
+list_some [] names some = some
+list_some (s ∷ ss) names some = list_some ss (names_after names s.kind) (after_some names s.kind some)
 
 -- ---- one helper more
 

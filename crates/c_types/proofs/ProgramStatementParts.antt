@@ -11,7 +11,7 @@ use Rattle.c_ast.specs.declared.tree.StmtKind.TheVariants as stmt
 use Rattle.c_ast.specs.declared.tree.Helper.{Helper}
 use Rattle.c_ast.specs.declared.program.ProgStmt.{ProgStmt}
 use Rattle.c_ast.specs.Nodes.{stmt_nodes, stmts_nodes, held_nodes}
-use Rattle.c_ast.specs.Typing.{with_name, names_after, IsNew, TypingExpr, TypingOption, TypingStmt, TypingList}
+use Rattle.c_ast.specs.Typing.{with_name, names_after, IsNew, IsReturnable, TypingExpr, TypingOption, TypingStmt, TypingList}
 use Rattle.c_ast.specs.Programs.{names_after_list}
 use Rattle.c_ast.specs.Casts.{stmt_at}
 use Rattle.c_types.specs.declared.known.Binding.TheVariants as binding
@@ -26,7 +26,7 @@ use Rattle.c_types.proofs.StatementNodes.{block_nodes, if_nodes, while_nodes, do
 use Rattle.c_types.proofs.AfterCasts.{entered}
 use Rattle.c_types.proofs.StatementParts.{new_in, item_here}
 use Rattle.c_types.proofs.TypingRows.{in_option, in_block, in_if, in_while, in_do, InFor, in_for}
-use Rattle.c_types.proofs.ProgramNames.{name_inside, after_inside, after_some, list_inside}
+use Rattle.c_types.proofs.ProgramNames.{name_inside, after_inside, after_some, list_inside, list_some}
 use Rattle.c_types.proofs.ProgramCastLemmas.{held_scopes}
 use Rattle.c_types.proofs.AfterProgramCasts.{names_after_cast, names_after_casts, vars_after_cast, vars_after_held, vars_after_casts}
 use Rattle.c_types.proofs.ProgramExpressionParts.{option_typing}
@@ -75,6 +75,10 @@ module _ (helpers : List Helper) where
   after_statements r w k l ss ts some done =
       ap (λ names. names ++ w.known ∷ []) (names_after_casts helpers (done.casts w.dims)) ∙ sym (list_inside ss (names_in w.dims k.scopes) w.known (some_in w.dims k.scopes some))
 
+  some_at_end : (r : Option Ty) (k l : Known) (ss : List Stmt) (ts : List ProgStmt) → 0 < length k.scopes → AreProgStmts helpers r k ss ts l → 0 < length l.scopes
+  some_at_end r k l ss ts some done =
+      subst (λ n. 0 < n) (sym (ap length (names_after_casts helpers (done.casts no_dims))) ∙ length_in no_dims l.scopes) (list_some ss (names_in no_dims k.scopes) (some_in no_dims k.scopes some))
+
   -- ---- blocks and declarations
 
   pub block_part : (r : Option Ty) (v w : Bindings) (n m : ℕ) (s : Stmt) (ss us : List Stmt) → TypingStmtWith helpers r v n s → s.kind ≡ stmt.Block ss → us ≡ ss → w ≡ [] ∷ v → m ≡ n → TypingListWith helpers r w m us
@@ -114,6 +118,14 @@ module _ (helpers : List Helper) where
 
   pub returned_value : (r : Option Ty) (v : Bindings) (n : ℕ) (s : Stmt) (e : Option Expr) → TypingStmtWith helpers r v n s → s.kind ≡ stmt.Return e → IfSome e (TypingExprWith helpers v)
   returned_value r v n s e h is = option_typing helpers h.around v e (in_option (names_with h.around v) e (kind_typing r v n s (stmt.Return e) h is).1)
+
+  pub returned_type : (r : Option Ty) (v : Bindings) (n : ℕ) (s : Stmt) (e : Option Expr) → TypingStmtWith helpers r v n s → s.kind ≡ stmt.Return e → IfSome e (λ e. IsSome r)
+  returned_type r v n s e h is = by r e (kind_typing r v n s (stmt.Return e) h is).0
+    where
+      by : (r : Option Ty) (e : Option Expr) → IsReturnable r e → IfSome e (λ e. IsSome r)
+      by r None k = tt
+      by (Some t) (Some e) k = refl
+      by None (Some e) k = absurd k
 
   -- ---- choices
 

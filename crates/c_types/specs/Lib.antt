@@ -10,4 +10,5 @@ pub mod ProgramNodes
 pub mod ProgramParts
 pub mod Refusals
 pub mod Scopes
+pub mod TypedNodes
 pub mod TypingParts

@@ -1,145 +1,128 @@
-//! The typed program of a program that keeps the rules: its names numbered, its types written, and
-//! each implied conversion a cast, with the helpers before at hand. The rules are the premise of
-//! each call, so that no name is missing and none is of another sort.
-ghost use Rattle.std.specs.Prelude.{
-  ◌≡◌,
-  [],
-  ◌∷◌,
-  length,
-  Some,
-  None,
-  IfOk,
-  OnOk,
-  IfSome,
-  IsSome,
-  All,
-};
+//! The typed tree of a tree that keeps the rules: its names numbered, its types written, and each
+//! implied conversion a cast. The rules are the premise of each call, so that no name is missing
+//! and none is of another sort.
+ghost use Rattle.std.specs.Prelude.{◌≡◌, [], ◌∷◌, length, true, IfOk, OnOk, IfSome, IsSome, All};
 ghost use Rattle.el_base.specs.Limits.{IsNumbered};
-ghost use Rattle.c_ast.specs.Programs.{program_nodes, helpers_nodes, TypingHelpers, TypingProgram};
-ghost use Rattle.c_ast.specs.ProgramCasts.{
-  helper_of,
-  known_of,
-  CastsHelper,
-  CastsHelpers,
-  CastsProgram,
+ghost use Rattle.c_ast.specs.declared.tree.ExprKind.TheVariants as expr;
+ghost use Rattle.c_ast.specs.Nodes.{tree_nodes};
+ghost use Rattle.c_ast.specs.Typing.{Typing, TypingParams};
+ghost use Rattle.c_ast.specs.Casts.{Casts, expr_at, parameters};
+ghost use Rattle.c_types.specs.Scopes.{is_new_in};
+ghost use Rattle.c_types.specs.TypingParts.{
+  TypingUseIn,
+  TypingExprIn,
+  TypingTargetIn,
+  TypingStmtIn,
+  TypingListIn,
 };
-ghost use Rattle.c_types.specs.TypingParts.{TypingUseIn};
-ghost use Rattle.c_types.specs.Contexts.{IsObject};
-ghost use Rattle.c_types.specs.ProgramParts.{
-  HasCallee,
-  TypingExprWith,
-  TypingTargetWith,
-  TypingStmtWith,
-  TypingListWith,
-  TypingHelperWith,
-  TypingKernelWith,
-};
-ghost use Rattle.c_types.specs.ProgramContexts.{
-  callees,
-  IsProgExpr,
-  IsProgName,
-  IsProgElement,
-  AreProgExprs,
-  AreArguments,
-  IsProgOption,
-  IsProgTarget,
-  IsProgValue,
-  IsProgStmt,
-  AreProgStmts,
-  IsProgHeld,
-  IsProgInside,
-  IsProgKernel,
+ghost use Rattle.c_types.specs.Contexts.{
+  array_as,
+  IsObject,
+  IsCastExpr,
+  IsCastElement,
+  AreCastExprs,
+  IsCastOption,
+  IsCastTarget,
+  IsCastValue,
+  IsCastStmt,
+  AreCastStmts,
+  IsCastHeld,
+  IsCastInside,
+  AreParameters,
+  IsOneMore,
 };
 
-use crate::conversions::{assigned, binary, cast, choose, converted, prog_node, unary};
+use crate::conversions::{assigned, binary, cast, choose, converted, typed_node, unary};
 use crate::known::{Binding, Known};
-use crate::parameters::{copy_params, declare_params};
 use crate::scopes::Scopes;
 use c_ast::{
-    Boxed, Expr, ExprKind, Helper, List, Name, Object, Param, ProgExpr, ProgExprKind, ProgStmt,
-    ProgStmtKind, ProgTarget, ProgTree, Program, Span, Stmt, StmtKind, Target, Tree, Ty,
-    TypedHelper, TypedProgram,
+    ArrayOf, Boxed, Expr, ExprKind, List, Name, Object, Param, Span, Stmt, StmtKind, Target, Tree,
+    Ty, Typed, TypedExpr, TypedExprKind, TypedStmt, TypedStmtKind, TypedTarget,
 };
 use el_base::Memory;
 use std::alloc::Global;
 
-/// The typed program of a program that keeps the rules.
+/// The typed tree of a tree that keeps the rules.
 ///
 /// # Errors
 ///
 /// [`Memory`] where memory is wanting.
-pub(crate) fn casts(alloc: Global, program: &Program) -> Result<TypedProgram, Memory>
-    requires typing { TypingProgram program.now }
-    requires numbered { IsNumbered (program_nodes program.now) }
-    ensures { IfOk result (λ k. CastsProgram program.now k) }
-{
-    let helpers = program.helpers.as_slice();
-    Ok(TypedProgram {
-        helpers: cast_helpers(alloc, helpers)?,
-        kernel: cast_kernel(alloc, helpers, &program.kernel)?,
-    })
-}
-
-// ---- helpers and kernels
-
-fn cast_helpers(alloc: Global, helpers: &[Helper]) -> Result<List<TypedHelper>, Memory>
-    requires typing { TypingHelpers [] helpers.now }
-    requires numbered { IsNumbered (helpers_nodes helpers.now) }
-    ensures { IfOk result (λ ks. CastsHelpers [] helpers.now ks) }
-{
-    let mut items = List::new(alloc);
-    for (place, helper) in helpers.iter().enumerate() {
-        items.push(cast_helper(alloc, &helpers[..place], helper)?)?;
-    }
-    Ok(items)
-}
-
-// A helper behind others.
-fn cast_helper(alloc: Global, helpers: &[Helper], helper: &Helper) -> Result<TypedHelper, Memory>
-    requires { TypingHelperWith helpers.now helper.now }
-    ensures { IfOk result (λ k. CastsHelper (callees helpers.now) helper.now k) }
+pub(crate) fn casts(alloc: Global, tree: &Tree) -> Result<Typed, Memory>
+    requires typing { Typing tree.now }
+    requires numbered { IsNumbered (tree_nodes tree.now) }
+    ensures { IfOk result (λ k. Casts tree.now k) }
 {
     let mut known = Known::new(alloc);
-    declare_params(alloc, &mut known, helper.params.as_slice())?;
-    let returned = Some(helper.result);
-    let body = cast_stmts(alloc, helpers, &mut known, returned, helper.body.as_slice())?;
-    let value = cast_expr(alloc, helpers, &known.scopes, &helper.value)?;
-    let value = converted(alloc, helper.result, value)?.into_inner();
+    let arrays = declare_params(alloc, &mut known, tree.params.as_slice())?;
+    let body = cast_stmts(alloc, &mut known, tree.result, tree.body.as_slice())?;
     let Known { types, .. } = known;
-    Ok(TypedHelper {
-        name: helper.name.copy()?,
-        at: helper.at,
-        result: helper.result,
-        params: copy_params(alloc, helper.params.as_slice())?,
-        vars: types,
-        body,
-        value,
-    })
-}
-
-// The kernel behind all helpers.
-fn cast_kernel(alloc: Global, helpers: &[Helper], kernel: &Tree) -> Result<ProgTree, Memory>
-    requires { TypingKernelWith helpers.now kernel.now }
-    ensures { IfOk result (λ k. IsProgKernel helpers.now kernel.now k) }
-{
-    let mut known = Known::new(alloc);
-    let arrays = declare_params(alloc, &mut known, kernel.params.as_slice())?;
-    let body = cast_stmts(
-        alloc,
-        helpers,
-        &mut known,
-        kernel.result,
-        kernel.body.as_slice(),
-    )?;
-    let Known { types, .. } = known;
-    Ok(ProgTree {
-        name: kernel.name.copy()?,
-        at: kernel.at,
-        result: kernel.result,
-        params: copy_params(alloc, kernel.params.as_slice())?,
+    Ok(Typed {
+        name: tree.name.copy()?,
+        at: tree.at,
+        result: tree.result,
+        params: copy_params(alloc, tree.params.as_slice())?,
         vars: types,
         arrays,
         body,
+    })
+}
+
+// ---- parameters
+
+pub(crate) fn copy_params(alloc: Global, params: &[Param]) -> Result<List<Param>, Memory>
+    ensures { IfOk result (λ ps. ps ≡ params.now) }
+{
+    let mut copies = List::new(alloc);
+    for param in params {
+        copies.push(param.copy()?)?;
+    }
+    Ok(copies)
+}
+
+// The arrays of parameters, which are declared in the one scope in force.
+pub(crate) fn declare_params(
+    alloc: Global,
+    known: &mut Known,
+    params: &[Param],
+) -> Result<List<ArrayOf>, Memory>
+    requires scopes { known.old.scopes ≡ [] ∷ [] }
+    requires types { known.old.types ≡ [] }
+    requires typing { TypingParams params.now [] 0 }
+    requires numbered { IsNumbered (length params.now) }
+    ensures { IfOk result (λ arrays. AreParameters known.new arrays (parameters params.now)) }
+{
+    let mut arrays = List::new(alloc);
+    for param in params {
+        declare_param(known, &mut arrays, param)?;
+    }
+    Ok(arrays)
+}
+
+fn declare_param(known: &mut Known, arrays: &mut List<ArrayOf>, param: &Param) -> Result<(), Memory>
+    requires new { is_new_in known.old.scopes param.now.name ≡ true }
+    requires vars { IsNumbered (length known.old.types) }
+    requires arrays { IsNumbered (length arrays.old) }
+    ensures { OnOk result (IsOneMore known.old arrays.old param.now known.new arrays.new) }
+{
+    if param.dims.is_empty() {
+        known.declare_var(&param.name, param.ty)?;
+        return Ok(());
+    }
+    let array = arrays.len() as u32;
+    let item = array_of(param)?;
+    known.declare_array(&param.name, array, param.ty)?;
+    arrays.push(item)?;
+    Ok(())
+}
+
+// The array of a parameter.
+fn array_of(param: &Param) -> Result<ArrayOf, Memory>
+    ensures { IfOk result (λ x. x ≡ array_as param.now) }
+{
+    Ok(ArrayOf {
+        name: param.name.copy()?,
+        ty: param.ty,
+        dims: param.dims.copy()?,
     })
 }
 
@@ -148,18 +131,16 @@ fn cast_kernel(alloc: Global, helpers: &[Helper], kernel: &Tree) -> Result<ProgT
 #[cycle(cast_stmt)]
 fn cast_stmts(
     alloc: Global,
-    helpers: &[Helper],
     known: &mut Known,
     returned: Option<Ty>,
     stmts: &[Stmt],
-) -> Result<List<ProgStmt>, Memory>
-    requires { TypingListWith helpers.now returned known.old.scopes (length known.old.types)
-        stmts.now }
-    ensures { IfOk result (λ ts. AreProgStmts helpers.now returned known.old stmts.now ts known.new) }
+) -> Result<List<TypedStmt>, Memory>
+    requires { TypingListIn returned known.old.scopes (length known.old.types) stmts.now }
+    ensures { IfOk result (λ ts. AreCastStmts returned known.old stmts.now ts known.new) }
 {
     let mut items = List::new(alloc);
     for stmt in stmts {
-        items.push(cast_stmt(alloc, helpers, known, returned, stmt)?)?;
+        items.push(cast_stmt(alloc, known, returned, stmt)?)?;
     }
     Ok(items)
 }
@@ -167,55 +148,53 @@ fn cast_stmts(
 #[cycle(cast_stmt)]
 fn cast_stmt(
     alloc: Global,
-    helpers: &[Helper],
     known: &mut Known,
     returned: Option<Ty>,
     stmt: &Stmt,
-) -> Result<ProgStmt, Memory>
-    requires { TypingStmtWith helpers.now returned known.old.scopes (length known.old.types)
-        stmt.now }
-    ensures { IfOk result (λ t. IsProgStmt helpers.now returned known.old stmt.now t known.new) }
+) -> Result<TypedStmt, Memory>
+    requires { TypingStmtIn returned known.old.scopes (length known.old.types) stmt.now }
+    ensures { IfOk result (λ t. IsCastStmt returned known.old stmt.now t known.new) }
 {
     let at = stmt.at;
     match &stmt.kind {
         StmtKind::Block(body) => {
             known.enter()?;
-            let stmts = cast_stmts(alloc, helpers, known, returned, body.as_slice())?;
+            let stmts = cast_stmts(alloc, known, returned, body.as_slice())?;
             known.leave();
-            Ok(act(ProgStmtKind::Block(stmts), at))
+            Ok(act(TypedStmtKind::Block(stmts), at))
         }
         StmtKind::Declare { name, ty, init } => {
             let var = known.declare_var(name, *ty)?;
-            let init = cast_value(alloc, helpers, &known.scopes, Some(*ty), init)?;
-            Ok(act(ProgStmtKind::Declare { var, init }, at))
+            let init = cast_value(alloc, &known.scopes, Some(*ty), init)?;
+            Ok(act(TypedStmtKind::Declare { var, init }, at))
         }
         StmtKind::Assign { target, op, value } => {
-            let (target, ty) = cast_target(alloc, helpers, &known.scopes, target)?;
-            let value = cast_boxed(alloc, helpers, &known.scopes, value)?;
+            let (target, ty) = cast_target(alloc, &known.scopes, target)?;
+            let value = cast_boxed(alloc, &known.scopes, value)?;
             let value = assigned(alloc, *op, ty, value)?.into_inner();
             let op = *op;
-            Ok(act(ProgStmtKind::Assign { target, op, value }, at))
+            Ok(act(TypedStmtKind::Assign { target, op, value }, at))
         }
         StmtKind::Step { target, up } => {
-            let (target, _) = cast_target(alloc, helpers, &known.scopes, target)?;
+            let (target, _) = cast_target(alloc, &known.scopes, target)?;
             let up = *up;
-            Ok(act(ProgStmtKind::Step { target, up }, at))
+            Ok(act(TypedStmtKind::Step { target, up }, at))
         }
         StmtKind::If { cond, then, other } => {
-            let cond = cast_boxed(alloc, helpers, &known.scopes, cond)?.into_inner();
-            let then = cast_inside(alloc, helpers, known, returned, then)?;
-            let other = cast_held(alloc, helpers, known, returned, other)?;
-            Ok(act(ProgStmtKind::If { cond, then, other }, at))
+            let cond = cast_boxed(alloc, &known.scopes, cond)?.into_inner();
+            let then = cast_inside(alloc, known, returned, then)?;
+            let other = cast_held(alloc, known, returned, other)?;
+            Ok(act(TypedStmtKind::If { cond, then, other }, at))
         }
         StmtKind::While { cond, body } => {
-            let cond = cast_boxed(alloc, helpers, &known.scopes, cond)?.into_inner();
-            let body = cast_inside(alloc, helpers, known, returned, body)?;
-            Ok(act(ProgStmtKind::While { cond, body }, at))
+            let cond = cast_boxed(alloc, &known.scopes, cond)?.into_inner();
+            let body = cast_inside(alloc, known, returned, body)?;
+            Ok(act(TypedStmtKind::While { cond, body }, at))
         }
         StmtKind::DoWhile { body, cond } => {
-            let cond = cast_boxed(alloc, helpers, &known.scopes, cond)?.into_inner();
-            let body = cast_inside(alloc, helpers, known, returned, body)?;
-            Ok(act(ProgStmtKind::DoWhile { body, cond }, at))
+            let cond = cast_boxed(alloc, &known.scopes, cond)?.into_inner();
+            let body = cast_inside(alloc, known, returned, body)?;
+            Ok(act(TypedStmtKind::DoWhile { body, cond }, at))
         }
         StmtKind::For {
             first,
@@ -224,13 +203,13 @@ fn cast_stmt(
             body,
         } => {
             known.enter()?;
-            let first = cast_stmts(alloc, helpers, known, returned, first.as_slice())?;
-            let cond = cast_option(alloc, helpers, &known.scopes, cond)?;
-            let step = cast_held(alloc, helpers, known, returned, step)?;
-            let body = cast_inside(alloc, helpers, known, returned, body)?;
+            let first = cast_stmts(alloc, known, returned, first.as_slice())?;
+            let cond = cast_option(alloc, &known.scopes, cond)?;
+            let step = cast_held(alloc, known, returned, step)?;
+            let body = cast_inside(alloc, known, returned, body)?;
             known.leave();
             Ok(act(
-                ProgStmtKind::For {
+                TypedStmtKind::For {
                     first,
                     cond,
                     step,
@@ -239,41 +218,39 @@ fn cast_stmt(
                 at,
             ))
         }
-        StmtKind::Break => Ok(act(ProgStmtKind::Break, at)),
-        StmtKind::Continue => Ok(act(ProgStmtKind::Continue, at)),
+        StmtKind::Break => Ok(act(TypedStmtKind::Break, at)),
+        StmtKind::Continue => Ok(act(TypedStmtKind::Continue, at)),
         StmtKind::Return(value) => {
-            let value = cast_value(alloc, helpers, &known.scopes, returned, value)?;
-            Ok(act(ProgStmtKind::Return(value), at))
+            let value = cast_value(alloc, &known.scopes, returned, value)?;
+            Ok(act(TypedStmtKind::Return(value), at))
         }
-        StmtKind::Empty => Ok(act(ProgStmtKind::Empty, at)),
+        StmtKind::Empty => Ok(act(TypedStmtKind::Empty, at)),
     }
 }
 
-fn act(kind: ProgStmtKind, at: Span) -> ProgStmt
+fn act(kind: TypedStmtKind, at: Span) -> TypedStmt
     ensures { result ≡ record { kind = kind; at = at } }
 {
-    ProgStmt { kind, at }
+    TypedStmt { kind, at }
 }
 
 // A statement inside a statement, which may be absent.
 #[cycle(cast_stmt)]
 fn cast_held(
     alloc: Global,
-    helpers: &[Helper],
     known: &mut Known,
     returned: Option<Ty>,
     stmt: &Option<Boxed<Stmt>>,
-) -> Result<Option<Boxed<ProgStmt>>, Memory>
+) -> Result<Option<Boxed<TypedStmt>>, Memory>
     requires { IfSome stmt.now
-        (TypingStmtWith helpers.now returned ([] ∷ known.old.scopes)
-        (length known.old.types)) }
-    ensures { IfOk result (λ t. IsProgHeld helpers.now returned known.old stmt.now t known.new) }
+        (TypingStmtIn returned ([] ∷ known.old.scopes) (length known.old.types)) }
+    ensures { IfOk result (λ t. IsCastHeld returned known.old stmt.now t known.new) }
 {
     match stmt {
         None => Ok(None),
         Some(stmt) => {
             known.enter()?;
-            let typed = cast_stmt(alloc, helpers, known, returned, stmt.get())?;
+            let typed = cast_stmt(alloc, known, returned, stmt.get())?;
             known.leave();
             let boxed = Boxed::new(alloc, typed)?;
             Ok(Some(boxed))
@@ -285,17 +262,15 @@ fn cast_held(
 #[cycle(cast_stmt)]
 fn cast_inside(
     alloc: Global,
-    helpers: &[Helper],
     known: &mut Known,
     returned: Option<Ty>,
     stmt: &Boxed<Stmt>,
-) -> Result<Boxed<ProgStmt>, Memory>
-    requires { TypingStmtWith helpers.now returned ([] ∷ known.old.scopes)
-        (length known.old.types) stmt.now }
-    ensures { IfOk result (λ t. IsProgInside helpers.now returned known.old stmt.now t known.new) }
+) -> Result<Boxed<TypedStmt>, Memory>
+    requires { TypingStmtIn returned ([] ∷ known.old.scopes) (length known.old.types) stmt.now }
+    ensures { IfOk result (λ t. IsCastInside returned known.old stmt.now t known.new) }
 {
     known.enter()?;
-    let typed = cast_stmt(alloc, helpers, known, returned, stmt.get())?;
+    let typed = cast_stmt(alloc, known, returned, stmt.get())?;
     known.leave();
     let boxed = Boxed::new(alloc, typed)?;
     Ok(boxed)
@@ -305,7 +280,7 @@ fn cast_inside(
 
 // The variable or array that a name stands for where it has so many indices, with the type of it
 // or of its elements.
-fn object(scopes: &Scopes<Binding>, name: &Name, indices: usize) -> (Object, Ty)
+pub(crate) fn object(scopes: &Scopes<Binding>, name: &Name, indices: usize) -> (Object, Ty)
     requires { TypingUseIn scopes.now name.now indices }
     ensures { IsObject scopes.now name.now indices result.0 result.1 }
 {
@@ -319,36 +294,34 @@ fn object(scopes: &Scopes<Binding>, name: &Name, indices: usize) -> (Object, Ty)
 // What is assigned to, with the type of its object.
 fn cast_target(
     alloc: Global,
-    helpers: &[Helper],
     scopes: &Scopes<Binding>,
     target: &Boxed<Target>,
-) -> Result<(ProgTarget, Ty), Memory>
-    requires { TypingTargetWith helpers.now scopes.now target.now }
-    ensures { IfOk result (λ t. IsProgTarget helpers.now scopes.now target.now t.0 t.1) }
+) -> Result<(TypedTarget, Ty), Memory>
+    requires { TypingTargetIn scopes.now target.now }
+    ensures { IfOk result (λ t. IsCastTarget scopes.now target.now t.0 t.1) }
 {
     let target = target.get();
     let at = target.at;
     let (to, ty) = object(scopes, &target.name, target.indices.len());
-    let indices = cast_exprs(alloc, helpers, scopes, target.indices.as_slice())?;
-    Ok((ProgTarget { to, at, indices }, ty))
+    let indices = cast_exprs(alloc, scopes, target.indices.as_slice())?;
+    Ok((TypedTarget { to, at, indices }, ty))
 }
 
 // A value that may be absent, converted to a type; there is none where there is no type.
 fn cast_value(
     alloc: Global,
-    helpers: &[Helper],
     scopes: &Scopes<Binding>,
     to: Option<Ty>,
     value: &Option<Boxed<Expr>>,
-) -> Result<Option<ProgExpr>, Memory>
-    requires typing { IfSome value.now (TypingExprWith helpers.now scopes.now) }
+) -> Result<Option<TypedExpr>, Memory>
+    requires typing { IfSome value.now (TypingExprIn scopes.now) }
     requires typed { IfSome value.now (λ e. IsSome to) }
-    ensures { IfOk result (λ f. IsProgValue helpers.now to scopes.now value.now f) }
+    ensures { IfOk result (λ f. IsCastValue to scopes.now value.now f) }
 {
     match (value, to) {
         (None, _) => Ok(None),
         (Some(value), Some(ty)) => {
-            let value = cast_boxed(alloc, helpers, scopes, value)?;
+            let value = cast_boxed(alloc, scopes, value)?;
             Ok(Some(converted(alloc, ty, value)?.into_inner()))
         }
         (Some(_), None) => unreachable!(),
@@ -357,44 +330,41 @@ fn cast_value(
 
 fn cast_option(
     alloc: Global,
-    helpers: &[Helper],
     scopes: &Scopes<Binding>,
     expr: &Option<Boxed<Expr>>,
-) -> Result<Option<ProgExpr>, Memory>
-    requires { IfSome expr.now (TypingExprWith helpers.now scopes.now) }
-    ensures { IfOk result (λ f. IsProgOption helpers.now scopes.now expr.now f) }
+) -> Result<Option<TypedExpr>, Memory>
+    requires { IfSome expr.now (TypingExprIn scopes.now) }
+    ensures { IfOk result (λ f. IsCastOption scopes.now expr.now f) }
 {
     match expr {
         None => Ok(None),
-        Some(expr) => Ok(Some(cast_boxed(alloc, helpers, scopes, expr)?.into_inner())),
+        Some(expr) => Ok(Some(cast_boxed(alloc, scopes, expr)?.into_inner())),
     }
 }
 
 fn cast_boxed(
     alloc: Global,
-    helpers: &[Helper],
     scopes: &Scopes<Binding>,
     expr: &Boxed<Expr>,
-) -> Result<Boxed<ProgExpr>, Memory>
-    requires { TypingExprWith helpers.now scopes.now expr.now }
-    ensures { IfOk result (λ f. IsProgExpr helpers.now scopes.now expr.now f) }
+) -> Result<Boxed<TypedExpr>, Memory>
+    requires { TypingExprIn scopes.now expr.now }
+    ensures { IfOk result (λ f. IsCastExpr scopes.now expr.now f) }
 {
-    cast_expr(alloc, helpers, scopes, expr.get())
+    cast_expr(alloc, scopes, expr.get())
 }
 
 #[cycle(cast_expr)]
 fn cast_exprs(
     alloc: Global,
-    helpers: &[Helper],
     scopes: &Scopes<Binding>,
     exprs: &[Expr],
-) -> Result<List<ProgExpr>, Memory>
-    requires { All (TypingExprWith helpers.now scopes.now) exprs.now }
-    ensures { IfOk result (λ fs. AreProgExprs helpers.now scopes.now exprs.now fs) }
+) -> Result<List<TypedExpr>, Memory>
+    requires { All (TypingExprIn scopes.now) exprs.now }
+    ensures { IfOk result (λ fs. AreCastExprs scopes.now exprs.now fs) }
 {
     let mut items = List::new(alloc);
     for expr in exprs {
-        items.push(cast_expr(alloc, helpers, scopes, expr)?.into_inner())?;
+        items.push(cast_expr(alloc, scopes, expr)?.into_inner())?;
     }
     Ok(items)
 }
@@ -402,86 +372,44 @@ fn cast_exprs(
 #[cycle(cast_expr)]
 fn cast_expr(
     alloc: Global,
-    helpers: &[Helper],
     scopes: &Scopes<Binding>,
     expr: &Expr,
-) -> Result<Boxed<ProgExpr>, Memory>
-    requires { TypingExprWith helpers.now scopes.now expr.now }
-    ensures { IfOk result (λ f. IsProgExpr helpers.now scopes.now expr.now f) }
+) -> Result<Boxed<TypedExpr>, Memory>
+    requires { TypingExprIn scopes.now expr.now }
+    ensures { IfOk result (λ f. IsCastExpr scopes.now expr.now f) }
 {
     let at = expr.at;
     match &expr.kind {
         ExprKind::Number { value, ty } => {
-            prog_node(alloc, ProgExprKind::Number(*value), *ty, at)
+            typed_node(alloc, TypedExprKind::Number(*value), *ty, at)
         }
         ExprKind::Name(name) => cast_name(alloc, scopes, name, at),
         ExprKind::Element { name, indices } => {
-            let indices = cast_exprs(alloc, helpers, scopes, indices.as_slice())?;
+            let indices = cast_exprs(alloc, scopes, indices.as_slice())?;
             cast_element(alloc, scopes, name, indices, at)
         }
-        ExprKind::Call { name, args } => {
-            let (helper, callee) = callee(helpers, name);
-            let params = callee.params.as_slice();
-            let args = cast_args(alloc, helpers, scopes, params, args.as_slice())?;
-            let kind = ProgExprKind::Call { helper, args };
-            prog_node(alloc, kind, callee.result, at)
-        }
+        // No helper is in scope, so nothing that is called keeps the rules.
+        ExprKind::Call { .. } => unreachable!(),
         ExprKind::Unary(op, arg) => {
-            let arg = cast_expr(alloc, helpers, scopes, arg.get())?;
+            let arg = cast_expr(alloc, scopes, arg.get())?;
             unary(alloc, *op, arg, at)
         }
         ExprKind::Cast(ty, arg) => {
-            let arg = cast_expr(alloc, helpers, scopes, arg.get())?;
+            let arg = cast_expr(alloc, scopes, arg.get())?;
             cast(alloc, false, *ty, arg, at)
         }
         ExprKind::Binary(op, left, right) => {
-            let left = cast_expr(alloc, helpers, scopes, left.get())?;
-            let right = cast_expr(alloc, helpers, scopes, right.get())?;
+            let left = cast_expr(alloc, scopes, left.get())?;
+            let right = cast_expr(alloc, scopes, right.get())?;
             binary(alloc, *op, left, right, at)
         }
         ExprKind::Choose(cond, then, other) => {
-            let cond = cast_expr(alloc, helpers, scopes, cond.get())?;
-            let then = cast_expr(alloc, helpers, scopes, then.get())?;
-            let other = cast_expr(alloc, helpers, scopes, other.get())?;
+            let cond = cast_expr(alloc, scopes, cond.get())?;
+            let then = cast_expr(alloc, scopes, then.get())?;
+            let other = cast_expr(alloc, scopes, other.get())?;
             choose(alloc, cond, then, other, at)
         }
     }
-}
-
-// Arguments, each converted to the type of its parameter.
-#[cycle(cast_expr)]
-fn cast_args(
-    alloc: Global,
-    helpers: &[Helper],
-    scopes: &Scopes<Binding>,
-    params: &[Param],
-    args: &[Expr],
-) -> Result<List<ProgExpr>, Memory>
-    requires typing { All (TypingExprWith helpers.now scopes.now) args.now }
-    requires one_for_each { length args.now ≡ length params.now }
-    ensures { IfOk result (λ gs. AreArguments helpers.now scopes.now params.now args.now gs) }
-{
-    let mut items = List::new(alloc);
-    for (place, arg) in args.iter().enumerate() {
-        let value = cast_expr(alloc, helpers, scopes, arg)?;
-        let arg = converted(alloc, params[place].ty, value)?;
-        items.push(arg.into_inner())?;
-    }
-    Ok(items)
-}
-
-// The helper of a name, by its place.
-fn callee<'a>(helpers: &'a [Helper], name: &Name) -> (u32, &'a Helper)
-    requires named { HasCallee helpers.now name.now }
-    requires numbered { IsNumbered (length helpers.now) }
-    ensures { helper_of (callees helpers.now) name.now ≡ Some (result.0, known_of result.1.now) }
-{
-    for (place, helper) in helpers.iter().enumerate() {
-        if helper.name == *name {
-            return (place as u32, helper);
-        }
-    }
-    unreachable!()
 }
 
 // The name of a variable.
@@ -491,12 +419,12 @@ fn cast_name(
     scopes: &Scopes<Binding>,
     name: &Name,
     at: Span,
-) -> Result<Boxed<ProgExpr>, Memory>
+) -> Result<Boxed<TypedExpr>, Memory>
     requires { TypingUseIn scopes.now name.now 0 }
-    ensures { IfOk result (IsProgName scopes.now name.now at) }
+    ensures { IfOk result (IsCastExpr scopes.now (expr_at (expr.Name name.now) at)) }
 {
     match object(scopes, name, 0) {
-        (Object::Var(var), ty) => prog_node(alloc, ProgExprKind::Var(var), ty, at),
+        (Object::Var(var), ty) => typed_node(alloc, TypedExprKind::Var(var), ty, at),
         (Object::Array(_), _) => unreachable!(),
     }
 }
@@ -507,17 +435,17 @@ fn cast_element(
     alloc: Global,
     scopes: &Scopes<Binding>,
     name: &Name,
-    indices: List<ProgExpr>,
+    indices: List<TypedExpr>,
     at: Span,
-) -> Result<Boxed<ProgExpr>, Memory>
+) -> Result<Boxed<TypedExpr>, Memory>
     requires { TypingUseIn scopes.now name.now (length indices) }
-    ensures { IfOk result (IsProgElement scopes.now name.now indices at) }
+    ensures { IfOk result (IsCastElement scopes.now name.now indices at) }
 {
     match object(scopes, name, indices.len()) {
-        (Object::Var(var), ty) => prog_node(alloc, ProgExprKind::Var(var), ty, at),
+        (Object::Var(var), ty) => typed_node(alloc, TypedExprKind::Var(var), ty, at),
         (Object::Array(array), ty) => {
-            let kind = ProgExprKind::Element { array, indices };
-            prog_node(alloc, kind, ty, at)
+            let kind = TypedExprKind::Element { array, indices };
+            typed_node(alloc, kind, ty, at)
         }
     }
 }

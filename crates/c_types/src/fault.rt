@@ -78,7 +78,7 @@ pub struct Fault {
     pub span: Span,
 }
 
-/// Why a program has no typed program.
+/// Why a tree has no typed tree, or a program no typed program.
 #[derive(Clone, Copy, Debug, PartialEq, Eq)]
 pub enum TypeRefusal {
     /// The rule that is broken first, with its place.

@@ -1,4 +1,4 @@
-//! The first rule that a block breaks: a walk with the names in force, which keeps the fault that
+//! The first rule that a tree breaks: a walk with the names in force, which keeps the fault that
 //! goes first.
 ghost use Rattle.std.specs.Prelude.{◌≡◌, ◌∷◌, [], ◌+◌, ◌-◌, ◌^◌, min, IfOk, OnOk, length, not, nat_lt, nat_eq, ◌||◌};
 ghost use Rattle.std.specs.List.{list_any};
@@ -28,13 +28,24 @@ ghost use Rattle.c_types.specs.Faults.{
   sorts_after_params,
   block_faults,
   sorts_at_end,
+  tree_faults,
 };
 
 use crate::fault::{Fault, Rule, earlier, first_bytes};
 use crate::scopes::Scopes;
 use crate::sort::Sort;
-use c_ast::{Boxed, Expr, ExprKind, Name, Param, Span, Stmt, StmtKind, Target, Ty};
+use c_ast::{Boxed, Expr, ExprKind, Name, Param, Span, Stmt, StmtKind, Target, Tree, Ty};
 use el_base::{MAX_DIMENSIONS, MAX_ELEMENTS, Memory};
+use std::alloc::Global;
+
+// The fault of a tree that goes first, if it breaks any rule.
+pub(crate) fn first_fault(alloc: Global, tree: &Tree) -> Result<Option<Fault>, Memory>
+    ensures { IfOk result (λ f. f ≡ first_of (tree_faults tree.now)) }
+{
+    let mut scopes = Scopes::new(alloc);
+    let (params, body) = (tree.params.as_slice(), tree.body.as_slice());
+    of_block(&mut scopes, params, body, tree.result)
+}
 
 // Parameters and statements that share the innermost scope.
 pub(crate) fn of_block(

@@ -1,4 +1,5 @@
-//! The type checker: the first rule that a program breaks, or its typed program.
+//! The type checker: the first rule that a kernel's tree or a program breaks, or its typed tree or
+//! typed program.
 #![tactic(auto)]
 
 mod calls;
@@ -9,11 +10,12 @@ mod fault;
 mod faults;
 mod known;
 mod laws;
-mod parameters;
+mod program_casts;
+mod program_conversions;
 mod programs;
 mod scopes;
 mod sort;
 
-pub use checker::{check_program, check_program_rules};
+pub use checker::{check, check_program, check_program_rules, check_rules};
 pub use fault::{Fault, Rule, TypeRefusal};
 pub use laws::trees_are_checked_as_programs;

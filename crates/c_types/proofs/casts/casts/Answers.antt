@@ -1,12 +1,16 @@
-use Rattle.std.proofs.Common.{refl}
-use Rattle.c_types.proofs.ProgramHelpers.{helpers_few, kernel_here, program_arm}
+use Rattle.std.proofs.Common.{refl, ◌∙◌}
+use Rattle.c_types.proofs.CastParams.{tree_arm}
+use Rattle.c_types.proofs.ParameterParts.{few_params, body_typing}
 use Rattle.c_types.proofs.casts.casts.Goals as goal
 
 pub returns : goal.returns
-returns c = program_arm c.args.program.now _ c.as_slice-helpers.result.now _ _ c.as_slice-helpers.ensures c.in_ok-cast_helpers.ensures c.in_ok-cast_kernel.ensures refl refl
+returns c =
+    tree_arm c.args.tree.now c.declare_params.new.known c.cast_stmts.new.known _ _ _ _ _ c.as_slice.ensures c.as_slice-2.ensures c.in_ok-arrays.ensures c.in_ok-body.ensures
+    c.in_ok-copy.ensures refl refl (c.in_ok-copy_params.ensures ∙ c.as_slice-3.ensures) refl refl refl
 
-pub cast_helpers-requires-clause-numbered : goal.cast_helpers-requires-clause-numbered
-cast_helpers-requires-clause-numbered c = helpers_few c.args.program.now c.as_slice-helpers.result.now c.as_slice-helpers.ensures c.requires.numbered
+pub declare_params-requires-clause-numbered : goal.declare_params-requires-clause-numbered
+declare_params-requires-clause-numbered c = few_params c.args.tree.now c.as_slice.result.now c.as_slice.ensures c.requires.numbered
 
-pub cast_kernel-requires : goal.cast_kernel-requires
-cast_kernel-requires c = kernel_here c.args.program.now c.as_slice-helpers.result.now c.as_slice-helpers.ensures c.requires.typing c.requires.numbered
+pub cast_stmts-requires : goal.cast_stmts-requires
+cast_stmts-requires c =
+    body_typing c.args.tree.now c.declare_params.new.known _ c.as_slice.result.now c.as_slice-2.result.now c.as_slice.ensures c.as_slice-2.ensures c.requires.typing c.requires.numbered c.in_ok-arrays.ensures

@@ -2,7 +2,7 @@ use Rattle.std.proofs.Common.{◌+◌, take, drop}
 use Rattle.c_types.proofs.FirstFaults.{item_more}
 use Rattle.c_types.proofs.CastParams.{one_more_param}
 use Rattle.c_types.proofs.ParameterParts.{split_item, new_param, few_vars, few_arrays}
-use Rattle.c_types.proofs.parameters.declare_params.Goals as goal
+use Rattle.c_types.proofs.casts.declare_params.Goals as goal
 
 pub loop-param-preserved : goal.loop-param-preserved
 loop-param-preserved c =

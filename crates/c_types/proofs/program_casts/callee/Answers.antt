@@ -1,6 +1,6 @@
 use Rattle.std.proofs.Common.{false, sym, ◌∙◌}
 use Rattle.c_types.proofs.ProgramCastLemmas.{callee_step, callee_missing}
-use Rattle.c_types.proofs.casts.callee.Goals as goal
+use Rattle.c_types.proofs.program_casts.callee.Goals as goal
 
 pub loop-place-preserved : goal.loop-place-preserved
 loop-place-preserved c =

@@ -1,6 +1,6 @@
 use Rattle.std.proofs.Common.{◌∷◌, ◌++◌, [], sym, ap, ◌∙◌}
 use Rattle.c_types.proofs.CastParams.{array_param}
-use Rattle.c_types.proofs.parameters.declare_param.Goals as goal
+use Rattle.c_types.proofs.casts.declare_param.Goals as goal
 
 pub returns : goal.returns
 returns c =

@@ -1,6 +1,6 @@
 use Rattle.std.proofs.Common.{refl, ◌∙◌}
 use Rattle.c_types.proofs.ProgramHelpers.{kernel_arm, kernel_params, kernel_body}
-use Rattle.c_types.proofs.casts.cast_kernel.Goals as goal
+use Rattle.c_types.proofs.program_casts.cast_kernel.Goals as goal
 
 pub returns : goal.returns
 returns c =

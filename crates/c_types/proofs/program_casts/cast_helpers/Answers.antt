@@ -1,7 +1,7 @@
 use Rattle.std.proofs.Common.{take, refl}
 use Rattle.c_types.proofs.FirstFaults.{item_more}
 use Rattle.c_types.proofs.ProgramHelpers.{no_helper, one_more_helper, helper_here}
-use Rattle.c_types.proofs.casts.cast_helpers.Goals as goal
+use Rattle.c_types.proofs.program_casts.cast_helpers.Goals as goal
 
 pub loop-place-init : goal.loop-place-init
 loop-place-init c = no_helper _ c.new-items.ensures

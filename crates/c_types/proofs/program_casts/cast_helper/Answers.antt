@@ -1,6 +1,6 @@
 use Rattle.std.proofs.Common.{refl, ◌∙◌}
 use Rattle.c_types.proofs.ProgramHelpers.{helper_arm, helper_params, helper_body, helper_value}
-use Rattle.c_types.proofs.casts.cast_helper.Goals as goal
+use Rattle.c_types.proofs.program_casts.cast_helper.Goals as goal
 
 pub returns : goal.returns
 returns c =
