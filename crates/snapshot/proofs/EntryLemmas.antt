@@ -52,6 +52,22 @@ small_maybe width None thin h = tt
 small_maybe width (Some v) thin h = power_slim width v thin h
 
 -- a field that no word tells
+pub port_other : {A : Type 0} (f : A → List ℕ) (xs : List A) (d : A) (width : ℕ) (ports : List Port)
+    → ((n : ℕ) → IsBelow (length ports) n → decimal n ≡ f (get_or xs 1 d) → ⊥) → (v : Entry) → EntryIsOf width ports v → entry_fields v ≡ map f xs → ⊥
+port_other f xs d width ports other v k e = other v.port k.port (ap (λ l. get_or l 1 (f d)) e ∙ at_map f xs 1 d)
+
+pub addr_other : {A : Type 0} (f : A → List ℕ) (xs : List A) (d : A) (width : ℕ) (ports : List Port)
+    → ((o : Option ℕ) → IfSome o (PatternFits 64) → maybe o ≡ f (get_or xs 2 d) → ⊥) → (v : Entry) → EntryIsOf width ports v → entry_fields v ≡ map f xs → ⊥
+addr_other f xs d width ports other v k e = other v.addr k.fits.addr (ap (λ l. get_or l 2 (f d)) e ∙ at_map f xs 2 d)
+
+pub datum_other : {A : Type 0} (f : A → List ℕ) (xs : List A) (d : A) (width : ℕ) (ports : List Port)
+    → ((o : Option ℕ) → IfSome o (PatternFits width) → maybe o ≡ f (get_or xs 3 d) → ⊥) → (v : Entry) → EntryIsOf width ports v → entry_fields v ≡ map f xs → ⊥
+datum_other f xs d width ports other v k e = other v.datum k.fits.datum (ap (λ l. get_or l 3 (f d)) e ∙ at_map f xs 3 d)
+
+pub done_other : {A : Type 0} (f : A → List ℕ) (xs : List A) (d : A) (width : ℕ) (ports : List Port)
+    → ((b : Bool) → Always b → digit b ≡ f (get_or xs 4 d) → ⊥) → (v : Entry) → EntryIsOf width ports v → entry_fields v ≡ map f xs → ⊥
+done_other f xs d width ports other v k e = other v.done tt (ap (λ l. get_or l 4 (f d)) e ∙ at_map f xs 4 d)
+
 pub value_other : {A : Type 0} (f : A → List ℕ) (xs : List A) (d : A) (width : ℕ) (ports : List Port)
     → ((n : ℕ) → PatternFits width n → decimal n ≡ f (get_or xs 5 d) → ⊥) → (v : Entry) → EntryIsOf width ports v → entry_fields v ≡ map f xs → ⊥
 value_other f xs d width ports other v k e = other v.value k.fits.value (ap (λ l. get_or l 5 (f d)) e ∙ at_map f xs 5 d)

@@ -59,24 +59,48 @@ pub(crate) fn blank(alloc: Global, net: &Net) -> Result<Draft, Memory>
     ensures saved { IfOk result
         (λ d. d.saved ≡ record { made = 0; parts = blank_parts net.now }) }
 {
-    let units = net.units.as_slice().len();
-    let given = Inputs {
-        scalars: zeros(alloc, net.scalars.as_slice().len() as u64)?,
-        arrays: zero_arrays(alloc, net.arrays.as_slice())?,
-    };
+    let given = zero_inputs(alloc, net)?;
+    let tokens = empty_lists(alloc, net.chans.as_slice().len())?;
+    let strays = zeros(alloc, net.arrays.as_slice().len() as u64)?;
+    let (sent, fired, queues) = blank_units(alloc, net.units.as_slice().len())?;
     let parts = Parts {
         given,
-        tokens: empty_lists(alloc, net.chans.as_slice().len())?,
-        sent: empty_lists(alloc, units)?,
-        fired: flags(alloc, units)?,
+        tokens,
+        sent,
+        fired,
         value: None,
-        queues: empty_queues(alloc, units)?,
-        strays: zeros(alloc, net.arrays.as_slice().len() as u64)?,
+        queues,
+        strays,
     };
     Ok(Draft {
         stage: Stage::First,
         saved: Saved { made: 0, parts },
     })
+}
+
+/// Inputs that are zeros.
+fn zero_inputs(alloc: Global, net: &Net) -> Result<Inputs, Memory>
+    ensures scalars { IfOk result (λ i. i.scalars ≡ replicate (length net.now.scalars) 0) }
+    ensures arrays { IfOk result (λ i. i.arrays ≡ map zero_elements net.now.arrays) }
+{
+    let scalars = zeros(alloc, net.scalars.as_slice().len() as u64)?;
+    let arrays = zero_arrays(alloc, net.arrays.as_slice())?;
+    Ok(Inputs { scalars, arrays })
+}
+
+/// Of so many units that nothing was sent, that none has fired, and that each queue is empty.
+fn blank_units(
+    alloc: Global,
+    count: usize,
+) -> Result<(List<List<u32>>, List<bool>, List<QueuePart>), Memory>
+    ensures sent { IfOk result (λ t. t.0 ≡ replicate count []) }
+    ensures fired { IfOk result (λ t. t.1 ≡ replicate count false) }
+    ensures queues { IfOk result (λ t. t.2 ≡ replicate count no_part) }
+{
+    let sent = empty_lists(alloc, count)?;
+    let fired = flags(alloc, count)?;
+    let queues = empty_queues(alloc, count)?;
+    Ok((sent, fired, queues))
 }
 
 fn zeros(alloc: Global, count: u64) -> Result<List<u64>, Memory>
