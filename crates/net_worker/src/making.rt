@@ -32,13 +32,13 @@ impl Worker {
         ensures takes { IfOk result (λ w. (c : ℕ) → take_end w c ≡ None) }
     {
         let chans = tables.net.net().chans.len();
-        let state = State::new(alloc, &tables.net, &tables.inputs)?;
-        let log = Log::with_room(alloc, share)?;
-        let puts = nothing(alloc, chans)?;
-        let takes = nothing(alloc, chans)?;
         let outs = channels_out(alloc, tables, number)?;
         let ins = channels_in(alloc, tables, number)?;
         let ready = own_units(alloc, tables, number)?;
+        let log = Log::with_room(alloc, share)?;
+        let puts = nothing(alloc, chans)?;
+        let takes = nothing(alloc, chans)?;
+        let state = State::new(alloc, &tables.net, &tables.inputs)?;
         Ok(Worker {
             number,
             share,

@@ -1,5 +1,5 @@
 //! What all workers of a net read.
-ghost use Rattle.std.specs.Prelude.{◌≡◌, ◌<◌, length, All};
+ghost use Rattle.std.specs.Prelude.{◌≡◌, ◌<◌, length, All, IfOk};
 ghost use Rattle.el_base.specs.Limits.{max_workers};
 ghost use Rattle.net_worker.specs.Crossing.{AreMarked};
 
@@ -19,6 +19,21 @@ pub struct Tables {
     pub ghost owned: { length owners ≡ length net.units },
     pub ghost few: { All (λ o. o < max_workers) owners },
     pub ghost marked: { AreMarked net.chans owners crossing.items },
+}
+
+/// A copy of the owners of units.
+///
+/// # Errors
+///
+/// [`Memory`] where memory is wanting.
+fn copy_owners(alloc: Global, owners: &[u32]) -> Result<List<u32>, Memory>
+    ensures { IfOk result (λ list. list ≡ owners.now) }
+{
+    let mut list = List::new(alloc);
+    for owner in owners {
+        list.push(*owner)?;
+    }
+    Ok(list)
 }
 
 impl Tables {
@@ -48,16 +63,13 @@ impl Tables {
         ensures owners { IfOk result (λ t. unit_owners t ≡ owners.now) }
     {
         let crossing = crossing_units(alloc, net, owners)?;
-        let net = net.copy(alloc)?;
+        let owners = copy_owners(alloc, owners)?;
         let inputs = inputs.copy(alloc)?;
-        let mut list = List::new(alloc);
-        for owner in owners {
-            list.push(*owner)?;
-        }
+        let net = net.copy(alloc)?;
         Ok(Tables {
             net,
             inputs,
-            owners: list,
+            owners,
             crossing,
         })
     }
