@@ -2,6 +2,9 @@
 ghost use Rattle.std.specs.Prelude.{◌≡◌, ◌≤◌, length, None, Some, Ok, Err, IfOk, IfErr, IfSome};
 ghost use Rattle.el_base.specs.Limits.{IsNumbered, max_firings};
 ghost use Rattle.net_types.specs.Inputs.{InputsFit};
+ghost use Rattle.net_core.specs.Runs.{AtRest};
+ghost use Rattle.net_core.specs.States.{IsOf, state_of};
+ghost use Rattle.net_runs.specs.Results.{IsRestFault, IsRunText};
 ghost use Rattle.net_runs.specs.Runs.{IsRunRefusal, MayShare, Runs, RunsTo};
 
 use crate::given::inputs_of;
@@ -16,7 +19,7 @@ use net_replay::RunFault;
 use net_types::Inputs;
 use std::alloc::Global;
 use std::thread::Threads;
-use worker_run::run_workers;
+use worker_run::{Report, run_workers};
 
 /// The text of a run of a net on the inputs that bytes give, by cycles, or by as many workers as are asked for, each in a
 /// thread of its own that asks the gate before each sweep: the results of the one state at rest, and where they are asked for
@@ -126,18 +129,35 @@ fn run_by_workers<R: Threads + Sync, G: Gate + Sync>(
     let _ = net.net();
     let limit = options.limit;
     match run_workers(rt, alloc, net, inputs, workers, limit, options.log, gate) {
-        Ok(report) => run_text_of(
-            alloc,
-            net,
-            &report.state,
-            options,
-            report.firings,
-            0,
-            report.log.as_slice(),
-        ),
+        Ok(report) => report_text(alloc, net, report, options),
         Err(RunFault::Limit { .. }) => Err(RunRefusal::Limit { limit }),
         Err(RunFault::Memory) => Err(RunRefusal::Memory),
         Err(RunFault::Stuck) => Err(RunRefusal::Stuck),
         Err(RunFault::Stray { array }) => Err(stray(net, array)),
     }
+}
+
+/// The text of what the workers report.
+fn report_text(
+    alloc: Global,
+    net: &Checked,
+    report: Report,
+    options: RunOptions,
+) -> Result<Vec<u8>, RunRefusal>
+    requires of { IsOf net.now report.state }
+    requires rest { AtRest net.now (state_of report.state) }
+    ensures ok { IfOk result (λ text. IsRunText net.now (state_of report.state) options
+        report.firings 0 report.log.items text.items) }
+    ensures err { IfErr result (IsRestFault net.now (state_of report.state)) }
+{
+    let firings = report.firings;
+    run_text_of(
+        alloc,
+        net,
+        &report.state,
+        options,
+        firings,
+        0,
+        report.log.as_slice(),
+    )
 }

@@ -5,15 +5,15 @@ use Rattle.net_runs.proofs.runs.run_by_workers.Goals as goal
 
 pub returns-in-Ok-clause-ok : goal.returns-in-Ok-clause-ok
 returns-in-Ok-clause-ok g c =
-    IfOk-weaker c.run_text_of.result _ _
+    IfOk-weaker c.report_text.result _ _
     (λ text is. gathered c.completion.ensures c.args.net.now c.args.inputs.now c.args.options c.net.ensures.checked c.args.workers _ _ _ _ _ _ c.in-Ok.ensures.report
-    c.requires.workers text.items is) (rw c.as_slice.ensures at c.run_text_of.ensures.ok)
+    c.requires.workers text.items is) c.report_text.ensures.ok
 
 pub returns-in-Ok-clause-err : goal.returns-in-Ok-clause-err
 returns-in-Ok-clause-err g c =
-    IfErr-weaker c.run_text_of.result _ _
+    IfErr-weaker c.report_text.result _ _
     (λ r is. workers_refused c.completion.ensures c.args.net.now c.args.inputs.now c.args.options c.net.ensures.checked c.args.workers _ _ _ _ _ _ c.in-Ok.ensures.report r is)
-    c.run_text_of.ensures.err
+    c.report_text.ensures.err
 
 pub returns-in-Err-Limit-clause-err : goal.returns-in-Err-Limit-clause-err
 returns-in-Err-Limit-clause-err g c = (
