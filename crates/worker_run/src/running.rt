@@ -55,12 +55,12 @@ pub fn run_workers<R: Threads + Sync, G: Gate + Sync>(
         (state_of r.state) r.firings r.log.items) }
     ensures fault { IfErr result (IsRunFault net.now inputs.now limit) }
 {
+    let mut log = Log::with_room(alloc, room_for(keep, limit))?;
+    let mut state = State::new(alloc, net, inputs)?;
     let Crew {
         tables,
         mut workers,
     } = workers(alloc, net, inputs, count, limit)?;
-    let mut state = State::new(alloc, net, inputs)?;
-    let mut log = Log::with_room(alloc, room_for(keep, limit))?;
     sweep_all(rt, &tables, workers.as_mut_slice(), gate);
     let mut crew = Crew { tables, workers };
     let made = gather(net, &mut crew, &mut state);
