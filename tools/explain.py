@@ -43,10 +43,12 @@ PLAIN = {
                      "look at where the output goes, and throw away the part that stands there."),
     "want of memory": ("There was not enough memory; nothing was written.", "give the program more, or make the arrays smaller."),
 }
+GREATEST = 400_000_000
+SHARED = 16_000_000
 UNREAD = ("The file is not there, is a folder, or may not be read.", "see that its name is right, from the folder that you are in.")
 TOO_LONG = ("The file has more bytes than one of its kind may have.",
-            "a kernel has at most 65,536 bytes, inputs 33,554,432, a netlist 67,108,864, a schedule 16,777,216: see that the files "
-            "stand in the right order.")
+            "a kernel has at most 65,536 bytes, inputs 33,554,432, a netlist and a snapshot 67,108,864, a schedule "
+            "16,777,216: see that the files stand in the right order.")
 
 
 class Files:
@@ -143,21 +145,30 @@ def of_text(number, parts, files):
     return shown(source, at, 1, len(source.line(at))), *told.get(number, lambda: texts.inputs(source, word, at, header))()
 
 
+def greater(option, number):
+    """What to give an option in place of a number that was too small: ten times that, where so much may be given."""
+    more = min(10 * int(number), GREATEST) if number.isdigit() else GREATEST
+    if number == str(GREATEST):
+        return f"{GREATEST:,} is the greatest `{option}` there is, so try smaller inputs"
+    shared = f" (with `--workers` or `--log` at most {SHARED:,})" if option == "--limit" and more > SHARED else ""
+    return f"try `{option} {more}`{shared}"
+
+
 def of_run(number, parts, files):
     """Of a line about a run."""
     rest = parts.get("rest") or ""
-    more = min(10 * int(rest), 400_000_000) if rest.isdigit() else 400_000_000
     return [], *{
         70: ("The circuit had made as many firings as the limit allows, and was not at rest. The kernel may not end on these "
              "inputs, or "
-             "the run is long.", f"try `--limit {more}`; `elastic ref` with `--turns` tells whether the C ends."),
+             "the run is long. Of `resume` it may be at rest too: the snapshot has more firings behind it than the limit.",
+             f"{greater('--limit', rest)}; `elastic ref` with `--turns` tells whether the C ends."),
         71: ("No unit can fire, and the exit never did: a token waits for one that never comes. A circuit of `go` never does this.",
              "look for an operation with one input, a fork's copy that nothing takes, or a loop without a first token: "
              "`examples/clients/stalls.py` names the units that never fired."),
         72: (f"An address lay past the end of the array `{rest}`: a read there gives 0, a write does nothing.",
              "`elastic ref` names the place in the kernel and ends there; then see the index, or the length in the brackets."),
         81: (f"The kernel was not over within {rest} turns. It may loop for ever on these inputs, or need more.",
-             f"try `--turns {more}`, and see that each loop's condition becomes false."),
+             f"{greater('--turns', rest)}; see that each loop's condition becomes false."),
     }[number]
 
 

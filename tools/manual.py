@@ -110,7 +110,7 @@ def manual():
               "behind", ".BR = .", "Behind a word", ".B \\-\\-", "all words are files.", ".SH EXIT STATUS"]
     for number, text in STATUSES:
         lines += [".TP", f".B {number}", roff(text) + "."]
-    lines += ["At every status but 0 and 3 nothing is written to the output, and one line to the error output.",
+    lines += [".PP", "At every status but 0 one line stands on the error output; at every status but 0 and 3 nothing is written to the output.",
               ".SH EXAMPLES", ".nf",
               "elastic go examples/hist/kernel.c examples/hist/inputs.txt \\-\\-count \\-\\-cycles",
               "elastic compile my.c > my.net && elastic run my.net my.txt",
