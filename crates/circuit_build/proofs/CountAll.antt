@@ -9,7 +9,6 @@ use Rattle.ir.specs.declared.graph.Block.{Block}
 use Rattle.ir.specs.Accesses.{accesses_in}
 use Rattle.ir.specs.Graphs.{Graph}
 use Rattle.ir.specs.Sample.{sample_graph, entry_block, head_block, body_block, end_block}
-use Rattle.ir.proofs.SampleGraphs.{is_sample}
 use Rattle.ir.proofs.SampleRuns.{samples_run}
 use Rattle.net_types.specs.declared.net.Net.{Net}
 use Rattle.circuit_build.specs.Asks.{IsAsked}
@@ -69,7 +68,7 @@ sample_asked name n a ne =
     λ F a b c d. All-cons F entry_block (head_block ∷ body_block ∷ end_block ∷ []) a (All-cons F head_block (body_block ∷ end_block ∷ []) b (All-cons F body_block (end_block ∷ []) c (All-cons F end_block [] d (All-nil F)))) in
     let size = (samples_run name n a).size_is in
     record {
-      graph = is_sample g name n a refl;
+      graph = (samples_run name n a).formed;
       sound = record {
         names = AllPairs-cons R n (a ∷ []) (All-cons (R n) a [] ne (All-nil (R n))) (AllPairs-cons R a [] (All-nil (R a)) (λ i j d l m. absurd (omega (arith, m))));
         arrays = record {
