@@ -23,7 +23,7 @@ const NOWHERE: Span = Span {
 };
 
 /// How far a text is read.
-#[derive(Clone, Copy, Debug, PartialEq, Eq)]
+#[derive(Clone, Copy, PartialEq, Eq)]
 enum Pass {
     Lex,
     LexAndParse,

@@ -22,7 +22,7 @@ use std::io::Write;
 use std::time::Instant;
 
 /// What a kernel came to: its result, where it ended and has one, and how many turns it made.
-#[derive(Clone, Copy, Debug)]
+#[derive(Clone, Copy)]
 struct Made {
     is_ended: bool,
     value: Option<u64>,

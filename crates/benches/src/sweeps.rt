@@ -63,7 +63,7 @@ fn add_firings(firings: &mut Vec<Firing>, unit: u32, kind: &Unit) -> Result<()> 
 }
 
 /// Acts that have a number.
-#[derive(Clone, Copy, Debug)]
+#[derive(Clone, Copy)]
 enum Numbered {
     Send,
     From,

@@ -13,7 +13,7 @@ use std::alloc::Global;
 const AT_ONCE: u32 = 64;
 
 /// The blocks of a graph by the variables that they read, by those that they write, and by the blocks that they jump to.
-#[derive(Debug, Drop)]
+#[derive(Drop)]
 struct Index {
     readers: List<List<u32>>,
     writers: List<List<u32>>,

@@ -18,7 +18,7 @@ use std::alloc::Global;
 
 /// The new numbers of a block's values: those of its reads, and of the first step, which is the number of variables that
 /// it holds.
-#[derive(Debug, Drop)]
+#[derive(Drop)]
 pub(crate) struct Numbers {
     pub(crate) reads: List<u32>,
     pub(crate) held: u32,

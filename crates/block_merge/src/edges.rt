@@ -8,14 +8,14 @@ use ir::{Block, Jump, List, Memory, To};
 use std::alloc::Global;
 
 /// An edge to a block, and what is handed to it in a buffer that can be filled again.
-#[derive(Debug, Drop)]
+#[derive(Drop)]
 pub(crate) struct Edge {
     pub(crate) block: u32,
     pub(crate) with: Vec<u32>,
 }
 
 /// The edges of a jump: of one without a condition `yes` alone counts, and of a return neither.
-#[derive(Debug, Drop)]
+#[derive(Drop)]
 pub(crate) struct OutEdges {
     pub(crate) yes: Edge,
     pub(crate) no: Edge,

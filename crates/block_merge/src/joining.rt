@@ -38,7 +38,7 @@ use std::alloc::Global;
 use std::mem;
 
 /// How many edges lead to a block.
-#[derive(Clone, Copy, Debug, PartialEq, Eq)]
+#[derive(Clone, Copy, PartialEq, Eq)]
 enum Edges {
     Zero,
     One,

@@ -28,7 +28,7 @@ pub(crate) fn moved(args: &[u32], steps: u32, value: u32) -> u32
 }
 
 /// The new numbers of a block's values: those of its arguments, and of its first step.
-#[derive(Debug, Drop)]
+#[derive(Drop)]
 pub(crate) struct Numbers {
     pub(crate) args: List<u32>,
     pub(crate) steps: u32,

@@ -11,7 +11,7 @@ use std::alloc::Global;
 
 /// What a name stands for: a variable or an array, by its number, with its type or that of its
 /// elements.
-#[derive(Clone, Copy, Debug, PartialEq, Eq)]
+#[derive(Clone, Copy, PartialEq, Eq)]
 pub(crate) enum Binding {
     Var { var: u32, ty: Ty },
     Array { array: u32, ty: Ty },

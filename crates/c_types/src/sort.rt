@@ -1,7 +1,7 @@
 //! What a name stands for.
 
 /// A scalar, or an array with so many dimensions.
-#[derive(Clone, Copy, Debug, PartialEq, Eq)]
+#[derive(Clone, Copy, PartialEq, Eq)]
 pub(crate) enum Sort {
     Scalar,
     Array(usize),

@@ -12,7 +12,7 @@ use el_base::Memory;
 use std::alloc::Global;
 
 /// A plain word, or an option with its value; a flag has the empty value.
-#[derive(Clone, Copy, Debug)]
+#[derive(Clone, Copy)]
 pub(crate) enum Written<'a> {
     Plain(&'a str),
     Use(Choice, &'a str),

@@ -22,7 +22,7 @@ use net_types::{Firing, Inputs, Memory};
 use std::alloc::Global;
 
 /// How many firings there may be in all, and whether they are kept in the log.
-#[derive(Clone, Copy, Debug)]
+#[derive(Clone, Copy)]
 pub(crate) struct Bounds {
     pub limit: u64,
     pub keep: bool,

@@ -27,7 +27,7 @@ use net_replay::RunFault;
 use net_types::{Act, Firing, List, Unit};
 
 /// What a firing does, and the tokens that it moves.
-#[derive(Clone, Copy, Debug)]
+#[derive(Clone, Copy)]
 pub(crate) struct Planned {
     pub plan: Plan,
     pub moves: Moves,

@@ -8,7 +8,7 @@ use indexmap::IndexMap;
 use std::alloc::Global;
 
 /// What a name of a header asks for: so many numbers that a type holds.
-#[derive(Clone, Copy, Debug)]
+#[derive(Clone, Copy)]
 pub(crate) struct Slot {
     pub ty: Ty,
     pub len: u64,

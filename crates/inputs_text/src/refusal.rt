@@ -114,7 +114,7 @@ impl From<Memory> for InputRefusal {
 }
 
 /// A rule of lines, in the order in which they are tried.
-#[derive(Clone, Copy, Debug, PartialEq, Eq)]
+#[derive(Clone, Copy, PartialEq, Eq)]
 pub(crate) enum Rule {
     /// A line has the form.
     Form,

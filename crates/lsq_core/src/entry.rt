@@ -22,7 +22,7 @@ pub struct Entry {
 }
 
 /// What an act asks of the entry that it changes.
-#[derive(Clone, Copy, Debug)]
+#[derive(Clone, Copy)]
 pub(crate) enum Want {
     /// It is of this port and waits for its address.
     Addr(u32),
@@ -35,7 +35,7 @@ pub(crate) enum Want {
 }
 
 /// What an act makes of the entry that it changes.
-#[derive(Clone, Copy, Debug)]
+#[derive(Clone, Copy)]
 pub(crate) enum Made {
     /// It has this address.
     Addr(u64),

@@ -4,7 +4,7 @@ ghost use Rattle.std.specs.Prelude.{◌≡◌, ℕ, ◌+◌, ◌*◌, ◌^◌, �
 ghost use Rattle.lsq_core.specs.declared.entry.Entry.{Entry};
 ghost use Rattle.lsq_core.specs.Acts.{rest};
 ghost use Rattle.lsq_core.specs.Views.{entry_at, front_of};
-ghost use Rattle.lsq_core.specs.Index.{row_of, wrapped, IsIndex, Indexes};
+ghost use Rattle.lsq_core.specs.Index.{row_of, wrapped, IsIndex, IsMarks, Indexes, Shows};
 ghost use Rattle.lsq_core.specs.declared.marks.Kind.TheVariants as kind;
 
 use crate::entry::Entry;
@@ -36,14 +36,23 @@ impl Index {
         ensures shape { IfOk result (λ i. IsIndex ports (64 * blocks) i) }
         ensures shows { IfOk result (λ i. Indexes i 0 []) }
     {
+        let reply = Marks::new(alloc, Kind::Reply, ports, blocks)?;
+        let (addr, data) = two(alloc, (Kind::Addr, ports), (Kind::Data, ports), blocks)?;
+        let (blank, ready) = two(alloc, (Kind::Blank, 2), (Kind::Ready, 2), blocks)?;
+        let (pending, answer) = two(
+            alloc,
+            (Kind::Pending, 8 * blocks),
+            (Kind::Answer, 1),
+            blocks,
+        )?;
         Ok(Index {
-            addr: Marks::new(alloc, Kind::Addr, ports, blocks)?,
-            data: Marks::new(alloc, Kind::Data, ports, blocks)?,
-            reply: Marks::new(alloc, Kind::Reply, ports, blocks)?,
-            blank: Marks::new(alloc, Kind::Blank, 2, blocks)?,
-            ready: Marks::new(alloc, Kind::Ready, 2, blocks)?,
-            pending: Marks::new(alloc, Kind::Pending, 8 * blocks, blocks)?,
-            answer: Marks::new(alloc, Kind::Answer, 1, blocks)?,
+            addr,
+            data,
+            reply,
+            blank,
+            ready,
+            pending,
+            answer,
         })
     }
 
@@ -121,4 +130,26 @@ impl Index {
         };
         self.pending.row(&beside)
     }
+}
+
+/// The sets of no entries of two kinds, each with how many rows it has, of 64 times so many places.
+///
+/// # Errors
+///
+/// [`Memory`] where memory is wanting.
+fn two(
+    alloc: Global,
+    first: (Kind, usize),
+    second: (Kind, usize),
+    blocks: usize,
+) -> Result<(Marks, Marks), Memory>
+    requires some { 0 < blocks }
+    requires small { blocks ≤ 2 ^ 32 }
+    ensures shapes { IfOk result (λ m. IsMarks first.0 first.1 (64 * blocks) m.0
+        × IsMarks second.0 second.1 (64 * blocks) m.1) }
+    ensures show { IfOk result (λ m. Shows m.0 0 [] × Shows m.1 0 []) }
+{
+    let one = Marks::new(alloc, first.0, first.1, blocks)?;
+    let other = Marks::new(alloc, second.0, second.1, blocks)?;
+    Ok((one, other))
 }

@@ -16,7 +16,7 @@ use std::alloc::Global;
 const MOST_BITS: usize = 1 << 60;
 
 /// What the entries of a row have in common.
-#[derive(Clone, Copy, Debug)]
+#[derive(Clone, Copy)]
 pub(crate) enum Kind {
     /// They wait for an address, at a port.
     Addr,

@@ -8,7 +8,7 @@ use net_types::{Memory, Unit};
 use std::alloc::Global;
 
 /// A sort of unit that a net has once for each scalar, or once at most for each array.
-#[derive(Clone, Copy, Debug)]
+#[derive(Clone, Copy)]
 pub(crate) enum Role {
     Param,
     Queue,

@@ -103,7 +103,7 @@ fn rule_word(rule: u32) -> &'static str
 }
 
 /// A rule of nets.
-#[derive(Clone, Copy, Debug)]
+#[derive(Clone, Copy)]
 pub(crate) enum Rule {
     C1,
     C2,

@@ -9,7 +9,7 @@ use net_types::{Chan, Memory, Net, Place, Unit};
 use std::alloc::Global;
 
 /// The input or the output side of units.
-#[derive(Clone, Copy, Debug)]
+#[derive(Clone, Copy)]
 pub(crate) enum Side {
     In,
     Out,

@@ -16,7 +16,7 @@ use net_check::Checked;
 use net_types::{Act, Firing, Unit};
 
 /// A kind of acts, told apart by a number.
-#[derive(Clone, Copy, Debug)]
+#[derive(Clone, Copy)]
 pub(crate) enum Family {
     Go,
     From,
@@ -31,7 +31,7 @@ pub(crate) enum Family {
 }
 
 /// Numbers from `start` on and below `end`.
-#[derive(Clone, Copy, Debug)]
+#[derive(Clone, Copy)]
 pub(crate) struct Numbers {
     start: u64,
     end: u64,

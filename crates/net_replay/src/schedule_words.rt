@@ -6,7 +6,7 @@ ghost use Rattle.net_replay.specs.Words.{act_of, has_number, word_text};
 use net_types::Act;
 
 /// The word of an act.
-#[derive(Clone, Copy, Debug)]
+#[derive(Clone, Copy)]
 pub(crate) enum ActWord {
     Go,
     From,

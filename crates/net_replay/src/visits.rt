@@ -12,7 +12,7 @@ use net_core::State;
 use net_types::Firing;
 
 /// How many firings there may be in all, and whether they are kept in the log.
-#[derive(Clone, Copy, Debug)]
+#[derive(Clone, Copy)]
 pub(crate) struct Bounds {
     pub limit: u64,
     pub keep: bool,
