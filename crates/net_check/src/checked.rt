@@ -1,6 +1,7 @@
 ghost use Rattle.std.specs.Prelude.{◌≡◌, None, IfOk, IfErr, OnOk};
 ghost use Rattle.net_types.specs.Nets.{into, out_of};
 ghost use Rattle.net_types.specs.Numbered.{AreNumbered};
+ghost use Rattle.net_types.specs.Rules.{KeepsC1};
 ghost use Rattle.net_check.specs.Checks.{IsChecked};
 ghost use Rattle.net_check.specs.Refusals.{RefusalHolds};
 ghost use Rattle.net_check.specs.Retimed.{NameChannels, with_changes};
@@ -62,9 +63,8 @@ impl Checked {
     pub fn copy(&self, alloc: Global) -> Result<Checked, Memory>
         ensures { IfOk result (λ copy. copy ≡ self.now) }
     {
+        let (into, out_of) = tables(alloc, &self.net)?;
         let net = self.net.copy(alloc)?;
-        let into = Wires::new(alloc, &net, Side::In)?;
-        let out_of = Wires::new(alloc, &net, Side::Out)?;
         Ok(Checked { net, into, out_of })
     }
 
@@ -120,11 +120,42 @@ pub fn check_net(alloc: Global, net: Net) -> Result<Checked, NetRefusal>
     ensures checked { OnOk result (IsChecked net) }
     ensures refused { IfErr result (λ e. RefusalHolds net e) }
 {
-    check_base(alloc, &net)?;
-    let into = Wires::new(alloc, &net, Side::In)?;
-    let out_of = Wires::new(alloc, &net, Side::Out)?;
-    check_rest(alloc, &net, &into, &out_of)?;
+    let (into, out_of) = checked_tables(alloc, &net)?;
     Ok(Checked { net, into, out_of })
+}
+
+/// The tables of a net that keeps the eight rules.
+///
+/// # Errors
+///
+/// As [`check_net`].
+fn checked_tables(alloc: Global, net: &Net) -> Result<(Wires, Wires), NetRefusal>
+    requires { AreNumbered net.now }
+    ensures ins { IfOk result (λ t. IsTableOf In net.now t.0) }
+    ensures outs { IfOk result (λ t. IsTableOf Out net.now t.1) }
+    ensures checked { OnOk result (IsChecked net.now) }
+    ensures refused { IfErr result (λ e. RefusalHolds net.now e) }
+{
+    check_base(alloc, net)?;
+    let (into, out_of) = tables(alloc, net)?;
+    check_rest(alloc, net, &into, &out_of)?;
+    Ok((into, out_of))
+}
+
+/// The tables of the channels at the places of both sides: into units, and out of them.
+///
+/// # Errors
+///
+/// [`Memory`] where memory is wanting.
+fn tables(alloc: Global, net: &Net) -> Result<(Wires, Wires), Memory>
+    requires places { KeepsC1 net.now }
+    requires numbered { AreNumbered net.now }
+    ensures ins { IfOk result (λ t. IsTableOf In net.now t.0) }
+    ensures outs { IfOk result (λ t. IsTableOf Out net.now t.1) }
+{
+    let into = Wires::new(alloc, net, Side::In)?;
+    let out_of = Wires::new(alloc, net, Side::Out)?;
+    Ok((into, out_of))
 }
 
 /// The rules that ask for no table.
