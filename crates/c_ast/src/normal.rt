@@ -21,10 +21,73 @@ pub struct Normal {
 
 /// A statement with its place.
 #[cycle(normal_stmt)]
-#[derive(Drop)]
 pub struct NormalStmt {
     pub kind: NormalStmtKind,
     pub at: Span,
+}
+
+// By hand, so that to let go of one is a call, and not the whole match in each place.
+impl Drop for NormalStmt {
+    fn drop(self) {
+        let NormalStmt { kind, at: _ } = self;
+        match kind {
+            NormalStmtKind::Block(body) => body.let_go(),
+            NormalStmtKind::Declare {
+                var: _var,
+                init: _init,
+            } => {}
+            NormalStmtKind::Assign {
+                target: _target,
+                value: _value,
+            } => {}
+            NormalStmtKind::If {
+                before,
+                cond: _cond,
+                then,
+                other,
+            } => {
+                before.let_go();
+                let _then = then.into_inner();
+                if let Some(other) = other {
+                    let _other = other.into_inner();
+                }
+            }
+            NormalStmtKind::While {
+                before,
+                cond: _cond,
+                body,
+            } => {
+                before.let_go();
+                let _body = body.into_inner();
+            }
+            NormalStmtKind::DoWhile {
+                body,
+                before,
+                cond: _cond,
+            } => {
+                before.let_go();
+                let _body = body.into_inner();
+            }
+            NormalStmtKind::For {
+                first,
+                before,
+                cond: _cond,
+                step,
+                body,
+            } => {
+                first.let_go();
+                before.let_go();
+                if let Some(step) = step {
+                    let _step = step.into_inner();
+                }
+                let _body = body.into_inner();
+            }
+            NormalStmtKind::Break => {}
+            NormalStmtKind::Continue => {}
+            NormalStmtKind::Return(_value) => {}
+            NormalStmtKind::Empty => {}
+        }
+    }
 }
 
 /// The statements of a normal form. The statements `before` a condition run each time before it is evaluated.

@@ -36,10 +36,64 @@ pub struct ProgTree {
 
 /// A statement with its place.
 #[cycle(prog_stmt)]
-#[derive(Drop)]
 pub struct ProgStmt {
     pub kind: ProgStmtKind,
     pub at: Span,
+}
+
+// By hand, so that to let go of one is a call, and not the whole match in each place.
+impl Drop for ProgStmt {
+    fn drop(self) {
+        let ProgStmt { kind, at: _ } = self;
+        match kind {
+            ProgStmtKind::Block(body) => body.let_go(),
+            ProgStmtKind::Declare {
+                var: _var,
+                init: _init,
+            } => {}
+            ProgStmtKind::Assign {
+                target: _target,
+                op: _op,
+                value: _value,
+            } => {}
+            ProgStmtKind::Step {
+                target: _target,
+                up: _up,
+            } => {}
+            ProgStmtKind::If {
+                cond: _cond,
+                then,
+                other,
+            } => {
+                let _then = then.into_inner();
+                if let Some(other) = other {
+                    let _other = other.into_inner();
+                }
+            }
+            ProgStmtKind::While { cond: _cond, body } => {
+                let _body = body.into_inner();
+            }
+            ProgStmtKind::DoWhile { body, cond: _cond } => {
+                let _body = body.into_inner();
+            }
+            ProgStmtKind::For {
+                first,
+                cond: _cond,
+                step,
+                body,
+            } => {
+                first.let_go();
+                if let Some(step) = step {
+                    let _step = step.into_inner();
+                }
+                let _body = body.into_inner();
+            }
+            ProgStmtKind::Break => {}
+            ProgStmtKind::Continue => {}
+            ProgStmtKind::Return(_value) => {}
+            ProgStmtKind::Empty => {}
+        }
+    }
 }
 
 /// The statements (ISO/IEC 9899:1999 6.8), and declarations, which stand among them.
@@ -95,11 +149,51 @@ pub struct ProgTarget {
 
 /// An expression with its type and its place.
 #[cycle(prog_expr)]
-#[derive(Drop)]
 pub struct ProgExpr {
     pub kind: ProgExprKind,
     pub ty: Ty,
     pub at: Span,
+}
+
+// A loop down the left sides: `a + b + ..` is as deep as it is long.
+impl Drop for ProgExpr {
+    fn drop(mut self) {
+        loop {
+            let ProgExpr { kind, ty: _, at: _ } = self;
+            match kind {
+                ProgExprKind::Binary(_op, left, right) => {
+                    let _right = right.into_inner();
+                    self = left.into_inner();
+                }
+                ProgExprKind::Number(_value) => return,
+                ProgExprKind::Var(_var) => return,
+                ProgExprKind::Element {
+                    array: _array,
+                    indices,
+                } => {
+                    indices.let_go();
+                    return;
+                }
+                ProgExprKind::Unary(_op, arg) => self = arg.into_inner(),
+                ProgExprKind::Cast {
+                    implied: _implied,
+                    arg,
+                } => self = arg.into_inner(),
+                ProgExprKind::Choose(cond, yes, no) => {
+                    let _cond = cond.into_inner();
+                    let _yes = yes.into_inner();
+                    self = no.into_inner();
+                }
+                ProgExprKind::Call {
+                    helper: _helper,
+                    args,
+                } => {
+                    args.let_go();
+                    return;
+                }
+            }
+        }
+    }
 }
 
 /// The expressions (ISO/IEC 9899:1999 6.5), calls of helpers among them (6.5.2.2).

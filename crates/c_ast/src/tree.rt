@@ -42,10 +42,65 @@ pub struct Param {
 
 /// A statement with its place.
 #[cycle(stmt)]
-#[derive(Drop)]
 pub struct Stmt {
     pub kind: StmtKind,
     pub at: Span,
+}
+
+// By hand, so that to let go of one is a call, and not the whole match in each place.
+impl Drop for Stmt {
+    fn drop(self) {
+        let Stmt { kind, at: _ } = self;
+        match kind {
+            StmtKind::Block(body) => body.let_go(),
+            StmtKind::Declare {
+                name: _name,
+                ty: _ty,
+                init: _init,
+            } => {}
+            StmtKind::Assign {
+                target: _target,
+                op: _op,
+                value: _value,
+            } => {}
+            StmtKind::Step {
+                target: _target,
+                up: _up,
+            } => {}
+            StmtKind::If {
+                cond: _cond,
+                then,
+                other,
+            } => {
+                let _then = then.into_inner();
+                if let Some(other) = other {
+                    let _other = other.into_inner();
+                }
+            }
+            StmtKind::While { cond: _cond, body } => {
+                let _body = body.into_inner();
+            }
+            StmtKind::DoWhile { body, cond: _cond } => {
+                let _body = body.into_inner();
+            }
+            StmtKind::For {
+                first,
+                cond: _cond,
+                step,
+                body,
+            } => {
+                first.let_go();
+                if let Some(step) = step {
+                    let _step = step.into_inner();
+                }
+                let _body = body.into_inner();
+            }
+            StmtKind::Break => {}
+            StmtKind::Continue => {}
+            StmtKind::Return(_value) => {}
+            StmtKind::Empty => {}
+        }
+    }
 }
 
 /// The statements (ISO/IEC 9899:1999 6.8), and declarations, which stand among them. Targets and expressions lie in

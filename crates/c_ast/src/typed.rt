@@ -28,10 +28,64 @@ pub struct ArrayOf {
 
 /// A statement with its place.
 #[cycle(typed_stmt)]
-#[derive(Drop)]
 pub struct TypedStmt {
     pub kind: TypedStmtKind,
     pub at: Span,
+}
+
+// By hand, so that to let go of one is a call, and not the whole match in each place.
+impl Drop for TypedStmt {
+    fn drop(self) {
+        let TypedStmt { kind, at: _ } = self;
+        match kind {
+            TypedStmtKind::Block(body) => body.let_go(),
+            TypedStmtKind::Declare {
+                var: _var,
+                init: _init,
+            } => {}
+            TypedStmtKind::Assign {
+                target: _target,
+                op: _op,
+                value: _value,
+            } => {}
+            TypedStmtKind::Step {
+                target: _target,
+                up: _up,
+            } => {}
+            TypedStmtKind::If {
+                cond: _cond,
+                then,
+                other,
+            } => {
+                let _then = then.into_inner();
+                if let Some(other) = other {
+                    let _other = other.into_inner();
+                }
+            }
+            TypedStmtKind::While { cond: _cond, body } => {
+                let _body = body.into_inner();
+            }
+            TypedStmtKind::DoWhile { body, cond: _cond } => {
+                let _body = body.into_inner();
+            }
+            TypedStmtKind::For {
+                first,
+                cond: _cond,
+                step,
+                body,
+            } => {
+                first.let_go();
+                if let Some(step) = step {
+                    let _step = step.into_inner();
+                }
+                let _body = body.into_inner();
+            }
+            TypedStmtKind::Break => {}
+            TypedStmtKind::Continue => {}
+            TypedStmtKind::Return(_value) => {}
+            TypedStmtKind::Empty => {}
+        }
+    }
 }
 
 /// The statements (ISO/IEC 9899:1999 6.8), and declarations, which stand among them.
@@ -98,11 +152,44 @@ pub enum Object {
 
 /// An expression with its type and its place.
 #[cycle(typed_expr)]
-#[derive(Drop)]
 pub struct TypedExpr {
     pub kind: TypedExprKind,
     pub ty: Ty,
     pub at: Span,
+}
+
+// A loop down the left sides: `a + b + ..` is as deep as it is long.
+impl Drop for TypedExpr {
+    fn drop(mut self) {
+        loop {
+            let TypedExpr { kind, ty: _, at: _ } = self;
+            match kind {
+                TypedExprKind::Binary(_op, left, right) => {
+                    let _right = right.into_inner();
+                    self = left.into_inner();
+                }
+                TypedExprKind::Number(_value) => return,
+                TypedExprKind::Var(_var) => return,
+                TypedExprKind::Element {
+                    array: _array,
+                    indices,
+                } => {
+                    indices.let_go();
+                    return;
+                }
+                TypedExprKind::Unary(_op, arg) => self = arg.into_inner(),
+                TypedExprKind::Cast {
+                    implied: _implied,
+                    arg,
+                } => self = arg.into_inner(),
+                TypedExprKind::Choose(cond, yes, no) => {
+                    let _cond = cond.into_inner();
+                    let _yes = yes.into_inner();
+                    self = no.into_inner();
+                }
+            }
+        }
+    }
 }
 
 /// The expressions (ISO/IEC 9899:1999 6.5).
