@@ -1,5 +1,7 @@
 -- What a walk over statements gives for a node, from what it gives for the parts.
 use Rattle.std.proofs.Common.{◌≡◌, ℕ, ◌<◌, Bool, true, List, [], ◌∷◌, ◌++◌, length, Option, Some, None, sym, ap, subst, ◌∙◌}
+use Rattle.std.specs.Prelude.{Result, Ok, Err, IfOk}
+use Rattle.el_base.specs.declared.memory.Memory.{Memory}
 use Rattle.el_base.specs.declared.span.Span.{Span}
 use Rattle.el_base.specs.declared.ty.Ty.{Ty}
 use Rattle.c_ast.specs.declared.tree.Binary.{Binary}
@@ -17,7 +19,7 @@ use Rattle.c_ast.specs.Casts as rule
 use Rattle.c_types.specs.declared.known.Binding.TheVariants as binding
 use Rattle.c_types.specs.declared.known.Known.{Known}
 use Rattle.c_types.specs.Scopes.{is_new_in, with_entry, without_innermost, scopes_by}
-use Rattle.c_types.specs.Contexts.{Bindings, declared_by, context_in, context_of, IsCastExpr, IsCastOption, IsCastTarget, IsCastValue, no_value, a_value, IsCastStmt, AreCastStmts, IsCastHeld, IsInside, IsCastInside}
+use Rattle.c_types.specs.Contexts.{Bindings, declared_by, context_in, context_of, IsCastExpr, IsCastOption, IsCastTarget, IsCastValue, no_value, a_value, IsCastStmt, IsCastAct, AreCastStmts, IsCastHeld, IsInside, IsCastInside}
 use Rattle.c_types.proofs.CastLemmas.{with_var_is, opened_is, outside, held_scopes, stmts_outside, stmt_outside, closed_is}
 
 -- a statement of a kind, and its typed statement by what it is
@@ -162,6 +164,11 @@ continue_arm r k a b is made = stmt_is r k k a stmt.Continue b (act_at act.Conti
 
 pub empty_arm : (r : Option Ty) (k : Known) (a : Stmt) (b : TypedStmt) → a.kind ≡ stmt.Empty → b ≡ act_at act.Empty a.at → IsCastStmt r k a b k
 empty_arm r k a b is made = stmt_is r k k a stmt.Empty b (act_at act.Empty a.at) is made (record { casts = λ dims. rule.empty r (context_of dims k) a.at })
+
+-- an act that a call gives
+pub act_made : (r : Option Ty) (k l : Known) (a : Stmt) (x : Result TypedStmt Memory) → IfOk x (λ t. IsCastAct k a t l) → IfOk x (λ t. IsCastStmt r k a t l)
+act_made r k l a (Ok t) h = h.casts r
+act_made r k l a (Err e) h = tt
 
 -- ---- statements inside statements
 

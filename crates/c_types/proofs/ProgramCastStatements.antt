@@ -1,5 +1,7 @@
 -- What a walk over statements of a program gives for a node, from what it gives for the parts.
 use Rattle.std.proofs.Common.{◌≡◌, ℕ, Bool, true, List, [], ◌∷◌, ◌++◌, length, Option, Some, None, sym, ap, subst, ◌∙◌}
+use Rattle.std.specs.Prelude.{Result, Ok, Err, IfOk}
+use Rattle.el_base.specs.declared.memory.Memory.{Memory}
 use Rattle.el_base.specs.declared.span.Span.{Span}
 use Rattle.el_base.specs.declared.ty.Ty.{Ty}
 use Rattle.c_ast.specs.declared.tree.Binary.{Binary}
@@ -20,7 +22,7 @@ use Rattle.c_types.specs.declared.known.Binding.TheVariants as binding
 use Rattle.c_types.specs.declared.known.Known.{Known}
 use Rattle.c_types.specs.Scopes.{is_new_in, with_entry, scopes_by}
 use Rattle.c_types.specs.Contexts.{Bindings, declared_by, context_in, context_of}
-use Rattle.c_types.specs.ProgramContexts.{callees, IsProgExpr, IsProgOption, IsProgTarget, IsProgValue, no_value, a_value, IsProgStmt, AreProgStmts, IsProgHeld, IsProgWithin, IsProgInside}
+use Rattle.c_types.specs.ProgramContexts.{callees, IsProgExpr, IsProgOption, IsProgTarget, IsProgValue, no_value, a_value, IsProgStmt, IsProgAct, AreProgStmts, IsProgHeld, IsProgWithin, IsProgInside}
 use Rattle.c_types.proofs.CastLemmas.{with_var_is, outside}
 use Rattle.c_types.proofs.CastStatements.{IsOpened, IsLeft, in_opened, after_left}
 use Rattle.c_types.proofs.ProgramCastLemmas.{held_scopes, stmts_outside, stmt_outside}
@@ -144,6 +146,11 @@ module _ (helpers : List Helper) where
 
   pub empty_arm : (r : Option Ty) (k : Known) (a : Stmt) (b : ProgStmt) → a.kind ≡ stmt.Empty → b ≡ prog_at act.Empty a.at → IsProgStmt helpers r k a b k
   empty_arm r k a b is made = stmt_is r k k a stmt.Empty b (prog_at act.Empty a.at) is made (record { casts = λ dims. rule.empty r (context_of dims k) a.at })
+
+  -- an act that a call gives
+  pub act_made : (r : Option Ty) (k l : Known) (a : Stmt) (x : Result ProgStmt Memory) → IfOk x (λ t. IsProgAct helpers k a t l) → IfOk x (λ t. IsProgStmt helpers r k a t l)
+  act_made r k l a (Ok t) h = h.casts r
+  act_made r k l a (Err e) h = tt
 
   -- ---- statements inside statements
 

@@ -70,6 +70,10 @@ pub data IsCastValue : Option Ty → Bindings → Option Expr → Option TypedEx
 pub record IsCastStmt (r : Option Ty) (k : Known) (a : Stmt) (b : TypedStmt) (l : Known) : Type 0 where
   pub casts : (dims : ℕ → List ℕ) → CastsStmt r (context_of dims k) a b (context_of dims l)
 
+-- a statement that neither holds statements nor returns, whatever type is returned
+pub record IsCastAct (k : Known) (a : Stmt) (b : TypedStmt) (l : Known) : Type 0 where
+  pub casts : (r : Option Ty) → IsCastStmt r k a b l
+
 pub record AreCastStmts (r : Option Ty) (k : Known) (ss : List Stmt) (ts : List TypedStmt) (l : Known) : Type 0 where
   pub casts : (dims : ℕ → List ℕ) → CastsStmts r (context_of dims k) ss ts (context_of dims l)
 

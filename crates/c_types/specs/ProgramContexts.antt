@@ -68,6 +68,10 @@ pub data IsProgValue (hs : List Helper) : Option Ty → Bindings → Option Expr
 pub record IsProgStmt (hs : List Helper) (r : Option Ty) (k : Known) (a : Stmt) (b : ProgStmt) (l : Known) : Type 0 where
   pub casts : (dims : ℕ → List ℕ) → CastsCallStmt (callees hs) r (context_of dims k) a b (context_of dims l)
 
+-- a statement that neither holds statements nor returns, whatever type is returned
+pub record IsProgAct (hs : List Helper) (k : Known) (a : Stmt) (b : ProgStmt) (l : Known) : Type 0 where
+  pub casts : (r : Option Ty) → IsProgStmt hs r k a b l
+
 pub record AreProgStmts (hs : List Helper) (r : Option Ty) (k : Known) (ss : List Stmt) (ts : List ProgStmt) (l : Known) : Type 0 where
   pub casts : (dims : ℕ → List ℕ) → CastsCallStmts (callees hs) r (context_of dims k) ss ts (context_of dims l)
 

@@ -4,10 +4,12 @@
 ghost use Rattle.std.specs.Prelude.{◌≡◌, [], ◌∷◌, length, true, IfOk, OnOk, IfSome, IsSome, All};
 ghost use Rattle.el_base.specs.Limits.{IsNumbered};
 ghost use Rattle.c_ast.specs.declared.tree.ExprKind.TheVariants as expr;
+ghost use Rattle.c_ast.specs.declared.tree.StmtKind.TheVariants as kind;
 ghost use Rattle.c_ast.specs.Nodes.{tree_nodes};
 ghost use Rattle.c_ast.specs.Typing.{Typing, TypingParams};
 ghost use Rattle.c_ast.specs.Casts.{Casts, expr_at, parameters};
-ghost use Rattle.c_types.specs.Scopes.{is_new_in};
+ghost use Rattle.c_types.specs.declared.known.Binding.TheVariants as binding;
+ghost use Rattle.c_types.specs.Scopes.{is_new_in, with_entry};
 ghost use Rattle.c_types.specs.TypingParts.{
   TypingUseIn,
   TypingExprIn,
@@ -25,6 +27,7 @@ ghost use Rattle.c_types.specs.Contexts.{
   IsCastTarget,
   IsCastValue,
   IsCastStmt,
+  IsCastAct,
   AreCastStmts,
   IsCastHeld,
   IsCastInside,
@@ -36,8 +39,8 @@ use crate::conversions::{assigned, binary, cast, choose, converted, typed_node, 
 use crate::known::{Binding, Known};
 use crate::scopes::Scopes;
 use c_ast::{
-    ArrayOf, Boxed, Expr, ExprKind, List, Name, Object, Param, Span, Stmt, StmtKind, Target, Tree,
-    Ty, Typed, TypedExpr, TypedExprKind, TypedStmt, TypedStmtKind, TypedTarget,
+    ArrayOf, Binary, Boxed, Expr, ExprKind, List, Name, Object, Param, Span, Stmt, StmtKind,
+    Target, Tree, Ty, Typed, TypedExpr, TypedExprKind, TypedStmt, TypedStmtKind, TypedTarget,
 };
 use el_base::Memory;
 use std::alloc::Global;
@@ -152,80 +155,227 @@ fn cast_stmt(
     returned: Option<Ty>,
     stmt: &Stmt,
 ) -> Result<TypedStmt, Memory>
-    requires { TypingStmtIn returned known.old.scopes (length known.old.types) stmt.now }
+    requires { TypingStmtIn returned known.old.scopes (length known.old.types)
+        stmt.now }
     ensures { IfOk result (λ t. IsCastStmt returned known.old stmt.now t known.new) }
 {
-    let at = stmt.at;
     match &stmt.kind {
-        StmtKind::Block(body) => {
-            known.enter()?;
-            let stmts = cast_stmts(alloc, known, returned, body.as_slice())?;
-            known.leave();
-            Ok(act(TypedStmtKind::Block(stmts), at))
-        }
+        StmtKind::Block(body) => cast_block(alloc, known, returned, stmt, body),
         StmtKind::Declare { name, ty, init } => {
-            let var = known.declare_var(name, *ty)?;
-            let init = cast_value(alloc, &known.scopes, Some(*ty), init)?;
-            Ok(act(TypedStmtKind::Declare { var, init }, at))
+            cast_declaration(alloc, known, stmt, name, *ty, init)
         }
         StmtKind::Assign { target, op, value } => {
-            let (target, ty) = cast_target(alloc, &known.scopes, target)?;
-            let value = cast_boxed(alloc, &known.scopes, value)?;
-            let value = assigned(alloc, *op, ty, value)?.into_inner();
-            let op = *op;
-            Ok(act(TypedStmtKind::Assign { target, op, value }, at))
+            cast_assignment(alloc, known, stmt, target, *op, value)
         }
-        StmtKind::Step { target, up } => {
-            let (target, _) = cast_target(alloc, &known.scopes, target)?;
-            let up = *up;
-            Ok(act(TypedStmtKind::Step { target, up }, at))
-        }
+        StmtKind::Step { target, up } => cast_step(alloc, known, stmt, target, *up),
         StmtKind::If { cond, then, other } => {
-            let cond = cast_boxed(alloc, &known.scopes, cond)?.into_inner();
-            let then = cast_inside(alloc, known, returned, then)?;
-            let other = cast_held(alloc, known, returned, other)?;
-            Ok(act(TypedStmtKind::If { cond, then, other }, at))
+            cast_if(alloc, known, returned, stmt, cond, then, other)
         }
-        StmtKind::While { cond, body } => {
-            let cond = cast_boxed(alloc, &known.scopes, cond)?.into_inner();
-            let body = cast_inside(alloc, known, returned, body)?;
-            Ok(act(TypedStmtKind::While { cond, body }, at))
-        }
-        StmtKind::DoWhile { body, cond } => {
-            let cond = cast_boxed(alloc, &known.scopes, cond)?.into_inner();
-            let body = cast_inside(alloc, known, returned, body)?;
-            Ok(act(TypedStmtKind::DoWhile { body, cond }, at))
-        }
+        StmtKind::While { cond, body } => { cast_while(alloc, known, returned, stmt, cond, body) }
+        StmtKind::DoWhile { body, cond } => { cast_do(alloc, known, returned, stmt, body, cond) }
         StmtKind::For {
             first,
             cond,
             step,
             body,
-        } => {
-            known.enter()?;
-            let first = cast_stmts(alloc, known, returned, first.as_slice())?;
-            let cond = cast_option(alloc, &known.scopes, cond)?;
-            let step = cast_held(alloc, known, returned, step)?;
-            let body = cast_inside(alloc, known, returned, body)?;
-            known.leave();
-            Ok(act(
-                TypedStmtKind::For {
-                    first,
-                    cond,
-                    step,
-                    body,
-                },
-                at,
-            ))
-        }
-        StmtKind::Break => Ok(act(TypedStmtKind::Break, at)),
-        StmtKind::Continue => Ok(act(TypedStmtKind::Continue, at)),
-        StmtKind::Return(value) => {
-            let value = cast_value(alloc, &known.scopes, returned, value)?;
-            Ok(act(TypedStmtKind::Return(value), at))
-        }
-        StmtKind::Empty => Ok(act(TypedStmtKind::Empty, at)),
+        } => cast_for(alloc, known, returned, stmt, first, cond, step, body),
+        StmtKind::Break => Ok(act(TypedStmtKind::Break, stmt.at)),
+        StmtKind::Continue => Ok(act(TypedStmtKind::Continue, stmt.at)),
+        StmtKind::Return(value) => cast_return(alloc, known, returned, stmt, value),
+        StmtKind::Empty => Ok(act(TypedStmtKind::Empty, stmt.at)),
     }
+}
+
+// A block, in a scope of its own.
+#[cycle(cast_stmt)]
+fn cast_block(
+    alloc: Global,
+    known: &mut Known,
+    returned: Option<Ty>,
+    stmt: &Stmt,
+    body: &List<Stmt>,
+) -> Result<TypedStmt, Memory>
+    requires is { stmt.now.kind ≡ kind.Block body.now }
+    requires typing { TypingStmtIn returned known.old.scopes
+        (length known.old.types) stmt.now }
+    ensures { IfOk result (λ t. IsCastStmt returned known.old stmt.now t known.new) }
+{
+    known.enter()?;
+    let stmts = cast_stmts(alloc, known, returned, body.as_slice())?;
+    known.leave();
+    Ok(act(TypedStmtKind::Block(stmts), stmt.at))
+}
+
+// An `if`, with a scope for each branch.
+#[cycle(cast_stmt)]
+fn cast_if(
+    alloc: Global,
+    known: &mut Known,
+    returned: Option<Ty>,
+    stmt: &Stmt,
+    cond: &Boxed<Expr>,
+    then: &Boxed<Stmt>,
+    other: &Option<Boxed<Stmt>>,
+) -> Result<TypedStmt, Memory>
+    requires is { stmt.now.kind ≡ kind.If cond.now then.now other.now }
+    requires typing { TypingStmtIn returned known.old.scopes
+        (length known.old.types) stmt.now }
+    ensures { IfOk result (λ t. IsCastStmt returned known.old stmt.now t known.new) }
+{
+    let cond = cast_boxed(alloc, &known.scopes, cond)?.into_inner();
+    let then = cast_inside(alloc, known, returned, then)?;
+    let other = cast_held(alloc, known, returned, other)?;
+    Ok(act(TypedStmtKind::If { cond, then, other }, stmt.at))
+}
+
+// A `while` loop.
+#[cycle(cast_stmt)]
+fn cast_while(
+    alloc: Global,
+    known: &mut Known,
+    returned: Option<Ty>,
+    stmt: &Stmt,
+    cond: &Boxed<Expr>,
+    body: &Boxed<Stmt>,
+) -> Result<TypedStmt, Memory>
+    requires is { stmt.now.kind ≡ kind.While cond.now body.now }
+    requires typing { TypingStmtIn returned known.old.scopes
+        (length known.old.types) stmt.now }
+    ensures { IfOk result (λ t. IsCastStmt returned known.old stmt.now t known.new) }
+{
+    let cond = cast_boxed(alloc, &known.scopes, cond)?.into_inner();
+    let body = cast_inside(alloc, known, returned, body)?;
+    Ok(act(TypedStmtKind::While { cond, body }, stmt.at))
+}
+
+// A `do` loop.
+#[cycle(cast_stmt)]
+fn cast_do(
+    alloc: Global,
+    known: &mut Known,
+    returned: Option<Ty>,
+    stmt: &Stmt,
+    body: &Boxed<Stmt>,
+    cond: &Boxed<Expr>,
+) -> Result<TypedStmt, Memory>
+    requires is { stmt.now.kind ≡ kind.DoWhile body.now cond.now }
+    requires typing { TypingStmtIn returned known.old.scopes
+        (length known.old.types) stmt.now }
+    ensures { IfOk result (λ t. IsCastStmt returned known.old stmt.now t known.new) }
+{
+    let cond = cast_boxed(alloc, &known.scopes, cond)?.into_inner();
+    let body = cast_inside(alloc, known, returned, body)?;
+    Ok(act(TypedStmtKind::DoWhile { body, cond }, stmt.at))
+}
+
+// A `for` loop, in a scope of its own.
+#[cycle(cast_stmt)]
+fn cast_for(
+    alloc: Global,
+    known: &mut Known,
+    returned: Option<Ty>,
+    stmt: &Stmt,
+    first: &List<Stmt>,
+    cond: &Option<Boxed<Expr>>,
+    step: &Option<Boxed<Stmt>>,
+    body: &Boxed<Stmt>,
+) -> Result<TypedStmt, Memory>
+    requires is { stmt.now.kind ≡ kind.For first.now cond.now step.now body.now }
+    requires typing { TypingStmtIn returned known.old.scopes
+        (length known.old.types) stmt.now }
+    ensures { IfOk result (λ t. IsCastStmt returned known.old stmt.now t known.new) }
+{
+    known.enter()?;
+    let first = cast_stmts(alloc, known, returned, first.as_slice())?;
+    let cond = cast_option(alloc, &known.scopes, cond)?;
+    let step = cast_held(alloc, known, returned, step)?;
+    let body = cast_inside(alloc, known, returned, body)?;
+    known.leave();
+    let kind = TypedStmtKind::For {
+        first,
+        cond,
+        step,
+        body,
+    };
+    Ok(act(kind, stmt.at))
+}
+
+// The declaration of a variable.
+#[inline(never)]
+fn cast_declaration(
+    alloc: Global,
+    known: &mut Known,
+    stmt: &Stmt,
+    name: &Name,
+    ty: Ty,
+    init: &Option<Boxed<Expr>>,
+) -> Result<TypedStmt, Memory>
+    requires is { stmt.now.kind ≡ kind.Declare name.now ty init.now }
+    requires new { is_new_in known.old.scopes name.now ≡ true }
+    requires numbered { IsNumbered (length known.old.types) }
+    requires typing { IfSome init.now (TypingExprIn
+        (with_entry name.now (binding.Var (length known.old.types) ty) known.old.scopes)) }
+    ensures { IfOk result (λ t. IsCastAct known.old stmt.now t known.new) }
+{
+    let var = known.declare_var(name, ty)?;
+    let init = cast_value(alloc, &known.scopes, Some(ty), init)?;
+    Ok(act(TypedStmtKind::Declare { var, init }, stmt.at))
+}
+
+// An assignment.
+#[inline(never)]
+fn cast_assignment(
+    alloc: Global,
+    known: &Known,
+    stmt: &Stmt,
+    target: &Boxed<Target>,
+    op: Option<Binary>,
+    value: &Boxed<Expr>,
+) -> Result<TypedStmt, Memory>
+    requires is { stmt.now.kind ≡ kind.Assign target.now op value.now }
+    requires target { TypingTargetIn known.now.scopes target.now }
+    requires value { TypingExprIn known.now.scopes value.now }
+    ensures { IfOk result (λ t. IsCastAct known.now stmt.now t known.now) }
+{
+    let (target, ty) = cast_target(alloc, &known.scopes, target)?;
+    let value = cast_boxed(alloc, &known.scopes, value)?;
+    let value = assigned(alloc, op, ty, value)?.into_inner();
+    Ok(act(TypedStmtKind::Assign { target, op, value }, stmt.at))
+}
+
+// A step up or down.
+#[inline(never)]
+fn cast_step(
+    alloc: Global,
+    known: &Known,
+    stmt: &Stmt,
+    target: &Boxed<Target>,
+    up: bool,
+) -> Result<TypedStmt, Memory>
+    requires is { stmt.now.kind ≡ kind.Step target.now up }
+    requires target { TypingTargetIn known.now.scopes target.now }
+    ensures { IfOk result (λ t. IsCastAct known.now stmt.now t known.now) }
+{
+    let (target, _) = cast_target(alloc, &known.scopes, target)?;
+    Ok(act(TypedStmtKind::Step { target, up }, stmt.at))
+}
+
+// A return, with or without a value.
+#[inline(never)]
+fn cast_return(
+    alloc: Global,
+    known: &Known,
+    returned: Option<Ty>,
+    stmt: &Stmt,
+    value: &Option<Boxed<Expr>>,
+) -> Result<TypedStmt, Memory>
+    requires is { stmt.now.kind ≡ kind.Return value.now }
+    requires typing { IfSome value.now (TypingExprIn known.now.scopes) }
+    requires typed { IfSome value.now (λ e. IsSome returned) }
+    ensures { IfOk result (λ t. IsCastStmt returned known.now stmt.now t known.now) }
+{
+    let value = cast_value(alloc, &known.scopes, returned, value)?;
+    Ok(act(TypedStmtKind::Return(value), stmt.at))
 }
 
 fn act(kind: TypedStmtKind, at: Span) -> TypedStmt

@@ -6,6 +6,7 @@ ghost use Rattle.std.specs.Prelude.{
   [],
   ◌∷◌,
   length,
+  true,
   Some,
   None,
   IfOk,
@@ -15,6 +16,7 @@ ghost use Rattle.std.specs.Prelude.{
   All,
 };
 ghost use Rattle.el_base.specs.Limits.{IsNumbered};
+ghost use Rattle.c_ast.specs.declared.tree.StmtKind.TheVariants as kind;
 ghost use Rattle.c_ast.specs.Programs.{program_nodes, helpers_nodes, TypingHelpers, TypingProgram};
 ghost use Rattle.c_ast.specs.ProgramCasts.{
   helper_of,
@@ -23,6 +25,8 @@ ghost use Rattle.c_ast.specs.ProgramCasts.{
   CastsHelpers,
   CastsProgram,
 };
+ghost use Rattle.c_types.specs.declared.known.Binding.TheVariants as binding;
+ghost use Rattle.c_types.specs.Scopes.{is_new_in, with_entry};
 ghost use Rattle.c_types.specs.TypingParts.{TypingUseIn};
 ghost use Rattle.c_types.specs.ProgramParts.{
   HasCallee,
@@ -44,6 +48,7 @@ ghost use Rattle.c_types.specs.ProgramContexts.{
   IsProgTarget,
   IsProgValue,
   IsProgStmt,
+  IsProgAct,
   AreProgStmts,
   IsProgHeld,
   IsProgInside,
@@ -55,8 +60,8 @@ use crate::known::{Binding, Known};
 use crate::program_conversions::{assigned, binary, cast, choose, converted, prog_node, unary};
 use crate::scopes::Scopes;
 use c_ast::{
-    Boxed, Expr, ExprKind, Helper, List, Name, Object, Param, ProgExpr, ProgExprKind, ProgStmt,
-    ProgStmtKind, ProgTarget, ProgTree, Program, Span, Stmt, StmtKind, Target, Tree, Ty,
+    Binary, Boxed, Expr, ExprKind, Helper, List, Name, Object, Param, ProgExpr, ProgExprKind,
+    ProgStmt, ProgStmtKind, ProgTarget, ProgTree, Program, Span, Stmt, StmtKind, Target, Tree, Ty,
     TypedHelper, TypedProgram,
 };
 use el_base::Memory;
@@ -175,77 +180,238 @@ fn cast_stmt(
         stmt.now }
     ensures { IfOk result (λ t. IsProgStmt helpers.now returned known.old stmt.now t known.new) }
 {
-    let at = stmt.at;
     match &stmt.kind {
-        StmtKind::Block(body) => {
-            known.enter()?;
-            let stmts = cast_stmts(alloc, helpers, known, returned, body.as_slice())?;
-            known.leave();
-            Ok(act(ProgStmtKind::Block(stmts), at))
-        }
+        StmtKind::Block(body) => cast_block(alloc, helpers, known, returned, stmt, body),
         StmtKind::Declare { name, ty, init } => {
-            let var = known.declare_var(name, *ty)?;
-            let init = cast_value(alloc, helpers, &known.scopes, Some(*ty), init)?;
-            Ok(act(ProgStmtKind::Declare { var, init }, at))
+            cast_declaration(alloc, helpers, known, stmt, name, *ty, init)
         }
         StmtKind::Assign { target, op, value } => {
-            let (target, ty) = cast_target(alloc, helpers, &known.scopes, target)?;
-            let value = cast_boxed(alloc, helpers, &known.scopes, value)?;
-            let value = assigned(alloc, *op, ty, value)?.into_inner();
-            let op = *op;
-            Ok(act(ProgStmtKind::Assign { target, op, value }, at))
+            cast_assignment(alloc, helpers, known, stmt, target, *op, value)
         }
-        StmtKind::Step { target, up } => {
-            let (target, _) = cast_target(alloc, helpers, &known.scopes, target)?;
-            let up = *up;
-            Ok(act(ProgStmtKind::Step { target, up }, at))
-        }
+        StmtKind::Step { target, up } => cast_step(alloc, helpers, known, stmt, target, *up),
         StmtKind::If { cond, then, other } => {
-            let cond = cast_boxed(alloc, helpers, &known.scopes, cond)?.into_inner();
-            let then = cast_inside(alloc, helpers, known, returned, then)?;
-            let other = cast_held(alloc, helpers, known, returned, other)?;
-            Ok(act(ProgStmtKind::If { cond, then, other }, at))
+            cast_if(alloc, helpers, known, returned, stmt, cond, then, other)
         }
         StmtKind::While { cond, body } => {
-            let cond = cast_boxed(alloc, helpers, &known.scopes, cond)?.into_inner();
-            let body = cast_inside(alloc, helpers, known, returned, body)?;
-            Ok(act(ProgStmtKind::While { cond, body }, at))
+            cast_while(alloc, helpers, known, returned, stmt, cond, body)
         }
         StmtKind::DoWhile { body, cond } => {
-            let cond = cast_boxed(alloc, helpers, &known.scopes, cond)?.into_inner();
-            let body = cast_inside(alloc, helpers, known, returned, body)?;
-            Ok(act(ProgStmtKind::DoWhile { body, cond }, at))
+            cast_do(alloc, helpers, known, returned, stmt, body, cond)
         }
         StmtKind::For {
             first,
             cond,
             step,
             body,
-        } => {
-            known.enter()?;
-            let first = cast_stmts(alloc, helpers, known, returned, first.as_slice())?;
-            let cond = cast_option(alloc, helpers, &known.scopes, cond)?;
-            let step = cast_held(alloc, helpers, known, returned, step)?;
-            let body = cast_inside(alloc, helpers, known, returned, body)?;
-            known.leave();
-            Ok(act(
-                ProgStmtKind::For {
-                    first,
-                    cond,
-                    step,
-                    body,
-                },
-                at,
-            ))
-        }
-        StmtKind::Break => Ok(act(ProgStmtKind::Break, at)),
-        StmtKind::Continue => Ok(act(ProgStmtKind::Continue, at)),
-        StmtKind::Return(value) => {
-            let value = cast_value(alloc, helpers, &known.scopes, returned, value)?;
-            Ok(act(ProgStmtKind::Return(value), at))
-        }
-        StmtKind::Empty => Ok(act(ProgStmtKind::Empty, at)),
+        } => cast_for(
+            alloc, helpers, known, returned, stmt, first, cond, step, body,
+        ),
+        StmtKind::Break => Ok(act(ProgStmtKind::Break, stmt.at)),
+        StmtKind::Continue => Ok(act(ProgStmtKind::Continue, stmt.at)),
+        StmtKind::Return(value) => cast_return(alloc, helpers, known, returned, stmt, value),
+        StmtKind::Empty => Ok(act(ProgStmtKind::Empty, stmt.at)),
     }
+}
+
+// A block, in a scope of its own.
+#[cycle(cast_stmt)]
+fn cast_block(
+    alloc: Global,
+    helpers: &[Helper],
+    known: &mut Known,
+    returned: Option<Ty>,
+    stmt: &Stmt,
+    body: &List<Stmt>,
+) -> Result<ProgStmt, Memory>
+    requires is { stmt.now.kind ≡ kind.Block body.now }
+    requires typing { TypingStmtWith helpers.now returned known.old.scopes
+        (length known.old.types) stmt.now }
+    ensures { IfOk result (λ t. IsProgStmt helpers.now returned known.old stmt.now t known.new) }
+{
+    known.enter()?;
+    let stmts = cast_stmts(alloc, helpers, known, returned, body.as_slice())?;
+    known.leave();
+    Ok(act(ProgStmtKind::Block(stmts), stmt.at))
+}
+
+// An `if`, with a scope for each branch.
+#[cycle(cast_stmt)]
+fn cast_if(
+    alloc: Global,
+    helpers: &[Helper],
+    known: &mut Known,
+    returned: Option<Ty>,
+    stmt: &Stmt,
+    cond: &Boxed<Expr>,
+    then: &Boxed<Stmt>,
+    other: &Option<Boxed<Stmt>>,
+) -> Result<ProgStmt, Memory>
+    requires is { stmt.now.kind ≡ kind.If cond.now then.now other.now }
+    requires typing { TypingStmtWith helpers.now returned known.old.scopes
+        (length known.old.types) stmt.now }
+    ensures { IfOk result (λ t. IsProgStmt helpers.now returned known.old stmt.now t known.new) }
+{
+    let cond = cast_boxed(alloc, helpers, &known.scopes, cond)?.into_inner();
+    let then = cast_inside(alloc, helpers, known, returned, then)?;
+    let other = cast_held(alloc, helpers, known, returned, other)?;
+    Ok(act(ProgStmtKind::If { cond, then, other }, stmt.at))
+}
+
+// A `while` loop.
+#[cycle(cast_stmt)]
+fn cast_while(
+    alloc: Global,
+    helpers: &[Helper],
+    known: &mut Known,
+    returned: Option<Ty>,
+    stmt: &Stmt,
+    cond: &Boxed<Expr>,
+    body: &Boxed<Stmt>,
+) -> Result<ProgStmt, Memory>
+    requires is { stmt.now.kind ≡ kind.While cond.now body.now }
+    requires typing { TypingStmtWith helpers.now returned known.old.scopes
+        (length known.old.types) stmt.now }
+    ensures { IfOk result (λ t. IsProgStmt helpers.now returned known.old stmt.now t known.new) }
+{
+    let cond = cast_boxed(alloc, helpers, &known.scopes, cond)?.into_inner();
+    let body = cast_inside(alloc, helpers, known, returned, body)?;
+    Ok(act(ProgStmtKind::While { cond, body }, stmt.at))
+}
+
+// A `do` loop.
+#[cycle(cast_stmt)]
+fn cast_do(
+    alloc: Global,
+    helpers: &[Helper],
+    known: &mut Known,
+    returned: Option<Ty>,
+    stmt: &Stmt,
+    body: &Boxed<Stmt>,
+    cond: &Boxed<Expr>,
+) -> Result<ProgStmt, Memory>
+    requires is { stmt.now.kind ≡ kind.DoWhile body.now cond.now }
+    requires typing { TypingStmtWith helpers.now returned known.old.scopes
+        (length known.old.types) stmt.now }
+    ensures { IfOk result (λ t. IsProgStmt helpers.now returned known.old stmt.now t known.new) }
+{
+    let cond = cast_boxed(alloc, helpers, &known.scopes, cond)?.into_inner();
+    let body = cast_inside(alloc, helpers, known, returned, body)?;
+    Ok(act(ProgStmtKind::DoWhile { body, cond }, stmt.at))
+}
+
+// A `for` loop, in a scope of its own.
+#[cycle(cast_stmt)]
+fn cast_for(
+    alloc: Global,
+    helpers: &[Helper],
+    known: &mut Known,
+    returned: Option<Ty>,
+    stmt: &Stmt,
+    first: &List<Stmt>,
+    cond: &Option<Boxed<Expr>>,
+    step: &Option<Boxed<Stmt>>,
+    body: &Boxed<Stmt>,
+) -> Result<ProgStmt, Memory>
+    requires is { stmt.now.kind ≡ kind.For first.now cond.now step.now body.now }
+    requires typing { TypingStmtWith helpers.now returned known.old.scopes
+        (length known.old.types) stmt.now }
+    ensures { IfOk result (λ t. IsProgStmt helpers.now returned known.old stmt.now t known.new) }
+{
+    known.enter()?;
+    let first = cast_stmts(alloc, helpers, known, returned, first.as_slice())?;
+    let cond = cast_option(alloc, helpers, &known.scopes, cond)?;
+    let step = cast_held(alloc, helpers, known, returned, step)?;
+    let body = cast_inside(alloc, helpers, known, returned, body)?;
+    known.leave();
+    let kind = ProgStmtKind::For {
+        first,
+        cond,
+        step,
+        body,
+    };
+    Ok(act(kind, stmt.at))
+}
+
+// The declaration of a variable.
+#[inline(never)]
+fn cast_declaration(
+    alloc: Global,
+    helpers: &[Helper],
+    known: &mut Known,
+    stmt: &Stmt,
+    name: &Name,
+    ty: Ty,
+    init: &Option<Boxed<Expr>>,
+) -> Result<ProgStmt, Memory>
+    requires is { stmt.now.kind ≡ kind.Declare name.now ty init.now }
+    requires new { is_new_in known.old.scopes name.now ≡ true }
+    requires numbered { IsNumbered (length known.old.types) }
+    requires typing { IfSome init.now (TypingExprWith helpers.now
+        (with_entry name.now (binding.Var (length known.old.types) ty) known.old.scopes)) }
+    ensures { IfOk result (λ t. IsProgAct helpers.now known.old stmt.now t known.new) }
+{
+    let var = known.declare_var(name, ty)?;
+    let init = cast_value(alloc, helpers, &known.scopes, Some(ty), init)?;
+    Ok(act(ProgStmtKind::Declare { var, init }, stmt.at))
+}
+
+// An assignment.
+#[inline(never)]
+fn cast_assignment(
+    alloc: Global,
+    helpers: &[Helper],
+    known: &Known,
+    stmt: &Stmt,
+    target: &Boxed<Target>,
+    op: Option<Binary>,
+    value: &Boxed<Expr>,
+) -> Result<ProgStmt, Memory>
+    requires is { stmt.now.kind ≡ kind.Assign target.now op value.now }
+    requires target { TypingTargetWith helpers.now known.now.scopes target.now }
+    requires value { TypingExprWith helpers.now known.now.scopes value.now }
+    ensures { IfOk result (λ t. IsProgAct helpers.now known.now stmt.now t known.now) }
+{
+    let (target, ty) = cast_target(alloc, helpers, &known.scopes, target)?;
+    let value = cast_boxed(alloc, helpers, &known.scopes, value)?;
+    let value = assigned(alloc, op, ty, value)?.into_inner();
+    Ok(act(ProgStmtKind::Assign { target, op, value }, stmt.at))
+}
+
+// A step up or down.
+#[inline(never)]
+fn cast_step(
+    alloc: Global,
+    helpers: &[Helper],
+    known: &Known,
+    stmt: &Stmt,
+    target: &Boxed<Target>,
+    up: bool,
+) -> Result<ProgStmt, Memory>
+    requires is { stmt.now.kind ≡ kind.Step target.now up }
+    requires target { TypingTargetWith helpers.now known.now.scopes target.now }
+    ensures { IfOk result (λ t. IsProgAct helpers.now known.now stmt.now t known.now) }
+{
+    let (target, _) = cast_target(alloc, helpers, &known.scopes, target)?;
+    Ok(act(ProgStmtKind::Step { target, up }, stmt.at))
+}
+
+// A return, with or without a value.
+#[inline(never)]
+fn cast_return(
+    alloc: Global,
+    helpers: &[Helper],
+    known: &Known,
+    returned: Option<Ty>,
+    stmt: &Stmt,
+    value: &Option<Boxed<Expr>>,
+) -> Result<ProgStmt, Memory>
+    requires is { stmt.now.kind ≡ kind.Return value.now }
+    requires typing { IfSome value.now (TypingExprWith helpers.now known.now.scopes) }
+    requires typed { IfSome value.now (λ e. IsSome returned) }
+    ensures { IfOk result (λ t. IsProgStmt helpers.now returned known.now stmt.now t known.now) }
+{
+    let value = cast_value(alloc, helpers, &known.scopes, returned, value)?;
+    Ok(act(ProgStmtKind::Return(value), stmt.at))
 }
 
 fn act(kind: ProgStmtKind, at: Span) -> ProgStmt

@@ -1,6 +1,6 @@
-use Rattle.std.proofs.Common.{length, take, sym, ap, subst, ◌∙◌, rules}
+use Rattle.std.proofs.Common.{length, take, refl, sym, ap, subst, ◌∙◌, rules}
 use Rattle.c_types.proofs.FirstFaults.{item_more}
-use Rattle.c_types.proofs.CastStatements.{opening, leaving, block_arm, declare_arm, assign_arm, step_arm, if_arm, while_arm, do_arm, for_arm, return_arm, break_arm, continue_arm, empty_arm, inside_arm, none_held, one_held, held_is, no_stmts, one_more_stmt}
+use Rattle.c_types.proofs.CastStatements.{opening, leaving, act_made, block_arm, if_arm, while_arm, do_arm, for_arm, break_arm, continue_arm, empty_arm, inside_arm, none_held, one_held, held_is, no_stmts, one_more_stmt}
 use Rattle.c_types.proofs.StatementParts.{block_part, declared_new, declared_value, if_cond, if_then, if_other, while_cond, while_body, do_cond, do_body, for_first, for_cond, for_step, for_body, first_item, other_items}
 use Rattle.c_types.specs.Contexts.{IsCastExpr}
 use Rattle.c_ast.specs.declared.tree.StmtKind.TheViews.{the_lemmas}
@@ -21,54 +21,47 @@ cast_inside-returns t c =
     inside_arm c.args.returned c.args.known.now _ _ _ _ _ _ _ c.get.ensures
     (opening _ _ c.in_ok-enter.ensures.scopes c.enter.ensures.types c.enter.ensures.some) c.in_ok-typed.ensures (leaving _ _ c.leave.ensures.scopes c.leave.ensures.types) c.in_ok-boxed.ensures
 
-pub cast_stmt-returns-in_ok-stmts-in-Block : goal.cast_stmt-returns-in_ok-stmts-in-Block
-cast_stmt-returns-in_ok-stmts-in-Block t c =
-    block_arm c.args.returned c.args.known.now _ _ _ c.args.stmt.now _ _ _ _ c.in-Block.is c.as_slice.ensures
-    (opening _ _ c.in_ok-enter-in-Block.ensures.scopes c.enter.ensures.types c.enter.ensures.some) c.in_ok-stmts-in-Block.ensures
+pub cast_block-returns : goal.cast_block-returns
+cast_block-returns t c =
+    block_arm c.args.returned c.args.known.now _ _ _ c.args.stmt.now _ _ _ _ c.requires.is c.as_slice.ensures
+    (opening _ _ c.in_ok-enter.ensures.scopes c.enter.ensures.types c.enter.ensures.some) c.in_ok-stmts.ensures
     (leaving _ _ c.leave.ensures.scopes c.leave.ensures.types) c.act.ensures
 
-pub cast_stmt-returns-in_ok-init-in-Declare : goal.cast_stmt-returns-in_ok-init-in-Declare
-cast_stmt-returns-in_ok-init-in-Declare t c =
-    declare_arm c.args.returned c.args.known.now _ c.args.stmt.now _ _ _ _ _ _ c.in-Declare.is c.in_ok-var-in-Declare.ensures.number
-    (declared_new c.args.returned c.args.known.now.scopes (length c.args.known.now.types) c.args.stmt.now _ _ _ c.requires c.in-Declare.is)
-    c.in_ok-var-in-Declare.ensures.scopes c.in_ok-var-in-Declare.ensures.types c.in_ok-init-in-Declare.ensures c.act-in-Declare.ensures
+pub cast_if-returns : goal.cast_if-returns
+cast_if-returns t c =
+    if_arm c.args.returned c.args.known.now _ _ c.args.stmt.now _ _ _ _ _ _ _ c.requires.is (subst (IsCastExpr c.args.known.now.scopes _) (sym c.into_inner-cond.ensures) c.in_ok-cast_boxed.ensures) c.in_ok-then.ensures c.in_ok-other.ensures c.act.ensures
 
-pub cast_stmt-returns-in_ok-assigned-in-Assign : goal.cast_stmt-returns-in_ok-assigned-in-Assign
-cast_stmt-returns-in_ok-assigned-in-Assign t c =
-    assign_arm c.args.returned c.args.known.now c.args.stmt.now _ _ _ _ _ _ _ _ c.in-Assign.is c.in_ok-target-in-Assign.ensures c.in_ok-value-in-Assign.ensures (c.into_inner-value.ensures ∙ c.in_ok-assigned-in-Assign.ensures) c.act-in-Assign.ensures
+pub cast_while-returns : goal.cast_while-returns
+cast_while-returns t c =
+    while_arm c.args.returned c.args.known.now _ c.args.stmt.now _ _ _ _ _ c.requires.is (subst (IsCastExpr c.args.known.now.scopes _) (sym c.into_inner-cond.ensures) c.in_ok-cast_boxed.ensures) c.in_ok-body.ensures c.act.ensures
 
-pub cast_stmt-returns-in_ok-target-in-Step : goal.cast_stmt-returns-in_ok-target-in-Step
-cast_stmt-returns-in_ok-target-in-Step t c = step_arm c.args.returned c.args.known.now c.args.stmt.now _ _ _ _ _ c.in-Step.is c.in_ok-target-in-Step.ensures c.act-in-Step.ensures
+pub cast_do-returns : goal.cast_do-returns
+cast_do-returns t c =
+    do_arm c.args.returned c.args.known.now _ c.args.stmt.now _ _ _ _ _ c.requires.is (subst (IsCastExpr c.args.known.now.scopes _) (sym c.into_inner-cond.ensures) c.in_ok-cast_boxed.ensures) c.in_ok-body.ensures c.act.ensures
 
-pub cast_stmt-returns-in_ok-other-in-If : goal.cast_stmt-returns-in_ok-other-in-If
-cast_stmt-returns-in_ok-other-in-If t c =
-    if_arm c.args.returned c.args.known.now _ _ c.args.stmt.now _ _ _ _ _ _ _ c.in-If.is (subst (IsCastExpr c.args.known.now.scopes _) (sym c.into_inner-cond.ensures) c.in_ok-cast_boxed-in-If.ensures) c.in_ok-then-in-If.ensures c.in_ok-other-in-If.ensures c.act-in-If.ensures
-
-pub cast_stmt-returns-in_ok-body-in-While : goal.cast_stmt-returns-in_ok-body-in-While
-cast_stmt-returns-in_ok-body-in-While t c =
-    while_arm c.args.returned c.args.known.now _ c.args.stmt.now _ _ _ _ _ c.in-While.is (subst (IsCastExpr c.args.known.now.scopes _) (sym c.into_inner-cond-in-While.ensures) c.in_ok-cast_boxed-in-While.ensures) c.in_ok-body-in-While.ensures c.act-in-While.ensures
-
-pub cast_stmt-returns-in_ok-body-in-DoWhile : goal.cast_stmt-returns-in_ok-body-in-DoWhile
-cast_stmt-returns-in_ok-body-in-DoWhile t c =
-    do_arm c.args.returned c.args.known.now _ c.args.stmt.now _ _ _ _ _ c.in-DoWhile.is (subst (IsCastExpr c.args.known.now.scopes _) (sym c.into_inner-cond-in-DoWhile.ensures) c.in_ok-cast_boxed-in-DoWhile.ensures) c.in_ok-body-in-DoWhile.ensures c.act-in-DoWhile.ensures
-
-pub cast_stmt-returns-in_ok-body-in-For : goal.cast_stmt-returns-in_ok-body-in-For
-cast_stmt-returns-in_ok-body-in-For t c =
-    for_arm c.args.returned c.args.known.now _ _ _ _ _ c.args.stmt.now _ _ _ _ _ _ _ _ _ _ c.in-For.is c.as_slice-in-For.ensures
-    (opening _ _ c.in_ok-enter-in-For.ensures.scopes c.enter-in-For.ensures.types c.enter-in-For.ensures.some) c.in_ok-first-in-For.ensures c.in_ok-cond-in-For.ensures
-    c.in_ok-step-in-For.ensures c.in_ok-body-in-For.ensures (leaving _ _ c.leave-in-For.ensures.scopes c.leave-in-For.ensures.types) c.act-in-For.ensures
+pub cast_for-returns : goal.cast_for-returns
+cast_for-returns t c =
+    for_arm c.args.returned c.args.known.now _ _ _ _ _ c.args.stmt.now _ _ _ _ _ _ _ _ _ _ c.requires.is c.as_slice.ensures
+    (opening _ _ c.in_ok-enter.ensures.scopes c.enter.ensures.types c.enter.ensures.some) c.in_ok-first.ensures c.in_ok-cond.ensures
+    c.in_ok-step.ensures c.in_ok-body.ensures (leaving _ _ c.leave.ensures.scopes c.leave.ensures.types) c.act.ensures
 
 pub cast_stmt-returns-in-Break : goal.cast_stmt-returns-in-Break
-cast_stmt-returns-in-Break t c = break_arm c.args.returned c.args.known.now c.args.stmt.now _ c.in-Break.is c.act-in-Break.ensures
+cast_stmt-returns-in-Break t c = break_arm c.args.returned c.args.known.now c.args.stmt.now _ c.in-Break.is c.act.ensures
 
 pub cast_stmt-returns-in-Continue : goal.cast_stmt-returns-in-Continue
 cast_stmt-returns-in-Continue t c = continue_arm c.args.returned c.args.known.now c.args.stmt.now _ c.in-Continue.is c.act-in-Continue.ensures
 
-pub cast_stmt-returns-in_ok-value-in-Return : goal.cast_stmt-returns-in_ok-value-in-Return
-cast_stmt-returns-in_ok-value-in-Return t c = return_arm c.args.returned c.args.known.now c.args.stmt.now _ _ _ c.in-Return.is c.in_ok-value-in-Return.ensures c.act-in-Return.ensures
-
 pub cast_stmt-returns-in-Empty : goal.cast_stmt-returns-in-Empty
 cast_stmt-returns-in-Empty t c = empty_arm c.args.returned c.args.known.now c.args.stmt.now _ c.in-Empty.is c.act-in-Empty.ensures
+
+pub cast_stmt-returns-in-Declare : goal.cast_stmt-returns-in-Declare
+cast_stmt-returns-in-Declare t c = act_made c.args.returned c.args.known.now _ c.args.stmt.now _ c.cast_declaration.ensures
+
+pub cast_stmt-returns-in-Assign : goal.cast_stmt-returns-in-Assign
+cast_stmt-returns-in-Assign t c = act_made c.args.returned c.args.known.now _ c.args.stmt.now _ c.cast_assignment.ensures
+
+pub cast_stmt-returns-in-Step : goal.cast_stmt-returns-in-Step
+cast_stmt-returns-in-Step t c = act_made c.args.returned c.args.known.now _ c.args.stmt.now _ c.cast_step.ensures
 
 pub cast_stmts-loop-stmt-init : goal.cast_stmts-loop-stmt-init
 cast_stmts-loop-stmt-init t c = record { casts = no_stmts c.args.returned c.args.known.now _ c.new-items.ensures; others = c.requires }
@@ -82,8 +75,6 @@ cast_stmts-loop-stmt-preserved t c =
           c.in_ok-cast_stmt.ensures;
     }
 
--- ---- what each call requires
-
 pub cast_stmts-cast_stmt-requires : goal.cast_stmts-cast_stmt-requires
 cast_stmts-cast_stmt-requires t c = (
   search (rules, the_lemmas),
@@ -91,64 +82,64 @@ cast_stmts-cast_stmt-requires t c = (
       c.loop-stmt.invariant.others,
 )
 
-pub cast_stmt-cast_stmts-requires : goal.cast_stmt-cast_stmts-requires
-cast_stmt-cast_stmts-requires t c = (
+pub cast_stmt-cast_declaration-requires-clause-new : goal.cast_stmt-cast_declaration-requires-clause-new
+cast_stmt-cast_declaration-requires-clause-new t c = declared_new c.args.returned c.args.known.now.scopes (length c.args.known.now.types) c.args.stmt.now _ _ _ c.requires c.in-Declare.is
+
+pub cast_stmt-cast_declaration-requires-clause-typing : goal.cast_stmt-cast_declaration-requires-clause-typing
+cast_stmt-cast_declaration-requires-clause-typing t c =
+    declared_value c.args.returned c.args.known.now.scopes _ (length c.args.known.now.types) c.args.stmt.now _ _ _ c.requires c.in-Declare.is refl
+
+pub cast_block-cast_stmts-requires : goal.cast_block-cast_stmts-requires
+cast_block-cast_stmts-requires t c = (
   search (rules, the_lemmas),
-  block_part c.args.returned c.args.known.now.scopes _ (length c.args.known.now.types) _ c.args.stmt.now _ _ c.requires c.in-Block.is c.as_slice.ensures
-      c.in_ok-enter-in-Block.ensures.scopes (ap length c.enter.ensures.types),
+  block_part c.args.returned c.args.known.now.scopes _ (length c.args.known.now.types) _ c.args.stmt.now _ _ c.requires.typing c.requires.is c.as_slice.ensures
+      c.in_ok-enter.ensures.scopes (ap length c.enter.ensures.types),
 )
 
-pub cast_stmt-declare_var-requires-clause-new : goal.cast_stmt-declare_var-requires-clause-new
-cast_stmt-declare_var-requires-clause-new t c = declared_new c.args.returned c.args.known.now.scopes (length c.args.known.now.types) c.args.stmt.now _ _ _ c.requires c.in-Declare.is
+pub cast_if-cast_boxed-requires : goal.cast_if-cast_boxed-requires
+cast_if-cast_boxed-requires t c = if_cond c.args.returned c.args.known.now.scopes (length c.args.known.now.types) c.args.stmt.now _ _ _ c.requires.typing c.requires.is
 
-pub cast_stmt-cast_value-requires-clause-typing : goal.cast_stmt-cast_value-requires-clause-typing
-cast_stmt-cast_value-requires-clause-typing t c =
-    declared_value c.args.returned c.args.known.now.scopes _ (length c.args.known.now.types) c.args.stmt.now _ _ _ c.requires c.in-Declare.is c.in_ok-var-in-Declare.ensures.scopes
+pub cast_if-cast_inside-requires : goal.cast_if-cast_inside-requires
+cast_if-cast_inside-requires t c = (search (rules, the_lemmas), if_then c.args.returned c.args.known.now.scopes (length c.args.known.now.types) c.args.stmt.now _ _ _ c.requires.typing c.requires.is)
 
-pub cast_stmt-cast_boxed-requires-in-If : goal.cast_stmt-cast_boxed-requires-in-If
-cast_stmt-cast_boxed-requires-in-If t c = if_cond c.args.returned c.args.known.now.scopes (length c.args.known.now.types) c.args.stmt.now _ _ _ c.requires c.in-If.is
+pub cast_if-cast_held-requires : goal.cast_if-cast_held-requires
+cast_if-cast_held-requires t c =
+    (search (rules, the_lemmas), if_other c.args.returned c.args.known.now c.cast_inside.new.known c.args.stmt.now _ _ _ _ c.requires.typing c.requires.is c.in_ok-then.ensures)
 
-pub cast_stmt-cast_inside-requires : goal.cast_stmt-cast_inside-requires
-cast_stmt-cast_inside-requires t c = (search (rules, the_lemmas), if_then c.args.returned c.args.known.now.scopes (length c.args.known.now.types) c.args.stmt.now _ _ _ c.requires c.in-If.is)
+pub cast_while-cast_boxed-requires : goal.cast_while-cast_boxed-requires
+cast_while-cast_boxed-requires t c = while_cond c.args.returned c.args.known.now.scopes (length c.args.known.now.types) c.args.stmt.now _ _ c.requires.typing c.requires.is
 
-pub cast_stmt-cast_held-requires : goal.cast_stmt-cast_held-requires
-cast_stmt-cast_held-requires t c =
-    (search (rules, the_lemmas), if_other c.args.returned c.args.known.now c.cast_inside.new.known c.args.stmt.now _ _ _ _ c.requires c.in-If.is c.in_ok-then-in-If.ensures)
+pub cast_while-cast_inside-requires : goal.cast_while-cast_inside-requires
+cast_while-cast_inside-requires t c = (search (rules, the_lemmas), while_body c.args.returned c.args.known.now.scopes (length c.args.known.now.types) c.args.stmt.now _ _ c.requires.typing c.requires.is)
 
-pub cast_stmt-cast_boxed-requires-in-While : goal.cast_stmt-cast_boxed-requires-in-While
-cast_stmt-cast_boxed-requires-in-While t c = while_cond c.args.returned c.args.known.now.scopes (length c.args.known.now.types) c.args.stmt.now _ _ c.requires c.in-While.is
+pub cast_do-cast_boxed-requires : goal.cast_do-cast_boxed-requires
+cast_do-cast_boxed-requires t c = do_cond c.args.returned c.args.known.now.scopes (length c.args.known.now.types) c.args.stmt.now _ _ c.requires.typing c.requires.is
 
-pub cast_stmt-cast_inside-requires-in-While : goal.cast_stmt-cast_inside-requires-in-While
-cast_stmt-cast_inside-requires-in-While t c = (search (rules, the_lemmas), while_body c.args.returned c.args.known.now.scopes (length c.args.known.now.types) c.args.stmt.now _ _ c.requires c.in-While.is)
+pub cast_do-cast_inside-requires : goal.cast_do-cast_inside-requires
+cast_do-cast_inside-requires t c = (search (rules, the_lemmas), do_body c.args.returned c.args.known.now.scopes (length c.args.known.now.types) c.args.stmt.now _ _ c.requires.typing c.requires.is)
 
-pub cast_stmt-cast_boxed-requires-in-DoWhile : goal.cast_stmt-cast_boxed-requires-in-DoWhile
-cast_stmt-cast_boxed-requires-in-DoWhile t c = do_cond c.args.returned c.args.known.now.scopes (length c.args.known.now.types) c.args.stmt.now _ _ c.requires c.in-DoWhile.is
-
-pub cast_stmt-cast_inside-requires-in-DoWhile : goal.cast_stmt-cast_inside-requires-in-DoWhile
-cast_stmt-cast_inside-requires-in-DoWhile t c = (search (rules, the_lemmas), do_body c.args.returned c.args.known.now.scopes (length c.args.known.now.types) c.args.stmt.now _ _ c.requires c.in-DoWhile.is)
-
-pub cast_stmt-cast_stmts-requires-in-For : goal.cast_stmt-cast_stmts-requires-in-For
-cast_stmt-cast_stmts-requires-in-For t c = (
+pub cast_for-cast_stmts-requires : goal.cast_for-cast_stmts-requires
+cast_for-cast_stmts-requires t c = (
   search (rules, the_lemmas),
-  for_first c.args.returned c.args.known.now _ _ c.args.stmt.now _ _ _ _ _ c.requires c.in-For.is c.as_slice-in-For.ensures c.in_ok-enter-in-For.ensures.scopes
-      (ap length c.enter-in-For.ensures.types),
+  for_first c.args.returned c.args.known.now _ _ c.args.stmt.now _ _ _ _ _ c.requires.typing c.requires.is c.as_slice.ensures c.in_ok-enter.ensures.scopes
+      (ap length c.enter.ensures.types),
 )
 
-pub cast_stmt-cast_option-requires : goal.cast_stmt-cast_option-requires
-cast_stmt-cast_option-requires t c =
-    for_cond c.args.returned c.args.known.now c.enter-in-For.new.self c.cast_stmts-in-For.new.known c.args.stmt.now _ _ _ _ _ _ c.requires c.in-For.is c.as_slice-in-For.ensures
-    c.in_ok-enter-in-For.ensures.scopes c.enter-in-For.ensures.types c.in_ok-first-in-For.ensures
+pub cast_for-cast_option-requires : goal.cast_for-cast_option-requires
+cast_for-cast_option-requires t c =
+    for_cond c.args.returned c.args.known.now c.enter.new.self c.cast_stmts.new.known c.args.stmt.now _ _ _ _ _ _ c.requires.typing c.requires.is c.as_slice.ensures
+    c.in_ok-enter.ensures.scopes c.enter.ensures.types c.in_ok-first.ensures
 
-pub cast_stmt-cast_held-requires-in-For : goal.cast_stmt-cast_held-requires-in-For
-cast_stmt-cast_held-requires-in-For t c = (
+pub cast_for-cast_held-requires : goal.cast_for-cast_held-requires
+cast_for-cast_held-requires t c = (
   search (rules, the_lemmas),
-  for_step c.args.returned c.args.known.now c.enter-in-For.new.self c.cast_stmts-in-For.new.known c.args.stmt.now _ _ _ _ _ _ c.requires c.in-For.is c.as_slice-in-For.ensures
-      c.in_ok-enter-in-For.ensures.scopes c.enter-in-For.ensures.types c.in_ok-first-in-For.ensures,
+  for_step c.args.returned c.args.known.now c.enter.new.self c.cast_stmts.new.known c.args.stmt.now _ _ _ _ _ _ c.requires.typing c.requires.is c.as_slice.ensures
+      c.in_ok-enter.ensures.scopes c.enter.ensures.types c.in_ok-first.ensures,
 )
 
-pub cast_stmt-cast_inside-requires-in-For : goal.cast_stmt-cast_inside-requires-in-For
-cast_stmt-cast_inside-requires-in-For t c = (
+pub cast_for-cast_inside-requires : goal.cast_for-cast_inside-requires
+cast_for-cast_inside-requires t c = (
   search (rules, the_lemmas),
-  for_body c.args.returned c.args.known.now c.enter-in-For.new.self c.cast_stmts-in-For.new.known c.cast_held-in-For.new.known c.args.stmt.now _ _ _ _ _ _ _ c.requires c.in-For.is
-      c.as_slice-in-For.ensures c.in_ok-enter-in-For.ensures.scopes c.enter-in-For.ensures.types c.in_ok-first-in-For.ensures c.in_ok-step-in-For.ensures,
+  for_body c.args.returned c.args.known.now c.enter.new.self c.cast_stmts.new.known c.cast_held.new.known c.args.stmt.now _ _ _ _ _ _ _ c.requires.typing c.requires.is
+      c.as_slice.ensures c.in_ok-enter.ensures.scopes c.enter.ensures.types c.in_ok-first.ensures c.in_ok-step.ensures,
 )
