@@ -26,11 +26,21 @@ use std::alloc::Global;
 use std::marker::Model;
 
 /// A net that keeps the eight rules, with tables of the channels at places. Contracts see the net.
-#[derive(Drop)]
 pub struct Checked {
     net: Net,
     into: Wires,
     out_of: Wires,
+}
+
+// By hand, so that to let go of one is a call.
+impl Drop for Checked {
+    fn drop(self) {
+        let Checked {
+            net: _net,
+            into: _into,
+            out_of: _out_of,
+        } = self;
+    }
 }
 
 impl Model for Checked {
