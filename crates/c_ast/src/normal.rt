@@ -5,7 +5,6 @@ use crate::typed::{ArrayOf, TypedExpr, TypedTarget};
 use el_base::{Boxed, List, Name, Span, Ty};
 
 /// A kernel in normal form, with the fields of a typed tree.
-#[derive(Drop)]
 pub struct Normal {
     pub name: Name,
     pub at: Span,
@@ -17,6 +16,21 @@ pub struct Normal {
     pub arrays: List<ArrayOf>,
     /// The statements of its block.
     pub body: List<NormalStmt>,
+}
+
+// By hand, so that to let go of one is a call.
+impl Drop for Normal {
+    fn drop(self) {
+        let Normal {
+            name: _name,
+            at: _at,
+            result: _result,
+            params: _params,
+            vars: _vars,
+            arrays: _arrays,
+            body: _body,
+        } = self;
+    }
 }
 
 /// A statement with its place.

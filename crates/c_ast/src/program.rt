@@ -4,14 +4,22 @@ use crate::typed::{ArrayOf, Object};
 use el_base::{Boxed, List, Name, Span, Ty};
 
 /// Helpers in order, and the kernel.
-#[derive(Drop)]
 pub struct TypedProgram {
     pub helpers: List<TypedHelper>,
     pub kernel: ProgTree,
 }
 
+// By hand, so that to let go of one is a call.
+impl Drop for TypedProgram {
+    fn drop(self) {
+        let TypedProgram {
+            helpers: _helpers,
+            kernel: _kernel,
+        } = self;
+    }
+}
+
 /// A helper: its variables are numbered from 0, its parameters first.
-#[derive(Drop)]
 pub struct TypedHelper {
     pub name: Name,
     pub at: Span,
@@ -22,8 +30,22 @@ pub struct TypedHelper {
     pub value: ProgExpr,
 }
 
+// By hand, so that to let go of one is a call.
+impl Drop for TypedHelper {
+    fn drop(self) {
+        let TypedHelper {
+            name: _name,
+            at: _at,
+            result: _result,
+            params: _params,
+            vars: _vars,
+            body: _body,
+            value: _value,
+        } = self;
+    }
+}
+
 /// A kernel whose expressions may call helpers.
-#[derive(Drop)]
 pub struct ProgTree {
     pub name: Name,
     pub at: Span,
@@ -32,6 +54,21 @@ pub struct ProgTree {
     pub vars: List<Ty>,
     pub arrays: List<ArrayOf>,
     pub body: List<ProgStmt>,
+}
+
+// By hand, so that to let go of one is a call.
+impl Drop for ProgTree {
+    fn drop(self) {
+        let ProgTree {
+            name: _name,
+            at: _at,
+            result: _result,
+            params: _params,
+            vars: _vars,
+            arrays: _arrays,
+            body: _body,
+        } = self;
+    }
 }
 
 /// A statement with its place.

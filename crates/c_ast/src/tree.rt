@@ -2,7 +2,6 @@
 use el_base::{Boxed, List, Name, Span, Ty};
 
 /// A kernel: one function definition.
-#[derive(Drop)]
 pub struct Tree {
     pub name: Name,
     pub at: Span,
@@ -13,15 +12,36 @@ pub struct Tree {
     pub body: List<Stmt>,
 }
 
+// By hand, so that to let go of one is a call.
+impl Drop for Tree {
+    fn drop(self) {
+        let Tree {
+            name: _name,
+            at: _at,
+            result: _result,
+            params: _params,
+            body: _body,
+        } = self;
+    }
+}
+
 /// A text: helpers in order, and the kernel.
-#[derive(Drop)]
 pub struct Program {
     pub helpers: List<Helper>,
     pub kernel: Tree,
 }
 
+// By hand, so that to let go of one is a call.
+impl Drop for Program {
+    fn drop(self) {
+        let Program {
+            helpers: _helpers,
+            kernel: _kernel,
+        } = self;
+    }
+}
+
 /// A helper function: its statements return nothing, and its value is what it returns.
-#[derive(Drop)]
 pub struct Helper {
     pub name: Name,
     pub at: Span,
@@ -29,6 +49,20 @@ pub struct Helper {
     pub params: List<Param>,
     pub body: List<Stmt>,
     pub value: Expr,
+}
+
+// By hand, so that to let go of one is a call.
+impl Drop for Helper {
+    fn drop(self) {
+        let Helper {
+            name: _name,
+            at: _at,
+            result: _result,
+            params: _params,
+            body: _body,
+            value: _value,
+        } = self;
+    }
 }
 
 /// A parameter of a kernel: an array where it has dimensions.

@@ -4,7 +4,6 @@ use el_base::{Boxed, List, Name, Span, Ty};
 
 /// A kernel whose names are numbered and whose types are written.
 /// Variables and arrays are each numbered from 0, in order of declaration, parameters first.
-#[derive(Drop)]
 pub struct Typed {
     pub name: Name,
     pub at: Span,
@@ -16,6 +15,21 @@ pub struct Typed {
     pub arrays: List<ArrayOf>,
     /// The statements of its block.
     pub body: List<TypedStmt>,
+}
+
+// By hand, so that to let go of one is a call.
+impl Drop for Typed {
+    fn drop(self) {
+        let Typed {
+            name: _name,
+            at: _at,
+            result: _result,
+            params: _params,
+            vars: _vars,
+            arrays: _arrays,
+            body: _body,
+        } = self;
+    }
 }
 
 /// An array parameter: the type of its elements, and the length of each dimension.

@@ -6,12 +6,24 @@ use std::marker::Model;
 
 /// A block over variables: it reads variables first, then makes its steps, then its writes in order, and then jumps.
 /// Its values are numbered, reads first, then steps.
-#[derive(Debug, Drop)]
+#[derive(Debug)]
 pub struct CfgBlock {
     pub reads: List<u32>,
     pub steps: List<Instr>,
     pub writes: List<Write>,
     pub jump: CfgJump,
+}
+
+// By hand, so that to let go of one is a call.
+impl Drop for CfgBlock {
+    fn drop(self) {
+        let CfgBlock {
+            reads: _reads,
+            steps: _steps,
+            writes: _writes,
+            jump: _jump,
+        } = self;
+    }
 }
 
 /// A variable gets a value of the block.
@@ -32,7 +44,7 @@ pub enum CfgJump {
 /// A graph over variables: `vars` are their widths, and the first ones are the scalars, in order.
 ///
 /// Contracts see the record of its fields, and learn that it is well formed from [`Cfg::look`].
-#[derive(Debug, Drop)]
+#[derive(Debug)]
 pub struct Cfg {
     pub name: Name,
     pub scalars: List<Scalar>,
@@ -40,6 +52,20 @@ pub struct Cfg {
     pub result: Option<Ty>,
     pub vars: List<u32>,
     pub blocks: List<CfgBlock>,
+}
+
+// By hand, so that to let go of one is a call.
+impl Drop for Cfg {
+    fn drop(self) {
+        let Cfg {
+            name: _name,
+            scalars: _scalars,
+            arrays: _arrays,
+            result: _result,
+            vars: _vars,
+            blocks: _blocks,
+        } = self;
+    }
 }
 
 impl Model for Cfg {
