@@ -27,7 +27,7 @@ pub struct RunFiles<'a> {
 
 /// Why a command has no text for the contents of its files: the kind of work that has none, with the words that name the
 /// files, and its own refusal.
-#[derive(Debug, Drop)]
+#[derive(Debug)]
 pub enum Refusal<'a> {
     /// The reading of a kernel.
     Kernel(&'a str, KernelRefusal),
@@ -43,6 +43,21 @@ pub enum Refusal<'a> {
     Resume(&'a str, ResumeRefusal),
     /// A bench, which names no file and refuses nothing, but wants memory.
     Bench(Memory),
+}
+
+// By hand, so that to let go of one is a call.
+impl Drop for Refusal<'_> {
+    fn drop(self) {
+        match self {
+            Refusal::Kernel(_first, _second) => {}
+            Refusal::Net(_first, _second) => {}
+            Refusal::Run(_first, _second) => {}
+            Refusal::Go(_first, _second) => {}
+            Refusal::Interpret(_first, _second) => {}
+            Refusal::Resume(_first, _second) => {}
+            Refusal::Bench(_value) => {}
+        }
+    }
 }
 
 impl<'a> Refusal<'a> {
@@ -147,7 +162,7 @@ fn resume_code(refused: &ResumeRefusal) -> u8
 }
 
 /// Why a call printed nothing, or not all; a file is named by its word.
-#[derive(Debug, Drop)]
+#[derive(Debug)]
 pub enum Fault<'a> {
     /// The words are no command.
     Usage,
@@ -161,6 +176,20 @@ pub enum Fault<'a> {
     TooLong(&'a str),
     /// The command refuses the contents of its files.
     Refused(Refusal<'a>),
+}
+
+// By hand, so that to let go of one is a call.
+impl Drop for Fault<'_> {
+    fn drop(self) {
+        match self {
+            Fault::Usage => {}
+            Fault::Read(_value) => {}
+            Fault::Write => {}
+            Fault::Memory => {}
+            Fault::TooLong(_value) => {}
+            Fault::Refused(_value) => {}
+        }
+    }
 }
 
 impl<'a> Fault<'a> {
