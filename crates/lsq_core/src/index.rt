@@ -13,7 +13,6 @@ use net_types::Memory;
 use std::alloc::Global;
 
 /// Where the entries stand that wait for something, by port and by address.
-#[derive(Drop)]
 pub(crate) struct Index {
     pub(crate) addr: Marks,
     pub(crate) data: Marks,
@@ -22,6 +21,21 @@ pub(crate) struct Index {
     pub(crate) ready: Marks,
     pub(crate) pending: Marks,
     pub(crate) answer: Marks,
+}
+
+// By hand, so that to let go of one is a call.
+impl Drop for Index {
+    fn drop(self) {
+        let Index {
+            addr: _addr,
+            data: _data,
+            reply: _reply,
+            blank: _blank,
+            ready: _ready,
+            pending: _pending,
+            answer: _answer,
+        } = self;
+    }
 }
 
 impl Index {

@@ -20,12 +20,23 @@ use std::marker::Model;
 /// The entries of a queue, and where those stand that wait for something.
 ///
 /// The entry of a number has the place `head` and this number, in a ring of `width`.
-#[derive(Drop)]
 pub(crate) struct Indexed {
     entries: Entries,
     head: usize,
     width: usize,
     index: Index,
+}
+
+// By hand, so that to let go of one is a call.
+impl Drop for Indexed {
+    fn drop(self) {
+        let Indexed {
+            entries: _entries,
+            head: _head,
+            width: _width,
+            index: _index,
+        } = self;
+    }
 }
 
 impl Model for Indexed {

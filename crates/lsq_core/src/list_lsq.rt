@@ -15,13 +15,25 @@ use std::alloc::Global;
 use std::marker::Model;
 
 /// A load-store queue with its array.
-#[derive(Drop)]
 pub struct ListLsq {
     array: List<u64>,
     depth: u32,
     ports: List<Port>,
     groups: List<List<u32>>,
     entries: Entries,
+}
+
+// By hand, so that to let go of one is a call.
+impl Drop for ListLsq {
+    fn drop(self) {
+        let ListLsq {
+            array: _array,
+            depth: _depth,
+            ports: _ports,
+            groups: _groups,
+            entries: _entries,
+        } = self;
+    }
 }
 
 impl Model for ListLsq {

@@ -19,13 +19,25 @@ use std::alloc::Global;
 use std::marker::Model;
 
 /// A load-store queue with its array, whose entries are found by port, by serial number and by address.
-#[derive(Drop)]
 pub struct Lsq {
     array: List<u64>,
     depth: u32,
     ports: List<Port>,
     groups: List<List<u32>>,
     entries: Indexed,
+}
+
+// By hand, so that to let go of one is a call.
+impl Drop for Lsq {
+    fn drop(self) {
+        let Lsq {
+            array: _array,
+            depth: _depth,
+            ports: _ports,
+            groups: _groups,
+            entries: _entries,
+        } = self;
+    }
 }
 
 impl Model for Lsq {
