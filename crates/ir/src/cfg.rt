@@ -44,7 +44,7 @@ pub enum CfgJump {
 /// A graph over variables: `vars` are their widths, and the first ones are the scalars, in order.
 ///
 /// Contracts see the record of its fields, and learn that it is well formed from [`Cfg::look`].
-#[derive(Debug)]
+#[derive(Debug, Drop)]
 pub struct Cfg {
     pub name: Name,
     pub scalars: List<Scalar>,
@@ -52,20 +52,6 @@ pub struct Cfg {
     pub result: Option<Ty>,
     pub vars: List<u32>,
     pub blocks: List<CfgBlock>,
-}
-
-// By hand, so that to let go of one is a call.
-impl Drop for Cfg {
-    fn drop(self) {
-        let Cfg {
-            name: _name,
-            scalars: _scalars,
-            arrays: _arrays,
-            result: _result,
-            vars: _vars,
-            blocks: _blocks,
-        } = self;
-    }
 }
 
 impl Model for Cfg {

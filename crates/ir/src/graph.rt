@@ -5,46 +5,20 @@ use el_base::{Array, List, Name, Scalar, Ty};
 use std::marker::Model;
 
 /// A block: its arguments' widths, its steps, and where it leads. Values are numbered, arguments first.
-#[derive(Debug)]
+#[derive(Debug, Drop)]
 pub struct Block {
     pub args: List<u32>,
     pub steps: List<Instr>,
     pub jump: Jump,
 }
 
-// By hand, so that to let go of one is a call.
-impl Drop for Block {
-    fn drop(self) {
-        let Block {
-            args: _args,
-            steps: _steps,
-            jump: _jump,
-        } = self;
-    }
-}
-
 /// Where a block leads.
-#[derive(Debug)]
+#[derive(Debug, Drop)]
 pub enum Jump {
     Go(To),
     /// To `yes` where the condition is not 0, else to `no`.
     Two { cond: u32, yes: To, no: To },
     Return(Option<u32>),
-}
-
-// By hand, so that to let go of one is a call.
-impl Drop for Jump {
-    fn drop(self) {
-        match self {
-            Jump::Go(_value) => {}
-            Jump::Two {
-                cond: _cond,
-                yes: _yes,
-                no: _no,
-            } => {}
-            Jump::Return(_value) => {}
-        }
-    }
 }
 
 /// A block with the values that are handed to its arguments.

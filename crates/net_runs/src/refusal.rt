@@ -8,7 +8,7 @@ use std::error::Error;
 use std::fmt;
 
 /// Why a run of a checked net has no text.
-#[derive(Debug)]
+#[derive(Debug, Drop)]
 pub enum RunRefusal {
     /// The bytes are no text of inputs of the net.
     Inputs(InputRefusal),
@@ -24,24 +24,6 @@ pub enum RunRefusal {
     Stray { array: u32, name: Name },
     /// Memory ran out.
     Memory,
-}
-
-// By hand, so that to let go of one is a call.
-impl Drop for RunRefusal {
-    fn drop(self) {
-        match self {
-            RunRefusal::Inputs(_value) => {}
-            RunRefusal::Schedule(_value) => {}
-            RunRefusal::NotEnabled { index: _index } => {}
-            RunRefusal::Limit { limit: _limit } => {}
-            RunRefusal::Stuck => {}
-            RunRefusal::Stray {
-                array: _array,
-                name: _name,
-            } => {}
-            RunRefusal::Memory => {}
-        }
-    }
 }
 
 impl RunRefusal {
