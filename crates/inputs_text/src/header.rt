@@ -1,5 +1,5 @@
 //! What a header asks for by its names, and the patterns that lines gave for them.
-ghost use Rattle.std.specs.Prelude.{◌≡◌, None, IfOk, OnOk};
+ghost use Rattle.std.specs.Prelude.{◌≡◌, [], None, IfOk, OnOk};
 ghost use Rattle.inputs_text.specs.Rules.{beside, slots};
 ghost use Rattle.inputs_text.specs.Texts.{AreNamed};
 
@@ -24,19 +24,33 @@ pub(crate) fn slots(
     ensures { IfOk result (λ m. m.entries ≡ slots scalars.now arrays.now) }
 {
     let mut slots = IndexMap::new(alloc);
+    fill(&mut slots, scalars, arrays)?;
+    Ok(slots)
+}
+
+/// Puts a header's names in, in its order, with what each asks for.
+fn fill(
+    asked: &mut IndexMap<Name, Slot>,
+    scalars: &[Scalar],
+    arrays: &[Array],
+) -> Result<(), Memory>
+    requires names { AreNamed scalars.now arrays.now }
+    requires none { asked.old.entries ≡ [] }
+    ensures { OnOk result (asked.new.entries ≡ slots scalars.now arrays.now) }
+{
     for scalar in scalars {
         let slot = Slot {
             ty: scalar.ty,
             len: 1,
         };
-        slots.insert(scalar.name.copy()?, slot)?;
+        asked.insert(scalar.name.copy()?, slot)?;
     }
     for array in arrays {
         let slot = Slot {
             ty: array.ty,
             len: array.len,
         };
-        slots.insert(array.name.copy()?, slot)?;
+        asked.insert(array.name.copy()?, slot)?;
     }
-    Ok(slots)
+    Ok(())
 }

@@ -1,9 +1,10 @@
-ghost use Rattle.std.specs.Prelude.{◌≡◌, length, IfOk, IfErr};
+ghost use Rattle.std.specs.Prelude.{◌≡◌, ℕ, List, length, IfOk, IfErr};
 ghost use Rattle.el_base.specs.Limits.{IsNumbered};
 ghost use Rattle.net_types.specs.Inputs.{InputsFit};
 ghost use Rattle.inputs_text.specs.Lines.{name_in, numbers_in, words};
 ghost use Rattle.inputs_text.specs.Readings.{AreSingle, ArraysFound, FindsAll, JudgesEntry, JudgesKnown, JudgesLine, RefusesLines, RefusesNames, ScalarsFound, array_names, scalar_names};
 ghost use Rattle.inputs_text.specs.Refusals.{Says, IsOnly};
+ghost use Rattle.inputs_text.specs.Rules.{slots};
 ghost use Rattle.inputs_text.specs.Texts.{AreNamed, FitHeader};
 
 use crate::header::{Slot, slots};
@@ -66,11 +67,48 @@ fn read_text(
     ensures says { Says scalars.now arrays.now bytes.now result }
     ensures fit { IfOk result (FitHeader scalars.now arrays.now) }
 {
+    let asked = slots(alloc, scalars, arrays)?;
+    read_asked(alloc, scalars, arrays, &asked, bytes)
+}
+
+/// The same answer, by the names that the header asks for.
+fn read_asked(
+    alloc: Global,
+    scalars: &[Scalar],
+    arrays: &[Array],
+    asked: &IndexMap<Name, Slot>,
+    bytes: &[u8],
+) -> Result<Inputs, InputRefusal>
+    requires names { AreNamed scalars.now arrays.now }
+    requires asked { asked.now.entries ≡ slots scalars.now arrays.now }
+    requires short { IsNumbered (length bytes.now) }
+    ensures says { Says scalars.now arrays.now bytes.now result }
+    ensures fit { IfOk result (FitHeader scalars.now arrays.now) }
+{
     patterns_have_their_width();
-    let slots = slots(alloc, scalars, arrays)?;
-    let found = read_lines(alloc, &slots, bytes)?;
-    let patterns = scalars_of(alloc, scalars, &found)?;
-    let elements = arrays_of(alloc, arrays, &found)?;
+    let found = read_lines(alloc, asked, bytes)?;
+    inputs_of(alloc, scalars, arrays, &found)
+}
+
+/// The inputs by the patterns that were found in a text.
+fn inputs_of(
+    alloc: Global,
+    scalars: &[Scalar],
+    arrays: &[Array],
+    found: &IndexMap<Name, List<u64>>,
+) -> Result<Inputs, InputRefusal>
+    requires names { AreNamed scalars.now arrays.now }
+    requires single { AreSingle scalars.now found.now.entries }
+    ensures says { (bytes : List ℕ)
+        → FindsAll (slots scalars.now arrays.now) bytes found.now.entries
+        → Says scalars.now arrays.now bytes result }
+    ensures fit { (bytes : List ℕ)
+        → FindsAll (slots scalars.now arrays.now) bytes found.now.entries
+        → IfOk result (FitHeader scalars.now arrays.now) }
+{
+    patterns_have_their_width();
+    let patterns = scalars_of(alloc, scalars, found)?;
+    let elements = arrays_of(alloc, arrays, found)?;
     Ok(Inputs {
         scalars: patterns,
         arrays: elements,
