@@ -20,7 +20,7 @@ use Rattle.net_core.specs.declared.plan.Moves.{Moves}
 use Rattle.net_core.specs.declared.plan.Change.{Change}
 use Rattle.net_core.specs.declared.plan.Change.TheVariants as change
 use Rattle.net_core.specs.declared.plan.Plan.{Plan}
-use Rattle.net_core.specs.Fire.{Own, idle, Setting, Effect, sent_to, put_at, effect_of, row, send_row, queue_row}
+use Rattle.net_core.specs.Fire.{Own, idle, Setting, Effect, Take, Fires, sent_to, put_at, effect_of, row, go_row, entry_row, send_row, queue_row}
 
 -- what a cell keeps
 
@@ -208,6 +208,30 @@ planned k o xs (Some p) = Some (effect_by k o xs p)
 -- the plan is what the row of an act does at these heads
 abbrev pub IsUnitPlan : Kind → Act → Cell → List ℕ → Setting → (ℕ → Option ℕ) → Option Plan → Type 0
 IsUnitPlan k act c xs ss heads plan = planned k (own_of c) xs plan ≡ effect_of (row k act (own_of c) xs ss) heads
+
+-- the plan is what the act Go of this kind does at these heads, whatever the unit keeps
+abbrev pub IsGoPlan : Kind → List ℕ → (ℕ → Option ℕ) → Option Plan → Type 0
+IsGoPlan k xs heads plan = (o : Own) (ss : Setting) → planned k o xs plan ≡ effect_of (go_row k o xs ss) heads
+
+-- so with each array
+abbrev pub IsPlainPlan : Kind → (ℕ → Option ℕ) → Option Plan → Type 0
+IsPlainPlan k heads plan = (xs : List ℕ) → IsGoPlan k xs heads plan
+
+-- so of each kind that takes its one head, and then puts this
+abbrev pub IsTakingPlan : Option Put → (ℕ → Option ℕ) → Option Plan → Type 0
+IsTakingPlan put heads plan =
+    (k : Kind) (o : Own) (xs : List ℕ) → planned k o xs plan ≡ effect_of (Take 0 (λ v. Fires put o xs 0)) heads
+
+-- so of an entry or a parameter that puts this value
+abbrev pub IsStartPlan : Cell → ℕ → Option Plan → Type 0
+IsStartPlan c v plan =
+    (k : Kind) (xs : List ℕ) (heads : ℕ → Option ℕ) →
+    planned k (own_of c) xs plan ≡ effect_of (entry_row (own_of c) xs v) heads
+
+-- so of the exit, with a result or without one
+abbrev pub IsExitPlan : Cell → Bool → (ℕ → Option ℕ) → Option Plan → Type 0
+IsExitPlan c valued heads plan =
+    (ss : List ℕ) (xs : List ℕ) → planned Exit (own_of c) xs plan ≡ effect_of (go_row Exit (own_of c) xs (setting_of ss valued)) heads
 
 -- so of a fork with these bits that sends to output j
 abbrev pub IsSendPlan : (outs j : ℕ) → List Bool → List ℕ → (ℕ → Option ℕ) → Option Plan → Type 0

@@ -1,14 +1,18 @@
 //! What a firing does, from the unit's own state and the heads at its places.
 
-ghost use Rattle.std.specs.Prelude.{◌≡◌, ◌+◌, ℕ, Option, Some, None, true, length, IfSome};
+ghost use Rattle.std.specs.Prelude.{◌≡◌, ◌+◌, ℕ, Option, Some, None, true, get_or, length, IfSome};
+ghost use Rattle.net_core.specs.declared.cell.Cell.{Cell as CellKept};
 ghost use Rattle.net_core.specs.declared.cell.Cell.TheVariants as cells;
+ghost use Rattle.net_core.specs.declared.plan.Change.TheVariants as change;
+ghost use Rattle.net_types.specs.declared.net.Unit.TheVariants as units;
 ghost use Rattle.net_types.specs.declared.firing.Act.TheVariants as acts;
 ghost use Rattle.lsq_core.specs.Acts.{in_place, out_place};
 ghost use Rattle.lsq_core.specs.Views.{given};
-ghost use Rattle.net_core.specs.Plans.{IsQueuePlan, IsSendPlan, IsShaped, IsUnitPlan, admits, apart, keeps, putting, moves_of, queue_admits, setting_of, taken_of};
+ghost use Rattle.net_core.specs.Plans.{IsExitPlan, IsGoPlan, IsPlainPlan, IsQueuePlan, IsSendPlan, IsShaped, IsStartPlan, IsTakingPlan, IsUnitPlan, admits, apart, is_exit_cell, is_start, keeps, putting, moves_of, queue_admits, setting_of, taken_of};
 
 use crate::cell::{Cell, UnitQueue};
 use crate::sent::Sent;
+use el_base::{Op1, Op2};
 use lsq_core::Queue;
 use net_check::Checked;
 use net_types::{Act, List, Unit};
@@ -154,6 +158,162 @@ fn plan_send<H: Heads>(heads: &H, outs: u32, out: u32, sent: &Sent, array: &[u64
     })
 }
 
+/// What the one firing of an entry or a parameter does.
+#[inline(always)]
+fn plan_start(cell: &Cell, value: u64) -> Option<Plan>
+    requires { is_start cell.now ≡ true }
+    ensures apart { IfSome result (λ p. apart p.takes ≡ true) }
+    ensures admits { IfSome result (λ p. admits cell.now p.change ≡ true) }
+    ensures effect { IsStartPlan cell.now value result }
+{
+    match cell {
+        Cell::Start { fired: false } => Some(Plan {
+            takes: Takes::None,
+            put: Some(Put { place: 0, value }),
+            change: Change::Fire,
+        }),
+        _ => None,
+    }
+}
+
+/// What a unit does that takes the head of its one place, and keeps nothing.
+#[inline(always)]
+fn plan_one<H: Heads>(heads: &H, put: Option<Put>) -> Option<Plan>
+    ensures apart { IfSome result (λ p. apart p.takes ≡ true) }
+    ensures change { IfSome result (λ p. p.change ≡ change.Keep) }
+    ensures effect { IsTakingPlan put (H.heads heads.now) result }
+{
+    heads.head(0)?;
+    Some(Plan {
+        takes: Takes::One(0),
+        put,
+        change: Change::Keep,
+    })
+}
+
+/// What the firing of an operation on one word does.
+#[inline(always)]
+fn plan_op1<H: Heads>(heads: &H, op: Op1) -> Option<Plan>
+    ensures apart { IfSome result (λ p. apart p.takes ≡ true) }
+    ensures change { IfSome result (λ p. p.change ≡ change.Keep) }
+    ensures effect { IsPlainPlan (units.Op1 op) (H.heads heads.now) result }
+{
+    let a = heads.head(0)?;
+    puts(Takes::One(0), 0, apply1(op, a))
+}
+
+/// What the firing of an operation on two words does.
+#[inline(always)]
+fn plan_op2<H: Heads>(heads: &H, op: Op2) -> Option<Plan>
+    ensures apart { IfSome result (λ p. apart p.takes ≡ true) }
+    ensures change { IfSome result (λ p. p.change ≡ change.Keep) }
+    ensures effect { IsPlainPlan (units.Op2 op) (H.heads heads.now) result }
+{
+    let a = heads.head(0)?;
+    let b = heads.head(1)?;
+    puts(Takes::Two(0, 1), 0, apply2(op, a, b))
+}
+
+/// What the firing of a select does.
+#[inline(always)]
+fn plan_select<H: Heads>(heads: &H) -> Option<Plan>
+    ensures apart { IfSome result (λ p. apart p.takes ≡ true) }
+    ensures change { IfSome result (λ p. p.change ≡ change.Keep) }
+    ensures effect { (w : ℕ) → IsPlainPlan (units.Select w) (H.heads heads.now) result }
+{
+    let which = heads.head(0)?;
+    let yes = heads.head(1)?;
+    let no = heads.head(2)?;
+    puts(Takes::Three(0, 1, 2), 0, if which == 0 { no } else { yes })
+}
+
+/// What the firing of a mux does.
+#[inline(always)]
+fn plan_mux<H: Heads>(heads: &H, ins: u32) -> Option<Plan>
+    ensures apart { IfSome result (λ p. apart p.takes ≡ true) }
+    ensures change { IfSome result (λ p. p.change ≡ change.Keep) }
+    ensures effect { (w : ℕ) → IsPlainPlan (units.Mux w ins) (H.heads heads.now) result }
+{
+    let which = heads.head(0)?;
+    let last = if ins == 0 { 0 } else { ins as u64 - 1 };
+    let place = if which < last { which + 1 } else { last + 1 };
+    let value = heads.head(place)?;
+    puts(Takes::Two(0, place), 0, value)
+}
+
+/// What the firing of a branch does.
+#[inline(always)]
+fn plan_branch<H: Heads>(heads: &H) -> Option<Plan>
+    ensures apart { IfSome result (λ p. apart p.takes ≡ true) }
+    ensures change { IfSome result (λ p. p.change ≡ change.Keep) }
+    ensures effect { (w : ℕ) → IsPlainPlan (units.Branch w) (H.heads heads.now) result }
+{
+    let which = heads.head(0)?;
+    let value = heads.head(1)?;
+    puts(Takes::Two(0, 1), if which == 0 { 1 } else { 0 }, value)
+}
+
+/// What the firing of a read does.
+#[inline(always)]
+fn plan_read<H: Heads>(heads: &H, array: &[u64]) -> Option<Plan>
+    ensures apart { IfSome result (λ p. apart p.takes ≡ true) }
+    ensures admits { (c : CellKept) → IfSome result (λ p. admits c p.change ≡ true) }
+    ensures effect { (a : ℕ) → IsGoPlan (units.Read a) array.now (H.heads heads.now) result }
+{
+    let at = heads.head(0)?;
+    if at < array.len() as u64 {
+        puts(Takes::One(0), 0, array[at as usize])
+    } else {
+        Some(Plan {
+            takes: Takes::One(0),
+            put: Some(Put { place: 0, value: 0 }),
+            change: Change::Stray,
+        })
+    }
+}
+
+/// What the firing of the exit does.
+#[inline(always)]
+fn plan_exit<H: Heads>(heads: &H, cell: &Cell, valued: bool) -> Option<Plan>
+    requires { is_exit_cell cell.now ≡ true }
+    ensures apart { IfSome result (λ p. apart p.takes ≡ true) }
+    ensures admits { IfSome result (λ p. admits cell.now p.change ≡ true) }
+    ensures effect { IsExitPlan cell.now valued (H.heads heads.now) result }
+{
+    match cell {
+        Cell::Exit { fired: false, .. } => {
+            heads.head(0)?;
+            if valued {
+                let value = heads.head(1)?;
+                Some(Plan {
+                    takes: Takes::Two(0, 1),
+                    put: None,
+                    change: Change::Finish(value),
+                })
+            } else {
+                Some(Plan {
+                    takes: Takes::One(0),
+                    put: None,
+                    change: Change::Fire,
+                })
+            }
+        }
+        _ => None,
+    }
+}
+
+/// A scalar of the inputs; 0 past them.
+#[inline(always)]
+fn scalar_at(scalars: &[u64], scalar: u32) -> u64
+    ensures { result ≡ get_or scalars.now scalar 0 }
+{
+    if (scalar as usize) < scalars.len() {
+        scalars[scalar as usize]
+    } else {
+        0
+    }
+}
+
 /// What the firing of a unit that only goes does.
 #[tactic(auto, unfolding(crate::specs::Fire::row))]
 #[inline(always)]
@@ -172,107 +332,23 @@ fn plan_go<H: Heads>(
         (setting_of scalars.now valued) (H.heads heads.now) result }
 {
     match unit {
-        Unit::Entry => match cell {
-            Cell::Start { fired: false } => Some(Plan {
-                takes: Takes::None,
-                put: Some(Put { place: 0, value: 0 }),
-                change: Change::Fire,
+        Unit::Entry => plan_start(cell, 0),
+        Unit::Param(scalar) => plan_start(cell, scalar_at(scalars, *scalar)),
+        Unit::Const { value, .. } => plan_one(
+            heads,
+            Some(Put {
+                place: 0,
+                value: *value,
             }),
-            _ => None,
-        },
-        Unit::Param(scalar) => match cell {
-            Cell::Start { fired: false } => {
-                let value = if (*scalar as usize) < scalars.len() {
-                    scalars[*scalar as usize]
-                } else {
-                    0
-                };
-                Some(Plan {
-                    takes: Takes::None,
-                    put: Some(Put { place: 0, value }),
-                    change: Change::Fire,
-                })
-            }
-            _ => None,
-        },
-        Unit::Const { value, .. } => {
-            heads.head(0)?;
-            puts(Takes::One(0), 0, *value)
-        }
-        Unit::Op1(op) => {
-            let a = heads.head(0)?;
-            puts(Takes::One(0), 0, apply1(*op, a))
-        }
-        Unit::Op2(op) => {
-            let a = heads.head(0)?;
-            let b = heads.head(1)?;
-            puts(Takes::Two(0, 1), 0, apply2(*op, a, b))
-        }
-        Unit::Select { .. } => {
-            let which = heads.head(0)?;
-            let yes = heads.head(1)?;
-            let no = heads.head(2)?;
-            puts(Takes::Three(0, 1, 2), 0, if which == 0 { no } else { yes })
-        }
-        Unit::Mux { ins, .. } => {
-            let which = heads.head(0)?;
-            let last = if *ins == 0 { 0 } else { *ins as u64 - 1 };
-            let place = if which < last { which + 1 } else { last + 1 };
-            let value = heads.head(place)?;
-            puts(Takes::Two(0, place), 0, value)
-        }
-        Unit::Branch { .. } => {
-            let which = heads.head(0)?;
-            let value = heads.head(1)?;
-            puts(Takes::Two(0, 1), if which == 0 { 1 } else { 0 }, value)
-        }
-        Unit::Sink { .. } => {
-            heads.head(0)?;
-            Some(Plan {
-                takes: Takes::One(0),
-                put: None,
-                change: Change::Keep,
-            })
-        }
-        Unit::Read(_) => {
-            let at = heads.head(0)?;
-            if at < array.len() as u64 {
-                Some(Plan {
-                    takes: Takes::One(0),
-                    put: Some(Put {
-                        place: 0,
-                        value: array[at as usize],
-                    }),
-                    change: Change::Keep,
-                })
-            } else {
-                Some(Plan {
-                    takes: Takes::One(0),
-                    put: Some(Put { place: 0, value: 0 }),
-                    change: Change::Stray,
-                })
-            }
-        }
-        Unit::Exit => match cell {
-            Cell::Exit { fired: false, .. } => {
-                heads.head(0)?;
-                if valued {
-                    let value = heads.head(1)?;
-                    Some(Plan {
-                        takes: Takes::Two(0, 1),
-                        put: None,
-                        change: Change::Finish(value),
-                    })
-                } else {
-                    Some(Plan {
-                        takes: Takes::One(0),
-                        put: None,
-                        change: Change::Fire,
-                    })
-                }
-            }
-            _ => None,
-        },
+        ),
+        Unit::Op1(op) => plan_op1(heads, *op),
+        Unit::Op2(op) => plan_op2(heads, *op),
+        Unit::Select { .. } => plan_select(heads),
+        Unit::Mux { ins, .. } => plan_mux(heads, *ins),
+        Unit::Branch { .. } => plan_branch(heads),
+        Unit::Sink { .. } => plan_one(heads, None),
+        Unit::Read(_) => plan_read(heads, array),
+        Unit::Exit => plan_exit(heads, cell, valued),
         Unit::Fork { .. } => None,
         Unit::Cmerge { .. } => None,
         Unit::Lsq { .. } => None,
