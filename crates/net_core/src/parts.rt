@@ -22,7 +22,7 @@ use std::alloc::Global;
 /// fork the numbers of the outputs that its head was sent on, ascending; `fired` tells of each entry, parameter and exit
 /// whether it has; `queues` has the entries of each queue. These three go by unit, and are empty or `false` of other units.
 /// `value` is the result that the exit took. `strays` go by array.
-#[derive(Debug, Drop)]
+#[derive(Debug)]
 pub struct Parts {
     pub given: Inputs,
     pub tokens: List<List<u64>>,
@@ -31,6 +31,21 @@ pub struct Parts {
     pub value: Option<u64>,
     pub queues: List<QueuePart>,
     pub strays: List<u64>,
+}
+
+// By hand, so that to let go of one is a call.
+impl Drop for Parts {
+    fn drop(self) {
+        let Parts {
+            given: _given,
+            tokens: _tokens,
+            sent: _sent,
+            fired: _fired,
+            value: _value,
+            queues: _queues,
+            strays: _strays,
+        } = self;
+    }
 }
 
 impl Cell {

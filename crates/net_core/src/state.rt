@@ -28,7 +28,6 @@ use std::alloc::Global;
 /// A state of a circuit: the tokens of its channels, what its units keep, its arrays and its counts of strays.
 ///
 /// It holds all memory that its firings take.
-#[derive(Drop)]
 pub struct State {
     scalars: List<u64>,
     tokens: Tokens,
@@ -36,6 +35,20 @@ pub struct State {
     homes: Vec<Home>,
     strays: Vec<u64>,
     exit: u32,
+}
+
+// By hand, so that to let go of one is a call.
+impl Drop for State {
+    fn drop(self) {
+        let State {
+            scalars: _scalars,
+            tokens: _tokens,
+            cells: _cells,
+            homes: _homes,
+            strays: _strays,
+            exit: _exit,
+        } = self;
+    }
 }
 
 /// The heads at the input places of one unit.
