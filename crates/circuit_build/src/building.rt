@@ -117,7 +117,7 @@ pub fn build(alloc: Global, graph: &Ir, groups: &Groups) -> Result<Net, Memory>
 {
     spent_is_at_rest();
     let mut net = header(alloc, graph)?;
-    let Draft { units, chans, .. } = lay_all(alloc, graph, groups)?;
+    let (units, chans) = lay_all(alloc, graph, groups)?.into_parts();
     net.units = units;
     net.chans = chans;
     Ok(net)

@@ -33,7 +33,6 @@ pub struct Queue {
 /// block's control fork, how many uses each value of the open block has and the end of its next use, none for a value
 /// without uses, the edges that are to be laid, for each target 1 and the number of its last edge, the unit of each merge,
 /// and the queue of each array that has one.
-#[derive(Drop)]
 pub struct Draft {
     pub units: List<Unit>,
     pub chans: List<Chan>,
@@ -45,6 +44,24 @@ pub struct Draft {
     pub tails: List<u32>,
     pub heads: List<u32>,
     pub queues: List<Option<Queue>>,
+}
+
+// By hand, so that to let go of one is a call.
+impl Drop for Draft {
+    fn drop(self) {
+        let Draft {
+            units: _units,
+            chans: _chans,
+            control: _control,
+            trigger: _trigger,
+            uses: _uses,
+            ends: _ends,
+            edges: _edges,
+            tails: _tails,
+            heads: _heads,
+            queues: _queues,
+        } = self;
+    }
 }
 
 /// A length as a number of 32 bits; past them the greatest, to which no net of a kernel comes.
@@ -103,6 +120,26 @@ impl Edge {
 }
 
 impl Draft {
+    /// Its units and its channels.
+    pub(crate) fn into_parts(self) -> (List<Unit>, List<Chan>)
+        ensures units { result.0 ≡ self.units }
+        ensures chans { result.1 ≡ self.chans }
+    {
+        let Draft {
+            units,
+            chans,
+            control: _control,
+            trigger: _trigger,
+            uses: _uses,
+            ends: _ends,
+            edges: _edges,
+            tails: _tails,
+            heads: _heads,
+            queues: _queues,
+        } = self;
+        (units, chans)
+    }
+
     /// The number of the next unit.
     pub(crate) fn next(&self) -> u32
         ensures { result ≡ next self.now }
