@@ -24,7 +24,7 @@ use Rattle.c_ast.specs.ProgramCasts.{known_of, helper_from, helper_of, prog_of, 
 use Rattle.c_types.specs.declared.known.Binding.TheVariants as binding
 use Rattle.c_types.specs.Scopes.{declared_in}
 use Rattle.c_types.specs.Contexts.{Bindings, context_in, IsObject, a_variable, an_element}
-use Rattle.c_types.specs.ProgramContexts.{callees, types_of, IsProgName, IsProgElement, IsProgExpr, AreProgExprs, AreArguments, IsProgOption, IsProgTarget, IsProgValue, a_value}
+use Rattle.c_types.specs.ProgramContexts.{callees, types_of, IsProgName, IsProgElement, IsProgExpr, AreProgExprs, AreArguments, IsProgOption, IsProgTarget, IsProgValue, IsProgConverted, a_value}
 use Rattle.c_types.specs.ProgramParts.{IsCallee, HasCallee}
 use Rattle.std.proofs.lemmas.Bool.{false≢true}
 use Rattle.std.proofs.lemmas.List.{length-map}
@@ -125,8 +125,9 @@ module _ (helpers : List Helper) where
   pub an_option : (scopes : Bindings) (e : Expr) (f : ProgExpr) → IsProgExpr helpers scopes e f → IsProgOption helpers scopes (Some e) (Some f)
   an_option scopes e f h = record { casts = λ dims types. rule.present (context_in dims scopes types) e f (h.casts dims types) }
 
-  pub value_arm : (t : Ty) (scopes : Bindings) (e : Expr) (f g : ProgExpr) → IsProgExpr helpers scopes e f → g ≡ prog_converted t f → IsProgValue helpers (Some t) scopes (Some e) (Some g)
-  value_arm t scopes e f g h made = subst (λ g. IsProgValue helpers (Some t) scopes (Some e) (Some g)) (sym made) (a_value t scopes e f h)
+  pub value_arm : (t : Ty) (scopes : Bindings) (e u : Expr) (g : ProgExpr) → u ≡ e → IsProgConverted helpers t scopes u g → IsProgValue helpers (Some t) scopes (Some e) (Some g)
+  value_arm t scopes e u g same h =
+      subst (λ e. IsProgValue helpers (Some t) scopes (Some e) (Some g)) same (subst (λ g. IsProgValue helpers (Some t) scopes (Some u) (Some g)) (sym h.converted) (a_value t scopes u h.value h.casts))
 
   -- ---- targets
 

@@ -20,10 +20,10 @@ use Rattle.c_ast.specs.Typing.{Sort, scope_of, TypingExpr, TypingList}
 use Rattle.c_ast.specs.Programs.{helper_nodes, helpers_nodes, program_nodes, names_after_list, with_helper, TypingHelper, TypingHelpers, known_after, TypingProgram}
 use Rattle.c_ast.specs.Casts.{parameters, first_context}
 use Rattle.c_ast.specs.ProgramCasts as program
-use Rattle.c_ast.specs.ProgramCasts.{known_of, prog_converted, CastsCallStmts, CastsHelper, CastsHelpers, no_helpers, a_helper, CastsProgram}
+use Rattle.c_ast.specs.ProgramCasts.{known_of, CastsCallStmts, CastsHelper, CastsHelpers, no_helpers, a_helper, CastsProgram}
 use Rattle.c_types.specs.declared.known.Known.{Known}
 use Rattle.c_types.specs.Contexts.{AreParameters, context_of}
-use Rattle.c_types.specs.ProgramContexts.{callees, IsProgExpr, AreProgStmts, IsProgKernel}
+use Rattle.c_types.specs.ProgramContexts.{callees, IsProgConverted, AreProgStmts, IsProgKernel}
 use Rattle.c_types.specs.ProgramParts.{Knows, Around, names_with, TypingExprWith, TypingListWith, TypingHelperWith, TypingKernelWith}
 use Rattle.c_types.proofs.CastParams.{dims_in, first_is}
 use Rattle.c_types.proofs.ParameterParts.{names_after, counted_by_nodes, declared}
@@ -95,19 +95,19 @@ block_casts gs r k l xs ps qs ss us ts vs params body made h hs =
     (subst (λ ss. CastsCallStmts (callees gs) r (first_context qs) ss ts (context_of (dims_in xs) l)) body
     (subst (λ c. CastsCallStmts (callees gs) r c ss ts (context_of (dims_in xs) l)) (first_is k xs qs q) (hs.casts (dims_in xs))))
 
-pub helper_arm : (gs : List Helper) (h : Helper) (k l : Known) (xs : List ArrayOf) (ps : List Param) (ss : List Stmt) (ts : List ProgStmt) (f : ProgExpr) (t : TypedHelper) → ps ≡ h.params → ss ≡ h.body
-    → AreParameters k xs (parameters ps) → AreProgStmts gs (Some h.result) k ss ts l → IsProgExpr gs l.scopes h.value f → t.name ≡ h.name → t.at ≡ h.at → t.result ≡ h.result → t.params ≡ h.params → t.vars ≡ l.types
-    → t.body ≡ ts → t.value ≡ prog_converted h.result f → CastsHelper (callees gs) h t
-helper_arm gs h k l xs ps ss ts f t is body q hs value name at result params vars made value_is = record {
+pub helper_arm : (gs : List Helper) (h : Helper) (k l : Known) (xs : List ArrayOf) (ps : List Param) (ss : List Stmt) (ts : List ProgStmt) (g : ProgExpr) (t : TypedHelper) → ps ≡ h.params → ss ≡ h.body
+    → AreParameters k xs (parameters ps) → AreProgStmts gs (Some h.result) k ss ts l → IsProgConverted gs h.result l.scopes h.value g → t.name ≡ h.name → t.at ≡ h.at → t.result ≡ h.result → t.params ≡ h.params → t.vars ≡ l.types
+    → t.body ≡ ts → t.value ≡ g → CastsHelper (callees gs) h t
+helper_arm gs h k l xs ps ss ts g t is body q hs value name at result params vars made value_is = record {
   same_name = name;
   same_place = at;
   same_result = result;
   same_params = params;
   last = context_of (dims_in xs) l;
   body_casts = block_casts gs (Some h.result) k l xs ps h.params ss h.body ts t.body is body made q hs;
-  value = f;
-  value_casts = value.casts (dims_in xs) l.types;
-  value_is = value_is;
+  value = value.value;
+  value_casts = value.casts.casts (dims_in xs) l.types;
+  value_is = value_is ∙ value.converted;
   vars_are = vars;
 }
 

@@ -58,6 +58,12 @@ pub record IsProgOption (hs : List Helper) (scopes : Bindings) (e : Option Expr)
 pub record IsProgTarget (hs : List Helper) (scopes : Bindings) (x : Target) (to : ProgTarget) (t : Ty) : Type 0 where
   pub casts : (dims : ℕ → List ℕ) (types : List Ty) → CastsCallTarget (callees hs) (context_in dims scopes types) x to t
 
+-- an expression, converted to a type
+pub record IsProgConverted (hs : List Helper) (t : Ty) (scopes : Bindings) (e : Expr) (g : ProgExpr) : Type 0 where
+  pub value : ProgExpr
+  pub casts : IsProgExpr hs scopes e value
+  pub converted : g ≡ prog_converted t value
+
 -- a value that may be absent, converted to a type where there is one
 pub data IsProgValue (hs : List Helper) : Option Ty → Bindings → Option Expr → Option ProgExpr → Type 0 where
   no_value : (r : Option Ty) (scopes : Bindings) → IsProgValue hs r scopes None None

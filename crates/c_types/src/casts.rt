@@ -55,15 +55,17 @@ pub(crate) fn casts(alloc: Global, tree: &Tree) -> Result<Typed, Memory>
     requires numbered { IsNumbered (tree_nodes tree.now) }
     ensures { IfOk result (λ k. Casts tree.now k) }
 {
+    let name = tree.name.copy()?;
+    let params = copy_params(alloc, tree.params.as_slice())?;
     let mut known = Known::new(alloc);
     let arrays = declare_params(alloc, &mut known, tree.params.as_slice())?;
     let body = cast_stmts(alloc, &mut known, tree.result, tree.body.as_slice())?;
     let Known { types, .. } = known;
     Ok(Typed {
-        name: tree.name.copy()?,
+        name,
         at: tree.at,
         result: tree.result,
-        params: copy_params(alloc, tree.params.as_slice())?,
+        params,
         vars: types,
         arrays,
         body,

@@ -47,6 +47,7 @@ ghost use Rattle.c_types.specs.ProgramContexts.{
   IsProgOption,
   IsProgTarget,
   IsProgValue,
+  IsProgConverted,
   IsProgStmt,
   IsProgAct,
   AreProgStmts,
@@ -103,18 +104,19 @@ fn cast_helper(alloc: Global, helpers: &[Helper], helper: &Helper) -> Result<Typ
     requires { TypingHelperWith helpers.now helper.now }
     ensures { IfOk result (λ k. CastsHelper (callees helpers.now) helper.now k) }
 {
+    let name = helper.name.copy()?;
+    let params = copy_params(alloc, helper.params.as_slice())?;
     let mut known = Known::new(alloc);
     declare_params(alloc, &mut known, helper.params.as_slice())?;
     let returned = Some(helper.result);
     let body = cast_stmts(alloc, helpers, &mut known, returned, helper.body.as_slice())?;
-    let value = cast_expr(alloc, helpers, &known.scopes, &helper.value)?;
-    let value = converted(alloc, helper.result, value)?.into_inner();
+    let value = cast_to(alloc, helpers, &known.scopes, helper.result, &helper.value)?;
     let Known { types, .. } = known;
     Ok(TypedHelper {
-        name: helper.name.copy()?,
+        name,
         at: helper.at,
         result: helper.result,
-        params: copy_params(alloc, helper.params.as_slice())?,
+        params,
         vars: types,
         body,
         value,
@@ -126,6 +128,8 @@ fn cast_kernel(alloc: Global, helpers: &[Helper], kernel: &Tree) -> Result<ProgT
     requires { TypingKernelWith helpers.now kernel.now }
     ensures { IfOk result (λ k. IsProgKernel helpers.now kernel.now k) }
 {
+    let name = kernel.name.copy()?;
+    let params = copy_params(alloc, kernel.params.as_slice())?;
     let mut known = Known::new(alloc);
     let arrays = declare_params(alloc, &mut known, kernel.params.as_slice())?;
     let body = cast_stmts(
@@ -137,10 +141,10 @@ fn cast_kernel(alloc: Global, helpers: &[Helper], kernel: &Tree) -> Result<ProgT
     )?;
     let Known { types, .. } = known;
     Ok(ProgTree {
-        name: kernel.name.copy()?,
+        name,
         at: kernel.at,
         result: kernel.result,
-        params: copy_params(alloc, kernel.params.as_slice())?,
+        params,
         vars: types,
         arrays,
         body,
@@ -500,11 +504,26 @@ fn cast_value(
     match (value, to) {
         (None, _) => Ok(None),
         (Some(value), Some(ty)) => {
-            let value = cast_boxed(alloc, helpers, scopes, value)?;
-            Ok(Some(converted(alloc, ty, value)?.into_inner()))
+            let value = cast_to(alloc, helpers, scopes, ty, value.get())?;
+            Ok(Some(value))
         }
         (Some(_), None) => unreachable!(),
     }
+}
+
+// An expression, converted to a type.
+fn cast_to(
+    alloc: Global,
+    helpers: &[Helper],
+    scopes: &Scopes<Binding>,
+    to: Ty,
+    expr: &Expr,
+) -> Result<ProgExpr, Memory>
+    requires { TypingExprWith helpers.now scopes.now expr.now }
+    ensures { IfOk result (λ f. IsProgConverted helpers.now to scopes.now expr.now f) }
+{
+    let value = cast_expr(alloc, helpers, scopes, expr)?;
+    Ok(converted(alloc, to, value)?.into_inner())
 }
 
 fn cast_option(
