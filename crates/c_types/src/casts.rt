@@ -60,13 +60,12 @@ pub(crate) fn casts(alloc: Global, tree: &Tree) -> Result<Typed, Memory>
     let mut known = Known::new(alloc);
     let arrays = declare_params(alloc, &mut known, tree.params.as_slice())?;
     let body = cast_stmts(alloc, &mut known, tree.result, tree.body.as_slice())?;
-    let Known { types, .. } = known;
     Ok(Typed {
         name,
         at: tree.at,
         result: tree.result,
         params,
-        vars: types,
+        vars: known.into_types(),
         arrays,
         body,
     })
@@ -224,9 +223,10 @@ fn cast_if(
         (length known.old.types) stmt.now }
     ensures { IfOk result (λ t. IsCastStmt returned known.old stmt.now t known.new) }
 {
-    let cond = cast_boxed(alloc, &known.scopes, cond)?.into_inner();
+    let cond = cast_boxed(alloc, &known.scopes, cond)?;
     let then = cast_inside(alloc, known, returned, then)?;
     let other = cast_held(alloc, known, returned, other)?;
+    let cond = cond.into_inner();
     Ok(act(TypedStmtKind::If { cond, then, other }, stmt.at))
 }
 
@@ -245,8 +245,9 @@ fn cast_while(
         (length known.old.types) stmt.now }
     ensures { IfOk result (λ t. IsCastStmt returned known.old stmt.now t known.new) }
 {
-    let cond = cast_boxed(alloc, &known.scopes, cond)?.into_inner();
+    let cond = cast_boxed(alloc, &known.scopes, cond)?;
     let body = cast_inside(alloc, known, returned, body)?;
+    let cond = cond.into_inner();
     Ok(act(TypedStmtKind::While { cond, body }, stmt.at))
 }
 
@@ -265,8 +266,9 @@ fn cast_do(
         (length known.old.types) stmt.now }
     ensures { IfOk result (λ t. IsCastStmt returned known.old stmt.now t known.new) }
 {
-    let cond = cast_boxed(alloc, &known.scopes, cond)?.into_inner();
+    let cond = cast_boxed(alloc, &known.scopes, cond)?;
     let body = cast_inside(alloc, known, returned, body)?;
+    let cond = cond.into_inner();
     Ok(act(TypedStmtKind::DoWhile { body, cond }, stmt.at))
 }
 

@@ -37,6 +37,14 @@ impl Known {
         }
     }
 
+    /// The types of all variables.
+    pub fn into_types(self) -> List<Ty>
+        ensures { result ≡ self.types }
+    {
+        let Known { types, .. } = self;
+        types
+    }
+
     /// Begins a scope inside.
     ///
     /// # Errors

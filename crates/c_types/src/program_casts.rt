@@ -111,13 +111,12 @@ fn cast_helper(alloc: Global, helpers: &[Helper], helper: &Helper) -> Result<Typ
     let returned = Some(helper.result);
     let body = cast_stmts(alloc, helpers, &mut known, returned, helper.body.as_slice())?;
     let value = cast_to(alloc, helpers, &known.scopes, helper.result, &helper.value)?;
-    let Known { types, .. } = known;
     Ok(TypedHelper {
         name,
         at: helper.at,
         result: helper.result,
         params,
-        vars: types,
+        vars: known.into_types(),
         body,
         value,
     })
@@ -139,13 +138,12 @@ fn cast_kernel(alloc: Global, helpers: &[Helper], kernel: &Tree) -> Result<ProgT
         kernel.result,
         kernel.body.as_slice(),
     )?;
-    let Known { types, .. } = known;
     Ok(ProgTree {
         name,
         at: kernel.at,
         result: kernel.result,
         params,
-        vars: types,
+        vars: known.into_types(),
         arrays,
         body,
     })
@@ -255,9 +253,10 @@ fn cast_if(
         (length known.old.types) stmt.now }
     ensures { IfOk result (λ t. IsProgStmt helpers.now returned known.old stmt.now t known.new) }
 {
-    let cond = cast_boxed(alloc, helpers, &known.scopes, cond)?.into_inner();
+    let cond = cast_boxed(alloc, helpers, &known.scopes, cond)?;
     let then = cast_inside(alloc, helpers, known, returned, then)?;
     let other = cast_held(alloc, helpers, known, returned, other)?;
+    let cond = cond.into_inner();
     Ok(act(ProgStmtKind::If { cond, then, other }, stmt.at))
 }
 
@@ -277,8 +276,9 @@ fn cast_while(
         (length known.old.types) stmt.now }
     ensures { IfOk result (λ t. IsProgStmt helpers.now returned known.old stmt.now t known.new) }
 {
-    let cond = cast_boxed(alloc, helpers, &known.scopes, cond)?.into_inner();
+    let cond = cast_boxed(alloc, helpers, &known.scopes, cond)?;
     let body = cast_inside(alloc, helpers, known, returned, body)?;
+    let cond = cond.into_inner();
     Ok(act(ProgStmtKind::While { cond, body }, stmt.at))
 }
 
@@ -298,8 +298,9 @@ fn cast_do(
         (length known.old.types) stmt.now }
     ensures { IfOk result (λ t. IsProgStmt helpers.now returned known.old stmt.now t known.new) }
 {
-    let cond = cast_boxed(alloc, helpers, &known.scopes, cond)?.into_inner();
+    let cond = cast_boxed(alloc, helpers, &known.scopes, cond)?;
     let body = cast_inside(alloc, helpers, known, returned, body)?;
+    let cond = cond.into_inner();
     Ok(act(ProgStmtKind::DoWhile { body, cond }, stmt.at))
 }
 

@@ -36,11 +36,21 @@ use std::mem;
 ///
 /// Contracts see the list of the scopes, the innermost first, each with its names, the latest
 /// first.
-#[derive(Drop)]
 pub(crate) struct Scopes<T: Drop> {
     alloc: Global,
     inner: IndexMap<Name, T>,
     outer: Vec<IndexMap<Name, T>>,
+}
+
+// By hand, so that to let go of them is a call.
+impl<T: Drop> Drop for Scopes<T> {
+    fn drop(self) {
+        let Scopes {
+            alloc: _alloc,
+            inner: _inner,
+            outer: _outer,
+        } = self;
+    }
 }
 
 impl<T: Drop> Model for Scopes<T> {

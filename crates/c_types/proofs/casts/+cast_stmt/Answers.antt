@@ -29,15 +29,15 @@ cast_block-returns t c =
 
 pub cast_if-returns : goal.cast_if-returns
 cast_if-returns t c =
-    if_arm c.args.returned c.args.known.now _ _ c.args.stmt.now _ _ _ _ _ _ _ c.requires.is (subst (IsCastExpr c.args.known.now.scopes _) (sym c.into_inner-cond.ensures) c.in_ok-cast_boxed.ensures) c.in_ok-then.ensures c.in_ok-other.ensures c.act.ensures
+    if_arm c.args.returned c.args.known.now _ _ c.args.stmt.now _ _ _ _ _ _ _ c.requires.is (subst (IsCastExpr c.args.known.now.scopes _) (sym c.into_inner-cond.ensures) c.in_ok-cond.ensures) c.in_ok-then.ensures c.in_ok-other.ensures c.act.ensures
 
 pub cast_while-returns : goal.cast_while-returns
 cast_while-returns t c =
-    while_arm c.args.returned c.args.known.now _ c.args.stmt.now _ _ _ _ _ c.requires.is (subst (IsCastExpr c.args.known.now.scopes _) (sym c.into_inner-cond.ensures) c.in_ok-cast_boxed.ensures) c.in_ok-body.ensures c.act.ensures
+    while_arm c.args.returned c.args.known.now _ c.args.stmt.now _ _ _ _ _ c.requires.is (subst (IsCastExpr c.args.known.now.scopes _) (sym c.into_inner-cond.ensures) c.in_ok-cond.ensures) c.in_ok-body.ensures c.act.ensures
 
 pub cast_do-returns : goal.cast_do-returns
 cast_do-returns t c =
-    do_arm c.args.returned c.args.known.now _ c.args.stmt.now _ _ _ _ _ c.requires.is (subst (IsCastExpr c.args.known.now.scopes _) (sym c.into_inner-cond.ensures) c.in_ok-cast_boxed.ensures) c.in_ok-body.ensures c.act.ensures
+    do_arm c.args.returned c.args.known.now _ c.args.stmt.now _ _ _ _ _ c.requires.is (subst (IsCastExpr c.args.known.now.scopes _) (sym c.into_inner-cond.ensures) c.in_ok-cond.ensures) c.in_ok-body.ensures c.act.ensures
 
 pub cast_for-returns : goal.cast_for-returns
 cast_for-returns t c =

@@ -1,11 +1,18 @@
-use Rattle.std.proofs.Common.{[], ◌∷◌, ap, ◌∙◌}
+use Rattle.std.proofs.Common.{◌≡◌, ℕ, List, [], ◌∷◌, Option, sym, subst}
 use Rattle.std.proofs.lemmas.Result.{IfOk-weaker}
+use Rattle.c_ast.specs.declared.tree.Param.{Param}
+use Rattle.c_ast.specs.declared.tree.Stmt.{Stmt}
+use Rattle.c_ast.specs.declared.tree.Tree.{Tree}
+use Rattle.c_types.specs.declared.fault.Fault.{Fault}
 use Rattle.c_types.specs.Places.{first_of}
-use Rattle.c_types.specs.Faults.{block_faults}
+use Rattle.c_types.specs.Faults.{Sorts, block_faults, tree_faults}
 use Rattle.c_types.proofs.faults.first_fault.Goals as goal
 
+-- the fault of a tree by those of its block
+by_block : (tree : Tree) (v : Sorts) (ps : List Param) (ss : List Stmt) (f : Option Fault) → v ≡ [] ∷ [] → ps ≡ tree.params → ss ≡ tree.body → f ≡ first_of (block_faults v ps ss tree.result) → f ≡ first_of (tree_faults tree)
+by_block tree v ps ss f new params body is =
+    subst (λ ss. f ≡ first_of (block_faults ([] ∷ []) tree.params ss tree.result)) body
+    (subst (λ ps. f ≡ first_of (block_faults ([] ∷ []) ps ss tree.result)) params (subst (λ v. f ≡ first_of (block_faults v ps ss tree.result)) new is))
+
 pub returns : goal.returns
-returns c =
-    IfOk-weaker c.of_block.result _ _ (λ f is. is ∙ ap (λ v. first_of (block_faults v c.as_slice-params.result.now c.as_slice-body.result.now c.args.tree.now.result)) c.new-scopes.ensures
-    ∙ ap (λ ps. first_of (block_faults ([] ∷ []) ps c.as_slice-body.result.now c.args.tree.now.result)) c.as_slice-params.ensures
-    ∙ ap (λ ss. first_of (block_faults ([] ∷ []) c.args.tree.now.params ss c.args.tree.now.result)) c.as_slice-body.ensures) c.of_block.ensures.fault
+returns c = IfOk-weaker c.of_block.result _ _ (λ f is. by_block c.args.tree.now _ _ _ f c.new-scopes.ensures c.as_slice-params.ensures c.as_slice-body.ensures is) c.of_block.ensures.fault
