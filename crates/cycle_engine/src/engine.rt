@@ -29,7 +29,6 @@ pub(crate) struct Bounds {
 }
 
 /// A state with the cycle in which each token was put, and what was done in the cycle so far.
-#[derive(Drop)]
 pub(crate) struct Engine {
     pub state: State,
     /// Beside the tokens of each channel the cycles in which they were put.
@@ -49,6 +48,24 @@ pub(crate) struct Engine {
     pub notes: Notes,
     /// The channels that were full when the cycle began, and from which tokens were taken.
     pub freed: Freed,
+}
+
+// By hand, so that to let go of one is a call.
+impl Drop for Engine {
+    fn drop(self) {
+        let Engine {
+            state: _state,
+            dates: _dates,
+            begun: _begun,
+            fired: _fired,
+            used: _used,
+            made: _made,
+            log: _log,
+            marks: _marks,
+            notes: _notes,
+            freed: _freed,
+        } = self;
+    }
 }
 
 /// How many firings the log has to have room for.
@@ -115,6 +132,26 @@ impl Engine {
             notes,
             freed,
         })
+    }
+
+    /// Its state and its log.
+    pub(crate) fn into_parts(self) -> (State, Log<Firing>)
+        ensures state { result.0 ≡ self.state }
+        ensures log { result.1 ≡ self.log }
+    {
+        let Engine {
+            state,
+            dates: _dates,
+            begun: _begun,
+            fired: _fired,
+            used: _used,
+            made: _made,
+            log,
+            marks: _marks,
+            notes: _notes,
+            freed: _freed,
+        } = self;
+        (state, log)
     }
 
     /// Begins a cycle: marks the units that may fire in it, and notes the lengths of queues and that nothing has fired.

@@ -9,12 +9,21 @@ use net_types::Memory;
 use std::alloc::Global;
 
 /// Marks at channels, and a list of them.
-#[derive(Drop)]
 pub(crate) struct Freed {
     /// Whether each channel was full as the cycle began, and tokens were taken from it since.
     pub marked: Vec<bool>,
     /// Each marked channel.
     pub list: Vec<u32>,
+}
+
+// By hand, so that to let go of one is a call.
+impl Drop for Freed {
+    fn drop(self) {
+        let Freed {
+            marked: _marked,
+            list: _list,
+        } = self;
+    }
 }
 
 /// Whether a channel is full, by the dates of its tokens, and the newest was put before the cycle `now`.

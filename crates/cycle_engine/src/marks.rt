@@ -16,12 +16,21 @@ use net_types::Memory;
 use std::alloc::Global;
 
 /// Marks at units that may fire, and a list of those that are to be looked at.
-#[derive(Drop)]
 pub(crate) struct Marks {
     /// Whether each unit is marked.
     pub marked: Vec<bool>,
     /// Each marked unit that is no queue, and maybe others.
     pub list: Vec<u32>,
+}
+
+// By hand, so that to let go of one is a call.
+impl Drop for Marks {
+    fn drop(self) {
+        let Marks {
+            marked: _marked,
+            list: _list,
+        } = self;
+    }
 }
 
 impl Marks {

@@ -116,11 +116,12 @@ impl Engine {
         } }
     {
         let firings = self.made + self.fired.len() as u64;
+        let (state, log) = self.into_parts();
         Timed {
-            state: self.state,
+            state,
             firings,
             cycles,
-            log: self.log,
+            log,
         }
     }
 }

@@ -11,7 +11,6 @@ use std::alloc::Global;
 ///
 /// What is told of the places that have fired in the cycle is right whatever numbers the places have: where a number is met
 /// twice in a cycle, nothing is told any more. By the numbers that [`Used::new`] gives it is never met twice.
-#[derive(Drop)]
 pub(crate) struct Used {
     /// From where on the places of each unit have their numbers.
     pub base: Vec<u32>,
@@ -19,6 +18,17 @@ pub(crate) struct Used {
     pub last: Vec<u64>,
     /// Whether a number was met twice in a cycle.
     pub mixed: bool,
+}
+
+// By hand, so that to let go of one is a call.
+impl Drop for Used {
+    fn drop(self) {
+        let Used {
+            base: _base,
+            last: _last,
+            mixed: _mixed,
+        } = self;
+    }
 }
 
 /// How many numbers the places of a queue take.
