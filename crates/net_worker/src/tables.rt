@@ -9,7 +9,6 @@ use net_types::{Inputs, List, Memory};
 use std::alloc::Global;
 
 /// A net, the owner of each of its units, and inputs.
-#[derive(Drop)]
 pub struct Tables {
     pub(crate) net: Checked,
     pub(crate) inputs: Inputs,
@@ -19,6 +18,18 @@ pub struct Tables {
     pub ghost owned: { length owners ≡ length net.units },
     pub ghost few: { All (λ o. o < max_workers) owners },
     pub ghost marked: { AreMarked net.chans owners crossing.items },
+}
+
+// By hand, so that to let go of one is a call.
+impl Drop for Tables {
+    fn drop(self) {
+        let Tables {
+            net: _net,
+            inputs: _inputs,
+            owners: _owners,
+            crossing: _crossing,
+        } = self;
+    }
 }
 
 /// A copy of the owners of units.

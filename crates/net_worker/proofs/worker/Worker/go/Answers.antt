@@ -1,4 +1,4 @@
-use Rattle.std.proofs.Common.{◌≡◌, ◌∙◌, ℕ, ap, sym, refl, arith}
+use Rattle.std.proofs.Common.{◌≡◌, ◌∙◌, ◌+◌, ℕ, length, ap, sym, refl, subst, arith}
 use Rattle.net_worker.specs.Asking.{IsAsked}
 use Rattle.net_worker.proofs.Asking.{asked_trans}
 use Rattle.net_worker.proofs.Firing.{later_same, goes_looked}
@@ -9,8 +9,23 @@ use Rattle.net_worker.proofs.worker.Worker.go.Goals as goal
 pub returns-then-fired-gt0-clause-later : goal.returns-then-fired-gt0-clause-later
 returns-then-fired-gt0-clause-later c = λ z l. c.pass-fired.ensures.later z (goes_looked c.args.tables.now c.args.self.now c.look.new.self c.requires.made c.look.ensures.made c.look.ensures.looked z l)
 
+pub returns-then-fired-gt0-clause-added : goal.returns-then-fired-gt0-clause-added
+returns-then-fired-gt0-clause-added c = subst (λ l. length c.pass-fired.new.self.log.items ≡ length l.items + c.pass-fired.result) c.look.ensures.looked.log c.pass-fired.ensures.added
+
 pub returns-then-exact_pass-clause-later : goal.returns-then-exact_pass-clause-later
 returns-then-exact_pass-clause-later c = λ z l. c.exact_pass.ensures.later z (c.pass-fired.ensures.later z (goes_looked c.args.tables.now c.args.self.now c.look.new.self c.requires.made c.look.ensures.made c.look.ensures.looked z l))
+
+pub returns-then-exact_pass-clause-added : goal.returns-then-exact_pass-clause-added
+returns-then-exact_pass-clause-added c =
+    let x : c.pass-fired.result ≡ 0 = omega arith in
+    subst (λ l. length c.exact_pass.new.self.log.items ≡ length l.items + 1) ((c.pass-fired.ensures.none x).log ∙ c.look.ensures.looked.log) (c.if-exact_pass.ensures.fired refl)
+
+pub returns-clause-none : goal.returns-clause-none
+returns-clause-none c = λ _.
+    (let x : c.pass-fired.result ≡ 0 = omega arith in (c.if-exact_pass.ensures.held refl).asked.log ∙ (c.pass-fired.ensures.none x).log ∙ c.look.ensures.looked.log)
+
+pub returns-clause-added : goal.returns-clause-added
+returns-clause-added c = omega (arith, ap (λ l. length l.items) (returns-clause-none c refl))
 
 pub returns-clause-later : goal.returns-clause-later
 returns-clause-later c = λ z l. c.exact_pass.ensures.later z (c.pass-fired.ensures.later z (goes_looked c.args.tables.now c.args.self.now c.look.new.self c.requires.made c.look.ensures.made c.look.ensures.looked z l))
