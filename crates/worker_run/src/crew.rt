@@ -8,7 +8,6 @@ use net_types::Firing;
 use net_worker::{Tables, Worker};
 
 /// The workers of one net, worker j with number j.
-#[derive(Drop)]
 pub struct Crew {
     pub tables: Tables,
     pub workers: Vec<Worker>,
@@ -16,8 +15,17 @@ pub struct Crew {
     pub ghost linked: { AreLinked tables workers.items },
 }
 
+// By hand, so that to let go of one is a call.
+impl Drop for Crew {
+    fn drop(self) {
+        let Crew {
+            tables: _tables,
+            workers: _workers,
+        } = self;
+    }
+}
+
 /// What a run of a crew reports.
-#[derive(Drop)]
 pub struct Report {
     /// At rest.
     pub state: State,
@@ -27,4 +35,16 @@ pub struct Report {
     pub crew: Crew,
     /// All firings in their order, where they are kept; else none.
     pub log: Log<Firing>,
+}
+
+// By hand, so that to let go of one is a call.
+impl Drop for Report {
+    fn drop(self) {
+        let Report {
+            state: _state,
+            firings: _firings,
+            crew: _crew,
+            log: _log,
+        } = self;
+    }
 }

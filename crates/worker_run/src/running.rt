@@ -6,6 +6,7 @@ ghost use Rattle.net_types.specs.Inputs.{InputsFit};
 ghost use Rattle.net_core.specs.States.{IsOf, state_of};
 ghost use Rattle.net_worker.specs.Shares.{max_share};
 ghost use Rattle.net_worker.specs.Workers.{IsMadeOf, IsWhole};
+ghost use Rattle.worker_run.specs.Crews.{AllWhole, AreMade};
 ghost use Rattle.worker_run.specs.Reports.{IsReport, IsRunFault};
 ghost use Rattle.worker_run.specs.private.Sweepings.{AreSweptBy, HasStopped, IsSweptBy, IsSweptFrom};
 
@@ -57,12 +58,8 @@ pub fn run_workers<R: Threads + Sync, G: Gate + Sync>(
 {
     let mut log = Log::with_room(alloc, room_for(keep, limit))?;
     let mut state = State::new(alloc, net, inputs)?;
-    let Crew {
-        tables,
-        mut workers,
-    } = workers(alloc, net, inputs, count, limit)?;
-    sweep_all(rt, &tables, workers.as_mut_slice(), gate);
-    let mut crew = Crew { tables, workers };
+    let mut crew = workers(alloc, net, inputs, count, limit)?;
+    sweep_crew(rt, &mut crew, gate);
     let made = gather(net, &mut crew, &mut state);
     add_merged(&crew, keep, &mut log);
     match finish(net, &mut state, made, limit, keep, &mut log) {
@@ -84,6 +81,17 @@ fn room_for(keep: bool, limit: u64) -> u64
     ensures { keep ≡ true → result ≡ limit }
 {
     if keep { limit } else { 0 }
+}
+
+/// Sweeps all workers of a crew, each in a thread of its own, until each has ended.
+fn sweep_crew<R: Threads + Sync, G: Gate + Sync>(rt: &R, crew: &mut Crew, gate: &G)
+    requires made { AreMade crew.old.tables crew.old.workers.items }
+    requires whole { AllWhole crew.old.tables crew.old.workers.items }
+    ensures swept { AreSweptBy crew.old.tables (G.is_open gate.now) crew.old.workers.items
+        crew.new.workers.items }
+    ensures tables { crew.new.tables ≡ crew.old.tables }
+{
+    sweep_all(rt, &crew.tables, crew.workers.as_mut_slice(), gate);
 }
 
 /// Sweeps all workers, each in a thread of its own, until each has ended.

@@ -1,85 +1,61 @@
 use Rattle.std.proofs.Common.{◌≡◌, ◌<◌, ◌≤◌, ◌++◌, List, length, get_or, length-append, refl, ap, ◌∙◌, sym, subst, arith}
-use Rattle.net_worker.specs.declared.worker.Worker.{Worker}
+use Rattle.net_worker.specs.Views.{inputs_of}
 use Rattle.net_core.specs.Runs.{Run, opening}
 use Rattle.net_core.specs.States.{state_of}
 use Rattle.net_replay.proofs.PathLemmas.{leads_on}
 use Rattle.net_worker.specs.Merged.{entries_of}
-use Rattle.worker_run.specs.Crews.{AreMade, AreLinked, AllWhole, AreSameWork, logs_of, merged_of}
+use Rattle.worker_run.specs.Crews.{AllWhole, AreSameWork, logs_of, merged_of}
 use Rattle.worker_run.specs.Gathers.{RestsIn}
 use Rattle.worker_run.specs.Reports.{IsCrewOf, IsRunFault, HasEnded}
-use Rattle.worker_run.specs.private.Sweepings.{AreSweptBy}
-use Rattle.worker_run.proofs.GatherLemmas.{slice_back}
-use Rattle.worker_run.proofs.RunLemmas.{swept_of, made_swept, linked_swept, whole_swept, crew_swept, crew_same, entries_within, all_ended, longer, kept_log, judged_fault, err_by}
+use Rattle.worker_run.proofs.RunLemmas.{swept_of, made_swept, whole_swept, crew_swept, crew_same, entries_within, all_ended, longer, kept_log, judged_fault, err_by}
 use Rattle.worker_run.proofs.running.run_workers.Goals as goal
-
-pub invariant_of-crew : goal.invariant_of-crew
-invariant_of-crew g c =
-    let t = c.in_ok-tables.field-0.tables in
-    let a = c.in_ok-tables.field-0.workers in
-    let y = c.sweep_all.new.workers in
-    let by = subst (λ (l : List Worker). AreSweptBy t (g.G.Gate.is_open c.args.gate.now) l y) c.as_mut_slice.ensures.value c.sweep_all.ensures in
-    let swept = swept_of t (g.G.Gate.is_open c.args.gate.now) a.items y by in
-    let back = slice_back a.items y a.len a.ok.0 swept.long in
-    let made = made_swept t a.items y swept c.in_ok-tables.ensures.made.0 in
-    record {
-      made = subst (λ l. ∥ AreMade t l ∥₁) (sym back) (∣ made ∣₁);
-      linked = subst (AreLinked t) (sym back) (linked_swept t a.items y swept c.in_ok-tables.ensures.made.1);
-    }
 
 pub gather-made-requires-clause-whole : goal.gather-made-requires-clause-whole
 gather-made-requires-clause-whole g c =
-    let t = c.in_ok-tables.field-0.tables in
-    let a = c.in_ok-tables.field-0.workers in
-    let y = c.sweep_all.new.workers in
-    let by = subst (λ (l : List Worker). AreSweptBy t (g.G.Gate.is_open c.args.gate.now) l y) c.as_mut_slice.ensures.value c.sweep_all.ensures in
-    let swept = swept_of t (g.G.Gate.is_open c.args.gate.now) a.items y by in
-    let back = slice_back a.items y a.len a.ok.0 swept.long in
-    let made = made_swept t a.items y swept c.in_ok-tables.ensures.made.0 in
-    subst (AllWhole t) (sym back) (whole_swept t a.items y swept c.in_ok-tables.ensures.whole)
+    let t = c.in_ok-crew.crew.tables in
+    let a = c.in_ok-crew.crew.workers.items in
+    let y = c.sweep_crew.new.crew.workers.items in
+    let swept = swept_of t (g.G.Gate.is_open c.args.gate.now) a y c.sweep_crew.ensures.swept in
+    let made = made_swept t a y swept c.in_ok-crew.ensures.made.0 in
+    subst (λ u. AllWhole u y) (sym c.sweep_crew.ensures.tables) (whole_swept t a y swept c.in_ok-crew.ensures.whole)
 
 pub add_merged-requires-clause-room : goal.add_merged-requires-clause-room
 add_merged-requires-clause-room g c keep =
-    let t = c.in_ok-tables.field-0.tables in
-    let a = c.in_ok-tables.field-0.workers in
-    let y = c.sweep_all.new.workers in
-    let by = subst (λ (l : List Worker). AreSweptBy t (g.G.Gate.is_open c.args.gate.now) l y) c.as_mut_slice.ensures.value c.sweep_all.ensures in
-    let swept = swept_of t (g.G.Gate.is_open c.args.gate.now) a.items y by in
-    let back = slice_back a.items y a.len a.ok.0 swept.long in
-    let made = made_swept t a.items y swept c.in_ok-tables.ensures.made.0 in
-    let crew = crew_swept c.args.net.now c.args.inputs.now c.args.count c.args.limit t a.items y swept c.in_ok-tables.ensures.crew in
+    let t = c.in_ok-crew.crew.tables in
+    let a = c.in_ok-crew.crew.workers.items in
+    let y = c.sweep_crew.new.crew.workers.items in
+    let swept = swept_of t (g.G.Gate.is_open c.args.gate.now) a y c.sweep_crew.ensures.swept in
+    let made = made_swept t a y swept c.in_ok-crew.ensures.made.0 in
+    let crew = crew_swept c.args.net.now c.args.inputs.now c.args.count c.args.limit t a y swept c.in_ok-crew.ensures.crew in
     let few = entries_within c.args.net.now c.args.inputs.now c.args.count c.args.limit t y c.requires.some crew made in
-    let logs = ap entries_of (c.gather-made.ensures.logs ∙ ap logs_of back) in
+    let logs = ap entries_of c.gather-made.ensures.logs in
     omega (arith, few, logs, c.in_ok-log.ensures.room, c.room_for.ensures keep)
 
 pub finish-requires-clause-made : goal.finish-requires-clause-made
 finish-requires-clause-made g c =
-    let t = c.in_ok-tables.field-0.tables in
-    let a = c.in_ok-tables.field-0.workers in
-    let y = c.sweep_all.new.workers in
-    let by = subst (λ (l : List Worker). AreSweptBy t (g.G.Gate.is_open c.args.gate.now) l y) c.as_mut_slice.ensures.value c.sweep_all.ensures in
-    let swept = swept_of t (g.G.Gate.is_open c.args.gate.now) a.items y by in
-    let back = slice_back a.items y a.len a.ok.0 swept.long in
-    let made = made_swept t a.items y swept c.in_ok-tables.ensures.made.0 in
-    let crew = crew_swept c.args.net.now c.args.inputs.now c.args.count c.args.limit t a.items y swept c.in_ok-tables.ensures.crew in
+    let t = c.in_ok-crew.crew.tables in
+    let a = c.in_ok-crew.crew.workers.items in
+    let y = c.sweep_crew.new.crew.workers.items in
+    let swept = swept_of t (g.G.Gate.is_open c.args.gate.now) a y c.sweep_crew.ensures.swept in
+    let made = made_swept t a y swept c.in_ok-crew.ensures.made.0 in
+    let crew = crew_swept c.args.net.now c.args.inputs.now c.args.count c.args.limit t a y swept c.in_ok-crew.ensures.crew in
     let few = entries_within c.args.net.now c.args.inputs.now c.args.count c.args.limit t y c.requires.some crew made in
-    let logs = ap entries_of (c.gather-made.ensures.logs ∙ ap logs_of back) in
+    let logs = ap entries_of c.gather-made.ensures.logs in
     omega (arith, few, logs, c.gather-made.ensures.all)
 
 pub returns-in_err-judge-in-Rest-clause-fault : goal.returns-in_err-judge-in-Rest-clause-fault
 returns-in_err-judge-in-Rest-clause-fault g c =
-    let t = c.in_ok-tables.field-0.tables in
-    let a = c.in_ok-tables.field-0.workers in
-    let y = c.sweep_all.new.workers in
-    let by = subst (λ (l : List Worker). AreSweptBy t (g.G.Gate.is_open c.args.gate.now) l y) c.as_mut_slice.ensures.value c.sweep_all.ensures in
-    let swept = swept_of t (g.G.Gate.is_open c.args.gate.now) a.items y by in
-    let back = slice_back a.items y a.len a.ok.0 swept.long in
-    let made = made_swept t a.items y swept c.in_ok-tables.ensures.made.0 in
+    let t = c.in_ok-crew.crew.tables in
+    let a = c.in_ok-crew.crew.workers.items in
+    let y = c.sweep_crew.new.crew.workers.items in
+    let swept = swept_of t (g.G.Gate.is_open c.args.gate.now) a y c.sweep_crew.ensures.swept in
+    let made = made_swept t a y swept c.in_ok-crew.ensures.made.0 in
     let x = c.gather-made.new.crew.workers.items in
     let net = c.args.net.now in
     let inputs = c.args.inputs.now in
-    let crew = crew_swept net inputs c.args.count c.args.limit t a.items y swept c.in_ok-tables.ensures.crew in
+    let crew = crew_swept net inputs c.args.count c.args.limit t a y swept c.in_ok-crew.ensures.crew in
     let gathered = state_of c.gather-made.new.into in
-    let run : Run net inputs (merged_of x) gathered = subst (λ i. Run net i (merged_of x) gathered) crew.inputs_are c.gather-made.ensures.run in
+    let run : Run net inputs (merged_of x) gathered = subst (λ i. Run net i (merged_of x) gathered) (ap inputs_of c.sweep_crew.ensures.tables ∙ crew.inputs_are) c.gather-made.ensures.run in
     let f = c.in-Rest.ensures.finished in
     let whole = leads_on net (opening net inputs) (merged_of x) f.firings gathered (state_of c.finish.new.state) run f.finishes.leads in
     let within : length (merged_of x ++ f.firings) ≤ c.args.limit = omega (arith, length-append (merged_of x) f.firings, c.gather-made.ensures.count, f.finishes.ends.counted, f.finishes.ends.within) in
@@ -88,19 +64,17 @@ returns-in_err-judge-in-Rest-clause-fault g c =
 
 pub returns-in-Limit-clause-fault : goal.returns-in-Limit-clause-fault
 returns-in-Limit-clause-fault g c =
-    let t = c.in_ok-tables.field-0.tables in
-    let a = c.in_ok-tables.field-0.workers in
-    let y = c.sweep_all.new.workers in
-    let by = subst (λ (l : List Worker). AreSweptBy t (g.G.Gate.is_open c.args.gate.now) l y) c.as_mut_slice.ensures.value c.sweep_all.ensures in
-    let swept = swept_of t (g.G.Gate.is_open c.args.gate.now) a.items y by in
-    let back = slice_back a.items y a.len a.ok.0 swept.long in
-    let made = made_swept t a.items y swept c.in_ok-tables.ensures.made.0 in
+    let t = c.in_ok-crew.crew.tables in
+    let a = c.in_ok-crew.crew.workers.items in
+    let y = c.sweep_crew.new.crew.workers.items in
+    let swept = swept_of t (g.G.Gate.is_open c.args.gate.now) a y c.sweep_crew.ensures.swept in
+    let made = made_swept t a y swept c.in_ok-crew.ensures.made.0 in
     let x = c.gather-made.new.crew.workers.items in
     let net = c.args.net.now in
     let inputs = c.args.inputs.now in
-    let crew = crew_swept net inputs c.args.count c.args.limit t a.items y swept c.in_ok-tables.ensures.crew in
+    let crew = crew_swept net inputs c.args.count c.args.limit t a y swept c.in_ok-crew.ensures.crew in
     let gathered = state_of c.gather-made.new.into in
-    let run : Run net inputs (merged_of x) gathered = subst (λ i. Run net i (merged_of x) gathered) crew.inputs_are c.gather-made.ensures.run in
+    let run : Run net inputs (merged_of x) gathered = subst (λ i. Run net i (merged_of x) gathered) (ap inputs_of c.sweep_crew.ensures.tables ∙ crew.inputs_are) c.gather-made.ensures.run in
     let f = c.in-Limit.ensures.finished in (
       refl,
       longer net inputs c.args.limit c.gather-made.result (merged_of x) f.firings gathered (state_of c.finish.new.state) f.finishes.ends.next run f.finishes.leads f.finishes.ends.goes
@@ -109,25 +83,24 @@ returns-in-Limit-clause-fault g c =
 
 pub returns-in_ok-judge-in-Rest-clause-report : goal.returns-in_ok-judge-in-Rest-clause-report
 returns-in_ok-judge-in-Rest-clause-report g c =
-    let t = c.in_ok-tables.field-0.tables in
-    let a = c.in_ok-tables.field-0.workers in
-    let y = c.sweep_all.new.workers in
-    let by = subst (λ (l : List Worker). AreSweptBy t (g.G.Gate.is_open c.args.gate.now) l y) c.as_mut_slice.ensures.value c.sweep_all.ensures in
-    let swept = swept_of t (g.G.Gate.is_open c.args.gate.now) a.items y by in
-    let back = slice_back a.items y a.len a.ok.0 swept.long in
-    let made = made_swept t a.items y swept c.in_ok-tables.ensures.made.0 in
+    let t = c.in_ok-crew.crew.tables in
+    let a = c.in_ok-crew.crew.workers.items in
+    let y = c.sweep_crew.new.crew.workers.items in
+    let swept = swept_of t (g.G.Gate.is_open c.args.gate.now) a y c.sweep_crew.ensures.swept in
+    let made = made_swept t a y swept c.in_ok-crew.ensures.made.0 in
     let x = c.gather-made.new.crew.workers.items in
     let net = c.args.net.now in
     let inputs = c.args.inputs.now in
-    let crew = crew_swept net inputs c.args.count c.args.limit t a.items y swept c.in_ok-tables.ensures.crew in
+    let crew = crew_swept net inputs c.args.count c.args.limit t a y swept c.in_ok-crew.ensures.crew in
     let gathered = state_of c.gather-made.new.into in
-    let run : Run net inputs (merged_of x) gathered = subst (λ i. Run net i (merged_of x) gathered) crew.inputs_are c.gather-made.ensures.run in
+    let run : Run net inputs (merged_of x) gathered = subst (λ i. Run net i (merged_of x) gathered) (ap inputs_of c.sweep_crew.ensures.tables ∙ crew.inputs_are) c.gather-made.ensures.run in
     let f = c.in-Rest.ensures.finished in
-    let same = subst (λ l. AreSameWork l x) back c.gather-made.ensures.same in
-    let rests = subst (λ l. RestsIn t l gathered) back c.gather-made.ensures.rests in
+    let same = c.gather-made.ensures.same in
+    let rests = subst (λ u. RestsIn u y gathered) c.sweep_crew.ensures.tables c.gather-made.ensures.rests in
+    let kept = c.gather-made.ensures.tables ∙ c.sweep_crew.ensures.tables in
     let crew_now = crew_same net inputs c.args.count c.args.limit t y x same crew in
     record {
-      crew = subst (λ u. IsCrewOf net inputs c.args.count c.args.limit u x) (sym c.gather-made.ensures.tables) crew_now;
+      crew = subst (λ u. IsCrewOf net inputs c.args.count c.args.limit u x) (sym kept) crew_now;
       gathered = gathered;
       merged_run = run;
       rest = f.firings;
@@ -139,6 +112,6 @@ returns-in_ok-judge-in-Rest-clause-report g c =
       kept = kept_log c.args.keep c.add_merged.new.log.items c.finish.new.log.items (merged_of x) f.firings c.add_merged.ensures.items f.logged.items;
       ended = λ opened j d l. (
           let in_y : j < length y = subst (λ n. j < n) (sym crew.count_is) l in
-          subst (λ u. HasEnded u gathered (get_or x j d)) (sym c.gather-made.ensures.tables)
-          (all_ended t gathered y x made same (λ i e h. rests i e h) (λ i e h. (by.each i e (omega (arith, h, swept.long))).stopped opened) j d in_y));
+          subst (λ u. HasEnded u gathered (get_or x j d)) (sym kept)
+          (all_ended t gathered y x made same (λ i e h. rests i e h) (λ i e h. (c.sweep_crew.ensures.swept.each i e (omega (arith, h, swept.long))).stopped opened) j d in_y));
     }
