@@ -1,8 +1,11 @@
 -- Marks, and lists of units that are marked.
-use Rattle.std.proofs.Common.{◌≡◌, ◌≢◌, ℕ, suc, zero, ◌+◌, ◌<◌, ◌≤◌, ◌⊎◌, inl, inr, Bool, true, false, Option, Some, None, List, [], ◌∷◌, ◌++◌, length, get_or, set, refl, sym, ap, subst, ◌∙◌, arith, length-append, length-set, get_or-set_same, get_or-set_other}
+use Rattle.std.proofs.Common.{◌≡◌, ◌≢◌, ℕ, suc, zero, ◌<◌, ◌≤◌, ◌⊎◌, inl, inr, Bool, true, false, Option, Some, None, MatchOption, List, [], ◌∷◌, ◌++◌, length, get_or, set, refl, sym, ap, subst, ◌∙◌, arith, length-append, length-set, get_or-set_same, get_or-set_other}
 use Rattle.std.specs.List.{AllByRecursion}
 use Rattle.std.proofs.lemmas.Bool.{cases_eq, cases_lt}
-use Rattle.std.proofs.lemmas.List.{get_or_append_left}
+use Rattle.std.specs.List.Sorted.{IsPermutation}
+use Rattle.std.proofs.lemmas.List.{get_or_append_left, get_or_default}
+use Rattle.std.proofs.lemmas.List.Elements.{at_from_Contains}
+use Rattle.std.proofs.lemmas.List.Sorted.{Contains-permutation}
 use Rattle.net_types.specs.declared.net.Net.{Net}
 use Rattle.net_types.specs.declared.firing.Firing.{Firing}
 use Rattle.net_types.specs.Nets.{kind_of, chan_at}
@@ -10,7 +13,7 @@ use Rattle.net_check.specs.Ends.{is_lsq}
 use Rattle.net_core.specs.Fire.{State}
 use Rattle.net_core.specs.declared.plan.Laid.{Laid}
 use Rattle.cycle_engine.specs.declared.marks.Marks.{Marks}
-use Rattle.cycle_engine.specs.private.Marking.{Holds, HasUnit, no_firing, IsMarked, IsListed, KeepsMarks, IsSourceMarked, IsMergeMarked, IsTargetMarked, IsPutMarked, IsTaken, IsEmptied}
+use Rattle.cycle_engine.specs.private.Marking.{Holds, HasUnit, no_firing, IsMarked, IsListed, KeepsMarks, IsSourceMarked, IsMergeMarked, IsTargetMarked, IsPutMarked, IsTaken, IsEmptied, IsReordered}
 
 -- ---- lists
 
@@ -60,8 +63,8 @@ pub keeps_then : (a b c : Marks) → KeepsMarks a b → KeepsMarks b c → Keeps
 keeps_then a b c h k = record { long = k.long ∙ h.long; kept = λ u m. k.kept u (h.kept u m); listed = λ net l. k.listed net (h.listed net l) }
 
 -- a unit is marked and added to the list
-pub keeps_marked : (old new : Marks) (u : ℕ) → u < length old.marked.items → new.marked.items ≡ set old.marked.items u true → new.list.items ≡ old.list.items ++ u ∷ [] → KeepsMarks old new
-keeps_marked old new u l e f = record { long = ap length e ∙ length-set old.marked.items u true; kept = kept; listed = listed }
+pub keeps_marked : (old new : Marks) (u : ℕ) → u < length old.marked.items → new.marked.items ≡ set old.marked.items u true → new.list.items ≡ old.list.items ++ u ∷ [] → new.queues ≡ old.queues → KeepsMarks old new
+keeps_marked old new u l e f g = record { long = ap length e ∙ length-set old.marked.items u true; kept = kept; listed = listed }
   where
     is : (v : ℕ) → get_or new.marked.items v false ≡ get_or (set old.marked.items u true) v false
     is v = ap (λ xs. get_or xs v false) e
@@ -74,14 +77,18 @@ keeps_marked old new u l e f = record { long = ap length e ∙ length-set old.ma
         by (inr n) = is v ∙ (get_or-set_other old.marked.items u v true false n ∙ h)
 
     listed : (net : Net) → IsListed net old → IsListed net new
-    listed net h v q m = by (cases_eq v u)
+    listed net h v m = by (cases_eq v u)
       where
         P : List ℕ → Type 0
         P xs = Holds v xs
 
-        by : (v ≡ u) ⊎ (v ≢ u) → Holds v new.list.items
-        by (inl z) = subst P (sym f) (subst (λ k. Holds k (old.list.items ++ u ∷ [])) (sym z) (holds_last old.list.items u))
-        by (inr n) = subst P (sym f) (holds_more old.list.items (u ∷ []) v (h v q (sym (is v ∙ get_or-set_other old.marked.items u v true false n) ∙ m)))
+        was : Holds v old.list.items ⊎ ((is_lsq (kind_of net v) ≡ true) × Holds v old.queues.items) → Holds v new.list.items ⊎ ((is_lsq (kind_of net v) ≡ true) × Holds v new.queues.items)
+        was (inl k) = inl (subst P (sym f) (holds_more old.list.items (u ∷ []) v k))
+        was (inr k) = inr (k.0, subst P (ap (λ (x : _). x.items) (sym g)) k.1)
+
+        by : (v ≡ u) ⊎ (v ≢ u) → Holds v new.list.items ⊎ ((is_lsq (kind_of net v) ≡ true) × Holds v new.queues.items)
+        by (inl z) = inl (subst P (sym f) (subst (λ k. Holds k (old.list.items ++ u ∷ [])) (sym z) (holds_last old.list.items u)))
+        by (inr n) = was (h v (sym (is v ∙ get_or-set_other old.marked.items u v true false n) ∙ m))
 
 pub is_marked : (old new : Marks) (u : ℕ) → u < length old.marked.items → new.marked.items ≡ set old.marked.items u true → IsMarked new u
 is_marked old new u l e = ap (λ xs. get_or xs u false) e ∙ get_or-set_same old.marked.items u true false l
@@ -105,43 +112,76 @@ unmarked old new u v e h = by (cases_eq v u)
 pub still_marked : (old new : Marks) (u v : ℕ) → new.marked.items ≡ set old.marked.items u false → v ≢ u → IsMarked old v → IsMarked new v
 still_marked old new u v e n h = ap (λ xs. get_or xs v false) e ∙ (get_or-set_other old.marked.items u v false false n ∙ h)
 
+-- in the list or among the queues that are to have turns, where their lists hold what they held, or another unit
+held : (net : Net) (old new : Marks) (v : ℕ) → (Holds v old.list.items → Holds v new.list.items) → (Holds v old.queues.items → Holds v new.queues.items) → Holds v old.list.items ⊎ ((is_lsq (kind_of net v) ≡ true) × Holds v old.queues.items)
+    → Holds v new.list.items ⊎ ((is_lsq (kind_of net v) ≡ true) × Holds v new.queues.items)
+held net old new v f g (inl k) = inl (f k)
+held net old new v f g (inr k) = inr (k.0, g k.1)
+
+-- a unit that is not the last of the list is among those before it
+held_left : (xs ys : List ℕ) (u v : ℕ) → xs ≡ ys ++ u ∷ [] → v ≢ u → Holds v xs → Holds v ys
+held_left xs ys u v l n h = by (holds_snoc ys u v (subst (Holds v) l h))
+  where
+    by : Holds v ys ⊎ (v ≡ u) → Holds v ys
+    by (inl k) = k
+    by (inr z) = absurd (n z)
+
 -- the next number of the list was taken, and its mark
-pub taken_marked : (net : Net) (old new : Marks) (u : ℕ) → old.list.items ≡ new.list.items ++ u ∷ [] → new.marked.items ≡ set old.marked.items u false → is_lsq (kind_of net u) ≡ false → IsTaken net old new u
-taken_marked net old new u l e q = record {
+pub taken_marked : (net : Net) (old new : Marks) (u : ℕ) → old.list.items ≡ new.list.items ++ u ∷ [] → new.queues ≡ old.queues → new.marked.items ≡ set old.marked.items u false → is_lsq (kind_of net u) ≡ false → IsTaken net old new u
+taken_marked net old new u l g e q = record {
   long = ap length e ∙ length-set old.marked.items u false;
-  listed = listed;
+  listed = λ h v m. (let w = unmarked old new u v e m in held net old new v (held_left old.list.items new.list.items u v l w.0) (subst (Holds v) (ap (λ (x : _). x.items) (sym g))) (h v w.1));
   left = λ v m. at v m (cases_eq v u);
   fewer = (let a = ap (λ (xs : List ℕ). length xs) l in let n = length-append new.list.items (u ∷ []) in omega arith);
 }
   where
-    listed : IsListed net old → IsListed net new
-    listed h v p m =
-        let w = unmarked old new u v e m in
-        by w.0 (holds_snoc new.list.items u v (subst (Holds v) l (h v p w.1)))
-      where
-        by : v ≢ u → Holds v new.list.items ⊎ (v ≡ u) → Holds v new.list.items
-        by n (inl k) = k
-        by n (inr z) = absurd (n z)
-
     at : (v : ℕ) → IsMarked old v → (v ≡ u) ⊎ (v ≢ u) → IsMarked new v ⊎ ((v ≡ u) × (is_lsq (kind_of net v) ≡ false))
     at v m (inl z) = inr (z, ap (λ x. is_lsq (kind_of net x)) z ∙ q)
     at v m (inr n) = inl (still_marked old new u v e n m)
 
--- a queue was taken from the list, and keeps its mark
-pub taken_queue : (net : Net) (old new : Marks) (u : ℕ) → old.list.items ≡ new.list.items ++ u ∷ [] → new.marked.items ≡ old.marked.items → is_lsq (kind_of net u) ≡ true → IsTaken net old new u
-taken_queue net old new u l e q = record {
+-- a queue was taken from the list, keeps its mark, and is to have a turn
+pub taken_queue : (net : Net) (old new : Marks) (u : ℕ) → old.list.items ≡ new.list.items ++ u ∷ [] → new.queues.items ≡ old.queues.items ++ u ∷ [] → new.marked.items ≡ old.marked.items → is_lsq (kind_of net u) ≡ true → IsTaken net old new u
+taken_queue net old new u l g e q = record {
   long = ap length e;
-  listed = listed;
+  listed = λ h v m. by v (cases_eq v u) (h v (ap (λ xs. get_or xs v false) (sym e) ∙ m));
   left = λ v m. inl (ap (λ xs. get_or xs v false) e ∙ m);
   fewer = (let a = ap (λ (xs : List ℕ). length xs) l in let n = length-append new.list.items (u ∷ []) in omega arith);
 }
   where
-    listed : IsListed net old → IsListed net new
-    listed h v p m = by (holds_snoc new.list.items u v (subst (Holds v) l (h v p (ap (λ xs. get_or xs v false) (sym e) ∙ m))))
-      where
-        by : Holds v new.list.items ⊎ (v ≡ u) → Holds v new.list.items
-        by (inl k) = k
-        by (inr z) = let y : true ≡ false = sym q ∙ (ap (λ x. is_lsq (kind_of net x)) (sym z) ∙ p) in cc
+    by : (v : ℕ) → (v ≡ u) ⊎ (v ≢ u) → Holds v old.list.items ⊎ ((is_lsq (kind_of net v) ≡ true) × Holds v old.queues.items) → Holds v new.list.items ⊎ ((is_lsq (kind_of net v) ≡ true) × Holds v new.queues.items)
+    by v (inl z) h = (let P : ℕ → Type 0 = λ x. (is_lsq (kind_of net x) ≡ true) × Holds x new.queues.items in inr (subst P (sym z) (q, subst (Holds u) (sym g) (holds_last old.queues.items u))))
+    by v (inr n) h = held net old new v (held_left old.list.items new.list.items u v l n) (λ k. subst (Holds v) (sym g) (holds_more old.queues.items (u ∷ []) v k)) h
+
+-- ---- the queues that are to have turns
+
+pub holds_reordered : (xs ys : List ℕ) (x : ℕ) → IsPermutation xs ys → Holds x xs → Holds x ys
+holds_reordered xs ys x p h =
+    let w = at_from_Contains ys x (Contains-permutation xs ys x p (h.at, h.within, get_or_default xs h.at x 0 h.within ∙ h.is)) in
+    record { at = w.0; within = w.1; is = w.2 0 }
+
+pub reordered_listed : (net : Net) (old new : Marks) → IsReordered old new → IsListed net old → IsListed net new
+reordered_listed net old new r h v m =
+    held net old new v (subst (Holds v) (ap (λ (x : _). x.items) (sym r.list))) (holds_reordered old.queues.items new.queues.items v r.queues) (h v (ap (λ (x : _). get_or x.items v false) (sym r.marked) ∙ m))
+
+-- the last was taken, and has no mark
+pub passed_listed : (net : Net) (old new : Marks) (u : ℕ) → old.queues.items ≡ new.queues.items ++ u ∷ [] → new.list ≡ old.list → new.marked ≡ old.marked → get_or old.marked.items u false ≡ false → IsListed net old → IsListed net new
+passed_listed net old new u l g e f h v m =
+    let k : IsMarked old v = ap (λ (x : _). get_or x.items v false) (sym e) ∙ m in
+    held net old new v (subst (Holds v) (ap (λ (x : _). x.items) (sym g))) (held_left old.queues.items new.queues.items u v l (λ z. (let y : true ≡ false = sym k ∙ (ap (λ x. get_or old.marked.items x false) z ∙ f) in cc))) (h v k)
+
+-- the last was taken, and its mark
+pub turned_listed : (net : Net) (old new : Marks) (u : ℕ) → old.queues.items ≡ new.queues.items ++ u ∷ [] → new.list ≡ old.list → new.marked.items ≡ set old.marked.items u false → IsListed net old → IsListed net new
+turned_listed net old new u l g e h v m =
+    let w = unmarked old new u v e m in
+    held net old new v (subst (Holds v) (ap (λ (x : _). x.items) (sym g))) (held_left old.queues.items new.queues.items u v l w.0) (h v w.1)
+
+-- a marked unit is a queue that is to have a turn, where the list is empty
+pub marked_queue : (net : Net) (m : Marks) (u : ℕ) → IsListed net m → m.list.items ≡ [] → IsMarked m u → (is_lsq (kind_of net u) ≡ true) × Holds u m.queues.items
+marked_queue net m u listed none k = by (listed u k)
+  where
+    by : Holds u m.list.items ⊎ ((is_lsq (kind_of net u) ≡ true) × Holds u m.queues.items) → (is_lsq (kind_of net u) ≡ true) × Holds u m.queues.items
+    by (inl h) = absurd (none_held m.list.items u none h)
+    by (inr h) = h
 
 -- ---- marks at the ends of channels, as more are marked
 
@@ -169,7 +209,16 @@ or_as P e (inl x) = inl x
 or_as P e (inr p) = inr (subst P e p)
 
 pub emptied_listed : (net : Net) (old new : Marks) → IsEmptied old new → IsListed net old → IsListed net new
-emptied_listed net old new e h u l m = absurd (none_held old.list.items u e.before (h u l (ap (λ (v : _). get_or v.items u false) (sym e.same) ∙ m)))
+emptied_listed net old new e h u m =
+    held net old new u (λ k. absurd (none_held old.list.items u e.before k)) (subst (Holds u) (ap (λ (v : _). v.items) (sym e.queues))) (h u (ap (λ (v : _). get_or v.items u false) (sym e.same) ∙ m))
+
+-- what was taken, where a unit was or none was
+pub taken_none : (net : Net) (old new : Marks) (o : Option ℕ) → o ≡ None → MatchOption o (IsEmptied old new) (IsTaken net old new) → IsEmptied old new
+taken_none net old new None e h = h
+taken_none net old new (Some u) e h = cc
+
+pub taken_some : (net : Net) (old new : Marks) (o : Option ℕ) (u : ℕ) → o ≡ Some u → MatchOption o (IsEmptied old new) (IsTaken net old new) → IsTaken net old new u
+taken_some net old new o u e h = let P : Option ℕ → Type 0 = λ x. MatchOption x (IsEmptied old new) (IsTaken net old new) in subst P e h
 
 -- ---- merges
 

@@ -1,7 +1,6 @@
 -- The acts of units, by their ranks and numbers.
 use Rattle.std.proofs.Common.{is_some, suc, zero, cond, eqb-true, ◌≡◌, ◌≢◌, ℕ, ◌<◌, ◌≤◌, ◌⊎◌, inl, inr, Bool, true, false, Option, Some, None, List, [], ◌∷◌, length, get_or, refl, sym, ap, ◌∙◌, arith, nat_lt, ltb-true}
 use Rattle.std.proofs.lemmas.Bool.{cases_lt, and_parts}
-use Rattle.std.proofs.lemmas.List.{get_or_past}
 use Rattle.net_types.specs.declared.net.Net.{Net}
 use Rattle.net_types.specs.declared.net.Unit.{Unit as Kind}
 use Rattle.net_types.specs.declared.net.Unit.TheVariants.{Entry, Param, Const, Op1, Op2, Select, Fork, Mux, Cmerge, Branch, Sink, Read, Lsq, Exit}
@@ -277,13 +276,17 @@ fires_within net s f checked long n = by (cases_lt f.unit (length net.units))
     by (inl l) = l
     by (inr l) = absurd (Rattle.net_core.proofs.FindLemmas.past_quiet net s f checked long l n)
 
--- a queue is among the units
-pub queue_within : (net : Net) (u : ℕ) → is_lsq (kind_of net u) ≡ true → u < length net.units
-queue_within net u q = by (cases_lt u (length net.units))
-  where
-    by : (u < length net.units) ⊎ (length net.units ≤ u) → u < length net.units
-    by (inl l) = l
-    by (inr l) = (let z : kind_of net u ≡ Sink 0 = get_or_past net.units u (Sink 0) l in let y : false ≡ true = sym (ap is_lsq z) ∙ q in cc)
+pub rank_most : (a : Act) → act_rank a ≤ 9
+rank_most Go = omega arith
+rank_most (From j) = omega arith
+rank_most (Send j) = omega arith
+rank_most (Alloc j) = omega arith
+rank_most (Addr j) = omega arith
+rank_most (Data j) = omega arith
+rank_most (Exec j) = omega arith
+rank_most (Reply j) = omega arith
+rank_most Retire = omega arith
+rank_most End = omega arith
 
 -- ---- units that want a token
 

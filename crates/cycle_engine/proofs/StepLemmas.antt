@@ -1,5 +1,5 @@
 -- Steps of turns: the acts of one kind by their numbers, and what a try of a place told.
-use Rattle.std.proofs.Common.{◌≡◌, ◌≢◌, ℕ, ◌+◌, ◌<◌, ◌&&◌, Bool, true, false, Option, Some, None, is_some, length, refl, sym, ap, subst, ◌∙◌, arith, IfSome}
+use Rattle.std.proofs.Common.{◌≡◌, ◌≢◌, ℕ, ◌+◌, ◌<◌, true, false, Option, Some, None, is_some, length, refl, sym, ap, subst, ◌∙◌, arith, IfSome}
 use Rattle.net_types.specs.declared.net.Net.{Net}
 use Rattle.net_types.specs.declared.net.Unit.{Unit as Kind}
 use Rattle.net_types.specs.declared.firing.Act.{Act}
@@ -99,8 +99,3 @@ module _ (net : Net) (past : Past) (b : Bounds) (c : ℕ) (start : Dated) (marks
 
   pub step_queue : (p : Planned) → o ≡ Some p → mid.marks ≡ old.marks → IsChecked net → IsReady net b old → is_lsq (kind_of net f.unit) ≡ true → IsTurn net past b c start marks mid f.unit r (n + 1)
   step_queue p e same checked ready l = let T : Option Planned → Type 0 = λ x. IsTried net past b c start old mid f (is_some x) in queue_made net past b c start marks old f r n t next mid (subst T e tried) checked ready.engine l same
-
-pub turn_parts : (x y : Bool) → (x && y) ≡ true → (x ≡ true) × (y ≡ true)
-turn_parts true true e = (refl, refl)
-turn_parts true false e = cc
-turn_parts false y e = cc

@@ -1,5 +1,5 @@
 -- Turns of units and queues in a cycle.
-use Rattle.std.proofs.Common.{◌≡◌, ◌≢◌, ℕ, suc, zero, ◌+◌, ◌<◌, ◌≤◌, ◌⊎◌, ◌&&◌, inl, inr, Bool, true, false, Option, Some, None, List, [], ◌∷◌, ◌++◌, length, map, get_or, set, refl, sym, ap, subst, ◌∙◌, arith, Result, IsErrAnd, MatchResult, IsSomeAnd}
+use Rattle.std.proofs.Common.{◌≡◌, ◌≢◌, ℕ, suc, zero, ◌+◌, ◌<◌, ◌≤◌, ◌⊎◌, inl, inr, Bool, true, false, Option, Some, None, List, [], ◌∷◌, ◌++◌, length, map, get_or, refl, sym, ap, subst, ◌∙◌, arith, Result, IsErrAnd, MatchResult, IsSomeAnd}
 use Rattle.std.proofs.lemmas.Result.{err_from_is_err_and}
 use Rattle.net_replay.specs.declared.fault.RunFault.{RunFault}
 use Rattle.std.specs.List.{AllByRecursion}
@@ -34,19 +34,19 @@ use Rattle.lsq_core.specs.Laws.{act_place, phase}
 use Rattle.cycle_engine.specs.Cycles.{Dated, dated_opening, IsRipe, HasDepth, May, IsOldest, Makes, place_of, IsUnused, Cycles, after_in, after_by, AreDated}
 use Rattle.cycle_engine.specs.Rousing.{GoesTo, ComesFrom, Stirs}
 use Rattle.cycle_engine.specs.private.Trials.{dated_of, IsEngine, IsFollowed}
-use Rattle.cycle_engine.specs.private.Marking.{IsMarked, IsListed, KeepsMarks, IsRoused, IsTaken, IsMergeMarked, IsPutMarked, is_merge}
+use Rattle.cycle_engine.specs.private.Marking.{IsMarked, IsListed, KeepsMarks, IsRoused, IsTaken, IsEmptied, IsReordered, HasNoTurn, HasTurn, IsMergeMarked, IsPutMarked, is_merge}
 use Rattle.net_core.specs.Uses.{is_fork}
 use Rattle.cycle_engine.specs.private.Goings.{Past, IsReady, InCycle, MayFollow, IsMade, AllPlain, IsBegunIn}
-use Rattle.cycle_engine.specs.private.Places.{IsOpen, IsNextAct, AllocsOnce, IsQueueTurn, IsTurnOf, IsTurn, IsOpenTurn, IsSettled, AreQueues, IsServed, IsFull, first_of}
+use Rattle.cycle_engine.specs.private.Places.{IsOpen, IsNextAct, AllocsOnce, IsQueueTurn, IsTurnOf, IsTurn, IsOpenTurn, IsSettled, IsServed, IsFull, first_of}
 use Rattle.cycle_engine.proofs.BeforeLemmas.{after_of}
 use Rattle.cycle_engine.proofs.RousingLemmas.{slots_within}
 use Rattle.cycle_engine.proofs.OwnLemmas.{own_rouses}
 use Rattle.cycle_engine.proofs.DateLemmas.{AllBy, each_as, makes_dates, effect_there}
 use Rattle.cycle_engine.proofs.MakeLemmas.{all_snoc, takes_within}
 use Rattle.cycle_engine.proofs.StartLemmas.{opening_are}
-use Rattle.cycle_engine.proofs.MarkLemmas.{none_held, unmarked, still_marked}
+use Rattle.cycle_engine.proofs.MarkLemmas.{marked_queue, unmarked, still_marked}
 use Rattle.cycle_engine.proofs.NoteLemmas.{effect_in, taken_all}
-use Rattle.cycle_engine.proofs.PlaceLemmas.{same_act, exec_is, first_rank, queue_rank, fires_within, starved_quiet}
+use Rattle.cycle_engine.proofs.PlaceLemmas.{same_act, exec_is, first_rank, queue_rank, rank_most, fires_within, starved_quiet}
 use Rattle.cycle_engine.proofs.QueueTurnLemmas.{laws, queue_used, unused_before, unused_last, allocs_more, allocs_none, queue_rouses, unit_rouses}
 
 -- ---- what holds along cycles
@@ -678,63 +678,62 @@ taken_open net past b c start e m u k t = record { going = going_marks net past 
     at : (g : Firing) → IsMarked m g.unit ⊎ ((g.unit ≡ u) × (is_lsq (kind_of net g.unit) ≡ false)) → IsMarked m g.unit ⊎ ((g.unit ≡ u) × (is_lsq (kind_of net g.unit) ≡ false))
     at g x = x
 
-pub begun_settled : (net : Net) (past : Past) (b : Bounds) (c : ℕ) (start : Dated) (e : Engine) (m : Marks) → IsListed net e.marks → m.marked ≡ e.marks.marked → e.marks.list.items ≡ [] → IsBegunIn net past b c start e → IsSettled net past b c start (with_marks e m)
-begun_settled net past b c start e m listed same none t = record {
+pub begun_settled : (net : Net) (past : Past) (b : Bounds) (c : ℕ) (start : Dated) (e : Engine) (m : Marks) → IsEmptied e.marks m → IsBegunIn net past b c start e → IsSettled net past b c start (with_marks e m)
+begun_settled net past b c start e m k t = record {
   going = going_marks net past b c start e m t.going;
   plain = t.plain;
-  watching = λ g un k. ap (λ (v : _). get_or v.items g.unit false) same ∙ t.watching g un k;
-  units = λ u l k. none_held e.marks.list.items u none (listed u l (ap (λ (v : _). get_or v.items u false) (sym same) ∙ k));
+  watching = λ g un x. ap (λ (v : _). get_or v.items g.unit false) k.same ∙ t.watching g un x;
+  list = k.none;
 }
 
 -- ---- queues
 
-pub served_first : (net : Net) (past : Past) (b : Bounds) (c : ℕ) (start : Dated) (e : Engine) (queues : List ℕ) → IsSettled net past b c start e → IsServed net past b c start e queues 0
-served_first net past b c start e queues s = record {
-  going = s.going;
+pub served_first : (net : Net) (past : Past) (b : Bounds) (c : ℕ) (start : Dated) (e : Engine) (m : Marks) (count : ℕ) → IsReordered e.marks m → count ≡ length m.queues.items → IsSettled net past b c start e
+    → IsServed net past b c start (with_marks e m) count 0
+served_first net past b c start e m count r l s = record {
+  going = going_marks net past b c start e m s.going;
   allocs = allocs_none net c e.fired.items (dated_of e) s.plain;
-  watching = s.watching;
-  units = s.units;
-  fresh = each_order e.fired.items (λ g. (is_lsq (kind_of net g.unit) ≡ false) × (phase g.act ≡ 0)) (λ g. is_lsq (kind_of net g.unit) ≡ true → IsMarked e.marks g.unit → ⊥) (λ g h q. (let z : true ≡ false = sym q ∙ h.0 in cc)) s.plain;
-  served = λ k l. absurd (omega arith);
+  watching = λ g un x. ap (λ (v : _). get_or v.items g.unit false) r.marked ∙ s.watching g un x;
+  list = ap (λ (v : _). v.items) r.list ∙ s.list;
+  fresh = each_order e.fired.items (λ g. (is_lsq (kind_of net g.unit) ≡ false) × (phase g.act ≡ 0)) (λ g. is_lsq (kind_of net g.unit) ≡ true → IsMarked m g.unit → ⊥) (λ g h q. (let z : true ≡ false = sym q ∙ h.0 in cc)) s.plain;
+  left = omega arith;
 }
 
 -- the queue has no turn
-pub served_left : (net : Net) (past : Past) (b : Bounds) (c : ℕ) (start : Dated) (e : Engine) (queues : List ℕ) (n u : ℕ) → get_or queues n 0 ≡ u → (get_or e.marks.marked.items u false && is_lsq (kind_of net u)) ≡ false → IsServed net past b c start e queues n
-    → IsServed net past b c start e queues (n + 1)
-served_left net past b c start e queues n u is none s = record { going = s.going; allocs = s.allocs; watching = s.watching; units = s.units; fresh = s.fresh; served = λ k l. at k (cases_lt k n) l }
-  where
-    not_marked : IsMarked e.marks u → ⊥
-    not_marked m = by (is_lsq (kind_of net u)) refl
-      where
-        by : (q : Bool) → is_lsq (kind_of net u) ≡ q → ⊥
-        by false i = s.units u i m
-        by true i = let z : (true && true) ≡ (get_or e.marks.marked.items u false && is_lsq (kind_of net u)) = λ j. (sym m j) && (sym i j) in let y : true ≡ false = z ∙ none in cc
-
-    at : (k : ℕ) → (k < n) ⊎ (n ≤ k) → k < n + 1 → IsMarked e.marks (get_or queues k 0) → ⊥
-    at k (inl l) m = s.served k l
-    at k (inr l) m = let z : k ≡ n = omega arith in let P : ℕ → Type 0 = λ v. IsMarked e.marks v → ⊥ in subst P (sym (ap (λ x. get_or queues x 0) z ∙ is)) not_marked
+pub served_left : (net : Net) (past : Past) (b : Bounds) (c : ℕ) (start : Dated) (e : Engine) (m : Marks) (count n : ℕ) → HasNoTurn e.marks m → n < count → IsServed net past b c start e count n → IsServed net past b c start (with_marks e m) count (n + 1)
+served_left net past b c start e m count n t l s = record {
+  going = going_marks net past b c start e m s.going;
+  allocs = s.allocs;
+  watching = λ g un x. ap (λ (v : _). get_or v.items g.unit false) t.marked ∙ s.watching g un x;
+  list = ap (λ (v : _). v.items) t.list ∙ s.list;
+  fresh = each_order e.fired.items (λ g. is_lsq (kind_of net g.unit) ≡ true → IsMarked e.marks g.unit → ⊥) (λ g. is_lsq (kind_of net g.unit) ≡ true → IsMarked m g.unit → ⊥)
+      (λ g h q x. h q (ap (λ (v : _). get_or v.items g.unit false) (sym t.marked) ∙ x)) s.fresh;
+  left = (let a = s.left in let k = t.fewer in omega arith);
+}
 
 -- its mark was taken, and its turn begins
-pub served_turn : (net : Net) (past : Past) (b : Bounds) (c : ℕ) (start : Dated) (e : Engine) (m : Marks) (queues : List ℕ) (n u : ℕ) → m.marked.items ≡ set e.marks.marked.items u false → IsMarked e.marks u → is_lsq (kind_of net u) ≡ true
-    → IsServed net past b c start e queues n → IsTurn net past b c start m (with_marks e m) u 3 0
-served_turn net past b c start e m queues n u is mark l s = record {
+pub served_turn : (net : Net) (past : Past) (b : Bounds) (c : ℕ) (start : Dated) (e : Engine) (m : Marks) (count n u : ℕ) → HasTurn e.marks m u → IsListed net e.marks → IsServed net past b c start e count n → IsTurn net past b c start m (with_marks e m) u 3 0
+served_turn net past b c start e m count n u t listed s = record {
   going = going_marks net past b c start e m s.going;
   watched = λ g un k. at g k (cases_eq g.unit u) (s.watching g un k);
   of = (let P : Bool → Type 0 = λ q. IsTurnOf q net c m (with_marks e m) u 3 in subst P (sym l) (record {
     allocs = s.allocs;
     behind = each_order e.fired.items (λ g. is_lsq (kind_of net g.unit) ≡ true → IsMarked e.marks g.unit → ⊥) (λ g. g.unit ≡ u → act_rank g.act ≤ 3)
-        (λ g h z. absurd (h (ap (λ x. is_lsq (kind_of net x)) z ∙ l) (subst (IsMarked e.marks) (sym z) mark))) s.fresh;
+        (λ g h z. absurd (h (ap (λ x. is_lsq (kind_of net x)) z ∙ l) (subst (IsMarked e.marks) (sym z) t.was))) s.fresh;
     fresh = each_order e.fired.items (λ g. is_lsq (kind_of net g.unit) ≡ true → IsMarked e.marks g.unit → ⊥) (λ g. is_lsq (kind_of net g.unit) ≡ true → (g.unit ≡ u) ⊎ (IsMarked m g.unit → ⊥))
-        (λ g h q. inr (λ z. h q (unmarked e.marks m u g.unit is z).1)) s.fresh;
+        (λ g h q. inr (λ z. h q (unmarked e.marks m u g.unit t.marked z).1)) s.fresh;
     same = refl;
   }));
 }
   where
+    l : is_lsq (kind_of net u) ≡ true
+    l = (marked_queue net e.marks u listed s.list t.was).0
+
     N : Act → ℕ → Type 0
     N a v = enabled net (state_of e.state) (firing v a)
 
     at : (g : Firing) → May net c start (dated_of e) g → (g.unit ≡ u) ⊎ (g.unit ≢ u) → IsMarked e.marks g.unit → IsMarked m g.unit ⊎ ((g.unit ≡ u) × IsOpen 3 0 g.act)
-    at g k (inr x) w = inl (still_marked e.marks m u g.unit is x w)
+    at g k (inr x) w = inl (still_marked e.marks m u g.unit t.marked x w)
     at g k (inl x) w =
         let r = queue_rank net (state_of e.state) u g.act l (subst (N g.act) x k.turn) in
         inr (x, by (cases_lt 3 (act_rank g.act)))
@@ -743,32 +742,20 @@ served_turn net past b c start e m queues n u is mark l s = record {
         by (inl y) = inl y
         by (inr y) = (let r = queue_rank net (state_of e.state) u g.act l (subst (N g.act) x k.turn) in inr (omega arith, omega arith))
 
-rank_most : (a : Act) → act_rank a ≤ 9
-rank_most Go = omega arith
-rank_most (From j) = omega arith
-rank_most (Send j) = omega arith
-rank_most (Alloc j) = omega arith
-rank_most (Addr j) = omega arith
-rank_most (Data j) = omega arith
-rank_most (Exec j) = omega arith
-rank_most (Reply j) = omega arith
-rank_most Retire = omega arith
-rank_most End = omega arith
-
 -- its turn has ended
-pub turn_served : (net : Net) (past : Past) (b : Bounds) (c : ℕ) (start : Dated) (old e : Engine) (m : Marks) (queues : List ℕ) (n u : ℕ) → m.marked.items ≡ set old.marks.marked.items u false → is_lsq (kind_of net u) ≡ true → get_or queues n 0 ≡ u
-    → IsServed net past b c start old queues n → IsTurn net past b c start m e u 10 0 → IsServed net past b c start e queues (n + 1)
-turn_served net past b c start old e m queues n u is l at_n s t = record {
+pub turn_served : (net : Net) (past : Past) (b : Bounds) (c : ℕ) (start : Dated) (old e : Engine) (m : Marks) (count n u : ℕ) → HasTurn old.marks m u → IsListed net old.marks → n < count
+    → IsServed net past b c start old count n → IsTurn net past b c start m e u 10 0 → IsServed net past b c start e count (n + 1)
+turn_served net past b c start old e m count n u k listed l s t = record {
   going = t.going;
   allocs = turn.allocs;
-  watching = λ g un k. watch g (t.watched g un k);
-  units = λ v q k. s.units v q (unmarked old.marks m u v is (here v k)).1;
-  fresh = each_order e.fired.items (λ g. is_lsq (kind_of net g.unit) ≡ true → (g.unit ≡ u) ⊎ (IsMarked m g.unit → ⊥)) (λ g. is_lsq (kind_of net g.unit) ≡ true → IsMarked e.marks g.unit → ⊥) (λ g h q k. fresh g (h q) (here g.unit k)) turn.fresh;
-  served = λ k y z. served k y (cases_lt k n) (here (get_or queues k 0) z);
+  watching = λ g un x. watch g (t.watched g un x);
+  list = ap (λ (x : Marks). x.list.items) turn.same ∙ (ap (λ (v : _). v.items) k.list ∙ s.list);
+  fresh = each_order e.fired.items (λ g. is_lsq (kind_of net g.unit) ≡ true → (g.unit ≡ u) ⊎ (IsMarked m g.unit → ⊥)) (λ g. is_lsq (kind_of net g.unit) ≡ true → IsMarked e.marks g.unit → ⊥) (λ g h q x. fresh g (h q) (here g.unit x)) turn.fresh;
+  left = (let a = s.left in let f = k.fewer in let x = ap (λ (x : Marks). length x.queues.items) turn.same in omega arith);
 }
   where
     turn : IsQueueTurn net c m e u 10
-    turn = (let P : Bool → Type 0 = λ q. IsTurnOf q net c m e u 10 in subst P l t.of)
+    turn = (let P : Bool → Type 0 = λ q. IsTurnOf q net c m e u 10 in subst P (marked_queue net old.marks u listed s.list k.was).0 t.of)
 
     here : (v : ℕ) → IsMarked e.marks v → IsMarked m v
     here v k = (let P : Marks → Type 0 = λ y. IsMarked y v in subst P turn.same k)
@@ -782,20 +769,15 @@ turn_served net past b c start old e m queues n u is l at_n s t = record {
         by (inr o) = let r = rank_most g.act in let y = o.0 in omega arith
 
     fresh : (g : Firing) → (g.unit ≡ u) ⊎ (IsMarked m g.unit → ⊥) → IsMarked m g.unit → ⊥
-    fresh g (inl z) k = (unmarked old.marks m u g.unit is k).0 z
-    fresh g (inr f) k = f k
-
-    served : (k : ℕ) → k < n + 1 → (k < n) ⊎ (n ≤ k) → IsMarked m (get_or queues k 0) → ⊥
-    served k y (inl q) z = s.served k q (unmarked old.marks m u (get_or queues k 0) is z).1
-    served k y (inr q) z = (let w : k ≡ n = omega arith in (unmarked old.marks m u (get_or queues k 0) is z).0 (ap (λ x. get_or queues x 0) w ∙ at_n))
+    fresh g (inl z) x = (unmarked old.marks m u g.unit k.marked x).0 z
+    fresh g (inr f) x = f x
 
 -- all queues had their turns
-pub served_full : (net : Net) (past : Past) (b : Bounds) (c : ℕ) (start : Dated) (e : Engine) (queues : List ℕ) → AreQueues net queues → IsServed net past b c start e queues (length queues) → IsFull net past b c start e
-served_full net past b c start e queues all s = record { going = s.going; full = λ g un m. by g.unit (is_lsq (kind_of net g.unit)) refl (s.watching g un m) }
-  where
-    by : (u : ℕ) (q : Bool) → is_lsq (kind_of net u) ≡ q → IsMarked e.marks u → ⊥
-    by u false i k = s.units u i k
-    by u true i k = let h = all u i in s.served h.at h.within (subst (IsMarked e.marks) (sym h.is) k)
+pub served_full : (net : Net) (past : Past) (b : Bounds) (c : ℕ) (start : Dated) (e : Engine) (count n : ℕ) → count ≤ n → IsListed net e.marks → IsServed net past b c start e count n → IsFull net past b c start e
+served_full net past b c start e count n most listed s = record {
+  going = s.going;
+  full = λ g un m. (let h = (marked_queue net e.marks g.unit listed s.list (s.watching g un m)).1 in let w = h.within in let l = s.left in omega arith);
+}
 
 -- what a fault that is handed on says
 pub exit_broken : {T : Type 0} (P : T → Type 0) (Q : RunFault → Type 0) (r : Result T RunFault) (e : RunFault) → IsErrAnd r (λ d. d ≡ e) → Q e → MatchResult r P Q

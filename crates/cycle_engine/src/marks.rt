@@ -5,7 +5,7 @@ ghost use Rattle.std.specs.List.{AllByRecursion};
 ghost use Rattle.net_types.specs.Nets.{kind_of};
 ghost use Rattle.net_core.specs.Plans.{chans_of};
 ghost use Rattle.net_core.specs.States.{IsOf, state_of};
-ghost use Rattle.cycle_engine.specs.private.Marking.{Holds, IsMarked, IsListed, IsStarved, KeepsMarks, IsSourceMarked, IsMergeMarked, IsTargetMarked, IsPutMarked, IsRoused, IsTaken, IsEmptied};
+ghost use Rattle.cycle_engine.specs.private.Marking.{Holds, IsMarked, IsListed, IsStarved, KeepsMarks, IsSourceMarked, IsMergeMarked, IsTargetMarked, IsPutMarked, IsRoused, IsTaken, IsEmptied, IsReordered, HasNoTurn, HasTurn};
 ghost use Rattle.net_core.specs.Uses.{is_fork};
 
 use crate::dates::delay_of;
@@ -19,8 +19,10 @@ use std::alloc::Global;
 pub(crate) struct Marks {
     /// Whether each unit is marked.
     pub marked: Vec<bool>,
-    /// Each marked unit that is no queue, and maybe others.
+    /// Each marked unit that is not among the queues, and maybe others.
     pub list: Vec<u32>,
+    /// The queues that were taken from the list and keep their marks until their turns.
+    pub queues: Vec<u32>,
 }
 
 // By hand, so that to let go of one is a call.
@@ -48,6 +50,7 @@ impl Marks {
         let mut marks = Marks {
             marked: vec![in alloc; false; count]?,
             list: Vec::new(alloc),
+            queues: Vec::new(alloc),
         };
         for at in 0..count {
             marks.mark(at as u32)?;
@@ -79,7 +82,7 @@ impl Marks {
 
     /// Whether a unit is marked.
     #[inline(always)]
-    pub(crate) fn is_marked(&self, unit: u32) -> bool
+    fn is_marked(&self, unit: u32) -> bool
         ensures { result ≡ get_or self.now.marked.items unit false }
     {
         let at = unit as usize;
@@ -88,9 +91,10 @@ impl Marks {
 
     /// Takes the mark of a unit away.
     #[inline(always)]
-    pub(crate) fn unmark(&mut self, unit: u32)
+    fn unmark(&mut self, unit: u32)
         ensures marked { self.new.marked.items ≡ set self.old.marked.items unit false }
         ensures list { self.new.list ≡ self.old.list }
+        ensures queues { self.new.queues ≡ self.old.queues }
     {
         let at = unit as usize;
         if at < self.marked.len() {
@@ -98,18 +102,48 @@ impl Marks {
         }
     }
 
-    /// Takes the next unit from the list, and its mark where it is no queue.
+    /// Takes the next unit from the list, and its mark where it is no queue; a queue is put among those that are to have turns.
+    ///
+    /// # Errors
+    ///
+    /// [`Memory`] where memory is wanting.
     #[inline(always)]
-    pub(crate) fn take(&mut self, net: &Checked) -> Option<u32>
-        ensures { MatchOption result (IsEmptied self.old self.new)
-            (IsTaken net.now self.old self.new) }
+    pub(crate) fn take(&mut self, net: &Checked) -> Result<Option<u32>, Memory>
+        ensures { IfOk result (λ unit. MatchOption unit (IsEmptied self.old self.new)
+            (IsTaken net.now self.old self.new)) }
     {
         let Some(unit) = self.list.pop() else {
-            return None;
+            return Ok(None);
         };
-        if !is_queue(net, unit) {
+        if is_queue(net, unit) {
+            self.queues.push(unit)?;
+        } else {
             self.unmark(unit);
         }
+        Ok(Some(unit))
+    }
+
+    /// Puts the queues that are to have turns into the order in which they are taken, the least unit first.
+    pub(crate) fn sort_queues(&mut self)
+        ensures { IsReordered self.old self.new }
+    {
+        if self.queues.len() > 1 {
+            self.queues.sort_unstable();
+            self.queues.reverse();
+        }
+    }
+
+    /// Takes the next queue that is to have a turn, and its mark; `None` where it has no mark, or there is none.
+    pub(crate) fn take_queue(&mut self) -> Option<u32>
+        ensures { MatchOption result (HasNoTurn self.old self.new) (HasTurn self.old self.new) }
+    {
+        let Some(unit) = self.queues.pop() else {
+            return None;
+        };
+        if !self.is_marked(unit) {
+            return None;
+        }
+        self.unmark(unit);
         Some(unit)
     }
 

@@ -6,13 +6,12 @@ ghost use Rattle.net_check.specs.Ends.{is_lsq};
 ghost use Rattle.net_core.specs.States.{IsOf, state_of};
 ghost use Rattle.cycle_engine.specs.private.Marking.{Holds, IsStarved, asks_first, is_merge};
 ghost use Rattle.net_core.specs.Uses.{is_fork};
-ghost use Rattle.cycle_engine.specs.private.Places.{HasView, HasNoExec, IsFirstExec, AreQueues, first_of, count_in, inputs_in, outputs_in, groups_in, ports_in, numbered};
+ghost use Rattle.cycle_engine.specs.private.Places.{HasView, HasNoExec, IsFirstExec, first_of, count_in, inputs_in, outputs_in, groups_in, ports_in, numbered};
 
 use lsq_core::Queue;
 use net_check::Checked;
 use net_core::State;
-use net_types::{Act, Memory, Unit};
-use std::alloc::Global;
+use net_types::{Act, Unit};
 
 /// Whether a unit is a queue.
 #[inline(always)]
@@ -95,38 +94,6 @@ pub(crate) fn is_starved(net: &Checked, state: &State, unit: u32) -> bool
         None => true,
         Some(_) => false,
     }
-}
-
-/// The queues of a net.
-///
-/// # Errors
-///
-/// [`Memory`] where memory is wanting.
-pub(crate) fn queues(alloc: Global, net: &Checked) -> Result<Vec<u32>, Memory>
-    ensures { IfOk result (λ queues. AreQueues net.now queues.items) }
-{
-    let mut queues = Vec::new(alloc);
-    for at in 0..net.net().units.as_slice().len() {
-        add_queue(&mut queues, net, at as u32)?;
-    }
-    Ok(queues)
-}
-
-/// Adds a unit to a list where it is a queue.
-///
-/// # Errors
-///
-/// [`Memory`] where memory is wanting.
-fn add_queue(queues: &mut Vec<u32>, net: &Checked, unit: u32) -> Result<(), Memory>
-    ensures kept { OnOk result ((u : ℕ) → Holds u queues.old.items → Holds u queues.new.items) }
-    ensures added { OnOk result
-        (is_lsq (kind_of net.now unit) ≡ true → Holds unit queues.new.items) }
-{
-    if !is_queue(net, unit) {
-        return Ok(());
-    }
-    queues.push(unit)?;
-    Ok(())
 }
 
 /// The first act of a unit that is no queue; none of a queue.

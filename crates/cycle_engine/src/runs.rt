@@ -5,10 +5,9 @@ ghost use Rattle.el_base.specs.Limits.{max_delay, max_firings};
 ghost use Rattle.net_types.specs.Inputs.{InputsFit};
 ghost use Rattle.cycle_engine.specs.Timings.{IsTimed, HasFewCycles, IsTimingFault};
 ghost use Rattle.cycle_engine.specs.private.Goings.{Past, IsReady, HasDone, IsBroken};
-ghost use Rattle.cycle_engine.specs.private.Places.{IsCycled, AreQueues};
+ghost use Rattle.cycle_engine.specs.private.Places.{IsCycled};
 
 use crate::engine::{Bounds, Engine};
-use crate::places::queues;
 use el_base::{Log, MAX_DELAY};
 use net_check::Checked;
 use net_core::State;
@@ -49,13 +48,12 @@ pub fn run_cycles(
 {
     let _ = net.net();
     let bounds = Bounds { limit, keep };
-    let queues = queues(alloc, net)?;
     let mut engine = Engine::new(alloc, net, inputs, bounds)?;
     let mut cycle: u64 = 0;
     let mut last: u64 = 0;
     let mut going = true;
     'cycles: while going {
-        let fired = engine.run_cycle(net, queues.as_slice(), bounds, cycle)?;
+        let fired = engine.run_cycle(net, bounds, cycle)?;
         cycle += 1;
         last = last_of(fired, cycle, last);
         going = goes_on(cycle, last);
@@ -85,15 +83,8 @@ impl Engine {
     ///
     /// `Limit` where as many firings as the limit allows are made and one more may be made in the cycle. `Memory` where
     /// memory is wanting.
-    fn run_cycle(
-        &mut self,
-        net: &Checked,
-        queues: &[u32],
-        bounds: Bounds,
-        now: u64,
-    ) -> Result<bool, RunFault>
-        requires ready { IsReady net.now bounds self.old }
-        requires queues { AreQueues net.now queues.now }
+    fn run_cycle(&mut self, net: &Checked, bounds: Bounds, now: u64) -> Result<bool, RunFault>
+        requires { IsReady net.now bounds self.old }
         ensures ready { OnOk result (IsReady net.now bounds self.new) }
         ensures cycled { (past : Past) → HasDone net.now past bounds now self.old
             → MatchResult result (IsCycled net.now past bounds now self.new)
@@ -101,7 +92,7 @@ impl Engine {
     {
         self.begin(net, bounds, now)?;
         self.run_units(net, bounds, now)?;
-        self.run_queues(net, queues, bounds, now)?;
+        self.run_queues(net, bounds, now)?;
         Ok(!self.fired.is_empty())
     }
 

@@ -1,14 +1,12 @@
 //! A cycle's turns: first the marked units that are no queues, until none is marked, then the marked queues once.
 
-ghost use Rattle.std.specs.Prelude.{◌≡◌, ◌≢◌, ℕ, ◌+◌, ◌≤◌, ◌&&◌, false, get_or, List, OnOk, MatchResult};
-ghost use Rattle.net_types.specs.Nets.{kind_of};
+ghost use Rattle.std.specs.Prelude.{◌≡◌, ◌≢◌, ℕ, ◌+◌, ◌<◌, ◌≤◌, OnOk, MatchResult};
 ghost use Rattle.net_types.specs.Order.{act_rank};
-ghost use Rattle.net_check.specs.Ends.{is_lsq};
 ghost use Rattle.net_core.specs.States.{state_of};
 ghost use Rattle.cycle_engine.specs.Cycles.{Dated};
 ghost use Rattle.cycle_engine.specs.declared.marks.Marks.{Marks as MarksValue};
 ghost use Rattle.cycle_engine.specs.private.Goings.{Past, IsReady, IsBroken, IsBegunIn, to_visit};
-ghost use Rattle.cycle_engine.specs.private.Places.{IsTurn, IsNextAct, IsOpenTurn, IsSettled, IsServed, IsFull, AreQueues};
+ghost use Rattle.cycle_engine.specs.private.Places.{IsTurn, IsNextAct, IsOpenTurn, IsSettled, IsServed, IsFull};
 
 use crate::engine::{Bounds, Engine};
 use crate::places::{count_acts, first_act, is_queue, look_at_queue, numbered, oldest};
@@ -151,7 +149,7 @@ impl Engine {
             (λ _. IsSettled net.now past bounds now start self.new)
             (IsBroken net.now past.inputs bounds) }
     {
-        'units: while let Some(unit) = self.marks.take(net) {
+        'units: while let Some(unit) = self.marks.take(net)? {
             self.run_unit(net, bounds, unit, now)?;
         }
         Ok(())
@@ -219,38 +217,28 @@ impl Engine {
         Ok(())
     }
 
-    /// Whether a unit is a queue that is marked.
-    fn has_turn(&self, net: &Checked, unit: u32) -> bool
-        ensures { result
-            ≡ (get_or self.now.marks.marked.items unit false && is_lsq (kind_of net.now unit)) }
-    {
-        self.marks.is_marked(unit) && is_queue(net, unit)
-    }
-
-    /// Gives a queue its turn where it is marked, and takes its mark.
+    /// Gives the next queue that is to have a turn its turn, where it is marked, and takes its mark.
     ///
     /// # Errors
     ///
     /// As [`Engine::attempt`].
-    fn serve(&mut self, net: &Checked, bounds: Bounds, unit: u32, now: u64) -> Result<(), RunFault>
+    fn serve(&mut self, net: &Checked, bounds: Bounds, now: u64) -> Result<(), RunFault>
         requires { IsReady net.now bounds self.old }
         ensures ready { OnOk result (IsReady net.now bounds self.new) }
-        ensures served { (past : Past) (start : Dated) (queues : List ℕ) (n : ℕ)
-            → IsServed net.now past bounds now start self.old queues n
-            → get_or queues n 0 ≡ unit
+        ensures served { (past : Past) (start : Dated) (count n : ℕ)
+            → IsServed net.now past bounds now start self.old count n → n < count
             → MatchResult result
-            (λ _. IsServed net.now past bounds now start self.new queues (n + 1))
+            (λ _. IsServed net.now past bounds now start self.new count (n + 1))
             (IsBroken net.now past.inputs bounds) }
     {
-        if !self.has_turn(net, unit) {
+        let Some(unit) = self.marks.take_queue() else {
             return Ok(());
-        }
-        self.marks.unmark(unit);
+        };
         self.run_queue(net, bounds, unit, now)?;
         Ok(())
     }
 
-    /// Gives each marked queue its turn.
+    /// Gives each marked queue its turn, the least unit first.
     ///
     /// # Errors
     ///
@@ -258,12 +246,10 @@ impl Engine {
     pub(crate) fn run_queues(
         &mut self,
         net: &Checked,
-        queues: &[u32],
         bounds: Bounds,
         now: u64,
     ) -> Result<(), RunFault>
-        requires ready { IsReady net.now bounds self.old }
-        requires queues { AreQueues net.now queues.now }
+        requires { IsReady net.now bounds self.old }
         ensures ready { OnOk result (IsReady net.now bounds self.new) }
         ensures full { (past : Past) (start : Dated)
             → IsSettled net.now past bounds now start self.old
@@ -271,8 +257,10 @@ impl Engine {
             (λ _. IsFull net.now past bounds now start self.new)
             (IsBroken net.now past.inputs bounds) }
     {
-        for unit in queues {
-            self.serve(net, bounds, *unit, now)?;
+        self.marks.sort_queues();
+        let count = self.marks.queues.len();
+        for _ in 0..count {
+            self.serve(net, bounds, now)?;
         }
         Ok(())
     }

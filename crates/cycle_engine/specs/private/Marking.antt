@@ -1,6 +1,7 @@
 -- Private: only contracts of this crate cite it. Marks at the units that may fire, and what is noted for the next cycle.
-use Rattle.std.specs.Prelude.{◌≡◌, ◌≢◌, ◌⊎◌, ℕ, ◌+◌, ◌<◌, ◌≤◌, ◌++◌, ◌∷◌, ◌%◌, nat_lt, cond, set, Bool, true, false, Option, None, List, [], map, length, get_or, IfSome, IsSomeAnd}
+use Rattle.std.specs.Prelude.{◌≡◌, ◌≢◌, ◌⊎◌, ℕ, ◌+◌, ◌-◌, ◌<◌, ◌≤◌, ◌++◌, ◌∷◌, ◌%◌, nat_lt, cond, set, Bool, true, false, Option, None, List, [], map, reverse, length, get_or, IfSome, IsSomeAnd}
 use Rattle.std.specs.List.{AllByRecursion}
+use Rattle.std.specs.List.Sorted.{IsPermutation, IsNonDecreasing}
 use Rattle.std.specs.declared.vec.Vec.{Vec}
 use Rattle.std.specs.declared.alloc.Global.{Global}
 use Rattle.net_types.specs.declared.net.Net.{Net}
@@ -44,9 +45,9 @@ pub record HasUnit (u : ℕ) (fs : List Firing) : Type 0 where
 abbrev pub IsMarked : Marks → ℕ → Type 0
 IsMarked m u = get_or m.marked.items u false ≡ true
 
--- a marked unit that is no queue is in the list
+-- a marked unit is in the list, or is among the queues that are to have turns
 abbrev pub IsListed : Net → Marks → Type 0
-IsListed net m = (u : ℕ) → is_lsq (kind_of net u) ≡ false → IsMarked m u → Holds u m.list.items
+IsListed net m = (u : ℕ) → IsMarked m u → Holds u m.list.items ⊎ ((is_lsq (kind_of net u) ≡ true) × Holds u m.queues.items)
 
 -- no mark is taken away
 pub record KeepsMarks (old new : Marks) : Type 0 where
@@ -117,6 +118,7 @@ pub record IsRoused (net : Net) (s : State) (u : ℕ) (m : Moves) (n : ℕ) (mar
 -- there was nothing to take
 pub record IsEmptied (old new : Marks) : Type 0 where
   pub same : new.marked ≡ old.marked
+  pub queues : new.queues ≡ old.queues
   pub before : old.list.items ≡ []
   pub none : new.list.items ≡ []
 
@@ -126,6 +128,28 @@ pub record IsTaken (net : Net) (old new : Marks) (u : ℕ) : Type 0 where
   pub listed : IsListed net old → IsListed net new
   pub left : (v : ℕ) → IsMarked old v → IsMarked new v ⊎ ((v ≡ u) × (is_lsq (kind_of net v) ≡ false))
   pub fewer : length new.list.items + 1 ≡ length old.list.items
+
+-- the queues that are to have turns stand in another order, the greatest first
+pub record IsReordered (old new : Marks) : Type 0 where
+  pub marked : new.marked ≡ old.marked
+  pub list : new.list ≡ old.list
+  pub queues : IsPermutation old.queues.items new.queues.items
+  pub order : IsNonDecreasing (reverse new.queues.items)
+
+-- the next queue that is to have a turn was taken, and is not marked; or there was none
+pub record HasNoTurn (old new : Marks) : Type 0 where
+  pub marked : new.marked ≡ old.marked
+  pub list : new.list ≡ old.list
+  pub listed : (net : Net) → IsListed net old → IsListed net new
+  pub fewer : length new.queues.items ≡ length old.queues.items - 1
+
+-- the next queue that is to have a turn was taken, and its mark
+pub record HasTurn (old new : Marks) (u : ℕ) : Type 0 where
+  pub was : IsMarked old u
+  pub marked : new.marked.items ≡ set old.marked.items u false
+  pub list : new.list ≡ old.list
+  pub listed : (net : Net) → IsListed net old → IsListed net new
+  pub fewer : length new.queues.items ≡ length old.queues.items - 1
 
 -- how many entries the queue of a unit has
 abbrev pub entries_at : State → ℕ → ℕ

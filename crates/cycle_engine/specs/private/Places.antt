@@ -24,7 +24,7 @@ use Rattle.cycle_engine.specs.declared.marks.Marks.{Marks}
 use Rattle.lsq_core.specs.Laws.{act_place}
 use Rattle.cycle_engine.specs.Cycles.{Dated, May, IsOldest, IsRipe, IsUnused}
 use Rattle.cycle_engine.specs.private.Trials.{dated_of}
-use Rattle.cycle_engine.specs.private.Marking.{Holds, IsMarked}
+use Rattle.cycle_engine.specs.private.Marking.{IsMarked}
 use Rattle.cycle_engine.specs.private.Goings.{Past, IsReady, InCycle, HasDone, AllPlain, IsWatching, all_made}
 
 -- ---- the acts of a unit
@@ -201,31 +201,23 @@ pub record IsOpenTurn (net : Net) (past : Past) (b : Bounds) (c : ℕ) (start : 
   pub plain : AllPlain net e.fired.items
   pub watched : (g : Firing) → IsUnused e.fired.items g → May net c start (dated_of e) g → IsMarked e.marks g.unit ⊎ ((g.unit ≡ u) × (is_lsq (kind_of net g.unit) ≡ false))
 
--- no unit that is no queue is marked
-abbrev pub NoneMarked : Net → Engine → Type 0
-NoneMarked net e = (u : ℕ) → is_lsq (kind_of net u) ≡ false → IsMarked e.marks u → ⊥
-
 -- no unit that is no queue may fire, and queues have not fired
 pub record IsSettled (net : Net) (past : Past) (b : Bounds) (c : ℕ) (start : Dated) (e : Engine) : Type 0 where
   pub going : InCycle net past b c start e
   pub plain : AllPlain net e.fired.items
   pub watching : IsWatching net c start e
-  pub units : NoneMarked net e
+  pub list : e.marks.list.items ≡ []
 
 -- ---- queues
 
--- the list has all queues of the net
-abbrev pub AreQueues : Net → List ℕ → Type 0
-AreQueues net queues = (u : ℕ) → is_lsq (kind_of net u) ≡ true → Holds u queues
-
--- the first n queues of a list had their turns: what may fire is marked, is none of these and has not fired
-pub record IsServed (net : Net) (past : Past) (b : Bounds) (c : ℕ) (start : Dated) (e : Engine) (queues : List ℕ) (n : ℕ) : Type 0 where
+-- of so many queues n were taken from those that are to have turns: what may fire is marked, and no marked queue has fired
+pub record IsServed (net : Net) (past : Past) (b : Bounds) (c : ℕ) (start : Dated) (e : Engine) (count n : ℕ) : Type 0 where
   pub going : InCycle net past b c start e
   pub allocs : AllocsOnce net c e.fired.items (dated_of e)
   pub watching : IsWatching net c start e
-  pub units : NoneMarked net e
+  pub list : e.marks.list.items ≡ []
   pub fresh : AllByRecursion (λ g. is_lsq (kind_of net g.unit) ≡ true → IsMarked e.marks g.unit → ⊥) e.fired.items
-  pub served : (k : ℕ) → k < n → IsMarked e.marks (get_or queues k 0) → ⊥
+  pub left : n + length e.marks.queues.items ≡ count
 
 -- nothing that has not fired may fire
 pub record IsFull (net : Net) (past : Past) (b : Bounds) (c : ℕ) (start : Dated) (e : Engine) : Type 0 where

@@ -1,23 +1,26 @@
-use Rattle.std.proofs.Common.{◌≡◌, ◌∙◌, true, false, sym, rules}
-use Rattle.cycle_engine.proofs.TurnLemmas.{served_left, served_turn, turn_served, exit_broken}
-use Rattle.cycle_engine.proofs.StepLemmas.{turn_parts}
+use Rattle.std.proofs.Common.{◌∙◌, Bool, List, false, ap, length, length-set}
+use Rattle.cycle_engine.proofs.TurnLemmas.{ready_marks, served_left, served_turn, turn_served, exit_broken}
 use Rattle.cycle_engine.proofs.engine.Engine.serve.Goals as goal
 
-pub returns-then-not-has_turn-clause-served : goal.returns-then-not-has_turn-clause-served
-returns-then-not-has_turn-clause-served c past start queues n s at =
-    let l : c.has_turn.result ≡ false = search rules in
-    served_left c.args.net.now past c.args.bounds c.args.now start c.args.self.now queues n c.args.unit at (sym c.has_turn.ensures ∙ l) s
+pub returns-in_default-clause-ready : goal.returns-in_default-clause-ready
+returns-in_default-clause-ready c =
+    ready_marks c.args.net.now c.args.bounds c.args.self.now c.take_queue.new.self c.requires (ap (λ (v : _). length v.items) c.in_default.ensures.marked ∙ c.requires.marked) (c.in_default.ensures.listed c.args.net.now c.requires.listed)
+
+pub returns-in_default-clause-served : goal.returns-in_default-clause-served
+returns-in_default-clause-served c past start count n s l =
+    served_left c.args.net.now past c.args.bounds c.args.now start c.args.self.now c.take_queue.new.self count n c.in_default.ensures l s
+
+pub run_queue-requires : goal.run_queue-requires
+run_queue-requires c =
+    ready_marks c.args.net.now c.args.bounds c.args.self.now c.take_queue.new.self c.requires
+    (ap (λ (xs : List Bool). length xs) c.in-Some.ensures.marked ∙ (length-set c.args.self.now.marks.marked.items c.in-Some.unit false ∙ c.requires.marked)) (c.in-Some.ensures.listed c.args.net.now c.requires.listed)
 
 pub returns-in_err-run_queue-clause-served : goal.returns-in_err-run_queue-clause-served
-returns-in_err-run_queue-clause-served c past start queues n s at =
-    let l : c.has_turn.result ≡ true = search rules in
-    let w = turn_parts _ _ (sym c.has_turn.ensures ∙ l) in
+returns-in_err-run_queue-clause-served c past start count n s l =
     exit_broken _ _ c.from_residual.result c.in_err-run_queue.field-0.0 c.from_residual.ensures.1
-    (c.in_err-run_queue.ensures.tried past start c.unmark.new.self (served_turn c.args.net.now past c.args.bounds c.args.now start c.args.self.now c.unmark.new.self queues n c.args.unit c.unmark.ensures.marked w.0 w.1 s))
+    (c.in_err-run_queue.ensures.tried past start c.take_queue.new.self (served_turn c.args.net.now past c.args.bounds c.args.now start c.args.self.now c.take_queue.new.self count n c.in-Some.unit c.in-Some.ensures c.requires.listed s))
 
 pub returns-clause-served : goal.returns-clause-served
-returns-clause-served c past start queues n s at =
-    let l : c.has_turn.result ≡ true = search rules in
-    let w = turn_parts _ _ (sym c.has_turn.ensures ∙ l) in
-    turn_served c.args.net.now past c.args.bounds c.args.now start c.args.self.now c.run_queue.new.self c.unmark.new.self queues n c.args.unit c.unmark.ensures.marked w.1 at s
-    (c.in_ok-run_queue.ensures.tried past start c.unmark.new.self (served_turn c.args.net.now past c.args.bounds c.args.now start c.args.self.now c.unmark.new.self queues n c.args.unit c.unmark.ensures.marked w.0 w.1 s))
+returns-clause-served c past start count n s l =
+    turn_served c.args.net.now past c.args.bounds c.args.now start c.args.self.now c.run_queue.new.self c.take_queue.new.self count n c.in-Some.unit c.in-Some.ensures c.requires.listed l s
+    (c.in_ok-run_queue.ensures.tried past start c.take_queue.new.self (served_turn c.args.net.now past c.args.bounds c.args.now start c.args.self.now c.take_queue.new.self count n c.in-Some.unit c.in-Some.ensures c.requires.listed s))

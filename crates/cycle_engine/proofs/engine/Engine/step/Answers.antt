@@ -1,5 +1,5 @@
 use Rattle.std.proofs.Common.{◌≡◌, ◌∙◌, true, false, sym, rules}
-use Rattle.cycle_engine.proofs.TurnLemmas.{turn_follows, exit_broken}
+use Rattle.cycle_engine.proofs.TurnLemmas.{ready_marks, turn_follows, exit_broken}
 use Rattle.cycle_engine.proofs.StepLemmas.{step_passed, step_unit, step_queue}
 use Rattle.cycle_engine.proofs.engine.Engine.step.Goals as goal
 
@@ -26,3 +26,8 @@ returns-else-not-is_queue-clause-tried g c past start marks rank number t next =
     step_queue c.args.net.now past c.args.bounds c.args.now start marks c.args.self.now c.attempt.new.self c.args.firing rank number t next c.in_ok-planned.field-0
     (c.in_ok-planned.ensures.tried past start t.going (turn_follows c.args.net.now past c.args.bounds c.args.now start marks c.args.self.now c.args.firing rank number t next))
     c.in-Some.planned c.in-Some.is c.in_ok-planned.ensures.marks c.net.ensures.checked c.requires (sym c.is_queue.ensures ∙ l)
+
+pub returns-in_ok-rouse-clause-ready : goal.returns-in_ok-rouse-clause-ready
+returns-in_ok-rouse-clause-ready g c =
+    let ready = c.in_ok-planned.ensures.ready in
+    ready_marks c.args.net.now c.args.bounds c.attempt.new.self c.rouse.new.self ready (c.in_ok-rouse.ensures.kept.long ∙ ready.marked) (c.in_ok-rouse.ensures.kept.listed c.args.net.now ready.listed)
