@@ -31,6 +31,7 @@ impl Drop for Marks {
         let Marks {
             marked: _marked,
             list: _list,
+            queues: _queues,
         } = self;
     }
 }
