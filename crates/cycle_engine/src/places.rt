@@ -1,10 +1,10 @@
 //! The acts of units, one after another.
 
-ghost use Rattle.std.specs.Prelude.{◌≡◌, ℕ, true, false, IfOk, OnOk, MatchOption, length};
+ghost use Rattle.std.specs.Prelude.{◌≡◌, true, false, MatchOption};
 ghost use Rattle.net_types.specs.Nets.{kind_of};
 ghost use Rattle.net_check.specs.Ends.{is_lsq};
 ghost use Rattle.net_core.specs.States.{IsOf, state_of};
-ghost use Rattle.cycle_engine.specs.private.Marking.{Holds, IsStarved, asks_first, is_merge};
+ghost use Rattle.cycle_engine.specs.private.Marking.{IsStarved, asks_first, is_merge};
 ghost use Rattle.net_core.specs.Uses.{is_fork};
 ghost use Rattle.cycle_engine.specs.private.Places.{HasView, HasNoExec, IsFirstExec, first_of, count_in, inputs_in, outputs_in, groups_in, ports_in, numbered};
 
