@@ -1,11 +1,23 @@
-use Rattle.std.proofs.Common.{arith, subst, sym}
+use Rattle.std.proofs.Common.{◌≡◌, ◌<◌, ◌+◌, length, arith, subst, sym}
 use Rattle.net_core.specs.Fire.{enabled}
 use Rattle.net_core.specs.States.{state_of}
 use Rattle.net_types.specs.Nets.{firing}
 use Rattle.net_worker.proofs.Asking.{asked_trans}
-use Rattle.net_worker.proofs.Firing.{goes_asked}
+use Rattle.net_worker.proofs.Firing.{goes_asked, later_same}
+use Rattle.net_worker.proofs.Glancing.{same_whole}
 use Rattle.net_worker.proofs.Trying.{up_to, before_next, all_quiet}
 use Rattle.net_worker.proofs.worker.Worker.try_unit.Goals as goal
+
+pub try_act-requires-clause-whole : goal.try_act-requires-clause-whole
+try_act-requires-clause-whole c =
+    same_whole c.args.tables.now c.args.self.now c.acts.self
+    (later_same c.args.tables.now c.args.self.now c.acts.self c.requires.made (goes_asked c.args.tables.now c.args.self.now c.acts.self c.requires.made c.acts.invariant.asked)) c.requires.whole
+
+pub try_act-requires-clause-room : goal.try_act-requires-clause-room
+try_act-requires-clause-room c = subst (λ l. 0 < l.room) (sym c.acts.invariant.asked.log) c.requires.room
+
+pub returns-then-try_act-clause-fired : goal.returns-then-try_act-clause-fired
+returns-then-try_act-clause-fired c = λ _. subst (λ l. length c.try_act.new.self.log.items ≡ length l.items + 1) c.acts.invariant.asked.log (c.if-try_act.ensures.fired Rattle.std.proofs.Common.refl)
 
 pub returns-in_default-clause-later : goal.returns-in_default-clause-later
 returns-in_default-clause-later c = goes_asked c.args.tables.now c.args.self.now c.acts.self c.requires.made c.acts.invariant.asked
