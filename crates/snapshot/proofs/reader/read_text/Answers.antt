@@ -49,3 +49,6 @@ returns-in_default-stage c = record {
   says = says_short c.args.net.now c.args.bytes.now c.lines.rest.now c.lines.draft c.lines.number c.lines.invariant.read c.in_default.ensures c.in_default-stage.not-Ended;
   one = tt;
 }
+
+pub overflow_cast-result : goal.overflow_cast-result
+overflow_cast-result c = omega (arith, c.lines.invariant.room, c.requires, ap length c.in-Some.ensures.0, length-append c.in-Some.line.now (10 ∷ c.in-Some.after.now))
