@@ -76,6 +76,9 @@ pub assign_arm : (s : Stmt) (t : Target) (op : Option Binary) (e : Expr) (r : Op
     → a ≡ first_of (target_faults v t) → b ≡ first_of (expr_faults v e) → o ≡ earlier a b → o ≡ first_of (stmt_faults s r loop v)
 assign_arm s t op e r loop v a b o is p q h = of_two (target_faults v t) (expr_faults v e) (stmt_faults s r loop v) a b o (ap (λ k. act_faults k s.at r loop v) is) p q h
 
+pub step_arm : (s : Stmt) (t : Target) (up : Bool) (r : Option Ty) (loop : Bool) (v : Sorts) (o : Option Fault) → s.kind ≡ stmt.Step t up → o ≡ first_of (target_faults v t) → o ≡ first_of (stmt_faults s r loop v)
+step_arm s t up r loop v o is h = h ∙ sym (ap (λ k. first_of (act_faults k s.at r loop v)) is)
+
 pub if_arm : (s : Stmt) (e : Expr) (st : Stmt) (other : Option Stmt) (r : Option Ty) (loop : Bool) (v v2 v3 : Sorts) (a b d n o : Option Fault) → s.kind ≡ stmt.If e st other
     → a ≡ first_of (expr_faults v e) → b ≡ first_of (stmt_faults st r loop ([] ∷ v)) → v2 ≡ v → d ≡ first_of (inner_faults other r loop v2) → n ≡ earlier b d → o ≡ earlier a n
     → o ≡ first_of (stmt_faults s r loop v)

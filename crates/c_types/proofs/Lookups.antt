@@ -10,7 +10,7 @@ use Rattle.std.specs.HashMap.{HashMap}
 use Rattle.std.proofs.lemmas.List.{reverse-append, map-append}
 use Rattle.std.proofs.lemmas.Map.{lookup-none, NonePasses}
 use Rattle.indexmap.specs.IndexMap.{insert_entry}
-use Rattle.c_types.specs.Scopes.{declared_in, is_new_in, with_entry, latest_first, outer_scopes}
+use Rattle.c_types.specs.Scopes.{declared_in, is_new_in, with_entry, latest_first, outer_scopes, without_innermost}
 
 abbrev pub same_name : List ℕ → List ℕ → Bool
 same_name = pointwise ◌==◌
@@ -104,3 +104,13 @@ module _ {T : Type 0} where
   -- the last scope of several is the innermost
   pub last_scope : {S : Type 0} (ms rest : List (HashMap (List ℕ) T S)) (m : HashMap (List ℕ) T S) → ms ≡ rest ++ m ∷ [] → outer_scopes ms ≡ reverse m.entries ∷ outer_scopes rest
   last_scope ms rest m is = ap outer_scopes is ∙ ap reverse (map-append latest_first rest (m ∷ [])) ∙ reverse-append (map latest_first rest) (reverse m.entries ∷ [])
+
+  -- the scopes after one more is begun inside
+  pub entered_scopes : {S : Type 0} (ms ns : List (HashMap (List ℕ) T S)) (m n : HashMap (List ℕ) T S) (v : List (List (List ℕ × T))) → n.entries ≡ [] → ns ≡ ms ++ m ∷ [] → latest_first m ∷ outer_scopes ms ≡ v
+      → latest_first n ∷ outer_scopes ns ≡ [] ∷ v
+  entered_scopes ms ns m n v none more is = ap (λ es. reverse es ∷ outer_scopes ns) none ∙ ap (λ ss. [] ∷ ss) (last_scope ns ms m more ∙ is)
+
+  -- and after the innermost ends
+  pub left_scopes : {S : Type 0} (ms rest : List (HashMap (List ℕ) T S)) (m n : HashMap (List ℕ) T S) (v : List (List (List ℕ × T))) → ms ≡ rest ++ n ∷ [] → latest_first m ∷ outer_scopes ms ≡ v
+      → latest_first n ∷ outer_scopes rest ≡ without_innermost v
+  left_scopes ms rest m n v last is = sym (ap (λ ss. without_innermost (latest_first m ∷ ss)) (last_scope ms rest n last)) ∙ ap without_innermost is

@@ -1,23 +1,25 @@
 -- The parts of a statement that keeps the typing rules keep them where they stand, and the variables up to their ends can be numbered.
-use Rattle.std.proofs.Common.{◌≡◌, ℕ, suc, ◌+◌, ◌<◌, ◌≤◌, ◌^◌, Bool, true, false, List, [], ◌∷◌, length, drop, get_or, Option, Some, None, refl, sym, ap, subst, ◌∙◌, arith, add-one}
+use Rattle.std.proofs.Common.{◌≡◌, ℕ, suc, ◌+◌, ◌<◌, ◌≤◌, ◌^◌, Bool, true, false, List, [], ◌∷◌, length, drop, get_or, Option, Some, None, IsSome, refl, sym, ap, subst, ◌∙◌, arith, add-one}
 use Rattle.std.proofs.Math.Seq.{drop-cons}
 use Rattle.std.specs.Prelude.{IfSome, option_map}
 use Rattle.std.specs.Map.{lookup}
 use Rattle.el_base.specs.declared.ty.Ty.{Ty}
+use Rattle.c_ast.specs.declared.tree.Binary.{Binary}
+use Rattle.c_ast.specs.declared.tree.Target.{Target}
 use Rattle.c_ast.specs.declared.tree.Expr.{Expr}
 use Rattle.c_ast.specs.declared.tree.Stmt.{Stmt}
 use Rattle.c_ast.specs.declared.tree.StmtKind.{StmtKind}
 use Rattle.c_ast.specs.declared.tree.StmtKind.TheVariants as stmt
 use Rattle.c_ast.specs.declared.typed.TypedStmt.{TypedStmt}
 use Rattle.c_ast.specs.Nodes.{stmt_nodes, stmts_nodes, held_nodes}
-use Rattle.c_ast.specs.Typing.{with_name, IsNew, TypingExpr, TypingOption, TypingStmt, TypingList}
+use Rattle.c_ast.specs.Typing.{with_name, IsNew, IsReturnable, TypingExpr, TypingOption, TypingStmt, TypingList}
 use Rattle.c_ast.specs.Programs.{names_after_list}
 use Rattle.c_ast.specs.Casts.{stmt_at}
 use Rattle.c_types.specs.declared.known.Binding.TheVariants as binding
 use Rattle.c_types.specs.declared.known.Known.{Known}
 use Rattle.c_types.specs.Scopes.{is_new_in, with_entry, scope_by, scopes_by}
 use Rattle.c_types.specs.Contexts.{Bindings, declared_by, context_of, IsCastStmt, AreCastStmts, IsCastHeld, IsInside, IsCastInside}
-use Rattle.c_types.specs.TypingParts.{sort_as, names_as, names_in, TypingExprIn, TypingStmtIn, TypingListIn}
+use Rattle.c_types.specs.TypingParts.{sort_as, names_as, names_in, TypingExprIn, TypingTargetIn, TypingStmtIn, TypingListIn}
 use Rattle.c_types.proofs.Lookups.{same_name}
 use Rattle.c_types.proofs.Renamed.{lookup-scope_by, by_none}
 use Rattle.c_types.proofs.CastLemmas.{held_scopes}
@@ -80,6 +82,26 @@ declared_value r v w n s x t e h is after =
     option_typing h.dims w e (in_option (names_in h.dims w) e (subst (λ names. TypingOption names e) (sym names) k.1))
 
 -- ---- assignments and values
+
+pub assigned_target : (r : Option Ty) (v : Bindings) (n : ℕ) (s : Stmt) (x : Target) (op : Option Binary) (e : Expr) → TypingStmtIn r v n s → s.kind ≡ stmt.Assign x op e → TypingTargetIn v x
+assigned_target r v n s x op e h is = record { dims = h.dims; typing = (kind_typing r v n s (stmt.Assign x op e) h is).0 }
+
+pub assigned_value : (r : Option Ty) (v : Bindings) (n : ℕ) (s : Stmt) (x : Target) (op : Option Binary) (e : Expr) → TypingStmtIn r v n s → s.kind ≡ stmt.Assign x op e → TypingExprIn v e
+assigned_value r v n s x op e h is = record { dims = h.dims; typing = (kind_typing r v n s (stmt.Assign x op e) h is).1 }
+
+pub stepped_target : (r : Option Ty) (v : Bindings) (n : ℕ) (s : Stmt) (x : Target) (up : Bool) → TypingStmtIn r v n s → s.kind ≡ stmt.Step x up → TypingTargetIn v x
+stepped_target r v n s x up h is = record { dims = h.dims; typing = kind_typing r v n s (stmt.Step x up) h is }
+
+pub returned_value : (r : Option Ty) (v : Bindings) (n : ℕ) (s : Stmt) (e : Option Expr) → TypingStmtIn r v n s → s.kind ≡ stmt.Return e → IfSome e (TypingExprIn v)
+returned_value r v n s e h is = option_typing h.dims v e (in_option (names_in h.dims v) e (kind_typing r v n s (stmt.Return e) h is).1)
+
+pub returned_type : (r : Option Ty) (v : Bindings) (n : ℕ) (s : Stmt) (e : Option Expr) → TypingStmtIn r v n s → s.kind ≡ stmt.Return e → IfSome e (λ e. IsSome r)
+returned_type r v n s e h is = by r e (kind_typing r v n s (stmt.Return e) h is).0
+  where
+    by : (r : Option Ty) (e : Option Expr) → IsReturnable r e → IfSome e (λ e. IsSome r)
+    by r None k = tt
+    by (Some t) (Some e) k = refl
+    by None (Some e) k = absurd k
 
 -- ---- choices
 

@@ -161,7 +161,8 @@ fn cast_stmts(
 ) -> Result<List<ProgStmt>, Memory>
     requires { TypingListWith helpers.now returned known.old.scopes (length known.old.types)
         stmts.now }
-    ensures { IfOk result (λ ts. AreProgStmts helpers.now returned known.old stmts.now ts known.new) }
+    ensures { IfOk result (λ ts.
+        AreProgStmts helpers.now returned known.old stmts.now ts known.new) }
 {
     let mut items = List::new(alloc);
     for stmt in stmts {

@@ -1,7 +1,7 @@
-use Rattle.std.proofs.Common.{length, take, refl, sym, ap, subst, ◌∙◌, rules}
+use Rattle.std.proofs.Common.{length, take, refl, sym, ap, subst, ◌∙◌, rules, arith}
 use Rattle.c_types.proofs.FirstFaults.{item_more}
 use Rattle.c_types.proofs.CastStatements.{opening, leaving, act_made, block_arm, if_arm, while_arm, do_arm, for_arm, break_arm, continue_arm, empty_arm, inside_arm, none_held, one_held, held_is, no_stmts, one_more_stmt}
-use Rattle.c_types.proofs.StatementParts.{block_part, declared_new, declared_value, if_cond, if_then, if_other, while_cond, while_body, do_cond, do_body, for_first, for_cond, for_step, for_body, first_item, other_items}
+use Rattle.c_types.proofs.StatementParts.{assigned_target, assigned_value, stepped_target, returned_value, returned_type, block_part, declared_new, declared_value, if_cond, if_then, if_other, while_cond, while_body, do_cond, do_body, for_first, for_cond, for_step, for_body, first_item, other_items}
 use Rattle.c_types.specs.Contexts.{IsCastExpr}
 use Rattle.c_ast.specs.declared.tree.StmtKind.TheViews.{the_lemmas}
 use Rattle.c_types.proofs.casts.+cast_stmt.Goals as goal
@@ -88,6 +88,24 @@ cast_stmt-cast_declaration-requires-clause-new t c = declared_new c.args.returne
 pub cast_stmt-cast_declaration-requires-clause-typing : goal.cast_stmt-cast_declaration-requires-clause-typing
 cast_stmt-cast_declaration-requires-clause-typing t c =
     declared_value c.args.returned c.args.known.now.scopes _ (length c.args.known.now.types) c.args.stmt.now _ _ _ c.requires c.in-Declare.is refl
+
+pub cast_stmt-cast_assignment-requires-clause-target : goal.cast_stmt-cast_assignment-requires-clause-target
+cast_stmt-cast_assignment-requires-clause-target t c = assigned_target c.args.returned c.args.known.now.scopes (length c.args.known.now.types) c.args.stmt.now _ _ _ c.requires c.in-Assign.is
+
+pub cast_stmt-cast_assignment-requires-clause-value : goal.cast_stmt-cast_assignment-requires-clause-value
+cast_stmt-cast_assignment-requires-clause-value t c = assigned_value c.args.returned c.args.known.now.scopes (length c.args.known.now.types) c.args.stmt.now _ _ _ c.requires c.in-Assign.is
+
+pub cast_stmt-cast_step-requires-clause-target : goal.cast_stmt-cast_step-requires-clause-target
+cast_stmt-cast_step-requires-clause-target t c = stepped_target c.args.returned c.args.known.now.scopes (length c.args.known.now.types) c.args.stmt.now _ _ c.requires c.in-Step.is
+
+pub cast_stmt-cast_declaration-requires-clause-numbered : goal.cast_stmt-cast_declaration-requires-clause-numbered
+cast_stmt-cast_declaration-requires-clause-numbered t c = omega (arith, c.requires.numbered)
+
+pub cast_stmt-cast_return-requires-clause-typed : goal.cast_stmt-cast_return-requires-clause-typed
+cast_stmt-cast_return-requires-clause-typed t c = returned_type c.args.returned c.args.known.now.scopes (length c.args.known.now.types) c.args.stmt.now _ c.requires c.in-Return.is
+
+pub cast_stmt-cast_return-requires-clause-typing : goal.cast_stmt-cast_return-requires-clause-typing
+cast_stmt-cast_return-requires-clause-typing t c = returned_value c.args.returned c.args.known.now.scopes (length c.args.known.now.types) c.args.stmt.now _ c.requires c.in-Return.is
 
 pub cast_block-cast_stmts-requires : goal.cast_block-cast_stmts-requires
 cast_block-cast_stmts-requires t c = (
