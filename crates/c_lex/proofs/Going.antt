@@ -4,7 +4,7 @@ use Rattle.std.proofs.lemmas.List.{drop-drop, append-nil, drop_all}
 use Rattle.std.specs.Prelude.{bytes_eq}
 use Rattle.c_ast.specs.Pieces.{comment_len}
 use Rattle.c_ast.specs.Pieces as spec
-use Rattle.c_lex.specs.Turns.{turn_of}
+use Rattle.c_lex.specs.Turns.{turn_of, LexedSoFar}
 use Rattle.c_lex.specs.declared.turn.Turn.{Turn}
 use Rattle.c_ast.specs.Tokens.{End, whole, broken, Blanked, ends, byte, comment, comment_end, end_or, redefined, span_at, number_for, define_by, directive_by, Defined, goes, stops, turn, Lexed, stop, piece}
 use Rattle.c_ast.specs.declared.token.Token.{Token}
@@ -47,9 +47,7 @@ blanked_whole bytes done k e before past =
     let d : Blanked bytes k (drop k bytes) [] whole = subst (λ x. Blanked bytes k x [] whole) (sym (drop_all k bytes past)) (ends k) in
     subst (λ x. Blanked bytes 0 bytes x e) (append-nil done) (subst (λ x. Blanked bytes 0 bytes (done ++ []) x) (end_or-whole e) (before [] whole d))
 
--- what the rest of a text gives goes on what was given before
-abbrev pub LexedSoFar : List ℕ → List ℕ → ℕ → Bool → Defined → List Token → Type 0
-LexedSoFar bytes text k first ds done = (more : List Token) (f : End) → Lexed bytes k first ds (drop k text) more f → Lexed bytes 0 true [] text (done ++ more) f
+-- ---- tokens
 
 pub lexed_first : (bytes text : List ℕ) (k : ℕ) (ds : Defined) (done : List Token) → k ≡ 0 → ds ≡ [] → done ≡ [] → LexedSoFar bytes text k true ds done
 lexed_first bytes text k ds done start none_known none more f d =

@@ -1,13 +1,17 @@
 -- What the parts of the lexer say, in the words of the tokens' definition.
-use Rattle.std.specs.Prelude.{◌≡◌, ℕ, ◌+◌, ◌≤◌, ◌<◌, true, false, List, [], ◌∷◌, ◌++◌, length, map, Option, Some, None}
+use Rattle.std.specs.Prelude.{◌≡◌, ℕ, ◌+◌, ◌≤◌, ◌<◌, Bool, true, false, List, [], ◌∷◌, ◌++◌, length, drop, map, Option, Some, None}
 use Rattle.el_base.specs.Words.{is_identifier}
 use Rattle.c_ast.specs.Pieces as spec
 use Rattle.c_ast.specs.Tokens as spec_of
+use Rattle.c_ast.specs.declared.token.Token.{Token}
+use Rattle.c_lex.specs.Cursors.{IsAt}
 use Rattle.c_lex.specs.Refusals.{end_by}
 use Rattle.c_lex.specs.declared.define.Numeral.{Numeral}
 use Rattle.c_lex.specs.declared.define.Defines.{Defines}
 use Rattle.c_lex.specs.declared.directive.Directive.{Directive}
 use Rattle.c_lex.specs.declared.directive.Directive.TheVariants as directive
+use Rattle.c_lex.specs.declared.lexer.Next.{Next}
+use Rattle.c_lex.specs.declared.lexer.Next.TheVariants as next
 use Rattle.c_lex.specs.declared.turn.Turn.{Turn}
 use Rattle.c_lex.specs.declared.turn.Turn.TheVariants as turn
 
@@ -46,3 +50,12 @@ TurnFits all ds (turn.Skips len first) = (0 < len) × (len ≤ all)
 TurnFits all ds (turn.Gives len word) = (0 < len) × (len ≤ all)
 TurnFits all ds (turn.Defines len name number) = (0 < len) × (len ≤ all) × (spec_of.number_for ds name ≡ None)
 TurnFits all ds (turn.Breaks b) = Unit {0}
+
+-- what the rest of a text gives goes on what was given before
+abbrev pub LexedSoFar : List ℕ → List ℕ → ℕ → Bool → spec_of.Defined → List Token → Type 0
+LexedSoFar bytes text k first ds done = (more : List Token) (f : spec_of.End) → spec_of.Lexed bytes k first ds (drop k text) more f → spec_of.Lexed bytes 0 true [] text (done ++ more) f
+
+-- behind a piece at byte k a text goes on, or it ends by the rule that the piece breaks
+abbrev pub IsTaken : List ℕ → List ℕ → ℕ → spec_of.Defined → List Token → Next → Type 0
+IsTaken bytes text k ds ts (next.Piece c first) = IsAt bytes c × (k < c.offset) × LexedSoFar bytes text c.offset first ds ts
+IsTaken bytes text k ds ts (next.Broken b) = spec_of.Lexed bytes 0 true [] text ts (end_by b)

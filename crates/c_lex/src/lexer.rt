@@ -1,10 +1,12 @@
 //! The tokens of a kernel text.
-ghost use Rattle.std.specs.Prelude.{◌≡◌, ◌≤◌, length, [], true, List, ℕ, IfOk};
+ghost use Rattle.std.specs.Prelude.{◌≡◌, ◌≤◌, ◌<◌, length, [], true, List, ℕ, IfOk};
 ghost use Rattle.std.specs.List.{All};
 ghost use Rattle.c_ast.specs.Constants.{NumberFits};
 ghost use Rattle.el_base.specs.Limits.{max_kernel_bytes};
 ghost use Rattle.c_ast.specs.Tokens.{Lexed, first_end, span_at};
+ghost use Rattle.c_lex.specs.Cursors.{IsAt};
 ghost use Rattle.c_lex.specs.Refusals.{Says, IsOnly, IsReadInOneWay, end_of};
+ghost use Rattle.c_lex.specs.Turns.{defines_of, LexedSoFar, IsTaken};
 
 use crate::comment::without_comments;
 use crate::cursor::Cursor;
@@ -79,6 +81,60 @@ fn first_broken(one: Option<Broken>, other: Option<Broken>) -> Option<Broken>
     }
 }
 
+// Where a piece leads: to the piece behind it, which is first on its line or not, or to the rule
+// that it breaks.
+#[derive(Clone, Copy)]
+enum Next {
+    Piece { cursor: Cursor, first: bool },
+    Broken(Broken),
+}
+
+// Takes in the piece at a place: its token goes behind the tokens so far, and what it defines
+// behind the names that stand for numbers.
+fn take(
+    alloc: Global,
+    bytes: &[u8],
+    text: &[u8],
+    cursor: Cursor,
+    first: bool,
+    tokens: &mut List<Token>,
+    defines: &mut Defines,
+) -> Result<Next, Memory>
+    requires short { length bytes.now ≤ max_kernel_bytes }
+    requires same { length text.now ≡ length bytes.now }
+    requires inside { cursor.offset < length text.now }
+    requires at { IsAt bytes.now cursor }
+    requires so_far { LexedSoFar bytes.now text.now cursor.offset first (defines_of defines.old)
+        tokens.old }
+    ensures { IfOk result
+        (IsTaken bytes.now text.now cursor.offset (defines_of defines.new) tokens.new) }
+{
+    let rest = &text[cursor.offset as usize..];
+    let turn = turn_at(alloc, bytes, rest, cursor, first, defines)?;
+    match turn {
+        Turn::Skips { len, first: next } => Ok(Next::Piece {
+            cursor: cursor.on(bytes, len),
+            first: next,
+        }),
+        Turn::Gives { len, word } => {
+            let span = cursor.span(len);
+            tokens.push(Token { word, span })?;
+            Ok(Next::Piece {
+                cursor: cursor.on(bytes, len),
+                first: false,
+            })
+        }
+        Turn::Defines { len, name, number } => {
+            defines.add(name, number)?;
+            Ok(Next::Piece {
+                cursor: cursor.on(bytes, len),
+                first: false,
+            })
+        }
+        Turn::Breaks(broken) => Ok(Next::Broken(broken)),
+    }
+}
+
 // The tokens of a text whose comments are blanks.
 fn read(alloc: Global, bytes: &[u8], text: &[u8]) -> Result<Reading, Memory>
     requires short { length bytes.now ≤ max_kernel_bytes }
@@ -90,25 +146,16 @@ fn read(alloc: Global, bytes: &[u8], text: &[u8]) -> Result<Reading, Memory>
     let mut cursor = Cursor::first();
     let mut first = true;
     'pieces: while (cursor.offset as usize) < text.len() {
-        let rest = &text[cursor.offset as usize..];
-        let turn = turn_at(alloc, bytes, rest, cursor, first, &defines)?;
-        match turn {
-            Turn::Skips { len, first: next } => {
-                first = next;
-                cursor = cursor.on(bytes, len);
+        let next = take(alloc, bytes, text, cursor, first, &mut tokens, &mut defines)?;
+        match next {
+            Next::Piece {
+                cursor: behind,
+                first: is_first,
+            } => {
+                cursor = behind;
+                first = is_first;
             }
-            Turn::Gives { len, word } => {
-                let span = cursor.span(len);
-                tokens.push(Token { word, span })?;
-                first = false;
-                cursor = cursor.on(bytes, len);
-            }
-            Turn::Defines { len, name, number } => {
-                defines.add(name, number)?;
-                first = false;
-                cursor = cursor.on(bytes, len);
-            }
-            Turn::Breaks(broken) => {
+            Next::Broken(broken) => {
                 return Ok(Reading {
                     tokens,
                     broken: Some(broken),

@@ -1,7 +1,6 @@
 use Rattle.std.proofs.Common.{◌-◌, length}
 use Rattle.c_lex.specs.Cursors.{IsAt}
-use Rattle.c_lex.specs.Turns.{defines_of}
-use Rattle.c_lex.proofs.Going.{LexedSoFar}
+use Rattle.c_lex.specs.Turns.{defines_of, LexedSoFar}
 use Rattle.c_lex.proofs.lexer.read.Given as goal
 
 abbrev pub invariant-pieces : goal.invariant-pieces
