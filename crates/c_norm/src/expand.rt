@@ -37,7 +37,6 @@ pub(crate) fn expand(
 }
 
 #[cycle(expand)]
-#[tactic(auto, using(crate::proofs::Parts::nodes_element, crate::proofs::Parts::nodes_unary, crate::proofs::Parts::nodes_cast, crate::proofs::Parts::nodes_binary, crate::proofs::Parts::nodes_choice))]
 fn kind(
     alloc: Global,
     e: &TypedExpr,
