@@ -61,7 +61,6 @@ fn form(
 }
 
 #[cycle(form)]
-#[tactic(auto, using(crate::proofs::MadeParts::nodes_block, crate::proofs::MadeParts::nodes_declare, crate::proofs::MadeParts::nodes_assign, crate::proofs::MadeParts::nodes_step, crate::proofs::MadeParts::nodes_if, crate::proofs::MadeParts::nodes_while, crate::proofs::MadeParts::nodes_do, crate::proofs::MadeParts::nodes_for, crate::proofs::MadeParts::nodes_return))]
 fn kind(
     alloc: Global,
     typed: &Typed,

@@ -1,11 +1,50 @@
-use Rattle.std.proofs.Common.{length, arith, rules, refl}
+use Rattle.std.proofs.Common.{length, arith, rules, refl, sym, ap, ◌∙◌}
+use Rattle.c_ast.specs.declared.typed.TypedStmtKind.TheVariants as act
 use Rattle.c_ast.specs.declared.typed.TypedStmtKind.TheViews.{the_lemmas}
 use Rattle.c_norm.specs.Code.{stmts_form}
 use Rattle.c_norm.proofs.MadeArms.{few_stmt, few_stmts, block_made, held_none, held_some, block_arm, if_arm, while_arm, do_arm, for_arm, stmts_first, stmt_room, stmts_room, stmts_next, stmts_end}
+use Rattle.c_norm.proofs.MadeParts.{nodes_block, nodes_declare, nodes_assign, nodes_step, nodes_if, nodes_while, nodes_do, nodes_for, nodes_return}
 use Rattle.c_norm.proofs.forms.+form.Goals as goal
 
 pub form-returns-clause-few : goal.form-returns-clause-few
 form-returns-clause-few t c = few_stmt c.args.typed.now c.args.stmt.now c.args.out.now c.args.vars.now _ _ c.in_ok-kind.ensures
+
+pub kind-block-requires : goal.kind-block-requires
+kind-block-requires t c =
+    let is = c.in-Block.is ∙ ap (λ xs. act.Block xs) (sym c.as_slice.ensures) in
+    (search (rules, the_lemmas), (is, omega (arith, c.requires, nodes_block c.args.stmt.now c.as_slice.result.now is)))
+
+pub kind-declare-requires-clause-room : goal.kind-declare-requires-clause-room
+kind-declare-requires-clause-room t c = omega (arith, c.requires, nodes_declare c.args.stmt.now c.in-Declare.var c.in-Declare.init c.in-Declare.is)
+
+pub kind-assignment-requires : goal.kind-assignment-requires
+kind-assignment-requires t c = omega (arith, c.requires, nodes_assign c.args.stmt.now c.in-Assign.target c.in-Assign.op c.in-Assign.value c.in-Assign.is)
+
+pub kind-step-requires : goal.kind-step-requires
+kind-step-requires t c = omega (arith, c.requires, nodes_step c.args.stmt.now c.in-Step.target c.in-Step.up c.in-Step.is)
+
+pub kind-choice-requires : goal.kind-choice-requires
+kind-choice-requires t c =
+    let is = c.in-If.is ∙ ap (λ x. act.If c.in-If.cond x c.in-If.other) (sym c.get.ensures) in
+    (search (rules, the_lemmas), (is, omega (arith, c.requires, nodes_if c.args.stmt.now c.in-If.cond c.get.result.now c.in-If.other is)))
+
+pub kind-while_loop-requires : goal.kind-while_loop-requires
+kind-while_loop-requires t c =
+    let is = c.in-While.is ∙ ap (λ x. act.While c.in-While.cond x) (sym c.get-in-While.ensures) in
+    (search (rules, the_lemmas), (is, omega (arith, c.requires, nodes_while c.args.stmt.now c.in-While.cond c.get-in-While.result.now is)))
+
+pub kind-do_loop-requires : goal.kind-do_loop-requires
+kind-do_loop-requires t c =
+    let is = c.in-DoWhile.is ∙ ap (λ x. act.DoWhile x c.in-DoWhile.cond) (sym c.get-in-DoWhile.ensures) in
+    (search (rules, the_lemmas), (is, omega (arith, c.requires, nodes_do c.args.stmt.now c.get-in-DoWhile.result.now c.in-DoWhile.cond is)))
+
+pub kind-for_loop-requires : goal.kind-for_loop-requires
+kind-for_loop-requires t c =
+    let is = c.in-For.is ∙ ap (λ xs. act.For xs c.in-For.cond c.in-For.step c.in-For.body) (sym c.as_slice-in-For.ensures) ∙ ap (λ x. act.For c.as_slice-in-For.result.now c.in-For.cond c.in-For.step x) (sym c.get-in-For.ensures) in
+    (search (rules, the_lemmas), (is, omega (arith, c.requires, nodes_for c.args.stmt.now c.as_slice-in-For.result.now c.in-For.cond c.in-For.step c.get-in-For.result.now is)))
+
+pub kind-give-requires-clause-room : goal.kind-give-requires-clause-room
+kind-give-requires-clause-room t c = omega (arith, c.requires, nodes_return c.args.stmt.now c.in-Return.value c.in-Return.is)
 
 pub forms-loop-stmt-init : goal.forms-loop-stmt-init
 forms-loop-stmt-init t c = record { goes = stmts_first (stmts_form c.args.typed.now (length c.args.vars.now) c.args.stmts.now) c.args.out.now c.args.vars.now; room = omega arith }
