@@ -1,6 +1,6 @@
 -- Lists that are written one item after another, as lists joined by a separator.
-use Rattle.std.proofs.Common.{◌≡◌, ℕ, List, [], ◌∷◌, ◌++◌, map, codes, sym, ap, refl, ◌∙◌, append_assoc, length, take, ◌≤◌}
-use Rattle.std.proofs.lemmas.List.{append-nil, take_all}
+use Rattle.std.proofs.Common.{◌≡◌, ℕ, List, [], ◌∷◌, ◌++◌, ◌+◌, map, codes, decimal, get_or, sym, ap, refl, ◌∙◌, append_assoc, length, take, ◌≤◌, ◌<◌}
+use Rattle.std.proofs.lemmas.List.{append-nil, map-append, take_all, take_more}
 use Rattle.std.proofs.lemmas.List.Concat.{flat_map-append}
 use Rattle.std.specs.List.{join_with_byte, flat_map}
 use Rattle.net_types.specs.declared.net.Net.{Net}
@@ -33,40 +33,75 @@ pub line_end : (part : List ℕ) (parts : List (List ℕ)) → part ++ (flat_map
 line_end part [] = refl
 line_end part (p ∷ ps) = ap (λ l. part ++ 32 ∷ l) (append_assoc p (flat_map (λ y. 32 ∷ y) ps) (10 ∷ []) ∙ line_end p ps) ∙ sym (append_assoc part (32 ∷ join_with_byte 32 (p ∷ ps)) (10 ∷ []))
 
+-- a separator, and what follows it
+pub with_separator : (c : ℕ) (text part one two : List ℕ) → one ≡ text ++ c ∷ [] → two ≡ one ++ part → two ≡ text ++ c ∷ part
+with_separator c text part one two h e = e ∙ ap (λ l. l ++ part) h ∙ append_assoc text (c ∷ []) part
+
+-- what a loop has written, after one item more
+pub one_more_written : {X : Type 0} (g : X → List ℕ) (before text new : List ℕ) (i : ℕ) (x : X) (xs : List X)
+    → text ≡ before ++ flat_map g (take i xs) → new ≡ text ++ g (get_or xs i x) → i < length xs → new ≡ before ++ flat_map g (take (i + 1) xs)
+one_more_written g before text new i x xs h e within =
+    e ∙ ap (λ t. t ++ g (get_or xs i x)) h ∙ append_assoc before (flat_map g (take i xs)) (g (get_or xs i x))
+    ∙ ap (λ l. before ++ (flat_map g (take i xs) ++ l)) (sym (append-nil (g (get_or xs i x))))
+    ∙ ap (λ l. before ++ l) (sym (flat_map-append g (take i xs) (get_or xs i x ∷ [])) ∙ ap (flat_map g) (sym (take_more xs i x within)))
+
+pub letter_written : {X : Type 0} (f : X → ℕ) (before text new : List ℕ) (i : ℕ) (x : X) (xs : List X)
+    → text ≡ before ++ map f (take i xs) → new ≡ text ++ f (get_or xs i x) ∷ [] → i < length xs → new ≡ before ++ map f (take (i + 1) xs)
+letter_written f before text new i x xs h e within =
+    e ∙ ap (λ t. t ++ f (get_or xs i x) ∷ []) h ∙ append_assoc before (map f (take i xs)) (f (get_or xs i x) ∷ [])
+    ∙ ap (λ l. before ++ l) (sym (map-append f (take i xs) (get_or xs i x ∷ [])) ∙ ap (map f) (sym (take_more xs i x within)))
+
+-- the lines that a loop has written, after that of one item more
+pub line_more : {X : Type 0} (f : X → List (List ℕ)) (before text new : List ℕ) (i : ℕ) (x d : X) (xs : List X)
+    → text ≡ before ++ flat_map line (map f (take i xs)) → new ≡ text ++ line (f x) → x ≡ get_or xs i d → i < length xs
+    → new ≡ before ++ flat_map line (map f (take (i + 1) xs))
+line_more f before text new i x d xs h e is within =
+    one_more_written (λ y. line (f y)) before text new i d xs (h ∙ ap (λ l. before ++ l) (flat_map-map line f (take i xs))) (e ∙ ap (λ y. text ++ line (f y)) is) within
+    ∙ ap (λ l. before ++ l) (sym (flat_map-map line f (take (i + 1) xs)))
+
 -- a channel's line and a queue's, written piece by piece
-pub chan_written : (t p q w s d : List ℕ) (c : List (List ℕ)) (t1 t2 t3 t4 t5 t6 t7 t8 t9 t10 t11 : List ℕ)
+pub chan_written : (t p q : List ℕ) (w s d : ℕ) (c : List (List ℕ)) (t1 t2 t3 t4 t5 t6 : List ℕ)
     → t1 ≡ t ++ codes "chan "
     → t2 ≡ t1 ++ p
     → t3 ≡ t2 ++ codes " "
     → t4 ≡ t3 ++ q
-    → t5 ≡ t4 ++ codes " "
-    → t6 ≡ t5 ++ w
-    → t7 ≡ t6 ++ codes " "
-    → t8 ≡ t7 ++ s
-    → t9 ≡ t8 ++ codes " "
-    → t10 ≡ t9 ++ d
-    → t11 ≡ t10 ++ (flat_map (λ y. 32 ∷ y) c ++ 10 ∷ [])
-    → t11 ≡ t ++ line (codes "chan" ∷ p ∷ q ∷ w ∷ s ∷ d ∷ c)
-chan_written t p q w s d c t1 t2 t3 t4 t5 t6 t7 t8 t9 t10 t11 h1 h2 h3 h4 h5 h6 h7 h8 h9 h10 h11 =
-    h11 ∙ ap (λ l. l ++ (flat_map (λ y. 32 ∷ y) c ++ 10 ∷ [])) (h10 ∙ ap (λ l. l ++ d) (h9 ∙ ap (λ l. l ++ codes " ") (h8 ∙ ap (λ l. l ++ s) (h7 ∙ ap (λ l. l ++ codes " ") (h6 ∙ ap (λ l. l ++ w) (h5 ∙ ap (λ l. l ++ codes " ") (h4 ∙ ap (λ l. l ++ q) (h3 ∙ ap (λ l. l ++ codes " ") (h2 ∙ ap (λ l. l ++ p) (h1))))))))))
-    ∙ simp append_assoc (ap (λ l. t ++ (codes "chan " ++ (p ++ 32 ∷ (q ++ 32 ∷ (w ++ 32 ∷ (s ++ 32 ∷ l)))))) (line_end d c))
+    → t5 ≡ t4 ++ flat_map (λ n. 32 ∷ decimal n) (w ∷ s ∷ d ∷ [])
+    → t6 ≡ t5 ++ (flat_map (λ y. 32 ∷ y) c ++ 10 ∷ [])
+    → t6 ≡ t ++ line (codes "chan" ∷ p ∷ q ∷ decimal w ∷ decimal s ∷ decimal d ∷ c)
+chan_written t p q w s d c t1 t2 t3 t4 t5 t6 h1 h2 h3 h4 h5 h6 =
+    h6 ∙ ap (λ l. l ++ (flat_map (λ y. 32 ∷ y) c ++ 10 ∷ [])) (h5 ∙ ap (λ l. l ++ flat_map (λ n. 32 ∷ decimal n) (w ∷ s ∷ d ∷ [])) (h4 ∙ ap (λ l. l ++ q) (h3 ∙ ap (λ l. l ++ codes " ") (h2 ∙ ap (λ l. l ++ p) h1))))
+    ∙ simp append_assoc (ap (λ l. t ++ (codes "chan " ++ (p ++ 32 ∷ (q ++ 32 ∷ (decimal w ++ 32 ∷ (decimal s ++ 32 ∷ l)))))) (line_end (decimal d) c))
 
-pub queue_written : (t a d p g m : List ℕ) (t1 t2 t3 t4 t5 t6 t7 t8 t9 t10 t11 : List ℕ)
-    → t1 ≡ t ++ codes "unit lsq "
-    → t2 ≡ t1 ++ a
+two_numbers : (a d : ℕ) → flat_map (λ n. 32 ∷ decimal n) (a ∷ d ∷ []) ≡ 32 ∷ (decimal a ++ 32 ∷ decimal d)
+two_numbers a d = ap (λ l. 32 ∷ (decimal a ++ 32 ∷ l)) (append-nil (decimal d))
+
+line_cons : (x y : List ℕ) (ys : List (List ℕ)) → x ++ 32 ∷ line (y ∷ ys) ≡ line (x ∷ y ∷ ys)
+line_cons x y ys = sym (append_assoc x (32 ∷ join_with_byte 32 (y ∷ ys)) (10 ∷ []))
+
+pieces_joined : (t u n s p g e : List ℕ) → ((((((t ++ u) ++ n) ++ s) ++ p) ++ s) ++ g) ++ e ≡ t ++ (u ++ (n ++ (s ++ (p ++ (s ++ (g ++ e))))))
+pieces_joined t u n s p g e = simp append_assoc refl
+
+queue_joined : (a d p g m : List ℕ) → (32 ∷ (a ++ 32 ∷ d)) ++ 32 ∷ (p ++ 32 ∷ (g ++ 32 ∷ line (m ∷ []))) ≡ 32 ∷ line (a ∷ d ∷ p ∷ g ∷ m ∷ [])
+queue_joined a d p g m =
+    ap (λ l. 32 ∷ l) (append_assoc a (32 ∷ d) (32 ∷ (p ++ 32 ∷ (g ++ 32 ∷ line (m ∷ []))))
+    ∙ ap (λ l. a ++ 32 ∷ (d ++ 32 ∷ (p ++ 32 ∷ l))) (line_cons g m [])
+    ∙ ap (λ l. a ++ 32 ∷ (d ++ 32 ∷ l)) (line_cons p g (m ∷ []))
+    ∙ ap (λ l. a ++ 32 ∷ l) (line_cons d p (g ∷ m ∷ []))
+    ∙ line_cons a d (p ∷ g ∷ m ∷ []))
+
+pub queue_written : (t : List ℕ) (a d : ℕ) (p g m : List ℕ) (t1 t2 t3 t4 t5 t6 t7 : List ℕ)
+    → t1 ≡ t ++ codes "unit lsq"
+    → t2 ≡ t1 ++ flat_map (λ n. 32 ∷ decimal n) (a ∷ d ∷ [])
     → t3 ≡ t2 ++ codes " "
-    → t4 ≡ t3 ++ d
+    → t4 ≡ t3 ++ p
     → t5 ≡ t4 ++ codes " "
-    → t6 ≡ t5 ++ p
-    → t7 ≡ t6 ++ codes " "
-    → t8 ≡ t7 ++ g
-    → t9 ≡ t8 ++ codes " "
-    → t10 ≡ t9 ++ m
-    → t11 ≡ t10 ++ codes "\n"
-    → t11 ≡ t ++ line (codes "unit" ∷ codes "lsq" ∷ a ∷ d ∷ p ∷ g ∷ m ∷ [])
-queue_written t a d p g m t1 t2 t3 t4 t5 t6 t7 t8 t9 t10 t11 h1 h2 h3 h4 h5 h6 h7 h8 h9 h10 h11 =
-    h11 ∙ ap (λ l. l ++ codes "\n") (h10 ∙ ap (λ l. l ++ m) (h9 ∙ ap (λ l. l ++ codes " ") (h8 ∙ ap (λ l. l ++ g) (h7 ∙ ap (λ l. l ++ codes " ") (h6 ∙ ap (λ l. l ++ p) (h5 ∙ ap (λ l. l ++ codes " ") (h4 ∙ ap (λ l. l ++ d) (h3 ∙ ap (λ l. l ++ codes " ") (h2 ∙ ap (λ l. l ++ a) (h1))))))))))
-    ∙ simp append_assoc refl
+    → t6 ≡ t5 ++ g
+    → t7 ≡ t6 ++ 32 ∷ (m ++ 10 ∷ [])
+    → t7 ≡ t ++ line (codes "unit" ∷ codes "lsq" ∷ decimal a ∷ decimal d ∷ p ∷ g ∷ m ∷ [])
+queue_written t a d p g m t1 t2 t3 t4 t5 t6 t7 h1 h2 h3 h4 h5 h6 h7 =
+    h7 ∙ ap (λ l. l ++ 32 ∷ (m ++ 10 ∷ [])) (h6 ∙ ap (λ l. l ++ g) (h5 ∙ ap (λ l. l ++ codes " ") (h4 ∙ ap (λ l. l ++ p) (h3 ∙ ap (λ l. l ++ codes " ") (h2 ∙ ap (λ l. t1 ++ l) (two_numbers a d) ∙ ap (λ l. l ++ 32 ∷ (decimal a ++ 32 ∷ decimal d)) h1)))))
+    ∙ pieces_joined t (codes "unit lsq") (32 ∷ (decimal a ++ 32 ∷ decimal d)) (codes " ") p g (32 ∷ (m ++ 10 ∷ []))
+    ∙ ap (λ l. t ++ (codes "unit lsq" ++ l)) (queue_joined (decimal a) (decimal d) p g m)
 
 -- the whole text, from its parts
 pub text_written : (net : Net) (header units chans text : List ℕ)

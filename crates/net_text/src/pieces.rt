@@ -1,4 +1,5 @@
 ghost use Rattle.std.specs.Prelude.{◌≡◌, [], ◌∷◌, ◌++◌, OnOk, map, decimal};
+ghost use Rattle.std.specs.List.{flat_map};
 ghost use Rattle.net_text.specs.Fits.{GroupFits, GroupsFit};
 ghost use Rattle.net_text.specs.Pieces.{line, place_text, port_letter, ports_text, group_text, groups_text, mark_text};
 
@@ -17,8 +18,7 @@ pub fn put_bytes(text: &mut Vec<u8>, bytes: &[u8]) -> Result<(), Memory>
 pub(crate) fn put_u32(text: &mut Vec<u8>, number: u32) -> Result<(), Memory>
     ensures ok { OnOk result (text.new.items ≡ text.old.items ++ decimal number) }
 {
-    put_u64(text, u64::from(number))?;
-    Ok(())
+    put_u64(text, u64::from(number))
 }
 
 /// Appends a line: its first words, and numbers.
@@ -27,11 +27,19 @@ pub fn put_line(text: &mut Vec<u8>, words: &[u8], numbers: &[u64]) -> Result<(),
         (text.new.items ≡ text.old.items ++ line (words.now ∷ map decimal numbers.now)) }
 {
     put_bytes(text, words)?;
+    put_numbers(text, numbers)?;
+    put_bytes(text, b"\n")
+}
+
+/// Appends numbers, each after a space.
+pub(crate) fn put_numbers(text: &mut Vec<u8>, numbers: &[u64]) -> Result<(), Memory>
+    ensures ok { OnOk result
+        (text.new.items ≡ text.old.items ++ flat_map (λ n. 32 ∷ decimal n) numbers.now) }
+{
     for number in numbers {
         put_bytes(text, b" ")?;
         put_u64(text, *number)?;
     }
-    put_bytes(text, b"\n")?;
     Ok(())
 }
 
@@ -43,8 +51,7 @@ pub(crate) fn put_word_line(text: &mut Vec<u8>, first: &[u8], second: &[u8]) -> 
     put_bytes(text, first)?;
     put_bytes(text, b" ")?;
     put_bytes(text, second)?;
-    put_bytes(text, b"\n")?;
-    Ok(())
+    put_bytes(text, b"\n")
 }
 
 /// Appends a place.
@@ -120,13 +127,14 @@ pub(crate) fn put_groups(text: &mut Vec<u8>, groups: &[List<u32>]) -> Result<(),
     }
 }
 
-/// Appends the mark of a queue.
+/// Appends the mark of a queue, and ends its line.
 pub(crate) fn put_mark(text: &mut Vec<u8>, forward: bool) -> Result<(), Memory>
-    ensures ok { OnOk result (text.new.items ≡ text.old.items ++ mark_text forward) }
+    ensures ok { OnOk result
+        (text.new.items ≡ text.old.items ++ 32 ∷ (mark_text forward ++ 10 ∷ [])) }
 {
     if forward {
-        put_bytes(text, b"forward")
+        put_bytes(text, b" forward\n")
     } else {
-        put_bytes(text, b"plain")
+        put_bytes(text, b" plain\n")
     }
 }

@@ -6,9 +6,9 @@ ghost use Rattle.net_text.specs.Refusals.{ReadsBack};
 ghost use Rattle.net_text.specs.declared.version.Version.TheVariants.{Two};
 ghost use Rattle.net_text.specs.Texts.{NetText, scalar_parts, array_parts, result_parts, unit_parts, chan_parts, header_lines};
 
-use crate::pieces::{put_bytes, put_line, put_place, put_u32, put_word_line};
+use crate::pieces::{put_bytes, put_line, put_numbers, put_place, put_word_line};
 use crate::units::put_unit;
-use el_base::put_u64;
+use el_base::Decimal;
 use net_types::{Array, Chan, Memory, Net, Scalar, Ty, Unit};
 use std::alloc::Global;
 
@@ -60,10 +60,7 @@ fn put_scalar(text: &mut Vec<u8>, scalar: &Scalar) -> Result<(), Memory>
     ensures fits { OnOk result (ScalarFits scalar.now) }
 {
     put_bytes(text, b"scalar ")?;
-    put_bytes(text, scalar.name.as_slice())?;
-    put_bytes(text, b" ")?;
-    put_bytes(text, scalar.ty.name().as_bytes())?;
-    put_bytes(text, b"\n")
+    put_word_line(text, scalar.name.as_slice(), scalar.ty.name().as_bytes())
 }
 
 fn put_arrays(text: &mut Vec<u8>, arrays: &[Array]) -> Result<(), Memory>
@@ -84,10 +81,8 @@ fn put_array(text: &mut Vec<u8>, array: &Array) -> Result<(), Memory>
     put_bytes(text, b"array ")?;
     put_bytes(text, array.name.as_slice())?;
     put_bytes(text, b" ")?;
-    put_bytes(text, array.ty.name().as_bytes())?;
-    put_bytes(text, b" ")?;
-    put_u64(text, array.len)?;
-    put_bytes(text, b"\n")
+    let len = Decimal::of_u64(array.len);
+    put_word_line(text, array.ty.name().as_bytes(), len.as_slice())
 }
 
 fn put_result(text: &mut Vec<u8>, ty: Option<Ty>) -> Result<(), Memory>
@@ -129,14 +124,11 @@ fn put_chan(text: &mut Vec<u8>, chan: Chan) -> Result<(), Memory>
     put_place(text, chan.from)?;
     put_bytes(text, b" ")?;
     put_place(text, chan.to)?;
-    put_bytes(text, b" ")?;
-    put_u32(text, chan.width)?;
-    put_bytes(text, b" ")?;
-    put_u32(text, chan.slots)?;
-    put_bytes(text, b" ")?;
-    put_u32(text, chan.delay)?;
-    put_control(text, chan.ctl)?;
-    Ok(())
+    let width = u64::from(chan.width);
+    let slots = u64::from(chan.slots);
+    let delay = u64::from(chan.delay);
+    put_numbers(text, &[width, slots, delay])?;
+    put_control(text, chan.ctl)
 }
 
 fn put_control(text: &mut Vec<u8>, control: bool) -> Result<(), Memory>

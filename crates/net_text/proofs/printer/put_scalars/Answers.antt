@@ -1,11 +1,12 @@
-use Rattle.std.proofs.Common.{arith, subst}
-use Rattle.std.proofs.lemmas.Grind.{common_steps}
+use Rattle.std.proofs.Common.{subst}
 use Rattle.std.proofs.lemmas.List.Elements.{All-more}
 use Rattle.net_text.specs.Fits.{ScalarFits}
+use Rattle.net_text.specs.Texts.{scalar_parts}
+use Rattle.net_text.proofs.PrintedLines.{line_more}
 use Rattle.net_text.proofs.printer.put_scalars.Goals as goal
 
 pub loop-scalar-preserved : goal.loop-scalar-preserved
 loop-scalar-preserved c = record {
-  written = grind (arith, common_steps);
+  written = line_more scalar_parts _ _ _ c.loop-scalar.scalar-index c.scalar-item.result _ c.args.scalars.now c.loop-scalar.invariant.written c.in_ok-put_scalar.ensures.ok c.scalar-item.is c.loop-scalar-test.true;
   fit = All-more ScalarFits c.args.scalars.now c.loop-scalar.scalar-index c.scalar-item.result c.loop-scalar-test.true c.loop-scalar.invariant.fit (subst ScalarFits c.scalar-item.is c.in_ok-put_scalar.ensures.fits);
 }
