@@ -1,8 +1,14 @@
--- The lines of arrays, one after another.
-use Rattle.std.proofs.Common.{◌≡◌, ℕ, zero, suc, ◌+◌, ◌<◌, List, [], ◌∷◌, ◌++◌, length, drop, get_or, sym, ap, ◌∙◌, add-one, drop-cons, arith}
+-- The lines of arrays, one after another, and their numbers.
+use Rattle.std.proofs.Common.{◌≡◌, ℕ, zero, suc, ◌+◌, ◌<◌, false, List, [], ◌∷◌, ◌++◌, codes, decimal, length, take, drop, get_or, refl, sym, ap, ◌∙◌, add-one, append_assoc, drop-cons, arith}
+use Rattle.std.proofs.lemmas.List.{append-nil, take_more}
+use Rattle.std.proofs.lemmas.List.Concat.{flat_map-append}
+use Rattle.std.specs.Fmt.{signed_decimal}
 use Rattle.std.specs.List.{AllZip}
+use Rattle.el_base.specs.declared.ty.Ty.{Ty}
+use Rattle.el_base.specs.Numbers.{number_in}
+use Rattle.el_base.specs.Widths.{ty_signed, ty_width}
 use Rattle.el_base.specs.declared.ty.Array.{Array}
-use Rattle.inputs_text.specs.Results.{array_lines, numbers_line}
+use Rattle.inputs_text.specs.Results.{array_lines, numbers_line, spaced, written}
 
 -- what holds of two lists holds at a place
 pub zipped_at : {A B : Type 0} (R : A → B → Type 0) (xs : List A) (ys : List B) (i : ℕ) (x : A) (y : B) → AllZip R xs ys → i < length xs → R (get_or xs i x) (get_or ys i y)
@@ -18,3 +24,26 @@ lines_from arrays values i a ps here there is are =
     let first : drop i arrays ≡ a ∷ drop (i + 1) arrays = rw add-one (drop-cons arrays i a here ∙ ap (λ x. x ∷ drop (suc i) arrays) (sym is)) in
     let second : drop i values ≡ ps ∷ drop (i + 1) values = rw add-one (drop-cons values i ps there ∙ ap (λ x. x ∷ drop (suc i) values) (sym are)) in
     ap (λ xs. array_lines xs (drop i values)) first ∙ ap (λ vs. array_lines (a ∷ drop (i + 1) arrays) vs) second
+
+-- the number of a pattern in an unsigned type is written as the pattern
+pub unsigned_written : (ty : Ty) (p : ℕ) → ty_signed ty ≡ false → decimal p ≡ written ty p
+unsigned_written ty p none = ap (λ s. signed_decimal (number_in s (ty_width ty) p)) (sym none)
+
+-- the numbers that a loop has written, and one more
+pub number_more : (ty : Ty) (before text one two : List ℕ) (i p : ℕ) (ps : List ℕ)
+    → text ≡ before ++ spaced ty (take i ps) → one ≡ text ++ 32 ∷ [] → two ≡ one ++ written ty (get_or ps i p) → i < length ps
+    → two ≡ before ++ spaced ty (take (i + 1) ps)
+number_more ty before text one two i p ps h o t within =
+    let number = written ty (get_or ps i p) in
+    t ∙ ap (λ l. l ++ number) o ∙ append_assoc text (32 ∷ []) number ∙ ap (λ l. l ++ 32 ∷ number) h ∙ append_assoc before (spaced ty (take i ps)) (32 ∷ number)
+    ∙ ap (λ l. before ++ (spaced ty (take i ps) ++ l)) (sym (append-nil (32 ∷ number)))
+    ∙ ap (λ l. before ++ l) (sym (flat_map-append (λ q. 32 ∷ written ty q) (take i ps) (get_or ps i p ∷ [])) ∙ ap (spaced ty) (sym (take_more ps i p within)))
+
+-- a line, written piece by piece
+pieces_joined : (t a b c d : List ℕ) → (((t ++ a) ++ b) ++ c) ++ d ≡ t ++ (((a ++ b) ++ c) ++ d)
+pieces_joined t a b c d = simp append_assoc refl
+
+pub line_written : (ty : Ty) (t name : List ℕ) (ps t1 t2 t3 t4 : List ℕ) → t1 ≡ t ++ name → t2 ≡ t1 ++ codes " =" → t3 ≡ t2 ++ spaced ty ps → t4 ≡ t3 ++ 10 ∷ [] → t4 ≡ t ++ numbers_line name ty ps
+line_written ty t name ps t1 t2 t3 t4 h1 h2 h3 h4 =
+    h4 ∙ ap (λ l. l ++ 10 ∷ []) (h3 ∙ ap (λ l. l ++ spaced ty ps) (h2 ∙ ap (λ l. l ++ codes " =") h1))
+    ∙ pieces_joined t name (codes " =") (spaced ty ps) (10 ∷ [])

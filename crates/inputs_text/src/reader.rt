@@ -1,4 +1,4 @@
-ghost use Rattle.std.specs.Prelude.{◌≡◌, ℕ, List, length, IfOk, IfErr};
+ghost use Rattle.std.specs.Prelude.{◌≡◌, ℕ, List, [], length, IfOk, IfErr, OnOk};
 ghost use Rattle.el_base.specs.Limits.{IsNumbered};
 ghost use Rattle.net_types.specs.Inputs.{InputsFit};
 ghost use Rattle.inputs_text.specs.Lines.{name_in, numbers_in, words};
@@ -86,7 +86,8 @@ fn read_asked(
     ensures fit { IfOk result (FitHeader scalars.now arrays.now) }
 {
     patterns_have_their_width();
-    let found = read_lines(alloc, asked, bytes)?;
+    let mut found = IndexMap::new(alloc);
+    read_lines(alloc, asked, &mut found, bytes)?;
     inputs_of(alloc, scalars, arrays, &found)
 }
 
@@ -115,7 +116,7 @@ fn inputs_of(
     })
 }
 
-/// The patterns that the lines of a text give for names.
+/// Puts in the patterns that the lines of a text give for names.
 ///
 /// # Errors
 ///
@@ -123,23 +124,24 @@ fn inputs_of(
 fn read_lines(
     alloc: Global,
     slots: &IndexMap<Name, Slot>,
+    found: &mut IndexMap<Name, List<u64>>,
     bytes: &[u8],
-) -> Result<IndexMap<Name, List<u64>>, InputRefusal>
-    requires { IsNumbered (length bytes.now) }
-    ensures found { IfOk result (λ found. FindsAll slots.now.entries bytes.now found.entries) }
+) -> Result<(), InputRefusal>
+    requires short { IsNumbered (length bytes.now) }
+    requires none { found.old.entries ≡ [] }
+    ensures found { OnOk result (FindsAll slots.now.entries bytes.now found.new.entries) }
     ensures refused { IfErr result (RefusesLines slots.now.entries bytes.now) }
 {
-    let mut found = IndexMap::new(alloc);
     let mut rest = bytes;
     let mut number: u32 = 0;
     'lines: while let Some((line, after)) = next_line(rest) {
         number += 1;
-        if let Some(rule) = read_line(alloc, slots, &mut found, line)? {
+        if let Some(rule) = read_line(alloc, slots, found, line)? {
             return Err(rule.refusal(number));
         }
         rest = after;
     }
-    Ok(found)
+    Ok(())
 }
 
 /// The first rule that a line breaks; where it breaks none, the patterns that it gives are found.

@@ -1,6 +1,6 @@
 ghost use Rattle.std.specs.Prelude.{◌≡◌, ◌++◌, All, OnOk, IfOk};
 ghost use Rattle.net_types.specs.Inputs.{IsPatternOf};
-ghost use Rattle.inputs_text.specs.Results.{AreResults, ResultText, numbers_line, written};
+ghost use Rattle.inputs_text.specs.Results.{AreResults, ResultText, numbers_line, spaced, written};
 
 use el_base::{Array, List, Memory, Ty, number, put_i64, put_u64};
 use std::alloc::Global;
@@ -43,11 +43,20 @@ fn put_line(text: &mut Vec<u8>, name: &[u8], ty: Ty, patterns: &[u64]) -> Result
 {
     text.extend_from_slice(name)?;
     text.extend_from_slice(b" =")?;
+    put_numbers(text, ty, patterns)?;
+    text.push(b'\n')?;
+    Ok(())
+}
+
+/// Appends the numbers of patterns, each after a space.
+fn put_numbers(text: &mut Vec<u8>, ty: Ty, patterns: &[u64]) -> Result<(), Memory>
+    requires { All (IsPatternOf ty) patterns.now }
+    ensures { OnOk result (text.new.items ≡ text.old.items ++ spaced ty patterns.now) }
+{
     for pattern in patterns {
         text.push(b' ')?;
         put_number(text, ty, *pattern)?;
     }
-    text.push(b'\n')?;
     Ok(())
 }
 

@@ -2,7 +2,7 @@ use Rattle.inputs_text.proofs.RunLemmas.{so_far_none, so_far_more}
 use Rattle.inputs_text.proofs.reader.read_lines.Goals as goal
 
 pub lines-init : goal.lines-init
-lines-init c = so_far_none c.args.slots.now.entries c.args.bytes.now _ c.new-found.ensures.empty
+lines-init c = so_far_none c.args.slots.now.entries c.args.bytes.now _ c.requires.none
 
 pub lines-preserved : goal.lines-preserved
 lines-preserved c =
