@@ -14,7 +14,7 @@ mod units;
 mod version;
 
 pub use laws::{net_texts_have_one_answer, one_net_per_text};
-pub use pieces::{put_bytes, put_line};
+pub use pieces::{put_bytes, put_line, put_numbers};
 pub use printer::print;
 pub use read_pieces::{after, cut, parts, read_u64};
 pub use reader::read;

@@ -32,7 +32,7 @@ pub fn put_line(text: &mut Vec<u8>, words: &[u8], numbers: &[u64]) -> Result<(),
 }
 
 /// Appends numbers, each after a space.
-pub(crate) fn put_numbers(text: &mut Vec<u8>, numbers: &[u64]) -> Result<(), Memory>
+pub fn put_numbers(text: &mut Vec<u8>, numbers: &[u64]) -> Result<(), Memory>
     ensures ok { OnOk result
         (text.new.items ≡ text.old.items ++ flat_map (λ n. 32 ∷ decimal n) numbers.now) }
 {
