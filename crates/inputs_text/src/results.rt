@@ -22,7 +22,7 @@ pub fn print_results_of(
 {
     let mut text = Vec::new(alloc);
     for (i, array) in arrays.iter().enumerate() {
-        put_line(
+        put_numbers_line(
             &mut text,
             array.name.as_slice(),
             array.ty,
@@ -30,13 +30,18 @@ pub fn print_results_of(
         )?;
     }
     if let (Some(ty), Some(value)) = (ret, value) {
-        put_line(&mut text, b"return", ty, &[value])?;
+        put_numbers_line(&mut text, b"return", ty, &[value])?;
     }
     Ok(text)
 }
 
 /// Appends a line of a name and the numbers of patterns.
-fn put_line(text: &mut Vec<u8>, name: &[u8], ty: Ty, patterns: &[u64]) -> Result<(), Memory>
+pub fn put_numbers_line(
+    text: &mut Vec<u8>,
+    name: &[u8],
+    ty: Ty,
+    patterns: &[u64],
+) -> Result<(), Memory>
     requires { All (IsPatternOf ty) patterns.now }
     ensures { OnOk result
         (text.new.items ≡ text.old.items ++ numbers_line name.now ty patterns.now) }

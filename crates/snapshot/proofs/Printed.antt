@@ -5,11 +5,12 @@ use Rattle.std.proofs.lemmas.List.{append-nil, get_or_read, take_all}
 use Rattle.std.proofs.lemmas.List.Concat.{flat_map-append}
 use Rattle.net_text.specs.Bodies.{text_of}
 use Rattle.net_text.specs.Pieces.{line}
-use Rattle.net_text.proofs.PrintedLines.{joined}
+use Rattle.net_text.proofs.PrintedLines.{flat_map-map, joined, one_more_written}
 use Rattle.el_base.specs.declared.ty.Array.{Array}
 use Rattle.el_base.specs.declared.ty.Scalar.{Scalar}
+use Rattle.el_base.specs.declared.ty.Ty.{Ty}
 use Rattle.lsq_core.specs.declared.entry.Entry.{Entry}
-use Rattle.inputs_text.specs.Results.{written}
+use Rattle.inputs_text.specs.Results.{numbers_line, spaced, written}
 use Rattle.snapshot.specs.Texts.{words, each, no_scalar, no_array, scalar_lines, array_lines, stray_lines, list_lines, entry_line}
 
 -- the lines of one item more
@@ -91,26 +92,42 @@ list_of word n (x ∷ xs) i start t1 t2 text new a b c l d some =
     line_of decimal (word ++ 32 ∷ decimal n) (x ∷ xs) start t2 text new first whole d ∙ ap (λ t. start ++ t) (two_parts word (decimal n) (map decimal (x ∷ xs)))
     ∙ ap (λ t. start ++ t) (sym (append-nil (line (word ∷ decimal n ∷ map decimal (x ∷ xs)))))
 
--- the line of an array
-pub elements_of : (name : List ℕ) (f : ℕ → List ℕ) (xs : List ℕ) (i : ℕ) (start t1 t2 t3 text new : List ℕ)
-    → t1 ≡ start ++ codes "array " → t2 ≡ t1 ++ name → t3 ≡ t2 ++ codes " =" → text ≡ t3 ++ flat_map (λ y. 32 ∷ f y) (take i xs) → length xs ≤ i → new ≡ text ++ 10 ∷ []
-    → new ≡ start ++ line (codes "array" ∷ name ∷ codes "=" ∷ map f xs)
-elements_of name f xs i start t1 t2 t3 text new a b c d l e =
-    let first : t3 ≡ start ++ (codes "array" ++ 32 ∷ (name ++ 32 ∷ codes "=")) = c ∙ ap (λ t. t ++ codes " =") (b ∙ ap (λ t. t ++ name) a) ∙ simp append_assoc refl in
-    let whole : text ≡ t3 ++ flat_map (λ y. 32 ∷ f y) xs = d ∙ ap (λ ys. t3 ++ flat_map (λ y. 32 ∷ f y) ys) (take_all i xs l) in
-    line_of f (codes "array" ++ 32 ∷ (name ++ 32 ∷ codes "=")) xs start t3 text new first whole e
-    ∙ ap (λ t. start ++ t) (two_parts (codes "array") (name ++ 32 ∷ codes "=") (map f xs))
-    ∙ ap (λ t. start ++ (codes "array" ++ 32 ∷ t)) (two_parts name (codes "=") (map f xs))
+-- a line of a word, a name and numbers of a type
+named_joined : (s w c n q ps e : List ℕ) → (s ++ (w ++ c)) ++ (((n ++ q) ++ ps) ++ e) ≡ ((s ++ ((w ++ (c ++ n)) ++ q)) ++ ps) ++ e
+named_joined s w c n q ps e = simp append_assoc refl
+
+pub numbers_of : (word name : List ℕ) (ty : Ty) (xs start t1 new : List ℕ) → t1 ≡ start ++ (word ++ 32 ∷ []) → new ≡ t1 ++ numbers_line name ty xs → new ≡ start ++ line (word ∷ name ∷ codes "=" ∷ map (written ty) xs)
+numbers_of word name ty xs start t1 new a e =
+    let first = (word ++ 32 ∷ name) ++ 32 ∷ codes "=" in
+    let whole : new ≡ ((start ++ first) ++ spaced ty xs) ++ 10 ∷ [] = e ∙ ap (λ t. t ++ numbers_line name ty xs) a ∙ named_joined start word (32 ∷ []) name (codes " =") (spaced ty xs) (10 ∷ []) in
+    line_of (written ty) first xs start (start ++ first) ((start ++ first) ++ spaced ty xs) new refl refl whole
+    ∙ ap (λ t. start ++ t) (two_parts (word ++ 32 ∷ name) (codes "=") (map (written ty) xs) ∙ two_parts word name (codes "=" ∷ map (written ty) xs))
+
+-- the parts that follow a word, and one more
+part_more : (start text new : List ℕ) (ps : List (List ℕ)) (p : List ℕ) → text ≡ start ++ flat_map (λ y. 32 ∷ y) ps → new ≡ text ++ 32 ∷ p → new ≡ start ++ flat_map (λ y. 32 ∷ y) (ps ++ p ∷ [])
+part_more start text new ps p h e =
+    e ∙ ap (λ l. l ++ 32 ∷ p) h ∙ append_assoc start (flat_map (λ y. 32 ∷ y) ps) (32 ∷ p)
+    ∙ ap (λ l. start ++ l) (ap (λ l. flat_map (λ y. 32 ∷ y) ps ++ l) (sym (append-nil (32 ∷ p))) ∙ sym (flat_map-append (λ y. 32 ∷ y) ps (p ∷ [])))
 
 -- the line of an entry, written part by part
-pub entry_of : (a b c d e f g : List ℕ) (t t1 t2 t3 t4 t5 t6 t7 t8 t9 t10 t11 t12 t13 t14 t15 : List ℕ)
-    → t1 ≡ t ++ codes "entry " → t2 ≡ t1 ++ a → t3 ≡ t2 ++ codes " " → t4 ≡ t3 ++ b → t5 ≡ t4 ++ codes " " → t6 ≡ t5 ++ c → t7 ≡ t6 ++ codes " "
-    → t8 ≡ t7 ++ d → t9 ≡ t8 ++ codes " " → t10 ≡ t9 ++ e → t11 ≡ t10 ++ codes " " → t12 ≡ t11 ++ f → t13 ≡ t12 ++ codes " " → t14 ≡ t13 ++ g → t15 ≡ t14 ++ codes "\n"
-    → t15 ≡ t ++ line (codes "entry" ∷ a ∷ b ∷ c ∷ d ∷ e ∷ f ∷ g ∷ [])
-entry_of a b c d e f g t t1 t2 t3 t4 t5 t6 t7 t8 t9 t10 t11 t12 t13 t14 t15 h1 h2 h3 h4 h5 h6 h7 h8 h9 h10 h11 h12 h13 h14 h15 =
-    h15 ∙ ap (λ l. l ++ codes "\n") (h14 ∙ ap (λ l. l ++ g) (h13 ∙ ap (λ l. l ++ codes " ") (h12 ∙ ap (λ l. l ++ f) (h11 ∙ ap (λ l. l ++ codes " ") (h10 ∙ ap (λ l. l ++ e) (h9 ∙ ap (λ l. l ++ codes " ") (h8 ∙ ap (λ l. l ++ d)
-    (h7 ∙ ap (λ l. l ++ codes " ") (h6 ∙ ap (λ l. l ++ c) (h5 ∙ ap (λ l. l ++ codes " ") (h4 ∙ ap (λ l. l ++ b) (h3 ∙ ap (λ l. l ++ codes " ") (h2 ∙ ap (λ l. l ++ a) h1)))))))))))))
-    ∙ simp append_assoc refl
+pub entry_of : (a b : ℕ) (c d e : List ℕ) (f : ℕ) (g : List ℕ) (t t1 t2 t3 t4 t5 t6 t7 t8 : List ℕ)
+    → t1 ≡ t ++ codes "entry" → t2 ≡ t1 ++ flat_map (λ n. 32 ∷ decimal n) (a ∷ b ∷ []) → t3 ≡ t2 ++ 32 ∷ c → t4 ≡ t3 ++ 32 ∷ d → t5 ≡ t4 ++ 32 ∷ e
+    → t6 ≡ t5 ++ flat_map (λ n. 32 ∷ decimal n) (f ∷ []) → t7 ≡ t6 ++ 32 ∷ g → t8 ≡ t7 ++ codes "\n"
+    → t8 ≡ t ++ line (codes "entry" ∷ decimal a ∷ decimal b ∷ c ∷ d ∷ e ∷ decimal f ∷ g ∷ [])
+entry_of a b c d e f g t t1 t2 t3 t4 t5 t6 t7 t8 h1 h2 h3 h4 h5 h6 h7 h8 =
+    let s3 = part_more t1 t2 t3 (decimal a ∷ decimal b ∷ []) c h2 h3 in
+    let s4 = part_more t1 t3 t4 (decimal a ∷ decimal b ∷ c ∷ []) d s3 h4 in
+    let s5 = part_more t1 t4 t5 (decimal a ∷ decimal b ∷ c ∷ d ∷ []) e s4 h5 in
+    let s6 = part_more t1 t5 t6 (decimal a ∷ decimal b ∷ c ∷ d ∷ e ∷ []) (decimal f) s5 (h6 ∙ ap (λ l. t5 ++ l) (append-nil (32 ∷ decimal f))) in
+    let s7 = part_more t1 t6 t7 (decimal a ∷ decimal b ∷ c ∷ d ∷ e ∷ decimal f ∷ []) g s6 h7 in
+    line_of (λ y. y) (codes "entry") (decimal a ∷ decimal b ∷ c ∷ d ∷ e ∷ decimal f ∷ g ∷ []) t t1 t7 t8 h1 s7 h8
+
+-- the lines of entries that were written, and one more
+pub entry_more : (before text new : List ℕ) (i : ℕ) (x d : Entry) (xs : List Entry) → text ≡ before ++ text_of (map entry_line (take i xs)) → new ≡ text ++ (entry_line x ++ 10 ∷ []) → x ≡ get_or xs i d → i < length xs
+    → new ≡ before ++ text_of (map entry_line (take (i + 1) xs))
+entry_more before text new i x d xs h e is within =
+    one_more_written (λ y. entry_line y ++ 10 ∷ []) before text new i d xs (h ∙ ap (λ l. before ++ l) (flat_map-map (λ l. l ++ 10 ∷ []) entry_line (take i xs))) (e ∙ ap (λ y. text ++ (entry_line y ++ 10 ∷ [])) is) within
+    ∙ ap (λ l. before ++ l) (sym (flat_map-map (λ l. l ++ 10 ∷ []) entry_line (take (i + 1) xs)))
 
 -- the lines of a queue: its own, and then its entries'
 pub entries_of : (head : List ℕ) (xs : List Entry) (i : ℕ) (start t1 text : List ℕ) → t1 ≡ start ++ (head ++ 10 ∷ []) → text ≡ t1 ++ text_of (map entry_line (take i xs)) → length xs ≤ i

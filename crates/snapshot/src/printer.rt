@@ -12,10 +12,10 @@ ghost use Rattle.snapshot.specs.Texts.{StateText, each, scalar_lines, flag_lines
 
 use crate::saved::Saved;
 use el_base::{Array, List, Memory, Scalar, put_u64};
-use inputs_text::put_number;
+use inputs_text::put_numbers_line;
 use lsq_core::{Entry, QueuePart};
 use net_check::Checked;
-use net_text::{put_bytes, put_line};
+use net_text::{put_bytes, put_line, put_numbers};
 use net_types::Unit;
 use std::alloc::Global;
 
@@ -67,10 +67,7 @@ fn put_scalar(text: &mut Vec<u8>, scalar: &Scalar, pattern: u64) -> Result<(), M
         ∷ scalar.now.name ∷ codes "=" ∷ written scalar.now.ty pattern ∷ [])) }
 {
     put_bytes(text, b"scalar ")?;
-    put_bytes(text, scalar.name.as_slice())?;
-    put_bytes(text, b" = ")?;
-    put_number(text, scalar.ty, pattern)?;
-    put_bytes(text, b"\n")
+    put_numbers_line(text, scalar.name.as_slice(), scalar.ty, &[pattern])
 }
 
 fn put_fired(text: &mut Vec<u8>, fired: &[bool]) -> Result<(), Memory>
@@ -214,40 +211,34 @@ fn put_entry(text: &mut Vec<u8>, entry: &Entry) -> Result<(), Memory>
     ensures { OnOk result
         (text.new.items ≡ text.old.items ++ (entry_line entry.now ++ 10 ∷ [])) }
 {
-    put_bytes(text, b"entry ")?;
-    put_u64(text, entry.serial)?;
-    put_bytes(text, b" ")?;
-    put_u64(text, u64::from(entry.port))?;
-    put_bytes(text, b" ")?;
+    put_bytes(text, b"entry")?;
+    put_numbers(text, &[entry.serial, u64::from(entry.port)])?;
     put_maybe(text, entry.addr)?;
-    put_bytes(text, b" ")?;
     put_maybe(text, entry.datum)?;
-    put_bytes(text, b" ")?;
     put_digit(text, entry.done)?;
-    put_bytes(text, b" ")?;
-    put_u64(text, entry.value)?;
-    put_bytes(text, b" ")?;
+    put_numbers(text, &[entry.value])?;
     put_digit(text, entry.replied)?;
-    put_bytes(text, b"\n")?;
-    Ok(())
+    put_bytes(text, b"\n")
 }
 
+/// Appends a number, or the sign for none, after a space.
 fn put_maybe(text: &mut Vec<u8>, number: Option<u64>) -> Result<(), Memory>
-    ensures { OnOk result (text.new.items ≡ text.old.items ++ maybe number) }
+    ensures { OnOk result (text.new.items ≡ text.old.items ++ 32 ∷ maybe number) }
 {
     match number {
-        Some(number) => put_u64(text, number),
-        None => put_bytes(text, b"-"),
+        Some(number) => put_numbers(text, &[number]),
+        None => put_bytes(text, b" -"),
     }
 }
 
+/// Appends a flag after a space.
 fn put_digit(text: &mut Vec<u8>, flag: bool) -> Result<(), Memory>
-    ensures { OnOk result (text.new.items ≡ text.old.items ++ digit flag) }
+    ensures { OnOk result (text.new.items ≡ text.old.items ++ 32 ∷ digit flag) }
 {
     if flag {
-        put_bytes(text, b"1")
+        put_bytes(text, b" 1")
     } else {
-        put_bytes(text, b"0")
+        put_bytes(text, b" 0")
     }
 }
 
@@ -268,14 +259,7 @@ fn put_array(text: &mut Vec<u8>, array: &Array, elements: &[u64]) -> Result<(), 
         ∷ array.now.name ∷ codes "=" ∷ map (written array.now.ty) elements.now)) }
 {
     put_bytes(text, b"array ")?;
-    put_bytes(text, array.name.as_slice())?;
-    put_bytes(text, b" =")?;
-    for element in elements {
-        put_bytes(text, b" ")?;
-        put_number(text, array.ty, *element)?;
-    }
-    put_bytes(text, b"\n")?;
-    Ok(())
+    put_numbers_line(text, array.name.as_slice(), array.ty, elements)
 }
 
 fn put_strays(text: &mut Vec<u8>, arrays: &[Array], strays: &[u64]) -> Result<(), Memory>

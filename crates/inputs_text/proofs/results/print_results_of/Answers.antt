@@ -8,8 +8,8 @@ use Rattle.inputs_text.proofs.results.print_results_of.Goals as goal
 pub bounds-values-i : goal.bounds-values-i
 bounds-values-i c = omega (arith, AllZip-long AreElementsOf c.args.arrays.now c.args.values.now c.requires.each_array, c.loop-i-test.true)
 
-pub put_line-requires : goal.put_line-requires
-put_line-requires c =
+pub put_numbers_line-requires : goal.put_numbers_line-requires
+put_numbers_line-requires c =
     let a = c.index-arrays-i.result in
     let here = zipped_at AreElementsOf c.args.arrays.now c.args.values.now c.loop-i.i a c.index-values-i.result c.requires.each_array c.loop-i-test.true in
     let elements : AreElementsOf a c.index-values-i.result = subst (λ x. AreElementsOf x c.index-values-i.result) (sym c.index-arrays-i.is) (subst (AreElementsOf _) (sym c.index-values-i.is) here) in
@@ -22,7 +22,7 @@ loop-i-preserved c =
     let old = c.loop-i.text.items in
     let rest = array_lines (drop (c.loop-i.i + 1) c.args.arrays.now) (drop (c.loop-i.i + 1) c.args.values.now) in
     let line = numbers_line c.index-arrays-i.result.name c.index-arrays-i.result.ty c.index-values-i.result in
-    ap (λ t. t ++ rest) (c.in_ok-put_line.ensures
+    ap (λ t. t ++ rest) (c.in_ok-put_numbers_line.ensures
     ∙ ap (λ n. old ++ numbers_line n c.index-arrays-i.result.ty c.as_slice-in-loop-i.result.now) c.as_slice.ensures.bytes
     ∙ ap (λ ps. old ++ numbers_line c.index-arrays-i.result.name c.index-arrays-i.result.ty ps) c.as_slice-in-loop-i.ensures)
     ∙ append_assoc old line rest
