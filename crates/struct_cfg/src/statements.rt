@@ -176,7 +176,6 @@ fn lower(
 }
 
 #[cycle(lower)]
-#[tactic(auto, using(crate::proofs::Rows::closes_block, crate::proofs::Rows::closes_if, crate::proofs::Rows::closes_while, crate::proofs::Rows::closes_do, crate::proofs::Rows::closes_for, crate::proofs::Rows::steps_block, crate::proofs::Rows::steps_if, crate::proofs::Rows::steps_while, crate::proofs::Rows::steps_do, crate::proofs::Rows::steps_for, crate::proofs::Rows::lower_block, crate::proofs::Rows::if_is, crate::proofs::Rows::while_is, crate::proofs::Rows::do_is, crate::proofs::Rows::for_is))]
 fn kind(
     alloc: Global,
     draft: &mut Draft,

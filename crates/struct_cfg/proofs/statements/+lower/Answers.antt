@@ -1,14 +1,80 @@
-use Rattle.std.proofs.Common.{rules, ap, arith}
+use Rattle.std.proofs.Common.{◌≡◌, ◌∙◌, List, OnOk, rules, ap, sym, subst, arith}
+use Rattle.c_ast.specs.declared.normal.NormalStmt.{NormalStmt}
+use Rattle.c_ast.specs.declared.normal.NormalStmtKind.TheVariants as normal
 use Rattle.c_ast.specs.declared.normal.NormalStmtKind.TheViews.{the_lemmas}
 use Rattle.c_meaning.specs.PartLaws.{blocks_of, steps_of}
+use Rattle.struct_cfg.specs.declared.draft.Draft.{Draft}
 use Rattle.struct_cfg.proofs.Grows.{kind_grows}
-use Rattle.struct_cfg.proofs.Rows.{closes_block, steps_block}
+use Rattle.struct_cfg.proofs.Rows.{closes_block, closes_if, closes_while, closes_do, closes_for, steps_block, steps_if, steps_while, steps_do, steps_for, lower_block, if_is, while_is, do_is, for_is}
 use Rattle.struct_cfg.proofs.statements.+lower.Goals as goal
 
 pub kind-lower_all-requires : goal.kind-lower_all-requires
 kind-lower_all-requires t c =
     let k = c.args.stmt.now.kind in
     (search (rules, the_lemmas), omega (arith, closes_block k _ c.in-Block.is, steps_block k _ c.in-Block.is, ap blocks_of c.as_slice.ensures, ap steps_of c.as_slice.ensures))
+
+pub kind-lower_if-requires : goal.kind-lower_if-requires
+kind-lower_if-requires t c =
+    let is : c.args.stmt.now.kind ≡ normal.If c.as_slice-in-If.result.now c.in-If.cond c.get.result.now c.in-If.other =
+    c.in-If.is ∙ ap (λ (ss : List NormalStmt). normal.If ss c.in-If.cond c.in-If.then c.in-If.other) (sym c.as_slice-in-If.ensures)
+    ∙ ap (λ (s : NormalStmt). normal.If c.as_slice-in-If.result.now c.in-If.cond s c.in-If.other) (sym c.get.ensures) in
+    (search (rules, the_lemmas), (is, omega (arith, closes_if c.args.stmt.now.kind _ _ _ _ is, steps_if c.args.stmt.now.kind _ _ _ _ is)))
+
+pub kind-lower_while-requires : goal.kind-lower_while-requires
+kind-lower_while-requires t c =
+    let is : c.args.stmt.now.kind ≡ normal.While c.as_slice-in-While.result.now c.in-While.cond c.get-in-While.result.now =
+    c.in-While.is ∙ ap (λ (ss : List NormalStmt). normal.While ss c.in-While.cond c.in-While.body) (sym c.as_slice-in-While.ensures)
+    ∙ ap (λ (s : NormalStmt). normal.While c.as_slice-in-While.result.now c.in-While.cond s) (sym c.get-in-While.ensures) in
+    (search (rules, the_lemmas), (is, omega (arith, closes_while c.args.stmt.now.kind _ _ _ is, steps_while c.args.stmt.now.kind _ _ _ is)))
+
+pub kind-lower_do-requires : goal.kind-lower_do-requires
+kind-lower_do-requires t c =
+    let is : c.args.stmt.now.kind ≡ normal.DoWhile c.get-in-DoWhile.result.now c.as_slice-in-DoWhile.result.now c.in-DoWhile.cond =
+    c.in-DoWhile.is ∙ ap (λ (s : NormalStmt). normal.DoWhile s c.in-DoWhile.before c.in-DoWhile.cond) (sym c.get-in-DoWhile.ensures)
+    ∙ ap (λ (ss : List NormalStmt). normal.DoWhile c.get-in-DoWhile.result.now ss c.in-DoWhile.cond) (sym c.as_slice-in-DoWhile.ensures) in
+    (search (rules, the_lemmas), (is, omega (arith, closes_do c.args.stmt.now.kind _ _ _ is, steps_do c.args.stmt.now.kind _ _ _ is)))
+
+pub kind-lower_for-requires : goal.kind-lower_for-requires
+kind-lower_for-requires t c =
+    let is : c.args.stmt.now.kind ≡ normal.For c.as_slice-first.result.now c.as_slice-in-For.result.now c.in-For.cond c.in-For.step c.get-in-For.result.now =
+    c.in-For.is ∙ ap (λ (ss : List NormalStmt). normal.For ss c.in-For.before c.in-For.cond c.in-For.step c.in-For.body) (sym c.as_slice-first.ensures)
+    ∙ ap (λ (ss : List NormalStmt). normal.For c.as_slice-first.result.now ss c.in-For.cond c.in-For.step c.in-For.body) (sym c.as_slice-in-For.ensures)
+    ∙ ap (λ (s : NormalStmt). normal.For c.as_slice-first.result.now c.as_slice-in-For.result.now c.in-For.cond c.in-For.step s) (sym c.get-in-For.ensures) in
+    (search (rules, the_lemmas), (is, omega (arith, closes_for c.args.stmt.now.kind _ _ _ _ _ is, steps_for c.args.stmt.now.kind _ _ _ _ _ is)))
+
+pub kind-returns-in-Block : goal.kind-returns-in-Block
+kind-returns-in-Block t c =
+    let is : c.args.stmt.now.kind ≡ normal.Block c.as_slice.result.now = c.in-Block.is ∙ ap normal.Block (sym c.as_slice.ensures) in
+    subst (λ (d : Draft). OnOk c.lower_all.result (c.lower_all.new.draft ≡ d)) (sym (lower_block c.args.arrays.now c.args.to.exit c.args.to.again c.args.stmt.now.kind _ c.args.draft.now is)) c.lower_all.ensures.made
+
+pub kind-returns-in-If : goal.kind-returns-in-If
+kind-returns-in-If t c =
+    let is : c.args.stmt.now.kind ≡ normal.If c.as_slice-in-If.result.now c.in-If.cond c.get.result.now c.in-If.other =
+    c.in-If.is ∙ ap (λ (ss : List NormalStmt). normal.If ss c.in-If.cond c.in-If.then c.in-If.other) (sym c.as_slice-in-If.ensures)
+    ∙ ap (λ (s : NormalStmt). normal.If c.as_slice-in-If.result.now c.in-If.cond s c.in-If.other) (sym c.get.ensures) in
+    subst (λ (d : Draft). OnOk c.lower_if.result (c.lower_if.new.draft ≡ d)) (sym (if_is c.args.arrays.now c.args.to.exit c.args.to.again c.args.stmt.now.kind _ _ _ _ c.args.draft.now is)) c.lower_if.ensures
+
+pub kind-returns-in-While : goal.kind-returns-in-While
+kind-returns-in-While t c =
+    let is : c.args.stmt.now.kind ≡ normal.While c.as_slice-in-While.result.now c.in-While.cond c.get-in-While.result.now =
+    c.in-While.is ∙ ap (λ (ss : List NormalStmt). normal.While ss c.in-While.cond c.in-While.body) (sym c.as_slice-in-While.ensures)
+    ∙ ap (λ (s : NormalStmt). normal.While c.as_slice-in-While.result.now c.in-While.cond s) (sym c.get-in-While.ensures) in
+    subst (λ (d : Draft). OnOk c.lower_while.result (c.lower_while.new.draft ≡ d)) (sym (while_is c.args.arrays.now c.args.to.exit c.args.to.again c.args.stmt.now.kind _ _ _ c.args.draft.now is)) c.lower_while.ensures
+
+pub kind-returns-in-DoWhile : goal.kind-returns-in-DoWhile
+kind-returns-in-DoWhile t c =
+    let is : c.args.stmt.now.kind ≡ normal.DoWhile c.get-in-DoWhile.result.now c.as_slice-in-DoWhile.result.now c.in-DoWhile.cond =
+    c.in-DoWhile.is ∙ ap (λ (s : NormalStmt). normal.DoWhile s c.in-DoWhile.before c.in-DoWhile.cond) (sym c.get-in-DoWhile.ensures)
+    ∙ ap (λ (ss : List NormalStmt). normal.DoWhile c.get-in-DoWhile.result.now ss c.in-DoWhile.cond) (sym c.as_slice-in-DoWhile.ensures) in
+    subst (λ (d : Draft). OnOk c.lower_do.result (c.lower_do.new.draft ≡ d)) (sym (do_is c.args.arrays.now c.args.to.exit c.args.to.again c.args.stmt.now.kind _ _ _ c.args.draft.now is)) c.lower_do.ensures
+
+pub kind-returns-in-For : goal.kind-returns-in-For
+kind-returns-in-For t c =
+    let is : c.args.stmt.now.kind ≡ normal.For c.as_slice-first.result.now c.as_slice-in-For.result.now c.in-For.cond c.in-For.step c.get-in-For.result.now =
+    c.in-For.is ∙ ap (λ (ss : List NormalStmt). normal.For ss c.in-For.before c.in-For.cond c.in-For.step c.in-For.body) (sym c.as_slice-first.ensures)
+    ∙ ap (λ (ss : List NormalStmt). normal.For c.as_slice-first.result.now ss c.in-For.cond c.in-For.step c.in-For.body) (sym c.as_slice-in-For.ensures)
+    ∙ ap (λ (s : NormalStmt). normal.For c.as_slice-first.result.now c.as_slice-in-For.result.now c.in-For.cond c.in-For.step s) (sym c.get-in-For.ensures) in
+    subst (λ (d : Draft). OnOk c.lower_for.result (c.lower_for.new.draft ≡ d)) (sym (for_is c.args.arrays.now c.args.to.exit c.args.to.again c.args.stmt.now.kind _ _ _ _ _ c.args.draft.now is)) c.lower_for.ensures
 
 pub lower-returns-clause-few : goal.lower-returns-clause-few
 lower-returns-clause-few t c = kind_grows c.args.arrays.now c.args.to.exit c.args.to.again c.args.stmt.now.kind c.args.draft.now _ c.in_ok-kind.ensures
