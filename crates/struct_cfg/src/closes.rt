@@ -11,7 +11,6 @@ use el_base::Boxed;
 /// It walks the statement and its parts. Each `if` and loop asks it of its parts, so that a statement is walked once for
 /// each `if` and loop that it stands in.
 #[cycle(closes)]
-#[tactic(auto, using(crate::proofs::Rows::closes_block, crate::proofs::Rows::closes_if, crate::proofs::Rows::closes_while, crate::proofs::Rows::closes_do, crate::proofs::Rows::closes_for))]
 pub(crate) fn closes(stmt: &NormalStmt) -> u32
     requires { closes stmt.now.kind < 2 ^ 32 }
     ensures { result ≡ closes stmt.now.kind }

@@ -42,7 +42,6 @@ pub(crate) fn expr(
 }
 
 #[cycle(expr)]
-#[tactic(auto, using(crate::proofs::Parts::price_number, crate::proofs::Parts::price_element, crate::proofs::Parts::price_unary, crate::proofs::Parts::price_cast, crate::proofs::Parts::price_binary, crate::proofs::Parts::price_choice))]
 fn kind(
     steps: &mut List<Instr>,
     env: &[u32],

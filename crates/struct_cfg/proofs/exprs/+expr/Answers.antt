@@ -1,13 +1,54 @@
+use Rattle.c_ast.specs.declared.typed.TypedExpr.{TypedExpr}
+use Rattle.c_ast.specs.declared.typed.TypedExprKind.TheVariants as expr
 use Rattle.c_ast.specs.declared.typed.TypedExprKind.TheViews.{the_lemmas}
-use Rattle.std.proofs.Common.{◌<◌, length, arith, rules, refl}
+use Rattle.std.proofs.Common.{◌≡◌, ◌∙◌, ◌<◌, List, length, ap, sym, arith, rules, refl}
 use Rattle.std.proofs.lemmas.Grind.{common_steps}
 use Rattle.struct_cfg.proofs.PlaceCode.{next_room, at_index, goes_next, goes_past, goes_end}
 use Rattle.struct_cfg.proofs.exprs.+expr.Goals.{place-then-k-dims+in_ok-at, place-else-k-dims}
 use Rattle.struct_cfg.proofs.ExprCode.{expr_few, unary_laid, cast_laid, binary_laid, choice_laid, element_laid, index_put, next_put, place_few}
+use Rattle.struct_cfg.proofs.Parts.{price_element, price_unary, price_cast, price_binary, price_choice}
 use Rattle.struct_cfg.proofs.exprs.+expr.Goals as goal
 
 pub expr-returns-clause-few : goal.expr-returns-clause-few
 expr-returns-clause-few t c = expr_few c.args.arrays.now c.args.env.now c.args.e.now c.args.steps.now _ _ c.in_ok-value.ensures
+
+pub kind-element-requires : goal.kind-element-requires
+kind-element-requires t c =
+    let is : c.args.e.now.kind ≡ expr.Element c.in-Element.array c.as_slice.result.now =
+    c.in-Element.is
+    ∙ ap (λ (xs : List TypedExpr). expr.Element c.in-Element.array xs) (sym c.as_slice.ensures) in
+    (search (rules, the_lemmas), (is, omega (arith, price_element c.args.e.now _ _ is)))
+
+pub kind-unary-requires : goal.kind-unary-requires
+kind-unary-requires t c =
+    let is : c.args.e.now.kind ≡ expr.Unary c.in-Unary.op c.get.result.now =
+    c.in-Unary.is
+    ∙ ap (λ (x : TypedExpr). expr.Unary c.in-Unary.op x) (sym c.get.ensures) in
+    (search (rules, the_lemmas), (is, omega (arith, price_unary c.args.e.now _ _ is)))
+
+pub kind-cast-requires : goal.kind-cast-requires
+kind-cast-requires t c =
+    let is : c.args.e.now.kind ≡ expr.Cast c.in-Cast.implied c.get-in-Cast.result.now =
+    c.in-Cast.is
+    ∙ ap (λ (x : TypedExpr). expr.Cast c.in-Cast.implied x) (sym c.get-in-Cast.ensures) in
+    (search (rules, the_lemmas), (is, omega (arith, price_cast c.args.e.now _ _ is)))
+
+pub kind-binary-requires : goal.kind-binary-requires
+kind-binary-requires t c =
+    let is : c.args.e.now.kind ≡ expr.Binary c.in-Binary.op c.get-in-Binary.result.now c.get-in-Binary-2.result.now =
+    c.in-Binary.is
+    ∙ ap (λ (x : TypedExpr). expr.Binary c.in-Binary.op x c.in-Binary.right) (sym c.get-in-Binary.ensures)
+    ∙ ap (λ (x : TypedExpr). expr.Binary c.in-Binary.op c.get-in-Binary.result.now x) (sym c.get-in-Binary-2.ensures) in
+    (search (rules, the_lemmas), (is, omega (arith, price_binary c.args.e.now _ _ _ is)))
+
+pub kind-choose-requires : goal.kind-choose-requires
+kind-choose-requires t c =
+    let is : c.args.e.now.kind ≡ expr.Choose c.get-in-Choose.result.now c.get-in-Choose-2.result.now c.get-in-Choose-3.result.now =
+    c.in-Choose.is
+    ∙ ap (λ (x : TypedExpr). expr.Choose x c.in-Choose.yes c.in-Choose.no) (sym c.get-in-Choose.ensures)
+    ∙ ap (λ (x : TypedExpr). expr.Choose c.get-in-Choose.result.now x c.in-Choose.no) (sym c.get-in-Choose-2.ensures)
+    ∙ ap (λ (x : TypedExpr). expr.Choose c.get-in-Choose.result.now c.get-in-Choose-2.result.now x) (sym c.get-in-Choose-3.ensures) in
+    (search (rules, the_lemmas), (is, omega (arith, price_choice c.args.e.now _ _ _ is)))
 
 pub unary-returns : goal.unary-returns
 unary-returns t c =
