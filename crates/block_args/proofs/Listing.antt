@@ -15,7 +15,7 @@ use Rattle.block_args.specs.declared.live.Index.{Index}
 use Rattle.block_args.specs.Live.{IsWritten, Live}
 use Rattle.block_args.specs.Tables.{listed_at, AreAscending, ListsLive}
 use Rattle.block_args.specs.Walks.{read_vars, written_vars, target_blocks, put_at, put_at_all, with_blocks, marked, Reached, AreReached}
-use Rattle.block_args.specs.Indexes.{IsIndexOf, AreLiveAt, AreLiveFrom, ArePushed, with_found}
+use Rattle.block_args.specs.Indexes.{IsIndexOf, AreLiveAt, AreLiveFrom, ArePushed, with_found, ListsBelow}
 use Rattle.block_args.proofs.Lives.{live_below}
 use Rattle.block_args.proofs.Named.{target}
 
@@ -77,13 +77,6 @@ live_push g v (x ∷ xs) m all last =
     (all.0, live_push g (suc v) xs m all.1 (subst (λ k. AreLiveAt g k m.items) (let e : v + suc (length xs) ≡ suc v + length xs = omega arith in e) last))
 
 -- ---- all variables
-
--- the table lists the live ones of the first n variables
-pub record ListsBelow (g : VarGraph) (n : ℕ) (table : List (List ℕ)) : Type 0 where
-  pub many : length table ≡ length g.blocks
-  pub ascending : (b : ℕ) → AreAscending (listed_at table b)
-  pub live : (b v : ℕ) → Contains (listed_at table b) v → (v < n) × Live g b v
-  pub all : (b v : ℕ) → v < n → Live g b v → Contains (listed_at table b) v
 
 empty_at : (n b : ℕ) → listed_at (replicate n []) b ≡ []
 empty_at zero b = refl

@@ -1,6 +1,7 @@
 //! The graph over block arguments of a graph over variables.
 ghost use Rattle.std.specs.Prelude.{◌≡◌, length, IfOk};
 ghost use Rattle.el_base.specs.Limits.{IsNumbered};
+ghost use Rattle.block_args.specs.Indexes.{AreLiveBlocks};
 ghost use Rattle.block_args.specs.Tables.{ListsLive};
 ghost use Rattle.block_args.specs.Arguments.{new_blocks};
 ghost use Rattle.block_args.specs.Shares.{ArgsShare, ArgsSizes};
@@ -28,18 +29,23 @@ pub fn arguments(alloc: Global, cfg: &Cfg) -> Result<Ir, Memory>
     ensures sizes { IfOk result (ArgsSizes cfg.now) }
 {
     let _blocks = cfg.look();
+    Ok(Ir {
+        name: cfg.name.copy()?,
+        scalars: copy_scalars(alloc, cfg.scalars.as_slice())?,
+        arrays: copy_arrays(alloc, cfg.arrays.as_slice())?,
+        result: cfg.result,
+        blocks: live_blocks(alloc, cfg)?,
+    })
+}
+
+/// The blocks, which get the variables that are live at them.
+fn live_blocks(alloc: Global, cfg: &Cfg) -> Result<List<Block>, Memory>
+    requires { IsNumbered (parts cfg.now) }
+    ensures { IfOk result (AreLiveBlocks cfg.now) }
+{
     let table = live_variables(alloc, cfg)?;
     let blocks = new_blocks(alloc, cfg, table.as_slice())?;
-    let name = cfg.name.copy()?;
-    let scalars = copy_scalars(alloc, cfg.scalars.as_slice())?;
-    let arrays = copy_arrays(alloc, cfg.arrays.as_slice())?;
-    Ok(Ir {
-        name,
-        scalars,
-        arrays,
-        result: cfg.result,
-        blocks,
-    })
+    Ok(blocks)
 }
 
 /// The blocks that get the variables that a table lists.

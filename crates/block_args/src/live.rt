@@ -2,7 +2,14 @@
 ghost use Rattle.std.specs.Prelude.{◌≡◌, ◌+◌, ◌≤◌, ◌<◌, ◌^◌, length, set, IfOk, OnOk};
 ghost use Rattle.el_base.specs.Limits.{IsNumbered};
 ghost use Rattle.block_args.specs.Tables.{ListsLive, listed_at};
-ghost use Rattle.block_args.specs.Indexes.{AreLiveAt, AreLiveFrom, ArePushed, IsIndexOf, with_found};
+ghost use Rattle.block_args.specs.Indexes.{
+  AreLiveAt,
+  AreLiveFrom,
+  ArePushed,
+  IsIndexOf,
+  ListsBelow,
+  with_found,
+};
 
 use crate::tables::{blocks_before, empty_lists, readers, writers};
 use crate::walk::{marks, reached};
@@ -13,11 +20,21 @@ use std::alloc::Global;
 const AT_ONCE: u32 = 64;
 
 /// The blocks of a graph by the variables that they read, by those that they write, and by the blocks that they jump to.
-#[derive(Drop)]
 struct Index {
     readers: List<List<u32>>,
     writers: List<List<u32>>,
     before: List<List<u32>>,
+}
+
+// By hand, so that to let go of one is a call.
+impl Drop for Index {
+    fn drop(self) {
+        let Index {
+            readers: _readers,
+            writers: _writers,
+            before: _before,
+        } = self;
+    }
 }
 
 /// The variables that are live at each block, in order: a table with a list for each block.
@@ -40,11 +57,31 @@ pub fn live_variables(alloc: Global, cfg: &Cfg) -> Result<List<List<u32>>, Memor
     let mut first = 0;
     while first < count {
         let end = first + AT_ONCE.min(count - first);
-        let found = live_between(alloc, cfg, &index, first, end)?;
-        push_all(&mut table, found.as_slice(), first)?;
+        list_between(alloc, cfg, &index, first, end, &mut table)?;
         first = end;
     }
     Ok(table)
+}
+
+/// Adds at each block the variables from the first one up to the end that are live at it, behind those before them.
+fn list_between(
+    alloc: Global,
+    cfg: &Cfg,
+    index: &Index,
+    first: u32,
+    end: u32,
+    table: &mut List<List<u32>>,
+) -> Result<(), Memory>
+    requires index { IsIndexOf cfg.now index.now }
+    requires order { first ≤ end }
+    requires within { end ≤ length cfg.now.vars }
+    requires few { IsNumbered (length cfg.now.vars) }
+    requires below { ListsBelow cfg.now first table.old }
+    ensures { OnOk result (ListsBelow cfg.now end table.new) }
+{
+    let found = live_between(alloc, cfg, index, first, end)?;
+    push_all(table, found.as_slice(), first)?;
+    Ok(())
 }
 
 fn make_index(alloc: Global, cfg: &Cfg) -> Result<Index, Memory>

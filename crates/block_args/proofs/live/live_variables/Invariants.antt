@@ -1,5 +1,5 @@
 use Rattle.std.proofs.Common.{◌≤◌, ◌-◌}
-use Rattle.block_args.proofs.Listing.{ListsBelow}
+use Rattle.block_args.specs.Indexes.{ListsBelow}
 use Rattle.block_args.proofs.live.live_variables.Given as goal
 
 abbrev pub invariant-loop-first : goal.invariant-loop-first
