@@ -1,5 +1,5 @@
 -- Blocks in a row can be joined, and are then blocks of a well formed graph again.
-use Rattle.std.proofs.Common.{◌≡◌, ◌≢◌, ℕ, zero, suc, ◌+◌, ◌-◌, ◌<◌, ◌≤◌, List, [], ◌∷◌, ◌++◌, map, length, Option, Some, None, refl, sym, ◌∙◌, ap, subst, arith, length-append}
+use Rattle.std.proofs.Common.{◌≡◌, ◌≢◌, ℕ, zero, suc, ◌+◌, ◌-◌, ◌<◌, ◌≤◌, List, [], ◌∷◌, ◌++◌, map, length, get_or, Option, Some, None, refl, sym, ◌∙◌, ap, subst, arith, length-append}
 use Rattle.std.specs.Prelude.{set, sum_by, option_map, replicate}
 use Rattle.std.specs.Option.{option_map_or}
 use Rattle.std.proofs.lemmas.Option.{slice_get_within, same_Some}
@@ -29,6 +29,7 @@ use Rattle.block_merge.specs.Parts.{AreBlocks, given_on, CanBeJoined, TakesIn}
 use Rattle.block_merge.specs.declared.moving.Numbers.{Numbers}
 use Rattle.block_merge.proofs.JoinedValues.{shape_long, somes_long, widths, handed_long}
 use Rattle.block_merge.proofs.JoinedRuns.{is_c, hand}
+use Rattle.block_merge.proofs.OrderLemmas.{same_default}
 use Rattle.block_merge.proofs.Rows.{IsRow, is_row}
 use Rattle.block_merge.proofs.JoinedFits as row
 use Rattle.block_merge.proofs.Passes.{join_keeps}
@@ -149,28 +150,6 @@ module _ (bs : List Block) (k : ℕ) (to : To) (are : AreBlocks bs) (is : IsRow 
     joinable = can_join;
   }
 
--- ---- the code's step
-
-set_swap : (xs : List Block) (i j : ℕ) (a b : Block) → i ≢ j → set (set xs i a) j b ≡ set (set xs j b) i a
-set_swap [] i j a b ne = refl
-set_swap (x ∷ xs) zero zero a b ne = absurd (ne refl)
-set_swap (x ∷ xs) zero (suc j) a b ne = refl
-set_swap (x ∷ xs) (suc i) zero a b ne = refl
-set_swap (x ∷ xs) (suc i) (suc j) a b ne = ap (λ l. x ∷ l) (set_swap xs i j a b (λ e. ne (ap suc e)))
-
-pub taken_is : (bs : List Block) (k next : ℕ) (done : Block) (other : Block) → TakesIn bs k next
-    → done ≡ joined (block_of (set bs next (idle next)) k) (given_on (block_of (set bs next (idle next)) k).jump) (block_of bs next)
-    → (to : To) → next_in_row bs k ≡ Some to → set (set (set bs next (idle next)) k other) k done ≡ joined_at bs k to
-taken_is bs k next done other t e to is =
-    let same : t.to ≡ to = same_Some t.to to (sym t.is_next ∙ is) in
-    let b : block_of (set bs next (idle next)) k ≡ block_of bs k = get_or-set_other bs next k (idle next) no_block t.other in
-    let d : done ≡ joined (block_of bs k) t.to.with (block_of bs next) = e ∙ ap (λ (x : Block). joined x (given_on x.jump) (block_of bs next)) b ∙ ap (λ w. joined (block_of bs k) w (block_of bs next)) t.goes in
-    let one : set (set (set bs next (idle next)) k other) k done ≡ set (set bs next (idle next)) k done = set-set (set bs next (idle next)) k other done in
-    let two : set (set bs next (idle next)) k done ≡ set (set bs k done) next (idle next) = set_swap bs next k (idle next) done (λ x. t.other (sym x)) in
-    let three : set (set bs k done) next (idle next) ≡ set (set bs k (joined (block_of bs k) t.to.with (block_of bs next))) next (idle next) = ap (λ x. set (set bs k x) next (idle next)) d in
-    let four : set (set bs k (joined (block_of bs k) t.to.with (block_of bs next))) next (idle next) ≡ joined_at bs k t.to = ap (λ n. set (set bs k (joined (block_of bs k) t.to.with (block_of bs n))) n (idle n)) (sym t.number) in
-    one ∙ two ∙ three ∙ four ∙ ap (joined_at bs k) same
-
 -- ---- rows
 
 -- the state of a row after some joins
@@ -246,17 +225,21 @@ rows_more first bs new counts k m h e =
 
 -- ---- as the code has it
 
-pub take_in_made : (bs one two three : List Block) (k next : ℕ) (first other taken block done : Block) → TakesIn bs k next → first ≡ idle next → taken ≡ block_of bs next → one ≡ set bs next first
-    → block ≡ block_of one k → two ≡ set one k other → done ≡ joined block (given_on block.jump) taken → three ≡ set two k done
+pub take_in_made : (bs one slice two three : List Block) (k next : ℕ) (other taken block done last : Block) → TakesIn bs k next → block ≡ block_of bs k → one ≡ set bs k other → slice ≡ one → taken ≡ get_or slice next taken
+    → done ≡ joined block (given_on block.jump) taken → two ≡ set one k done → last ≡ idle next → three ≡ set two next last
     → (to : To) → next_in_row bs k ≡ Some to → three ≡ joined_at bs k to
-take_in_made bs one two three k next first other taken block done t e_first e_taken e_one e_block e_two e_done e_three to is =
-    let start = set bs next (idle next) in
-    let begun : one ≡ start = e_one ∙ ap (set bs next) e_first in
-    let mine : block ≡ block_of start k = e_block ∙ ap (λ (l : List Block). block_of l k) begun in
-    let d : done ≡ joined (block_of start k) (given_on (block_of start k).jump) (block_of bs next) =
-    e_done ∙ ap (λ (x : Block). joined x (given_on x.jump) taken) mine ∙ ap (λ (y : Block). joined (block_of start k) (given_on (block_of start k).jump) y) e_taken in
-    let end : three ≡ set (set start k other) k done = e_three ∙ ap (λ (l : List Block). set l k done) (e_two ∙ ap (λ (l : List Block). set l k other) begun) in
-    end ∙ taken_is bs k next done other t d to is
+take_in_made bs one slice two three k next other taken block done last t e_block e_one e_slice e_taken e_done e_two e_last e_three to is =
+    let same : t.to ≡ to = same_Some t.to to (sym t.is_next ∙ is) in
+    let other_place : next ≢ k = λ x. t.other (sym x) in
+    let lt : next < length bs = t.next_within in
+    let mine : taken ≡ block_of bs next =
+    e_taken ∙ ap (λ (l : List Block). get_or l next taken) (e_slice ∙ e_one) ∙ get_or-set_other bs k next other taken other_place ∙ same_default bs next taken no_block lt in
+    let d : done ≡ joined (block_of bs k) t.to.with (block_of bs next) =
+    e_done ∙ ap (λ (x : Block). joined x (given_on x.jump) taken) e_block ∙ ap (λ (y : Block). joined (block_of bs k) (given_on (block_of bs k).jump) y) mine ∙ ap (λ w. joined (block_of bs k) w (block_of bs next)) t.goes in
+    let both : two ≡ set bs k done = e_two ∙ ap (λ (l : List Block). set l k done) e_one ∙ set-set bs k other done in
+    let end : three ≡ set (set bs k done) next (idle next) = e_three ∙ ap (λ (l : List Block). set l next last) both ∙ ap (set (set bs k done) next) e_last in
+    let four : set (set bs k (joined (block_of bs k) t.to.with (block_of bs next))) next (idle next) ≡ joined_at bs k t.to = ap (λ n. set (set bs k (joined (block_of bs k) t.to.with (block_of bs n))) n (idle n)) (sym t.number) in
+    end ∙ ap (λ x. set (set bs k x) next (idle next)) d ∙ four ∙ ap (joined_at bs k) same
 
 abbrev next_number : List Block → ℕ → Option ℕ
 next_number bs k = option_map (λ (t : To). t.block) (next_in_row bs k)

@@ -144,9 +144,9 @@ fn given_on(alloc: Global, jump: Jump) -> List<u32>
 }
 
 /// A block and behind it the one that it leads to.
-fn join(alloc: Global, block: Block, next: Block) -> Result<Block, Memory>
-    requires { CanBeJoined block next }
-    ensures { IfOk result (λ b. b ≡ joined block (given_on block.jump) next) }
+fn join(alloc: Global, block: Block, next: &Block) -> Result<Block, Memory>
+    requires { CanBeJoined block next.now }
+    ensures { IfOk result (λ b. b ≡ joined block (given_on block.jump) next.now) }
 {
     let Block { args, steps, jump } = block;
     let numbers = Numbers {
@@ -193,10 +193,10 @@ fn take_in(
         → bs ≡ joined_at blocks at to) }
 {
     let mut blocks = blocks;
-    let taken = replace(&mut blocks, next, idle(alloc, next as u32));
     let block = replace(&mut blocks, at, idle(alloc, next as u32));
-    let joined = join(alloc, block, taken)?;
+    let joined = join(alloc, block, &blocks.as_slice()[next])?;
     blocks.set(at, joined);
+    blocks.set(next, idle(alloc, next as u32));
     Ok(blocks)
 }
 

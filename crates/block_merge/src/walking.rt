@@ -203,6 +203,25 @@ impl Order {
         }
         Ok(())
     }
+
+    /// Finds all blocks, where none is found yet.
+    fn find_all(&mut self, blocks: &[Block]) -> Result<(), Memory>
+        requires order { IsOrder blocks.now self.old }
+        requires none { self.old.found.items ≡ [] }
+        requires some { 0 < length blocks.now }
+        requires few { IsNumbered (length blocks.now) }
+        requires within { AllWithin blocks.now }
+        requires arrays { StoresWithin (length self.old.stored.items) blocks.now }
+        ensures { OnOk result (self.new.found.items ≡ found_blocks blocks.now) }
+    {
+        self.note(blocks, 0)?;
+        self.walk(blocks, 0)?;
+        let count = blocks.len() as u32;
+        for number in 0..count {
+            self.start(blocks, number)?;
+        }
+        Ok(())
+    }
 }
 
 /// The list in which no block is found.
@@ -231,11 +250,6 @@ pub(crate) fn found_blocks(
     ensures { IfOk result (λ found. found.items ≡ found_blocks blocks.now) }
 {
     let mut order = unfound(alloc, blocks, arrays)?;
-    order.note(blocks, 0)?;
-    order.walk(blocks, 0)?;
-    let count = blocks.len() as u32;
-    for number in 0..count {
-        order.start(blocks, number)?;
-    }
+    order.find_all(blocks)?;
     Ok(order.found)
 }
