@@ -22,6 +22,7 @@ mod CountWhole
 mod Ending
 mod Fields
 mod ForkLemmas
+mod Going
 mod Growth
 mod Keeps
 mod Keys

@@ -37,20 +37,21 @@ use std::alloc::Global;
 pub(crate) fn start(alloc: Global, targets: usize) -> Result<Draft, Memory>
     ensures { IfOk result (λ d. d ≡ started targets) }
 {
-    let mut units = List::new(alloc);
-    units.push(Unit::Entry)?;
-    Ok(Draft {
-        units,
+    let tails = zeros(alloc, targets)?;
+    let mut draft = Draft {
+        units: List::new(alloc),
         chans: List::new(alloc),
         control: Place { unit: 0, place: 0 },
         trigger: Place { unit: 0, place: 0 },
         uses: List::new(alloc),
         ends: List::new(alloc),
         edges: List::new(alloc),
-        tails: zeros(alloc, targets)?,
+        tails,
         heads: List::new(alloc),
         queues: List::new(alloc),
-    })
+    };
+    draft.units.push(Unit::Entry)?;
+    Ok(draft)
 }
 
 // The kind of port for the step at a place.

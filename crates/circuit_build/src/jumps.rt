@@ -1,6 +1,7 @@
 //! The jumps of blocks.
 ghost use Rattle.std.specs.Prelude.{◌≡◌, cond, true, length, IfOk, OnOk};
 ghost use Rattle.circuit_build.specs.Drafts.{number, next, buffered, copied};
+ghost use Rattle.circuit_build.specs.Uses.{handed_often};
 ghost use Rattle.circuit_build.specs.Jumps.{
   with_edge,
   head_end,
@@ -221,24 +222,53 @@ impl Draft {
         Ok((yes, no))
     }
 
-    // To one of two targets.
-    fn part(&mut self, alloc: Global, cond: u32, yes: &To, no: &To) -> Result<(), Memory>
-        ensures { OnOk result (self.new ≡ parted cond yes.now no.now self.old) }
+    // A branch of each value that the jump's sides hand on; the ends of the values for both sides.
+    fn branch_handed(
+        &mut self,
+        alloc: Global,
+        cond: u32,
+        yes: &To,
+        no: &To,
+    ) -> Result<(List<Option<End>>, List<Option<End>>), Memory>
+        ensures draft { OnOk result (self.new ≡ all_branched cond 0
+            (handed_often (length self.old.ends) yes.now)
+            (handed_often (length self.old.ends) no.now) self.old) }
+        ensures yes { IfOk result (λ es. es.0 ≡ yes_ends (all_sides cond 0
+            (handed_often (length self.old.ends) yes.now)
+            (handed_often (length self.old.ends) no.now) self.old)) }
+        ensures no { IfOk result (λ es. es.1 ≡ no_ends (all_sides cond 0
+            (handed_often (length self.old.ends) yes.now)
+            (handed_often (length self.old.ends) no.now) self.old)) }
     {
         let values = self.ends.len();
         let for_yes = handed(alloc, values, yes)?;
         let for_no = handed(alloc, values, no)?;
-        let (yes_ends, no_ends) = self.branch_all(
-            alloc,
-            cond,
-            for_yes.as_slice(),
-            for_no.as_slice(),
-        )?;
+        self.branch_all(alloc, cond, for_yes.as_slice(), for_no.as_slice())
+    }
+
+    // An edge to the target of a side, which hands on a use of each value in order.
+    fn lead_side(
+        &mut self,
+        alloc: Global,
+        to: &To,
+        control: Place,
+        ends: List<Option<End>>,
+    ) -> Result<(), Memory>
+        ensures { OnOk result (self.new
+            ≡ with_edge to.now.block control (taken to.now.with ends) self.old) }
+    {
+        let with = take_all(alloc, ends, to.with.as_slice())?;
+        self.lead(to.block, control, with)
+    }
+
+    // To one of two targets.
+    fn part(&mut self, alloc: Global, cond: u32, yes: &To, no: &To) -> Result<(), Memory>
+        ensures { OnOk result (self.new ≡ parted cond yes.now no.now self.old) }
+    {
+        let (yes_ends, no_ends) = self.branch_handed(alloc, cond, yes, no)?;
         let unit = self.branch_control(cond)?;
-        let yes_with = take_all(alloc, yes_ends, yes.with.as_slice())?;
-        let no_with = take_all(alloc, no_ends, no.with.as_slice())?;
-        self.lead(yes.block, Place { unit, place: 0 }, yes_with)?;
-        self.lead(no.block, Place { unit, place: 1 }, no_with)
+        self.lead_side(alloc, yes, Place { unit, place: 0 }, yes_ends)?;
+        self.lead_side(alloc, no, Place { unit, place: 1 }, no_ends)
     }
 
     /// A jump; a return leads to the target `join`.
