@@ -12,9 +12,6 @@ use Rattle.c_ast.specs.declared.typed.TypedExprKind.TheBlock.{shape-the_row-Type
 use Rattle.c_meaning.specs.Counts.{operator_price, kind_price, indices_price, expr_price, target_price}
 use Rattle.struct_cfg.specs.Exprs.{kind_laying, row_pieces, laying_step, expr_laying, piece}
 
-pub price_number : (e : TypedExpr) (m : ℕ) → e.kind ≡ expr.Number m → expr_price e ≡ 1
-price_number e m is = ap kind_price is
-
 indices_cost : (es : List TypedExpr) → 1 + indices_price (hidden-the_row-TypedExpr-0 es) ≡ target_price es
 unfolding shape-the_row-TypedExpr-0 hidden-the_row-TypedExpr-0 shape-the_row-TypedExpr-1 hidden-the_row-TypedExpr-1 hidden
 indices_cost [] = refl
