@@ -42,7 +42,7 @@ def field_of(text):
 
 
 class Crate:
-    """The files of rows of a program and its answers, one a line below each file's name."""
+    """The files of rows of a program and its answers, one a line below each file's name, or below another title."""
 
     def __init__(self, name):
         self.folder = TOP / "crates" / name
@@ -51,7 +51,9 @@ class Crate:
             if line.startswith("== "):
                 at = line[3:]
                 self.answers[at] = []
-                self.files[at] = (self.folder / "data" / at).read_text(encoding="ascii").split("\n")[:-1]
+                rows = self.folder / "data" / at
+                if rows.exists():
+                    self.files[at] = rows.read_text(encoding="ascii").split("\n")[:-1]
             else:
                 self.answers[at].append(line)
         for at, rows in self.files.items():
