@@ -9,11 +9,21 @@ use std::thread::Threads;
 pub const ROOM: u64 = 1_000_000;
 
 /// What a call comes to: its status, and what was written to the output and to the error output.
-#[derive(Drop)]
 pub struct Answered {
     pub code: u8,
     pub out: MemSink,
     pub err: MemSink,
+}
+
+// By hand, so that to let go of one is a call.
+impl Drop for Answered {
+    fn drop(self) {
+        let Answered {
+            code: _code,
+            out: _out,
+            err: _err,
+        } = self;
+    }
 }
 
 /// Which calls of the devices fail, by their numbers from 0, and how many bytes the output takes at once.
@@ -33,29 +43,47 @@ pub const SOUND: Failing = Failing {
     told: None,
 };
 
-/// The answer of the call of these words, with spaces between them, whose workers ask a gate.
+/// The answer of the call of these words, with spaces between them, on these files, whose workers ask a gate.
 pub fn answer<R: Threads + Sync, G: Gate + Sync>(
     rt: &R,
     alloc: Global,
     words: &str,
-    mut files: MemFiles,
+    files: &mut MemFiles,
     failing: &Failing,
     gate: &G,
 ) -> Result<Answered> {
-    let given = parted(alloc, words)?;
     if let Some(call) = failing.read {
         if files.fail_at(call).is_err() {
             bail!("want of memory");
         }
     }
-    let mut out = sink(alloc, failing.piece, failing.put)?;
-    let mut err = sink(alloc, ROOM, failing.told)?;
-    let status = top(rt, alloc, &given, &mut files, &mut out, &mut err, gate);
+    let mut answered = unanswered(alloc, failing)?;
+    call(rt, alloc, words, files, &mut answered, gate)?;
+    Ok(answered)
+}
+
+/// An answer to which nothing is written yet, on outputs that may fail.
+fn unanswered(alloc: Global, failing: &Failing) -> Result<Answered> {
     Ok(Answered {
-        code: status.code,
-        out,
-        err,
+        code: 0,
+        out: sink(alloc, failing.piece, failing.put)?,
+        err: sink(alloc, ROOM, failing.told)?,
     })
+}
+
+/// Makes the call of these words, and writes its answer.
+fn call<R: Threads + Sync, G: Gate + Sync>(
+    rt: &R,
+    alloc: Global,
+    words: &str,
+    files: &mut MemFiles,
+    answered: &mut Answered,
+    gate: &G,
+) -> Result<()> {
+    let given = parted(alloc, words)?;
+    let (out, err) = (&mut answered.out, &mut answered.err);
+    answered.code = top(rt, alloc, &given, files, out, err, gate).code;
+    Ok(())
 }
 
 /// Words with spaces between them.

@@ -19,17 +19,49 @@ pub fn put_agreement<R: Threads + Sync>(
 ) -> Result<()> {
     let kernel = text_within(alloc, kernel, MAX_KERNEL_BYTES)?;
     let inputs = text_within(alloc, inputs, MAX_INPUTS_BYTES)?;
-    let results = text_within(alloc, results, MAX_INPUTS_BYTES)?;
     let files = [("k", kernel.as_slice()), ("i", inputs.as_slice())];
-    let plain = sound(rt, alloc, "go k i --limit 2000000", &files)?;
-    let wrap = sound(rt, alloc, "go k i --limit 2000000 --wrap", &files)?;
+    put_results(rt, alloc, &files, results, out)
+}
+
+/// The same of the files of a kernel and of inputs.
+fn put_results<R: Threads + Sync>(
+    rt: &R,
+    alloc: Global,
+    files: &[(&str, &[u8])],
+    results: &str,
+    out: &mut Output,
+) -> Result<()> {
+    let plain = sound(rt, alloc, "go k i --limit 2000000", files)?;
+    let results = text_within(alloc, results, MAX_INPUTS_BYTES)?;
     let circuit = without_results(plain.out.bytes(), results.as_slice());
-    let again = sound(rt, alloc, "upgrade n", &[("n", circuit)])?;
-    let is_right = plain.code == 0 && !circuit.is_empty();
+    put_word(plain.code == 0 && !circuit.is_empty(), "results", out);
+    put_wrap(rt, alloc, files, &plain, out)?;
+    put_circuit(rt, alloc, circuit, out)
+}
+
+/// Writes whether a run with `--wrap` answers as one without it did.
+fn put_wrap<R: Threads + Sync>(
+    rt: &R,
+    alloc: Global,
+    files: &[(&str, &[u8])],
+    plain: &Answered,
+    out: &mut Output,
+) -> Result<()> {
+    let wrap = sound(rt, alloc, "go k i --limit 2000000 --wrap", files)?;
     let is_alike = wrap.code == plain.code && wrap.out.bytes() == plain.out.bytes();
-    let is_back = again.code == 0 && again.out.bytes() == circuit;
-    put_word(is_right, "results", out);
     put_word(is_alike, " wrap", out);
+    Ok(())
+}
+
+/// Writes whether a circuit is read and printed as it was.
+fn put_circuit<R: Threads + Sync>(
+    rt: &R,
+    alloc: Global,
+    circuit: &[u8],
+    out: &mut Output,
+) -> Result<()> {
+    let again = sound(rt, alloc, "upgrade n", &[("n", circuit)])?;
+    let is_back = again.code == 0 && again.out.bytes() == circuit;
     put_word(is_back, " circuit", out);
     Ok(())
 }
@@ -56,19 +88,24 @@ pub fn put_count<R: Threads + Sync>(
     let text = std::str::from_utf8(compiled.out.bytes())
         .ok()
         .context("a text of other bytes")?;
+    out.number(compiled.code);
+    out.word(": ");
+    out.number(lines_of(text, front));
+    out.word(" lines of '");
+    out.word(front);
+    out.word("'");
+    Ok(())
+}
+
+/// How many lines of a text begin with these words.
+fn lines_of(text: &str, front: &str) -> u64 {
     let mut count: u64 = 0;
     for line in text.lines() {
         if line.starts_with(front) {
             count = count.saturating_add(1);
         }
     }
-    out.number(compiled.code);
-    out.word(": ");
-    out.number(count);
-    out.word(" lines of '");
-    out.word(front);
-    out.word("'");
-    Ok(())
+    count
 }
 
 /// The answer of a call on sound devices with these files.
@@ -82,7 +119,7 @@ fn sound<R: Threads + Sync>(
     for (name, content) in files {
         add_file(&mut held, name, content)?;
     }
-    answer(rt, alloc, words, held, &SOUND, &Open)
+    answer(rt, alloc, words, &mut held, &SOUND, &Open)
 }
 
 /// The text of a circuit: what stands before the line `%%` and these results. It is empty where a text does not end so.

@@ -1,10 +1,10 @@
 //! Processes, with what their hosts hand over.
 use crate::calls::{parted, sound_sink};
-use crate::tries::held_files;
+use crate::tries::{held_files, put_escaped};
 use anyhow::{Result, bail};
-use el_io::Open;
+use el_io::{MemFiles, Open};
 use elastic_top::process;
-use row_fields::{Output, escaped};
+use row_fields::Output;
 use std::alloc::Global;
 use std::env::Args;
 use std::io;
@@ -19,17 +19,28 @@ pub fn put_process<R: Threads + Sync>(
     files: &[&str],
     out: &mut Output,
 ) -> Result<()> {
-    let args = handed_over(alloc, error, words)?;
     let mut files = held_files(alloc, files)?;
+    put_process_on(rt, alloc, error, words, &mut files, out)
+}
+
+/// The same of a process on these files.
+fn put_process_on<R: Threads + Sync>(
+    rt: &R,
+    alloc: Global,
+    error: &str,
+    words: &str,
+    files: &mut MemFiles,
+    out: &mut Output,
+) -> Result<()> {
     let mut text = sound_sink(alloc)?;
     let mut lines = sound_sink(alloc)?;
-    let code = process(rt, alloc, args, &mut files, &mut text, &mut lines, &Open);
+    let args = handed_over(alloc, error, words)?;
+    let code = process(rt, alloc, args, files, &mut text, &mut lines, &Open);
     out.debug(&code);
     out.word("\t");
-    out.bytes(escaped(alloc, text.bytes())?.as_slice());
+    put_escaped(alloc, text.bytes(), out)?;
     out.word("\t");
-    out.bytes(escaped(alloc, lines.bytes())?.as_slice());
-    Ok(())
+    put_escaped(alloc, lines.bytes(), out)
 }
 
 /// What a host hands over: the words, where there is no error, or the error of a kind.

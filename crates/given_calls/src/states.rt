@@ -1,6 +1,6 @@
 //! States that are saved and gone on from.
-use crate::calls::{SOUND, add_file, answer};
-use crate::tries::{Told, held_files, put_answered};
+use crate::calls::SOUND;
+use crate::tries::{answer_on, put_call_with};
 use anyhow::Result;
 use el_io::Open;
 use row_fields::Output;
@@ -17,12 +17,8 @@ pub fn put_resumed<R: Threads + Sync>(
     files: &[&str],
     out: &mut Output,
 ) -> Result<()> {
-    let held = held_files(alloc, files)?;
-    let saved = answer(rt, alloc, save, held, &SOUND, &Open)?;
+    let saved = answer_on(rt, alloc, save, files, &SOUND, &Open)?;
     out.number(saved.code);
     out.word("\t");
-    let mut held = held_files(alloc, files)?;
-    add_file(&mut held, "p", saved.out.bytes())?;
-    let resumed = answer(rt, alloc, resume, held, &SOUND, &Open)?;
-    put_answered(alloc, &resumed, Told::Whole, out)
+    put_call_with(rt, alloc, resume, files, ("p", saved.out.bytes()), out)
 }

@@ -2,7 +2,7 @@
 use crate::calls::{Answered, Failing, SOUND, add_file, answer};
 use anyhow::{Context, Result};
 use el_base::MAX_NETLIST_BYTES;
-use el_io::{MemFiles, Open};
+use el_io::{Gate, MemFiles, Open};
 use row_fields::{Output, escaped, text_within};
 use std::alloc::Global;
 use std::thread::Threads;
@@ -27,9 +27,36 @@ pub fn put_try<R: Threads + Sync>(
     told: Told,
     out: &mut Output,
 ) -> Result<()> {
-    let held = held_files(alloc, files)?;
-    let answered = answer(rt, alloc, words, held, &SOUND, &Open)?;
+    let answered = answer_on(rt, alloc, words, files, &SOUND, &Open)?;
     put_answered(alloc, &answered, told, out)
+}
+
+/// The answer of a call on the files of fields.
+pub fn answer_on<R: Threads + Sync, G: Gate + Sync>(
+    rt: &R,
+    alloc: Global,
+    words: &str,
+    files: &[&str],
+    failing: &Failing,
+    gate: &G,
+) -> Result<Answered> {
+    let mut held = held_files(alloc, files)?;
+    answer(rt, alloc, words, &mut held, failing, gate)
+}
+
+/// Writes what a call on sound devices answers on the files of fields and one more.
+pub fn put_call_with<R: Threads + Sync>(
+    rt: &R,
+    alloc: Global,
+    words: &str,
+    files: &[&str],
+    (name, content): (&str, &[u8]),
+    out: &mut Output,
+) -> Result<()> {
+    let mut held = held_files(alloc, files)?;
+    add_file(&mut held, name, content)?;
+    let answered = answer(rt, alloc, words, &mut held, &SOUND, &Open)?;
+    put_answered(alloc, &answered, Told::Whole, out)
 }
 
 /// The same of a call on devices that fail: at a read, at a write or at a told line, where the output takes pieces of bytes.
@@ -42,8 +69,7 @@ pub fn put_failing<R: Threads + Sync>(
     out: &mut Output,
 ) -> Result<()> {
     let failing = failing_of(failing).context("a piece is a number")?;
-    let held = held_files(alloc, files)?;
-    let answered = answer(rt, alloc, words, held, &failing, &Open)?;
+    let answered = answer_on(rt, alloc, words, files, &failing, &Open)?;
     put_answered(alloc, &answered, Told::Whole, out)
 }
 
@@ -68,34 +94,41 @@ pub fn put_long<R: Threads + Sync>(
     out: &mut Output,
 ) -> Result<()> {
     let (name, content) = long.split_once(':').context("a file is NAME:CONTENT")?;
-    let mut held = held_files(alloc, files)?;
-    add_file(&mut held, name, long_text(alloc, content)?.as_slice())?;
-    let answered = answer(rt, alloc, words, held, &SOUND, &Open)?;
-    put_answered(alloc, &answered, Told::Whole, out)
+    let content = long_text(alloc, content)?;
+    put_call_with(rt, alloc, words, files, (name, content.as_slice()), out)
 }
 
 /// A text, so many letters x, and another text, with stars between them.
 fn long_text(alloc: Global, field: &str) -> Result<Vec<u8>> {
-    let (front, rest) = field.split_once('*').context("FRONT*COUNT*BACK")?;
-    let (count, back) = rest.split_once('*').context("FRONT*COUNT*BACK")?;
-    let count: u32 = count.parse().ok().context("a count is a number")?;
+    let (front, count, back) = long_parts(field).context("FRONT*COUNT*BACK")?;
     let mut text = text_within(alloc, front, MAX_NETLIST_BYTES)?;
-    for _ in 0..count {
-        text.push(b'x')?;
-    }
-    text.extend_from_slice(text_within(alloc, back, MAX_NETLIST_BYTES)?.as_slice())?;
+    let back = text_within(alloc, back, MAX_NETLIST_BYTES)?;
+    text.resize(text.len().saturating_add(count as usize), b'x')?;
+    text.extend_from_slice(back.as_slice())?;
     Ok(text)
+}
+
+/// What stands before, between and after the stars of a field, which is a number between them.
+fn long_parts(field: &str) -> Option<(&str, u32, &str)> {
+    let (front, rest) = field.split_once('*')?;
+    let (count, back) = rest.split_once('*')?;
+    Some((front, count.parse().ok()?, back))
 }
 
 /// The files of fields `NAME:CONTENT`.
 pub fn held_files(alloc: Global, files: &[&str]) -> Result<MemFiles> {
     let mut held = MemFiles::new(alloc);
     for file in files {
-        let (name, content) = file.split_once(':').context("a file is NAME:CONTENT")?;
-        let content = text_within(alloc, content, MAX_NETLIST_BYTES)?;
-        add_file(&mut held, name, content.as_slice())?;
+        hold(alloc, file, &mut held)?;
     }
     Ok(held)
+}
+
+/// Adds the file of a field `NAME:CONTENT`.
+fn hold(alloc: Global, file: &str, held: &mut MemFiles) -> Result<()> {
+    let (name, content) = file.split_once(':').context("a file is NAME:CONTENT")?;
+    let content = text_within(alloc, content, MAX_NETLIST_BYTES)?;
+    add_file(held, name, content.as_slice())
 }
 
 /// Writes a status, what is told of the output, and the error output.
@@ -117,13 +150,17 @@ pub fn put_parts(
     lines: &[u8],
     out: &mut Output,
 ) -> Result<()> {
-    let text = escaped(alloc, text)?;
-    let lines = escaped(alloc, lines)?;
     out.number(code);
     out.word("\t");
-    out.bytes(text.as_slice());
+    put_escaped(alloc, text, out)?;
     out.word("\t");
-    out.bytes(lines.as_slice());
+    put_escaped(alloc, lines, out)
+}
+
+/// Writes bytes as a text with escapes.
+pub fn put_escaped(alloc: Global, bytes: &[u8], out: &mut Output) -> Result<()> {
+    let text = escaped(alloc, bytes)?;
+    out.bytes(text.as_slice());
     Ok(())
 }
 

@@ -1,7 +1,7 @@
 //! Calls by workers that a gate stops or lets meet, and schedules of workers that are replayed.
-use crate::calls::{SOUND, add_file, answer};
+use crate::calls::SOUND;
 use crate::gates::Stop;
-use crate::tries::{Told, held_files, parted, put_answered, put_parts};
+use crate::tries::{Told, answer_on, parted, put_answered, put_call_with, put_parts};
 use anyhow::{Context, Result};
 use el_io::Open;
 use meeting_gate::Meeting;
@@ -20,8 +20,7 @@ pub fn put_stopped<R: Threads + Sync>(
 ) -> Result<()> {
     let (only, open) = stop_of(stopped).context("a worker or all, and a question from 1")?;
     let gate = Stop::new(alloc, only, open)?;
-    let held = held_files(alloc, files)?;
-    let answered = answer(rt, alloc, words, held, &SOUND, &gate)?;
+    let answered = answer_on(rt, alloc, words, files, &SOUND, &gate)?;
     put_answered(alloc, &answered, Told::Whole, out)
 }
 
@@ -45,8 +44,7 @@ pub fn put_meeting<R: Threads + Sync>(
     out: &mut Output,
 ) -> Result<()> {
     let gate = Meeting::new(alloc, 2)?;
-    let held = held_files(alloc, files)?;
-    let answered = answer(rt, alloc, words, held, &SOUND, &gate)?;
+    let answered = answer_on(rt, alloc, words, files, &SOUND, &gate)?;
     put_answered(alloc, &answered, Told::Whole, out)?;
     out.word("\t");
     out.word(gate.outcome());
@@ -62,13 +60,9 @@ pub fn put_replayed<R: Threads + Sync>(
     files: &[&str],
     out: &mut Output,
 ) -> Result<()> {
-    let held = held_files(alloc, files)?;
-    let run = answer(rt, alloc, words, held, &SOUND, &Open)?;
+    let run = answer_on(rt, alloc, words, files, &SOUND, &Open)?;
     let (results, schedule) = parted(run.out.bytes())?.context("no schedule")?;
     put_parts(alloc, run.code, results, run.err.bytes(), out)?;
     out.word("\t");
-    let mut held = held_files(alloc, files)?;
-    add_file(&mut held, "s", schedule)?;
-    let again = answer(rt, alloc, "replay n i s", held, &SOUND, &Open)?;
-    put_answered(alloc, &again, Told::Whole, out)
+    put_call_with(rt, alloc, "replay n i s", files, ("s", schedule), out)
 }
