@@ -27,33 +27,68 @@ pub fn run(rt: &HostRuntime, words: &[&str], out: &mut Output) -> Result<()> {
     let [name, len, runs] = words else {
         bail!("write benches inputs FILE LENGTH RUNS");
     };
-    let text = read_file(rt, name)?;
     let len: u64 = len.parse().context("LENGTH is a number")?;
     let runs: u32 = runs.parse().context("RUNS is a number")?;
     ensure!(runs > 0, "RUNS is above 0");
-    let name = named(rt.alloc(), b"a")?;
+    let text = read_file(rt, name)?;
     let array = Array {
-        name,
+        name: named(rt.alloc(), b"a")?,
         ty: Ty::I32,
         len,
     };
-    let mut reading = u64::MAX;
-    let mut printing = u64::MAX;
-    let mut printed = 0;
+    put_times(rt, &array, text.as_slice(), runs, out)
+}
+
+/// The least microseconds so far, and how many bytes are printed.
+#[derive(Clone, Copy)]
+struct Times {
+    reading: u64,
+    printing: u64,
+    printed: u64,
+}
+
+/// Writes the least times of so many runs on a text for an array.
+fn put_times(
+    rt: &HostRuntime,
+    array: &Array,
+    text: &[u8],
+    runs: u32,
+    out: &mut Output,
+) -> Result<()>
+    requires { IsNumbered (length text.now) }
+{
+    let mut times = Times {
+        reading: u64::MAX,
+        printing: u64::MAX,
+        printed: 0,
+    };
     for _ in 0..runs {
-        let start = Instant::now(rt)?;
-        let inputs = read(rt.alloc(), &array, text.as_slice())?;
-        reading = reading.min(u64::try_from(start.elapsed(rt)?.as_micros())?);
-        let start = Instant::now(rt)?;
-        printed = print(rt.alloc(), &array, &inputs)?;
-        printing = printing.min(u64::try_from(start.elapsed(rt)?.as_micros())?);
+        time(rt, array, text, &mut times)?;
     }
     out.word("read ");
-    put_pace(reading, text.len() as u64, out);
+    put_pace(times.reading, text.len() as u64, out);
     out.word("; print ");
-    put_pace(printing, printed, out);
+    put_pace(times.printing, times.printed, out);
     out.word("\n");
     Ok(())
+}
+
+/// One run on a text for an array.
+fn time(rt: &HostRuntime, array: &Array, text: &[u8], times: &mut Times) -> Result<()>
+    requires { IsNumbered (length text.now) }
+{
+    let start = Instant::now(rt)?;
+    let inputs = read(rt.alloc(), array, text)?;
+    times.reading = times.reading.min(micros_since(rt, start)?);
+    let start = Instant::now(rt)?;
+    times.printed = print(rt.alloc(), array, &inputs)?;
+    times.printing = times.printing.min(micros_since(rt, start)?);
+    Ok(())
+}
+
+/// The microseconds since a moment.
+fn micros_since(rt: &HostRuntime, start: Instant) -> Result<u64> {
+    Ok(u64::try_from(start.elapsed(rt)?.as_micros())?)
 }
 
 /// The name of those bytes.
