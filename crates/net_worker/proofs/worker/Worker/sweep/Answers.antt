@@ -1,11 +1,9 @@
-use Rattle.std.proofs.Common.{◌≡◌, Bool, true, false, ℕ, refl, arith}
+use Rattle.std.proofs.Common.{◌≡◌, ◌∙◌, sym, refl, arith}
+use Rattle.std.proofs.lemmas.Bool.{false≢true}
 use Rattle.net_worker.proofs.Exact.{swept_self}
 use Rattle.net_worker.proofs.Firing.{later_self}
 use Rattle.net_worker.proofs.Glancing.{same_worker_self}
 use Rattle.net_worker.proofs.worker.Worker.sweep.Goals as goal
-
-not_both : (b : Bool) → b ≡ true → b ≡ false → ⊥
-not_both b p q = cc
 
 pub returns-then-exited-clause-same : goal.returns-then-exited-clause-same
 returns-then-exited-clause-same c = same_worker_self c.args.self.now
@@ -14,24 +12,24 @@ pub returns-then-is_full-clause-same : goal.returns-then-is_full-clause-same
 returns-then-is_full-clause-same c = same_worker_self c.args.self.now
 
 pub returns-then-is_full-clause-exited : goal.returns-then-is_full-clause-exited
-returns-then-is_full-clause-exited c = λ e. absurd (not_both c.exited.result ((c.exited.ensures c.args.tables.now.net c.requires.made.of).1 e) c.if-exited.false)
+returns-then-is_full-clause-exited c = λ e. absurd (false≢true (sym c.if-exited.false ∙ (c.exited.ensures c.args.tables.now.net c.requires.made.of).1 e))
 
 pub returns-then-fired-eq0-clause-exited : goal.returns-then-fired-eq0-clause-exited
-returns-then-fired-eq0-clause-exited c = λ e. absurd (not_both c.exited-2.result ((c.exited-2.ensures c.args.tables.now.net c.go-fired.ensures.made.of).1 e) c.if-exited-2.false)
+returns-then-fired-eq0-clause-exited c = λ e. absurd (false≢true (sym c.if-exited-2.false ∙ (c.exited-2.ensures c.args.tables.now.net c.go-fired.ensures.made.of).1 e))
 
 pub returns-clause-exited : goal.returns-clause-exited
-returns-clause-exited c = λ e. absurd (not_both c.exited-2.result ((c.exited-2.ensures c.args.tables.now.net c.go-fired.ensures.made.of).1 e) c.if-exited-2.false)
+returns-clause-exited c = λ e. absurd (false≢true (sym c.if-exited-2.false ∙ (c.exited-2.ensures c.args.tables.now.net c.go-fired.ensures.made.of).1 e))
 
 pub returns-clause-answer : goal.returns-clause-answer
 returns-clause-answer c = (
   omega arith,
   c.go-fired.ensures.added,
-  λ e. not_both c.exited-2.result ((c.exited-2.ensures c.args.tables.now.net c.go-fired.ensures.made.of).1 e) c.if-exited-2.false,
-  λ f. not_both c.is_full.result (c.is_full.ensures.1 f) c.if-is_full.false,
+  λ e. false≢true (sym c.if-exited-2.false ∙ (c.exited-2.ensures c.args.tables.now.net c.go-fired.ensures.made.of).1 e),
+  λ f. false≢true (sym c.if-is_full.false ∙ c.is_full.ensures.1 f),
 )
 
 pub returns-then-is_full-clause-answer : goal.returns-then-is_full-clause-answer
-returns-then-is_full-clause-answer c = (c.is_full.ensures.0 c.if-is_full.true, refl, λ e. not_both c.exited.result ((c.exited.ensures c.args.tables.now.net c.requires.made.of).1 e) c.if-exited.false)
+returns-then-is_full-clause-answer c = (c.is_full.ensures.0 c.if-is_full.true, refl, λ e. false≢true (sym c.if-exited.false ∙ (c.exited.ensures c.args.tables.now.net c.requires.made.of).1 e))
 
 pub returns-then-exited-clause-stamps : goal.returns-then-exited-clause-stamps
 returns-then-exited-clause-stamps c = swept_self c.args.tables.now c.args.self.now c.requires.made
@@ -62,6 +60,6 @@ returns-then-fired-eq0-clause-answer c =
     let x : c.go-fired.result ≡ 0 = omega arith in (
       c.go-fired.ensures.none x,
       c.go-fired.ensures.held x,
-      λ e. not_both c.exited-2.result ((c.exited-2.ensures c.args.tables.now.net c.go-fired.ensures.made.of).1 e) c.if-exited-2.false,
-      λ f. not_both c.is_full.result (c.is_full.ensures.1 f) c.if-is_full.false,
+      λ e. false≢true (sym c.if-exited-2.false ∙ (c.exited-2.ensures c.args.tables.now.net c.go-fired.ensures.made.of).1 e),
+      λ f. false≢true (sym c.if-is_full.false ∙ c.is_full.ensures.1 f),
     )

@@ -1,11 +1,6 @@
-use Rattle.std.proofs.Common.{◌≡◌, Bool, true, false}
+use Rattle.std.proofs.Common.{◌∙◌, sym}
+use Rattle.std.proofs.lemmas.Bool.{false≢true}
 use Rattle.net_worker.proofs.worker.Worker.whole.Goals as goal
-
-no_truth : false ≡ true → ⊥
-no_truth q = cc
-
-not_both : (b : Bool) → b ≡ true → b ≡ false → ⊥
-not_both b p q = cc
 
 pub returns-then-has_puts : goal.returns-then-has_puts
 returns-then-has_puts c = λ t m. (
@@ -14,4 +9,4 @@ returns-then-has_puts c = λ t m. (
 )
 
 pub returns : goal.returns
-returns c = λ t m. (λ q. absurd (no_truth q), λ w. absurd (not_both c.has_puts.result ((c.has_puts.ensures t m).1 w.puts) c.if-has_puts.false))
+returns c = λ t m. (λ q. absurd (false≢true q), λ w. absurd (false≢true (sym c.if-has_puts.false ∙ (c.has_puts.ensures t m).1 w.puts)))
