@@ -1,6 +1,8 @@
 -- A firing made by the engine.
-use Rattle.std.proofs.Common.{◌≡◌, ℕ, ◌+◌, ◌<◌, ◌≤◌, ◌≢◌, Bool, true, false, cond, Option, Some, None, List, [], ◌∷◌, ◌++◌, length, map, get_or, refl, sym, ap, subst, ◌∙◌, arith, IfSome, IsSomeAnd, length-append, append_assoc}
+use Rattle.std.proofs.Common.{◌≡◌, ℕ, ◌+◌, ◌*◌, ◌<◌, ◌≤◌, ◌≢◌, Bool, true, false, cond, Option, Some, None, List, [], ◌∷◌, ◌++◌, length, map, get_or, refl, sym, ap, subst, ◌∙◌, arith, IfSome, IsSomeAnd, length-append, append_assoc}
 use Rattle.std.specs.List.{AllByRecursion}
+use Rattle.el_base.specs.Limits.{max_depth}
+use Rattle.el_base.specs.Logs.{Logged}
 use Rattle.net_types.specs.declared.net.Net.{Net}
 use Rattle.net_types.specs.declared.firing.Firing.{Firing}
 use Rattle.net_types.specs.Nets.{into, out_of, chan_at, kind_of}
@@ -12,18 +14,21 @@ use Rattle.net_core.specs.declared.plan.Plan.{Plan}
 use Rattle.net_core.specs.Held.{AllWithin, HasRoom, laid_on, taken_all}
 use Rattle.net_core.specs.Plans.{places_of, effect_by, apart, chans_of, taken_of, laid_of, moves_of}
 use Rattle.net_core.specs.private.Moves.{taken_chans}
-use Rattle.net_core.specs.States.{state_of, IsOf, own_at, array_at, IsPlanOf}
+use Rattle.net_core.specs.States.{state_of, IsOf, own_at, array_at, IsPlanOf, CountsRise}
 use Rattle.net_core.proofs.StateLemmas.{plan_within}
 use Rattle.net_core.proofs.MoveLemmas.{chans_are, distinct_of, moves_are, slots_at}
 use Rattle.net_replay.specs.Finishes.{IsLogged}
+use Rattle.net_replay.proofs.PathLemmas.{counts_more}
 use Rattle.cycle_engine.specs.declared.engine.Engine.{Engine}
 use Rattle.cycle_engine.specs.declared.engine.Bounds.{Bounds}
+use Rattle.cycle_engine.specs.declared.marks.Marks.{Marks}
 use Rattle.lsq_core.specs.Laws.{phase}
 use Rattle.cycle_engine.specs.Cycles.{Dated, dated, after_by, after_in, AreDated, May, Makes, Once, InOrder, IsUnused, IsOldest, place_of}
-use Rattle.cycle_engine.specs.Cuts.{joined}
+use Rattle.cycle_engine.specs.Cuts.{joined, IsCut}
 use Rattle.cycle_engine.specs.private.Trials.{dated_of, IsEngine, IsBegun, dated_laid, dated_moves, dates_after}
-use Rattle.cycle_engine.specs.private.Goings.{Past, IsReady, InCycle, MayFollow, IsMade}
-use Rattle.cycle_engine.specs.private.Marking.{IsNoted, IsFreed}
+use Rattle.cycle_engine.specs.private.Goings.{Past, IsReady, InCycle, MayFollow, IsMade, IsMore, all_made}
+use Rattle.cycle_engine.specs.private.Used.{AreTold}
+use Rattle.cycle_engine.specs.private.Marking.{IsListed, IsNoted, IsFreed}
 use Rattle.cycle_engine.proofs.NoteLemmas.{after_is, coming_after}
 use Rattle.cycle_engine.proofs.FollowLemmas.{followed_after}
 use Rattle.cycle_engine.proofs.BeforeLemmas.{after_of}
@@ -130,6 +135,39 @@ pub record Makes1 (net : Net) (b : Bounds) (c : ℕ) (old new : Engine) (f : Fir
   pub notes : IsNoted net m.laid c old.notes new.notes
   pub freed : IsFreed old.dates c (chans_of m.taken) old.freed new.freed
 
+-- where it was one firing that the limit allows, the engine is ready for the next
+made_more : (old new : Engine) (f : Firing) → new.made ≡ old.made → new.fired.items ≡ old.fired.items ++ f ∷ [] → all_made new ≡ all_made old + 1
+made_more old new f made fired =
+    let n = length_snoc old.fired.items f in
+    let k = ap (λ (xs : List Firing). length xs) fired in
+    omega arith
+
+room_left : (keep : Bool) (limit before after : ℕ) (f : Firing) (old new : Logged Firing) → IsLogged keep (f ∷ []) old new → after ≡ before + 1 → (keep ≡ true → limit ≤ before + old.room) → keep ≡ true → limit ≤ after + new.room
+room_left true limit before after f old new l n h k = let a = h refl in let b = l.room in omega arith
+room_left false limit before after f old new l n h k = cc
+
+pub made_ready : (net : Net) (b : Bounds) (c : ℕ) (old new : Engine) (f : Firing) (m : Moves) → IsReady net b old → all_made old < b.limit → IsEngine net new → CountsRise max_depth (state_of old.state) (state_of new.state)
+    → AreTold new.used new.made new.fired.items → new.marks ≡ old.marks → Makes1 net b c old new f m → IsReady net b new
+made_ready net b c old new f m ready less engine rise told marks one =
+    let n = made_more old new f one.made one.fired in
+    let P : Marks → Type 0 = IsListed net in
+    record {
+      engine = engine;
+      few = ready.few;
+      within = omega arith;
+      counts = counts_more (all_made old * max_depth) (all_made new * max_depth) max_depth (state_of old.state) (state_of new.state) (omega arith) ready.counts rise;
+      room = room_left b.keep b.limit (all_made old) (all_made new) f old.log new.log one.logged n ready.room;
+      chans = one.freed.long ∙ ready.chans;
+      queues = ap (λ (v : _). length v.items) one.begun ∙ ready.queues;
+      marked = ap (λ (x : Marks). length x.marked.items) marks ∙ ready.marked;
+      listed = subst P (sym marks) ready.listed;
+      cells = one.notes.cells ∙ ready.cells;
+      told = told;
+    }
+
+pub more_made : (net : Net) (b : Bounds) (c : ℕ) (old new : Engine) (f : Firing) (m : Moves) → Makes1 net b c old new f m → IsMore old new true
+more_made net b c old new f m one = let n = made_more old new f one.made one.fired in record { kept = omega arith; more = λ y. omega arith }
+
 made_begun : (net : Net) (b : Bounds) (c : ℕ) (start : Dated) (old new : Engine) (f : Firing) (p : Plan) (m : Moves) → IsReady net b old → IsPlanOf net old.state f (Some p) → m ≡ moves_of net f.unit p → May net c start (dated_of old) f
     → Makes1 net b c old new f m → IsBegun net c start old → IsBegun net c start new
 made_begun net b c start old new f p m ready is s may one began = record {
@@ -162,3 +200,21 @@ made_going net past b c start old new f p m ready is s going follow un may one =
         coming_after net c old new f p ready.engine (after_is net c old new f p is one.after) (subst Q s one.notes) going.coming);
   };
 }
+
+-- the limit cuts the cycle off before a firing that may be made in it
+pub cut_before : (net : Net) (past : Past) (b : Bounds) (c : ℕ) (start : Dated) (e : Engine) (f : Firing) → InCycle net past b c start e → May net c start (dated_of e) f → all_made e ≡ b.limit → IsCut net past.inputs b.limit
+cut_before net past b c start e f going may full =
+    let P : ℕ → Type 0 = λ n. Makes net n start start e.fired.items (dated_of e) in
+    record {
+      cycles = past.cycles;
+      start = start;
+      done = going.done;
+      last = e.fired.items;
+      to = dated_of e;
+      makes = subst P going.number going.makes;
+      once = going.once;
+      order = going.order;
+      count = omega (arith, going.made, full);
+      next = f;
+      goes = may.turn;
+    }

@@ -159,6 +159,30 @@ go_is b e = ap act_place (act_is 0 b e)
 pub exec_is : (b : Act) → act_rank b ≡ 6 → b ≡ Exec (act_number b)
 exec_is b e = act_is 6 b e
 
+pub place_rank : (a : Act) → act_rank (act_place a) ≡ act_rank a
+place_rank Go = refl
+place_rank (From j) = refl
+place_rank (Send j) = refl
+place_rank (Alloc j) = refl
+place_rank (Addr j) = refl
+place_rank (Data j) = refl
+place_rank (Exec j) = refl
+place_rank (Reply j) = refl
+place_rank Retire = refl
+place_rank End = refl
+
+pub place_fixed : (a : Act) → act_rank a ≢ 6 → act_place a ≡ a
+place_fixed Go n = refl
+place_fixed (From j) n = refl
+place_fixed (Send j) n = refl
+place_fixed (Alloc j) n = refl
+place_fixed (Addr j) n = refl
+place_fixed (Data j) n = refl
+place_fixed (Exec j) n = absurd (n refl)
+place_fixed (Reply j) n = refl
+place_fixed Retire n = refl
+place_fixed End n = refl
+
 pub retire_is : (b : Act) → act_rank b ≡ 8 → act_place b ≡ Retire
 retire_is b e = ap act_place (act_is 8 b e)
 

@@ -29,37 +29,13 @@ use Rattle.cycle_engine.proofs.DateLemmas.{AllBy, each_as, effect_there, dated_a
 use Rattle.cycle_engine.proofs.BoundLemmas.{no_more, ends_rest}
 use Rattle.cycle_engine.proofs.MakeLemmas.{makes_snoc, all_snoc}
 use Rattle.cycle_engine.proofs.NextLemmas.{own_same}
-use Rattle.cycle_engine.proofs.PlaceLemmas.{same_act, exec_is}
+use Rattle.cycle_engine.proofs.PlaceLemmas.{same_act, exec_is, place_rank, place_fixed}
 use Rattle.cycle_engine.proofs.QueueTurnLemmas.{laws, others_back, unused_before}
 use Rattle.cycle_engine.proofs.StartLemmas.{opening_are}
 use Rattle.cycle_engine.proofs.SwapLemmas.{swaps}
 use Rattle.cycle_engine.proofs.TurnLemmas.{makes_regular, cycles_regular, cycles_dated, opening_by}
 
 -- ---- acts and their places
-
-rank_place : (a : Act) → act_rank (act_place a) ≡ act_rank a
-rank_place Go = refl
-rank_place (From j) = refl
-rank_place (Send j) = refl
-rank_place (Alloc j) = refl
-rank_place (Addr j) = refl
-rank_place (Data j) = refl
-rank_place (Exec j) = refl
-rank_place (Reply j) = refl
-rank_place Retire = refl
-rank_place End = refl
-
-place_fixed : (a : Act) → act_rank a ≢ 6 → act_place a ≡ a
-place_fixed Go n = refl
-place_fixed (From j) n = refl
-place_fixed (Send j) n = refl
-place_fixed (Alloc j) n = refl
-place_fixed (Addr j) n = refl
-place_fixed (Data j) n = refl
-place_fixed (Exec j) n = absurd (n refl)
-place_fixed (Reply j) n = refl
-place_fixed Retire n = refl
-place_fixed End n = refl
 
 phase_place : (a : Act) → phase (act_place a) ≡ phase a
 phase_place Go = refl
@@ -93,7 +69,7 @@ one_place : (a b : Act) → act_place a ≡ act_place b → (a ≡ b) ⊎ ((x : 
 one_place a b e = by (cases_eq (act_rank a) 6)
   where
     same : act_rank a ≡ act_rank b
-    same = sym (rank_place a) ∙ (ap act_rank e ∙ rank_place b)
+    same = sym (place_rank a) ∙ (ap act_rank e ∙ place_rank b)
 
     by : (act_rank a ≡ 6) ⊎ (act_rank a ≢ 6) → (a ≡ b) ⊎ ((x : ℕ) × (y : ℕ) × (a ≡ Exec x) × (b ≡ Exec y))
     by (inl r) = inr (act_number a, act_number b, exec_is a r, exec_is b (sym same ∙ r))

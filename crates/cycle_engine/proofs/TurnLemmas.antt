@@ -46,7 +46,7 @@ use Rattle.cycle_engine.proofs.MakeLemmas.{all_snoc, takes_within}
 use Rattle.cycle_engine.proofs.StartLemmas.{opening_are}
 use Rattle.cycle_engine.proofs.MarkLemmas.{marked_queue, unmarked, still_marked}
 use Rattle.cycle_engine.proofs.NoteLemmas.{effect_in, taken_all}
-use Rattle.cycle_engine.proofs.PlaceLemmas.{same_act, exec_is, first_rank, queue_rank, rank_most, fires_within, starved_quiet}
+use Rattle.cycle_engine.proofs.PlaceLemmas.{same_act, exec_is, place_rank, place_fixed, first_rank, queue_rank, rank_most, fires_within, starved_quiet}
 use Rattle.cycle_engine.proofs.QueueTurnLemmas.{laws, queue_used, unused_before, unused_last, allocs_more, allocs_none, queue_rouses, unit_rouses}
 
 -- ---- what holds along cycles
@@ -214,30 +214,6 @@ closed_rank r n a h = by (cases_lt r (act_rank a))
     by (inl l) = absurd (h (inl l))
     by (inr l) = l
 
-place_rank : (a : Act) → act_rank (act_place a) ≡ act_rank a
-place_rank Go = refl
-place_rank (From j) = refl
-place_rank (Send j) = refl
-place_rank (Alloc j) = refl
-place_rank (Addr j) = refl
-place_rank (Data j) = refl
-place_rank (Exec j) = refl
-place_rank (Reply j) = refl
-place_rank Retire = refl
-place_rank End = refl
-
-place_fixed : (a : Act) → act_rank a ≢ 6 → act_place a ≡ a
-place_fixed Go n = refl
-place_fixed (From j) n = refl
-place_fixed (Send j) n = refl
-place_fixed (Alloc j) n = refl
-place_fixed (Addr j) n = refl
-place_fixed (Data j) n = refl
-place_fixed (Exec j) n = absurd (n refl)
-place_fixed (Reply j) n = refl
-place_fixed Retire n = refl
-place_fixed End n = refl
-
 -- acts of one rank and number are at one place
 same_place : (net : Net) (s : State) (f g : Firing) (r n : ℕ) → IsNextAct net s f r n → g.unit ≡ f.unit → act_rank g.act ≡ r → act_number (act_place g.act) ≡ n → place_of g ≡ place_of f
 same_place net s f g r n next u k l =
@@ -266,62 +242,21 @@ exec_may net c start s u j n =
       depth = subst D (sym k.is) tt;
     }
 
--- the firing's place has fired, where no firing at it may be made
-refused_here : (net : Net) (c : ℕ) (start s : Dated) (fs : List Firing) (f g : Firing) → enabled net s.state f → (IsUnused fs f → May net c start s f → ⊥) → place_of g ≡ place_of f → IsUnused fs g → May net c start s g → ⊥
-refused_here net c start s fs f g n refused e un m = by (act_place_or f.act)
-  where
-    unf : IsUnused fs f
-    unf = each_order fs (λ h. place_of h ≢ place_of g) (λ h. place_of h ≢ place_of f) (λ h y z. y (z ∙ sym e)) un
-
-    is_exec : (a : Act) → (act_rank a ≡ 6) ⊎ (act_place a ≡ a)
-    is_exec Go = inr refl
-    is_exec (From j) = inr refl
-    is_exec (Send j) = inr refl
-    is_exec (Alloc j) = inr refl
-    is_exec (Addr j) = inr refl
-    is_exec (Data j) = inr refl
-    is_exec (Exec j) = inl refl
-    is_exec (Reply j) = inr refl
-    is_exec Retire = inr refl
-    is_exec End = inr refl
-
-    act_place_or : (a : Act) → (act_rank a ≡ 6) ⊎ ((act_rank a ≢ 6) × (act_place a ≡ a))
-    act_place_or Go = inr ((λ z. absurd (omega arith)), refl)
-    act_place_or (From j) = inr ((λ z. absurd (omega arith)), refl)
-    act_place_or (Send j) = inr ((λ z. absurd (omega arith)), refl)
-    act_place_or (Alloc j) = inr ((λ z. absurd (omega arith)), refl)
-    act_place_or (Addr j) = inr ((λ z. absurd (omega arith)), refl)
-    act_place_or (Data j) = inr ((λ z. absurd (omega arith)), refl)
-    act_place_or (Exec j) = inl refl
-    act_place_or (Reply j) = inr ((λ z. absurd (omega arith)), refl)
-    act_place_or Retire = inr ((λ z. absurd (omega arith)), refl)
-    act_place_or End = inr ((λ z. absurd (omega arith)), refl)
-
-    pe : act_place g.act ≡ act_place f.act
-    pe = ap (λ (x : Firing). x.act) e
-
-    by : (act_rank f.act ≡ 6) ⊎ ((act_rank f.act ≢ 6) × (act_place f.act ≡ f.act)) → ⊥
-    by (inl r) =
-        let a : f.act ≡ Exec (act_number f.act) = exec_is f.act r in
-        let P : Act → Type 0 = λ x. May net c start s (firing f.unit x) in
-        let N : Act → Type 0 = λ x. enabled net s.state (firing f.unit x) in
-        refused unf (subst P (sym a) (exec_may net c start s f.unit (act_number f.act) (subst N a n)))
-    by (inr r) = at (is_exec g.act)
-      where
-        at : (act_rank g.act ≡ 6) ⊎ (act_place g.act ≡ g.act) → ⊥
-        at (inl k) = r.0 (sym (place_rank f.act) ∙ (ap act_rank (sym pe) ∙ (place_rank g.act ∙ k)))
-        at (inr k) =
-            let a : g.act ≡ f.act = sym k ∙ (pe ∙ r.1) in
-            let z : g ≡ f = λ i. record { unit = ap (λ (x : Firing). x.unit) e i; act = a i } in
-            let Q : Firing → Type 0 = λ x. May net c start s x in
-            refused unf (subst Q z m)
+-- the place of an execution that is enabled has fired, where the execution may not be made
+refused_exec : (net : Net) (c : ℕ) (start s : Dated) (fs : List Firing) (f g : Firing) → act_rank f.act ≡ 6 → enabled net s.state f → (IsUnused fs f → May net c start s f → ⊥) → place_of g ≡ place_of f → IsUnused fs g → ⊥
+refused_exec net c start s fs f g r n refused e un =
+    let unf : IsUnused fs f = each_order fs (λ h. place_of h ≢ place_of g) (λ h. place_of h ≢ place_of f) (λ h y z. y (z ∙ sym e)) un in
+    let a : f.act ≡ Exec (act_number f.act) = exec_is f.act r in
+    let P : Act → Type 0 = λ x. May net c start s (firing f.unit x) in
+    let N : Act → Type 0 = λ x. enabled net s.state (firing f.unit x) in
+    refused unf (subst P (sym a) (exec_may net c start s f.unit (act_number f.act) (subst N a n)))
 
 -- no firing at the place may be made, where that one may not be made
 refused_at : (net : Net) (c : ℕ) (start s : Dated) (fs : List Firing) (f g : Firing) (r n : ℕ) → IsNextAct net s.state f r n → (IsUnused fs f → May net c start s f → ⊥) → place_of g ≡ place_of f → IsUnused fs g → May net c start s g → ⊥
 refused_at net c start s fs f g r n next refused e un m = by (cases_eq r 6)
   where
     by : (r ≡ 6) ⊎ (r ≢ 6) → ⊥
-    by (inl z) = refused_here net c start s fs f g (next.exec z) refused e un m
+    by (inl z) = refused_exec net c start s fs f g (next.rank ∙ z) (next.exec z) refused e un
     by (inr z) =
         let p : act_place g.act ≡ act_place f.act = ap (λ (x : Firing). x.act) e in
         let a : act_place f.act ≡ f.act = place_fixed f.act (λ y. z (sym next.rank ∙ y)) in

@@ -1,21 +1,19 @@
 -- The places that a plan uses, and when the engine may make it.
-use Rattle.std.proofs.Common.{◌≡◌, ℕ, suc, ◌<◌, ◌≤◌, ◌≢◌, ◌⊎◌, inl, inr, not, nat_lt, Bool, true, false, Option, Some, None, List, [], ◌∷◌, ◌++◌, ◌+◌, length, length-append, get_or, refl, sym, ap, subst, ◌∙◌, arith, IsSomeAnd}
+use Rattle.std.proofs.Common.{◌≡◌, ℕ, zero, suc, ◌<◌, ◌≤◌, ◌≢◌, ◌⊎◌, inl, inr, Bool, true, false, Option, Some, None, List, [], ◌∷◌, ◌++◌, ◌+◌, length, length-append, get_or, refl, sym, ap, subst, ◌∙◌, arith, IsSomeAnd}
 use Rattle.net_types.specs.declared.net.Net.{Net}
 use Rattle.net_types.specs.declared.net.Unit.{Unit as Kind}
 use Rattle.net_types.specs.declared.net.Unit.TheVariants.{Entry, Param, Const, Op1, Op2, Select, Fork, Mux, Cmerge, Branch, Sink, Read, Lsq, Exit}
 use Rattle.net_types.specs.declared.firing.Act.{Act}
 use Rattle.net_types.specs.declared.firing.Act.TheVariants.{Go, From, Send, Alloc, Addr, Data, Exec, Reply, Retire, End}
 use Rattle.net_types.specs.declared.firing.Firing.{Firing}
-use Rattle.net_types.specs.Nets.{out_of, kind_of, chan_at, uses, firing}
+use Rattle.net_types.specs.Nets.{out_of, kind_of, chan_at}
 use Rattle.net_check.specs.Ends.{is_lsq}
-use Rattle.lsq_core.specs.Acts.{can, in_place}
-use Rattle.net_core.specs.Fire.{State, Own, Row, Stop, Look, Take, Fires, Effect, Setting, effect_of, with_head, taking, on_go, when, gate, idle, row, fork_row, exit_fires, queue_fires, setting, at_array, head_at, tokens_at, effect, has_room}
+use Rattle.net_core.specs.Fire.{Own, Effect, idle, tokens_at, effect, has_room}
 use Rattle.net_core.specs.declared.plan.Put.{Put}
-use Rattle.net_core.specs.declared.plan.Takes.{Takes}
 use Rattle.net_core.specs.declared.plan.Plan.{Plan}
-use Rattle.net_core.specs.Plans.{places_of, effect_by, planned, laid_of}
+use Rattle.net_core.specs.Plans.{effect_by, planned, laid_of}
 use Rattle.net_core.specs.States.{state_of, own_at, array_at, IsPlanOf}
-use Rattle.net_core.specs.Uses.{used_by, then_used, used, places_used, is_fork}
+use Rattle.net_core.specs.Uses.{used}
 use Rattle.net_core.proofs.PlanUses.{plans_use}
 use Rattle.cycle_engine.specs.declared.engine.Engine.{Engine}
 use Rattle.cycle_engine.specs.Cycles.{Dated, HasDepth, AllocHasDepth, May, IsUnused, place_of}
@@ -145,6 +143,11 @@ unused_of (x ∷ xs) f d h = (h 0 (omega arith), unused_of xs f d (λ k l. h (su
 
 pub unused_all : (xs : List Firing) (f : Firing) → IsUnusedFrom xs f 0 → IsUnused xs f
 unused_all xs f h = unused_of xs f no_firing (λ k l. h k (omega arith) l)
+
+pub unused_at : (xs : List Firing) (f : Firing) (k : ℕ) → IsUnused xs f → k < length xs → place_of (get_or xs k no_firing) ≢ place_of f
+unused_at [] f k un l = absurd (omega arith)
+unused_at (x ∷ xs) f zero un l = un.0
+unused_at (x ∷ xs) f (suc k) un l = unused_at xs f k un.1 (omega arith)
 
 -- places are one only if their numbers are
 number_as : (base : List ℕ) (f : Firing) → place_number base (place_of f) ≡ place_number base f

@@ -9,8 +9,8 @@ use Rattle.net_types.specs.declared.firing.Act.{Act}
 use Rattle.net_types.specs.declared.firing.Act.TheVariants.{Go, From, Send, Alloc, Addr, Data, Exec, Reply, Retire, End}
 use Rattle.net_types.specs.declared.firing.Firing.{Firing}
 use Rattle.net_types.specs.declared.firing.Inputs.{Inputs}
-use Rattle.net_types.specs.Nets.{into, kind_of, uses, chan_at, firing}
-use Rattle.net_core.specs.Fire.{State, Own, Effect, idle, row, setting, at_array, head_at, tokens_at, first, effect, has_room, enabled, moved, applied, changed_from, put_at}
+use Rattle.net_types.specs.Nets.{into, kind_of, chan_at, firing}
+use Rattle.net_core.specs.Fire.{State, Own, Effect, idle, tokens_at, first, effect, has_room, enabled, moved, applied, changed_from, put_at}
 use Rattle.net_core.specs.declared.plan.Put.{Put}
 use Rattle.net_core.specs.Uses.{used}
 use Rattle.net_core.specs.Runs.{opening}

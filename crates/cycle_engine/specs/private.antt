@@ -4,4 +4,3 @@ pub mod Goings
 pub mod Marking
 pub mod Used
 pub mod Places
-pub mod Kinds

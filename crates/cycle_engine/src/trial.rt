@@ -121,6 +121,14 @@ fn place(firing: Firing) -> Firing
     }
 }
 
+/// Whether two firings are at one place.
+#[inline(always)]
+fn same_place(first: Firing, second: Firing) -> bool
+    ensures { IsTrue result ↔ (place_of first ≡ place_of second) }
+{
+    place(first) == place(second)
+}
+
 /// Adds a firing to those of the cycle.
 ///
 /// # Errors
@@ -156,7 +164,7 @@ impl Engine {
     {
         let fired = self.fired.as_slice();
         for at in first..fired.len() {
-            if place(fired[at]) == place(firing) {
+            if same_place(fired[at], firing) {
                 return true;
             }
         }

@@ -1,5 +1,5 @@
 -- Private: only contracts of this crate cite it. What the engine asks of a firing that it tries in a cycle.
-use Rattle.std.specs.Prelude.{◌≡◌, ◌⊎◌, ℕ, ◌+◌, ◌<◌, ◌≤◌, Bool, true, false, Option, Some, None, List, [], ◌∷◌, length, get_or, map, IsSomeAnd}
+use Rattle.std.specs.Prelude.{◌≡◌, ◌⊎◌, ℕ, ◌+◌, ◌<◌, ◌≤◌, Bool, true, false, Option, Some, None, List, [], length, get_or, map, IsSomeAnd}
 use Rattle.std.specs.List.{AllByRecursion}
 use Rattle.net_types.specs.declared.net.Net.{Net}
 use Rattle.net_types.specs.declared.net.Chan.{Chan}
@@ -17,7 +17,7 @@ use Rattle.net_core.specs.declared.plan.Plan.{Plan}
 use Rattle.net_core.specs.Fire.{idle, first, has_room, tokens_at, changed_from, moved}
 use Rattle.net_core.specs.declared.plan.Laid.{Laid}
 use Rattle.net_core.specs.declared.plan.Moves.{Moves}
-use Rattle.net_core.specs.Plans.{places_of, effect_by, laid_of}
+use Rattle.net_core.specs.Plans.{effect_by, laid_of}
 use Rattle.circular_buffer.specs.Buffer.{last_item}
 use Rattle.net_core.specs.States.{state_of, IsOf}
 use Rattle.cycle_engine.specs.declared.engine.Engine.{Engine}

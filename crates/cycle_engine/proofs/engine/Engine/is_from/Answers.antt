@@ -1,4 +1,4 @@
-use Rattle.std.proofs.Common.{◌<◌, List, subst, length, arith}
+use Rattle.std.proofs.Common.{List, subst, arith}
 use Rattle.net_types.specs.declared.firing.Firing.{Firing}
 use Rattle.cycle_engine.specs.private.Used.{IsUnusedFrom}
 use Rattle.cycle_engine.proofs.engine.Engine.is_from.Goals as goal

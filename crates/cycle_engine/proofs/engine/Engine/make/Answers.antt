@@ -30,3 +30,12 @@ pub returns-clause-told : goal.returns-clause-told
 returns-clause-told c =
     told_more c.args.self.now.fired.items c.note_fired.new.fired.items c.args.firing c.args.self.now.made (c.args.self.now.made + c.len.result) c.args.self.now.used c.note.new.self
     (omega (arith, c.len.ensures, c.args.self.now.fired.ok.0)) c.in_ok-note_fired.ensures.fired c.note.ensures c.requires.told
+
+pub returns-clause-counts : goal.returns-clause-counts
+returns-clause-counts c = c.make_moves.ensures.counts
+
+pub returns-clause-fired : goal.returns-clause-fired
+returns-clause-fired c = c.in_ok-note_fired.ensures.fired
+
+pub returns-clause-log : goal.returns-clause-log
+returns-clause-log c = c.note-4.ensures
