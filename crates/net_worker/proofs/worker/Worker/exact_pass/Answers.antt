@@ -1,4 +1,4 @@
-use Rattle.std.proofs.Common.{◌≡◌, ◌⊎◌, inl, inr, ◌<◌, ◌≤◌, ◌∙◌, length, ap, sym, subst, arith}
+use Rattle.std.proofs.Common.{◌≡◌, inl, inr, ◌<◌, ◌+◌, ◌∙◌, length, ap, sym, subst, arith}
 use Rattle.std.proofs.lemmas.Bool.{cases_lt}
 use Rattle.net_types.specs.Nets.{firing}
 use Rattle.net_core.specs.Fire.{enabled}
@@ -6,12 +6,24 @@ use Rattle.net_core.specs.States.{state_of}
 use Rattle.net_core.proofs.FindLemmas.{past_quiet}
 use Rattle.net_worker.specs.Going.{IsRefused}
 use Rattle.net_worker.proofs.Asking.{asked_self, asked_trans}
-use Rattle.net_worker.proofs.Firing.{goes_asked}
+use Rattle.net_worker.proofs.Firing.{goes_asked, later_same}
+use Rattle.net_worker.proofs.Glancing.{same_whole}
 use Rattle.net_worker.proofs.HeldBack.{refused_on, refused_since}
 use Rattle.net_worker.proofs.worker.Worker.exact_pass.Goals as goal
 
 pub returns-then-try_own-clause-later : goal.returns-then-try_own-clause-later
 returns-then-try_own-clause-later c = λ z l. c.try_own.ensures.later z (goes_asked c.args.tables.now c.args.self.now c.loop-at.self c.requires.made c.loop-at.invariant.asked z l)
+
+pub try_own-requires-clause-whole : goal.try_own-requires-clause-whole
+try_own-requires-clause-whole c =
+    same_whole c.args.tables.now c.args.self.now c.loop-at.self
+    (later_same c.args.tables.now c.args.self.now c.loop-at.self c.requires.made (goes_asked c.args.tables.now c.args.self.now c.loop-at.self c.requires.made c.loop-at.invariant.asked)) c.requires.whole
+
+pub try_own-requires-clause-room : goal.try_own-requires-clause-room
+try_own-requires-clause-room c = subst (λ l. 0 < l.room) (sym c.loop-at.invariant.asked.log) c.requires.room
+
+pub returns-then-try_own-clause-fired : goal.returns-then-try_own-clause-fired
+returns-then-try_own-clause-fired c = λ _. subst (λ l. length c.try_own.new.self.log.items ≡ length l.items + 1) c.loop-at.invariant.asked.log (c.if-try_own.ensures.fired Rattle.std.proofs.Common.refl)
 
 pub loop-at-init : goal.loop-at-init
 loop-at-init c = record { made = c.requires.made; asked = asked_self c.args.self.now; refused = λ f l. absurd (omega arith) }

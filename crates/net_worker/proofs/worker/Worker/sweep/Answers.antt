@@ -8,6 +8,12 @@ use Rattle.net_worker.proofs.worker.Worker.sweep.Goals as goal
 pub returns-then-exited-clause-same : goal.returns-then-exited-clause-same
 returns-then-exited-clause-same c = same_worker_self c.args.self.now
 
+pub returns-then-exited-clause-answer : goal.returns-then-exited-clause-answer
+returns-then-exited-clause-answer c = (c.exited.ensures c.args.tables.now.net c.requires.made.of).0 c.if-exited.true
+
+pub returns-then-exited-2-clause-answer : goal.returns-then-exited-2-clause-answer
+returns-then-exited-2-clause-answer c = (c.exited-2.ensures c.args.tables.now.net c.go-fired.ensures.made.of).0 c.if-exited-2.true
+
 pub returns-then-is_full-clause-same : goal.returns-then-is_full-clause-same
 returns-then-is_full-clause-same c = same_worker_self c.args.self.now
 
