@@ -152,7 +152,7 @@ log_within : (t : Tables) (w : Worker) (n : ℕ) → IsMadeOf t w → log_share 
 log_within t w n m is = omega (arith, m.room, is)
 
 -- the workers keep to the limit
-pub entries_within : (net : Net) (inputs : Inputs) (count limit : ℕ) (t : Tables) (ws : List Worker) → 0 < count → IsCrewOf net inputs count limit t ws → AreMade t ws → entries_of (logs_of ws) ≤ limit
+entries_within : (net : Net) (inputs : Inputs) (count limit : ℕ) (t : Tables) (ws : List Worker) → 0 < count → IsCrewOf net inputs count limit t ws → AreMade t ws → entries_of (logs_of ws) ≤ limit
 entries_within net inputs count limit t ws some c m =
     within_limit limit count ws some c.count_is (λ j d l. log_within t (get_or ws j d) (share_of limit count j) (m.made j d l) (c.shares j d (omega (arith, l, c.count_is))))
 
@@ -188,6 +188,12 @@ kept_log false old new fs gs a b = b ∙ (ap (λ l. l ++ []) a)
 
 pub swept_of : (t : Tables) (Opened : Type 0) (a b : List Worker) → AreSweptBy t Opened a b → AreSwept t a b
 swept_of t Opened a b h = record { long = h.long; each = λ j d l. (h.each j d l).swept }
+
+-- they keep to the limit too
+pub swept_within : (net : Net) (inputs : Inputs) (count limit : ℕ) (t : Tables) (Opened : Type 0) (a b : List Worker) → 0 < count → IsCrewOf net inputs count limit t a → AreMade t a → AreSweptBy t Opened a b → entries_of (logs_of b) ≤ limit
+swept_within net inputs count limit t Opened a b some crew made h =
+    let swept = swept_of t Opened a b h in
+    entries_within net inputs count limit t b some (crew_swept net inputs count limit t a b swept crew) (made_swept t a b swept made)
 
 -- ---- why a run has no report
 

@@ -1,13 +1,13 @@
-use Rattle.std.proofs.Common.{◌≡◌, ◌<◌, ◌≤◌, ◌++◌, List, length, get_or, length-append, refl, ap, ◌∙◌, sym, subst, arith}
+use Rattle.std.proofs.Common.{◌<◌, ◌≤◌, ◌++◌, length, get_or, length-append, refl, ap, ◌∙◌, sym, subst, arith}
 use Rattle.net_worker.specs.Views.{inputs_of}
 use Rattle.net_core.specs.Runs.{Run, opening}
 use Rattle.net_core.specs.States.{state_of}
 use Rattle.net_replay.proofs.PathLemmas.{leads_on}
 use Rattle.net_worker.specs.Merged.{entries_of}
-use Rattle.worker_run.specs.Crews.{AllWhole, AreSameWork, logs_of, merged_of}
+use Rattle.worker_run.specs.Crews.{AllWhole, merged_of}
 use Rattle.worker_run.specs.Gathers.{RestsIn}
 use Rattle.worker_run.specs.Reports.{IsCrewOf, IsRunFault, HasEnded}
-use Rattle.worker_run.proofs.RunLemmas.{swept_of, made_swept, whole_swept, crew_swept, crew_same, entries_within, all_ended, longer, kept_log, judged_fault, err_by}
+use Rattle.worker_run.proofs.RunLemmas.{swept_of, made_swept, whole_swept, crew_swept, crew_same, swept_within, all_ended, longer, kept_log, judged_fault, err_by}
 use Rattle.worker_run.proofs.running.run_workers.Goals as goal
 
 pub gather-made-requires-clause-whole : goal.gather-made-requires-clause-whole
@@ -16,46 +16,27 @@ gather-made-requires-clause-whole g c =
     let a = c.in_ok-crew.crew.workers.items in
     let y = c.sweep_crew.new.crew.workers.items in
     let swept = swept_of t (g.G.Gate.is_open c.args.gate.now) a y c.sweep_crew.ensures.swept in
-    let made = made_swept t a y swept c.in_ok-crew.ensures.made.0 in
     subst (λ u. AllWhole u y) (sym c.sweep_crew.ensures.tables) (whole_swept t a y swept c.in_ok-crew.ensures.whole)
 
 pub add_merged-requires-clause-room : goal.add_merged-requires-clause-room
 add_merged-requires-clause-room g c keep =
-    let t = c.in_ok-crew.crew.tables in
-    let a = c.in_ok-crew.crew.workers.items in
-    let y = c.sweep_crew.new.crew.workers.items in
-    let swept = swept_of t (g.G.Gate.is_open c.args.gate.now) a y c.sweep_crew.ensures.swept in
-    let made = made_swept t a y swept c.in_ok-crew.ensures.made.0 in
-    let crew = crew_swept c.args.net.now c.args.inputs.now c.args.count c.args.limit t a y swept c.in_ok-crew.ensures.crew in
-    let few = entries_within c.args.net.now c.args.inputs.now c.args.count c.args.limit t y c.requires.some crew made in
+    let few = swept_within _ _ _ _ _ _ _ _ c.requires.some c.in_ok-crew.ensures.crew c.in_ok-crew.ensures.made.0 c.sweep_crew.ensures.swept in
     let logs = ap entries_of c.gather-made.ensures.logs in
     omega (arith, few, logs, c.in_ok-log.ensures.room, c.room_for.ensures keep)
 
 pub finish-requires-clause-made : goal.finish-requires-clause-made
 finish-requires-clause-made g c =
-    let t = c.in_ok-crew.crew.tables in
-    let a = c.in_ok-crew.crew.workers.items in
-    let y = c.sweep_crew.new.crew.workers.items in
-    let swept = swept_of t (g.G.Gate.is_open c.args.gate.now) a y c.sweep_crew.ensures.swept in
-    let made = made_swept t a y swept c.in_ok-crew.ensures.made.0 in
-    let crew = crew_swept c.args.net.now c.args.inputs.now c.args.count c.args.limit t a y swept c.in_ok-crew.ensures.crew in
-    let few = entries_within c.args.net.now c.args.inputs.now c.args.count c.args.limit t y c.requires.some crew made in
+    let few = swept_within _ _ _ _ _ _ _ _ c.requires.some c.in_ok-crew.ensures.crew c.in_ok-crew.ensures.made.0 c.sweep_crew.ensures.swept in
     let logs = ap entries_of c.gather-made.ensures.logs in
     omega (arith, few, logs, c.gather-made.ensures.all)
 
 pub returns-in_err-judge-in-Rest-clause-fault : goal.returns-in_err-judge-in-Rest-clause-fault
 returns-in_err-judge-in-Rest-clause-fault g c =
-    let t = c.in_ok-crew.crew.tables in
-    let a = c.in_ok-crew.crew.workers.items in
-    let y = c.sweep_crew.new.crew.workers.items in
-    let swept = swept_of t (g.G.Gate.is_open c.args.gate.now) a y c.sweep_crew.ensures.swept in
-    let made = made_swept t a y swept c.in_ok-crew.ensures.made.0 in
     let x = c.gather-made.new.crew.workers.items in
     let net = c.args.net.now in
     let inputs = c.args.inputs.now in
-    let crew = crew_swept net inputs c.args.count c.args.limit t a y swept c.in_ok-crew.ensures.crew in
     let gathered = state_of c.gather-made.new.into in
-    let run : Run net inputs (merged_of x) gathered = subst (λ i. Run net i (merged_of x) gathered) (ap inputs_of c.sweep_crew.ensures.tables ∙ crew.inputs_are) c.gather-made.ensures.run in
+    let run : Run net inputs (merged_of x) gathered = subst (λ i. Run net i (merged_of x) gathered) (ap inputs_of c.sweep_crew.ensures.tables ∙ c.in_ok-crew.ensures.crew.inputs_are) c.gather-made.ensures.run in
     let f = c.in-Rest.ensures.finished in
     let whole = leads_on net (opening net inputs) (merged_of x) f.firings gathered (state_of c.finish.new.state) run f.finishes.leads in
     let within : length (merged_of x ++ f.firings) ≤ c.args.limit = omega (arith, length-append (merged_of x) f.firings, c.gather-made.ensures.count, f.finishes.ends.counted, f.finishes.ends.within) in
@@ -64,17 +45,11 @@ returns-in_err-judge-in-Rest-clause-fault g c =
 
 pub returns-in-Limit-clause-fault : goal.returns-in-Limit-clause-fault
 returns-in-Limit-clause-fault g c =
-    let t = c.in_ok-crew.crew.tables in
-    let a = c.in_ok-crew.crew.workers.items in
-    let y = c.sweep_crew.new.crew.workers.items in
-    let swept = swept_of t (g.G.Gate.is_open c.args.gate.now) a y c.sweep_crew.ensures.swept in
-    let made = made_swept t a y swept c.in_ok-crew.ensures.made.0 in
     let x = c.gather-made.new.crew.workers.items in
     let net = c.args.net.now in
     let inputs = c.args.inputs.now in
-    let crew = crew_swept net inputs c.args.count c.args.limit t a y swept c.in_ok-crew.ensures.crew in
     let gathered = state_of c.gather-made.new.into in
-    let run : Run net inputs (merged_of x) gathered = subst (λ i. Run net i (merged_of x) gathered) (ap inputs_of c.sweep_crew.ensures.tables ∙ crew.inputs_are) c.gather-made.ensures.run in
+    let run : Run net inputs (merged_of x) gathered = subst (λ i. Run net i (merged_of x) gathered) (ap inputs_of c.sweep_crew.ensures.tables ∙ c.in_ok-crew.ensures.crew.inputs_are) c.gather-made.ensures.run in
     let f = c.in-Limit.ensures.finished in (
       refl,
       longer net inputs c.args.limit c.gather-made.result (merged_of x) f.firings gathered (state_of c.finish.new.state) f.finishes.ends.next run f.finishes.leads f.finishes.ends.goes
