@@ -1,21 +1,10 @@
 -- The lines of arrays, one after another, and their numbers.
-use Rattle.std.proofs.Common.{◌≡◌, ℕ, zero, suc, ◌+◌, ◌<◌, false, List, [], ◌∷◌, ◌++◌, codes, decimal, length, take, drop, get_or, refl, sym, ap, ◌∙◌, add-one, append_assoc, drop-cons, arith}
+use Rattle.std.proofs.Common.{◌≡◌, ℕ, suc, ◌+◌, ◌<◌, List, [], ◌∷◌, ◌++◌, codes, length, take, drop, get_or, refl, sym, ap, ◌∙◌, add-one, append_assoc, drop-cons}
 use Rattle.std.proofs.lemmas.List.{append-nil, take_more}
 use Rattle.std.proofs.lemmas.List.Concat.{flat_map-append}
-use Rattle.std.specs.Fmt.{signed_decimal}
-use Rattle.std.specs.List.{AllZip}
 use Rattle.el_base.specs.declared.ty.Ty.{Ty}
-use Rattle.el_base.specs.Numbers.{number_in}
-use Rattle.el_base.specs.Widths.{ty_signed, ty_width}
 use Rattle.el_base.specs.declared.ty.Array.{Array}
 use Rattle.inputs_text.specs.Results.{array_lines, numbers_line, spaced, written}
-
--- what holds of two lists holds at a place
-pub zipped_at : {A B : Type 0} (R : A → B → Type 0) (xs : List A) (ys : List B) (i : ℕ) (x : A) (y : B) → AllZip R xs ys → i < length xs → R (get_or xs i x) (get_or ys i y)
-zipped_at R [] ys i x y all within = absurd (omega arith)
-zipped_at R (a ∷ xs) [] i x y all within = absurd all
-zipped_at R (a ∷ xs) (b ∷ ys) zero x y all within = all.0
-zipped_at R (a ∷ xs) (b ∷ ys) (suc i) x y all within = zipped_at R xs ys i x y all.1 (omega arith)
 
 -- the lines from one array on are its own and those after it
 pub lines_from : (arrays : List Array) (values : List (List ℕ)) (i : ℕ) (a : Array) (ps : List ℕ) → i < length arrays → i < length values → a ≡ get_or arrays i a → ps ≡ get_or values i ps
@@ -24,10 +13,6 @@ lines_from arrays values i a ps here there is are =
     let first : drop i arrays ≡ a ∷ drop (i + 1) arrays = rw add-one (drop-cons arrays i a here ∙ ap (λ x. x ∷ drop (suc i) arrays) (sym is)) in
     let second : drop i values ≡ ps ∷ drop (i + 1) values = rw add-one (drop-cons values i ps there ∙ ap (λ x. x ∷ drop (suc i) values) (sym are)) in
     ap (λ xs. array_lines xs (drop i values)) first ∙ ap (λ vs. array_lines (a ∷ drop (i + 1) arrays) vs) second
-
--- the number of a pattern in an unsigned type is written as the pattern
-pub unsigned_written : (ty : Ty) (p : ℕ) → ty_signed ty ≡ false → decimal p ≡ written ty p
-unsigned_written ty p none = ap (λ s. signed_decimal (number_in s (ty_width ty) p)) (sym none)
 
 -- the numbers that a loop has written, and one more
 pub number_more : (ty : Ty) (before text one two : List ℕ) (i p : ℕ) (ps : List ℕ)

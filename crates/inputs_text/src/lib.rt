@@ -12,4 +12,4 @@ mod results;
 pub use laws::inputs_texts_have_one_reading;
 pub use reader::{read_inputs, read_inputs_of};
 pub use refusal::InputRefusal;
-pub use results::{print_results_of, put_number, put_numbers_line};
+pub use results::{print_results_of, put_numbers_line};

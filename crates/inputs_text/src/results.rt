@@ -1,5 +1,4 @@
-ghost use Rattle.std.specs.Prelude.{◌≡◌, ◌++◌, All, OnOk, IfOk};
-ghost use Rattle.net_types.specs.Inputs.{IsPatternOf};
+ghost use Rattle.std.specs.Prelude.{◌≡◌, ◌++◌, OnOk, IfOk};
 ghost use Rattle.inputs_text.specs.Results.{AreResults, ResultText, numbers_line, spaced, written};
 
 use el_base::{Array, List, Memory, Ty, number, put_i64, put_u64};
@@ -42,7 +41,6 @@ pub fn put_numbers_line(
     ty: Ty,
     patterns: &[u64],
 ) -> Result<(), Memory>
-    requires { All (IsPatternOf ty) patterns.now }
     ensures { OnOk result
         (text.new.items ≡ text.old.items ++ numbers_line name.now ty patterns.now) }
 {
@@ -55,7 +53,6 @@ pub fn put_numbers_line(
 
 /// Appends the numbers of patterns, each after a space.
 fn put_numbers(text: &mut Vec<u8>, ty: Ty, patterns: &[u64]) -> Result<(), Memory>
-    requires { All (IsPatternOf ty) patterns.now }
     ensures { OnOk result (text.new.items ≡ text.old.items ++ spaced ty patterns.now) }
 {
     for pattern in patterns {
@@ -65,14 +62,14 @@ fn put_numbers(text: &mut Vec<u8>, ty: Ty, patterns: &[u64]) -> Result<(), Memor
     Ok(())
 }
 
-/// Appends the number of a pattern of a type, in decimal.
-pub fn put_number(text: &mut Vec<u8>, ty: Ty, pattern: u64) -> Result<(), Memory>
-    requires { IsPatternOf ty pattern }
+/// Appends the number of a pattern in a type, in decimal.
+fn put_number(text: &mut Vec<u8>, ty: Ty, pattern: u64) -> Result<(), Memory>
     ensures { OnOk result (text.new.items ≡ text.old.items ++ written ty pattern) }
 {
-    if ty.signed() {
-        put_i64(text, number(ty, pattern) as i64)
+    let number = number(ty, pattern);
+    if number < 0 {
+        put_i64(text, number as i64)
     } else {
-        put_u64(text, pattern)
+        put_u64(text, number as u64)
     }
 }

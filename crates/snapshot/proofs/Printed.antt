@@ -1,6 +1,6 @@
 -- What the loops of the printer have written.
 use Rattle.std.proofs.Common.{◌≡◌, ℕ, zero, suc, ◌+◌, ◌<◌, ◌≤◌, List, [], ◌∷◌, ◌++◌, length, map, take, get_or, refl, sym, ap, ◌∙◌, arith, codes, decimal, append_assoc, add-one}
-use Rattle.std.specs.List.{AllZip, flat_map, join_with_byte}
+use Rattle.std.specs.List.{flat_map, join_with_byte}
 use Rattle.std.proofs.lemmas.List.{append-nil, get_or_read, take_all}
 use Rattle.std.proofs.lemmas.List.Concat.{flat_map-append}
 use Rattle.net_text.specs.Bodies.{text_of}
@@ -48,13 +48,6 @@ put_none f n start old before is = put_more f n start old old before (sym (appen
 -- and with as many items as there are
 pub put_all : (f : ℕ → List (List ℕ)) (i n : ℕ) (start new : List ℕ) → new ≡ start ++ text_of (each f 0 i) → i ≡ n → new ≡ start ++ text_of (each f 0 n)
 put_all f i n start new e is = e ∙ ap (λ k. start ++ text_of (each f 0 k)) is
-
--- what holds of two lists holds at a place
-pub zipped_at : {A B : Type 0} (R : A → B → Type 0) (xs : List A) (ys : List B) (i : ℕ) (x : A) (y : B) → AllZip R xs ys → i < length xs → R (get_or xs i x) (get_or ys i y)
-zipped_at R [] ys i x y all within = absurd (omega arith)
-zipped_at R (a ∷ xs) [] i x y all within = absurd all
-zipped_at R (a ∷ xs) (b ∷ ys) zero x y all within = all.0
-zipped_at R (a ∷ xs) (b ∷ ys) (suc i) x y all within = zipped_at R xs ys i x y all.1 (omega arith)
 
 -- the line of an item of the header
 pub scalar_is : (ss : List Scalar) (ps : List ℕ) (j : ℕ) (s : Scalar) → s ≡ get_or ss j s → j < length ss → scalar_lines ss ps j ≡ words (codes "scalar" ∷ s.name ∷ codes "=" ∷ written s.ty (get_or ps j 0) ∷ []) ∷ []

@@ -1,4 +1,4 @@
-ghost use Rattle.std.specs.Prelude.{◌≡◌, ◌++◌, [], ◌∷◌, ℕ, All, length, get_or, codes, decimal, map, true, false, OnOk, IfOk};
+ghost use Rattle.std.specs.Prelude.{◌≡◌, ◌++◌, [], ◌∷◌, ℕ, length, get_or, codes, decimal, map, true, false, OnOk, IfOk};
 ghost use Rattle.std.specs.List.{AllZip};
 ghost use Rattle.el_base.specs.declared.ty.Scalar.{Scalar as Scalars};
 ghost use Rattle.net_types.specs.declared.net.Unit.TheVariants.{Sink};
@@ -62,7 +62,6 @@ fn put_scalars(text: &mut Vec<u8>, scalars: &[Scalar], patterns: &[u64]) -> Resu
 }
 
 fn put_scalar(text: &mut Vec<u8>, scalar: &Scalar, pattern: u64) -> Result<(), Memory>
-    requires { IsPatternOf scalar.now.ty pattern }
     ensures { OnOk result (text.new.items ≡ text.old.items ++ line (codes "scalar"
         ∷ scalar.now.name ∷ codes "=" ∷ written scalar.now.ty pattern ∷ [])) }
 {
@@ -254,7 +253,6 @@ fn put_arrays(text: &mut Vec<u8>, arrays: &[Array], elements: &[List<u64>]) -> R
 }
 
 fn put_array(text: &mut Vec<u8>, array: &Array, elements: &[u64]) -> Result<(), Memory>
-    requires { All (IsPatternOf array.now.ty) elements.now }
     ensures { OnOk result (text.new.items ≡ text.old.items ++ line (codes "array"
         ∷ array.now.name ∷ codes "=" ∷ map (written array.now.ty) elements.now)) }
 {

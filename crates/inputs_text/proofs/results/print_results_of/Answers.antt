@@ -1,19 +1,12 @@
-use Rattle.std.proofs.Common.{◌++◌, ◌+◌, ◌<◌, length, drop, subst, sym, ap, ◌∙◌, append_assoc, arith}
+use Rattle.std.proofs.Common.{◌++◌, ◌+◌, ◌<◌, length, drop, sym, ap, ◌∙◌, append_assoc, arith}
 use Rattle.std.proofs.lemmas.Slice.Zip.{AllZip-long}
 use Rattle.net_types.specs.Inputs.{AreElementsOf}
 use Rattle.inputs_text.specs.Results.{array_lines, numbers_line}
-use Rattle.inputs_text.proofs.ResultLemmas.{zipped_at, lines_from}
+use Rattle.inputs_text.proofs.ResultLemmas.{lines_from}
 use Rattle.inputs_text.proofs.results.print_results_of.Goals as goal
 
 pub bounds-values-i : goal.bounds-values-i
 bounds-values-i c = omega (arith, AllZip-long AreElementsOf c.args.arrays.now c.args.values.now c.requires.each_array, c.loop-i-test.true)
-
-pub put_numbers_line-requires : goal.put_numbers_line-requires
-put_numbers_line-requires c =
-    let a = c.index-arrays-i.result in
-    let here = zipped_at AreElementsOf c.args.arrays.now c.args.values.now c.loop-i.i a c.index-values-i.result c.requires.each_array c.loop-i-test.true in
-    let elements : AreElementsOf a c.index-values-i.result = subst (λ x. AreElementsOf x c.index-values-i.result) (sym c.index-arrays-i.is) (subst (AreElementsOf _) (sym c.index-values-i.is) here) in
-    rw c.as_slice-in-loop-i.ensures elements.patterns
 
 pub loop-i-preserved : goal.loop-i-preserved
 loop-i-preserved c =

@@ -4,9 +4,6 @@ use Rattle.inputs_text.specs.Results.{spaced}
 use Rattle.inputs_text.proofs.ResultLemmas.{number_more}
 use Rattle.inputs_text.proofs.results.put_numbers.Goals as goal
 
-pub put_number-requires : goal.put_number-requires
-put_number-requires c = c.requires c.loop-pattern.pattern-index _ c.loop-pattern-test.true
-
 pub loop-pattern-preserved : goal.loop-pattern-preserved
 loop-pattern-preserved c = number_more c.args.ty _ _ _ _ c.loop-pattern.pattern-index _ c.args.patterns.now c.loop-pattern.invariant c.in_ok-push.ensures.items c.in_ok-put_number.ensures c.loop-pattern-test.true
 

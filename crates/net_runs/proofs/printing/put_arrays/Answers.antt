@@ -10,7 +10,7 @@ loop-i-preserved c =
     let old = c.loop-i.text.items in
     let rest = array_lines (drop (c.loop-i.i + 1) c.args.arrays.now) (drop (c.loop-i.i + 1) c.args.values.now) in
     let line = numbers_line c.index-arrays-i.result.name c.index-arrays-i.result.ty c.index-values-i.result in
-    ap (λ t. t ++ rest) (c.in_ok-put_line.ensures
+    ap (λ t. t ++ rest) (c.in_ok-put_numbers_line.ensures
     ∙ ap (λ n. old ++ numbers_line n c.index-arrays-i.result.ty c.as_slice-in-loop-i.result.now) c.as_slice.ensures.bytes
     ∙ ap (λ ps. old ++ numbers_line c.index-arrays-i.result.name c.index-arrays-i.result.ty ps) c.as_slice-in-loop-i.ensures)
     ∙ append_assoc old line rest

@@ -1,21 +1,14 @@
-use Rattle.std.proofs.Common.{◌<◌, length, ◌∷◌, [], map, codes, sym, subst, arith, ◌∙◌}
+use Rattle.std.proofs.Common.{◌<◌, length, ◌∷◌, [], map, codes, arith, ◌∙◌}
 use Rattle.std.proofs.lemmas.List.{get_or_read}
 use Rattle.std.proofs.lemmas.Slice.Zip.{AllZip-long}
 use Rattle.net_types.specs.Inputs.{AreElementsOf}
 use Rattle.inputs_text.specs.Results.{written}
 use Rattle.snapshot.specs.Texts.{words, array_lines}
-use Rattle.snapshot.proofs.Printed.{put_one, put_all, zipped_at, array_is}
+use Rattle.snapshot.proofs.Printed.{put_one, put_all, array_is}
 use Rattle.snapshot.proofs.printer.put_arrays.Goals as goal
 
 pub bounds-elements-a : goal.bounds-elements-a
 bounds-elements-a c = omega (arith, AllZip-long AreElementsOf c.args.arrays.now c.args.elements.now c.requires, c.loop-a-test.true)
-
-pub put_array-requires : goal.put_array-requires
-put_array-requires c =
-    let x = c.index-arrays-a.result in
-    let here = zipped_at AreElementsOf c.args.arrays.now c.args.elements.now c.loop-a.a x c.index-elements-a.result c.requires c.loop-a-test.true in
-    let elements : AreElementsOf x c.index-elements-a.result = subst (λ y. AreElementsOf y c.index-elements-a.result) (sym c.index-arrays-a.is) (subst (AreElementsOf _) (sym c.index-elements-a.is) here) in
-    rw c.as_slice.ensures elements.patterns
 
 pub loop-a-preserved : goal.loop-a-preserved
 loop-a-preserved c =

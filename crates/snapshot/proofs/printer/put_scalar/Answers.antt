@@ -1,13 +1,8 @@
 use Rattle.std.proofs.Common.{◌++◌, ◌∷◌, [], codes, ap, ◌∙◌}
 use Rattle.std.proofs.lemmas.Result.{on_ok_weaker}
-use Rattle.net_types.specs.Inputs.{IsPatternOf}
-use Rattle.net_text.proofs.Lists.{All_single}
 use Rattle.inputs_text.specs.Results.{numbers_line}
 use Rattle.snapshot.proofs.Printed.{numbers_of}
 use Rattle.snapshot.proofs.printer.put_scalar.Goals as goal
-
-pub put_numbers_line-requires : goal.put_numbers_line-requires
-put_numbers_line-requires c = All_single (IsPatternOf c.args.scalar.now.ty) c.args.pattern c.requires
 
 pub returns : goal.returns
 returns c =

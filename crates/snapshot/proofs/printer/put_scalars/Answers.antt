@@ -1,19 +1,14 @@
-use Rattle.std.proofs.Common.{◌∷◌, [], get_or, codes, sym, subst, arith}
+use Rattle.std.proofs.Common.{◌∷◌, [], get_or, codes, arith}
 use Rattle.std.proofs.lemmas.Slice.Zip.{AllZip-long}
 use Rattle.el_base.specs.declared.ty.Scalar.{Scalar}
 use Rattle.net_types.specs.Inputs.{IsPatternOf}
 use Rattle.inputs_text.specs.Results.{written}
 use Rattle.snapshot.specs.Texts.{words, scalar_lines}
-use Rattle.snapshot.proofs.Printed.{put_one, put_all, zipped_at, scalar_is}
+use Rattle.snapshot.proofs.Printed.{put_one, put_all, scalar_is}
 use Rattle.snapshot.proofs.printer.put_scalars.Goals as goal
 
 pub bounds-patterns-j : goal.bounds-patterns-j
 bounds-patterns-j c = omega (arith, AllZip-long (λ (s : Scalar) n. IsPatternOf s.ty n) c.args.scalars.now c.args.patterns.now c.requires, c.loop-j-test.true)
-
-pub put_scalar-requires : goal.put_scalar-requires
-put_scalar-requires c =
-    subst (λ (s : Scalar). IsPatternOf s.ty (get_or c.args.patterns.now c.loop-j.j 0)) (sym c.index-scalars-j.is)
-    (zipped_at (λ (s : Scalar) n. IsPatternOf s.ty n) c.args.scalars.now c.args.patterns.now c.loop-j.j c.index-scalars-j.result 0 c.requires c.loop-j-test.true)
 
 pub loop-j-preserved : goal.loop-j-preserved
 loop-j-preserved c =
