@@ -60,13 +60,17 @@ fn scalars(alloc: Global) -> Option<List<Scalar>> {
 /// The arrays that are stored to, and as many that are only read.
 fn arrays(alloc: Global) -> Option<List<Array>> {
     let mut arrays = List::new(alloc);
-    for number in 0..ARRAYS as u8 {
-        add(&mut arrays, array(alloc, b'a', number)?)?;
-    }
-    for number in 0..ARRAYS as u8 {
-        add(&mut arrays, array(alloc, b'b', number)?)?;
-    }
+    add_arrays(alloc, b'a', &mut arrays)?;
+    add_arrays(alloc, b'b', &mut arrays)?;
     Some(arrays)
+}
+
+/// Adds arrays whose names have this first letter.
+fn add_arrays(alloc: Global, first: u8, arrays: &mut List<Array>) -> Option<()> {
+    for number in 0..ARRAYS as u8 {
+        add(arrays, array(alloc, first, number)?)?;
+    }
+    Some(())
 }
 
 /// An array of a first letter and a number.

@@ -34,15 +34,22 @@ pub fn run(rt: &HostRuntime, words: &[&str], out: &mut Output) -> Result<()> {
     let [name, runs] = words else {
         bail!("write benches front FILE RUNS");
     };
+    let runs: u32 = runs.parse().context("RUNS is a number")?;
+    ensure!(runs > 0, "RUNS is above 0");
     let text = read_file(rt, name)?;
     ensure!(
         text.len() as u64 <= MAX_KERNEL_BYTES,
         "the text is too long"
     );
-    let runs: u32 = runs.parse().context("RUNS is a number")?;
-    ensure!(runs > 0, "RUNS is above 0");
-    let lexing = least(rt, runs, Pass::Lex, text.as_slice())?;
-    let reading = least(rt, runs, Pass::LexAndParse, text.as_slice())?;
+    put_times(rt, runs, text.as_slice(), out)
+}
+
+/// Writes the least times of so many runs on a text.
+fn put_times(rt: &HostRuntime, runs: u32, text: &[u8], out: &mut Output) -> Result<()>
+    requires { length text.now ≤ max_kernel_bytes }
+{
+    let lexing = least(rt, runs, Pass::Lex, text)?;
+    let reading = least(rt, runs, Pass::LexAndParse, text)?;
     out.word("lex ");
     put_millis(lexing, out);
     out.word(", lex and parse ");

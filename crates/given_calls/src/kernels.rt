@@ -1,6 +1,6 @@
 //! Calls on kernels, whose circuits are free as long as they are right.
 use crate::calls::{Answered, SOUND, add_file, answer};
-use anyhow::{Context, Result};
+use anyhow::{Context, Result, bail};
 use el_base::{MAX_INPUTS_BYTES, MAX_KERNEL_BYTES};
 use el_io::{MemFiles, Open};
 use row_fields::{Output, text_within};
@@ -12,11 +12,12 @@ use std::thread::Threads;
 pub fn put_agreement<R: Threads + Sync>(
     rt: &R,
     alloc: Global,
-    kernel: &str,
-    inputs: &str,
-    results: &str,
+    fields: &[&str],
     out: &mut Output,
 ) -> Result<()> {
+    let [kernel, inputs, results] = fields else {
+        bail!("a line is a kernel, inputs and results");
+    };
     let kernel = text_within(alloc, kernel, MAX_KERNEL_BYTES)?;
     let inputs = text_within(alloc, inputs, MAX_INPUTS_BYTES)?;
     let files = [("k", kernel.as_slice()), ("i", inputs.as_slice())];
@@ -78,11 +79,12 @@ fn put_word(holds: bool, word: &str, out: &mut Output) {
 pub fn put_count<R: Threads + Sync>(
     rt: &R,
     alloc: Global,
-    words: &str,
-    front: &str,
-    kernel: &str,
+    fields: &[&str],
     out: &mut Output,
 ) -> Result<()> {
+    let [words, front, kernel] = fields else {
+        bail!("a line is the words of a call, a beginning and a kernel");
+    };
     let kernel = text_within(alloc, kernel, MAX_KERNEL_BYTES)?;
     let compiled = sound(rt, alloc, words, &[("k", kernel.as_slice())])?;
     let text = std::str::from_utf8(compiled.out.bytes())

@@ -14,11 +14,12 @@ use std::thread::Threads;
 pub fn put_process<R: Threads + Sync>(
     rt: &R,
     alloc: Global,
-    error: &str,
-    words: &str,
-    files: &[&str],
+    fields: &[&str],
     out: &mut Output,
 ) -> Result<()> {
+    let [error, words, files @ ..] = fields else {
+        bail!("a line is an error, the words of a call, and files");
+    };
     let mut files = held_files(alloc, files)?;
     put_process_on(rt, alloc, error, words, &mut files, out)
 }

@@ -4,13 +4,13 @@ use crate::processes::put_process;
 use crate::states::put_resumed;
 use crate::tries::{Told, put_failing, put_long, put_try};
 use crate::workers::{put_meeting, put_replayed, put_stopped};
-use anyhow::{Result, bail};
+use anyhow::Result;
 use row_fields::Output;
 use std::alloc::Global;
 use std::thread::Threads;
 
 /// What the lines of a file are, after the first, which says so in words.
-#[derive(Clone, Copy, Debug, PartialEq, Eq)]
+#[derive(Clone, Copy)]
 pub enum Rows {
     /// The words of a call, and files.
     Calls(Told),
@@ -65,34 +65,28 @@ impl Rows {
         out: &mut Output,
     ) -> Result<()> {
         let fields: Vec<&str> = line.split('\t').collect(alloc)?;
-        match (self, fields.as_slice()) {
-            (Rows::Calls(told), [words, files @ ..]) => {
-                put_try(rt, alloc, words, files, told, out)
-            }
-            (Rows::Faults, [read, piece, put, told, words, files @ ..]) => {
-                put_failing(rt, alloc, &[*read, *piece, *put, *told], words, files, out)
-            }
-            (Rows::Kernels, [kernel, inputs, results]) => {
-                put_agreement(rt, alloc, kernel, inputs, results, out)
-            }
-            (Rows::Lines, [words, front, kernel]) => {
-                put_count(rt, alloc, words, front, kernel, out)
-            }
-            (Rows::Limits, [words, long, files @ ..]) => {
-                put_long(rt, alloc, words, long, files, out)
-            }
-            (Rows::Gates, [worker, question, words, files @ ..]) => {
-                put_stopped(rt, alloc, &[*worker, *question], words, files, out)
-            }
-            (Rows::Meetings, [words, files @ ..]) => put_meeting(rt, alloc, words, files, out),
-            (Rows::Replays, [words, files @ ..]) => put_replayed(rt, alloc, words, files, out),
-            (Rows::Resumed, [save, resume, files @ ..]) => {
-                put_resumed(rt, alloc, save, resume, files, out)
-            }
-            (Rows::Processes, [error, words, files @ ..]) => {
-                put_process(rt, alloc, error, words, files, out)
-            }
-            (rows, _) => bail!("a line of {rows:?} of other fields"),
+        self.put_fields(rt, alloc, fields.as_slice(), out)
+    }
+
+    /// Writes the answer to the fields of a line.
+    fn put_fields<R: Threads + Sync>(
+        self,
+        rt: &R,
+        alloc: Global,
+        fields: &[&str],
+        out: &mut Output,
+    ) -> Result<()> {
+        match self {
+            Rows::Calls(told) => put_try(rt, alloc, fields, told, out),
+            Rows::Faults => put_failing(rt, alloc, fields, out),
+            Rows::Kernels => put_agreement(rt, alloc, fields, out),
+            Rows::Lines => put_count(rt, alloc, fields, out),
+            Rows::Limits => put_long(rt, alloc, fields, out),
+            Rows::Gates => put_stopped(rt, alloc, fields, out),
+            Rows::Meetings => put_meeting(rt, alloc, fields, out),
+            Rows::Replays => put_replayed(rt, alloc, fields, out),
+            Rows::Resumed => put_resumed(rt, alloc, fields, out),
+            Rows::Processes => put_process(rt, alloc, fields, out),
         }
     }
 }

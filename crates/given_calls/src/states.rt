@@ -1,7 +1,7 @@
 //! States that are saved and gone on from.
 use crate::calls::SOUND;
 use crate::tries::{answer_on, put_call_with};
-use anyhow::Result;
+use anyhow::{Result, bail};
 use el_io::Open;
 use row_fields::Output;
 use std::alloc::Global;
@@ -12,11 +12,12 @@ use std::thread::Threads;
 pub fn put_resumed<R: Threads + Sync>(
     rt: &R,
     alloc: Global,
-    save: &str,
-    resume: &str,
-    files: &[&str],
+    fields: &[&str],
     out: &mut Output,
 ) -> Result<()> {
+    let [save, resume, files @ ..] = fields else {
+        bail!("a line is the words of two calls, and files");
+    };
     let saved = answer_on(rt, alloc, save, files, &SOUND, &Open)?;
     out.number(saved.code);
     out.word("\t");

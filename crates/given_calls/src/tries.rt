@@ -1,6 +1,6 @@
 //! Calls whose status and outputs are told.
 use crate::calls::{Answered, Failing, SOUND, add_file, answer};
-use anyhow::{Context, Result};
+use anyhow::{Context, Result, bail};
 use el_base::MAX_NETLIST_BYTES;
 use el_io::{Gate, MemFiles, Open};
 use row_fields::{Output, escaped, text_within};
@@ -22,11 +22,13 @@ pub enum Told {
 pub fn put_try<R: Threads + Sync>(
     rt: &R,
     alloc: Global,
-    words: &str,
-    files: &[&str],
+    fields: &[&str],
     told: Told,
     out: &mut Output,
 ) -> Result<()> {
+    let [words, files @ ..] = fields else {
+        bail!("a line is the words of a call, and files");
+    };
     let answered = answer_on(rt, alloc, words, files, &SOUND, &Open)?;
     put_answered(alloc, &answered, told, out)
 }
@@ -63,12 +65,13 @@ pub fn put_call_with<R: Threads + Sync>(
 pub fn put_failing<R: Threads + Sync>(
     rt: &R,
     alloc: Global,
-    failing: &[&str; 4],
-    words: &str,
-    files: &[&str],
+    fields: &[&str],
     out: &mut Output,
 ) -> Result<()> {
-    let failing = failing_of(failing).context("a piece is a number")?;
+    let [read, piece, put, told, words, files @ ..] = fields else {
+        bail!("a line is the calls that fail, the words of a call, and files");
+    };
+    let failing = failing_of(&[*read, *piece, *put, *told]).context("a piece is a number")?;
     let answered = answer_on(rt, alloc, words, files, &failing, &Open)?;
     put_answered(alloc, &answered, Told::Whole, out)
 }
@@ -88,11 +91,12 @@ fn failing_of(failing: &[&str; 4]) -> Option<Failing> {
 pub fn put_long<R: Threads + Sync>(
     rt: &R,
     alloc: Global,
-    words: &str,
-    long: &str,
-    files: &[&str],
+    fields: &[&str],
     out: &mut Output,
 ) -> Result<()> {
+    let [words, long, files @ ..] = fields else {
+        bail!("a line is the words of a call, a long file, and files");
+    };
     let (name, content) = long.split_once(':').context("a file is NAME:CONTENT")?;
     let content = long_text(alloc, content)?;
     put_call_with(rt, alloc, words, files, (name, content.as_slice()), out)

@@ -2,7 +2,7 @@
 use crate::calls::SOUND;
 use crate::gates::Stop;
 use crate::tries::{Told, answer_on, parted, put_answered, put_call_with, put_parts};
-use anyhow::{Context, Result};
+use anyhow::{Context, Result, bail};
 use el_io::Open;
 use meeting_gate::Meeting;
 use row_fields::Output;
@@ -13,23 +13,23 @@ use std::thread::Threads;
 pub fn put_stopped<R: Threads + Sync>(
     rt: &R,
     alloc: Global,
-    stopped: &[&str; 2],
-    words: &str,
-    files: &[&str],
+    fields: &[&str],
     out: &mut Output,
 ) -> Result<()> {
-    let (only, open) = stop_of(stopped).context("a worker or all, and a question from 1")?;
+    let [worker, question, words, files @ ..] = fields else {
+        bail!("a line is a worker, a question, the words of a call, and files");
+    };
+    let (only, open) = stop_of(worker, question).context("a worker or all, and a question from 1")?;
     let gate = Stop::new(alloc, only, open)?;
     let answered = answer_on(rt, alloc, words, files, &SOUND, &gate)?;
     put_answered(alloc, &answered, Told::Whole, out)
 }
 
 /// The worker that is stopped, none for all, and how many questions come before.
-fn stop_of(stopped: &[&str; 2]) -> Option<(Option<u32>, u32)> {
-    let [worker, question] = stopped;
+fn stop_of(worker: &str, question: &str) -> Option<(Option<u32>, u32)> {
     let question: u32 = question.parse().ok()?;
     let open = question.checked_sub(1)?;
-    if *worker == "all" {
+    if worker == "all" {
         return Some((None, open));
     }
     Some((Some(worker.parse().ok()?), open))
@@ -39,10 +39,12 @@ fn stop_of(stopped: &[&str; 2]) -> Option<(Option<u32>, u32)> {
 pub fn put_meeting<R: Threads + Sync>(
     rt: &R,
     alloc: Global,
-    words: &str,
-    files: &[&str],
+    fields: &[&str],
     out: &mut Output,
 ) -> Result<()> {
+    let [words, files @ ..] = fields else {
+        bail!("a line is the words of a call, and files");
+    };
     let gate = Meeting::new(alloc, 2)?;
     let answered = answer_on(rt, alloc, words, files, &SOUND, &gate)?;
     put_answered(alloc, &answered, Told::Whole, out)?;
@@ -56,10 +58,12 @@ pub fn put_meeting<R: Threads + Sync>(
 pub fn put_replayed<R: Threads + Sync>(
     rt: &R,
     alloc: Global,
-    words: &str,
-    files: &[&str],
+    fields: &[&str],
     out: &mut Output,
 ) -> Result<()> {
+    let [words, files @ ..] = fields else {
+        bail!("a line is the words of a run, and files");
+    };
     let run = answer_on(rt, alloc, words, files, &SOUND, &Open)?;
     let (results, schedule) = parted(run.out.bytes())?.context("no schedule")?;
     put_parts(alloc, run.code, results, run.err.bytes(), out)?;
