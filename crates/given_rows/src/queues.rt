@@ -239,12 +239,18 @@ fn answer_of_lsq(alloc: Global, queue: &mut Lsq, acts: &[(Act, u64)]) -> Result<
     requires { queue.old.queue.next ≤ 2 ^ 60 }
 {
     let answer = answer_of(alloc, queue, acts)?;
-    test_next_reply(queue)?;
+    test_next_ports(queue)?;
     Ok(answer)
 }
 
-/// Stops where a queue allows no reply at the least port at which it says that it allows one.
-fn test_next_reply(queue: &Lsq) -> Result<()> {
+/// Stops where a queue does not allow an act at the least port at which it says that it allows one.
+fn test_next_ports(queue: &Lsq) -> Result<()> {
+    if let Some(port) = queue.next_addr(0) {
+        ensure!(queue.can(Act::Addr(port)), "an address that is not allowed");
+    }
+    if let Some(port) = queue.next_data(0) {
+        ensure!(queue.can(Act::Data(port)), "data that are not allowed");
+    }
     if let Some(port) = queue.next_reply(0) {
         ensure!(queue.can(Act::Reply(port)), "a reply that is not allowed");
     }

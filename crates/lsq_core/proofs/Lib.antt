@@ -7,7 +7,7 @@ pub mod KeepLemmas
 pub mod MarkLemmas
 pub mod PairLemmas
 pub mod PlaceLemmas
-pub mod ReplyLemmas
+pub mod PortLemmas
 pub mod RowLemmas
 pub mod RunLemmas
 pub mod StayLemmas

@@ -22,7 +22,6 @@ row_of kind.Reply rows x = x.port
 row_of kind.Blank rows x = count_of x.store
 row_of kind.Ready rows x = count_of x.store
 row_of kind.Pending rows x = 2 * bucket (max 1 (rows / 2)) (or_zero x.addr) + count_of x.store
-row_of kind.Answer rows x = 0
 
 -- whether an entry stands in its row
 abbrev pub stands : Kind → Entry → Bool
@@ -32,7 +31,6 @@ stands kind.Reply x = not x.store && not x.replied
 stands kind.Blank x = is_none x.addr
 stands kind.Ready x = ready x
 stands kind.Pending x = is_some x.addr && not x.done
-stands kind.Answer x = not x.store && (x.done && not x.replied)
 
 abbrev pub in_row : Kind → ℕ → ℕ → Entry → Bool
 in_row k rows r x = (row_of k rows x == r) && stands k x
@@ -98,7 +96,6 @@ pub record IsIndex (ports width : ℕ) (i : Index) : Type 0 where
   pub blank : IsMarks kind.Blank 2 width i.blank
   pub ready : IsMarks kind.Ready 2 width i.ready
   pub pending : IsMarks kind.Pending (2 * buckets width) width i.pending
-  pub answer : IsMarks kind.Answer 1 width i.answer
   pub some : 64 ≤ width
 
 -- they show the entries
@@ -109,7 +106,6 @@ pub record Indexes (i : Index) (head : ℕ) (items : List Entry) : Type 0 where
   pub blank : Shows i.blank head items
   pub ready : Shows i.ready head items
   pub pending : Shows i.pending head items
-  pub answer : Shows i.answer head items
 
 -- o is no older entry of a side whose address is not known
 abbrev pub filled : Bool → Entry → Entry → Bool

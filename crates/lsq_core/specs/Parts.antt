@@ -1,5 +1,5 @@
 -- Queues as plain data.
-use Rattle.std.specs.Prelude.{◌≡◌, ℕ, ◌≤◌, ◌^◌, Bool, List, [], length}
+use Rattle.std.specs.Prelude.{◌≡◌, ℕ, ◌≤◌, ◌^◌, Bool, [], length}
 use Rattle.lsq_core.specs.Acts.{QueueState}
 use Rattle.lsq_core.specs.Views.{QueueView, EntriesView, InOrder, InPorts}
 use Rattle.lsq_core.specs.declared.part.QueuePart.{QueuePart}

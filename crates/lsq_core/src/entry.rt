@@ -3,7 +3,8 @@
 ghost use Rattle.std.specs.Prelude.{◌≡◌, not};
 ghost use Rattle.lsq_core.specs.Index.{clear};
 ghost use Rattle.lsq_core.specs.Acts.{ready, lets, known, waiting, same, spent, fresh_entry, or_zero};
-ghost use Rattle.lsq_core.specs.Wants.{wanted, changed_by};
+ghost use Rattle.lsq_core.specs.Wants.{wanted, asks, changed_by};
+ghost use Rattle.lsq_core.specs.declared.entry.Entry.{Entry as EntryValue};
 
 /// An access that was allocated and has not retired.
 ///
@@ -34,6 +35,17 @@ pub(crate) enum Want {
     Serial(u64),
 }
 
+/// The acts of a queue at its ports.
+#[derive(Clone, Copy)]
+pub(crate) enum PortAct {
+    /// An entry gets its address.
+    Addr,
+    /// An entry of a store gets its data.
+    Data,
+    /// An executed load is answered.
+    Reply,
+}
+
 /// What an act makes of the entry that it changes.
 #[derive(Clone, Copy)]
 pub(crate) enum Made {
@@ -45,6 +57,19 @@ pub(crate) enum Made {
     Done(u64),
     /// It has replied.
     Replied,
+}
+
+impl PortAct {
+    /// What the act asks of the entry that it changes, at a port.
+    fn at(self, port: u32) -> Want
+        ensures { (x : EntryValue) → wanted result x ≡ asks self port x }
+    {
+        match self {
+            PortAct::Addr => Want::Addr(port),
+            PortAct::Data => Want::Data(port),
+            PortAct::Reply => Want::Reply(port),
+        }
+    }
 }
 
 impl Entry {
@@ -74,6 +99,13 @@ impl Entry {
             Want::Reply(port) => self.port == port && !self.store && !self.replied,
             Want::Serial(serial) => self.serial == serial,
         }
+    }
+
+    /// Whether an act at its port asks for an entry such as this.
+    pub(crate) fn is_asked(&self, act: PortAct) -> bool
+        ensures { result ≡ asks act self.now.port self.now }
+    {
+        self.meets(act.at(self.port))
     }
 
     /// Whether it has what it needs to execute, and has not.

@@ -20,7 +20,6 @@ pub(crate) struct Index {
     pub(crate) blank: Marks,
     pub(crate) ready: Marks,
     pub(crate) pending: Marks,
-    pub(crate) answer: Marks,
 }
 
 // By hand, so that to let go of one is a call.
@@ -33,7 +32,6 @@ impl Drop for Index {
             blank: _blank,
             ready: _ready,
             pending: _pending,
-            answer: _answer,
         } = self;
     }
 }
@@ -53,12 +51,7 @@ impl Index {
         let reply = Marks::new(alloc, Kind::Reply, ports, blocks)?;
         let (addr, data) = two(alloc, (Kind::Addr, ports), (Kind::Data, ports), blocks)?;
         let (blank, ready) = two(alloc, (Kind::Blank, 2), (Kind::Ready, 2), blocks)?;
-        let (pending, answer) = two(
-            alloc,
-            (Kind::Pending, 8 * blocks),
-            (Kind::Answer, 1),
-            blocks,
-        )?;
+        let pending = Marks::new(alloc, Kind::Pending, 8 * blocks, blocks)?;
         Ok(Index {
             addr,
             data,
@@ -66,7 +59,6 @@ impl Index {
             blank,
             ready,
             pending,
-            answer,
         })
     }
 
@@ -88,7 +80,6 @@ impl Index {
         self.blank.change(head, at, old, new);
         self.ready.change(head, at, old, new);
         self.pending.change(head, at, old, new);
-        self.answer.change(head, at, old, new);
     }
 
     /// Notes that an entry is added after so many.
@@ -108,7 +99,6 @@ impl Index {
         self.blank.add(head, len, new);
         self.ready.add(head, len, new);
         self.pending.add(head, len, new);
-        self.answer.add(head, len, new);
     }
 
     /// Notes that the first entry is dropped.
@@ -128,7 +118,6 @@ impl Index {
         self.blank.retire(head, old);
         self.ready.retire(head, old);
         self.pending.retire(head, old);
-        self.answer.retire(head, old);
     }
 
     /// The row of the entries of a side that wait with the address of an entry.

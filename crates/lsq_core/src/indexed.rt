@@ -1,16 +1,16 @@
 //! The entries of a queue with an index.
 
-ghost use Rattle.std.specs.Prelude.{◌≡◌, ◌+◌, ◌<◌, ◌≤◌, ◌^◌, ◌==◌, ◌++◌, ◌∷◌, [], None, Some, cond, true, length, IfOk, MatchOption};
+ghost use Rattle.std.specs.Prelude.{◌≡◌, ◌+◌, ◌<◌, ◌≤◌, ◌^◌, ◌==◌, ◌&&◌, ◌++◌, ◌∷◌, [], None, Some, cond, true, length, IfOk, MatchOption};
 ghost use Rattle.std.specs.List.{find, list_all};
 ghost use Rattle.lsq_core.specs.Acts.{first_changed, is_nil, executes, last_such, waiting, lets, source_ok, order_ok, rest, fresh_entry};
 ghost use Rattle.lsq_core.specs.Views.{InOrder, InPorts, no_entries, oldest_of, front_of, entry_at, count_of};
 ghost use Rattle.lsq_core.specs.Parts.{none_from, IsPartOf};
-ghost use Rattle.lsq_core.specs.Wants.{wanted, changed_by, replies, nearer, IsFirst, HasNone, HasNoReply, IsNextReply};
+ghost use Rattle.lsq_core.specs.Wants.{wanted, changed_by, asks, allows_at, nearer, IsFirst, HasNone, HasNoPort, IsNextPort};
 ghost use Rattle.lsq_core.specs.Index.{filled, clear, reached, runs, wrapped};
 ghost use Rattle.lsq_core.specs.declared.entry.Want.TheVariants as want;
 
 use crate::entries::Entries;
-use crate::entry::{Entry, Made, Want};
+use crate::entry::{Entry, Made, PortAct, Want};
 use crate::index::Index;
 use crate::part::QueuePart;
 use net_types::{List, Memory};
@@ -171,21 +171,28 @@ impl Indexed {
         }
     }
 
-    /// Whether a reply is allowed at a port.
-    fn may_reply(&self, port: u32) -> bool
-        ensures { result ≡ replies self.now.queue.items port }
+    /// Whether an act is allowed at a port.
+    fn allows_at(&self, act: PortAct, port: u32) -> bool
+        ensures { result ≡ allows_at act self.now.queue.items port }
     {
-        match self.first(Want::Reply(port)) {
-            None => false,
-            Some(entry) => entry.done,
+        match act {
+            PortAct::Addr => self.first(Want::Addr(port)).is_some(),
+            PortAct::Data => self.first(Want::Data(port)).is_some(),
+            PortAct::Reply => match self.first(Want::Reply(port)) {
+                None => false,
+                Some(entry) => entry.done,
+            },
         }
     }
 
-    /// The lesser of a port that was found and another, where the other is from a number on and a reply is allowed at it.
-    fn nearer(&self, found: Option<u32>, from: u32, port: u32) -> Option<u32>
-        ensures { result ≡ nearer (replies self.now.queue.items port) found from port }
+    /// The lesser of a port that was found and that of an entry, where the entry's is from a number on, and the act asks for such
+    /// an entry and is allowed there.
+    fn nearer(&self, act: PortAct, found: Option<u32>, from: u32, entry: &Entry) -> Option<u32>
+        ensures { result ≡ nearer (asks act entry.now.port entry.now
+            && allows_at act self.now.queue.items entry.now.port) found from entry.now.port }
     {
-        if port < from || !self.may_reply(port) {
+        let port = entry.port;
+        if port < from || !entry.is_asked(act) || !self.allows_at(act, port) {
             return found;
         }
         match found {
@@ -194,19 +201,47 @@ impl Indexed {
         }
     }
 
-    /// The least port from a number on at which a reply is allowed.
-    pub(crate) fn next_reply(&self, from: u32) -> Option<u32>
-        ensures { MatchOption result (HasNoReply self.now.queue.items from)
-            (IsNextReply self.now.queue.items from) }
+    /// The least port from a number on at which an act is allowed, by the entries.
+    fn next_by_entries(&self, act: PortAct, from: u32) -> Option<u32>
+        ensures { MatchOption result (HasNoPort (allows_at act self.now.queue.items) from)
+            (IsNextPort (allows_at act self.now.queue.items) from) }
     {
         let mut found = None;
-        let mut at = 0;
-        while let Some(place) = self.index.answer.next(self.head, 0, at) {
-            let port = self.at(place).port;
-            found = self.nearer(found, from, port);
-            at = place + 1;
+        for at in 0..self.len() {
+            let entry = self.at(at);
+            found = self.nearer(act, found, from, &entry);
         }
         found
+    }
+
+    /// The least port from a number on at which an act is allowed, by the ports.
+    fn next_by_ports(&self, act: PortAct, from: u32, ports: u32) -> Option<u32>
+        requires { ports ≡ self.now.ports }
+        ensures { MatchOption result (HasNoPort (allows_at act self.now.queue.items) from)
+            (IsNextPort (allows_at act self.now.queue.items) from) }
+    {
+        for port in from..ports {
+            if self.allows_at(act, port) {
+                return Some(port);
+            }
+        }
+        let _ = self.len();
+        None
+    }
+
+    /// The least port from a number on at which an act is allowed. Few entries of many ports are looked at one after another, else
+    /// the ports are.
+    pub(crate) fn next_port(&self, act: PortAct, from: u32) -> Option<u32>
+        ensures { MatchOption result (HasNoPort (allows_at act self.now.queue.items) from)
+            (IsNextPort (allows_at act self.now.queue.items) from) }
+    {
+        let len = self.len();
+        match u32::try_from(self.entries.ports()) {
+            Ok(ports) if len.saturating_mul(len) > ports as usize => {
+                self.next_by_ports(act, from, ports)
+            }
+            _ => self.next_by_entries(act, from),
+        }
     }
 
     /// Changes the first entry that an act asks for, and no other.

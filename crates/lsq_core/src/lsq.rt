@@ -7,9 +7,9 @@ ghost use Rattle.net_types.specs.declared.firing.Act.TheVariants.{Alloc, Exec, R
 ghost use Rattle.lsq_core.specs.Acts.{is_store, fresh, or_zero, exec_value, exec_array, load_value, stray_of};
 ghost use Rattle.lsq_core.specs.Views.{QueueView, InOrder, InPorts, IsNumberBelow, allows, acted, given, shaped, count_of};
 ghost use Rattle.lsq_core.specs.Parts.{IsPartOf, MayStand, queue_of, holding};
-ghost use Rattle.lsq_core.specs.Wants.{HasNoReply, IsNextReply};
+ghost use Rattle.lsq_core.specs.Wants.{HasNoAddr, IsNextAddr, HasNoData, IsNextData, HasNoReply, IsNextReply};
 
-use crate::entry::{Entry, Made, Want};
+use crate::entry::{Entry, Made, PortAct, Want};
 use crate::indexed::Indexed;
 use crate::list_lsq::{is_store_at, is_stray, list_of, lists_of, load, number_within, write};
 use crate::part::QueuePart;
@@ -116,13 +116,31 @@ impl Lsq {
         fill(&mut self.entries, part);
     }
 
+    /// The least port from a number on at which the queue allows an address, where it allows one.
+    pub fn next_addr(&self, from: u32) -> Option<u32>
+        ensures { MatchOption result (HasNoAddr self.now.queue.items from)
+            (IsNextAddr self.now.queue.items from) }
+    {
+        let _ = &self.depth;
+        self.entries.next_port(PortAct::Addr, from)
+    }
+
+    /// The least port from a number on at which the queue allows data, where it allows them.
+    pub fn next_data(&self, from: u32) -> Option<u32>
+        ensures { MatchOption result (HasNoData self.now.queue.items from)
+            (IsNextData self.now.queue.items from) }
+    {
+        let _ = &self.depth;
+        self.entries.next_port(PortAct::Data, from)
+    }
+
     /// The least port from a number on at which the queue allows a reply, where it allows one.
     pub fn next_reply(&self, from: u32) -> Option<u32>
         ensures { MatchOption result (HasNoReply self.now.queue.items from)
             (IsNextReply self.now.queue.items from) }
     {
         let _ = &self.depth;
-        self.entries.next_reply(from)
+        self.entries.next_port(PortAct::Reply, from)
     }
 
     /// Whether the free depth holds a group.

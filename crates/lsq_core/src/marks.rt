@@ -30,8 +30,6 @@ pub(crate) enum Kind {
     Ready,
     /// They are not executed and have their address; by address, of loads or of stores.
     Pending,
-    /// They are executed loads that have not replied; all in one row.
-    Answer,
 }
 
 /// Sets of places in a ring of entries, one for each row.
@@ -95,7 +93,6 @@ impl Marks {
             Kind::Blank => side,
             Kind::Ready => side,
             Kind::Pending => 2 * bucket((self.rows / 2).max(1), entry.address()) + side,
-            Kind::Answer => 0,
         }
     }
 
@@ -110,7 +107,6 @@ impl Marks {
             Kind::Blank => entry.addr.is_none(),
             Kind::Ready => entry.is_ready(),
             Kind::Pending => entry.addr.is_some() && !entry.done,
-            Kind::Answer => !entry.store && (entry.done && !entry.replied),
         }
     }
 

@@ -1,4 +1,4 @@
-use Rattle.std.proofs.Common.{◌≡◌, ◌+◌, length, take}
+use Rattle.std.proofs.Common.{◌≡◌, ◌+◌, take}
 use Rattle.lsq_core.proofs.lsq.fill.Given as goal
 
 abbrev pub invariant-loop-entry : goal.invariant-loop-entry
