@@ -172,12 +172,13 @@ impl Indexed {
     }
 
     /// Whether an act is allowed at a port.
-    fn allows_at(&self, act: PortAct, port: u32) -> bool
+    #[tactic(auto, using(crate::proofs::PortLemmas::some_such))]
+    pub(crate) fn allows_at(&self, act: PortAct, port: u32) -> bool
         ensures { result ≡ allows_at act self.now.queue.items port }
     {
         match act {
-            PortAct::Addr => self.first(Want::Addr(port)).is_some(),
-            PortAct::Data => self.first(Want::Data(port)).is_some(),
+            PortAct::Addr => self.place_of_addr(port).is_some(),
+            PortAct::Data => self.place_of_data(port).is_some(),
             PortAct::Reply => match self.first(Want::Reply(port)) {
                 None => false,
                 Some(entry) => entry.done,

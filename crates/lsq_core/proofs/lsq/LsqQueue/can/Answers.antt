@@ -1,8 +1,7 @@
-use Rattle.std.proofs.Common.{ap, ◌∙◌, is_some}
 use Rattle.lsq_core.proofs.lsq.LsqQueue.can.Goals as goal
 
 pub returns-in-Addr : goal.returns-in-Addr
-returns-in-Addr c = rw (c.in-Addr.is, ← c.self.view_is) (c.is_some.ensures ∙ ap is_some c.first.ensures)
+returns-in-Addr c = rw (c.in-Addr.is, ← c.self.view_is) c.allows_at.ensures
 
 pub returns-in-Data : goal.returns-in-Data
-returns-in-Data c = rw (c.in-Data.is, ← c.self.view_is) (c.is_some-in-Data.ensures ∙ ap is_some c.first-in-Data.ensures)
+returns-in-Data c = rw (c.in-Data.is, ← c.self.view_is) c.allows_at-in-Data.ensures
