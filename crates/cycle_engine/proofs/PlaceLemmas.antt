@@ -1,6 +1,6 @@
 -- The acts of units, by their ranks and numbers.
-use Rattle.std.proofs.Common.{is_some, suc, zero, cond, eqb-true, ◌≡◌, ◌≢◌, ℕ, ◌<◌, ◌≤◌, ◌⊎◌, inl, inr, Bool, true, false, Option, Some, None, List, [], ◌∷◌, length, get_or, refl, sym, ap, ◌∙◌, arith, nat_lt, ltb-true}
-use Rattle.std.proofs.lemmas.Bool.{cases_lt, and_parts}
+use Rattle.std.proofs.Common.{is_some, suc, zero, cond, eqb-true, ◌≡◌, ◌≢◌, ℕ, ◌<◌, ◌≤◌, ◌⊎◌, inl, inr, Bool, true, false, Option, Some, None, List, [], ◌∷◌, length, get_or, refl, sym, ap, ◌∙◌, arith, nat_lt, ltb-true, MatchOption}
+use Rattle.std.proofs.lemmas.Bool.{cases_lt, and_parts, false≢true}
 use Rattle.net_types.specs.declared.net.Net.{Net}
 use Rattle.net_types.specs.declared.net.Unit.{Unit as Kind}
 use Rattle.net_types.specs.declared.net.Unit.TheVariants.{Entry, Param, Const, Op1, Op2, Select, Fork, Mux, Cmerge, Branch, Sink, Read, Lsq, Exit}
@@ -14,14 +14,16 @@ use Rattle.net_check.specs.Ends.{is_lsq}
 use Rattle.std.specs.List.{find}
 use Rattle.lsq_core.specs.declared.entry.Entry.{Entry as Item}
 use Rattle.lsq_core.specs.Acts.{can, wants_addr, wants_data, wants_reply, is_done}
-use Rattle.lsq_core.specs.Views.{InPorts}
+use Rattle.lsq_core.specs.Views.{InPorts, QueueView}
+use Rattle.lsq_core.specs.Wants.{HasNoPort, IsNextPort, HasNoAddr, IsNextAddr, HasNoData, IsNextData, HasNoReply, IsNextReply, replies}
+use Rattle.lsq_core.proofs.PortLemmas.{done_some}
 use Rattle.net_core.specs.Fire.{State, Own, Row, Take, Setting, Effect, with_head, taking, on_go, fork_row, effect_of, idle, enabled, head_at, at_array, row, go_row, setting}
 use Rattle.net_core.proofs.GoesLemmas.{goes}
 use Rattle.net_core.proofs.ForkLemmas.{fork_is, send_inv}
 use Rattle.net_core.proofs.ActLemmas.{merge_inv, from_kind, alloc_kind}
 use Rattle.net_core.proofs.QueueActLemmas.{queue_inv, lsq_is, group_within}
 use Rattle.lsq_core.specs.Laws.{act_place}
-use Rattle.cycle_engine.specs.private.Places.{HasView, count_in, inputs_in, outputs_in, groups_in, ports_in, first_of}
+use Rattle.cycle_engine.specs.private.Places.{HasView, HasNoneFrom, IsNextNumber, IsViewOf, count_in, inputs_in, outputs_in, groups_in, ports_in, first_of}
 use Rattle.cycle_engine.specs.private.Marking.{asks_first, IsStarved}
 use Rattle.net_core.proofs.PlanUses.{fork_act}
 use Rattle.cycle_engine.proofs.QueueTurnLemmas.{on_go_is}
@@ -56,10 +58,6 @@ found_port t (y ∷ items) p n within port e = by (t y) refl e (λ k. found_port
     by : (b : Bool) → t y ≡ b → is_some (cond b (Some y) (find t items)) ≡ true → (is_some (find t items) ≡ true → p < n) → p < n
     by true i e rest = let k = port y i in let l : y.port < n = within 0 (omega arith) in omega arith
     by false i e rest = rest e
-
-done_some : (o : Option Item) → is_done o ≡ true → is_some o ≡ true
-done_some None h = cc
-done_some (Some x) h = refl
 
 module _ (net : Net) (s : State) (u : ℕ) where
   from_below : (j : ℕ) → enabled net s (firing u (From j)) → j < inputs_in (kind_of net u)
@@ -358,3 +356,73 @@ pub starved_quiet : (net : Net) (s : State) (u : ℕ) (a : Act) → IsStarved ne
 starved_quiet net s u a h n =
     let g = goes net s (firing u a) n in
     asks (kind_of net u) a (get_or s.own u idle) (at_array s.arrays (uses (kind_of net u))) (setting net s) (head_at net s u) g.0 h.0 h.1 g.1.is
+
+-- ---- ports at which a queue does not allow an act
+
+plain_low : (k : Kind) → is_lsq k ≡ false → act_rank (first_of k) ≤ 2
+plain_low Entry l = omega arith
+plain_low (Param j) l = omega arith
+plain_low (Const w n) l = omega arith
+plain_low (Op1 op) l = omega arith
+plain_low (Op2 op) l = omega arith
+plain_low (Select w) l = omega arith
+plain_low (Fork w outs) l = omega arith
+plain_low (Mux w ins) l = omega arith
+plain_low (Cmerge ins) l = omega arith
+plain_low (Branch w) l = omega arith
+plain_low (Sink w) l = omega arith
+plain_low (Read a) l = omega arith
+plain_low (Lsq a d ps gs f) l = cc
+plain_low Exit l = omega arith
+
+-- a unit that is no queue has no acts of ports
+pub no_ports : (net : Net) (s : State) (u : ℕ) (kind : Act) (from : ℕ) → is_lsq (kind_of net u) ≡ false → 4 ≤ act_rank kind → HasNoneFrom net s u kind from
+no_ports net s u kind from l m b r f n = let e = first_rank net s u b l n in let low = plain_low (kind_of net u) l in absurd (omega arith)
+
+module _ (net : Net) (s : State) (u : ℕ) (q : QueueView) (v : IsViewOf net s u q) (kind : Act) (act : ℕ → Act) (test : ℕ → Bool)
+    (is : (b : Act) → act_rank b ≡ act_rank kind → b ≡ act (act_number b)) (number : (n : ℕ) → act_number (act_place (act n)) ≡ n) (allowed : (n : ℕ) → can q.depth q.groups q.queue (act n) ≡ test n) where
+  passes : (b : Act) → act_rank b ≡ act_rank kind → enabled net s (firing u b) → test (act_number (act_place b)) ≡ true
+  passes b r n =
+      let e = is b r in
+      let m : act_number (act_place b) ≡ act_number b = ap (λ x. act_number (act_place x)) e ∙ number (act_number b) in
+      let c : can q.depth q.groups q.queue b ≡ true = ap (λ (x : QueueView). can x.depth x.groups x.queue b) (sym v.1) ∙ can_of net s u b v.0 n in
+      ap test m ∙ (sym (allowed (act_number b)) ∙ (ap (can q.depth q.groups q.queue) (sym e) ∙ c))
+
+  pub none_at_ports : (from : ℕ) → HasNoPort test from → HasNoneFrom net s u kind from
+  none_at_ports from none b r f n = false≢true (sym (none (act_number (act_place b)) f) ∙ passes b r n)
+
+  pub next_at_ports : (from p : ℕ) → IsNextPort test from p → IsNextNumber net s u kind from p
+  next_at_ports from p next = record { from_on = next.from_on; none = λ b r f l n. false≢true (sym (next.before (act_number (act_place b)) f l) ∙ passes b r n) }
+
+-- what a queue tells of its ports
+module _ (net : Net) (s : State) (u : ℕ) (q : QueueView) (v : IsViewOf net s u q) (from : ℕ) (o : Option ℕ) where
+  pub told_addr : MatchOption o (HasNoAddr q.queue.items from) (IsNextAddr q.queue.items from) → MatchOption o (HasNoneFrom net s u (Addr 0) from) (IsNextNumber net s u (Addr 0) from)
+  told_addr h = by o h
+    where
+      by : (o : Option ℕ) → MatchOption o (HasNoAddr q.queue.items from) (IsNextAddr q.queue.items from) → MatchOption o (HasNoneFrom net s u (Addr 0) from) (IsNextNumber net s u (Addr 0) from)
+      by None h = none_at_ports net s u q v (Addr 0) Addr (λ p. is_some (find (wants_addr p) q.queue.items)) (act_is 4) (λ n. refl) (λ n. refl) from h
+      by (Some p) h = next_at_ports net s u q v (Addr 0) Addr (λ p. is_some (find (wants_addr p) q.queue.items)) (act_is 4) (λ n. refl) (λ n. refl) from p h
+
+  pub told_data : MatchOption o (HasNoData q.queue.items from) (IsNextData q.queue.items from) → MatchOption o (HasNoneFrom net s u (Data 0) from) (IsNextNumber net s u (Data 0) from)
+  told_data h = by o h
+    where
+      by : (o : Option ℕ) → MatchOption o (HasNoData q.queue.items from) (IsNextData q.queue.items from) → MatchOption o (HasNoneFrom net s u (Data 0) from) (IsNextNumber net s u (Data 0) from)
+      by None h = none_at_ports net s u q v (Data 0) Data (λ p. is_some (find (wants_data p) q.queue.items)) (act_is 5) (λ n. refl) (λ n. refl) from h
+      by (Some p) h = next_at_ports net s u q v (Data 0) Data (λ p. is_some (find (wants_data p) q.queue.items)) (act_is 5) (λ n. refl) (λ n. refl) from p h
+
+  pub told_reply : MatchOption o (HasNoReply q.queue.items from) (IsNextReply q.queue.items from) → MatchOption o (HasNoneFrom net s u (Reply 0) from) (IsNextNumber net s u (Reply 0) from)
+  told_reply h = by o h
+    where
+      by : (o : Option ℕ) → MatchOption o (HasNoReply q.queue.items from) (IsNextReply q.queue.items from) → MatchOption o (HasNoneFrom net s u (Reply 0) from) (IsNextNumber net s u (Reply 0) from)
+      by None h = none_at_ports net s u q v (Reply 0) Reply (replies q.queue.items) (act_is 7) (λ n. refl) (λ n. refl) from h
+      by (Some p) h = next_at_ports net s u q v (Reply 0) Reply (replies q.queue.items) (act_is 7) (λ n. refl) (λ n. refl) from p h
+
+pub from_here : (net : Net) (s : State) (u : ℕ) (kind : Act) (from : ℕ) → IsNextNumber net s u kind from from
+from_here net s u kind from = record { from_on = omega arith; none = λ b r f l n. absurd (omega arith) }
+
+-- the number that was found, or so many where none was
+pub number_within : (net : Net) (s : State) (u : ℕ) (kind : Act) (from n m : ℕ) → IsNextNumber net s u kind from n → from ≤ m → m ≤ n → IsNextNumber net s u kind from m
+number_within net s u kind from n m next l k = record { from_on = l; none = λ b r f h e. next.none b r f (omega arith) e }
+
+pub number_none : (net : Net) (s : State) (u : ℕ) (kind : Act) (from m : ℕ) → HasNoneFrom net s u kind from → from ≤ m → IsNextNumber net s u kind from m
+number_none net s u kind from m none l = record { from_on = l; none = λ b r f h e. none b r f e }

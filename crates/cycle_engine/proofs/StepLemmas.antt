@@ -1,5 +1,6 @@
 -- Steps of turns: the acts of one kind by their numbers, and what a try of a place told.
-use Rattle.std.proofs.Common.{◌≡◌, ◌≢◌, ℕ, ◌+◌, ◌<◌, true, false, Option, Some, None, is_some, length, refl, sym, ap, subst, ◌∙◌, arith, IfSome}
+use Rattle.std.proofs.Common.{◌≡◌, ◌≢◌, ℕ, ◌+◌, ◌<◌, ◌≤◌, ◌⊎◌, inl, inr, true, false, Option, Some, None, is_some, length, refl, sym, ap, subst, ◌∙◌, arith, IfSome}
+use Rattle.std.proofs.lemmas.Bool.{cases_lt}
 use Rattle.net_types.specs.declared.net.Net.{Net}
 use Rattle.net_types.specs.declared.net.Unit.{Unit as Kind}
 use Rattle.net_types.specs.declared.firing.Act.{Act}
@@ -21,9 +22,9 @@ use Rattle.lsq_core.specs.Laws.{act_place}
 use Rattle.cycle_engine.specs.Cycles.{Dated, IsOldest}
 use Rattle.cycle_engine.specs.private.Marking.{KeepsMarks, IsRoused}
 use Rattle.cycle_engine.specs.private.Goings.{Past, IsReady, IsMade, IsTried}
-use Rattle.cycle_engine.specs.private.Places.{IsNextAct, IsTurn, HasNoExec, count_in, numbered}
+use Rattle.cycle_engine.specs.private.Places.{IsNextAct, IsNextNumber, IsTurn, HasNoExec, count_in, numbered}
 use Rattle.cycle_engine.proofs.PlaceLemmas.{exec_is}
-use Rattle.cycle_engine.proofs.TurnLemmas.{turn_passed, unit_made, queue_made, turn_on, with_marks, going_marks}
+use Rattle.cycle_engine.proofs.TurnLemmas.{turn_passed, unit_made, queue_made, turn_on, turn_to, with_marks, going_marks}
 
 -- ---- the acts of one kind, by their numbers
 
@@ -61,6 +62,17 @@ next_numbered net s u kind n count act x is e l =
       exec = λ z. absurd (x z);
       oldest = other_oldest net s u act (λ z. x (sym r ∙ z));
     }
+
+-- the acts of a kind up to the next number are not enabled
+pub turn_next : (net : Net) (past : Past) (b : Bounds) (c : ℕ) (start : Dated) (marks : Marks) (e : Engine) (u : ℕ) (kind : Act) (n m : ℕ) → IsNextNumber net (state_of e.state) u kind n m
+    → IsTurn net past b c start marks e u (act_rank kind) n → IsTurn net past b c start marks e u (act_rank kind) m
+turn_next net past b c start marks e u kind n m next t = turn_to net past b c start marks e u (act_rank kind) n m t (λ a en r. at a en r (cases_lt (act_number (act_place a)) n) (cases_lt (act_number (act_place a)) m))
+  where
+    at : (a : Act) → enabled net (state_of e.state) (firing u a) → act_rank a ≡ act_rank kind → (act_number (act_place a) < n) ⊎ (n ≤ act_number (act_place a)) → (act_number (act_place a) < m) ⊎ (m ≤ act_number (act_place a))
+        → (act_number (act_place a) < n) ⊎ (m ≤ act_number (act_place a))
+    at a en r (inl l) k = inl l
+    at a en r (inr l) (inr k) = inr k
+    at a en r (inr l) (inl k) = absurd (next.none a r l k en)
 
 pub exec_on : (net : Net) (past : Past) (b : Bounds) (c : ℕ) (start : Dated) (marks : Marks) (e : Engine) (u : ℕ) → HasNoExec net (state_of e.state) u → IsTurn net past b c start marks e u 6 0 → IsTurn net past b c start marks e u 7 0
 exec_on net past b c start marks e u none t = turn_on net past b c start marks e u 6 0 t (λ a n r. absurd (at a n r))

@@ -500,6 +500,26 @@ module _ (net : Net) (past : Past) (b : Bounds) (c : ℕ) (start : Dated) (marks
 
 -- ---- one kind of acts more
 
+-- no act of the rank r between the numbers n and m is enabled
+pub turn_to : (net : Net) (past : Past) (b : Bounds) (c : ℕ) (start : Dated) (marks : Marks) (e : Engine) (u r n m : ℕ) → IsTurn net past b c start marks e u r n
+    → ((a : Act) → enabled net (state_of e.state) (firing u a) → act_rank a ≡ r → (act_number (act_place a) < n) ⊎ (m ≤ act_number (act_place a))) → IsTurn net past b c start marks e u r m
+turn_to net past b c start marks e u r n m t apart = record { going = t.going; watched = λ g un may. at g may (t.watched g un may); of = t.of }
+  where
+    at : (g : Firing) → May net c start (dated_of e) g → IsMarked e.marks g.unit ⊎ ((g.unit ≡ u) × IsOpen r n g.act) → IsMarked e.marks g.unit ⊎ ((g.unit ≡ u) × IsOpen r m g.act)
+    at g may (inl k) = inl k
+    at g may (inr k) = inr (k.0, by k.1)
+      where
+        N : ℕ → Type 0
+        N v = enabled net (state_of e.state) (firing v g.act)
+
+        past_it : r ≡ act_rank g.act → n ≤ act_number (act_place g.act) → (act_number (act_place g.act) < n) ⊎ (m ≤ act_number (act_place g.act)) → IsOpen r m g.act
+        past_it z l (inl q) = absurd (omega arith)
+        past_it z l (inr q) = inr (z, q)
+
+        by : IsOpen r n g.act → IsOpen r m g.act
+        by (inl l) = inl l
+        by (inr l) = past_it l.0 l.1 (apart g.act (subst N k.0 may.turn) (sym l.0))
+
 -- all acts of the rank r were tried
 pub turn_on : (net : Net) (past : Past) (b : Bounds) (c : ℕ) (start : Dated) (marks : Marks) (e : Engine) (u r n : ℕ) → IsTurn net past b c start marks e u r n
     → ((a : Act) → enabled net (state_of e.state) (firing u a) → act_rank a ≡ r → act_number (act_place a) < n) → IsTurn net past b c start marks e u (r + 1) 0

@@ -1,16 +1,17 @@
 //! The acts of units, one after another.
 
-ghost use Rattle.std.specs.Prelude.{◌≡◌, true, false, MatchOption};
+ghost use Rattle.std.specs.Prelude.{◌≡◌, ◌≤◌, true, false, MatchOption};
 ghost use Rattle.net_types.specs.Nets.{kind_of};
 ghost use Rattle.net_check.specs.Ends.{is_lsq};
 ghost use Rattle.net_core.specs.States.{IsOf, state_of};
 ghost use Rattle.cycle_engine.specs.private.Marking.{IsStarved, asks_first, is_merge};
 ghost use Rattle.net_core.specs.Uses.{is_fork};
-ghost use Rattle.cycle_engine.specs.private.Places.{HasView, HasNoExec, IsFirstExec, first_of, count_in, inputs_in, outputs_in, groups_in, ports_in, numbered};
+ghost use Rattle.net_types.specs.declared.firing.Act.TheVariants as acts;
+ghost use Rattle.cycle_engine.specs.private.Places.{HasView, HasNoExec, HasNoneFrom, IsFirstExec, IsNextNumber, IsViewOf, first_of, count_in, inputs_in, outputs_in, groups_in, ports_in, numbered};
 
 use lsq_core::Queue;
 use net_check::Checked;
-use net_core::State;
+use net_core::{State, UnitQueue};
 use net_types::{Act, Unit};
 
 /// Whether a unit is a queue.
@@ -210,6 +211,100 @@ pub(crate) fn numbered(act: Act, number: u32) -> Act
         Act::Reply(_) => Act::Reply(number),
         Act::Retire => Act::Retire,
         Act::End => Act::End,
+    }
+}
+
+/// The queue of a unit; none of a unit that is none.
+#[inline(always)]
+fn queue_of<'a>(net: &Checked, state: &'a State, unit: u32) -> Option<&'a UnitQueue>
+    requires { IsOf net.now state.now }
+    ensures { MatchOption result (is_lsq (kind_of net.now unit) ≡ false)
+        (λ q. IsViewOf net.now (state_of state.now) unit q.now) }
+{
+    if unit as usize >= net.net().units.as_slice().len() {
+        return None;
+    }
+    let queue = state.queue(net, unit)?;
+    let _ = queue.len();
+    Some(queue)
+}
+
+/// The least port from a number on at which a queue allows an address.
+fn next_addr(net: &Checked, state: &State, unit: u32, from: u32) -> Option<u32>
+    requires { IsOf net.now state.now }
+    ensures { MatchOption result (HasNoneFrom net.now (state_of state.now) unit (acts.Addr 0) from)
+        (IsNextNumber net.now (state_of state.now) unit (acts.Addr 0) from) }
+{
+    let Some(queue) = queue_of(net, state, unit) else {
+        return None;
+    };
+    queue.next_addr(from)
+}
+
+/// The least port from a number on at which a queue allows data.
+fn next_data(net: &Checked, state: &State, unit: u32, from: u32) -> Option<u32>
+    requires { IsOf net.now state.now }
+    ensures { MatchOption result (HasNoneFrom net.now (state_of state.now) unit (acts.Data 0) from)
+        (IsNextNumber net.now (state_of state.now) unit (acts.Data 0) from) }
+{
+    let Some(queue) = queue_of(net, state, unit) else {
+        return None;
+    };
+    queue.next_data(from)
+}
+
+/// The least port from a number on at which a queue allows a reply.
+fn next_reply(net: &Checked, state: &State, unit: u32, from: u32) -> Option<u32>
+    requires { IsOf net.now state.now }
+    ensures { MatchOption result (HasNoneFrom net.now (state_of state.now) unit (acts.Reply 0) from)
+        (IsNextNumber net.now (state_of state.now) unit (acts.Reply 0) from) }
+{
+    let Some(queue) = queue_of(net, state, unit) else {
+        return None;
+    };
+    queue.next_reply(from)
+}
+
+/// The least number from one on of an act of a kind that may be enabled, as far as the queue of the unit tells.
+#[inline(always)]
+fn next_told(net: &Checked, state: &State, unit: u32, kind: Act, from: u32) -> Option<u32>
+    requires { IsOf net.now state.now }
+    ensures { MatchOption result (HasNoneFrom net.now (state_of state.now) unit kind from)
+        (IsNextNumber net.now (state_of state.now) unit kind from) }
+{
+    match kind {
+        Act::Addr(_) => next_addr(net, state, unit, from),
+        Act::Data(_) => next_data(net, state, unit, from),
+        Act::Reply(_) => next_reply(net, state, unit, from),
+        Act::Go => Some(from),
+        Act::From(_) => Some(from),
+        Act::Send(_) => Some(from),
+        Act::Alloc(_) => Some(from),
+        Act::Exec(_) => Some(from),
+        Act::Retire => Some(from),
+        Act::End => Some(from),
+    }
+}
+
+/// The least number from one on, and below so many, of an act of a kind that may be enabled, as far as the queue of the unit
+/// tells; so many where there is none.
+#[inline(always)]
+pub(crate) fn next_number(
+    net: &Checked,
+    state: &State,
+    unit: u32,
+    kind: Act,
+    from: u32,
+    count: u32,
+) -> u32
+    requires of { IsOf net.now state.now }
+    requires within { from ≤ count }
+    ensures next { IsNextNumber net.now (state_of state.now) unit kind from result }
+    ensures within { result ≤ count }
+{
+    match next_told(net, state, unit, kind, from) {
+        None => count,
+        Some(number) => number.min(count),
     }
 }
 

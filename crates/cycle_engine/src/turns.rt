@@ -9,7 +9,7 @@ ghost use Rattle.cycle_engine.specs.private.Goings.{Past, IsReady, IsBroken, IsB
 ghost use Rattle.cycle_engine.specs.private.Places.{IsTurn, IsNextAct, IsOpenTurn, IsSettled, IsServed, IsFull};
 
 use crate::engine::{Bounds, Engine};
-use crate::places::{count_acts, first_act, is_queue, look_at_queue, numbered, oldest};
+use crate::places::{count_acts, first_act, is_queue, look_at_queue, next_number, numbered, oldest};
 use net_check::Checked;
 use net_replay::RunFault;
 use net_types::{Act, Firing};
@@ -71,7 +71,7 @@ impl Engine {
         Ok(())
     }
 
-    /// Tries all places of a unit of one kind.
+    /// Tries all places of a unit of one kind at which its queue, where it has one, does not tell that the act is not allowed.
     ///
     /// # Errors
     ///
@@ -95,9 +95,11 @@ impl Engine {
             (IsBroken net.now past.inputs bounds) }
     {
         let count = count_acts(net, unit, kind);
-        for number in 0..count {
+        let mut number = next_number(net, &self.state, unit, kind, 0, count);
+        while number < count {
             let act = numbered(kind, number);
             self.step::<K>(net, bounds, Firing { unit, act }, now)?;
+            number = next_number(net, &self.state, unit, kind, number + 1, count);
         }
         look_at_queue(net, &self.state, unit);
         Ok(())

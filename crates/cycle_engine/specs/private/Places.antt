@@ -149,6 +149,23 @@ pub record HasView (net : Net) (s : State) (u : ℕ) : Type 0 where
   pub order : InOrder view.queue
   pub ports : InPorts (length view.ports) view.queue.items
 
+-- the queue of a unit, as it is seen
+abbrev pub IsViewOf : Net → State → ℕ → QueueView → Type 0
+IsViewOf net s u q = (v : HasView net s u) × (v.view ≡ q)
+
+-- no act of a kind with a number from one on is enabled
+abbrev pub HasNoneFrom : Net → State → ℕ → Act → ℕ → Type 0
+HasNoneFrom net s u kind from = (b : Act) → act_rank b ≡ act_rank kind → from ≤ act_number (act_place b) → enabled net s (firing u b) → ⊥
+
+-- no act of a kind with a number from one on and below another is enabled
+abbrev pub HasNoneBetween : Net → State → ℕ → Act → ℕ → ℕ → Type 0
+HasNoneBetween net s u kind from to = (b : Act) → act_rank b ≡ act_rank kind → from ≤ act_number (act_place b) → act_number (act_place b) < to → enabled net s (firing u b) → ⊥
+
+-- the number is from another on, and no act of a kind with a number between them is enabled
+pub record IsNextNumber (net : Net) (s : State) (u : ℕ) (kind : Act) (from n : ℕ) : Type 0 where
+  pub from_on : from ≤ n
+  pub none : HasNoneBetween net s u kind from n
+
 -- no entry may execute
 abbrev pub HasNoExec : Net → State → ℕ → Type 0
 HasNoExec net s u = (j : ℕ) → enabled net s (firing u (Exec j)) → ⊥

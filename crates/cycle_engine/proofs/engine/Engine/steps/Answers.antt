@@ -1,17 +1,27 @@
-use Rattle.std.proofs.Common.{arith}
+use Rattle.std.proofs.Common.{◌+◌, arith}
 use Rattle.net_types.specs.Order.{act_rank}
 use Rattle.net_core.specs.States.{state_of}
 use Rattle.cycle_engine.proofs.TurnLemmas.{turn_on, exit_broken}
-use Rattle.cycle_engine.proofs.StepLemmas.{next_numbered}
+use Rattle.cycle_engine.proofs.StepLemmas.{next_numbered, turn_next}
 use Rattle.cycle_engine.proofs.PlaceLemmas.{numbers_below}
 use Rattle.cycle_engine.proofs.engine.Engine.steps.Goals as goal
+
+pub loop-number-init : goal.loop-number-init
+loop-number-init g c = record {
+  ready = c.requires.ready;
+  less = omega arith;
+  within = c.next_number-number.ensures.within;
+  tried = λ past start marks t. turn_next c.args.net.now past c.args.bounds c.args.now start marks c.args.self.now c.args.unit c.args.kind 0 c.next_number-number.result c.next_number-number.ensures.next t;
+}
 
 pub loop-number-preserved : goal.loop-number-preserved
 loop-number-preserved g c = record {
   ready = c.in_ok-step.ensures.ready;
   less = (let a = c.loop-number.invariant.less in let b = c.in_ok-step.ensures.less in omega arith);
-  tried = λ past start marks t. c.in_ok-step.ensures.tried past start marks (act_rank c.args.kind) c.loop-number.number (c.loop-number.invariant.tried past start marks t)
-      (next_numbered c.args.net.now (state_of c.loop-number.self.state) c.args.unit c.args.kind c.loop-number.number c.count_acts-count.result c.numbered-act.result c.requires.kind c.numbered-act.ensures c.count_acts-count.ensures c.loop-number-test.true);
+  within = c.next_number-number-in-loop-number.ensures.within;
+  tried = λ past start marks t. turn_next c.args.net.now past c.args.bounds c.args.now start marks c.step.new.self c.args.unit c.args.kind (c.loop-number.number + 1) c.next_number-number-in-loop-number.result c.next_number-number-in-loop-number.ensures.next
+      (c.in_ok-step.ensures.tried past start marks (act_rank c.args.kind) c.loop-number.number (c.loop-number.invariant.tried past start marks t)
+      (next_numbered c.args.net.now (state_of c.loop-number.self.state) c.args.unit c.args.kind c.loop-number.number c.count_acts-count.result c.numbered-act.result c.requires.kind c.numbered-act.ensures c.count_acts-count.ensures c.loop-number-test.true));
 }
 
 pub returns-in_err-step-clause-tried : goal.returns-in_err-step-clause-tried

@@ -1,4 +1,4 @@
-use Rattle.std.proofs.Common.{◌≤◌}
+use Rattle.std.proofs.Common.{◌≤◌, ◌-◌}
 use Rattle.net_types.specs.Order.{act_rank}
 use Rattle.cycle_engine.specs.declared.marks.Marks.{Marks}
 use Rattle.cycle_engine.specs.Cycles.{Dated}
@@ -10,5 +10,9 @@ abbrev pub invariant-loop-number : goal.invariant-loop-number
 invariant-loop-number g l = record {
   ready : IsReady l.net l.bounds l.self;
   less : to_visit l.bounds l.self ≤ to_visit l.bounds l.fn.self;
+  within : l.number ≤ l.count;
   tried : (past : Past) (start : Dated) (marks : Marks) → IsTurn l.net past l.bounds l.now start marks l.fn.self l.unit (act_rank l.kind) 0 → IsTurn l.net past l.bounds l.now start marks l.self l.unit (act_rank l.kind) l.number;
 }
+
+abbrev pub decreases-loop-number : goal.decreases-loop-number
+decreases-loop-number g l = l.count - l.number
