@@ -4,3 +4,4 @@ pub mod Moves
 pub mod Openings
 pub mod Restores
 pub mod Searches
+pub mod Channels

@@ -6,6 +6,7 @@
 
 mod acts;
 mod cell;
+mod channel;
 mod find;
 mod inputs;
 mod laws;

@@ -186,7 +186,7 @@ pub(crate) fn queue_parts(alloc: Global, cells: &[Cell]) -> Result<List<QueuePar
 /// # Errors
 ///
 /// [`Memory`] where memory is wanting.
-fn append(list: &mut List<u64>, items: &[u64]) -> Result<(), Memory>
+pub(crate) fn append(list: &mut List<u64>, items: &[u64]) -> Result<(), Memory>
     ensures { OnOk result (list.new ≡ list.old ++ items.now) }
 {
     for item in items {

@@ -7,17 +7,16 @@ ghost use Rattle.net_core.specs.Held.{AllWithin, HasRoom, held_of, laid_on, put_
 ghost use Rattle.net_core.specs.Plans.{chans_of};
 ghost use Rattle.net_types.specs.declared.net.Chan.{Chan as ChanValue};
 
-use crate::parts::joined;
+use crate::channel::Channel;
 use crate::plan::{Moves, Taken};
-use circular_buffer::HeapCircularBuffer;
 use net_types::{Chan, List, Memory};
 use std::alloc::Global;
 use std::marker::Model;
 
-/// A ring of tokens for each channel, with the channel's slots.
+/// The tokens of each channel, with its slots.
 #[derive(Drop)]
 pub struct Tokens {
-    rings: Vec<HeapCircularBuffer<u64>>,
+    channels: Vec<Channel>,
 }
 
 impl Model for Tokens {
@@ -27,7 +26,7 @@ impl Model for Tokens {
 
     ghost coded = { held_code };
 
-    ghost view = { λ t. held_of t.rings.items };
+    ghost view = { λ t. held_of t.channels.items };
 }
 
 impl Tokens {
@@ -37,11 +36,11 @@ impl Tokens {
         ensures slots { IfOk result
             (λ t. t.slots ≡ map (λ (c : ChanValue). c.slots) chans.now) }
     {
-        let mut rings = Vec::new(alloc);
+        let mut channels = Vec::new(alloc);
         for chan in chans {
-            rings.push(HeapCircularBuffer::with_capacity(alloc, chan.slots as usize)?)?;
+            channels.push(Channel::new(alloc, chan.slots)?)?;
         }
-        Ok(Tokens { rings })
+        Ok(Tokens { channels })
     }
 
     /// Puts tokens on channels that have none. It takes no memory.
@@ -52,7 +51,7 @@ impl Tokens {
         ensures tokens { self.new.tokens ≡ lists.now }
         ensures slots { self.new.slots ≡ self.old.slots }
     {
-        fill_rings(&mut self.rings, lists);
+        fill_channels(&mut self.channels, lists);
     }
 
     /// The tokens of each channel, oldest first.
@@ -63,7 +62,7 @@ impl Tokens {
     pub(crate) fn lists(&self, alloc: Global) -> Result<List<List<u64>>, Memory>
         ensures { IfOk result (λ l. l ≡ self.now.tokens) }
     {
-        lists_of(alloc, self.rings.as_slice())
+        lists_of(alloc, self.channels.as_slice())
     }
 
     /// The oldest token of a channel; `None` past the channels.
@@ -71,8 +70,8 @@ impl Tokens {
     pub fn head(&self, chan: u32) -> Option<u64>
         ensures { result ≡ first (get_or self.now.tokens chan []) }
     {
-        if (chan as usize) < self.rings.len() {
-            self.rings[chan as usize].front().copied()
+        if (chan as usize) < self.channels.len() {
+            self.channels[chan as usize].head()
         } else {
             None
         }
@@ -83,8 +82,8 @@ impl Tokens {
     pub fn newest(&self, chan: u32) -> Option<u64>
         ensures { result ≡ last_item (get_or self.now.tokens chan []) }
     {
-        if (chan as usize) < self.rings.len() {
-            self.rings[chan as usize].back().copied()
+        if (chan as usize) < self.channels.len() {
+            self.channels[chan as usize].newest()
         } else {
             None
         }
@@ -96,8 +95,8 @@ impl Tokens {
         requires { get_or self.now.slots chan 0 < 2 ^ 32 }
         ensures { result ≡ length (get_or self.now.tokens chan []) }
     {
-        if (chan as usize) < self.rings.len() {
-            self.rings[chan as usize].len() as u32
+        if (chan as usize) < self.channels.len() {
+            self.channels[chan as usize].held()
         } else {
             0
         }
@@ -108,9 +107,8 @@ impl Tokens {
     pub fn has_room(&self, chan: u32) -> bool
         ensures { IsTrue result ↔ HasRoom self.now chan }
     {
-        if (chan as usize) < self.rings.len() {
-            let ring = &self.rings[chan as usize];
-            ring.len() < ring.capacity()
+        if (chan as usize) < self.channels.len() {
+            self.channels[chan as usize].has_room()
         } else {
             false
         }
@@ -123,7 +121,7 @@ impl Tokens {
         ensures tokens { self.new.tokens ≡ take_at chan self.old.tokens }
         ensures slots { self.new.slots ≡ self.old.slots }
     {
-        self.rings[chan as usize].pop_front();
+        self.channels[chan as usize].take();
     }
 
     /// Puts a token on a channel.
@@ -133,7 +131,7 @@ impl Tokens {
         ensures tokens { self.new.tokens ≡ put_at_end chan value self.old.tokens }
         ensures slots { self.new.slots ≡ self.old.slots }
     {
-        self.rings[chan as usize].push_back(value);
+        self.channels[chan as usize].put(value);
     }
 
     /// Takes the oldest tokens of channels.
@@ -175,39 +173,38 @@ impl Tokens {
     }
 }
 
-/// Puts tokens into rings that have none.
-fn fill_rings(rings: &mut Vec<HeapCircularBuffer<u64>>, lists: &[List<u64>])
-    requires none { (c : ℕ) → get_or (held_of rings.old.items).tokens c [] ≡ [] }
-    requires count { length lists.now ≡ length rings.old.items }
+/// Puts tokens on channels that have none.
+fn fill_channels(channels: &mut Vec<Channel>, lists: &[List<u64>])
+    requires none { (c : ℕ) → get_or (held_of channels.old.items).tokens c [] ≡ [] }
+    requires count { length lists.now ≡ length channels.old.items }
     requires slots { (c : ℕ) → length (get_or lists.now c [])
-        ≤ get_or (held_of rings.old.items).slots c 0 }
-    ensures tokens { (held_of rings.new.items).tokens ≡ lists.now }
-    ensures slots { (held_of rings.new.items).slots ≡ (held_of rings.old.items).slots }
+        ≤ get_or (held_of channels.old.items).slots c 0 }
+    ensures tokens { (held_of channels.new.items).tokens ≡ lists.now }
+    ensures slots { (held_of channels.new.items).slots ≡ (held_of channels.old.items).slots }
 {
     for at in 0..lists.len() {
-        fill_ring(&mut rings[at], lists[at].as_slice());
+        fill_channel(&mut channels[at], lists[at].as_slice());
     }
 }
 
-/// Puts tokens into a ring that has none.
-fn fill_ring(ring: &mut HeapCircularBuffer<u64>, tokens: &[u64])
-    requires none { ring.old.items ≡ [] }
-    requires slots { length tokens.now ≤ ring.old.capacity }
-    ensures { ring.new ≡ buffer tokens.now ring.old.capacity }
+/// Puts tokens on a channel that has none.
+fn fill_channel(channel: &mut Channel, tokens: &[u64])
+    requires none { channel.old.items ≡ [] }
+    requires slots { length tokens.now ≤ channel.old.capacity }
+    ensures { channel.new ≡ buffer tokens.now channel.old.capacity }
 {
     for token in tokens {
-        ring.push_back(*token);
+        channel.put(*token);
     }
 }
 
-/// The tokens of each ring.
-fn lists_of(alloc: Global, rings: &[HeapCircularBuffer<u64>]) -> Result<List<List<u64>>, Memory>
-    ensures { IfOk result (λ l. l ≡ (held_of rings.now).tokens) }
+/// The tokens of each channel.
+fn lists_of(alloc: Global, channels: &[Channel]) -> Result<List<List<u64>>, Memory>
+    ensures { IfOk result (λ l. l ≡ (held_of channels.now).tokens) }
 {
     let mut lists = List::new(alloc);
-    for ring in rings {
-        let (first, second) = ring.as_slices();
-        lists.push(joined(alloc, first, second)?)?;
+    for channel in channels {
+        lists.push(channel.list(alloc)?)?;
     }
     Ok(lists)
 }

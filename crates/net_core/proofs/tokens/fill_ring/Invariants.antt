@@ -1,6 +1,0 @@
-use Rattle.std.proofs.Common.{◌≡◌, take}
-use Rattle.circular_buffer.specs.Buffer.{buffer}
-use Rattle.net_core.proofs.tokens.fill_ring.Given as goal
-
-abbrev pub invariant-loop-token : goal.invariant-loop-token
-invariant-loop-token l = l.ring ≡ buffer (take l.token-index l.tokens) l.initial.ring.capacity

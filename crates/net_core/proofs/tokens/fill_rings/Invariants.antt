@@ -1,9 +1,0 @@
-use Rattle.std.proofs.Common.{◌≡◌, ◌++◌, take, drop}
-use Rattle.net_core.specs.Held.{held_of}
-use Rattle.net_core.proofs.tokens.fill_rings.Given as goal
-
-abbrev pub invariant-loop-at : goal.invariant-loop-at
-invariant-loop-at l = record {
-  tokens : (held_of l.rings.items).tokens ≡ take l.at l.lists ++ drop l.at (held_of l.initial.rings.items).tokens;
-  slots : (held_of l.rings.items).slots ≡ (held_of l.initial.rings.items).slots;
-}
