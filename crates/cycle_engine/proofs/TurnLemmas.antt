@@ -89,7 +89,7 @@ no_dates net inputs d = lists_none net.chans d
 pub opening_by : (net : Net) (inputs : Inputs) (c : ℕ) → AllBy c (dated_opening net inputs)
 opening_by net inputs c d = let P : List ℕ → Type 0 = AllByRecursion (λ x. x ≤ c) in subst P (sym (no_dates net inputs d)) tt
 
-going_regular : (net : Net) (past : Past) (b : Bounds) (c : ℕ) (start : Dated) (e : Engine) → IsChecked net → InCycle net past b c start e → IsRegular net (state_of e.state)
+pub going_regular : (net : Net) (past : Past) (b : Bounds) (c : ℕ) (start : Dated) (e : Engine) → IsChecked net → InCycle net past b c start e → IsRegular net (state_of e.state)
 going_regular net past b c start e checked g =
     makes_regular net c start start e.fired.items (dated_of e) checked g.makes
     (cycles_regular net 0 (dated_opening net past.inputs) past.cycles start checked g.done (regular_opening net past.inputs (premises_of net laws checked)))
@@ -600,7 +600,7 @@ unit_done net past b c start marks e u kind l is t = record { going = t.going; p
 
 -- the engine with other marks
 abbrev pub with_marks : Engine → Marks → Engine
-with_marks e m = record { state = e.state; dates = e.dates; begun = e.begun; fired = e.fired; used = e.used; made = e.made; log = e.log; marks = m; notes = e.notes; freed = e.freed }
+with_marks e m = record { state = e.state; dates = e.dates; begun = e.begun; fired = e.fired; used = e.used; made = e.made; log = e.log; marks = m; notes = e.notes; freed = e.freed; control = e.control }
 
 pub going_marks : (net : Net) (past : Past) (b : Bounds) (c : ℕ) (start : Dated) (e : Engine) (m : Marks) → InCycle net past b c start e → InCycle net past b c start (with_marks e m)
 going_marks net past b c start e m g = record {
@@ -614,6 +614,7 @@ going_marks net past b c start e m g = record {
   log = g.log;
   listed = g.listed;
   coming = g.coming;
+  control = g.control;
 }
   where
     followed : (d : ℕ) → IsFollowed net c start e d → IsFollowed net c start (with_marks e m) d
