@@ -18,7 +18,7 @@ use Rattle.lsq_core.specs.Laws.{act_place}
 use Rattle.net_core.specs.declared.plan.Moves.{Moves}
 use Rattle.net_core.specs.declared.plan.Plan.{Plan}
 use Rattle.net_core.specs.declared.plan.Put.{Put}
-use Rattle.net_core.specs.Fire.{State, Effect, idle, setting, at_array, head_at, tokens_at, first, enabled, moved, applied, after, after_effect, puts_on, takes_from, added, taken}
+use Rattle.net_core.specs.Fire.{State, Effect, idle, setting, at_array, head_at, tokens_at, first, enabled, moved, applied, after_effect, puts_on, takes_from, added, taken}
 use Rattle.net_core.specs.Plans.{laid_of, moves_of}
 use Rattle.net_core.specs.States.{state_of, IsPlanOf}
 use Rattle.net_core.specs.Uses.{used}
