@@ -8,6 +8,7 @@ pub mod JoinLemmas
 pub mod PlaceLemmas
 mod QueueTurnLemmas
 mod TurnLemmas
+mod ControlLemmas
 mod StepLemmas
 mod RunLemmas
 mod UsedLemmas

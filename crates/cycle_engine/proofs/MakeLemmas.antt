@@ -27,6 +27,7 @@ use Rattle.cycle_engine.specs.Cycles.{Dated, dated, after_by, after_in, AreDated
 use Rattle.cycle_engine.specs.Cuts.{joined, IsCut}
 use Rattle.cycle_engine.specs.private.Trials.{dated_of, IsEngine, IsBegun, dated_laid, dated_moves, dates_after}
 use Rattle.cycle_engine.specs.private.Goings.{Past, IsReady, InCycle, MayFollow, IsMade, IsMore, all_made}
+use Rattle.cycle_engine.specs.private.Control.{HasControl, control_after}
 use Rattle.cycle_engine.specs.private.Used.{AreTold}
 use Rattle.cycle_engine.specs.private.Marking.{IsListed, IsNoted, IsFreed}
 use Rattle.cycle_engine.proofs.NoteLemmas.{after_is, coming_after}
@@ -134,6 +135,7 @@ pub record Makes1 (net : Net) (b : Bounds) (c : ℕ) (old new : Engine) (f : Fir
   pub logged : IsLogged b.keep (f ∷ []) old.log new.log
   pub notes : IsNoted net m.laid c old.notes new.notes
   pub freed : IsFreed old.dates c (chans_of m.taken) old.freed new.freed
+  pub control : new.control ≡ control_after net m.laid old.control
 
 -- where it was one firing that the limit allows, the engine is ready for the next
 made_more : (old new : Engine) (f : Firing) → new.made ≡ old.made → new.fired.items ≡ old.fired.items ++ f ∷ [] → all_made new ≡ all_made old + 1
@@ -179,8 +181,9 @@ made_begun net b c start old new f p m ready is s may one began = record {
 }
 
 pub made_going : (net : Net) (past : Past) (b : Bounds) (c : ℕ) (start : Dated) (old new : Engine) (f : Firing) (p : Plan) (m : Moves) → IsReady net b old → IsPlanOf net old.state f (Some p) → m ≡ moves_of net f.unit p
-    → InCycle net past b c start old → MayFollow net old f → IsUnused old.fired.items f → May net c start (dated_of old) f → Makes1 net b c old new f m → IsMade net past b c start old new f
-made_going net past b c start old new f p m ready is s going follow un may one = record {
+    → InCycle net past b c start old → MayFollow net old f → IsUnused old.fired.items f → May net c start (dated_of old) f → Makes1 net b c old new f m
+    → HasControl net (state_of new.state) new.control → IsMade net past b c start old new f
+made_going net past b c start old new f p m ready is s going follow un may one control = record {
   may = may;
   after = one.after;
   fired = one.fired;
@@ -198,6 +201,7 @@ made_going net past b c start old new f p m ready is s going follow un may one =
     listed = one.freed.listed going.listed;
     coming = (let Q : Moves → Type 0 = λ x. IsNoted net x.laid c old.notes new.notes in
         coming_after net c old new f p ready.engine (after_is net c old new f p is one.after) (subst Q s one.notes) going.coming);
+    control = control;
   };
 }
 

@@ -79,6 +79,7 @@ cycle_done net past b c start e eng f =
       listed = f.going.listed;
       entries = entries_now net past b c start e eng f;
       coming = f.going.coming;
+      control = f.going.control;
       next = next_quiet net past b c start e eng f;
     }
 

@@ -1,5 +1,5 @@
 -- The engine at the opening state, and as a cycle begins.
-use Rattle.std.proofs.Common.{◌≡◌, ℕ, suc, zero, ◌+◌, ◌*◌, ◌%◌, ◌<◌, ◌≤◌, inl, replicate, Bool, true, false, cond, List, [], ◌∷◌, ◌++◌, length, map, get_or, refl, sym, ap, subst, ◌∙◌, arith}
+use Rattle.std.proofs.Common.{◌≡◌, ℕ, suc, zero, ◌+◌, ◌*◌, ◌%◌, ◌<◌, ◌≤◌, inl, replicate, Bool, true, false, cond, Some, None, List, [], ◌∷◌, ◌++◌, length, map, get_or, refl, sym, ap, subst, ◌∙◌, arith}
 use Rattle.std.proofs.lemmas.List.{append-nil}
 use Rattle.std.specs.List.{AllByRecursion}
 use Rattle.el_base.specs.Limits.{max_depth, max_firings}
@@ -9,11 +9,12 @@ use Rattle.net_types.specs.declared.firing.Firing.{Firing}
 use Rattle.net_types.specs.declared.firing.Inputs.{Inputs}
 use Rattle.net_types.specs.declared.net.Unit.{Unit as Kind}
 use Rattle.net_types.specs.declared.net.Unit.TheVariants.{Entry, Param, Const, Op1, Op2, Select, Fork, Mux, Cmerge, Branch, Sink, Read, Lsq, Exit}
-use Rattle.net_types.specs.Nets.{chan_at}
+use Rattle.net_types.specs.Nets.{into, chan_at}
 use Rattle.net_check.specs.Checks.{IsChecked}
-use Rattle.net_core.specs.Fire.{idle, opened}
+use Rattle.net_core.specs.Fire.{idle, opened, first, head_at, tokens_at}
 use Rattle.net_core.specs.Runs.{opening}
 use Rattle.net_core.specs.States.{state_of, IsOf, CountsWithin}
+use Rattle.net_core.proofs.RegularLemmas.{opening_tokens}
 use Rattle.cycle_engine.specs.declared.engine.Engine.{Engine}
 use Rattle.cycle_engine.specs.declared.engine.Bounds.{Bounds}
 use Rattle.cycle_engine.specs.declared.freed.Freed.{Freed}
@@ -21,6 +22,7 @@ use Rattle.cycle_engine.specs.Cycles.{Dated, dated_opening, May, AreDated, Makes
 use Rattle.cycle_engine.specs.Cuts.{joined}
 use Rattle.cycle_engine.specs.private.Trials.{dated_of, IsBegun, IsEngine}
 use Rattle.cycle_engine.specs.private.Marking.{Holds, IsMarked, IsListed, AreListed, cell, entries_at}
+use Rattle.cycle_engine.specs.private.Control.{HasControl}
 use Rattle.cycle_engine.specs.private.Goings.{Past, IsReady, InCycle, HasDone, AreComing, all_made}
 use Rattle.cycle_engine.proofs.PlaceLemmas.{fires_within}
 use Rattle.cycle_engine.proofs.UsedLemmas.{none_told}
@@ -105,9 +107,15 @@ opened_done net inputs b e same made fired log checked chans queues marked = rec
   listed = none_listed e.freed (λ d. ap (λ (xs : List Bool). get_or xs d false) chans ∙ each_one false (length net.chans) d);
   entries = λ u l. inl (ap (λ xs. get_or xs u 0) queues ∙ (each_one 0 (length net.units) u ∙ (sym (items_none net.units u) ∙ ap (λ (s : Dated). entries_at s.state u) same)));
   coming = λ d. (let P : List ℕ → Type 0 = AllByRecursion (λ x. (x < 0) × (0 ≤ x + (chan_at net d).delay → Holds d (cell e.notes ((x + (chan_at net d).delay) % 1024)))) in subst P (sym (ap (λ (s : Dated). get_or s.dates d []) (sym same) ∙ lists_none net.chans d)) tt);
+  control = λ u g v l h. absurd (starved u g v h);
   next = λ g m stirred. stirred (inl (marked g.unit (within g m)));
 }
   where
+    starved : (u g v : ℕ) → head_at net (state_of e.state) u g ≡ Some v → ⊥
+    starved u g v h =
+        let xs : tokens_at (dated_opening net inputs).state (into u g net.chans) ≡ [] = opening_tokens net inputs (into u g net.chans) in
+        let z : None ≡ Some v = sym (ap first xs) ∙ (ap (λ (s : Dated). head_at net s.state u g) same ∙ h) in cc
+
     within : (g : Firing) → May net 0 (dated_of e) (dated_of e) g → g.unit < length net.units
     within g m = fires_within net (state_of e.state) g checked (let P : Dated → Type 0 = λ x. length x.state.tokens ≡ length net.chans in subst P same (long_map net.chans)) m.turn
 
@@ -139,8 +147,8 @@ begun_ready net b old new r eng same made fired log chans queues marked listed c
 
 -- so a cycle begins
 pub begun_going : (net : Net) (past : Past) (b : Bounds) (c : ℕ) (old new : Engine) → HasDone net past b c old → IsBegun net c (dated_of old) new → dated_of new ≡ dated_of old → new.fired.items ≡ []
-    → new.made ≡ all_made old → new.log.items ≡ old.log.items → AreListed new.freed → AreComing net (c + 1) new → InCycle net past b c (dated_of old) new
-begun_going net past b c old new d begun same none made log listed coming =
+    → new.made ≡ all_made old → new.log.items ≡ old.log.items → AreListed new.freed → AreComing net (c + 1) new → HasControl net (state_of new.state) new.control → InCycle net past b c (dated_of old) new
+begun_going net past b c old new d begun same none made log listed coming control =
     let M : List Firing → Type 0 = λ fs. Makes net c (dated_of old) (dated_of old) fs (dated_of new) in
     let O : List Firing → Type 0 = Once in
     let I : List Firing → Type 0 = InOrder in
@@ -155,4 +163,5 @@ begun_going net past b c old new d begun same none made log listed coming =
       log = log ∙ (d.log ∙ (ap (λ xs. cond b.keep xs []) (sym (append-nil (joined past.cycles))) ∙ ap (λ fs. cond b.keep (joined past.cycles ++ fs) []) (sym none)));
       listed = listed;
       coming = coming;
+      control = control;
     }

@@ -89,7 +89,7 @@ no_dates net inputs d = lists_none net.chans d
 pub opening_by : (net : Net) (inputs : Inputs) (c : ℕ) → AllBy c (dated_opening net inputs)
 opening_by net inputs c d = let P : List ℕ → Type 0 = AllByRecursion (λ x. x ≤ c) in subst P (sym (no_dates net inputs d)) tt
 
-going_regular : (net : Net) (past : Past) (b : Bounds) (c : ℕ) (start : Dated) (e : Engine) → IsChecked net → InCycle net past b c start e → IsRegular net (state_of e.state)
+pub going_regular : (net : Net) (past : Past) (b : Bounds) (c : ℕ) (start : Dated) (e : Engine) → IsChecked net → InCycle net past b c start e → IsRegular net (state_of e.state)
 going_regular net past b c start e checked g =
     makes_regular net c start start e.fired.items (dated_of e) checked g.makes
     (cycles_regular net 0 (dated_opening net past.inputs) past.cycles start checked g.done (regular_opening net past.inputs (premises_of net laws checked)))
@@ -498,7 +498,7 @@ module _ (net : Net) (past : Past) (b : Bounds) (c : ℕ) (start : Dated) (marks
             by (inl e) (inr o) = before_on g un kept (before g un (λ z. phase_rises g.act f.act (let x = closed_rank r (n + 1) g.act o in let y = next.rank in omega arith)) m)
             by (inr e) o = before_on g un kept (before g un (λ z. absurd (e z)) m)
 
--- ---- one kind of acts more
+-- ---- acts that may be passed over
 
 -- no act of the rank r between the numbers n and m is enabled
 pub turn_to : (net : Net) (past : Past) (b : Bounds) (c : ℕ) (start : Dated) (marks : Marks) (e : Engine) (u r n m : ℕ) → IsTurn net past b c start marks e u r n
@@ -520,17 +520,20 @@ turn_to net past b c start marks e u r n m t apart = record { going = t.going; w
         by (inl l) = inl l
         by (inr l) = past_it l.0 l.1 (apart g.act (subst N k.0 may.turn) (sym l.0))
 
--- all acts of the rank r were tried
-pub turn_on : (net : Net) (past : Past) (b : Bounds) (c : ℕ) (start : Dated) (marks : Marks) (e : Engine) (u r n : ℕ) → IsTurn net past b c start marks e u r n
-    → ((a : Act) → enabled net (state_of e.state) (firing u a) → act_rank a ≡ r → act_number (act_place a) < n) → IsTurn net past b c start marks e u (r + 1) 0
-turn_on net past b c start marks e u r n t below = record { going = t.going; watched = λ g un m. at g m (t.watched g un m); of = of (is_lsq (kind_of net u)) t.of }
+-- all acts of the rank r were tried, or may not fire
+pub turn_over : (net : Net) (past : Past) (b : Bounds) (c : ℕ) (start : Dated) (marks : Marks) (e : Engine) (u r n : ℕ) → IsTurn net past b c start marks e u r n
+    → ((a : Act) → IsUnused e.fired.items (firing u a) → May net c start (dated_of e) (firing u a) → act_rank a ≡ r → act_number (act_place a) < n) → IsTurn net past b c start marks e u (r + 1) 0
+turn_over net past b c start marks e u r n t below = record { going = t.going; watched = λ g un m. at g un m (t.watched g un m); of = of (is_lsq (kind_of net u)) t.of }
   where
-    at : (g : Firing) → May net c start (dated_of e) g → IsMarked e.marks g.unit ⊎ ((g.unit ≡ u) × IsOpen r n g.act) → IsMarked e.marks g.unit ⊎ ((g.unit ≡ u) × IsOpen (r + 1) 0 g.act)
-    at g m (inl k) = inl k
-    at g m (inr k) = by k.1
+    at : (g : Firing) → IsUnused e.fired.items g → May net c start (dated_of e) g → IsMarked e.marks g.unit ⊎ ((g.unit ≡ u) × IsOpen r n g.act) → IsMarked e.marks g.unit ⊎ ((g.unit ≡ u) × IsOpen (r + 1) 0 g.act)
+    at g un m (inl k) = inl k
+    at g un m (inr k) = by k.1
       where
+        U : ℕ → Type 0
+        U v = IsUnused e.fired.items (firing v g.act)
+
         N : ℕ → Type 0
-        N v = enabled net (state_of e.state) (firing v g.act)
+        N v = May net c start (dated_of e) (firing v g.act)
 
         by : IsOpen r n g.act → IsMarked e.marks g.unit ⊎ ((g.unit ≡ u) × IsOpen (r + 1) 0 g.act)
         by (inl l) = by_rank (cases_lt (r + 1) (act_rank g.act))
@@ -538,7 +541,7 @@ turn_on net past b c start marks e u r n t below = record { going = t.going; wat
             by_rank : (r + 1 < act_rank g.act) ⊎ (act_rank g.act ≤ r + 1) → IsMarked e.marks g.unit ⊎ ((g.unit ≡ u) × IsOpen (r + 1) 0 g.act)
             by_rank (inl q) = inr (k.0, inl q)
             by_rank (inr q) = inr (k.0, inr (omega arith, omega arith))
-        by (inr l) = let z = below g.act (subst N k.0 m.turn) (sym l.0) in let y = l.1 in absurd (omega arith)
+        by (inr l) = let z = below g.act (subst U k.0 un) (subst N k.0 m) (sym l.0) in let y = l.1 in absurd (omega arith)
 
     of : (q : Bool) → IsTurnOf q net c marks e u r → IsTurnOf q net c marks e u (r + 1)
     of true o = record {
@@ -548,6 +551,11 @@ turn_on net past b c start marks e u r n t below = record { going = t.going; wat
       same = o.same;
     }
     of false o = o
+
+-- all acts of the rank r were tried
+pub turn_on : (net : Net) (past : Past) (b : Bounds) (c : ℕ) (start : Dated) (marks : Marks) (e : Engine) (u r n : ℕ) → IsTurn net past b c start marks e u r n
+    → ((a : Act) → enabled net (state_of e.state) (firing u a) → act_rank a ≡ r → act_number (act_place a) < n) → IsTurn net past b c start marks e u (r + 1) 0
+turn_on net past b c start marks e u r n t below = turn_over net past b c start marks e u r n t (λ a un m z. below a m.turn z)
 
 -- ---- a unit that is no queue
 
@@ -592,7 +600,7 @@ unit_done net past b c start marks e u kind l is t = record { going = t.going; p
 
 -- the engine with other marks
 abbrev pub with_marks : Engine → Marks → Engine
-with_marks e m = record { state = e.state; dates = e.dates; begun = e.begun; fired = e.fired; used = e.used; made = e.made; log = e.log; marks = m; notes = e.notes; freed = e.freed }
+with_marks e m = record { state = e.state; dates = e.dates; begun = e.begun; fired = e.fired; used = e.used; made = e.made; log = e.log; marks = m; notes = e.notes; freed = e.freed; control = e.control }
 
 pub going_marks : (net : Net) (past : Past) (b : Bounds) (c : ℕ) (start : Dated) (e : Engine) (m : Marks) → InCycle net past b c start e → InCycle net past b c start (with_marks e m)
 going_marks net past b c start e m g = record {
@@ -606,6 +614,7 @@ going_marks net past b c start e m g = record {
   log = g.log;
   listed = g.listed;
   coming = g.coming;
+  control = g.control;
 }
   where
     followed : (d : ℕ) → IsFollowed net c start e d → IsFollowed net c start (with_marks e m) d

@@ -1,5 +1,6 @@
 -- Private: what only contracts of this crate cite.
 pub mod Trials
+pub mod Control
 pub mod Goings
 pub mod Marking
 pub mod Used

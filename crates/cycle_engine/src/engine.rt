@@ -48,6 +48,8 @@ pub(crate) struct Engine {
     pub notes: Notes,
     /// The channels that were full when the cycle began, and from which tokens were taken.
     pub freed: Freed,
+    /// The channel on which the last control token to a group of a queue was put.
+    pub control: u32,
 }
 
 // By hand, so that to let go of one is a call.
@@ -64,6 +66,7 @@ impl Drop for Engine {
             marks: _marks,
             notes: _notes,
             freed: _freed,
+            control: _control,
         } = self;
     }
 }
@@ -87,10 +90,8 @@ fn zeros(alloc: Global, count: usize) -> Result<Vec<u32>, Memory>
 }
 
 impl Engine {
-    ghost use Rattle.cycle_engine.specs.Cycles.{Dated};
-    ghost use Rattle.cycle_engine.specs.private.Trials.{dated_of, IsEngine};
+    ghost use Rattle.cycle_engine.specs.private.Trials.{dated_of};
     ghost use Rattle.cycle_engine.specs.private.Goings.{Past, IsReady, HasDone, IsBegunIn};
-    ghost use Rattle.cycle_engine.specs.declared.engine.Bounds.{Bounds as BoundsValue};
 
     /// The opening state of a net on inputs.
     ///
@@ -131,6 +132,7 @@ impl Engine {
             marks,
             notes,
             freed,
+            control: 0,
         })
     }
 
@@ -150,6 +152,7 @@ impl Engine {
             marks: _marks,
             notes: _notes,
             freed: _freed,
+            control: _control,
         } = self;
         (state, log)
     }

@@ -7,7 +7,8 @@ ghost use Rattle.net_core.specs.States.{IsOf, state_of};
 ghost use Rattle.cycle_engine.specs.private.Marking.{IsStarved, asks_first, is_merge};
 ghost use Rattle.net_core.specs.Uses.{is_fork};
 ghost use Rattle.net_types.specs.declared.firing.Act.TheVariants as acts;
-ghost use Rattle.cycle_engine.specs.private.Places.{HasView, HasNoExec, HasNoneFrom, IsFirstExec, IsNextNumber, IsViewOf, first_of, count_in, inputs_in, outputs_in, groups_in, ports_in, numbered};
+ghost use Rattle.cycle_engine.specs.private.Places.{HasView, HasNoExec, HasNoneFrom, IsFirstExec, IsNextNumber, IsViewOf, first_of, count_in, inputs_in, outputs_in, ports_in, numbered};
+ghost use Rattle.cycle_engine.specs.private.Control.{groups_in};
 
 use lsq_core::Queue;
 use net_check::Checked;
@@ -166,7 +167,7 @@ fn outputs_of(net: &Checked, unit: u32) -> u32
 }
 
 /// How many groups a queue has; another unit has none.
-fn groups_of(net: &Checked, unit: u32) -> u32
+pub(crate) fn groups_of(net: &Checked, unit: u32) -> u32
     ensures { result ≡ groups_in (kind_of net.now unit) }
 {
     let units = net.net().units.as_slice();

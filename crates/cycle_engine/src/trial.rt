@@ -1,6 +1,6 @@
 //! One firing is tried.
 
-ghost use Rattle.std.specs.Prelude.{◌≡◌, ◌↔◌, ℕ, ◌+◌, ◌<◌, ◌≤◌, ◌^◌, ◌∷◌, ◌++◌, [], Some, is_some, true, false, IsTrue, IfSome, IfOk, IfErr, OnOk, MatchOption, length, get_or};
+ghost use Rattle.std.specs.Prelude.{◌≡◌, ◌↔◌, ◌+◌, ◌<◌, ◌^◌, ◌∷◌, ◌++◌, [], Some, is_some, true, false, IsTrue, IfSome, IfOk, IfErr, OnOk, MatchOption, length, get_or};
 ghost use Rattle.el_base.specs.Limits.{max_depth};
 ghost use Rattle.net_types.specs.Nets.{kind_of};
 ghost use Rattle.net_core.specs.Fire.{has_room};
@@ -13,9 +13,11 @@ ghost use Rattle.cycle_engine.specs.private.Trials.{dated_of, AllRipe, HadRoom, 
 ghost use Rattle.net_core.specs.Uses.{places_used, is_fork};
 ghost use Rattle.cycle_engine.specs.private.Goings.{Past, IsReady, InCycle, MayFollow, IsTried, IsBroken, IsMore};
 ghost use Rattle.cycle_engine.specs.private.Marking.{IsFreed, IsNoted};
+ghost use Rattle.cycle_engine.specs.private.Control.{control_after};
 ghost use Rattle.cycle_engine.specs.private.Used.{AreTold, IsUnusedFrom};
 ghost use Rattle.std.specs.Prelude.{MatchResult};
 
+use crate::control::control_after;
 use crate::dates::{are_ripe, dated, is_ripe};
 use crate::engine::{Bounds, Engine};
 use crate::freed::Freed;
@@ -310,6 +312,8 @@ impl Engine {
             (IsNoted net.now planned.moves.laid now self.old.notes self.new.notes) }
         ensures freed { OnOk result (IsFreed self.old.dates now (chans_of planned.moves.taken)
             self.old.freed self.new.freed) }
+        ensures control { OnOk result (self.new.control
+            ≡ control_after net.now planned.moves.laid self.old.control) }
         ensures log { OnOk result (IsLogged keep (firing ∷ []) self.old.log self.new.log) }
         ensures memory { IfErr result (λ e. e ≡ fault.Memory) }
     {
@@ -319,6 +323,7 @@ impl Engine {
         let moves = planned.moves;
         self.freed.note(&self.dates, moves.taken, now)?;
         self.notes.note(net, moves.laid, now)?;
+        self.control = control_after(net, moves.laid, self.control);
         self.state.make_moves(net, firing, planned.plan, moves);
         self.dates.make(dated(moves, now));
         note(&mut self.log, keep, firing);
@@ -359,6 +364,7 @@ impl Engine {
             (λ did. IsTried net.now past bounds now start self.old self.new firing (is_some did))
             (IsBroken net.now past.inputs bounds) }
     {
+        let _ = net.net();
         let Some(planned) = self.may(net, firing, plan, now) else {
             return Ok(None);
         };

@@ -1,6 +1,6 @@
 //! A cycle's turns: first the marked units that are no queues, until none is marked, then the marked queues once.
 
-ghost use Rattle.std.specs.Prelude.{◌≡◌, ◌≢◌, ℕ, ◌+◌, ◌<◌, ◌≤◌, OnOk, MatchResult};
+ghost use Rattle.std.specs.Prelude.{◌≢◌, ℕ, ◌+◌, ◌<◌, ◌≤◌, OnOk, MatchResult};
 ghost use Rattle.net_types.specs.Order.{act_rank};
 ghost use Rattle.net_core.specs.States.{state_of};
 ghost use Rattle.cycle_engine.specs.Cycles.{Dated};
@@ -8,6 +8,7 @@ ghost use Rattle.cycle_engine.specs.declared.marks.Marks.{Marks as MarksValue};
 ghost use Rattle.cycle_engine.specs.private.Goings.{Past, IsReady, IsBroken, IsBegunIn, to_visit};
 ghost use Rattle.cycle_engine.specs.private.Places.{IsTurn, IsNextAct, IsOpenTurn, IsSettled, IsServed, IsFull};
 
+use crate::control::noted_group;
 use crate::engine::{Bounds, Engine};
 use crate::places::{count_acts, first_act, is_queue, look_at_queue, next_number, numbered, oldest};
 use net_check::Checked;
@@ -21,8 +22,6 @@ pub(crate) struct Sends;
 pub(crate) struct Froms;
 
 pub(crate) struct Goes;
-
-pub(crate) struct Allocs;
 
 pub(crate) struct Addrs;
 
@@ -102,6 +101,39 @@ impl Engine {
             number = next_number(net, &self.state, unit, kind, number + 1, count);
         }
         look_at_queue(net, &self.state, unit);
+        Ok(())
+    }
+
+    /// Tries the allocation of the group of a queue to whose place the noted channel leads; at no other stands a control token.
+    ///
+    /// # Errors
+    ///
+    /// As [`Engine::attempt`].
+    fn allocate(
+        &mut self,
+        net: &Checked,
+        bounds: Bounds,
+        unit: u32,
+        now: u64,
+    ) -> Result<(), RunFault>
+        requires { IsReady net.now bounds self.old }
+        ensures ready { OnOk result (IsReady net.now bounds self.new) }
+        ensures tried { (past : Past) (start : Dated) (marks : MarksValue)
+            → IsTurn net.now past bounds now start marks self.old unit 3 0
+            → MatchResult result
+            (λ _. IsTurn net.now past bounds now start marks self.new unit 4 0)
+            (IsBroken net.now past.inputs bounds) }
+    {
+        let _ = net.net();
+        let Some(group) = noted_group(net, self.control, unit) else {
+            return Ok(());
+        };
+        let firing = Firing {
+            unit,
+            act: Act::Alloc(group),
+        };
+        let plan = self.state.plan(net, firing);
+        self.attempt(net, bounds, firing, plan, now)?;
         Ok(())
     }
 
@@ -209,7 +241,7 @@ impl Engine {
             (λ _. IsTurn net.now past bounds now start marks self.new unit 10 0)
             (IsBroken net.now past.inputs bounds) }
     {
-        self.steps::<Allocs>(net, bounds, unit, Act::Alloc(0), now)?;
+        self.allocate(net, bounds, unit, now)?;
         self.steps::<Addrs>(net, bounds, unit, Act::Addr(0), now)?;
         self.steps::<Datas>(net, bounds, unit, Act::Data(0), now)?;
         self.execute(net, bounds, unit, now)?;

@@ -17,6 +17,7 @@ use Rattle.cycle_engine.specs.Cycles.{Dated, dated_opening, May, IsOldest, IsUnu
 use Rattle.cycle_engine.specs.Bounds.{firing_count}
 use Rattle.cycle_engine.specs.Cuts.{joined, IsCut}
 use Rattle.cycle_engine.specs.private.Trials.{dated_of, IsBegun, IsEngine}
+use Rattle.cycle_engine.specs.private.Control.{HasControl}
 use Rattle.cycle_engine.specs.private.Used.{AreTold}
 use Rattle.cycle_engine.specs.private.Marking.{Holds, HasUnit, IsMarked, IsStarved, IsListed, AreListed, cell, entries_at}
 
@@ -63,6 +64,7 @@ pub record InCycle (net : Net) (past : Past) (b : Bounds) (c : ℕ) (start : Dat
   pub log : e.log.items ≡ cond b.keep (joined past.cycles ++ e.fired.items) []
   pub listed : AreListed e.freed
   pub coming : AreComing net (c + 1) e
+  pub control : HasControl net (state_of e.state) e.control
 
 -- a unit puts on a channel that was full as the cycle began and from which tokens were taken
 pub record HasFreed (net : Net) (e : Engine) (u : ℕ) : Type 0 where
@@ -92,6 +94,7 @@ pub record HasDone (net : Net) (past : Past) (b : Bounds) (c : ℕ) (e : Engine)
   pub listed : AreListed e.freed
   pub entries : (u : ℕ) → is_lsq (kind_of net u) ≡ true → (get_or e.begun.items u 0 ≡ entries_at (state_of e.state) u) ⊎ HasUnit u e.fired.items
   pub coming : AreComing net c e
+  pub control : HasControl net (state_of e.state) e.control
   -- a unit that is not to be marked may not fire
   pub next : (g : Firing) → May net c (dated_of e) (dated_of e) g → (IsStirred net c e g.unit → ⊥) → ⊥
 

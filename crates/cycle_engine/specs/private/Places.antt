@@ -25,6 +25,7 @@ use Rattle.lsq_core.specs.Laws.{act_place}
 use Rattle.cycle_engine.specs.Cycles.{Dated, May, IsOldest, IsRipe, IsUnused}
 use Rattle.cycle_engine.specs.private.Trials.{dated_of}
 use Rattle.cycle_engine.specs.private.Marking.{IsMarked}
+use Rattle.cycle_engine.specs.private.Control.{groups_in}
 use Rattle.cycle_engine.specs.private.Goings.{Past, IsReady, InCycle, HasDone, AllPlain, IsWatching, all_made}
 
 -- ---- the acts of a unit
@@ -75,23 +76,6 @@ outputs_in (Sink w) = 0
 outputs_in (Read a) = 0
 outputs_in (Lsq a d ps gs f) = 0
 outputs_in Exit = 0
-
--- the groups of a queue
-abbrev pub groups_in : Kind → ℕ
-groups_in Entry = 0
-groups_in (Param j) = 0
-groups_in (Const w n) = 0
-groups_in (Op1 op) = 0
-groups_in (Op2 op) = 0
-groups_in (Select w) = 0
-groups_in (Fork w outs) = 0
-groups_in (Mux w ins) = 0
-groups_in (Cmerge ins) = 0
-groups_in (Branch w) = 0
-groups_in (Sink w) = 0
-groups_in (Read a) = 0
-groups_in (Lsq a d ps gs f) = length gs
-groups_in Exit = 0
 
 -- the ports of a queue
 abbrev pub ports_in : Kind → ℕ

@@ -1,5 +1,6 @@
 use Rattle.std.proofs.Common.{refl, arith}
 use Rattle.cycle_engine.proofs.MakeLemmas.{Makes1, made_ready, more_made, made_going}
+use Rattle.cycle_engine.proofs.ControlLemmas.{control_made}
 use Rattle.cycle_engine.proofs.engine.Engine.attempt.Goals as goal
 
 pub returns-in_default : goal.returns-in_default
@@ -35,6 +36,7 @@ returns c =
       logged = c.in_ok-make.ensures.log;
       notes = c.in_ok-make.ensures.notes;
       freed = c.in_ok-make.ensures.freed;
+      control = c.in_ok-make.ensures.control;
     } in
     record {
       ready = made_ready c.args.net.now c.args.bounds c.args.now old new c.args.firing moves c.requires.ready (omega arith) c.in_ok-make.ensures.engine c.in_ok-make.ensures.counts c.in_ok-make.ensures.told c.in_ok-make.ensures.marks one;
@@ -44,5 +46,6 @@ returns c =
       moves = c.in-Some.ensures.moves;
       tried = λ past start going follow.
           made_going c.args.net.now past c.args.bounds c.args.now start old new c.args.firing c.in-Some.planned.plan moves c.requires.ready c.in-Some.ensures.effect c.in-Some.ensures.moves going follow
-          (c.if-is_used.ensures.unused refl) (c.in-Some.ensures.may start going.began) one;
+          (c.if-is_used.ensures.unused refl) (c.in-Some.ensures.may start going.began) one
+          (control_made c.args.net.now past c.args.bounds c.args.now start old new c.args.firing c.in-Some.planned.plan moves c.net.ensures.checked c.in-Some.ensures.effect c.in-Some.ensures.moves going (c.in-Some.ensures.may start going.began) one);
     }

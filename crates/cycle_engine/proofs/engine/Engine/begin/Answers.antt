@@ -24,6 +24,7 @@ returns-clause-ready c =
       marks = c.mark_targets.new.self;
       notes = c.clear-2.new.self;
       freed = c.clear.new.self;
+      control = c.args.self.now.control;
     } in
     let net = c.args.net.now in
     let made : c.args.self.now.made + c.len.result ≡ all_made c.args.self.now = omega (arith, c.len.ensures, c.args.self.now.fired.ok.0) in
@@ -47,6 +48,7 @@ returns-clause-going c past done =
       marks = c.mark_targets.new.self;
       notes = c.clear-2.new.self;
       freed = c.clear.new.self;
+      control = c.args.self.now.control;
     } in
     let made : c.args.self.now.made + c.len.result ≡ all_made c.args.self.now = omega (arith, c.len.ensures, c.args.self.now.fired.ok.0) in
     let P : List Firing → Type 0 = AllPlain c.args.net.now in
@@ -60,7 +62,7 @@ returns-clause-going c past done =
             queues = λ u l. c.in_ok-settle.ensures.noted u l (or_as (HasUnit u) (sym c.as_slice-fired.ensures.value) (done.entries u l));
           })
           refl c.clear-3.ensures.items made refl (none_listed c.clear.new.self (c.clear.ensures.none done.listed))
-          (begun_coming c.args.net.now c.args.now c.args.self.now e (delay_most c.args.net.now c.net.ensures.checked) refl c.clear-2.ensures done.coming);
+          (begun_coming c.args.net.now c.args.now c.args.self.now e (delay_most c.args.net.now c.net.ensures.checked) refl c.clear-2.ensures done.coming) done.control;
       plain = subst P (sym c.clear-3.ensures.items) tt;
       watching = begun_watching c.args.net.now past c.args.bounds c.args.now 0 c.args.self.now e c.net.ensures.checked c.requires done refl
           (stirred_marked c.args.net.now c.args.now c.args.self.now c.settle.new.marks c.mark_sources.new.self c.mark_targets.new.self (length c.args.self.now.marks.marked.items) (sym c.requires.marked)

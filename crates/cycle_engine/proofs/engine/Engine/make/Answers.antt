@@ -15,7 +15,7 @@ make-requires-clause-room c =
 pub returns-clause-after : goal.returns-clause-after
 returns-clause-after c =
     made_is c.args.net.now c.args.now c.args.self.now
-    (record { state = c.make_moves.new.self; dates = c.make.new.self; begun = c.args.self.now.begun; fired = c.note_fired.new.fired; used = c.note.new.self; made = c.args.self.now.made; log = c.note-4.new.log; marks = c.args.self.now.marks; notes = c.note-3.new.self; freed = c.note-2.new.self })
+    (record { state = c.make_moves.new.self; dates = c.make.new.self; begun = c.args.self.now.begun; fired = c.note_fired.new.fired; used = c.note.new.self; made = c.args.self.now.made; log = c.note-4.new.log; marks = c.args.self.now.marks; notes = c.note-3.new.self; freed = c.note-2.new.self; control = c.control_after-self.result })
     c.args.firing c.args.planned.plan c.requires.effect c.make_moves.ensures.state
     (dates_made c.args.net.now c.args.now c.args.self.now c.args.firing c.args.planned.plan c.dated.result c.make.new.self.tokens c.requires.engine c.requires.effect c.requires.apart
     (c.dated.ensures ∙ ap (dated_moves c.args.now) c.requires.moves) c.make.ensures.tokens)
@@ -23,7 +23,7 @@ returns-clause-after c =
 pub returns-clause-engine : goal.returns-clause-engine
 returns-clause-engine c =
     made_engine c.args.net.now c.args.now c.args.self.now
-    (record { state = c.make_moves.new.self; dates = c.make.new.self; begun = c.args.self.now.begun; fired = c.note_fired.new.fired; used = c.note.new.self; made = c.args.self.now.made; log = c.note-4.new.log; marks = c.args.self.now.marks; notes = c.note-3.new.self; freed = c.note-2.new.self })
+    (record { state = c.make_moves.new.self; dates = c.make.new.self; begun = c.args.self.now.begun; fired = c.note_fired.new.fired; used = c.note.new.self; made = c.args.self.now.made; log = c.note-4.new.log; marks = c.args.self.now.marks; notes = c.note-3.new.self; freed = c.note-2.new.self; control = c.control_after-self.result })
     c.args.firing c.args.planned.plan c.requires.engine c.requires.effect (returns-clause-after c) c.make_moves.ensures.of c.make.ensures.slots
 
 pub returns-clause-told : goal.returns-clause-told

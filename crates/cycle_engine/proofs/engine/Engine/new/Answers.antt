@@ -20,6 +20,7 @@ returns-clause-ready c =
       marks = c.in_ok-marks.marks;
       notes = c.in_ok-notes.notes;
       freed = c.in_ok-freed.freed;
+      control = 0;
     } in
     let chans : c.as_slice-chans.result.now ≡ c.args.net.now.chans = c.as_slice-chans.ensures ∙ ap (λ (n : Net). n.chans) c.net.ensures.net in
     let units : c.as_slice-units.result.now ≡ c.args.net.now.units = c.as_slice-units.ensures ∙ ap (λ (n : Net). n.units) c.net-2.ensures.net in
@@ -43,6 +44,7 @@ returns-clause-done c =
       marks = c.in_ok-marks.marks;
       notes = c.in_ok-notes.notes;
       freed = c.in_ok-freed.freed;
+      control = 0;
     } in
     let chans : c.as_slice-chans.result.now ≡ c.args.net.now.chans = c.as_slice-chans.ensures ∙ ap (λ (n : Net). n.chans) c.net.ensures.net in
     let units : c.as_slice-units.result.now ≡ c.args.net.now.units = c.as_slice-units.ensures ∙ ap (λ (n : Net). n.units) c.net-2.ensures.net in
