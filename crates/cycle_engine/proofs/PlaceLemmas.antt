@@ -13,7 +13,7 @@ use Rattle.net_check.specs.Checks.{IsChecked}
 use Rattle.net_check.specs.Ends.{is_lsq}
 use Rattle.std.specs.List.{find}
 use Rattle.lsq_core.specs.declared.entry.Entry.{Entry as Item}
-use Rattle.lsq_core.specs.Acts.{can, wants_addr, wants_data, wants_reply, is_done}
+use Rattle.lsq_core.specs.Acts.{can, wants_addr, wants_data, wants_reply}
 use Rattle.lsq_core.specs.Views.{InPorts, QueueView}
 use Rattle.lsq_core.specs.Wants.{HasNoPort, IsNextPort, HasNoAddr, IsNextAddr, HasNoData, IsNextData, HasNoReply, IsNextReply, replies}
 use Rattle.lsq_core.proofs.PortLemmas.{done_some}
