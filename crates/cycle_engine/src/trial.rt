@@ -322,8 +322,8 @@ impl Engine {
         note_fired(&mut self.fired, firing)?;
         let moves = planned.moves;
         self.freed.note(&self.dates, moves.taken, now)?;
-        self.notes.note(net, moves.laid, now)?;
         self.control = control_after(net, moves.laid, self.control);
+        self.notes.note(net, moves.laid, now)?;
         self.state.make_moves(net, firing, planned.plan, moves);
         self.dates.make(dated(moves, now));
         note(&mut self.log, keep, firing);
