@@ -10,7 +10,9 @@ ghost use Rattle.cycle_engine.specs.private.Places.{IsTurn, IsNextAct, IsOpenTur
 
 use crate::control::noted_group;
 use crate::engine::{Bounds, Engine};
-use crate::places::{count_acts, first_act, is_queue, look_at_queue, next_number, numbered, oldest};
+use crate::places::{
+    count_acts, first_act, is_queue, look_at_queue, next_number, numbered, oldest,
+};
 use net_check::Checked;
 use net_replay::RunFault;
 use net_types::{Act, Firing};
