@@ -15,6 +15,7 @@ mod schedule_printer;
 mod schedule_reader;
 mod schedule_refusal;
 mod schedule_words;
+mod skips;
 mod visits;
 
 pub use fault::{ReplayFault, RunFault};

@@ -3,6 +3,7 @@
 ghost use Rattle.std.specs.Prelude.{◌+◌, ◌*◌, ◌<◌, IfSome};
 ghost use Rattle.net_core.specs.States.{IsOf};
 
+use crate::skips::held_control;
 use net_check::Checked;
 use net_core::{Change, Plan, State, Takes};
 
@@ -23,17 +24,22 @@ pub(crate) struct Marks {
     /// The mark from which on the next one is looked for.
     at: usize,
     shift: u32,
+    /// The channel for control on which a token was put last.
+    control: u32,
 }
 
 impl Marks {
     /// A mark at each unit of a net.
-    pub(crate) fn new(net: &Checked) -> Marks {
+    pub(crate) fn new(net: &Checked, state: &State) -> Marks
+        requires { IsOf net.now state.now }
+    {
         let count = net.net().units.as_slice().len();
         let mut marks = Marks {
             words: [0; WORDS],
             tops: [0; TOPS],
             at: 0,
             shift: (usize::BITS - count.leading_zeros()).saturating_sub(16) % 32,
+            control: held_control(net, state),
         };
         for unit in 0..count {
             marks.mark(unit as u32);
@@ -94,14 +100,21 @@ impl Marks {
         }
     }
 
-    /// Marks the target of the channel out of a place where the channel was empty.
+    /// Marks the target of the channel out of a place where the channel was empty, and notes the channel where it is for control.
     fn wake_by_put(&mut self, net: &Checked, state: &State, unit: u32, place: u64)
         requires { IsOf net.now state.now }
     {
         let chans = net.net().chans.as_slice();
         let number = net.out_of_place(unit, place);
-        if (number as usize) < chans.len() && state.held(net, number) <= 1 {
-            self.mark(chans[number as usize].to.unit);
+        if (number as usize) >= chans.len() {
+            return;
+        }
+        let chan = &chans[number as usize];
+        if chan.ctl {
+            self.control = number;
+        }
+        if state.held(net, number) <= 1 {
+            self.mark(chan.to.unit);
         }
     }
 
@@ -149,6 +162,11 @@ impl Marks {
             }
         }
         None
+    }
+
+    /// The channel for control on which a token was put last.
+    pub(crate) fn control(&self) -> u32 {
+        self.control
     }
 
     /// The first unit of a mark.

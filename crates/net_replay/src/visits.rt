@@ -6,6 +6,7 @@ ghost use Rattle.net_replay.specs.Finishes.{IsLogged};
 ghost use Rattle.net_replay.specs.private.Advances.{Advances, MayAdvance};
 
 use crate::marks::Marks;
+use crate::skips::next_number;
 use el_base::Log;
 use net_check::Checked;
 use net_core::State;
@@ -33,7 +34,7 @@ pub(crate) fn advance(
     ensures made { Advances net.now (state_of state.old) (state_of state.new)
         bounds.limit bounds.keep made result log.old log.new }
 {
-    let mut marks = Marks::new(net);
+    let mut marks = Marks::new(net, state);
     let mut count = made;
     for _ in 0..u64::MAX {
         if count == bounds.limit {
@@ -74,7 +75,7 @@ fn visit_mark(
     count
 }
 
-/// Tries the firings of a unit.
+/// Tries the firings of a unit, but those of which its queue or the place of the control token tells that they are not enabled.
 fn visit(
     net: &Checked,
     state: &mut State,
@@ -92,11 +93,14 @@ fn visit(
         bounds.limit bounds.keep made result log.old log.new }
 {
     let mut count = made;
-    for number in 0..u32::MAX {
+    let mut number = 0;
+    for _ in 0..u32::MAX {
+        number = next_number(net, state, marks.control(), unit, number);
         let Some(act) = state.act_at(net, unit, number) else {
             return count;
         };
         count = try_act(net, state, marks, log, bounds, count, Firing { unit, act });
+        number = number.saturating_add(1);
     }
     count
 }

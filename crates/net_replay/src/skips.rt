@@ -1,0 +1,105 @@
+//! Acts of queues that are not tried, since nothing can come of it.
+//!
+//! Which acts are passed over is part of no contract: who makes no firing by those that are left looks at all acts.
+
+ghost use Rattle.std.specs.Prelude.{◌<◌, length};
+ghost use Rattle.net_core.specs.States.{IsOf};
+
+use net_check::Checked;
+use net_core::{State, UnitQueue};
+use net_types::Unit;
+
+/// The numbers at which the kinds of acts of a queue begin, in the order of its acts; from 0 on the groups are allocated.
+#[derive(Clone, Copy)]
+struct Starts {
+    addr: u32,
+    data: u32,
+    exec: u32,
+    reply: u32,
+    retire: u32,
+}
+
+/// The starts of a queue of so many groups and ports.
+fn starts_of(groups: usize, ports: usize) -> Starts {
+    let addr = u32::try_from(groups).unwrap_or(u32::MAX);
+    let ports = u32::try_from(ports).unwrap_or(u32::MAX);
+    let data = addr.saturating_add(ports);
+    let exec = data.saturating_add(ports);
+    let reply = exec.saturating_add(1);
+    Starts {
+        addr,
+        data,
+        exec,
+        reply,
+        retire: reply.saturating_add(ports),
+    }
+}
+
+/// The channel for control that has a token; 0 where none has.
+pub(crate) fn held_control(net: &Checked, state: &State) -> u32
+    requires { IsOf net.now state.now }
+{
+    let chans = net.net().chans.as_slice();
+    for at in 0..chans.len() {
+        if chans[at].ctl && state.held(net, at as u32) > 0 {
+            return at as u32;
+        }
+    }
+    0
+}
+
+/// The place of a unit into which a channel goes, where it goes into that unit.
+fn place_of(net: &Checked, chan: u32, unit: u32) -> Option<u32> {
+    let chans = net.net().chans.as_slice();
+    if chan as usize >= chans.len() {
+        return None;
+    }
+    let end = chans[chan as usize].to;
+    (end.unit == unit).then_some(end.place)
+}
+
+/// The next number from one on, in the order of a unit's acts, of an act that the unit may make, as far as its queue tells and
+/// the channel on which the control token is. A unit that has no queue tells nothing.
+pub(crate) fn next_number(net: &Checked, state: &State, control: u32, unit: u32, number: u32) -> u32
+    requires of { IsOf net.now state.now }
+    requires within { unit < length net.now.units }
+{
+    let Unit::Lsq { ports, groups, .. } = &net.net().units.as_slice()[unit as usize] else {
+        return number;
+    };
+    let Some(queue) = state.queue(net, unit) else {
+        return number;
+    };
+    let starts = starts_of(groups.as_slice().len(), ports.as_slice().len());
+    if number >= starts.addr {
+        return next_of_ports(queue, starts, number);
+    }
+    match place_of(net, control, unit) {
+        Some(group) if number <= group && group < starts.addr => group,
+        _ => next_of_ports(queue, starts, starts.addr),
+    }
+}
+
+/// The next number from one on past the groups.
+fn next_of_ports(queue: &UnitQueue, starts: Starts, number: u32) -> u32 {
+    let mut at = number;
+    if at < starts.data {
+        if let Some(port) = queue.next_addr(at.saturating_sub(starts.addr)) {
+            return starts.addr.saturating_add(port);
+        }
+        at = starts.data;
+    }
+    if at < starts.exec {
+        if let Some(port) = queue.next_data(at.saturating_sub(starts.data)) {
+            return starts.data.saturating_add(port);
+        }
+        at = starts.exec;
+    }
+    if at < starts.reply || at >= starts.retire {
+        return at;
+    }
+    match queue.next_reply(at.saturating_sub(starts.reply)) {
+        Some(port) => starts.reply.saturating_add(port),
+        None => starts.retire,
+    }
+}
