@@ -2,7 +2,8 @@
 # Times runs by cycles beside the plain runner, by the proved program benches: on a countdown of 13 units,
 # examples/countdown, with 300,000 turns or as many as the third word says; on the netlist of a histogram, examples/histogram,
 # with 32,768 turns; on that where the loop stands among 1,000, 10,000 and 500,000 idle ones of two units; and on a fork of
-# 16,384 and of 65,536 outputs into sinks, which all fire in one cycle.
+# 16,384 and of 65,536 outputs into sinks, which all fire in one cycle; and on a queue of 25,000 and of 100,000 ports, each in a
+# group of its own (tools/queue_nets.py).
 # With GNU time it tells the most memory of each process too. On a machine with other work, times are longer.
 set -eu
 program=$1
@@ -56,5 +57,12 @@ echo "n = 5" > "$folder/small"
 for outs in 16384 65536; do
   echo "a fork of $outs outputs:"
   wide_fork "$outs" > "$folder/net"
+  timed "$program" cycles "$folder/net" "$folder/small"
+done
+queue_nets=$(dirname "$0")/queue_nets.py
+python3 "$queue_nets" inputs 1 > "$folder/small"
+for ports in 25000 100000; do
+  echo "a queue of $ports ports:"
+  python3 "$queue_nets" ports "$ports" > "$folder/net"
   timed "$program" cycles "$folder/net" "$folder/small"
 done
