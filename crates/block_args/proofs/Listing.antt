@@ -1,12 +1,12 @@
 -- The table of live variables: each variable is added at the blocks that it is live at.
-use Rattle.std.proofs.Common.{◌≡◌, ◌⊎◌, inl, inr, ℕ, zero, suc, ◌+◌, ◌<◌, ◌≤◌, Bool, true, false, cond, List, [], ◌∷◌, ◌++◌, length, get_or, set, replicate, refl, sym, ◌∙◌, zero-add, ap, subst, arith, length-set, get_or-set_same, get_or-set_other}
+use Rattle.std.proofs.Common.{◌≡◌, ◌⊎◌, inl, inr, ℕ, zero, suc, ◌+◌, ◌<◌, ◌≤◌, Bool, true, false, cond, List, [], ◌∷◌, ◌++◌, length, get_or, set, replicate, refl, sym, ◌∙◌, zero-add, add-one, drop, ap, subst, arith, length-set, get_or-set_same, get_or-set_other}
 use Rattle.std.specs.Prelude.{slice_get, map, Some}
 use Rattle.std.specs.declared.vec.Vec.{Vec}
 use Rattle.std.specs.declared.alloc.Global.{Global}
 use Rattle.std.specs.List.{Contains, AllByRecursion}
 use Rattle.std.proofs.lemmas.Bool.{cases_eq, cases_lt}
 use Rattle.std.proofs.lemmas.Option.{same_Some, slice_get_within}
-use Rattle.std.proofs.lemmas.List.{get_or-replicate, get_or_past, length-replicate}
+use Rattle.std.proofs.lemmas.List.{get_or-replicate, get_or_past, length-replicate, at_drop_more}
 use Rattle.std.proofs.lemmas.List.Elements.{Contains-append_left, Contains-push, Contains-push_cases}
 use Rattle.ir.specs.declared.cfg.CfgBlock.{CfgBlock}
 use Rattle.ir.specs.declared.cfg.Write.{Write}
@@ -281,6 +281,15 @@ module _ (names : CfgBlock → List ℕ) where
   index_length : (table : List (List ℕ)) (b : ℕ) (xs : List CfgBlock) → length (with_blocks names table b xs) ≡ length table
   index_length table b [] = refl
   index_length table b (x ∷ xs) = index_length (put_at_all table (names x) b) (suc b) xs ∙ put_length table (names x) b
+
+-- the blocks from the i-th on are those behind it, once that one is put
+pub blocks_next : (names : CfgBlock → List ℕ) (table after : List (List ℕ)) (n i : ℕ) (blocks : List CfgBlock) (x : CfgBlock) → i < length blocks → x ≡ get_or blocks i x
+    → after ≡ put_at_all table (names x) n → with_blocks names after (n + 1) (drop (i + 1) blocks) ≡ with_blocks names table n (drop i blocks)
+blocks_next names table after n i blocks x lt is e =
+    ap (λ t. with_blocks names t (n + 1) (drop (i + 1) blocks)) e
+    ∙ ap (λ k. with_blocks names (put_at_all table (names x) n) k (drop (i + 1) blocks)) (add-one n)
+    ∙ ap (λ y. with_blocks names (put_at_all table (names y) n) (suc n) (drop (i + 1) blocks)) is
+    ∙ sym (at_drop_more (with_blocks names table n) blocks i x lt)
 
 -- ---- the marks of the blocks that write a variable
 

@@ -1,9 +1,9 @@
 -- The blocks of a graph whose live variables are listed fit the new numbers, and what the new graph has.
-use Rattle.std.proofs.Common.{◌≡◌, inl, inr, ℕ, zero, suc, ◌+◌, ◌<◌, ◌≤◌, ◌^◌, List, [], ◌∷◌, length, get_or, refl, sym, ◌∙◌, ap, subst, arith}
+use Rattle.std.proofs.Common.{◌≡◌, inl, inr, ℕ, zero, suc, ◌+◌, ◌<◌, ◌≤◌, ◌^◌, List, [], ◌∷◌, ◌++◌, length, get_or, drop, refl, sym, ◌∙◌, ap, subst, arith, add-one, append_assoc}
 use Rattle.std.specs.Prelude.{slice_get, sum_by, Some, None, All}
 use Rattle.std.specs.List.{AllByRecursion}
 use Rattle.std.proofs.lemmas.Option.{same_Some, slice_get_within, slice_get-get_or, get_or_from_slice_get}
-use Rattle.std.proofs.lemmas.List.{length-map, length-take}
+use Rattle.std.proofs.lemmas.List.{length-map, length-take, at_drop_more}
 use Rattle.std.proofs.lemmas.List.Elements.{All-from_recursion, All-weaker, Contains-get_or}
 use Rattle.std.proofs.lemmas.List.Sums.{get_or-le-sum_by}
 use Rattle.el_base.specs.Widths.{ty_width}
@@ -149,6 +149,17 @@ few_scalars g fine =
     let l = length-take (length g.scalars) g.vars in
     let m = length-map g.scalars (λ (s : Scalar). ty_width s.ty) in
     omega arith
+
+-- the blocks from the i-th on are those behind it, once that one is made
+pub made_next : (s : ℕ) (vars : List ℕ) (table : List (List ℕ)) (made after : List Block) (n i : ℕ) (blocks : List CfgBlock) (b : CfgBlock) (x : Block) → i < length blocks → b ≡ get_or blocks i b
+    → after ≡ made ++ x ∷ [] → x ≡ new_block s vars table n b → after ++ new_blocks s vars table (n + 1) (drop (i + 1) blocks) ≡ made ++ new_blocks s vars table n (drop i blocks)
+made_next s vars table made after n i blocks b x lt is pushed e =
+    let rest = drop (i + 1) blocks in
+    ap (λ ys. ys ++ new_blocks s vars table (n + 1) rest) (pushed ∙ ap (λ y. made ++ y ∷ []) e)
+    ∙ append_assoc made (new_block s vars table n b ∷ []) (new_blocks s vars table (n + 1) rest)
+    ∙ ap (λ k. made ++ new_block s vars table n b ∷ new_blocks s vars table k rest) (add-one n)
+    ∙ ap (λ y. made ++ new_block s vars table n y ∷ new_blocks s vars table (suc n) rest) is
+    ∙ sym (ap (λ bs. made ++ bs) (at_drop_more (new_blocks s vars table n) blocks i b lt))
 
 -- the new graph, field by field
 pub all_fields : (g : VarGraph) (table : List (List ℕ)) (made : Graph) → made.name ≡ g.name → made.scalars ≡ g.scalars → made.arrays ≡ g.arrays → made.result ≡ g.result

@@ -28,3 +28,4 @@ pub mod Rows
 pub mod Grows
 pub mod Worked
 pub mod Trimmed
+pub mod PartsMade

@@ -1,5 +1,5 @@
 -- What holds of the graph of every lawful normal form.
-use Rattle.std.specs.Prelude.{◌≡◌, map, length}
+use Rattle.std.specs.Prelude.{◌≡◌, map}
 use Rattle.el_base.specs.Widths.{ty_width}
 use Rattle.c_ast.specs.declared.normal.Normal.{Normal}
 use Rattle.c_meaning.specs.Lawful.{LawfulNormal}

@@ -1,11 +1,11 @@
 -- The blocks of lists of statements, of statements that may be absent, and of statements by their parts, as the code takes them apart.
-use Rattle.std.specs.Prelude.{ℕ, ◌+◌, List, [], ◌∷◌, sum_by, Option, Some, None}
+use Rattle.std.specs.Prelude.{ℕ, ◌+◌, List, [], ◌∷◌, Option, Some, None}
 use Rattle.c_meaning.specs.PartLaws.{blocks_of, blocks_if_any, blocks_of_step}
 use Rattle.c_ast.specs.declared.typed.ArrayOf.{ArrayOf}
 use Rattle.c_ast.specs.declared.typed.TypedExpr.{TypedExpr}
 use Rattle.c_ast.specs.declared.normal.NormalStmt.{NormalStmt}
 use Rattle.ir.specs.declared.cfg.CfgJump.TheVariants.{Go, Two}
-use Rattle.c_meaning.specs.Sizes.{closes, steps}
+use Rattle.c_meaning.specs.Sizes.{closes}
 use Rattle.struct_cfg.specs.declared.draft.Draft.{Draft}
 use Rattle.struct_cfg.specs.Drafts.{here, close}
 use Rattle.struct_cfg.specs.Lowering.{with_condition, condition_of, if_parts, lower}

@@ -11,6 +11,19 @@ invariant_of-result c =
     made_fine g c.look-blocks.ensures.fine b.table b.lists _ (all_fields g b.table _ (c.in_ok-copy.ensures ∙ ap (λ (x : VarGraph). x.name) v) (c.in_ok-copy_scalars.ensures ∙ c.as_slice.ensures ∙ ap (λ (x : VarGraph). x.scalars) v)
     (c.in_ok-copy_arrays.ensures ∙ c.as_slice-2.ensures ∙ ap (λ (x : VarGraph). x.arrays) v) (ap (λ (x : VarGraph). x.result) v) b.are)
 
+pub returns-clause-made : goal.returns-clause-made
+returns-clause-made c =
+    let g = c.args.cfg.now in
+    let b = c.in_ok-live_blocks.ensures in
+    let v = c.cfg.view_is in
+    record {
+      table = b.table;
+      lists = b.lists;
+      is =
+          all_fields g b.table _ (c.in_ok-copy.ensures ∙ ap (λ (x : VarGraph). x.name) v) (c.in_ok-copy_scalars.ensures ∙ c.as_slice.ensures ∙ ap (λ (x : VarGraph). x.scalars) v)
+          (c.in_ok-copy_arrays.ensures ∙ c.as_slice-2.ensures ∙ ap (λ (x : VarGraph). x.arrays) v) (ap (λ (x : VarGraph). x.result) v) b.are;
+    }
+
 pub returns-clause-live : goal.returns-clause-live
 returns-clause-live c =
     let g = c.args.cfg.now in

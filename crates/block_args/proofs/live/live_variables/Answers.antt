@@ -1,7 +1,22 @@
-use Rattle.std.proofs.Common.{◌≡◌, ap, arith, length}
+use Rattle.std.proofs.Common.{◌≡◌, ◌∙◌, [], ap, arith, length, replicate}
 use Rattle.ir.specs.Variables.{VarGraph}
-use Rattle.block_args.proofs.Listing.{lists_all}
+use Rattle.block_args.proofs.Listing.{lists_none, lists_all}
 use Rattle.block_args.proofs.live.live_variables.Goals as goal
+
+pub make_index-requires : goal.make_index-requires
+make_index-requires c = c.requires.blocks
+
+pub overflow_sub-count : goal.overflow_sub-count
+overflow_sub-count c = c.loop-first.invariant.0
+
+pub loop-first-init : goal.loop-first-init
+loop-first-init c = (omega arith, lists_none c.args.cfg.now c.in_ok-table.table (c.in_ok-table.ensures ∙ ap (λ bs. replicate (length bs) []) c.look-blocks.ensures.blocks))
+
+pub list_between-requires-clause-index : goal.list_between-requires-clause-index
+list_between-requires-clause-index c = c.in_ok-index.ensures
+
+pub list_between-requires-clause-few : goal.list_between-requires-clause-few
+list_between-requires-clause-few c = c.requires.vars
 
 pub list_between-requires-clause-order : goal.list_between-requires-clause-order
 list_between-requires-clause-order c = omega arith

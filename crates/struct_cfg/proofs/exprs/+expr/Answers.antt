@@ -1,8 +1,10 @@
 use Rattle.c_ast.specs.declared.typed.TypedExpr.{TypedExpr}
 use Rattle.c_ast.specs.declared.typed.TypedExprKind.TheVariants as expr
 use Rattle.c_ast.specs.declared.typed.TypedExprKind.TheViews.{the_lemmas}
-use Rattle.std.proofs.Common.{◌≡◌, ◌∙◌, ◌<◌, List, length, ap, sym, arith, rules, refl}
+use Rattle.std.proofs.Common.{◌≡◌, ◌∙◌, ◌<◌, Bool, IfOk, List, length, ap, sym, subst, arith, rules, refl}
 use Rattle.std.proofs.lemmas.Grind.{common_steps}
+use Rattle.struct_cfg.specs.Code.{IsLaid, one_place}
+use Rattle.struct_cfg.specs.Exprs.{piece}
 use Rattle.struct_cfg.proofs.PlaceCode.{next_room, at_index, goes_next, goes_past, goes_end}
 use Rattle.struct_cfg.proofs.exprs.+expr.Goals.{place-then-k-dims+in_ok-at, place-else-k-dims}
 use Rattle.struct_cfg.proofs.ExprCode.{expr_few, unary_laid, cast_laid, binary_laid, choice_laid, element_laid, index_put, next_put, place_few}
@@ -100,3 +102,28 @@ place-returns-clause-laid t c =
 pub place-returns-clause-few : goal.place-returns-clause-few
 place-returns-clause-few t c =
     place_few c.args.arrays.now c.args.env.now c.args.dims.now c.args.indices.now c.args.steps.now c.loop-e.steps c.loop-e.at (place-returns-clause-laid t c)
+
+pub kind-returns-in-Binary : goal.kind-returns-in-Binary
+kind-returns-in-Binary t c = c.binary.ensures
+
+pub kind-returns-in-Cast : goal.kind-returns-in-Cast
+kind-returns-in-Cast t c = c.cast.ensures
+
+pub kind-returns-in-Choose : goal.kind-returns-in-Choose
+kind-returns-in-Choose t c = c.choose.ensures
+
+pub kind-returns-in-Element : goal.kind-returns-in-Element
+kind-returns-in-Element t c = c.element.ensures
+
+pub kind-returns-in-Unary : goal.kind-returns-in-Unary
+kind-returns-in-Unary t c = c.unary.ensures
+
+pub one_place-returns-else-first-clause-laid : goal.one_place-returns-else-first-clause-laid
+one_place-returns-else-first-clause-laid t c =
+    let p = piece c.args.arrays.now c.args.env.now c.args.e.now in
+    subst (λ (first : Bool). IfOk c.next_place.result (IsLaid (one_place first c.args.at c.args.size p) c.args.env.now c.args.steps.now c.next_place.new.steps)) (sym c.if-first.false) c.next_place.ensures.laid
+
+pub one_place-returns-then-first-clause-laid : goal.one_place-returns-then-first-clause-laid
+one_place-returns-then-first-clause-laid t c =
+    let p = piece c.args.arrays.now c.args.env.now c.args.e.now in
+    subst (λ (first : Bool). IfOk c.index.result (IsLaid (one_place first c.args.at c.args.size p) c.args.env.now c.args.steps.now c.index.new.steps)) (sym c.if-first.true) c.index.ensures.laid

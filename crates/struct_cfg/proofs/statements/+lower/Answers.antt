@@ -6,6 +6,8 @@ use Rattle.c_meaning.specs.PartLaws.{blocks_of, steps_of}
 use Rattle.struct_cfg.specs.declared.draft.Draft.{Draft}
 use Rattle.struct_cfg.proofs.Grows.{kind_grows}
 use Rattle.struct_cfg.proofs.Rows.{closes_block, closes_if, closes_while, closes_do, closes_for, steps_block, steps_if, steps_while, steps_do, steps_for, lower_block, if_is, while_is, do_is, for_is}
+use Rattle.struct_cfg.specs.Lists.{lower_for}
+use Rattle.struct_cfg.proofs.PartsMade.{if_made, while_made, do_made, for_made, laid_next, blocks_next, steps_next}
 use Rattle.struct_cfg.proofs.statements.+lower.Goals as goal
 
 pub kind-lower_all-requires : goal.kind-lower_all-requires
@@ -78,3 +80,39 @@ kind-returns-in-For t c =
 
 pub lower-returns-clause-few : goal.lower-returns-clause-few
 lower-returns-clause-few t c = kind_grows c.args.arrays.now c.args.to.exit c.args.to.again c.args.stmt.now.kind c.args.draft.now _ c.in_ok-kind.ensures
+
+pub lower_if-returns : goal.lower_if-returns
+lower_if-returns t c =
+    if_made c.args.arrays.now c.args.to.exit c.args.to.again c.args.before.now c.args.cond.now c.args.then.now c.args.other.now c.args.draft.now _ _ _ _ _ _ c.here-yes.result c.closes.result c.blocks_if_any.result
+    c.in_ok-lower_all.ensures.made c.here-yes.ensures c.closes.ensures c.blocks_if_any.ensures c.in_ok-branch.ensures.made c.in_ok-lower.ensures.made c.in_ok-close.ensures.made c.in_ok-lower_any.ensures.made c.in_ok-close-2.ensures.made
+
+pub lower_while-returns : goal.lower_while-returns
+lower_while-returns t c =
+    while_made c.args.arrays.now c.args.to.exit c.args.to.again c.args.before.now c.args.cond.now c.args.body.now c.args.draft.now _ _ _ _ _ c.here-head.result c.blocks_of.result c.closes.result c.here-yes.result
+    c.here-head.ensures c.blocks_of.ensures c.closes.ensures c.in_ok-close.ensures.made c.in_ok-lower_all.ensures.made c.here-yes.ensures c.in_ok-branch.ensures.made c.in_ok-lower.ensures.made c.in_ok-close-2.ensures.made
+
+pub lower_do-returns : goal.lower_do-returns
+lower_do-returns t c =
+    do_made c.args.arrays.now c.args.to.exit c.args.to.again c.args.body.now c.args.before.now c.args.cond.now c.args.draft.now _ _ _ _ _ c.here-first.result c.closes.result c.blocks_of.result
+    c.here-first.ensures c.closes.ensures c.blocks_of.ensures c.in_ok-close.ensures.made c.in_ok-lower.ensures.made c.in_ok-close-2.ensures.made c.in_ok-lower_all.ensures.made c.in_ok-branch.ensures.made
+
+pub lower_for-returns : goal.lower_for-returns
+lower_for-returns t c =
+    for_made c.args.arrays.now c.args.to.exit c.args.to.again c.args.before.now c.args.cond.now c.args.step.now c.args.body.now c.lower_all.new.draft _ _ _ _ _ _ c.here-head.result c.blocks_of.result c.closes.result c.blocks_of_step.result c.again_in-again.result
+    c.here-head.ensures c.blocks_of.ensures c.closes.ensures c.blocks_of_step.ensures c.in_ok-close.ensures.made c.in_ok-lower_all-2.ensures.made c.in_ok-enter.ensures.made c.again_in-again.ensures c.in_ok-lower.ensures.made
+    c.in_ok-lower_step.ensures.made c.in_ok-close-2.ensures.made
+    ∙ ap (lower_for c.args.arrays.now c.args.to.exit c.args.to.again c.args.before.now c.args.cond.now c.args.step.now c.args.body.now) c.in_ok-lower_all.ensures.made
+
+pub lower_all-loop-stmt-preserved : goal.lower_all-loop-stmt-preserved
+lower_all-loop-stmt-preserved t c =
+    let ss = c.args.stmts.now in
+    let i = c.loop-stmt.stmt-index in
+    let s = c.stmt-item.result in
+    let blocks = blocks_next ss i s c.loop-stmt-test.true c.stmt-item.is in
+    let steps = steps_next ss i s c.loop-stmt-test.true c.stmt-item.is in
+    let few = c.in_ok-lower.ensures.few in
+    record {
+      made = laid_next c.args.arrays.now c.args.to.exit c.args.to.again ss i s c.loop-stmt.draft c.lower.new.draft c.loop-stmt-test.true c.stmt-item.is c.in_ok-lower.ensures.made ∙ c.loop-stmt.invariant.made;
+      space = omega (arith, blocks, steps, few, c.loop-stmt.invariant.space);
+      few = omega (arith, blocks, steps, few, c.loop-stmt.invariant.few);
+    }

@@ -10,6 +10,9 @@ use Rattle.c_parse.proofs.CallRules.{reads_arguments, reads_no_arguments, reads_
 use Rattle.c_parse.proofs.JudgedCalls.{arguments_none, arguments_judged, argument_list_stops, first_argument_read, more_arguments_read, more_arguments_stop, argument_list_read}
 use Rattle.c_parse.proofs.cursor.Cursor.+expr.Goals as goal
 
+pub expr-returns-in_err-cond-clause-derived : goal.expr-returns-in_err-cond-clause-derived
+expr-returns-in_err-cond-clause-derived t c = rw (stopped _ _ c.from_residual.ensures.1) tt
+
 pub expr-returns-in_err-cond-clause-judged : goal.expr-returns-in_err-cond-clause-judged
 expr-returns-in_err-cond-clause-judged t c = λ n all. rw (stopped _ _ c.from_residual.ensures.1) (told (Symbol.expression n 0 ∷ []) (fails_then (same_unrolled (omega arith)) (part_fails (Symbol.expression n 1 ∷ []) _ (c.in_err-cond.ensures.judged n all))))
 
@@ -19,14 +22,26 @@ expr-returns-in_default-clause-derived t c = reads_same _ _ _ _ (reads_tighter 0
 pub expr-returns-in_default-clause-judged : goal.expr-returns-in_default-clause-judged
 expr-returns-in_default-clause-judged t c = λ n all. went (Symbol.expression n 0 ∷ []) ([]) (same_to (same_then (same_unrolled (omega arith)) (same_then (same_part (Symbol.expression n 1 ∷ []) (c.in_ok-cond.ensures.judged n all)) (same_no_choice c.in_default.ensures.other))) c.in_default.ensures.none)
 
+pub expr-returns-in_err-depth-clause-derived : goal.expr-returns-in_err-depth-clause-derived
+expr-returns-in_err-depth-clause-derived t c = rw (stopped _ _ c.from_residual-in_err-depth.ensures.1) tt
+
 pub expr-returns-in_err-depth-clause-judged : goal.expr-returns-in_err-depth-clause-judged
 expr-returns-in_err-depth-clause-judged t c = λ n all. rw (stopped _ _ c.from_residual-in_err-depth.ensures.1) (told (Symbol.expression n 0 ∷ []) (fails_then (same_unrolled (omega arith)) (fails_then (same_part (Symbol.expression n 1 ∷ []) (c.in_ok-cond.ensures.judged n all)) (deep_fails c.in-Some.ensures.some refl (full _ _ all c.in_err-depth.ensures.none_left) c.in_err-depth.ensures.place))))
+
+pub expr-returns-in_err-yes-clause-derived : goal.expr-returns-in_err-yes-clause-derived
+expr-returns-in_err-yes-clause-derived t c = rw (stopped _ _ c.from_residual-in_err-yes.ensures.1) tt
 
 pub expr-returns-in_err-yes-clause-judged : goal.expr-returns-in_err-yes-clause-judged
 expr-returns-in_err-yes-clause-judged t c = λ n all. rw (stopped _ _ c.from_residual-in_err-yes.ensures.1) (told (Symbol.expression n 0 ∷ []) (fails_then (same_unrolled (omega arith)) (fails_then (same_part (Symbol.expression n 1 ∷ []) (c.in_ok-cond.ensures.judged n all)) (fails_then (same_choice (room _ _ _ all c.in_ok-depth.ensures.one_less) c.in-Some.ensures.some) (part_fails (Symbol.expression (suc n) 0 ∷ []) _ (c.in_err-yes.ensures.judged (suc n) (inner _ _ _ all c.in_ok-depth.ensures.one_less)))))))
 
+pub expr-returns-in_err-mark-clause-derived : goal.expr-returns-in_err-mark-clause-derived
+expr-returns-in_err-mark-clause-derived t c = rw (stopped _ _ c.from_residual-in_err-mark.ensures.1) tt
+
 pub expr-returns-in_err-mark-clause-judged : goal.expr-returns-in_err-mark-clause-judged
 expr-returns-in_err-mark-clause-judged t c = λ n all. rw (stopped _ _ c.from_residual-in_err-mark.ensures.1) (told (Symbol.expression n 0 ∷ []) (fails_then (same_unrolled (omega arith)) (fails_then (same_part (Symbol.expression n 1 ∷ []) (c.in_ok-cond.ensures.judged n all)) (fails_then (same_choice (room _ _ _ all c.in_ok-depth.ensures.one_less) c.in-Some.ensures.some) (fails_then (same_part (Symbol.expression (suc n) 0 ∷ []) (c.in_ok-yes.ensures.judged (suc n) (inner _ _ _ all c.in_ok-depth.ensures.one_less))) (fixed_fails refl c.in_err-mark.ensures.refused))))))
+
+pub expr-returns-in_err-no-clause-derived : goal.expr-returns-in_err-no-clause-derived
+expr-returns-in_err-no-clause-derived t c = rw (stopped _ _ c.from_residual-in_err-no.ensures.1) tt
 
 pub expr-returns-in_err-no-clause-judged : goal.expr-returns-in_err-no-clause-judged
 expr-returns-in_err-no-clause-judged t c = λ n all. rw (stopped _ _ c.from_residual-in_err-no.ensures.1) (told (Symbol.expression n 0 ∷ []) (fails_then (same_unrolled (omega arith)) (fails_then (same_part (Symbol.expression n 1 ∷ []) (c.in_ok-cond.ensures.judged n all)) (fails_then (same_choice (room _ _ _ all c.in_ok-depth.ensures.one_less) c.in-Some.ensures.some) (fails_then (same_part (Symbol.expression (suc n) 0 ∷ []) (c.in_ok-yes.ensures.judged (suc n) (inner _ _ _ all c.in_ok-depth.ensures.one_less))) (fails_then (same_fixed refl (room _ _ _ all c.in_ok-depth.ensures.one_less) c.in_ok-mark.ensures.read) (part_fails (Symbol.expression (suc n) 0 ∷ []) _ (c.in_err-no.ensures.judged (suc n) (inner _ _ _ all c.in_ok-depth.ensures.one_less)))))))))
@@ -37,6 +52,12 @@ expr-returns-clause-derived t c = reads_choice _ _ _ _ _ _ _ _ _ _ _ _ _ c.in_ok
 pub expr-returns-clause-judged : goal.expr-returns-clause-judged
 expr-returns-clause-judged t c = λ n all. went (Symbol.expression n 0 ∷ []) ([]) (same_then (same_unrolled (omega arith)) (same_then (same_part (Symbol.expression n 1 ∷ []) (c.in_ok-cond.ensures.judged n all)) (same_then (same_choice (room _ _ _ all c.in_ok-depth.ensures.one_less) c.in-Some.ensures.some) (same_then (same_part (Symbol.expression (suc n) 0 ∷ []) (c.in_ok-yes.ensures.judged (suc n) (inner _ _ _ all c.in_ok-depth.ensures.one_less))) (same_then (same_fixed refl (room _ _ _ all c.in_ok-depth.ensures.one_less) c.in_ok-mark.ensures.read) (same_then (same_part (Symbol.expression (suc n) 0 ∷ []) (c.in_ok-no.ensures.judged (suc n) (inner _ _ _ all c.in_ok-depth.ensures.one_less))) same_reduces))))))
 
+pub binary-returns-in_err-left-clause-derived : goal.binary-returns-in_err-left-clause-derived
+binary-returns-in_err-left-clause-derived t c = rw (stopped _ _ c.from_residual.ensures.1) tt
+
+pub binary-returns-in_err-left-clause-behind : goal.binary-returns-in_err-left-clause-behind
+binary-returns-in_err-left-clause-behind t c = rw (stopped _ _ c.from_residual.ensures.1) tt
+
 pub binary-returns-in_err-left-clause-judged : goal.binary-returns-in_err-left-clause-judged
 binary-returns-in_err-left-clause-judged t c = λ n all. rw (stopped _ _ c.from_residual.ensures.1) (told (Symbol.expression n c.args.level ∷ []) (fails_then (same_climbed c.requires.known) (part_fails (Symbol.expression n 11 ∷ []) _ (c.in_err-left.ensures.judged n all))))
 
@@ -46,6 +67,12 @@ binary-operators-init t c = record {
   tight = λ op k is above most. reads_looser k 11 _ _ _ (omega arith) (omega arith) c.in_ok-left.ensures.derived;
   judged = λ n all. same_then (same_climbed c.requires.known) (same_part (Symbol.expression n 11 ∷ []) (c.in_ok-left.ensures.judged n all));
 }
+
+pub binary-returns-in_err-right-clause-derived : goal.binary-returns-in_err-right-clause-derived
+binary-returns-in_err-right-clause-derived t c = rw (stopped _ _ c.from_residual-in_err-right.ensures.1) tt
+
+pub binary-returns-in_err-right-clause-behind : goal.binary-returns-in_err-right-clause-behind
+binary-returns-in_err-right-clause-behind t c = rw (stopped _ _ c.from_residual-in_err-right.ensures.1) tt
 
 pub binary-returns-in_err-right-clause-judged : goal.binary-returns-in_err-right-clause-judged
 binary-returns-in_err-right-clause-judged t c = λ n all. rw (stopped _ _ c.from_residual-in_err-right.ensures.1)
@@ -69,17 +96,32 @@ binary-returns-clause-judged t c = λ n all. went (Symbol.expression n c.args.le
 pub binary-returns-clause-behind : goal.binary-returns-clause-behind
 binary-returns-clause-behind t c = subst (λ ts. IsLooserAt c.args.level ts) (sym c.in_default.ensures.none) c.in_default.ensures.other
 
+pub cast-returns-in_err-open-clause-derived : goal.cast-returns-in_err-open-clause-derived
+cast-returns-in_err-open-clause-derived t c = rw (stopped _ _ c.from_residual.ensures.1) tt
+
 pub cast-returns-in_err-open-clause-judged : goal.cast-returns-in_err-open-clause-judged
 cast-returns-in_err-open-clause-judged t c = λ n all. rw (stopped _ _ c.from_residual.ensures.1) (told (Symbol.fixed (suc n) Fixed.opening ∷ Symbol.a_type (suc n) ∷ Symbol.fixed (suc n) Fixed.closing ∷ Symbol.expression (suc n) 11 ∷ []) (fixed_fails refl c.in_err-open.ensures.refused))
+
+pub cast-returns-in_err-depth-clause-derived : goal.cast-returns-in_err-depth-clause-derived
+cast-returns-in_err-depth-clause-derived t c = rw (stopped _ _ c.from_residual-in_err-depth.ensures.1) tt
 
 pub cast-returns-in_err-depth-clause-judged : goal.cast-returns-in_err-depth-clause-judged
 cast-returns-in_err-depth-clause-judged t c = λ n all. rw (stopped _ _ c.from_residual-in_err-depth.ensures.1) (told (Symbol.fixed (suc n) Fixed.opening ∷ Symbol.a_type (suc n) ∷ Symbol.fixed (suc n) Fixed.closing ∷ Symbol.expression (suc n) 11 ∷ []) (fixed_deep refl c.in_ok-open.ensures.read (full _ _ all c.in_err-depth.ensures.none_left) c.in_err-depth.ensures.place))
 
+pub cast-returns-in_err-ty-clause-derived : goal.cast-returns-in_err-ty-clause-derived
+cast-returns-in_err-ty-clause-derived t c = rw (stopped _ _ c.from_residual-in_err-ty.ensures.1) tt
+
 pub cast-returns-in_err-ty-clause-judged : goal.cast-returns-in_err-ty-clause-judged
 cast-returns-in_err-ty-clause-judged t c = λ n all. rw (stopped _ _ c.from_residual-in_err-ty.ensures.1) (told (Symbol.fixed (suc n) Fixed.opening ∷ Symbol.a_type (suc n) ∷ Symbol.fixed (suc n) Fixed.closing ∷ Symbol.expression (suc n) 11 ∷ []) (fails_then (same_fixed refl (room _ _ _ all c.in_ok-depth.ensures.one_less) c.in_ok-open.ensures.read) (part_fails (Symbol.a_type (suc n) ∷ []) _ (c.in_err-ty.ensures.judged (suc n) (room _ _ _ all c.in_ok-depth.ensures.one_less)))))
 
+pub cast-returns-in_err-mark-clause-derived : goal.cast-returns-in_err-mark-clause-derived
+cast-returns-in_err-mark-clause-derived t c = rw (stopped _ _ c.from_residual-in_err-mark.ensures.1) tt
+
 pub cast-returns-in_err-mark-clause-judged : goal.cast-returns-in_err-mark-clause-judged
 cast-returns-in_err-mark-clause-judged t c = λ n all. rw (stopped _ _ c.from_residual-in_err-mark.ensures.1) (told (Symbol.fixed (suc n) Fixed.opening ∷ Symbol.a_type (suc n) ∷ Symbol.fixed (suc n) Fixed.closing ∷ Symbol.expression (suc n) 11 ∷ []) (fails_then (same_fixed refl (room _ _ _ all c.in_ok-depth.ensures.one_less) c.in_ok-open.ensures.read) (fails_then (same_part (Symbol.a_type (suc n) ∷ []) (c.in_ok-ty.ensures.judged (suc n) (room _ _ _ all c.in_ok-depth.ensures.one_less))) (fixed_fails refl c.in_err-mark.ensures.refused))))
+
+pub cast-returns-in_err-arg-clause-derived : goal.cast-returns-in_err-arg-clause-derived
+cast-returns-in_err-arg-clause-derived t c = rw (stopped _ _ c.from_residual-in_err-arg.ensures.1) tt
 
 pub cast-returns-in_err-arg-clause-judged : goal.cast-returns-in_err-arg-clause-judged
 cast-returns-in_err-arg-clause-judged t c = λ n all. rw (stopped _ _ c.from_residual-in_err-arg.ensures.1) (told (Symbol.fixed (suc n) Fixed.opening ∷ Symbol.a_type (suc n) ∷ Symbol.fixed (suc n) Fixed.closing ∷ Symbol.expression (suc n) 11 ∷ []) (fails_then (same_fixed refl (room _ _ _ all c.in_ok-depth.ensures.one_less) c.in_ok-open.ensures.read) (fails_then (same_part (Symbol.a_type (suc n) ∷ []) (c.in_ok-ty.ensures.judged (suc n) (room _ _ _ all c.in_ok-depth.ensures.one_less))) (fails_then (same_fixed refl (room _ _ _ all c.in_ok-depth.ensures.one_less) c.in_ok-mark.ensures.read) (part_fails (Symbol.expression (suc n) 11 ∷ []) _ (c.in_err-arg.ensures.judged (suc n) (inner _ _ _ all c.in_ok-depth.ensures.one_less)))))))
@@ -90,14 +132,26 @@ cast-returns-clause-derived t c = reads_cast _ _ _ _ _ _ _ _ _ _ _ c.in_ok-open.
 pub cast-returns-clause-judged : goal.cast-returns-clause-judged
 cast-returns-clause-judged t c = λ n all. went (Symbol.fixed (suc n) Fixed.opening ∷ Symbol.a_type (suc n) ∷ Symbol.fixed (suc n) Fixed.closing ∷ Symbol.expression (suc n) 11 ∷ []) ([]) (same_then (same_fixed refl (room _ _ _ all c.in_ok-depth.ensures.one_less) c.in_ok-open.ensures.read) (same_then (same_part (Symbol.a_type (suc n) ∷ []) (c.in_ok-ty.ensures.judged (suc n) (room _ _ _ all c.in_ok-depth.ensures.one_less))) (same_then (same_fixed refl (room _ _ _ all c.in_ok-depth.ensures.one_less) c.in_ok-mark.ensures.read) (same_part (Symbol.expression (suc n) 11 ∷ []) (c.in_ok-arg.ensures.judged (suc n) (inner _ _ _ all c.in_ok-depth.ensures.one_less))))))
 
+pub group-returns-in_err-open-clause-derived : goal.group-returns-in_err-open-clause-derived
+group-returns-in_err-open-clause-derived t c = rw (stopped _ _ c.from_residual.ensures.1) tt
+
 pub group-returns-in_err-open-clause-judged : goal.group-returns-in_err-open-clause-judged
 group-returns-in_err-open-clause-judged t c = λ n all. rw (stopped _ _ c.from_residual.ensures.1) (told (in_group (suc n) []) (fixed_fails refl c.in_err-open.ensures.refused))
+
+pub group-returns-in_err-depth-clause-derived : goal.group-returns-in_err-depth-clause-derived
+group-returns-in_err-depth-clause-derived t c = rw (stopped _ _ c.from_residual-in_err-depth.ensures.1) tt
 
 pub group-returns-in_err-depth-clause-judged : goal.group-returns-in_err-depth-clause-judged
 group-returns-in_err-depth-clause-judged t c = λ n all. rw (stopped _ _ c.from_residual-in_err-depth.ensures.1) (told (in_group (suc n) []) (fixed_deep refl c.in_ok-open.ensures.read (full _ _ all c.in_err-depth.ensures.none_left) c.in_err-depth.ensures.place))
 
+pub group-returns-in_err-inner-clause-derived : goal.group-returns-in_err-inner-clause-derived
+group-returns-in_err-inner-clause-derived t c = rw (stopped _ _ c.from_residual-in_err-inner.ensures.1) tt
+
 pub group-returns-in_err-inner-clause-judged : goal.group-returns-in_err-inner-clause-judged
 group-returns-in_err-inner-clause-judged t c = λ n all. rw (stopped _ _ c.from_residual-in_err-inner.ensures.1) (told (in_group (suc n) []) (fails_then (same_fixed refl (room _ _ _ all c.in_ok-depth.ensures.one_less) c.in_ok-open.ensures.read) (part_fails (Symbol.expression (suc n) 0 ∷ []) _ (c.in_err-inner.ensures.judged (suc n) (inner _ _ _ all c.in_ok-depth.ensures.one_less)))))
+
+pub group-returns-in_err-mark-clause-derived : goal.group-returns-in_err-mark-clause-derived
+group-returns-in_err-mark-clause-derived t c = rw (stopped _ _ c.from_residual-in_err-mark.ensures.1) tt
 
 pub group-returns-in_err-mark-clause-judged : goal.group-returns-in_err-mark-clause-judged
 group-returns-in_err-mark-clause-judged t c = λ n all. rw (stopped _ _ c.from_residual-in_err-mark.ensures.1) (told (in_group (suc n) []) (fails_then (same_fixed refl (room _ _ _ all c.in_ok-depth.ensures.one_less) c.in_ok-open.ensures.read) (fails_then (same_part (Symbol.expression (suc n) 0 ∷ []) (c.in_ok-inner.ensures.judged (suc n) (inner _ _ _ all c.in_ok-depth.ensures.one_less))) (fixed_fails refl c.in_err-mark.ensures.refused))))
@@ -108,14 +162,26 @@ group-returns-clause-derived t c = reads_parens _ _ _ _ _ _ _ c.in_ok-open.ensur
 pub group-returns-clause-judged : goal.group-returns-clause-judged
 group-returns-clause-judged t c = λ n all. went (in_group (suc n) []) ([]) (same_then (same_fixed refl (room _ _ _ all c.in_ok-depth.ensures.one_less) c.in_ok-open.ensures.read) (same_then (same_part (Symbol.expression (suc n) 0 ∷ []) (c.in_ok-inner.ensures.judged (suc n) (inner _ _ _ all c.in_ok-depth.ensures.one_less))) (same_fixed refl (room _ _ _ all c.in_ok-depth.ensures.one_less) c.in_ok-mark.ensures.read)))
 
+pub index-returns-in_err-open-clause-derived : goal.index-returns-in_err-open-clause-derived
+index-returns-in_err-open-clause-derived t c = rw (stopped _ _ c.from_residual.ensures.1) tt
+
 pub index-returns-in_err-open-clause-judged : goal.index-returns-in_err-open-clause-judged
 index-returns-in_err-open-clause-judged t c = λ n all known. rw (stopped _ _ c.from_residual.ensures.1) (told (Symbol.indices n ∷ []) (known_fails known c.in_err-open.ensures.refused))
+
+pub index-returns-in_err-depth-clause-derived : goal.index-returns-in_err-depth-clause-derived
+index-returns-in_err-depth-clause-derived t c = rw (stopped _ _ c.from_residual-in_err-depth.ensures.1) tt
 
 pub index-returns-in_err-depth-clause-judged : goal.index-returns-in_err-depth-clause-judged
 index-returns-in_err-depth-clause-judged t c = λ n all known. rw (stopped _ _ c.from_residual-in_err-depth.ensures.1) (told (Symbol.indices n ∷ []) (deep_fails c.in_ok-open.ensures.read refl (full _ _ all c.in_err-depth.ensures.none_left) c.in_err-depth.ensures.place))
 
+pub index-returns-in_err-inner-clause-derived : goal.index-returns-in_err-inner-clause-derived
+index-returns-in_err-inner-clause-derived t c = rw (stopped _ _ c.from_residual-in_err-inner.ensures.1) tt
+
 pub index-returns-in_err-inner-clause-judged : goal.index-returns-in_err-inner-clause-judged
 index-returns-in_err-inner-clause-judged t c = λ n all known. rw (stopped _ _ c.from_residual-in_err-inner.ensures.1) (told (Symbol.indices n ∷ []) (fails_then (same_index (room _ _ _ all c.in_ok-depth.ensures.one_less) c.in_ok-open.ensures.read) (part_fails (Symbol.expression (suc n) 0 ∷ []) _ (c.in_err-inner.ensures.judged (suc n) (inner _ _ _ all c.in_ok-depth.ensures.one_less)))))
+
+pub index-returns-in_err-mark-clause-derived : goal.index-returns-in_err-mark-clause-derived
+index-returns-in_err-mark-clause-derived t c = rw (stopped _ _ c.from_residual-in_err-mark.ensures.1) tt
 
 pub index-returns-in_err-mark-clause-judged : goal.index-returns-in_err-mark-clause-judged
 index-returns-in_err-mark-clause-judged t c = λ n all known. rw (stopped _ _ c.from_residual-in_err-mark.ensures.1) (told (Symbol.indices n ∷ []) (fails_then (same_index (room _ _ _ all c.in_ok-depth.ensures.one_less) c.in_ok-open.ensures.read) (fails_then (same_part (Symbol.expression (suc n) 0 ∷ []) (c.in_ok-inner.ensures.judged (suc n) (inner _ _ _ all c.in_ok-depth.ensures.one_less))) (fixed_fails refl c.in_err-mark.ensures.refused))))
@@ -129,6 +195,9 @@ index-returns-clause-judged t c = λ n all known. went (Symbol.indices n ∷ [])
 pub indices-brackets-init : goal.indices-brackets-init
 indices-brackets-init t c = (reads_no_indices _ _ c.new-indices.ensures, λ n all. same_done)
 
+pub indices-returns-in_err-index-clause-derived : goal.indices-returns-in_err-index-clause-derived
+indices-returns-in_err-index-clause-derived t c = rw (stopped _ _ c.from_residual.ensures.1) tt
+
 pub indices-returns-in_err-index-clause-judged : goal.indices-returns-in_err-index-clause-judged
 indices-returns-in_err-index-clause-judged t c = λ n all. rw (stopped _ _ c.from_residual.ensures.1) (told (Symbol.indices n ∷ []) (fails_then (c.brackets.invariant.1 n all) (part_fails (Symbol.indices n ∷ []) _ (c.in_err-index.ensures.judged n all (search rules)))))
 
@@ -138,8 +207,14 @@ indices-brackets-preserved t c = (reads_index_after _ _ _ _ _ _ c.brackets.invar
 pub indices-returns-clause-judged : goal.indices-returns-clause-judged
 indices-returns-clause-judged t c = λ n all. went (Symbol.indices n ∷ []) ([]) (same_then (c.brackets.invariant.1 n all) (same_no_index (search rules)))
 
+pub named-returns-in_err-name-clause-derived : goal.named-returns-in_err-name-clause-derived
+named-returns-in_err-name-clause-derived t c = rw (stopped _ _ c.from_residual.ensures.1) tt
+
 pub named-returns-in_err-name-clause-judged : goal.named-returns-in_err-name-clause-judged
 named-returns-in_err-name-clause-judged t c = λ n all. rw (stopped _ _ c.from_residual.ensures.1) (told (Symbol.a_name n ∷ Symbol.postfix n ∷ []) (name_fails c.in_err-name.ensures.refused))
+
+pub named-returns-in_err-args-clause-derived : goal.named-returns-in_err-args-clause-derived
+named-returns-in_err-args-clause-derived t c = rw (stopped _ _ c.from_residual-in_err-args.ensures.1) tt
 
 pub named-returns-in_err-args-clause-judged : goal.named-returns-in_err-args-clause-judged
 named-returns-in_err-args-clause-judged t c = λ n all. rw (stopped _ _ c.from_residual-in_err-args.ensures.1) (told (Symbol.a_name n ∷ Symbol.postfix n ∷ []) (fails_then (same_name (within _ _ all) c.in_ok-name.ensures.read) (part_fails (Symbol.postfix n ∷ []) [] (c.in_err-args.ensures.judged n all (search rules)))))
@@ -150,14 +225,26 @@ named-returns-then-is_at-clause-derived t c = reads_call _ _ _ _ _ _ _ c.in_ok-n
 pub named-returns-then-is_at-clause-judged : goal.named-returns-then-is_at-clause-judged
 named-returns-then-is_at-clause-judged t c = λ n all. went (Symbol.a_name n ∷ Symbol.postfix n ∷ []) ([]) (same_then (same_name (within _ _ all) c.in_ok-name.ensures.read) (same_part (Symbol.postfix n ∷ []) (c.in_ok-args.ensures.judged n all (search rules))))
 
+pub arguments-returns-in_err-open-clause-derived : goal.arguments-returns-in_err-open-clause-derived
+arguments-returns-in_err-open-clause-derived t c = rw (stopped _ _ c.from_residual.ensures.1) tt
+
 pub arguments-returns-in_err-open-clause-judged : goal.arguments-returns-in_err-open-clause-judged
 arguments-returns-in_err-open-clause-judged t c = λ n all known. rw (stopped _ _ c.from_residual.ensures.1) (told (Symbol.postfix n ∷ []) (known_fails known c.in_err-open.ensures.refused))
+
+pub arguments-returns-in_err-depth-clause-derived : goal.arguments-returns-in_err-depth-clause-derived
+arguments-returns-in_err-depth-clause-derived t c = rw (stopped _ _ c.from_residual-in_err-depth.ensures.1) tt
 
 pub arguments-returns-in_err-depth-clause-judged : goal.arguments-returns-in_err-depth-clause-judged
 arguments-returns-in_err-depth-clause-judged t c = λ n all known. rw (stopped _ _ c.from_residual-in_err-depth.ensures.1) (told (Symbol.postfix n ∷ []) (deep_fails c.in_ok-open.ensures.read refl (full _ _ all c.in_err-depth.ensures.none_left) c.in_err-depth.ensures.place))
 
+pub arguments-returns-in_err-args-clause-derived : goal.arguments-returns-in_err-args-clause-derived
+arguments-returns-in_err-args-clause-derived t c = rw (stopped _ _ c.from_residual-in_err-args.ensures.1) tt
+
 pub arguments-returns-in_err-args-clause-judged : goal.arguments-returns-in_err-args-clause-judged
 arguments-returns-in_err-args-clause-judged t c = λ n all known. rw (stopped _ _ c.from_residual-in_err-args.ensures.1) (told (Symbol.postfix n ∷ []) (fails_then (same_call (room _ _ _ all c.in_ok-depth.ensures.one_less) c.in_ok-open.ensures.read) (part_fails (Symbol.arguments (suc n) ∷ []) [] (c.in_err-args.ensures.judged (suc n) (inner _ _ _ all c.in_ok-depth.ensures.one_less)))))
+
+pub arguments-returns-in_err-mark-clause-derived : goal.arguments-returns-in_err-mark-clause-derived
+arguments-returns-in_err-mark-clause-derived t c = rw (stopped _ _ c.from_residual-in_err-mark.ensures.1) tt
 
 pub arguments-returns-in_err-mark-clause-judged : goal.arguments-returns-in_err-mark-clause-judged
 arguments-returns-in_err-mark-clause-judged t c = λ n all known. rw (stopped _ _ c.from_residual-in_err-mark.ensures.1) (told (Symbol.postfix n ∷ []) (fails_then (same_call (room _ _ _ all c.in_ok-depth.ensures.one_less) c.in_ok-open.ensures.read) (fails_then (record { holds = c.in_ok-args.ensures.judged (suc n) (inner _ _ _ all c.in_ok-depth.ensures.one_less) }) (fixed_fails {more = []} refl c.in_err-mark.ensures.refused))))
@@ -177,11 +264,17 @@ any_arguments-returns-then-is_at-clause-judged t c = λ n all. went (Symbol.argu
 pub any_arguments-returns-clause-judged : goal.any_arguments-returns-clause-judged
 any_arguments-returns-clause-judged t c = λ n all. arguments_judged n _ _ _ (search rules) (c.argument_list.ensures.judged n all)
 
+pub argument_list-returns-in_err-first-clause-derived : goal.argument_list-returns-in_err-first-clause-derived
+argument_list-returns-in_err-first-clause-derived t c = rw (stopped _ _ c.from_residual.ensures.1) tt
+
 pub argument_list-returns-in_err-first-clause-judged : goal.argument_list-returns-in_err-first-clause-judged
 argument_list-returns-in_err-first-clause-judged t c = λ n all. rw (stopped _ _ c.from_residual.ensures.1) (told (argument_list_symbols n) (argument_list_stops n _ _ (c.in_err-first.ensures.judged n all)))
 
 pub argument_list-arguments-init : goal.argument_list-arguments-init
 argument_list-arguments-init t c = (reads_first_argument _ _ _ _ _ c.in_ok-first.ensures.derived c.new-args.ensures c.in_ok-push.ensures.ok, λ n all. first_argument_read n _ _ (c.in_ok-first.ensures.judged n all))
+
+pub argument_list-returns-in_err-more-clause-derived : goal.argument_list-returns-in_err-more-clause-derived
+argument_list-returns-in_err-more-clause-derived t c = rw (stopped _ _ c.from_residual-in_err-more.ensures.1) tt
 
 pub argument_list-returns-in_err-more-clause-judged : goal.argument_list-returns-in_err-more-clause-judged
 argument_list-returns-in_err-more-clause-judged t c = λ n all. rw (stopped _ _ c.from_residual-in_err-more.ensures.1) (told (argument_list_symbols n) (more_arguments_stop n _ _ c.arguments.self.rest.now _ _ (within _ _ all) (c.arguments.invariant.1 n all) c.in_ok-mark.ensures.read (c.in_err-more.ensures.judged n all)))
@@ -194,6 +287,9 @@ argument_list-returns-clause-derived t c = reads_argument_list _ _ _ c.arguments
 
 pub argument_list-returns-clause-judged : goal.argument_list-returns-clause-judged
 argument_list-returns-clause-judged t c = λ n all. went (argument_list_symbols n) [] (argument_list_read n _ _ (c.arguments.invariant.1 n all) (search rules))
+
+pub named-returns-in_err-indices-clause-derived : goal.named-returns-in_err-indices-clause-derived
+named-returns-in_err-indices-clause-derived t c = rw (stopped _ _ c.from_residual-in_err-indices.ensures.1) tt
 
 pub named-returns-in_err-indices-clause-judged : goal.named-returns-in_err-indices-clause-judged
 named-returns-in_err-indices-clause-judged t c = λ n all. rw (stopped _ _ c.from_residual-in_err-indices.ensures.1) (told (Symbol.a_name n ∷ Symbol.postfix n ∷ []) (fails_then (same_name (within _ _ all) c.in_ok-name.ensures.read) (fails_then (same_as_indices (search rules)) (part_fails (Symbol.indices n ∷ []) _ (c.in_err-indices.ensures.judged n all)))))
@@ -210,11 +306,20 @@ named-returns-clause-derived t c = reads_element _ _ _ _ _ _ _ c.in_ok-name.ensu
 pub named-returns-clause-judged : goal.named-returns-clause-judged
 named-returns-clause-judged t c = λ n all. went (Symbol.a_name n ∷ Symbol.postfix n ∷ []) ([]) (same_then (same_name (within _ _ all) c.in_ok-name.ensures.read) (same_then (same_as_indices (search rules)) (same_part (Symbol.indices n ∷ []) (c.in_ok-indices.ensures.judged n all))))
 
+pub signed-returns-in_err-op-clause-derived : goal.signed-returns-in_err-op-clause-derived
+signed-returns-in_err-op-clause-derived t c = rw (stopped _ _ c.from_residual.ensures.1) tt
+
 pub signed-returns-in_err-op-clause-judged : goal.signed-returns-in_err-op-clause-judged
 signed-returns-in_err-op-clause-judged t c = λ n all plain. rw (stopped _ _ c.from_residual.ensures.1) (told (Symbol.expression n 11 ∷ []) (sign_fails plain c.in_err-op.ensures.refused))
 
+pub signed-returns-in_err-depth-clause-derived : goal.signed-returns-in_err-depth-clause-derived
+signed-returns-in_err-depth-clause-derived t c = rw (stopped _ _ c.from_residual-in_err-depth.ensures.1) tt
+
 pub signed-returns-in_err-depth-clause-judged : goal.signed-returns-in_err-depth-clause-judged
 signed-returns-in_err-depth-clause-judged t c = λ n all plain. rw (stopped _ _ c.from_residual-in_err-depth.ensures.1) (told (Symbol.expression n 11 ∷ []) (signed_deep c.in_ok-op.ensures.read (full _ _ all c.in_err-depth.ensures.none_left) c.in_err-depth.ensures.place))
+
+pub signed-returns-in_err-arg-clause-derived : goal.signed-returns-in_err-arg-clause-derived
+signed-returns-in_err-arg-clause-derived t c = rw (stopped _ _ c.from_residual-in_err-arg.ensures.1) tt
 
 pub signed-returns-in_err-arg-clause-judged : goal.signed-returns-in_err-arg-clause-judged
 signed-returns-in_err-arg-clause-judged t c = λ n all plain. rw (stopped _ _ c.from_residual-in_err-arg.ensures.1) (told (Symbol.expression n 11 ∷ []) (fails_then (same_signed (room _ _ _ all c.in_ok-depth.ensures.one_less) c.in_ok-op.ensures.read) (part_fails (Symbol.expression (suc n) 11 ∷ []) _ (c.in_err-arg.ensures.judged (suc n) (inner _ _ _ all c.in_ok-depth.ensures.one_less)))))
@@ -242,3 +347,51 @@ unary-returns-clause-derived t c = if_ok _ _ _ (λ e r. reads_group e _ _ r) c.g
 
 pub unary-returns-clause-judged : goal.unary-returns-clause-judged
 unary-returns-clause-judged t c = λ n all. judges_on [] c.group.new.self.rest.now c.group.result (same_as_group (search rules) (sym c.if-is_at_cast.ensures)) (judges_reduced (in_group (suc n) []) Reduction.group _ _ c.group.result (c.group.ensures.judged n all))
+
+pub argument_list-returns-in_err-push-clause-derived : goal.argument_list-returns-in_err-push-clause-derived
+argument_list-returns-in_err-push-clause-derived t c = rw (stopped _ _ c.from_residual-in_err-push.ensures.1) tt
+
+pub argument_list-returns-in_err-push-clause-judged : goal.argument_list-returns-in_err-push-clause-judged
+argument_list-returns-in_err-push-clause-judged t c = λ n all. rw (stopped _ _ c.from_residual-in_err-push.ensures.1) (λ symbols. tt)
+
+pub argument_list-returns-in_err-push-2-clause-derived : goal.argument_list-returns-in_err-push-2-clause-derived
+argument_list-returns-in_err-push-2-clause-derived t c = rw (stopped _ _ c.from_residual-in_err-push-2.ensures.1) tt
+
+pub argument_list-returns-in_err-push-2-clause-judged : goal.argument_list-returns-in_err-push-2-clause-judged
+argument_list-returns-in_err-push-2-clause-judged t c = λ n all. rw (stopped _ _ c.from_residual-in_err-push-2.ensures.1) (λ symbols. tt)
+
+pub argument_list-returns-in_err-mark-clause-derived : goal.argument_list-returns-in_err-mark-clause-derived
+argument_list-returns-in_err-mark-clause-derived t c = rw (stopped _ _ c.from_residual-in_err-mark.ensures.1) tt
+
+pub binary-returns-in_err-join-clause-derived : goal.binary-returns-in_err-join-clause-derived
+binary-returns-in_err-join-clause-derived t c = rw (stopped _ _ c.from_residual-in_err-join.ensures.1) tt
+
+pub binary-returns-in_err-join-clause-judged : goal.binary-returns-in_err-join-clause-judged
+binary-returns-in_err-join-clause-judged t c = λ n all. rw (stopped _ _ c.from_residual-in_err-join.ensures.1) (λ symbols. tt)
+
+pub binary-returns-in_err-join-clause-behind : goal.binary-returns-in_err-join-clause-behind
+binary-returns-in_err-join-clause-behind t c = rw (stopped _ _ c.from_residual-in_err-join.ensures.1) tt
+
+pub cast-returns-in_err-new-clause-derived : goal.cast-returns-in_err-new-clause-derived
+cast-returns-in_err-new-clause-derived t c = rw (stopped _ _ c.from_residual-in_err-new.ensures.1) tt
+
+pub cast-returns-in_err-new-clause-judged : goal.cast-returns-in_err-new-clause-judged
+cast-returns-in_err-new-clause-judged t c = λ n all. rw (stopped _ _ c.from_residual-in_err-new.ensures.1) (λ symbols. tt)
+
+pub expr-returns-in_err-kind-clause-derived : goal.expr-returns-in_err-kind-clause-derived
+expr-returns-in_err-kind-clause-derived t c = rw (stopped _ _ c.from_residual-in_err-kind.ensures.1) tt
+
+pub expr-returns-in_err-kind-clause-judged : goal.expr-returns-in_err-kind-clause-judged
+expr-returns-in_err-kind-clause-judged t c = λ n all. rw (stopped _ _ c.from_residual-in_err-kind.ensures.1) (λ symbols. tt)
+
+pub indices-returns-in_err-push-clause-derived : goal.indices-returns-in_err-push-clause-derived
+indices-returns-in_err-push-clause-derived t c = rw (stopped _ _ c.from_residual-in_err-push.ensures.1) tt
+
+pub indices-returns-in_err-push-clause-judged : goal.indices-returns-in_err-push-clause-judged
+indices-returns-in_err-push-clause-judged t c = λ n all. rw (stopped _ _ c.from_residual-in_err-push.ensures.1) (λ symbols. tt)
+
+pub signed-returns-in_err-new-clause-derived : goal.signed-returns-in_err-new-clause-derived
+signed-returns-in_err-new-clause-derived t c = rw (stopped _ _ c.from_residual-in_err-new.ensures.1) tt
+
+pub signed-returns-in_err-new-clause-judged : goal.signed-returns-in_err-new-clause-judged
+signed-returns-in_err-new-clause-judged t c = λ n all plain. rw (stopped _ _ c.from_residual-in_err-new.ensures.1) (λ symbols. tt)

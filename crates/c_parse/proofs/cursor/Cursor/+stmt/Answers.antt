@@ -89,7 +89,7 @@ keyed-returns-in_default t c = record {
 
 pub block-returns-in_err-body : goal.block-returns-in_err-body
 block-returns-in_err-body t c = record {
-  derived = search rules;
+  derived = rw (stopped _ _ c.from_residual.ensures.1) tt;
   judged = λ n deep next. rw (stopped _ _ c.from_residual.ensures.1) (block_stops n _ _ next (c.in_err-body.ensures.judged n deep)).holds;
 }
 
@@ -101,19 +101,19 @@ block-returns t c = record {
 
 pub braced-returns-in_err-open : goal.braced-returns-in_err-open
 braced-returns-in_err-open t c = record {
-  derived = search rules;
+  derived = rw (stopped _ _ c.from_residual.ensures.1) tt;
   judged = λ n deep. rw (stopped _ _ c.from_residual.ensures.1) (braces_refused (suc n) _ _ c.in_err-open.ensures.refused).holds;
 }
 
 pub braced-returns-in_err-depth : goal.braced-returns-in_err-depth
 braced-returns-in_err-depth t c = record {
-  derived = search rules;
+  derived = rw (stopped _ _ c.from_residual-in_err-depth.ensures.1) tt;
   judged = λ n deep. rw (stopped _ _ c.from_residual-in_err-depth.ensures.1) (braces_deep n _ _ _ _ c.in_ok-open.ensures.read (full _ _ deep c.in_err-depth.ensures.none_left) c.in_err-depth.ensures.place).holds;
 }
 
 pub braced-returns-in_err-item : goal.braced-returns-in_err-item
 braced-returns-in_err-item t c = record {
-  derived = search rules;
+  derived = rw (stopped _ _ c.from_residual-in_err-item.ensures.1) tt;
   judged = λ n deep. rw (stopped _ _ c.from_residual-in_err-item.ensures.1) (braces_stop (suc n) _ _ _ c.items.self.rest.now _ (room _ _ _ deep c.in_ok-depth.ensures.one_less) c.in_ok-open.ensures.read (c.items.invariant.judged (suc n) (inner _ _ _ deep c.in_ok-depth.ensures.one_less)) (c.in_err-item.ensures.judged (suc n) (inner _ _ _ deep c.in_ok-depth.ensures.one_less) (untrue c.items-test.ensures.1))).holds;
 }
 
@@ -151,8 +151,8 @@ item-returns-then-is_at_type t c = record {
 
 pub item-returns-in_err-stmt : goal.item-returns-in_err-stmt
 item-returns-in_err-stmt t c = record {
-  added = search rules;
-  shorter = search rules;
+  added = rw (stopped _ _ c.from_residual.ensures.1) tt;
+  shorter = rw (stopped _ _ c.from_residual.ensures.1) tt;
   judged = λ n deep other. rw (stopped _ _ c.from_residual.ensures.1) (item_stops n _ _ (sym c.is_at_type.ensures ∙ c.if-is_at_type.false) other (c.in_err-stmt.ensures.judged n deep)).holds;
 }
 
@@ -165,25 +165,25 @@ item-returns t c = record {
 
 pub if_stmt-returns-in_err-word : goal.if_stmt-returns-in_err-word
 if_stmt-returns-in_err-word t c = record {
-  derived = search rules;
+  derived = rw (stopped _ _ c.from_residual.ensures.1) tt;
   judged = λ n deep next. rw (stopped _ _ c.from_residual.ensures.1) (key_not_refused {part = Symbol.statement n ∷ []} key.If next c.in_err-word.ensures.refused).holds;
 }
 
 pub if_stmt-returns-in_err-depth : goal.if_stmt-returns-in_err-depth
 if_stmt-returns-in_err-depth t c = record {
-  derived = search rules;
+  derived = rw (stopped _ _ c.from_residual-in_err-depth.ensures.1) tt;
   judged = λ n deep next. rw (stopped _ _ c.from_residual-in_err-depth.ensures.1) (worded_deep n key.If _ _ _ _ c.in_ok-word.ensures.read refl (full _ _ deep c.in_err-depth.ensures.none_left) c.in_err-depth.ensures.place).holds;
 }
 
 pub if_stmt-returns-in_err-cond : goal.if_stmt-returns-in_err-cond
 if_stmt-returns-in_err-cond t c = record {
-  derived = search rules;
+  derived = rw (stopped _ _ c.from_residual-in_err-cond.ensures.1) tt;
   judged = λ n deep next. rw (stopped _ _ c.from_residual-in_err-cond.ensures.1) (if_condition_stops n _ _ _ _ (room _ _ _ deep c.in_ok-depth.ensures.one_less) c.in_ok-word.ensures.read (c.in_err-cond.ensures.judged (suc n) (inner _ _ _ deep c.in_ok-depth.ensures.one_less))).holds;
 }
 
 pub if_stmt-returns-in_err-then : goal.if_stmt-returns-in_err-then
 if_stmt-returns-in_err-then t c = record {
-  derived = search rules;
+  derived = rw (stopped _ _ c.from_residual-in_err-then.ensures.1) tt;
   judged = λ n deep next. rw (stopped _ _ c.from_residual-in_err-then.ensures.1) (if_then_stops n _ _ _ (if_condition n _ _ _ c.condition.new.self.rest.now (room _ _ _ deep c.in_ok-depth.ensures.one_less) c.in_ok-word.ensures.read (c.in_ok-cond.ensures.judged (suc n) (inner _ _ _ deep c.in_ok-depth.ensures.one_less))) (c.in_err-then.ensures.judged (suc n) (inner _ _ _ deep c.in_ok-depth.ensures.one_less))).holds;
 }
 
@@ -195,7 +195,7 @@ if_stmt-returns-then-not-is_at_else t c = record {
 
 pub if_stmt-returns-in_err-other : goal.if_stmt-returns-in_err-other
 if_stmt-returns-in_err-other t c = record {
-  derived = search rules;
+  derived = rw (stopped _ _ c.from_residual-in_err-other.ensures.1) tt;
   judged = λ n deep next. rw (stopped _ _ c.from_residual-in_err-other.ensures.1) (if_other_stops n _ _ c.stmt.new.self.rest.now _ _ (room _ _ _ deep c.in_ok-depth.ensures.one_less) (if_then n _ c.condition.new.self.rest.now c.stmt.new.self.rest.now (if_condition n _ _ _ c.condition.new.self.rest.now (room _ _ _ deep c.in_ok-depth.ensures.one_less) c.in_ok-word.ensures.read (c.in_ok-cond.ensures.judged (suc n) (inner _ _ _ deep c.in_ok-depth.ensures.one_less))) (c.in_ok-then.ensures.judged (suc n) (inner _ _ _ deep c.in_ok-depth.ensures.one_less))) c.in_ok-key.ensures.read (c.in_err-other.ensures.judged (suc n) (inner _ _ _ deep c.in_ok-depth.ensures.one_less))).holds;
 }
 
@@ -207,25 +207,25 @@ if_stmt-returns t c = record {
 
 pub while_stmt-returns-in_err-word : goal.while_stmt-returns-in_err-word
 while_stmt-returns-in_err-word t c = record {
-  derived = search rules;
+  derived = rw (stopped _ _ c.from_residual.ensures.1) tt;
   judged = λ n deep next. rw (stopped _ _ c.from_residual.ensures.1) (key_not_refused {part = Symbol.statement n ∷ []} key.While next c.in_err-word.ensures.refused).holds;
 }
 
 pub while_stmt-returns-in_err-depth : goal.while_stmt-returns-in_err-depth
 while_stmt-returns-in_err-depth t c = record {
-  derived = search rules;
+  derived = rw (stopped _ _ c.from_residual-in_err-depth.ensures.1) tt;
   judged = λ n deep next. rw (stopped _ _ c.from_residual-in_err-depth.ensures.1) (worded_deep n key.While _ _ _ _ c.in_ok-word.ensures.read refl (full _ _ deep c.in_err-depth.ensures.none_left) c.in_err-depth.ensures.place).holds;
 }
 
 pub while_stmt-returns-in_err-cond : goal.while_stmt-returns-in_err-cond
 while_stmt-returns-in_err-cond t c = record {
-  derived = search rules;
+  derived = rw (stopped _ _ c.from_residual-in_err-cond.ensures.1) tt;
   judged = λ n deep next. rw (stopped _ _ c.from_residual-in_err-cond.ensures.1) (while_condition_stops n _ _ _ _ (room _ _ _ deep c.in_ok-depth.ensures.one_less) c.in_ok-word.ensures.read (c.in_err-cond.ensures.judged (suc n) (inner _ _ _ deep c.in_ok-depth.ensures.one_less))).holds;
 }
 
 pub while_stmt-returns-in_err-body : goal.while_stmt-returns-in_err-body
 while_stmt-returns-in_err-body t c = record {
-  derived = search rules;
+  derived = rw (stopped _ _ c.from_residual-in_err-body.ensures.1) tt;
   judged = λ n deep next. rw (stopped _ _ c.from_residual-in_err-body.ensures.1) (while_body_stops n _ _ _ c.condition.new.self.rest.now _ (room _ _ _ deep c.in_ok-depth.ensures.one_less) c.in_ok-word.ensures.read (c.in_ok-cond.ensures.judged (suc n) (inner _ _ _ deep c.in_ok-depth.ensures.one_less)) (c.in_err-body.ensures.judged (suc n) (inner _ _ _ deep c.in_ok-depth.ensures.one_less))).holds;
 }
 
@@ -237,37 +237,37 @@ while_stmt-returns t c = record {
 
 pub do_stmt-returns-in_err-word : goal.do_stmt-returns-in_err-word
 do_stmt-returns-in_err-word t c = record {
-  derived = search rules;
+  derived = rw (stopped _ _ c.from_residual.ensures.1) tt;
   judged = λ n deep next. rw (stopped _ _ c.from_residual.ensures.1) (key_not_refused {part = Symbol.statement n ∷ []} key.Do next c.in_err-word.ensures.refused).holds;
 }
 
 pub do_stmt-returns-in_err-depth : goal.do_stmt-returns-in_err-depth
 do_stmt-returns-in_err-depth t c = record {
-  derived = search rules;
+  derived = rw (stopped _ _ c.from_residual-in_err-depth.ensures.1) tt;
   judged = λ n deep next. rw (stopped _ _ c.from_residual-in_err-depth.ensures.1) (worded_deep n key.Do _ _ _ _ c.in_ok-word.ensures.read refl (full _ _ deep c.in_err-depth.ensures.none_left) c.in_err-depth.ensures.place).holds;
 }
 
 pub do_stmt-returns-in_err-body : goal.do_stmt-returns-in_err-body
 do_stmt-returns-in_err-body t c = record {
-  derived = search rules;
+  derived = rw (stopped _ _ c.from_residual-in_err-body.ensures.1) tt;
   judged = λ n deep next. rw (stopped _ _ c.from_residual-in_err-body.ensures.1) (do_body_stops n _ _ _ _ (room _ _ _ deep c.in_ok-depth.ensures.one_less) c.in_ok-word.ensures.read (c.in_err-body.ensures.judged (suc n) (inner _ _ _ deep c.in_ok-depth.ensures.one_less))).holds;
 }
 
 pub do_stmt-returns-in_err-key : goal.do_stmt-returns-in_err-key
 do_stmt-returns-in_err-key t c = record {
-  derived = search rules;
+  derived = rw (stopped _ _ c.from_residual-in_err-key.ensures.1) tt;
   judged = λ n deep next. rw (stopped _ _ c.from_residual-in_err-key.ensures.1) (fails_then (do_body n _ _ _ c.stmt.new.self.rest.now (room _ _ _ deep c.in_ok-depth.ensures.one_less) c.in_ok-word.ensures.read (c.in_ok-body.ensures.judged (suc n) (inner _ _ _ deep c.in_ok-depth.ensures.one_less))) (fixed_fails refl c.in_err-key.ensures.refused)).holds;
 }
 
 pub do_stmt-returns-in_err-cond : goal.do_stmt-returns-in_err-cond
 do_stmt-returns-in_err-cond t c = record {
-  derived = search rules;
+  derived = rw (stopped _ _ c.from_residual-in_err-cond.ensures.1) tt;
   judged = λ n deep next. rw (stopped _ _ c.from_residual-in_err-cond.ensures.1) (do_condition_stops n _ _ _ _ _ (room _ _ _ deep c.in_ok-depth.ensures.one_less) (do_body n _ _ _ c.stmt.new.self.rest.now (room _ _ _ deep c.in_ok-depth.ensures.one_less) c.in_ok-word.ensures.read (c.in_ok-body.ensures.judged (suc n) (inner _ _ _ deep c.in_ok-depth.ensures.one_less))) c.in_ok-key.ensures.read (c.in_err-cond.ensures.judged (suc n) (inner _ _ _ deep c.in_ok-depth.ensures.one_less))).holds;
 }
 
 pub do_stmt-returns-in_err-mark : goal.do_stmt-returns-in_err-mark
 do_stmt-returns-in_err-mark t c = record {
-  derived = search rules;
+  derived = rw (stopped _ _ c.from_residual-in_err-mark.ensures.1) tt;
   judged = λ n deep next. rw (stopped _ _ c.from_residual-in_err-mark.ensures.1) (fails_then (do_condition n _ _ _ _ c.condition.new.self.rest.now (room _ _ _ deep c.in_ok-depth.ensures.one_less) (do_body n _ _ _ c.stmt.new.self.rest.now (room _ _ _ deep c.in_ok-depth.ensures.one_less) c.in_ok-word.ensures.read (c.in_ok-body.ensures.judged (suc n) (inner _ _ _ deep c.in_ok-depth.ensures.one_less))) c.in_ok-key.ensures.read (c.in_ok-cond.ensures.judged (suc n) (inner _ _ _ deep c.in_ok-depth.ensures.one_less))) (fixed_fails refl c.in_err-mark.ensures.refused)).holds;
 }
 
@@ -279,25 +279,25 @@ do_stmt-returns t c = record {
 
 pub for_stmt-returns-in_err-word : goal.for_stmt-returns-in_err-word
 for_stmt-returns-in_err-word t c = record {
-  derived = search rules;
+  derived = rw (stopped _ _ c.from_residual.ensures.1) tt;
   judged = λ n deep next. rw (stopped _ _ c.from_residual.ensures.1) (key_not_refused {part = Symbol.statement n ∷ []} key.For next c.in_err-word.ensures.refused).holds;
 }
 
 pub for_stmt-returns-in_err-depth : goal.for_stmt-returns-in_err-depth
 for_stmt-returns-in_err-depth t c = record {
-  derived = search rules;
+  derived = rw (stopped _ _ c.from_residual-in_err-depth.ensures.1) tt;
   judged = λ n deep next. rw (stopped _ _ c.from_residual-in_err-depth.ensures.1) (worded_deep n key.For _ _ _ _ c.in_ok-word.ensures.read refl (full _ _ deep c.in_err-depth.ensures.none_left) c.in_err-depth.ensures.place).holds;
 }
 
 pub for_stmt-returns-in_err-head : goal.for_stmt-returns-in_err-head
 for_stmt-returns-in_err-head t c = record {
-  derived = search rules;
+  derived = rw (stopped _ _ c.from_residual-in_err-head.ensures.1) tt;
   judged = λ n deep next. rw (stopped _ _ c.from_residual-in_err-head.ensures.1) (for_head_stops n _ _ _ _ (room _ _ _ deep c.in_ok-depth.ensures.one_less) c.in_ok-word.ensures.read (c.in_err-head.ensures.judged (suc n) (inner _ _ _ deep c.in_ok-depth.ensures.one_less))).holds;
 }
 
 pub for_stmt-returns-in_err-body : goal.for_stmt-returns-in_err-body
 for_stmt-returns-in_err-body t c = record {
-  derived = search rules;
+  derived = rw (stopped _ _ c.from_residual-in_err-body.ensures.1) tt;
   judged = λ n deep next. rw (stopped _ _ c.from_residual-in_err-body.ensures.1) (for_body_stops n _ _ _ c.head.new.self.rest.now _ (room _ _ _ deep c.in_ok-depth.ensures.one_less) c.in_ok-word.ensures.read (c.in_ok-head.ensures.judged (suc n) (inner _ _ _ deep c.in_ok-depth.ensures.one_less)) (c.in_err-body.ensures.judged (suc n) (inner _ _ _ deep c.in_ok-depth.ensures.one_less))).holds;
 }
 
@@ -305,4 +305,47 @@ pub for_stmt-returns : goal.for_stmt-returns
 for_stmt-returns t c = record {
   derived = reads_for _ _ _ _ _ _ _ _ _ _ _ c.in_ok-word.ensures.read c.in_ok-head.ensures.derived c.in_ok-body.ensures.derived c.in_ok-body-2.ensures c.place.ensures;
   judged = λ n deep next. (for_read n _ _ _ c.head.new.self.rest.now _ (room _ _ _ deep c.in_ok-depth.ensures.one_less) c.in_ok-word.ensures.read (c.in_ok-head.ensures.judged (suc n) (inner _ _ _ deep c.in_ok-depth.ensures.one_less)) (c.in_ok-body.ensures.judged (suc n) (inner _ _ _ deep c.in_ok-depth.ensures.one_less))).holds;
+}
+
+pub braced-returns-in_err-mark-clause-derived : goal.braced-returns-in_err-mark-clause-derived
+braced-returns-in_err-mark-clause-derived t c = rw (stopped _ _ c.from_residual-in_err-mark.ensures.1) tt
+
+pub if_stmt-returns-in_err-key-clause-derived : goal.if_stmt-returns-in_err-key-clause-derived
+if_stmt-returns-in_err-key-clause-derived t c = rw (stopped _ _ c.from_residual-in_err-key.ensures.1) tt
+
+pub do_stmt-returns-in_err-body-2 : goal.do_stmt-returns-in_err-body-2
+do_stmt-returns-in_err-body-2 t c = record {
+  derived = rw (stopped _ _ c.from_residual-in_err-body-2.ensures.1) tt;
+  judged = λ n deep next. rw (stopped _ _ c.from_residual-in_err-body-2.ensures.1) (λ symbols. tt);
+}
+
+pub for_stmt-returns-in_err-body-2 : goal.for_stmt-returns-in_err-body-2
+for_stmt-returns-in_err-body-2 t c = record {
+  derived = rw (stopped _ _ c.from_residual-in_err-body-2.ensures.1) tt;
+  judged = λ n deep next. rw (stopped _ _ c.from_residual-in_err-body-2.ensures.1) (λ symbols. tt);
+}
+
+pub if_stmt-returns-in_err-other-2 : goal.if_stmt-returns-in_err-other-2
+if_stmt-returns-in_err-other-2 t c = record {
+  derived = rw (stopped _ _ c.from_residual-in_err-other-2.ensures.1) tt;
+  judged = λ n deep next. rw (stopped _ _ c.from_residual-in_err-other-2.ensures.1) (λ symbols. tt);
+}
+
+pub if_stmt-returns-in_err-then-2 : goal.if_stmt-returns-in_err-then-2
+if_stmt-returns-in_err-then-2 t c = record {
+  derived = rw (stopped _ _ c.from_residual-in_err-then-2.ensures.1) tt;
+  judged = λ n deep next. rw (stopped _ _ c.from_residual-in_err-then-2.ensures.1) (λ symbols. tt);
+}
+
+pub while_stmt-returns-in_err-body-2 : goal.while_stmt-returns-in_err-body-2
+while_stmt-returns-in_err-body-2 t c = record {
+  derived = rw (stopped _ _ c.from_residual-in_err-body-2.ensures.1) tt;
+  judged = λ n deep next. rw (stopped _ _ c.from_residual-in_err-body-2.ensures.1) (λ symbols. tt);
+}
+
+pub item-returns-in_err-push : goal.item-returns-in_err-push
+item-returns-in_err-push t c = record {
+  added = rw (stopped _ _ c.from_residual-in_err-push.ensures.1) tt;
+  shorter = rw (stopped _ _ c.from_residual-in_err-push.ensures.1) tt;
+  judged = λ n deep other. rw (stopped _ _ c.from_residual-in_err-push.ensures.1) (λ symbols. tt);
 }

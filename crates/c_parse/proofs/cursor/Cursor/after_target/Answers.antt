@@ -1,4 +1,4 @@
-use Rattle.std.proofs.Common.{rules, arith}
+use Rattle.std.proofs.Common.{arith}
 use Rattle.c_parse.proofs.Rules.{reads_same}
 use Rattle.c_parse.proofs.StmtRules.{reads_assign, reads_step_after}
 use Rattle.c_parse.proofs.Chains.{stopped}
@@ -7,19 +7,19 @@ use Rattle.c_parse.proofs.cursor.Cursor.after_target.Goals as goal
 
 pub returns-in_err-target : goal.returns-in_err-target
 returns-in_err-target c = record {
-  derived = search rules;
+  derived = rw (stopped _ _ c.from_residual.ensures.1) tt;
   judged = λ n deep none. rw (stopped _ _ c.from_residual.ensures.1) (simple_stops n _ _ none (c.in_err-target.ensures.judged n deep)).holds;
 }
 
 pub returns-in_err-value : goal.returns-in_err-value
 returns-in_err-value c = record {
-  derived = search rules;
+  derived = rw (stopped _ _ c.from_residual-in_err-value.ensures.1) tt;
   judged = λ n deep none. rw (stopped _ _ c.from_residual-in_err-value.ensures.1) (assign_stops n _ _ c.target.new.self.rest.now _ _ (omega arith) none (c.in_ok-target.ensures.judged n deep) c.in-Some.ensures.some (c.in_err-value.ensures.judged n deep)).holds;
 }
 
 pub returns-in_err-up : goal.returns-in_err-up
 returns-in_err-up c = record {
-  derived = search rules;
+  derived = rw (stopped _ _ c.from_residual-in_err-up.ensures.1) tt;
   judged = λ n deep none. rw (stopped _ _ c.from_residual-in_err-up.ensures.1) (simple_refused n _ c.target.new.self.rest.now c.assigning.new.self.rest.now _ none (c.in_ok-target.ensures.judged n deep) c.in_default.ensures.none c.in_default.ensures.other c.in_err-up.ensures.refused).holds;
 }
 

@@ -1,4 +1,3 @@
-use Rattle.std.proofs.Common.{rules}
 use Rattle.c_parse.proofs.StmtRules.{reads_continuing}
 use Rattle.c_parse.proofs.Chains.{stopped}
 use Rattle.c_parse.proofs.JudgedStmts.{continuing_refused, continuing_read}
@@ -6,7 +5,7 @@ use Rattle.c_parse.proofs.cursor.Cursor.continue_stmt.Goals as goal
 
 pub returns-in_err-mark : goal.returns-in_err-mark
 returns-in_err-mark c = record {
-  derived = search rules;
+  derived = rw (stopped _ _ c.from_residual-in_err-mark.ensures.1) tt;
   judged = λ n small next. rw (stopped _ _ c.from_residual-in_err-mark.ensures.1) (continuing_refused n _ _ _ _ small c.in_ok-at.ensures.read c.in_err-mark.ensures.refused).holds;
 }
 

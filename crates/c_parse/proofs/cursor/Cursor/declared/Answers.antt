@@ -1,4 +1,4 @@
-use Rattle.std.proofs.Common.{rules, arith}
+use Rattle.std.proofs.Common.{arith}
 use Rattle.c_parse.proofs.StmtRules.{reads_declared_alone, reads_declared_value}
 use Rattle.c_parse.proofs.Chains.{stopped}
 use Rattle.c_parse.proofs.Exits.{untrue}
@@ -7,13 +7,13 @@ use Rattle.c_parse.proofs.cursor.Cursor.declared.Goals as goal
 
 pub returns-in_err-name : goal.returns-in_err-name
 returns-in_err-name c = record {
-  derived = search rules;
+  derived = rw (stopped _ _ c.from_residual.ensures.1) tt;
   judged = λ n deep. rw (stopped _ _ c.from_residual.ensures.1) (declared_refused n _ _ c.in_err-name.ensures.refused).holds;
 }
 
 pub returns-in_err-value : goal.returns-in_err-value
 returns-in_err-value c = record {
-  derived = search rules;
+  derived = rw (stopped _ _ c.from_residual-in_err-value.ensures.1) tt;
   judged = λ n deep. rw (stopped _ _ c.from_residual-in_err-value.ensures.1) (declared_stops n _ _ _ _ _ _ _ (omega arith) c.in_ok-name.ensures.read c.in_ok-mark.ensures.read (c.in_err-value.ensures.judged n deep)).holds;
 }
 

@@ -1,4 +1,4 @@
-use Rattle.std.proofs.Common.{rules, refl}
+use Rattle.std.proofs.Common.{refl}
 use Rattle.c_parse.proofs.KernelRules.{reads_no_dims, reads_dim_after}
 use Rattle.c_parse.proofs.Chains.{same_done}
 use Rattle.c_parse.proofs.Chains.{stopped}
@@ -8,7 +8,7 @@ use Rattle.c_parse.proofs.cursor.Cursor.dims.Goals as goal
 
 pub returns-in_err-dim : goal.returns-in_err-dim
 returns-in_err-dim c = record {
-  derived = search rules;
+  derived = rw (stopped _ _ c.from_residual.ensures.1) tt;
   judged = λ n small. rw (stopped _ _ c.from_residual.ensures.1) (dims_stop n _ _ _ (c.dims.invariant.judged n small) (c.in_err-dim.ensures.judged n small (c.dims-test.ensures.0 refl))).holds;
 }
 

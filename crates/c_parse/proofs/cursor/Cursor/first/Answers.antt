@@ -1,4 +1,4 @@
-use Rattle.std.proofs.Common.{rules, sym, ◌∙◌, arith}
+use Rattle.std.proofs.Common.{sym, ◌∙◌, arith}
 use Rattle.c_parse.proofs.StmtRules.{first_nothing, first_simple, first_declares}
 use Rattle.c_parse.proofs.Chains.{stopped}
 use Rattle.c_parse.proofs.Exits.{untrue}
@@ -7,19 +7,19 @@ use Rattle.c_parse.proofs.cursor.Cursor.first.Goals as goal
 
 pub returns-in_err-declaration : goal.returns-in_err-declaration
 returns-in_err-declaration c = record {
-  derived = search rules;
+  derived = rw (stopped _ _ c.from_residual.ensures.1) tt;
   judged = λ n deep. rw (stopped _ _ c.from_residual.ensures.1) (first_declaration_stops n _ _ (sym c.is_at_type.ensures ∙ c.if-is_at_type.true) (c.in_err-declaration.ensures.judged n deep)).holds;
 }
 
 pub returns-in_err-stmt : goal.returns-in_err-stmt
 returns-in_err-stmt c = record {
-  derived = search rules;
+  derived = rw (stopped _ _ c.from_residual-in_err-stmt.ensures.1) tt;
   judged = λ n deep. rw (stopped _ _ c.from_residual-in_err-stmt.ensures.1) (first_simple_stops n _ _ (sym c.is_at_type.ensures ∙ c.if-is_at_type.false) (untrue c.if-is_at.ensures.1) (c.in_err-stmt.ensures.judged n deep)).holds;
 }
 
 pub returns-in_err-mark-2 : goal.returns-in_err-mark-2
 returns-in_err-mark-2 c = record {
-  derived = search rules;
+  derived = rw (stopped _ _ c.from_residual-in_err-mark-2.ensures.1) tt;
   judged = λ n deep. rw (stopped _ _ c.from_residual-in_err-mark-2.ensures.1) (first_simple_refused n _ c.simple.new.self.rest.now _ (sym c.is_at_type.ensures ∙ c.if-is_at_type.false) (untrue c.if-is_at.ensures.1) (c.in_ok-stmt.ensures.judged n deep) c.in_err-mark-2.ensures.refused).holds;
 }
 

@@ -1,4 +1,4 @@
-use Rattle.std.proofs.Common.{rules, refl}
+use Rattle.std.proofs.Common.{refl}
 use Rattle.c_parse.proofs.StmtRules.{option_absent, option_present}
 use Rattle.c_parse.proofs.Chains.{stopped}
 use Rattle.c_parse.proofs.Exits.{untrue}
@@ -7,7 +7,7 @@ use Rattle.c_parse.proofs.cursor.Cursor.optional.Goals as goal
 
 pub returns-in_err-value : goal.returns-in_err-value
 returns-in_err-value c = record {
-  derived = search rules;
+  derived = rw (stopped _ _ c.from_residual.ensures.1) tt;
   judged = λ n deep. rw (stopped _ _ c.from_residual.ensures.1) (condition_stops n _ _ (untrue c.if-is_at.ensures.1) (c.in_err-value.ensures.judged n deep)).holds;
 }
 

@@ -1,4 +1,4 @@
-use Rattle.std.proofs.Common.{rules, arith}
+use Rattle.std.proofs.Common.{arith}
 use Rattle.c_parse.proofs.KernelRules.{reads_first_param, reads_param_after}
 use Rattle.c_parse.proofs.Chains.{stopped}
 use Rattle.c_parse.proofs.Exits.{untrue}
@@ -7,13 +7,13 @@ use Rattle.c_parse.proofs.cursor.Cursor.param_list.Goals as goal
 
 pub returns-in_err-first : goal.returns-in_err-first
 returns-in_err-first c = record {
-  derived = search rules;
+  derived = rw (stopped _ _ c.from_residual.ensures.1) tt;
   judged = λ n small. rw (stopped _ _ c.from_residual.ensures.1) (param_list_stops n _ _ (c.in_err-first.ensures.judged n small)).holds;
 }
 
 pub returns-in_err-more : goal.returns-in_err-more
 returns-in_err-more c = record {
-  derived = search rules;
+  derived = rw (stopped _ _ c.from_residual-in_err-more.ensures.1) tt;
   judged = λ n small. rw (stopped _ _ c.from_residual-in_err-more.ensures.1) (more_params_stop n _ _ c.params.self.rest.now _ _ (omega arith) (c.params.invariant.judged n small) c.in_ok-mark.ensures.read (c.in_err-more.ensures.judged n small)).holds;
 }
 
@@ -34,3 +34,18 @@ returns c = record {
   derived = c.params.invariant.read;
   judged = λ n small. (param_list_read n _ _ (c.params.invariant.judged n small) (untrue c.params-test.ensures.1)).holds;
 }
+
+pub returns-in_err-push : goal.returns-in_err-push
+returns-in_err-push c = record {
+  derived = rw (stopped _ _ c.from_residual-in_err-push.ensures.1) tt;
+  judged = λ n small. rw (stopped _ _ c.from_residual-in_err-push.ensures.1) (λ symbols. tt);
+}
+
+pub returns-in_err-push-2 : goal.returns-in_err-push-2
+returns-in_err-push-2 c = record {
+  derived = rw (stopped _ _ c.from_residual-in_err-push-2.ensures.1) tt;
+  judged = λ n small. rw (stopped _ _ c.from_residual-in_err-push-2.ensures.1) (λ symbols. tt);
+}
+
+pub returns-in_err-mark-clause-derived : goal.returns-in_err-mark-clause-derived
+returns-in_err-mark-clause-derived c = rw (stopped _ _ c.from_residual-in_err-mark.ensures.1) tt

@@ -1,4 +1,4 @@
-use Rattle.std.proofs.Common.{rules, sym, ◌∙◌, arith}
+use Rattle.std.proofs.Common.{sym, ◌∙◌, arith}
 use Rattle.c_parse.proofs.Rules.{if_ok}
 use Rattle.c_parse.proofs.Lengths.{declaration_shorter, stmt_shorter}
 use Rattle.c_parse.proofs.StmtRules.{adds_item, adds_stmt}
@@ -15,8 +15,8 @@ returns-then-is_at_type c = record {
 
 pub returns-in_err-stmt : goal.returns-in_err-stmt
 returns-in_err-stmt c = record {
-  added = search rules;
-  shorter = search rules;
+  added = rw (stopped _ _ c.from_residual.ensures.1) tt;
+  shorter = rw (stopped _ _ c.from_residual.ensures.1) tt;
   judged = λ behind begins free some. rw (stopped _ _ c.from_residual.ensures.1) (statement_stops_before behind _ _ (sym c.is_at_type.ensures ∙ c.if-is_at_type.false) some begins free (c.in_err-stmt.ensures.judged 1 (omega arith)));
 }
 

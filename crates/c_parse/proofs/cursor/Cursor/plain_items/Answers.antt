@@ -24,9 +24,9 @@ items-preserved c = record {
 
 pub returns-in_err-item_before : goal.returns-in_err-item_before
 returns-in_err-item_before c = record {
-  derived = search rules;
+  derived = rw (stopped _ _ c.from_residual.ensures.1) tt;
   judged = rw (stopped _ _ c.from_residual.ensures.1) (items_stop c.args.self.now.rest.now c.items.part.rest.now c.parted.result.1.now _ c.items.invariant.judged (c.in_err-item_before.ensures.judged c.items.invariant.begins (all_free_of _ c.items.invariant.free) (some_items c.items.part.rest.now (search rules))));
-  behind = search rules;
+  behind = rw (stopped _ _ c.from_residual.ensures.1) tt;
 }
 
 pub returns : goal.returns

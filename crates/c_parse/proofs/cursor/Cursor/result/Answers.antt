@@ -1,4 +1,4 @@
-use Rattle.std.proofs.Common.{rules, sym}
+use Rattle.std.proofs.Common.{sym}
 use Rattle.c_parse.proofs.Rules.{reads_from}
 use Rattle.c_parse.proofs.KernelRules.{reads_void, reads_result}
 use Rattle.c_parse.proofs.Chains.{stopped}
@@ -7,7 +7,7 @@ use Rattle.c_parse.proofs.cursor.Cursor.result.Goals as goal
 
 pub returns-in_err-ty : goal.returns-in_err-ty
 returns-in_err-ty c = record {
-  derived = search rules;
+  derived = rw (stopped _ _ c.from_residual.ensures.1) tt;
   judged = λ n small. rw (stopped _ _ c.from_residual.ensures.1) (result_stops n _ c.take_key.new.self.rest.now _ c.in_default.ensures.other c.in_default.ensures.none (c.in_err-ty.ensures.judged n small)).holds;
 }
 

@@ -1,4 +1,4 @@
-use Rattle.std.proofs.Common.{rules, arith}
+use Rattle.std.proofs.Common.{arith}
 use Rattle.c_ast.specs.Derives.{DerivesTarget}
 use Rattle.c_parse.proofs.Rules.{reads_boxed}
 use Rattle.c_parse.proofs.StmtRules.{reads_target}
@@ -8,13 +8,13 @@ use Rattle.c_parse.proofs.cursor.Cursor.target.Goals as goal
 
 pub returns-in_err-name : goal.returns-in_err-name
 returns-in_err-name c = record {
-  derived = search rules;
+  derived = rw (stopped _ _ c.from_residual.ensures.1) tt;
   judged = λ n deep. rw (stopped _ _ c.from_residual.ensures.1) (target_refused n _ _ c.in_err-name.ensures.refused).holds;
 }
 
 pub returns-in_err-indices : goal.returns-in_err-indices
 returns-in_err-indices c = record {
-  derived = search rules;
+  derived = rw (stopped _ _ c.from_residual-in_err-indices.ensures.1) tt;
   judged = λ n deep. rw (stopped _ _ c.from_residual-in_err-indices.ensures.1) (target_stops n _ _ _ _ _ (omega arith) c.in_ok-name.ensures.read (c.in_err-indices.ensures.judged n deep)).holds;
 }
 
