@@ -1,6 +1,6 @@
 -- The acts of units, by their ranks and numbers.
-use Rattle.std.proofs.Common.{is_some, suc, zero, cond, eqb-true, ◌≡◌, ◌≢◌, ℕ, ◌<◌, ◌≤◌, ◌⊎◌, inl, inr, Bool, true, false, Option, Some, None, List, [], ◌∷◌, length, get_or, refl, sym, ap, ◌∙◌, arith, nat_lt, ltb-true, MatchOption}
-use Rattle.std.proofs.lemmas.Bool.{cases_lt, and_parts, false≢true}
+use Rattle.std.proofs.Common.{is_some, suc, zero, cond, eqb-true, ◌≡◌, ◌≢◌, ℕ, ◌<◌, ◌≤◌, ◌⊎◌, inl, inr, Bool, true, false, Option, Some, None, List, [], ◌∷◌, length, get_or, refl, sym, ap, ◌∙◌, arith, nat_le, nat_lt, min, max, eqb, ltb-true, MatchOption}
+use Rattle.std.proofs.lemmas.Bool.{cases_lt, and_parts, le-leb, lt-leb, eq-eqb, false≢true}
 use Rattle.net_types.specs.declared.net.Net.{Net}
 use Rattle.net_types.specs.declared.net.Unit.{Unit as Kind}
 use Rattle.net_types.specs.declared.net.Unit.TheVariants.{Entry, Param, Const, Op1, Op2, Select, Fork, Mux, Cmerge, Branch, Sink, Read, Lsq, Exit}
@@ -23,8 +23,8 @@ use Rattle.net_core.proofs.ForkLemmas.{fork_is, send_inv}
 use Rattle.net_core.proofs.ActLemmas.{merge_inv, from_kind, alloc_kind}
 use Rattle.net_core.proofs.QueueActLemmas.{queue_inv, lsq_is, group_within}
 use Rattle.lsq_core.specs.Laws.{act_place}
-use Rattle.cycle_engine.specs.private.Places.{HasView, HasNoneFrom, IsNextNumber, IsViewOf, count_in, inputs_in, outputs_in, ports_in, first_of}
-use Rattle.cycle_engine.specs.private.Control.{groups_in}
+use Rattle.cycle_engine.specs.private.Places.{HasView, HasNoneFrom, IsNextNumber, IsNoted, IsViewOf, takes_at, count_in, inputs_in, outputs_in, ports_in, first_of}
+use Rattle.cycle_engine.specs.private.Control.{groups_in, noted_choice, choice_from, end_from}
 use Rattle.cycle_engine.specs.private.Marking.{asks_first, IsStarved}
 use Rattle.net_core.proofs.PlanUses.{fork_act}
 use Rattle.cycle_engine.proofs.QueueTurnLemmas.{on_go_is}
@@ -421,9 +421,47 @@ module _ (net : Net) (s : State) (u : ℕ) (q : QueueView) (v : IsViewOf net s u
 pub from_here : (net : Net) (s : State) (u : ℕ) (kind : Act) (from : ℕ) → IsNextNumber net s u kind from from
 from_here net s u kind from = record { from_on = omega arith; none = λ b r f l n. absurd (omega arith) }
 
--- the number that was found, or so many where none was
-pub number_within : (net : Net) (s : State) (u : ℕ) (kind : Act) (from n m : ℕ) → IsNextNumber net s u kind from n → from ≤ m → m ≤ n → IsNextNumber net s u kind from m
-number_within net s u kind from n m next l k = record { from_on = l; none = λ b r f h e. next.none b r f (omega arith) e }
+-- what the noted channel tells of acts that take the control token at the place of their number
+module _ (net : Net) (s : State) (noted u : ℕ) (on : IsNoted net s noted) (kind : Act) (act : ℕ → Act)
+    (is : (b : Act) → act_rank b ≡ act_rank kind → b ≡ act (act_number b)) (number : (n : ℕ) → act_number (act_place (act n)) ≡ n) (takes : (n : ℕ) → takes_at (kind_of net u) (act n) ≡ Some n) where
+  noted_here : (b : Act) → act_rank b ≡ act_rank kind → enabled net s (firing u b) → noted_choice net noted u ≡ Some (act_number (act_place b))
+  noted_here b r n =
+      let e = is b r in
+      let m : act_number (act_place b) ≡ act_number b = ap (λ x. act_number (act_place x)) e ∙ number (act_number b) in
+      on u (act_number b) b (ap (takes_at (kind_of net u)) e ∙ takes (act_number b)) n ∙ ap Some (sym m)
+
+  pub told_choice : (from : ℕ) (o : Option ℕ) → o ≡ choice_from (noted_choice net noted u) from → MatchOption o (HasNoneFrom net s u kind from) (IsNextNumber net s u kind from)
+  told_choice from o told = rw told (by (noted_choice net noted u) refl)
+    where
+      by : (c : Option ℕ) → noted_choice net noted u ≡ c → MatchOption (choice_from c from) (HasNoneFrom net s u kind from) (IsNextNumber net s u kind from)
+      by None q = λ b r f n. (let z : None ≡ Some (act_number (act_place b)) = sym q ∙ noted_here b r n in cc)
+      by (Some p) q = at (cases_lt p from)
+        where
+          same : (b : Act) → act_rank b ≡ act_rank kind → enabled net s (firing u b) → act_number (act_place b) ≡ p
+          same b r n = let z : Some (act_number (act_place b)) ≡ Some p = sym (noted_here b r n) ∙ q in cc
+
+          at : (p < from) ⊎ (from ≤ p) → MatchOption (choice_from (Some p) from) (HasNoneFrom net s u kind from) (IsNextNumber net s u kind from)
+          at (inl l) = let e : nat_le from p ≡ false = lt-leb from p l in rw e (λ b r f n. (let k = same b r n in absurd (omega arith)))
+          at (inr l) = let e : nat_le from p ≡ true = le-leb from p l in rw e (record { from_on = l; none = λ b r f h n. (let k = same b r n in absurd (omega arith)) })
+
+pub told_end : (net : Net) (s : State) (noted u : ℕ) → IsNoted net s noted → (from end : ℕ) (o : Option ℕ) → end ≡ groups_in (kind_of net u) → o ≡ end_from (noted_choice net noted u) end from
+    → MatchOption o (HasNoneFrom net s u End from) (IsNextNumber net s u End from)
+told_end net s noted u on from end o g told = rw told (by (noted_choice net noted u) refl)
+  where
+    here : (b : Act) → act_rank b ≡ 9 → enabled net s (firing u b) → noted_choice net noted u ≡ Some end
+    here b r n = on u end b (ap (takes_at (kind_of net u)) (act_is 9 b r) ∙ ap Some (sym g)) n
+
+    by : (c : Option ℕ) → noted_choice net noted u ≡ c → MatchOption (end_from c end from) (HasNoneFrom net s u End from) (IsNextNumber net s u End from)
+    by None q = λ b r f n. (let z : None ≡ Some end = sym q ∙ here b r n in cc)
+    by (Some p) q = at (eqb p end) refl
+      where
+        at : (x : Bool) → eqb p end ≡ x → MatchOption (cond x (Some from) None) (HasNoneFrom net s u End from) (IsNextNumber net s u End from)
+        at true e = from_here net s u End from
+        at false e = λ b r f n. (let z : Some p ≡ Some end = sym q ∙ here b r n in let k : p ≡ end = cc in false≢true (sym e ∙ eq-eqb p end k))
+
+-- the lesser of the number that was found and so many, or so many where none was
+pub number_least : (net : Net) (s : State) (u : ℕ) (kind : Act) (from n count m : ℕ) → IsNextNumber net s u kind from n → from ≤ count → m ≡ min (max n from) count → IsNextNumber net s u kind from m
+number_least net s u kind from n count m next l e = record { from_on = (let f = next.from_on in omega arith); none = λ b r f h en. next.none b r f (let k = next.from_on in omega arith) en }
 
 pub number_none : (net : Net) (s : State) (u : ℕ) (kind : Act) (from m : ℕ) → HasNoneFrom net s u kind from → from ≤ m → IsNextNumber net s u kind from m
 number_none net s u kind from m none l = record { from_on = l; none = λ b r f h e. none b r f e }

@@ -520,20 +520,17 @@ turn_to net past b c start marks e u r n m t apart = record { going = t.going; w
         by (inl l) = inl l
         by (inr l) = past_it l.0 l.1 (apart g.act (subst N k.0 may.turn) (sym l.0))
 
--- all acts of the rank r were tried, or may not fire
-pub turn_over : (net : Net) (past : Past) (b : Bounds) (c : ℕ) (start : Dated) (marks : Marks) (e : Engine) (u r n : ℕ) → IsTurn net past b c start marks e u r n
-    → ((a : Act) → IsUnused e.fired.items (firing u a) → May net c start (dated_of e) (firing u a) → act_rank a ≡ r → act_number (act_place a) < n) → IsTurn net past b c start marks e u (r + 1) 0
-turn_over net past b c start marks e u r n t below = record { going = t.going; watched = λ g un m. at g un m (t.watched g un m); of = of (is_lsq (kind_of net u)) t.of }
+-- all acts of the rank r were tried
+pub turn_on : (net : Net) (past : Past) (b : Bounds) (c : ℕ) (start : Dated) (marks : Marks) (e : Engine) (u r n : ℕ) → IsTurn net past b c start marks e u r n
+    → ((a : Act) → enabled net (state_of e.state) (firing u a) → act_rank a ≡ r → act_number (act_place a) < n) → IsTurn net past b c start marks e u (r + 1) 0
+turn_on net past b c start marks e u r n t below = record { going = t.going; watched = λ g un m. at g m (t.watched g un m); of = of (is_lsq (kind_of net u)) t.of }
   where
-    at : (g : Firing) → IsUnused e.fired.items g → May net c start (dated_of e) g → IsMarked e.marks g.unit ⊎ ((g.unit ≡ u) × IsOpen r n g.act) → IsMarked e.marks g.unit ⊎ ((g.unit ≡ u) × IsOpen (r + 1) 0 g.act)
-    at g un m (inl k) = inl k
-    at g un m (inr k) = by k.1
+    at : (g : Firing) → May net c start (dated_of e) g → IsMarked e.marks g.unit ⊎ ((g.unit ≡ u) × IsOpen r n g.act) → IsMarked e.marks g.unit ⊎ ((g.unit ≡ u) × IsOpen (r + 1) 0 g.act)
+    at g m (inl k) = inl k
+    at g m (inr k) = by k.1
       where
-        U : ℕ → Type 0
-        U v = IsUnused e.fired.items (firing v g.act)
-
         N : ℕ → Type 0
-        N v = May net c start (dated_of e) (firing v g.act)
+        N v = enabled net (state_of e.state) (firing v g.act)
 
         by : IsOpen r n g.act → IsMarked e.marks g.unit ⊎ ((g.unit ≡ u) × IsOpen (r + 1) 0 g.act)
         by (inl l) = by_rank (cases_lt (r + 1) (act_rank g.act))
@@ -541,7 +538,7 @@ turn_over net past b c start marks e u r n t below = record { going = t.going; w
             by_rank : (r + 1 < act_rank g.act) ⊎ (act_rank g.act ≤ r + 1) → IsMarked e.marks g.unit ⊎ ((g.unit ≡ u) × IsOpen (r + 1) 0 g.act)
             by_rank (inl q) = inr (k.0, inl q)
             by_rank (inr q) = inr (k.0, inr (omega arith, omega arith))
-        by (inr l) = let z = below g.act (subst U k.0 un) (subst N k.0 m) (sym l.0) in let y = l.1 in absurd (omega arith)
+        by (inr l) = let z = below g.act (subst N k.0 m.turn) (sym l.0) in let y = l.1 in absurd (omega arith)
 
     of : (q : Bool) → IsTurnOf q net c marks e u r → IsTurnOf q net c marks e u (r + 1)
     of true o = record {
@@ -551,11 +548,6 @@ turn_over net past b c start marks e u r n t below = record { going = t.going; w
       same = o.same;
     }
     of false o = o
-
--- all acts of the rank r were tried
-pub turn_on : (net : Net) (past : Past) (b : Bounds) (c : ℕ) (start : Dated) (marks : Marks) (e : Engine) (u r n : ℕ) → IsTurn net past b c start marks e u r n
-    → ((a : Act) → enabled net (state_of e.state) (firing u a) → act_rank a ≡ r → act_number (act_place a) < n) → IsTurn net past b c start marks e u (r + 1) 0
-turn_on net past b c start marks e u r n t below = turn_over net past b c start marks e u r n t (λ a un m z. below a m.turn z)
 
 -- ---- a unit that is no queue
 

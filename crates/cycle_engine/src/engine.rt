@@ -48,7 +48,7 @@ pub(crate) struct Engine {
     pub notes: Notes,
     /// The channels that were full when the cycle began, and from which tokens were taken.
     pub freed: Freed,
-    /// The channel on which the last control token to a group of a queue was put.
+    /// The channel on which the last control token to a control merge or a queue was put.
     pub control: u32,
 }
 

@@ -7,9 +7,10 @@ ghost use Rattle.net_core.specs.States.{IsOf, state_of};
 ghost use Rattle.cycle_engine.specs.private.Marking.{IsStarved, asks_first, is_merge};
 ghost use Rattle.net_core.specs.Uses.{is_fork};
 ghost use Rattle.net_types.specs.declared.firing.Act.TheVariants as acts;
-ghost use Rattle.cycle_engine.specs.private.Places.{HasView, HasNoExec, HasNoneFrom, IsFirstExec, IsNextNumber, IsViewOf, first_of, count_in, inputs_in, outputs_in, ports_in, numbered};
-ghost use Rattle.cycle_engine.specs.private.Control.{groups_in};
+ghost use Rattle.cycle_engine.specs.private.Places.{HasView, HasNoExec, HasNoneFrom, IsFirstExec, IsNextNumber, IsNoted, IsViewOf, first_of, count_in, inputs_in, outputs_in, ports_in, numbered};
+ghost use Rattle.cycle_engine.specs.private.Control.{choices_in, groups_in};
 
+use crate::control::{next_choice, next_end};
 use lsq_core::Queue;
 use net_check::Checked;
 use net_core::{State, UnitQueue};
@@ -167,13 +168,30 @@ fn outputs_of(net: &Checked, unit: u32) -> u32
 }
 
 /// How many groups a queue has; another unit has none.
-pub(crate) fn groups_of(net: &Checked, unit: u32) -> u32
+fn groups_of(net: &Checked, unit: u32) -> u32
     ensures { result ≡ groups_in (kind_of net.now unit) }
 {
     let units = net.net().units.as_slice();
     if (unit as usize) < units.len() {
         match &units[unit as usize] {
             Unit::Lsq { groups, .. } => groups.as_slice().len() as u32,
+            _ => 0,
+        }
+    } else {
+        0
+    }
+}
+
+/// How many input places a unit has of which a control token is taken by an act of its own.
+#[inline(always)]
+pub(crate) fn choices_of(net: &Checked, unit: u32) -> u64
+    ensures { result ≡ choices_in (kind_of net.now unit) }
+{
+    let units = net.net().units.as_slice();
+    if (unit as usize) < units.len() {
+        match &units[unit as usize] {
+            Unit::Cmerge { ins } => u64::from(*ins),
+            Unit::Lsq { groups, .. } => groups.as_slice().len() as u64 + 1,
             _ => 0,
         }
     } else {
@@ -266,33 +284,43 @@ fn next_reply(net: &Checked, state: &State, unit: u32, from: u32) -> Option<u32>
     queue.next_reply(from)
 }
 
-/// The least number from one on of an act of a kind that may be enabled, as far as the queue of the unit tells.
+/// The least number from one on of an act of a kind that may be enabled, as far as the queue of the unit tells, and the channel
+/// that is noted for control.
 #[inline(always)]
-fn next_told(net: &Checked, state: &State, unit: u32, kind: Act, from: u32) -> Option<u32>
+fn next_told(
+    net: &Checked,
+    state: &State,
+    noted: u32,
+    unit: u32,
+    kind: Act,
+    from: u32,
+) -> Option<u32>
     requires { IsOf net.now state.now }
-    ensures { MatchOption result (HasNoneFrom net.now (state_of state.now) unit kind from)
+    ensures { IsNoted net.now (state_of state.now) noted
+        → MatchOption result (HasNoneFrom net.now (state_of state.now) unit kind from)
         (IsNextNumber net.now (state_of state.now) unit kind from) }
 {
     match kind {
+        Act::From(_) => next_choice(net, noted, unit, from),
+        Act::Alloc(_) => next_choice(net, noted, unit, from),
         Act::Addr(_) => next_addr(net, state, unit, from),
         Act::Data(_) => next_data(net, state, unit, from),
         Act::Reply(_) => next_reply(net, state, unit, from),
+        Act::End => next_end(net, noted, unit, groups_of(net, unit), from),
         Act::Go => Some(from),
-        Act::From(_) => Some(from),
         Act::Send(_) => Some(from),
-        Act::Alloc(_) => Some(from),
         Act::Exec(_) => Some(from),
         Act::Retire => Some(from),
-        Act::End => Some(from),
     }
 }
 
-/// The least number from one on, and below so many, of an act of a kind that may be enabled, as far as the queue of the unit
-/// tells; so many where there is none.
+/// The least number from one on, and below so many, of an act of a kind that may be enabled, as far as is told; so many where there
+/// is none.
 #[inline(always)]
 pub(crate) fn next_number(
     net: &Checked,
     state: &State,
+    noted: u32,
     unit: u32,
     kind: Act,
     from: u32,
@@ -300,12 +328,14 @@ pub(crate) fn next_number(
 ) -> u32
     requires of { IsOf net.now state.now }
     requires within { from ≤ count }
-    ensures next { IsNextNumber net.now (state_of state.now) unit kind from result }
+    ensures next { IsNoted net.now (state_of state.now) noted
+        → IsNextNumber net.now (state_of state.now) unit kind from result }
+    ensures from_on { from ≤ result }
     ensures within { result ≤ count }
 {
-    match next_told(net, state, unit, kind, from) {
+    match next_told(net, state, noted, unit, kind, from) {
         None => count,
-        Some(number) => number.min(count),
+        Some(number) => number.max(from).min(count),
     }
 }
 

@@ -8,7 +8,6 @@ ghost use Rattle.cycle_engine.specs.declared.marks.Marks.{Marks as MarksValue};
 ghost use Rattle.cycle_engine.specs.private.Goings.{Past, IsReady, IsBroken, IsBegunIn, to_visit};
 ghost use Rattle.cycle_engine.specs.private.Places.{IsTurn, IsNextAct, IsOpenTurn, IsSettled, IsServed, IsFull};
 
-use crate::control::noted_group;
 use crate::engine::{Bounds, Engine};
 use crate::places::{
     count_acts, first_act, is_queue, look_at_queue, next_number, numbered, oldest,
@@ -24,6 +23,8 @@ pub(crate) struct Sends;
 pub(crate) struct Froms;
 
 pub(crate) struct Goes;
+
+pub(crate) struct Allocs;
 
 pub(crate) struct Addrs;
 
@@ -72,7 +73,8 @@ impl Engine {
         Ok(())
     }
 
-    /// Tries all places of a unit of one kind at which its queue, where it has one, does not tell that the act is not allowed.
+    /// Tries all places of a unit of one kind but those at which its queue allows no act, and those for the control token to which
+    /// the channel that is noted for it does not lead.
     ///
     /// # Errors
     ///
@@ -95,47 +97,23 @@ impl Engine {
             (λ _. IsTurn net.now past bounds now start marks self.new unit (act_rank kind + 1) 0)
             (IsBroken net.now past.inputs bounds) }
     {
+        let _ = net.net();
         let count = count_acts(net, unit, kind);
-        let mut number = next_number(net, &self.state, unit, kind, 0, count);
+        let mut number = next_number(net, &self.state, self.control, unit, kind, 0, count);
         while number < count {
             let act = numbered(kind, number);
             self.step::<K>(net, bounds, Firing { unit, act }, now)?;
-            number = next_number(net, &self.state, unit, kind, number + 1, count);
+            number = next_number(
+                net,
+                &self.state,
+                self.control,
+                unit,
+                kind,
+                number + 1,
+                count,
+            );
         }
         look_at_queue(net, &self.state, unit);
-        Ok(())
-    }
-
-    /// Tries the allocation of the group of a queue to whose place the noted channel leads; at no other stands a control token.
-    ///
-    /// # Errors
-    ///
-    /// As [`Engine::attempt`].
-    fn allocate(
-        &mut self,
-        net: &Checked,
-        bounds: Bounds,
-        unit: u32,
-        now: u64,
-    ) -> Result<(), RunFault>
-        requires { IsReady net.now bounds self.old }
-        ensures ready { OnOk result (IsReady net.now bounds self.new) }
-        ensures tried { (past : Past) (start : Dated) (marks : MarksValue)
-            → IsTurn net.now past bounds now start marks self.old unit 3 0
-            → MatchResult result
-            (λ _. IsTurn net.now past bounds now start marks self.new unit 4 0)
-            (IsBroken net.now past.inputs bounds) }
-    {
-        let _ = net.net();
-        let Some(group) = noted_group(net, self.control, unit) else {
-            return Ok(());
-        };
-        let firing = Firing {
-            unit,
-            act: Act::Alloc(group),
-        };
-        let plan = self.state.plan(net, firing);
-        self.attempt(net, bounds, firing, plan, now)?;
         Ok(())
     }
 
@@ -243,7 +221,7 @@ impl Engine {
             (λ _. IsTurn net.now past bounds now start marks self.new unit 10 0)
             (IsBroken net.now past.inputs bounds) }
     {
-        self.allocate(net, bounds, unit, now)?;
+        self.steps::<Allocs>(net, bounds, unit, Act::Alloc(0), now)?;
         self.steps::<Addrs>(net, bounds, unit, Act::Addr(0), now)?;
         self.steps::<Datas>(net, bounds, unit, Act::Data(0), now)?;
         self.execute(net, bounds, unit, now)?;

@@ -1,4 +1,4 @@
-//! Acts of queues that are not tried, since nothing can come of it.
+//! Acts of queues and of control merges that are not tried, since nothing can come of it.
 //!
 //! Which acts are passed over is part of no contract: who makes no firing by those that are left looks at all acts.
 
@@ -35,13 +35,23 @@ fn starts_of(groups: usize, ports: usize) -> Starts {
     }
 }
 
-/// The channel for control that has a token; 0 where none has.
+/// Whether a unit is a fork.
+fn is_fork(net: &Checked, unit: u32) -> bool {
+    matches!(
+        net.net().units.as_slice().get(unit as usize),
+        Some(Unit::Fork { .. })
+    )
+}
+
+/// The channel for control that has a token and goes into no fork; 0 where none has. A fork keeps its head until all outputs are
+/// sent.
 pub(crate) fn held_control(net: &Checked, state: &State) -> u32
     requires { IsOf net.now state.now }
 {
     let chans = net.net().chans.as_slice();
     for at in 0..chans.len() {
-        if chans[at].ctl && state.held(net, at as u32) > 0 {
+        let chan = &chans[at];
+        if chan.ctl && !is_fork(net, chan.to.unit) && state.held(net, at as u32) > 0 {
             return at as u32;
         }
     }
@@ -59,24 +69,35 @@ fn place_of(net: &Checked, chan: u32, unit: u32) -> Option<u32> {
 }
 
 /// The next number from one on, in the order of a unit's acts, of an act that the unit may make, as far as its queue tells and
-/// the channel on which the control token is. A unit that has no queue tells nothing.
+/// the channel on which the control token is. Another unit tells nothing.
 pub(crate) fn next_number(net: &Checked, state: &State, control: u32, unit: u32, number: u32) -> u32
     requires of { IsOf net.now state.now }
     requires within { unit < length net.now.units }
 {
-    let Unit::Lsq { ports, groups, .. } = &net.net().units.as_slice()[unit as usize] else {
-        return number;
-    };
-    let Some(queue) = state.queue(net, unit) else {
-        return number;
-    };
-    let starts = starts_of(groups.as_slice().len(), ports.as_slice().len());
-    if number >= starts.addr {
-        return next_of_ports(queue, starts, number);
+    match &net.net().units.as_slice()[unit as usize] {
+        Unit::Cmerge { ins } => next_choice(net, control, unit, number, *ins),
+        Unit::Lsq { ports, groups, .. } => match state.queue(net, unit) {
+            None => number,
+            Some(queue) => {
+                let starts = starts_of(groups.as_slice().len(), ports.as_slice().len());
+                let number = next_choice(net, control, unit, number, starts.addr);
+                if number < starts.addr {
+                    number
+                } else {
+                    next_of_ports(queue, starts, number)
+                }
+            }
+        },
+        _ => number,
     }
+}
+
+/// The number of the place of a unit at which the control token is, where that is from a number on and below the end of such
+/// places; else the end, or the number where it is past that.
+fn next_choice(net: &Checked, control: u32, unit: u32, number: u32, end: u32) -> u32 {
     match place_of(net, control, unit) {
-        Some(group) if number <= group && group < starts.addr => group,
-        _ => next_of_ports(queue, starts, starts.addr),
+        Some(place) if number <= place && place < end => place,
+        _ => number.max(end),
     }
 }
 

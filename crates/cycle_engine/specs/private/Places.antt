@@ -1,5 +1,5 @@
 -- Private: only contracts of this crate cite it. Places that were tried, and those that may not fire any more in a cycle.
-use Rattle.std.specs.Prelude.{◌≡◌, ◌≢◌, ◌⊎◌, ℕ, ◌+◌, ◌*◌, ◌<◌, ◌≤◌, Bool, true, false, List, [], ◌∷◌, ◌++◌, length, get_or}
+use Rattle.std.specs.Prelude.{◌≡◌, ◌≢◌, ◌⊎◌, ℕ, ◌+◌, ◌*◌, ◌<◌, ◌≤◌, Bool, true, false, Option, Some, None, List, [], ◌∷◌, ◌++◌, length, get_or}
 use Rattle.std.specs.List.{AllByRecursion}
 use Rattle.el_base.specs.Limits.{max_delay}
 use Rattle.net_types.specs.declared.net.Net.{Net}
@@ -25,7 +25,7 @@ use Rattle.lsq_core.specs.Laws.{act_place}
 use Rattle.cycle_engine.specs.Cycles.{Dated, May, IsOldest, IsRipe, IsUnused}
 use Rattle.cycle_engine.specs.private.Trials.{dated_of}
 use Rattle.cycle_engine.specs.private.Marking.{IsMarked}
-use Rattle.cycle_engine.specs.private.Control.{groups_in}
+use Rattle.cycle_engine.specs.private.Control.{groups_in, noted_choice}
 use Rattle.cycle_engine.specs.private.Goings.{Past, IsReady, InCycle, HasDone, AllPlain, IsWatching, all_made}
 
 -- ---- the acts of a unit
@@ -136,6 +136,23 @@ pub record HasView (net : Net) (s : State) (u : ℕ) : Type 0 where
 -- the queue of a unit, as it is seen
 abbrev pub IsViewOf : Net → State → ℕ → QueueView → Type 0
 IsViewOf net s u q = (v : HasView net s u) × (v.view ≡ q)
+
+-- the place at which an act takes the control token, where it takes one
+abbrev pub takes_at : Kind → Act → Option ℕ
+takes_at k Go = None
+takes_at k (From j) = Some j
+takes_at k (Send j) = None
+takes_at k (Alloc j) = Some j
+takes_at k (Addr j) = None
+takes_at k (Data j) = None
+takes_at k (Exec j) = None
+takes_at k (Reply j) = None
+takes_at k Retire = None
+takes_at k End = Some (groups_in k)
+
+-- what is enabled of a unit takes the control token where the noted channel leads to, if it takes one
+abbrev pub IsNoted : Net → State → ℕ → Type 0
+IsNoted net s noted = (u p : ℕ) (a : Act) → takes_at (kind_of net u) a ≡ Some p → enabled net s (firing u a) → noted_choice net noted u ≡ Some p
 
 -- no act of a kind with a number from one on is enabled
 abbrev pub HasNoneFrom : Net → State → ℕ → Act → ℕ → Type 0

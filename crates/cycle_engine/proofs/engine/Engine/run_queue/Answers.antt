@@ -1,57 +1,57 @@
 use Rattle.cycle_engine.proofs.TurnLemmas.{exit_broken}
 use Rattle.cycle_engine.proofs.engine.Engine.run_queue.Goals as goal
 
-pub returns-in_err-steps-clause-tried : goal.returns-in_err-steps-clause-tried
-returns-in_err-steps-clause-tried c past start marks t =
-    let t1 = c.in_ok-allocate.ensures.tried past start marks t in
-    exit_broken _ _ c.from_residual-in_err-steps.result c.in_err-steps.field-0.0 c.from_residual-in_err-steps.ensures.1 (c.in_err-steps.ensures.tried past start marks t1)
-
 pub returns-in_err-steps-2-clause-tried : goal.returns-in_err-steps-2-clause-tried
 returns-in_err-steps-2-clause-tried c past start marks t =
-    let t1 = c.in_ok-allocate.ensures.tried past start marks t in
-    let t2 = c.in_ok-steps.ensures.tried past start marks t1 in
-    exit_broken _ _ c.from_residual-in_err-steps-2.result c.in_err-steps-2.field-0.0 c.from_residual-in_err-steps-2.ensures.1 (c.in_err-steps-2.ensures.tried past start marks t2)
-
-pub returns-in_err-execute-clause-tried : goal.returns-in_err-execute-clause-tried
-returns-in_err-execute-clause-tried c past start marks t =
-    let t1 = c.in_ok-allocate.ensures.tried past start marks t in
-    let t2 = c.in_ok-steps.ensures.tried past start marks t1 in
-    let t3 = c.in_ok-steps-2.ensures.tried past start marks t2 in
-    exit_broken _ _ c.from_residual-in_err-execute.result c.in_err-execute.field-0.0 c.from_residual-in_err-execute.ensures.1 (c.in_err-execute.ensures.tried past start marks t3)
+    let t1 = c.in_ok-steps.ensures.tried past start marks t in
+    exit_broken _ _ c.from_residual-in_err-steps-2.result c.in_err-steps-2.field-0.0 c.from_residual-in_err-steps-2.ensures.1 (c.in_err-steps-2.ensures.tried past start marks t1)
 
 pub returns-in_err-steps-3-clause-tried : goal.returns-in_err-steps-3-clause-tried
 returns-in_err-steps-3-clause-tried c past start marks t =
-    let t1 = c.in_ok-allocate.ensures.tried past start marks t in
-    let t2 = c.in_ok-steps.ensures.tried past start marks t1 in
-    let t3 = c.in_ok-steps-2.ensures.tried past start marks t2 in
-    let t4 = c.in_ok-execute.ensures.tried past start marks t3 in
-    exit_broken _ _ c.from_residual-in_err-steps-3.result c.in_err-steps-3.field-0.0 c.from_residual-in_err-steps-3.ensures.1 (c.in_err-steps-3.ensures.tried past start marks t4)
+    let t1 = c.in_ok-steps.ensures.tried past start marks t in
+    let t2 = c.in_ok-steps-2.ensures.tried past start marks t1 in
+    exit_broken _ _ c.from_residual-in_err-steps-3.result c.in_err-steps-3.field-0.0 c.from_residual-in_err-steps-3.ensures.1 (c.in_err-steps-3.ensures.tried past start marks t2)
+
+pub returns-in_err-execute-clause-tried : goal.returns-in_err-execute-clause-tried
+returns-in_err-execute-clause-tried c past start marks t =
+    let t1 = c.in_ok-steps.ensures.tried past start marks t in
+    let t2 = c.in_ok-steps-2.ensures.tried past start marks t1 in
+    let t3 = c.in_ok-steps-3.ensures.tried past start marks t2 in
+    exit_broken _ _ c.from_residual-in_err-execute.result c.in_err-execute.field-0.0 c.from_residual-in_err-execute.ensures.1 (c.in_err-execute.ensures.tried past start marks t3)
 
 pub returns-in_err-steps-4-clause-tried : goal.returns-in_err-steps-4-clause-tried
 returns-in_err-steps-4-clause-tried c past start marks t =
-    let t1 = c.in_ok-allocate.ensures.tried past start marks t in
-    let t2 = c.in_ok-steps.ensures.tried past start marks t1 in
-    let t3 = c.in_ok-steps-2.ensures.tried past start marks t2 in
+    let t1 = c.in_ok-steps.ensures.tried past start marks t in
+    let t2 = c.in_ok-steps-2.ensures.tried past start marks t1 in
+    let t3 = c.in_ok-steps-3.ensures.tried past start marks t2 in
     let t4 = c.in_ok-execute.ensures.tried past start marks t3 in
-    let t5 = c.in_ok-steps-3.ensures.tried past start marks t4 in
-    exit_broken _ _ c.from_residual-in_err-steps-4.result c.in_err-steps-4.field-0.0 c.from_residual-in_err-steps-4.ensures.1 (c.in_err-steps-4.ensures.tried past start marks t5)
+    exit_broken _ _ c.from_residual-in_err-steps-4.result c.in_err-steps-4.field-0.0 c.from_residual-in_err-steps-4.ensures.1 (c.in_err-steps-4.ensures.tried past start marks t4)
 
 pub returns-in_err-steps-5-clause-tried : goal.returns-in_err-steps-5-clause-tried
 returns-in_err-steps-5-clause-tried c past start marks t =
-    let t1 = c.in_ok-allocate.ensures.tried past start marks t in
-    let t2 = c.in_ok-steps.ensures.tried past start marks t1 in
-    let t3 = c.in_ok-steps-2.ensures.tried past start marks t2 in
+    let t1 = c.in_ok-steps.ensures.tried past start marks t in
+    let t2 = c.in_ok-steps-2.ensures.tried past start marks t1 in
+    let t3 = c.in_ok-steps-3.ensures.tried past start marks t2 in
     let t4 = c.in_ok-execute.ensures.tried past start marks t3 in
-    let t5 = c.in_ok-steps-3.ensures.tried past start marks t4 in
-    let t6 = c.in_ok-steps-4.ensures.tried past start marks t5 in
-    exit_broken _ _ c.from_residual-in_err-steps-5.result c.in_err-steps-5.field-0.0 c.from_residual-in_err-steps-5.ensures.1 (c.in_err-steps-5.ensures.tried past start marks t6)
+    let t5 = c.in_ok-steps-4.ensures.tried past start marks t4 in
+    exit_broken _ _ c.from_residual-in_err-steps-5.result c.in_err-steps-5.field-0.0 c.from_residual-in_err-steps-5.ensures.1 (c.in_err-steps-5.ensures.tried past start marks t5)
+
+pub returns-in_err-steps-6-clause-tried : goal.returns-in_err-steps-6-clause-tried
+returns-in_err-steps-6-clause-tried c past start marks t =
+    let t1 = c.in_ok-steps.ensures.tried past start marks t in
+    let t2 = c.in_ok-steps-2.ensures.tried past start marks t1 in
+    let t3 = c.in_ok-steps-3.ensures.tried past start marks t2 in
+    let t4 = c.in_ok-execute.ensures.tried past start marks t3 in
+    let t5 = c.in_ok-steps-4.ensures.tried past start marks t4 in
+    let t6 = c.in_ok-steps-5.ensures.tried past start marks t5 in
+    exit_broken _ _ c.from_residual-in_err-steps-6.result c.in_err-steps-6.field-0.0 c.from_residual-in_err-steps-6.ensures.1 (c.in_err-steps-6.ensures.tried past start marks t6)
 
 pub returns-clause-tried : goal.returns-clause-tried
 returns-clause-tried c past start marks t =
-    let t1 = c.in_ok-allocate.ensures.tried past start marks t in
-    let t2 = c.in_ok-steps.ensures.tried past start marks t1 in
-    let t3 = c.in_ok-steps-2.ensures.tried past start marks t2 in
+    let t1 = c.in_ok-steps.ensures.tried past start marks t in
+    let t2 = c.in_ok-steps-2.ensures.tried past start marks t1 in
+    let t3 = c.in_ok-steps-3.ensures.tried past start marks t2 in
     let t4 = c.in_ok-execute.ensures.tried past start marks t3 in
-    let t5 = c.in_ok-steps-3.ensures.tried past start marks t4 in
-    let t6 = c.in_ok-steps-4.ensures.tried past start marks t5 in
-    c.in_ok-steps-5.ensures.tried past start marks t6
+    let t5 = c.in_ok-steps-4.ensures.tried past start marks t4 in
+    let t6 = c.in_ok-steps-5.ensures.tried past start marks t5 in
+    c.in_ok-steps-6.ensures.tried past start marks t6

@@ -1,9 +1,14 @@
 use Rattle.std.proofs.Common.{◌+◌, arith}
 use Rattle.net_types.specs.Order.{act_rank}
+use Rattle.cycle_engine.specs.declared.marks.Marks.{Marks}
+use Rattle.cycle_engine.specs.Cycles.{Dated}
+use Rattle.cycle_engine.specs.private.Goings.{Past}
+use Rattle.cycle_engine.specs.private.Places.{IsTurn}
 use Rattle.net_core.specs.States.{state_of}
 use Rattle.cycle_engine.proofs.TurnLemmas.{turn_on, exit_broken}
 use Rattle.cycle_engine.proofs.StepLemmas.{next_numbered, turn_next}
 use Rattle.cycle_engine.proofs.PlaceLemmas.{numbers_below}
+use Rattle.cycle_engine.proofs.ControlLemmas.{acts_noted}
 use Rattle.cycle_engine.proofs.engine.Engine.steps.Goals as goal
 
 pub loop-number-init : goal.loop-number-init
@@ -11,7 +16,8 @@ loop-number-init g c = record {
   ready = c.requires.ready;
   less = omega arith;
   within = c.next_number-number.ensures.within;
-  tried = λ past start marks t. turn_next c.args.net.now past c.args.bounds c.args.now start marks c.args.self.now c.args.unit c.args.kind 0 c.next_number-number.result c.next_number-number.ensures.next t;
+  tried = λ past start marks t. turn_next c.args.net.now past c.args.bounds c.args.now start marks c.args.self.now c.args.unit c.args.kind 0 c.next_number-number.result
+      (c.next_number-number.ensures.next (acts_noted c.args.net.now past c.args.bounds c.args.now start c.args.self.now c.net.ensures.checked t.going)) t;
 }
 
 pub loop-number-preserved : goal.loop-number-preserved
@@ -19,10 +25,15 @@ loop-number-preserved g c = record {
   ready = c.in_ok-step.ensures.ready;
   less = (let a = c.loop-number.invariant.less in let b = c.in_ok-step.ensures.less in omega arith);
   within = c.next_number-number-in-loop-number.ensures.within;
-  tried = λ past start marks t. turn_next c.args.net.now past c.args.bounds c.args.now start marks c.step.new.self c.args.unit c.args.kind (c.loop-number.number + 1) c.next_number-number-in-loop-number.result c.next_number-number-in-loop-number.ensures.next
+  tried = λ past start marks t. next past start marks
       (c.in_ok-step.ensures.tried past start marks (act_rank c.args.kind) c.loop-number.number (c.loop-number.invariant.tried past start marks t)
       (next_numbered c.args.net.now (state_of c.loop-number.self.state) c.args.unit c.args.kind c.loop-number.number c.count_acts-count.result c.numbered-act.result c.requires.kind c.numbered-act.ensures c.count_acts-count.ensures c.loop-number-test.true));
 }
+  where
+    next : (past : Past) (start : Dated) (marks : Marks) → IsTurn c.args.net.now past c.args.bounds c.args.now start marks c.step.new.self c.args.unit (act_rank c.args.kind) (c.loop-number.number + 1)
+        → IsTurn c.args.net.now past c.args.bounds c.args.now start marks c.step.new.self c.args.unit (act_rank c.args.kind) c.next_number-number-in-loop-number.result
+    next past start marks t = turn_next c.args.net.now past c.args.bounds c.args.now start marks c.step.new.self c.args.unit c.args.kind (c.loop-number.number + 1) c.next_number-number-in-loop-number.result
+        (c.next_number-number-in-loop-number.ensures.next (acts_noted c.args.net.now past c.args.bounds c.args.now start c.step.new.self c.net.ensures.checked t.going)) t
 
 pub returns-in_err-step-clause-tried : goal.returns-in_err-step-clause-tried
 returns-in_err-step-clause-tried g c past start marks t =
