@@ -32,7 +32,7 @@ use Rattle.cycle_engine.specs.declared.engine.Engine.{Engine}
 use Rattle.cycle_engine.specs.declared.engine.Bounds.{Bounds}
 use Rattle.cycle_engine.specs.Cycles.{Dated, May}
 use Rattle.cycle_engine.specs.private.Trials.{dated_of}
-use Rattle.cycle_engine.specs.private.Control.{HasControl, choices_in, groups_in, leads_to_choice, control_after, noted_choice}
+use Rattle.cycle_engine.specs.private.Control.{HasControl, control_places_in, groups_in, leads_to_control_place, control_after, noted_place}
 use Rattle.cycle_engine.specs.private.Goings.{Past, InCycle}
 use Rattle.cycle_engine.specs.private.Places.{IsNoted, takes_at}
 use Rattle.cycle_engine.proofs.MakeLemmas.{Makes1}
@@ -42,31 +42,31 @@ use Rattle.cycle_engine.proofs.TurnLemmas.{going_regular}
 
 -- ---- control tokens at places at which acts take them
 
-choice_kind : (k : Kind) (p : ℕ) → p < choices_in k → (i o : ℕ → Bool) → Steers k i o → (is_fork k ≡ false) × (i p ≡ true)
-choice_kind (Cmerge ins) p l i o st = (refl, st.0 p l)
-choice_kind (Lsq a d ps gs fw) p l i o st = (refl, st.0 p (omega arith))
-choice_kind _ p l i o st = absurd (omega arith)
+control_kind : (k : Kind) (p : ℕ) → p < control_places_in k → (i o : ℕ → Bool) → Steers k i o → (is_fork k ≡ false) × (i p ≡ true)
+control_kind (Cmerge ins) p l i o st = (refl, st.0 p l)
+control_kind (Lsq a d ps gs fw) p l i o st = (refl, st.0 p (omega arith))
+control_kind _ p l i o st = absurd (omega arith)
 
-choice_fork : (k : Kind) (p : ℕ) → p < choices_in k → is_fork k ≡ false
-choice_fork (Cmerge ins) p l = refl
-choice_fork (Lsq a d ps gs fw) p l = refl
-choice_fork _ p l = absurd (omega arith)
+control_fork : (k : Kind) (p : ℕ) → p < control_places_in k → is_fork k ≡ false
+control_fork (Cmerge ins) p l = refl
+control_fork (Lsq a d ps gs fw) p l = refl
+control_fork _ p l = absurd (omega arith)
 
 -- a head at such a place counts, and its channel leads there
-choice_held : (net : Net) (s : State) (u p v : ℕ) → IsChecked net → IsRegular net s → p < choices_in (kind_of net u) → head_at net s u p ≡ Some v
-    → IsHeld net s (into u p net.chans) × (leads_to_choice net (into u p net.chans) ≡ true)
-choice_held net s u p v checked good l h =
-    let k = choice_kind (kind_of net u) p l (ctl_in net u) (ctl_out net u) ((premises_of net laws checked).steered u) in
+control_held : (net : Net) (s : State) (u p v : ℕ) → IsChecked net → IsRegular net s → p < control_places_in (kind_of net u) → head_at net s u p ≡ Some v
+    → IsHeld net s (into u p net.chans) × (leads_to_control_place net (into u p net.chans) ≡ true)
+control_held net s u p v checked good l h =
+    let k = control_kind (kind_of net u) p l (ctl_in net u) (ctl_out net u) ((premises_of net laws checked).steered u) in
     let held = counted_head net s u p v good k.0 k.1 h in
     let end = is_at-inv (chan_at net (into u p net.chans)).to u p (into-at u p net.chans held.within) in
-    let m : (chan_at net (into u p net.chans)).to.place < choices_in (kind_of net (chan_at net (into u p net.chans)).to.unit) = (let a = end.1 in let b = ap (λ v. choices_in (kind_of net v)) end.0 in omega arith) in
+    let m : (chan_at net (into u p net.chans)).to.place < control_places_in (kind_of net (chan_at net (into u p net.chans)).to.unit) = (let a = end.1 in let b = ap (λ v. control_places_in (kind_of net v)) end.0 in omega arith) in
     (held, both_true k.1 (lt-ltb _ _ m))
 
 -- so does a token on a channel that leads to such a place
-chan_held : (net : Net) (s : State) (d : ℕ) → leads_to_choice net d ≡ true → 1 ≤ length (tokens_at s d) → IsHeld net s d
+chan_held : (net : Net) (s : State) (d : ℕ) → leads_to_control_place net d ≡ true → 1 ≤ length (tokens_at s d) → IsHeld net s d
 chan_held net s d lead n =
     let w = and_parts (chan_at net d).ctl _ lead in
-    let z = early_none (kind_of net (chan_at net d).to.unit) (get_or s.own (chan_at net d).to.unit idle) (choice_fork (kind_of net (chan_at net d).to.unit) (chan_at net d).to.place (ltb-true _ _ w.1)) in
+    let z = early_none (kind_of net (chan_at net d).to.unit) (get_or s.own (chan_at net d).to.unit idle) (control_fork (kind_of net (chan_at net d).to.unit) (chan_at net d).to.place (ltb-true _ _ w.1)) in
     record { within = ctl_within net.chans d w.0; counts = rw (w.0, z) (omega arith) }
 
 -- ---- a token is put
@@ -86,8 +86,8 @@ control_kept : (net : Net) (s : State) (u : ℕ) (e : Effect) (noted : ℕ) → 
     → HasControl net (applied net u e s) (control_after net (laid_of net u e.put) noted)
 control_kept net s u e noted checked long good before w g v l h = by e.put refl
   where
-    held : IsHeld net (applied net u e s) (into w g net.chans) × (leads_to_choice net (into w g net.chans) ≡ true)
-    held = choice_held net (applied net u e s) w g v checked good l h
+    held : IsHeld net (applied net u e s) (into w g net.chans) × (leads_to_control_place net (into w g net.chans) ≡ true)
+    held = control_held net (applied net u e s) w g v checked good l h
 
     tokens : (d : ℕ) → d < length net.chans → tokens_at (applied net u e s) d ≡ moved net u e d (tokens_at s d)
     tokens d m = get-changed (moved net u e) 0 s.tokens d d (omega arith) (omega arith)
@@ -102,9 +102,9 @@ control_kept net s u e noted checked long good before w g v l h = by e.put refl
 
     by : (o : Option Put) → e.put ≡ o → into w g net.chans ≡ control_after net (laid_of net u o) noted
     by None i = was (ap (λ o. puts_on net u o (into w g net.chans)) i)
-    by (Some p) i = at (leads_to_choice net (out_of u p.place net.chans)) refl
+    by (Some p) i = at (leads_to_control_place net (out_of u p.place net.chans)) refl
       where
-        at : (b : Bool) → leads_to_choice net (out_of u p.place net.chans) ≡ b → into w g net.chans ≡ cond b (out_of u p.place net.chans) noted
+        at : (b : Bool) → leads_to_control_place net (out_of u p.place net.chans) ≡ b → into w g net.chans ≡ cond b (out_of u p.place net.chans) noted
         at true lead =
             let d : ℕ = out_of u p.place net.chans in
             let m : d < length net.chans = ctl_within net.chans d (and_parts (chan_at net d).ctl _ lead).0 in
@@ -115,7 +115,7 @@ control_kept net s u e noted checked long good before w g v l h = by e.put refl
         at false lead = was (ap (λ o. puts_on net u o (into w g net.chans)) i ∙ ap (λ b. cond b (Some p.value) None) (ne_eqb _ _ apart))
           where
             apart : into w g net.chans ≢ out_of u p.place net.chans
-            apart z = let q : true ≡ false = sym held.1 ∙ (ap (leads_to_choice net) z ∙ lead) in cc
+            apart z = let q : true ≡ false = sym held.1 ∙ (ap (leads_to_control_place net) z ∙ lead) in cc
 
 -- so after a firing
 pub control_made : (net : Net) (past : Past) (b : Bounds) (c : ℕ) (start : Dated) (old new : Engine) (f : Firing) (p : Plan) (m : Moves) → IsChecked net → IsPlanOf net old.state f (Some p) → m ≡ moves_of net f.unit p
@@ -135,45 +135,45 @@ control_made net past b c start old new f p m checked is s going may one =
 -- ---- acts that take the control token
 
 -- a token at such a place is where the noted channel leads to
-choice_noted : (net : Net) (s : State) (u p v noted : ℕ) → IsChecked net → IsRegular net s → HasControl net s noted → p < choices_in (kind_of net u) → head_at net s u p ≡ Some v → noted_choice net noted u ≡ Some p
-choice_noted net s u p v noted checked good control l h =
-    let held = choice_held net s u p v checked good l h in
+place_noted : (net : Net) (s : State) (u p v noted : ℕ) → IsChecked net → IsRegular net s → HasControl net s noted → p < control_places_in (kind_of net u) → head_at net s u p ≡ Some v → noted_place net noted u ≡ Some p
+place_noted net s u p v noted checked good control l h =
+    let held = control_held net s u p v checked good l h in
     let end = is_at-inv (chan_at net (into u p net.chans)).to u p (into-at u p net.chans held.0.within) in
-    let there : noted_choice net (into u p net.chans) u ≡ Some p =
+    let there : noted_place net (into u p net.chans) u ≡ Some p =
     ap (λ b. cond b (Some (chan_at net (into u p net.chans)).to.place) None) (both_true held.1 (eq-eqb _ _ end.0)) ∙ ap Some end.1 in
-    subst (λ d. noted_choice net d u ≡ Some p) (control u p v l h) there
+    subst (λ d. noted_place net d u ≡ Some p) (control u p v l h) there
 
 module _ (net : Net) (s : State) (noted : ℕ) (checked : IsChecked net) (good : IsRegular net s) (control : HasControl net s noted) (u : ℕ) where
-  from_noted : (j : ℕ) → enabled net s (firing u (From j)) → noted_choice net noted u ≡ Some j
+  from_noted : (j : ℕ) → enabled net s (firing u (From j)) → noted_place net noted u ≡ Some j
   from_noted j n =
       let g = goes net s (firing u (From j)) n in
       let k = from_kind (kind_of net u) j (get_or s.own u idle) (at_array s.arrays (uses (kind_of net u))) (setting net s) (head_at net s u) g.0 g.1.is in
       let m = merge_inv net s u k.0 (From j) k.1 g.0 g.1.is in
       let e : j ≡ m.0 = (let q : From j ≡ From m.0 = m.1 in cc) in
-      let c : choices_in (kind_of net u) ≡ k.0 = ap choices_in k.1 in
+      let c : control_places_in (kind_of net u) ≡ k.0 = ap control_places_in k.1 in
       let l = m.2 in
       let h : head_at net s u j ≡ Some m.3 = ap (head_at net s u) e ∙ m.4 in
-      choice_noted net s u j m.3 noted checked good control (omega arith) h
+      place_noted net s u j m.3 noted checked good control (omega arith) h
 
-  alloc_noted : (j : ℕ) → enabled net s (firing u (Alloc j)) → noted_choice net noted u ≡ Some j
+  alloc_noted : (j : ℕ) → enabled net s (firing u (Alloc j)) → noted_place net noted u ≡ Some j
   alloc_noted j n =
       let g = goes net s (firing u (Alloc j)) n in
       let k = alloc_kind (kind_of net u) j (get_or s.own u idle) (at_array s.arrays (uses (kind_of net u))) (setting net s) (head_at net s u) g.0 g.1.is in
       let i = queue_inv k.depth k.ports k.groups (Alloc j) (get_or s.own u idle) (get_or s.arrays k.array []) (head_at net s u) g.0 (sym (lsq_is net u k.array k.depth k.ports k.groups k.mark k.is s (Alloc j)) ∙ g.1.is) in
       let m : j < length k.groups = group_within k.depth k.groups (get_or s.own u idle).queue j i.1 in
-      let c : choices_in (kind_of net u) ≡ suc (length k.groups) = ap choices_in k.is in
-      choice_noted net s u j i.0 noted checked good control (omega arith) i.2
+      let c : control_places_in (kind_of net u) ≡ suc (length k.groups) = ap control_places_in k.is in
+      place_noted net s u j i.0 noted checked good control (omega arith) i.2
 
-  end_noted : enabled net s (firing u End) → noted_choice net noted u ≡ Some (groups_in (kind_of net u))
+  end_noted : enabled net s (firing u End) → noted_place net noted u ≡ Some (groups_in (kind_of net u))
   end_noted n =
       let g = goes net s (firing u End) n in
       let k = end_kind (kind_of net u) (get_or s.own u idle) (at_array s.arrays (uses (kind_of net u))) (setting net s) (head_at net s u) g.0 g.1.is in
       let i = queue_inv k.depth k.ports k.groups End (get_or s.own u idle) (get_or s.arrays k.array []) (head_at net s u) g.0 (sym (lsq_is net u k.array k.depth k.ports k.groups k.mark k.is s End) ∙ g.1.is) in
       let e : groups_in (kind_of net u) ≡ length k.groups = ap groups_in k.is in
-      let c : choices_in (kind_of net u) ≡ suc (length k.groups) = ap choices_in k.is in
-      choice_noted net s u (length k.groups) i.0 noted checked good control (omega arith) i.2 ∙ ap Some (sym e)
+      let c : control_places_in (kind_of net u) ≡ suc (length k.groups) = ap control_places_in k.is in
+      place_noted net s u (length k.groups) i.0 noted checked good control (omega arith) i.2 ∙ ap Some (sym e)
 
-  noted_by : (a : Act) (p : ℕ) → takes_at (kind_of net u) a ≡ Some p → enabled net s (firing u a) → noted_choice net noted u ≡ Some p
+  noted_by : (a : Act) (p : ℕ) → takes_at (kind_of net u) a ≡ Some p → enabled net s (firing u a) → noted_place net noted u ≡ Some p
   noted_by Go p i n = cc
   noted_by (From j) p i n = from_noted j n ∙ i
   noted_by (Send j) p i n = cc

@@ -24,7 +24,7 @@ use Rattle.net_core.proofs.ActLemmas.{merge_inv, from_kind, alloc_kind}
 use Rattle.net_core.proofs.QueueActLemmas.{queue_inv, lsq_is, group_within}
 use Rattle.lsq_core.specs.Laws.{act_place}
 use Rattle.cycle_engine.specs.private.Places.{HasView, HasNoneFrom, IsNextNumber, IsNoted, IsViewOf, takes_at, count_in, inputs_in, outputs_in, ports_in, first_of}
-use Rattle.cycle_engine.specs.private.Control.{groups_in, noted_choice, choice_from, end_from}
+use Rattle.cycle_engine.specs.private.Control.{groups_in, noted_place, place_from, end_from}
 use Rattle.cycle_engine.specs.private.Marking.{asks_first, IsStarved}
 use Rattle.net_core.proofs.PlanUses.{fork_act}
 use Rattle.cycle_engine.proofs.QueueTurnLemmas.{on_go_is}
@@ -424,34 +424,34 @@ from_here net s u kind from = record { from_on = omega arith; none = λ b r f l 
 -- what the noted channel tells of acts that take the control token at the place of their number
 module _ (net : Net) (s : State) (noted u : ℕ) (on : IsNoted net s noted) (kind : Act) (act : ℕ → Act)
     (is : (b : Act) → act_rank b ≡ act_rank kind → b ≡ act (act_number b)) (number : (n : ℕ) → act_number (act_place (act n)) ≡ n) (takes : (n : ℕ) → takes_at (kind_of net u) (act n) ≡ Some n) where
-  noted_here : (b : Act) → act_rank b ≡ act_rank kind → enabled net s (firing u b) → noted_choice net noted u ≡ Some (act_number (act_place b))
+  noted_here : (b : Act) → act_rank b ≡ act_rank kind → enabled net s (firing u b) → noted_place net noted u ≡ Some (act_number (act_place b))
   noted_here b r n =
       let e = is b r in
       let m : act_number (act_place b) ≡ act_number b = ap (λ x. act_number (act_place x)) e ∙ number (act_number b) in
       on u (act_number b) b (ap (takes_at (kind_of net u)) e ∙ takes (act_number b)) n ∙ ap Some (sym m)
 
-  pub told_choice : (from : ℕ) (o : Option ℕ) → o ≡ choice_from (noted_choice net noted u) from → MatchOption o (HasNoneFrom net s u kind from) (IsNextNumber net s u kind from)
-  told_choice from o told = rw told (by (noted_choice net noted u) refl)
+  pub told_control_place : (from : ℕ) (o : Option ℕ) → o ≡ place_from (noted_place net noted u) from → MatchOption o (HasNoneFrom net s u kind from) (IsNextNumber net s u kind from)
+  told_control_place from o told = rw told (by (noted_place net noted u) refl)
     where
-      by : (c : Option ℕ) → noted_choice net noted u ≡ c → MatchOption (choice_from c from) (HasNoneFrom net s u kind from) (IsNextNumber net s u kind from)
+      by : (c : Option ℕ) → noted_place net noted u ≡ c → MatchOption (place_from c from) (HasNoneFrom net s u kind from) (IsNextNumber net s u kind from)
       by None q = λ b r f n. (let z : None ≡ Some (act_number (act_place b)) = sym q ∙ noted_here b r n in cc)
       by (Some p) q = at (cases_lt p from)
         where
           same : (b : Act) → act_rank b ≡ act_rank kind → enabled net s (firing u b) → act_number (act_place b) ≡ p
           same b r n = let z : Some (act_number (act_place b)) ≡ Some p = sym (noted_here b r n) ∙ q in cc
 
-          at : (p < from) ⊎ (from ≤ p) → MatchOption (choice_from (Some p) from) (HasNoneFrom net s u kind from) (IsNextNumber net s u kind from)
+          at : (p < from) ⊎ (from ≤ p) → MatchOption (place_from (Some p) from) (HasNoneFrom net s u kind from) (IsNextNumber net s u kind from)
           at (inl l) = let e : nat_le from p ≡ false = lt-leb from p l in rw e (λ b r f n. (let k = same b r n in absurd (omega arith)))
           at (inr l) = let e : nat_le from p ≡ true = le-leb from p l in rw e (record { from_on = l; none = λ b r f h n. (let k = same b r n in absurd (omega arith)) })
 
-pub told_end : (net : Net) (s : State) (noted u : ℕ) → IsNoted net s noted → (from end : ℕ) (o : Option ℕ) → end ≡ groups_in (kind_of net u) → o ≡ end_from (noted_choice net noted u) end from
+pub told_end : (net : Net) (s : State) (noted u : ℕ) → IsNoted net s noted → (from end : ℕ) (o : Option ℕ) → end ≡ groups_in (kind_of net u) → o ≡ end_from (noted_place net noted u) end from
     → MatchOption o (HasNoneFrom net s u End from) (IsNextNumber net s u End from)
-told_end net s noted u on from end o g told = rw told (by (noted_choice net noted u) refl)
+told_end net s noted u on from end o g told = rw told (by (noted_place net noted u) refl)
   where
-    here : (b : Act) → act_rank b ≡ 9 → enabled net s (firing u b) → noted_choice net noted u ≡ Some end
+    here : (b : Act) → act_rank b ≡ 9 → enabled net s (firing u b) → noted_place net noted u ≡ Some end
     here b r n = on u end b (ap (takes_at (kind_of net u)) (act_is 9 b r) ∙ ap Some (sym g)) n
 
-    by : (c : Option ℕ) → noted_choice net noted u ≡ c → MatchOption (end_from c end from) (HasNoneFrom net s u End from) (IsNextNumber net s u End from)
+    by : (c : Option ℕ) → noted_place net noted u ≡ c → MatchOption (end_from c end from) (HasNoneFrom net s u End from) (IsNextNumber net s u End from)
     by None q = λ b r f n. (let z : None ≡ Some end = sym q ∙ here b r n in cc)
     by (Some p) q = at (eqb p end) refl
       where

@@ -8,9 +8,9 @@ ghost use Rattle.cycle_engine.specs.private.Marking.{IsStarved, asks_first, is_m
 ghost use Rattle.net_core.specs.Uses.{is_fork};
 ghost use Rattle.net_types.specs.declared.firing.Act.TheVariants as acts;
 ghost use Rattle.cycle_engine.specs.private.Places.{HasView, HasNoExec, HasNoneFrom, IsFirstExec, IsNextNumber, IsNoted, IsViewOf, first_of, count_in, inputs_in, outputs_in, ports_in, numbered};
-ghost use Rattle.cycle_engine.specs.private.Control.{choices_in, groups_in};
+ghost use Rattle.cycle_engine.specs.private.Control.{control_places_in, groups_in};
 
-use crate::control::{next_choice, next_end};
+use crate::control::{next_control_place, next_end};
 use lsq_core::Queue;
 use net_check::Checked;
 use net_core::{State, UnitQueue};
@@ -182,10 +182,10 @@ fn groups_of(net: &Checked, unit: u32) -> u32
     }
 }
 
-/// How many input places a unit has of which a control token is taken by an act of its own.
+/// How many control places a unit has whose tokens are taken by acts with a place each: those of a control merge, and of a queue.
 #[inline(always)]
-pub(crate) fn choices_of(net: &Checked, unit: u32) -> u64
-    ensures { result ≡ choices_in (kind_of net.now unit) }
+pub(crate) fn control_places_of(net: &Checked, unit: u32) -> u64
+    ensures { result ≡ control_places_in (kind_of net.now unit) }
 {
     let units = net.net().units.as_slice();
     if (unit as usize) < units.len() {
@@ -301,8 +301,8 @@ fn next_told(
         (IsNextNumber net.now (state_of state.now) unit kind from) }
 {
     match kind {
-        Act::From(_) => next_choice(net, noted, unit, from),
-        Act::Alloc(_) => next_choice(net, noted, unit, from),
+        Act::From(_) => next_control_place(net, noted, unit, from),
+        Act::Alloc(_) => next_control_place(net, noted, unit, from),
         Act::Addr(_) => next_addr(net, state, unit, from),
         Act::Data(_) => next_data(net, state, unit, from),
         Act::Reply(_) => next_reply(net, state, unit, from),

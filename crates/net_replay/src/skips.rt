@@ -75,12 +75,12 @@ pub(crate) fn next_number(net: &Checked, state: &State, control: u32, unit: u32,
     requires within { unit < length net.now.units }
 {
     match &net.net().units.as_slice()[unit as usize] {
-        Unit::Cmerge { ins } => next_choice(net, control, unit, number, *ins),
+        Unit::Cmerge { ins } => next_control_place(net, control, unit, number, *ins),
         Unit::Lsq { ports, groups, .. } => match state.queue(net, unit) {
             None => number,
             Some(queue) => {
                 let starts = starts_of(groups.as_slice().len(), ports.as_slice().len());
-                let number = next_choice(net, control, unit, number, starts.addr);
+                let number = next_control_place(net, control, unit, number, starts.addr);
                 if number < starts.addr {
                     number
                 } else {
@@ -94,7 +94,7 @@ pub(crate) fn next_number(net: &Checked, state: &State, control: u32, unit: u32,
 
 /// The number of the place of a unit at which the control token is, where that is from a number on and below the end of such
 /// places; else the end, or the number where it is past that.
-fn next_choice(net: &Checked, control: u32, unit: u32, number: u32, end: u32) -> u32 {
+fn next_control_place(net: &Checked, control: u32, unit: u32, number: u32, end: u32) -> u32 {
     match place_of(net, control, unit) {
         Some(place) if number <= place && place < end => place,
         _ => number.max(end),

@@ -24,46 +24,47 @@ groups_in (Read a) = 0
 groups_in (Lsq a d ps gs f) = length gs
 groups_in Exit = 0
 
--- how many input places a unit has of which a control token is taken by an act of its own: a control merge, and a queue
-abbrev pub choices_in : Kind → ℕ
-choices_in Entry = 0
-choices_in (Param j) = 0
-choices_in (Const w n) = 0
-choices_in (Op1 op) = 0
-choices_in (Op2 op) = 0
-choices_in (Select w) = 0
-choices_in (Fork w outs) = 0
-choices_in (Mux w ins) = 0
-choices_in (Cmerge ins) = ins
-choices_in (Branch w) = 0
-choices_in (Sink w) = 0
-choices_in (Read a) = 0
-choices_in (Lsq a d ps gs f) = suc (length gs)
-choices_in Exit = 0
+-- how many control places a unit has whose tokens are taken by acts with a place each: the inputs of a control merge, and the groups and
+-- the end of a queue
+abbrev pub control_places_in : Kind → ℕ
+control_places_in Entry = 0
+control_places_in (Param j) = 0
+control_places_in (Const w n) = 0
+control_places_in (Op1 op) = 0
+control_places_in (Op2 op) = 0
+control_places_in (Select w) = 0
+control_places_in (Fork w outs) = 0
+control_places_in (Mux w ins) = 0
+control_places_in (Cmerge ins) = ins
+control_places_in (Branch w) = 0
+control_places_in (Sink w) = 0
+control_places_in (Read a) = 0
+control_places_in (Lsq a d ps gs f) = suc (length gs)
+control_places_in Exit = 0
 
--- does a channel lead control to such a place
-abbrev pub leads_to_choice : Net → ℕ → Bool
-leads_to_choice net d = (chan_at net d).ctl && nat_lt (chan_at net d).to.place (choices_in (kind_of net (chan_at net d).to.unit))
+-- does a channel lead control to a control place of these
+abbrev pub leads_to_control_place : Net → ℕ → Bool
+leads_to_control_place net d = (chan_at net d).ctl && nat_lt (chan_at net d).to.place (control_places_in (kind_of net (chan_at net d).to.unit))
 
 -- the channel that is noted after a token was put
 abbrev pub control_after : Net → Option Laid → ℕ → ℕ
 control_after net None noted = noted
-control_after net (Some w) noted = cond (leads_to_choice net w.chan) w.chan noted
+control_after net (Some w) noted = cond (leads_to_control_place net w.chan) w.chan noted
 
 -- the place of the unit u to which a channel leads control
-abbrev pub noted_choice : Net → ℕ → ℕ → Option ℕ
-noted_choice net d u = cond (leads_to_choice net d && ((chan_at net d).to.unit == u)) (Some (chan_at net d).to.place) None
+abbrev pub noted_place : Net → ℕ → ℕ → Option ℕ
+noted_place net d u = cond (leads_to_control_place net d && ((chan_at net d).to.unit == u)) (Some (chan_at net d).to.place) None
 
--- the place, where it is from a number on
-abbrev pub choice_from : Option ℕ → ℕ → Option ℕ
-choice_from None from = None
-choice_from (Some p) from = cond (nat_le from p) (Some p) None
+-- a place, where it is from a number on
+abbrev pub place_from : Option ℕ → ℕ → Option ℕ
+place_from None from = None
+place_from (Some p) from = cond (nat_le from p) (Some p) None
 
 -- the number, where the place is that of the queue's end
 abbrev pub end_from : Option ℕ → ℕ → ℕ → Option ℕ
 end_from None end from = None
 end_from (Some p) end from = cond (p == end) (Some from) None
 
--- a token at such a place is on the channel that is noted
+-- a token at a control place of these is on the channel that is noted
 abbrev pub HasControl : Net → State → ℕ → Type 0
-HasControl net s noted = (u p v : ℕ) → p < choices_in (kind_of net u) → head_at net s u p ≡ Some v → into u p net.chans ≡ noted
+HasControl net s noted = (u p v : ℕ) → p < control_places_in (kind_of net u) → head_at net s u p ≡ Some v → into u p net.chans ≡ noted

@@ -25,7 +25,7 @@ use Rattle.lsq_core.specs.Laws.{act_place}
 use Rattle.cycle_engine.specs.Cycles.{Dated, May, IsOldest, IsRipe, IsUnused}
 use Rattle.cycle_engine.specs.private.Trials.{dated_of}
 use Rattle.cycle_engine.specs.private.Marking.{IsMarked}
-use Rattle.cycle_engine.specs.private.Control.{groups_in, noted_choice}
+use Rattle.cycle_engine.specs.private.Control.{groups_in, noted_place}
 use Rattle.cycle_engine.specs.private.Goings.{Past, IsReady, InCycle, HasDone, AllPlain, IsWatching, all_made}
 
 -- ---- the acts of a unit
@@ -152,7 +152,7 @@ takes_at k End = Some (groups_in k)
 
 -- what is enabled of a unit takes the control token where the noted channel leads to, if it takes one
 abbrev pub IsNoted : Net → State → ℕ → Type 0
-IsNoted net s noted = (u p : ℕ) (a : Act) → takes_at (kind_of net u) a ≡ Some p → enabled net s (firing u a) → noted_choice net noted u ≡ Some p
+IsNoted net s noted = (u p : ℕ) (a : Act) → takes_at (kind_of net u) a ≡ Some p → enabled net s (firing u a) → noted_place net noted u ≡ Some p
 
 -- no act of a kind with a number from one on is enabled
 abbrev pub HasNoneFrom : Net → State → ℕ → Act → ℕ → Type 0
