@@ -21,6 +21,18 @@ struct Ends {
     ghost repaid_is: { credits_repaid take ≡ repaid },
 }
 
+/// A call on the ends.
+#[derive(Clone, Copy)]
+enum Call {
+    Ready,
+    Peek,
+    Take {
+        stamp: u64,
+    },
+    Flush,
+    Put(Token),
+}
+
 impl Ends {
     /// Puts a token where a credit is in hand and the ring has a free slot, and says whether it did.
     fn put(&mut self, token: Token) -> bool {
@@ -73,31 +85,48 @@ fn put_answers(alloc: Global, ends: &mut Ends, calls: &str, out: &mut Output) ->
         }
         is_first = false;
         let words: Vec<&str> = call.split(' ').collect(alloc)?;
-        put_answer(ends, words.as_slice(), out)?;
+        put_answer(ends, call_of(words.as_slice())?, out);
     }
     Ok(())
 }
 
+/// The call that words tell.
+fn call_of(words: &[&str]) -> Result<Call> {
+    match words {
+        ["take", stamp] => Ok(Call::Take {
+            stamp: stamp.parse()?,
+        }),
+        ["put", value, stamp] => Ok(Call::Put(Token {
+            value: value.parse()?,
+            stamp: stamp.parse()?,
+        })),
+        [word] => call_of_word(word),
+        _ => bail!("no such call"),
+    }
+}
+
+/// The call that one word tells.
+fn call_of_word(word: &str) -> Result<Call> {
+    match word {
+        "ready" => Ok(Call::Ready),
+        "peek" => Ok(Call::Peek),
+        "flush" => Ok(Call::Flush),
+        _ => bail!("no such call"),
+    }
+}
+
 /// Makes one call and writes its answer.
-fn put_answer(ends: &mut Ends, call: &[&str], out: &mut Output) -> Result<()> {
+fn put_answer(ends: &mut Ends, call: Call, out: &mut Output) {
     match call {
-        ["ready"] => put_stamp(ends.put.ready(), out),
-        ["peek"] => put_token(ends.take.peek(), out),
-        ["take", stamp] => put_token(ends.take(stamp.parse()?), out),
-        ["flush"] => {
+        Call::Ready => put_stamp(ends.put.ready(), out),
+        Call::Peek => put_token(ends.take.peek(), out),
+        Call::Take { stamp } => put_token(ends.take(stamp), out),
+        Call::Flush => {
             ends.take.flush();
             out.word(".");
         }
-        ["put", value, stamp] => {
-            let token = Token {
-                value: value.parse()?,
-                stamp: stamp.parse()?,
-            };
-            out.word(if ends.put(token) { "ok" } else { "no" });
-        }
-        _ => bail!("no such call"),
+        Call::Put(token) => out.word(if ends.put(token) { "ok" } else { "no" }),
     }
-    Ok(())
 }
 
 /// Writes a stamp.

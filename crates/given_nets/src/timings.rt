@@ -95,7 +95,14 @@ fn timing_of(alloc: Global, field: &str) -> Result<Timing>
         return Ok(Timing::usual());
     }
     let numbers = words_as_numbers(alloc, field)?;
-    let [logic, mul, div, read, lsq, slots, rest @ ..] = numbers.as_slice() else {
+    timing_by(numbers.as_slice())
+}
+
+/// The timing that six numbers and a depth, if any, tell.
+fn timing_by(numbers: &[u32]) -> Result<Timing>
+    ensures { IfOk result IsTiming }
+{
+    let [logic, mul, div, read, lsq, slots, rest @ ..] = numbers else {
         bail!("a timing is six numbers and a depth");
     };
     let (logic, mul, div) = (*logic, *mul, *div);
@@ -147,11 +154,19 @@ fn changes_of(alloc: Global, field: &str, net: &Checked) -> Result<Vec<Change>>
     Ok(changes)
 }
 
+/// The change of a net's channel that a channel, slots and a delay tell.
 fn change_of(alloc: Global, words: &str, net: &Checked) -> Result<Change>
     ensures { IfOk result (λ (x : Change). x.chan < length net.now.chans) }
 {
     let numbers = words_as_numbers(alloc, words)?;
-    let [chan, slots, delay] = *numbers.as_slice() else {
+    change_by(numbers.as_slice(), net)
+}
+
+/// The same of numbers.
+fn change_by(numbers: &[u32], net: &Checked) -> Result<Change>
+    ensures { IfOk result (λ (x : Change). x.chan < length net.now.chans) }
+{
+    let [chan, slots, delay] = *numbers else {
         bail!("a change is three numbers");
     };
     let count = net.net().chans.as_slice().len();
