@@ -26,9 +26,7 @@ struct Ends {
 enum Call {
     Ready,
     Peek,
-    Take {
-        stamp: u64,
-    },
+    Take { stamp: u64 },
     Flush,
     Put(Token),
 }

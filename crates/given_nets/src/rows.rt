@@ -79,26 +79,14 @@ impl Rows {
         fields: &[&str],
         out: &mut Output,
     ) -> Result<()> {
-        let [first, second, rest @ ..] = fields else {
-            bail!("a line of {self:?} of other fields");
-        };
-        if rest.is_empty() && self.is_of_pairs() {
-            return self.put_pair(alloc, first, second, out);
-        }
-        put_asked(rt, alloc, first, second, self.asked(rest)?, out)
-    }
-
-    /// Whether its lines are of places, of changes or of links, each of two fields.
-    fn is_of_pairs(self) -> bool {
-        matches!(self, Rows::Places | Rows::Changes | Rows::Links)
-    }
-
-    /// Writes the answer to a line of places, of changes or else of links, each of two fields.
-    fn put_pair(self, alloc: Global, first: &str, second: &str, out: &mut Output) -> Result<()> {
-        match self {
-            Rows::Places => put_placed(alloc, first, second, out),
-            Rows::Changes => put_retimed(alloc, first, second, out),
-            _ => put_calls(alloc, first, second, out),
+        match (self, fields) {
+            (Rows::Places, [net, timing]) => put_placed(alloc, net, timing, out),
+            (Rows::Changes, [net, changes]) => put_retimed(alloc, net, changes, out),
+            (Rows::Links, [slots, calls]) => put_calls(alloc, slots, calls, out),
+            (rows, [net, inputs, rest @ ..]) => {
+                put_asked(rt, alloc, net, inputs, rows.asked(rest)?, out)
+            }
+            (rows, _) => bail!("a line of {rows:?} of other fields"),
         }
     }
 
