@@ -85,12 +85,27 @@ pub fn put_count<R: Threads + Sync>(
     let [words, front, kernel] = fields else {
         bail!("a line is the words of a call, a beginning and a kernel");
     };
+    let compiled = answer_on_kernel(rt, alloc, words, kernel)?;
+    put_lines(compiled.code, compiled.out.bytes(), front, out)
+}
+
+/// The answer of a call on sound devices with the kernel of a field.
+fn answer_on_kernel<R: Threads + Sync>(
+    rt: &R,
+    alloc: Global,
+    words: &str,
+    kernel: &str,
+) -> Result<Answered> {
     let kernel = text_within(alloc, kernel, MAX_KERNEL_BYTES)?;
-    let compiled = sound(rt, alloc, words, &[("k", kernel.as_slice())])?;
-    let text = std::str::from_utf8(compiled.out.bytes())
+    sound(rt, alloc, words, &[("k", kernel.as_slice())])
+}
+
+/// Writes a status, and how many lines of a text begin with these words.
+fn put_lines(code: u8, text: &[u8], front: &str, out: &mut Output) -> Result<()> {
+    let text = std::str::from_utf8(text)
         .ok()
         .context("a text of other bytes")?;
-    out.number(compiled.code);
+    out.number(code);
     out.word(": ");
     out.number(lines_of(text, front));
     out.word(" lines of '");

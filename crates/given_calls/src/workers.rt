@@ -1,5 +1,5 @@
 //! Calls by workers that a gate stops or lets meet, and schedules of workers that are replayed.
-use crate::calls::SOUND;
+use crate::calls::{Answered, SOUND};
 use crate::gates::Stop;
 use crate::tries::{Told, answer_on, parted, put_answered, put_call_with, put_parts};
 use anyhow::{Context, Result, bail};
@@ -65,6 +65,17 @@ pub fn put_replayed<R: Threads + Sync>(
         bail!("a line is the words of a run, and files");
     };
     let run = answer_on(rt, alloc, words, files, &SOUND, &Open)?;
+    put_run_and_replay(rt, alloc, files, &run, out)
+}
+
+/// The same of a run that has answered.
+fn put_run_and_replay<R: Threads + Sync>(
+    rt: &R,
+    alloc: Global,
+    files: &[&str],
+    run: &Answered,
+    out: &mut Output,
+) -> Result<()> {
     let (results, schedule) = parted(run.out.bytes())?.context("no schedule")?;
     put_parts(alloc, run.code, results, run.err.bytes(), out)?;
     out.word("\t");
