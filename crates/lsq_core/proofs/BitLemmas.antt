@@ -26,7 +26,7 @@ set_is words i v b l here other = record {
     at j ne (inr d) = rw (get_or-set_other words (i / 64) (j / 64) v 0 d) refl
 
 -- the bits of a word that is shifted
-shifted : (v k t : ℕ) → bit_at (v / 2 ^ k) t ≡ bit_at v (k + t)
+pub shifted : (v k t : ℕ) → bit_at (v / 2 ^ k) t ≡ bit_at v (k + t)
 shifted v k t = ap (λ n. n % 2) (div-div-eq-div-mul v (2 ^ k) (2 ^ t) ∙ ap (λ n. v / n) (sym (pow-add 2 k t)))
 
 has_shift : (words : List ℕ) (at t : ℕ) → at % 64 + t < 64 → has words (at + t) ≡ eqb (bit_at (get_or words (at / 64) 0 / 2 ^ (at % 64)) t) 1

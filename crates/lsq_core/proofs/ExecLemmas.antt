@@ -11,8 +11,8 @@ use Rattle.lsq_core.specs.Acts.{lets, known, waiting, same, last_such, later, or
 use Rattle.lsq_core.specs.Acts.{QueueState}
 use Rattle.lsq_core.specs.Views.{InOrder, entry_at, blank, count_of, serial_of, oldest_of}
 use Rattle.lsq_core.specs.Wants.{IsFirst, NoneBelow, HasNone}
-use Rattle.lsq_core.specs.Index.{bucket, row_of, in_row, filled, clear, runs, reached, IsNextIn, HasNoMoreIn}
-use Rattle.lsq_core.proofs.PlaceLemmas.{all_pass, find_first}
+use Rattle.lsq_core.specs.Index.{bucket, row_of, in_row, filled, clear, runs, reached, IsClearBelow, IsNextIn, HasNoMoreIn}
+use Rattle.lsq_core.proofs.PlaceLemmas.{all_pass, find_first, none_last}
 use Rattle.lsq_core.proofs.EntryLemmas.{and_true, and_inv}
 use Rattle.lsq_core.proofs.PairLemmas.{same_eq}
 
@@ -88,6 +88,14 @@ pub filled_none : (m : Marks) (side : Bool) (r : ℕ) (x : Entry) (ys items : Li
     → HasNoMoreIn m r 0 ys → true ≡ list_all (filled side x) items
 filled_none m side r x ys items k re is h = rw (← is) (sym (all_pass (filled side x) ys (λ j l. blank_row m side r x (entry_at ys j) k re (h j (omega arith) l))))
 
+younger_too : (q : QueueState) (ys : List Entry) (at j : ℕ) (x : Entry) → ys ≡ q.items → InOrder q → at < length ys → at ≤ j → j < length q.items
+    → x.serial ≤ (entry_at q.items at).serial → nat_lt (entry_at q.items j).serial x.serial ≡ false
+younger_too q ys at j x is order w b l le =
+    let len = ap length is in
+    let a = order at (omega arith) in
+    let c = order j l in
+    le-ltb (entry_at q.items j).serial x.serial (omega arith)
+
 pub filled_some : (m : Marks) (side : Bool) (r at : ℕ) (x : Entry) (q : QueueState) (ys : List Entry) → m.kind ≡ kind.Blank → r ≡ count_of side → ys ≡ q.items
     → InOrder q → IsNextIn m r 0 at ys → x.serial ≤ (entry_at q.items at).serial → true ≡ list_all (filled side x) q.items
 filled_some m side r at x q ys k re is order n le = sym (all_pass (filled side x) q.items (λ j l. by j l (cases_lt j at)))
@@ -95,13 +103,8 @@ filled_some m side r at x q ys k re is order n le = sym (all_pass (filled side x
     by : (j : ℕ) → j < length q.items → (j < at) ⊎ (at ≤ j) → filled side x (entry_at q.items j) ≡ true
     by j l (inl b) = blank_row m side r x (entry_at q.items j) k re (rw (← is) (n.before j (omega arith) b))
     by j l (inr b) =
-        let w = n.within in
-        let len = ap length is in
-        let a = order at (omega arith) in
-        let c = order j l in
-        let past : x.serial ≤ (entry_at q.items j).serial = omega arith in
-        let older = le-ltb (entry_at q.items j).serial x.serial past in
-        not_older (nat_lt (entry_at q.items j).serial x.serial) ((count_of (entry_at q.items j).store == count_of side) && is_none (entry_at q.items j).addr) older
+        not_older (nat_lt (entry_at q.items j).serial x.serial) ((count_of (entry_at q.items j).store == count_of side) && is_none (entry_at q.items j).addr)
+        (younger_too q ys at j x is order n.within b l le)
 
 -- what stands in another row of addresses
 pending_row : (rows r : ℕ) (side : Bool) (x o : Entry) → r ≡ row_of kind.Pending rows (record x { store = side }) → in_row kind.Pending rows r o ≡ false
@@ -143,11 +146,38 @@ waiting_row m r x o k re out = by (nat_lt o.serial x.serial) o.store o.addr o.do
         at false g = refl
 
 -- the walk along a row of addresses
-abbrev pub ClearBelow : Bool → Entry → List Entry → ℕ → Type 0
-ClearBelow side x items n = (k : ℕ) → k < n → clear side x (entry_at items k) ≡ true
+pub clear_before : (m : Marks) (r at : ℕ) (side : Bool) (x : Entry) (ys items : List Entry) → m.kind ≡ kind.Pending → r ≡ row_of kind.Pending m.rows (record x { store = side }) → ys ≡ items
+    → IsNextIn m r 0 at ys → IsClearBelow side x items at
+clear_before m r at side x ys items k re is n j l = clear_row m r side x (entry_at items j) k re (rw (← is) (n.before j (omega arith) l))
+
+pub clear_past : (m : Marks) (r at : ℕ) (side : Bool) (x : Entry) (q : QueueState) (ys : List Entry) → m.kind ≡ kind.Pending → r ≡ row_of kind.Pending m.rows (record x { store = side }) → ys ≡ q.items
+    → InOrder q → IsNextIn m r 0 at ys → x.serial ≤ (entry_at q.items at).serial → true ≡ list_all (clear side x) q.items
+clear_past m r at side x q ys k re is order n le = sym (all_pass (clear side x) q.items (λ j l. by j l (cases_lt j at)))
+  where
+    by : (j : ℕ) → j < length q.items → (j < at) ⊎ (at ≤ j) → clear side x (entry_at q.items j) ≡ true
+    by j l (inl b) = clear_before m r at side x ys q.items k re is n j b
+    by j l (inr b) =
+        not_older (nat_lt (entry_at q.items j).serial x.serial) ((count_of (entry_at q.items j).store == count_of side) && ((is_some (entry_at q.items j).addr && not (entry_at q.items j).done) && same (entry_at q.items j).addr x.addr))
+        (younger_too q ys at j x is order n.within b l le)
+
+pub waits_before : (m : Marks) (r at : ℕ) (x : Entry) (ys items : List Entry) → m.kind ≡ kind.Pending → r ≡ row_of kind.Pending m.rows (record x { store = true }) → ys ≡ items
+    → IsNextIn m r 0 at ys → NoneBelow (waiting x) items at
+waits_before m r at x ys items k re is n j l = waiting_row m r x (entry_at items j) k re (rw (← is) (n.before j (omega arith) l))
+
+pub waits_past : (m : Marks) (r at : ℕ) (x : Entry) (q : QueueState) (ys : List Entry) → m.kind ≡ kind.Pending → r ≡ row_of kind.Pending m.rows (record x { store = true }) → ys ≡ q.items
+    → InOrder q → IsNextIn m r 0 at ys → x.serial ≤ (entry_at q.items at).serial → None ≡ last_such (waiting x) q.items
+waits_past m r at x q ys k re is order n le = none_last (waiting x) q.items (λ j f l. by j l (cases_lt j at))
+  where
+    by : (j : ℕ) → j < length q.items → (j < at) ⊎ (at ≤ j) → waiting x (entry_at q.items j) ≡ false
+    by j l (inl b) = waits_before m r at x ys q.items k re is n j b
+    by j l (inr b) = let e = younger_too q ys at j x is order n.within b l le in rw e refl
+
+pub waits_none : (m : Marks) (r : ℕ) (x : Entry) (ys items : List Entry) → m.kind ≡ kind.Pending → r ≡ row_of kind.Pending m.rows (record x { store = true }) → ys ≡ items
+    → HasNoMoreIn m r 0 ys → None ≡ last_such (waiting x) items
+waits_none m r x ys items k re is n = none_last (waiting x) items (λ j f l. waiting_row m r x (entry_at items j) k re (rw (← is) (n j f (rw is l))))
 
 pub clear_more : (m : Marks) (r from at : ℕ) (side : Bool) (x : Entry) (ys items : List Entry) → m.kind ≡ kind.Pending → r ≡ row_of kind.Pending m.rows (record x { store = side }) → ys ≡ items
-    → ClearBelow side x items from → IsNextIn m r from at ys → not (clear side x (entry_at items at)) ≡ false → ClearBelow side x items (at + 1)
+    → IsClearBelow side x items from → IsNextIn m r from at ys → not (clear side x (entry_at items at)) ≡ false → IsClearBelow side x items (at + 1)
 clear_more m r from at side x ys items k re is h n e j l = by (cases_lt j from) (cases_lt j at)
   where
     by : (j < from) ⊎ (from ≤ j) → (j < at) ⊎ (at ≤ j) → clear side x (entry_at items j) ≡ true
@@ -156,7 +186,7 @@ clear_more m r from at side x ys items k re is h n e j l = by (cases_lt j from) 
     by (inr b) (inr c) = let s : j ≡ at = omega arith in rw s (not-false (clear side x (entry_at items at)) e)
 
 pub clear_all : (m : Marks) (r from : ℕ) (side : Bool) (x : Entry) (ys items : List Entry) → m.kind ≡ kind.Pending → r ≡ row_of kind.Pending m.rows (record x { store = side }) → ys ≡ items
-    → ClearBelow side x items from → HasNoMoreIn m r from ys → true ≡ list_all (clear side x) items
+    → IsClearBelow side x items from → HasNoMoreIn m r from ys → true ≡ list_all (clear side x) items
 clear_all m r from side x ys items k re is h n = sym (all_pass (clear side x) items (λ j l. by j l (cases_lt j from)))
   where
     by : (j : ℕ) → j < length items → (j < from) ⊎ (from ≤ j) → clear side x (entry_at items j) ≡ true
@@ -189,6 +219,13 @@ last_take t (x ∷ xs) zero (suc j) l h =
 last_take t (x ∷ xs) (suc i) zero l h = absurd (omega arith)
 last_take t (x ∷ xs) (suc i) (suc j) l h = ap (λ o. later o (t x) x) (last_take t xs i j (omega arith) (λ k a b c. h (suc k) (omega arith) (omega arith) (omega arith)))
 
+pub source_none : (x : Entry) (items : List Entry) (n : ℕ) → NoneBelow (waiting x) items n → None ≡ last_such (waiting x) (take n items)
+source_none x items n h = sym (last_take (waiting x) items 0 n (omega arith) (λ k a b c. h k b) ∙ ap (last_such (waiting x)) (take_none items))
+  where
+    take_none : (xs : List Entry) → take 0 xs ≡ []
+    take_none [] = refl
+    take_none (y ∷ ys) = refl
+
 pub source_more : (m : Marks) (r from at : ℕ) (x : Entry) (f g : Option Entry) (ys items : List Entry) → m.kind ≡ kind.Pending → r ≡ row_of kind.Pending m.rows (record x { store = true }) → ys ≡ items
     → f ≡ last_such (waiting x) (take from items) → IsNextIn m r from at ys → g ≡ cond (waiting x (entry_at items at)) (Some (entry_at items at)) f → g ≡ last_such (waiting x) (take (at + 1) items)
 source_more m r from at x f g ys items k re is h n made =
@@ -201,6 +238,23 @@ pub source_all : (m : Marks) (r from : ℕ) (x : Entry) (f : Option Entry) (ys i
     → f ≡ last_such (waiting x) (take from items) → from ≤ length items → HasNoMoreIn m r from ys → f ≡ last_such (waiting x) items
 source_all m r from x f ys items k re is h l n =
     h ∙ sym (last_take (waiting x) items from (length items) l (λ j a b c. waiting_row m r x (entry_at items j) k re (rw (← is) (n j a (rw is c))))) ∙ ap (last_such (waiting x)) (take-length items)
+
+-- one place more, where b tells whether the entry there is such a store
+pub younger_entry : (load : Entry) (items : List Entry) (at : ℕ) (x : Entry) (b : Bool) (f g : Option ℕ) → x ≡ entry_at items at → b ≡ waiting load x → g ≡ cond b (Some at) f
+    → option_map (entry_at items) g ≡ cond (waiting load (entry_at items at)) (Some (entry_at items at)) (option_map (entry_at items) f)
+younger_entry load items at x b f g is told made = ap (option_map (entry_at items)) made ∙ by b ∙ ap (λ c. cond c (Some (entry_at items at)) (option_map (entry_at items) f)) (told ∙ ap (waiting load) is)
+  where
+    by : (b : Bool) → option_map (entry_at items) (cond b (Some at) f) ≡ cond b (Some (entry_at items at)) (option_map (entry_at items) f)
+    by true = refl
+    by false = refl
+
+pub younger_within : (b : Bool) (n at : ℕ) (f g : Option ℕ) → g ≡ cond b (Some at) f → at < n → ((k : ℕ) → f ≡ Some k → k < n) → (k : ℕ) → g ≡ Some k → k < n
+younger_within true n at f g made l h k is = let e : at ≡ k = ap (or_else at) (sym made ∙ is) in omega arith
+  where
+    or_else : ℕ → Option ℕ → ℕ
+    or_else d None = d
+    or_else d (Some j) = j
+younger_within false n at f g made l h k is = h k (sym made ∙ is)
 
 -- entries that are ready, and reached by the addresses before them
 
@@ -229,6 +283,10 @@ runs_more m side fw r from at x b ys items k re is h n xe be e j l = by (cases_l
         let s : j ≡ at = omega arith in
         let f : executes fw items (entry_at items at) ≡ false = ap (executes fw items) (sym xe) ∙ sym be ∙ e in
         rw s (out (count_of (entry_at items at).store == count_of side) (executes fw items (entry_at items at)) f)
+
+pub runs_before : (m : Marks) (side fw : Bool) (r at : ℕ) (ys items : List Entry) → m.kind ≡ kind.Ready → r ≡ count_of side → ys ≡ items
+    → IsNextIn m r 0 at ys → NoneBelow (runs side fw items) items at
+runs_before m side fw r at ys items k re is n j l = ready_row m side fw r items (entry_at items j) k re (rw (← is) (n.before j (omega arith) l))
 
 pub runs_found : (m : Marks) (side fw : Bool) (r from at : ℕ) (x : Entry) (b : Bool) (ys items : List Entry) → m.kind ≡ kind.Ready → r ≡ count_of side → ys ≡ items
     → NoneBelow (runs side fw items) items from → IsNextIn m r from at ys → x ≡ entry_at items at → b ≡ executes fw items x → b ≡ true → IsFirst (runs side fw items) items at

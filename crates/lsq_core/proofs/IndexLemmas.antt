@@ -1,5 +1,5 @@
 -- Rows of places in a ring, as entries change, are added and are dropped.
-use Rattle.std.proofs.Common.{◌≡◌, ℕ, suc, ◌+◌, ◌-◌, ◌*◌, ◌/◌, ◌%◌, ◌^◌, ◌<◌, ◌≤◌, ◌⊎◌, ◌&&◌, nat_lt, max, Bool, true, false, Option, Some, None, List, [], ◌∷◌, ◌++◌, length, set, eqb, refl, sym, ap, ◌∙◌, inl, inr, arith}
+use Rattle.std.proofs.Common.{◌≡◌, ℕ, suc, ◌+◌, ◌-◌, ◌*◌, ◌/◌, ◌%◌, ◌^◌, ◌<◌, ◌≤◌, ◌⊎◌, ◌&&◌, nat_lt, max, Bool, true, false, Option, Some, None, List, [], ◌∷◌, ◌++◌, length, set, eqb, refl, sym, ap, subst, ◌∙◌, inl, inr, arith}
 use Rattle.std.proofs.Math.Nat.{mul-le-mul_right, mod-lt}
 use Rattle.std.proofs.lemmas.Bool.{cases_eq, cases_lt, lt-ltb, le-ltb, ne_eqb, eq-eqb, false≢true}
 use Rattle.std.proofs.lemmas.List.{get_or-set_same, get_or-set_other, length-set, length_push, get_or_push, get_or_append_left}
@@ -10,7 +10,7 @@ use Rattle.lsq_core.specs.declared.marks.Marks.{Marks}
 use Rattle.lsq_core.specs.Acts.{rest, or_zero}
 use Rattle.lsq_core.specs.Views.{entry_at, front_of, count_of}
 use Rattle.lsq_core.specs.Bits.{has, IsSet, IsNext}
-use Rattle.lsq_core.specs.Index.{bucket, row_of, stands, in_row, wrapped, shown, HasRoom, AreAlike, Shows, KeepsShape, IsMarks, IsNextIn}
+use Rattle.lsq_core.specs.Index.{bucket, buckets, row_of, stands, in_row, wrapped, shown, HasRoom, AreAlike, Shows, KeepsShape, IsMarks, IsNextIn}
 
 -- places of a ring
 pub wrapped_cases : (w h k : ℕ) → ((h + k < w) × (wrapped w h k ≡ h + k)) ⊎ ((w ≤ h + k) × (wrapped w h k + w ≡ h + k))
@@ -19,6 +19,12 @@ wrapped_cases w h k = by (cases_lt (h + k) w)
     by : (h + k < w) ⊎ (w ≤ h + k) → ((h + k < w) × (wrapped w h k ≡ h + k)) ⊎ ((w ≤ h + k) × (wrapped w h k + w ≡ h + k))
     by (inl l) = inl (l, (let e : nat_lt (h + k) w ≡ true = lt-ltb (h + k) w l in rw e refl))
     by (inr l) = inr (l, (let e : nat_lt (h + k) w ≡ false = le-ltb (h + k) w l in rw e (omega arith)))
+
+pub high : (w h k : ℕ) → h + k < w → wrapped w h k ≡ h + k
+high w h k l = let e : nat_lt (h + k) w ≡ true = lt-ltb (h + k) w l in rw e refl
+
+pub low : (w h k : ℕ) → w ≤ h + k → wrapped w h k ≡ h + k - w
+low w h k l = let e : nat_lt (h + k) w ≡ false = le-ltb (h + k) w l in rw e refl
 
 pub wrapped_below : (w h k : ℕ) → h < w → k < w → wrapped w h k < w
 wrapped_below w h k hl kl = by (wrapped_cases w h k)
@@ -96,6 +102,28 @@ change_shown kd rows w head at b0 b1 b2 items x y hl al l most is h s t r k rl k
         let b = s.other (slot w head r k) (λ q. ne (slots_apart w head r (row_of kd rows x) k at hl kl al q).1) in
         let c : shown kd rows r (set items at y) k ≡ shown kd rows r items k = rw (length-set items at y, get_or-set_other items at k y _ ne) refl in
         a ∙ b ∙ h r k rl kl ∙ sym c
+
+-- one entry becomes another of its row
+kept_shown : (kd : Kind) (rows w head at : ℕ) (b0 b1 : List ℕ) (items : List Entry) (y : Entry) → head < w → at < w → at < length items
+    → row_of kd rows (entry_at items at) ≡ row_of kd rows y → Shown kd rows w b0 head items
+    → IsSet (slot w head (row_of kd rows y) at) (stands kd y) b0 b1 → Shown kd rows w b1 head (set items at y)
+kept_shown kd rows w head at b0 b1 items y hl al l same h t r k rl kl = by (cases_eq k at)
+  where
+    after : shown kd rows r (set items at y) at ≡ in_row kd rows r y
+    after = shown_within kd rows r at (set items at y) y (rw (length-set items at y) l) (get_or-set_same items at y _ l)
+
+    here : (r ≡ row_of kd rows y) ⊎ (r ≡ row_of kd rows y → ⊥) → has b1 (slot w head r at) ≡ shown kd rows r (set items at y) at
+    here (inl own) = ap (λ q. has b1 (slot w head q at)) own ∙ t.here ∙ sym (after ∙ own_row kd rows r y own)
+    here (inr out) =
+        t.other (slot w head r at) (λ q. out (slots_apart w head r (row_of kd rows y) at at hl al al q).0)
+        ∙ h r at rl al ∙ shown_within kd rows r at items (entry_at items at) l refl ∙ other_row kd rows r (entry_at items at) (λ q. out (q ∙ same))
+        ∙ sym (after ∙ other_row kd rows r y out)
+
+    by : (k ≡ at) ⊎ (k ≡ at → ⊥) → has b1 (slot w head r k) ≡ shown kd rows r (set items at y) k
+    by (inl e) = rw e (here (cases_eq r (row_of kd rows y)))
+    by (inr ne) =
+        let c : shown kd rows r (set items at y) k ≡ shown kd rows r items k = rw (length-set items at y, get_or-set_other items at k y _ ne) refl in
+        t.other (slot w head r k) (λ q. ne (slots_apart w head r (row_of kd rows y) k at hl kl al q).1) ∙ h r k rl kl ∙ sym c
 
 pub add_shown : (kd : Kind) (rows w head at : ℕ) (b0 b1 : List ℕ) (items : List Entry) (y : Entry) → head < w → at < w → length items ≡ at
     → Shown kd rows w b0 head items → IsSet (slot w head (row_of kd rows y) at) (stands kd y) b0 b1 → Shown kd rows w b1 head (items ++ y ∷ [])
@@ -189,44 +217,76 @@ shows_after m n head head' items k r w len room hl most shown within = record {
   rows = λ a al. rw (k, r) (within a al);
 }
 
-pub changed : (m n o : Marks) (head at r s : ℕ) (b : Bool) (items : List Entry) (x y : Entry) → at < m.width → row_of m.kind m.rows y < m.rows
-    → r ≡ row_of m.kind m.rows x → KeepsShape m n → IsSet (slot m.width head r at) false m.bits n.bits
-    → s ≡ row_of n.kind n.rows y → b ≡ stands n.kind y → KeepsShape n o → IsSet (slot n.width head s at) b n.bits o.bits
-    → at < length items → entry_at items at ≡ x → Shows m head items → Shows o head (set items at y)
-changed m n o head at r s b items x y al yl re mn p se be nn q l is h =
-    let re' : s ≡ row_of m.kind m.rows y = se ∙ (λ i. row_of (mn.kind i) (mn.rows i) y) in
-    let be' : b ≡ stands m.kind y = be ∙ ap (λ k. stands k y) mn.kind in
-    let p' : IsSet (slot m.width head (row_of m.kind m.rows x) at) false m.bits n.bits = rw (← re) p in
-    let q' : IsSet (slot m.width head (row_of m.kind m.rows y) at) (stands m.kind y) n.bits o.bits = rw (← re', ← be', ← mn.width) q in
-    shows_after m o head head (set items at y) (nn.kind ∙ mn.kind) (nn.rows ∙ mn.rows) (nn.width ∙ mn.width) (q.size ∙ p.size) h.room h.within (rw (length-set items at y) h.most)
-    (change_shown m.kind m.rows m.width head at m.bits n.bits o.bits items x y h.within al l h.most is h.shows p' q')
-    (λ k kl. row k (rw (← length-set items at y) kl) (cases_eq k at))
+rows_set : (kd : Kind) (rows at : ℕ) (items : List Entry) (y : Entry) → at < length items → row_of kd rows y < rows
+    → ((k : ℕ) → k < length items → row_of kd rows (entry_at items k) < rows) → (k : ℕ) → k < length items → row_of kd rows (entry_at (set items at y) k) < rows
+rows_set kd rows at items y l yl within k kl = by (cases_eq k at)
   where
-    row : (k : ℕ) → k < length items → (k ≡ at) ⊎ (k ≡ at → ⊥) → row_of m.kind m.rows (entry_at (set items at y) k) < m.rows
-    row k kl (inl e) = rw (e, get_or-set_same items at y _ l) yl
-    row k kl (inr ne) = rw (get_or-set_other items at k y _ ne) (h.rows k kl)
+    by : (k ≡ at) ⊎ (k ≡ at → ⊥) → row_of kd rows (entry_at (set items at y) k) < rows
+    by (inl e) = rw (e, get_or-set_same items at y _ l) yl
+    by (inr ne) = rw (get_or-set_other items at k y _ ne) (within k kl)
 
-pub added : (m n : Marks) (head at r : ℕ) (b : Bool) (items : List Entry) (y : Entry) → at < m.width → row_of m.kind m.rows y < m.rows
-    → r ≡ row_of m.kind m.rows y → b ≡ stands m.kind y → KeepsShape m n → IsSet (slot m.width head r at) b m.bits n.bits
-    → length items ≡ at → Shows m head items → Shows n head (items ++ y ∷ [])
-added m n head at r b items y al yl re be mn p l h =
-    let p' : IsSet (slot m.width head (row_of m.kind m.rows y) at) (stands m.kind y) m.bits n.bits = rw (← re, ← be) p in
+pub changed_in_row : (m n : Marks) (kd : Kind) (place r : ℕ) (b : Bool) (y : Entry) → m.kind ≡ kd → row_of kd m.rows y < m.rows
+    → r ≡ row_of kd m.rows y → b ≡ stands kd y → KeepsShape m n → IsSet (r * m.width + place) b m.bits n.bits
+    → (head at : ℕ) (items : List Entry) → place ≡ wrapped m.width head at → at < length items → row_of kd m.rows (entry_at items at) ≡ row_of kd m.rows y
+    → Shows m head items → Shows n head (set items at y)
+changed_in_row m n kd place r b y ke yl re be mn p head at items pe l same h =
+    let re' : r ≡ row_of m.kind m.rows y = re ∙ ap (λ k. row_of k m.rows y) (sym ke) in
+    let be' : b ≡ stands m.kind y = be ∙ ap (λ k. stands k y) (sym ke) in
+    let yl' : row_of m.kind m.rows y < m.rows = rw ke yl in
+    let same' : row_of m.kind m.rows (entry_at items at) ≡ row_of m.kind m.rows y = rw ke same in
+    let p' : IsSet (slot m.width head (row_of m.kind m.rows y) at) (stands m.kind y) m.bits n.bits = rw (← re', ← be', ← pe) p in
+    let most = h.most in
+    shows_after m n head head (set items at y) mn.kind mn.rows mn.width p.size h.room h.within (rw (length-set items at y) h.most)
+    (kept_shown m.kind m.rows m.width head at m.bits n.bits items y h.within (omega arith) l same' h.shows p')
+    (λ k kl. rows_set m.kind m.rows at items y l yl' h.rows k (rw (← length-set items at y) kl))
+
+pub changed : (m n o : Marks) (kd : Kind) (place s : ℕ) (b : Bool) (x y : Entry) → m.kind ≡ kd → row_of kd m.rows y < m.rows → KeepsShape m n
+    → ((head at : ℕ) (items : List Entry) → place ≡ wrapped m.width head at → at < length items → entry_at items at ≡ x → Shows m head items → IsSet (row_of kd m.rows x * m.width + place) false m.bits n.bits)
+    → s ≡ row_of kd n.rows y → b ≡ stands kd y → KeepsShape n o → IsSet (s * n.width + place) b n.bits o.bits
+    → (head at : ℕ) (items : List Entry) → place ≡ wrapped m.width head at → at < length items → entry_at items at ≡ x → Shows m head items → Shows o head (set items at y)
+changed m n o kd place s b x y ke yl mn leaves se be nn q head at items pe l is h =
+    let p = leaves head at items pe l is h in
+    let se' : s ≡ row_of m.kind m.rows y = se ∙ (λ i. row_of (sym ke i) (mn.rows i) y) in
+    let be' : b ≡ stands m.kind y = be ∙ ap (λ k. stands k y) (sym ke) in
+    let yl' : row_of m.kind m.rows y < m.rows = rw ke yl in
+    let p' : IsSet (slot m.width head (row_of m.kind m.rows x) at) false m.bits n.bits = rw (ke, ← pe) p in
+    let q' : IsSet (slot m.width head (row_of m.kind m.rows y) at) (stands m.kind y) n.bits o.bits = rw (← se', ← be', ← pe, ← mn.width) q in
+    let most = h.most in
+    shows_after m o head head (set items at y) (nn.kind ∙ mn.kind) (nn.rows ∙ mn.rows) (nn.width ∙ mn.width) (q.size ∙ p.size) h.room h.within (rw (length-set items at y) h.most)
+    (change_shown m.kind m.rows m.width head at m.bits n.bits o.bits items x y h.within (omega arith) l h.most is h.shows p' q')
+    (λ k kl. rows_set m.kind m.rows at items y l yl' h.rows k (rw (← length-set items at y) kl))
+
+added : (m n : Marks) (kd : Kind) (place r : ℕ) (b : Bool) (y : Entry) → m.kind ≡ kd → row_of kd m.rows y < m.rows
+    → r ≡ row_of kd m.rows y → b ≡ stands kd y → KeepsShape m n
+    → (head : ℕ) (items : List Entry) → IsSet (r * m.width + place) b m.bits n.bits → place ≡ wrapped m.width head (length items) → length items < m.width
+    → Shows m head items → Shows n head (items ++ y ∷ [])
+added m n kd place r b y ke yl re be mn head items p pe l h =
+    let re' : r ≡ row_of m.kind m.rows y = re ∙ ap (λ k. row_of k m.rows y) (sym ke) in
+    let be' : b ≡ stands m.kind y = be ∙ ap (λ k. stands k y) (sym ke) in
+    let yl' : row_of m.kind m.rows y < m.rows = rw ke yl in
+    let p' : IsSet (slot m.width head (row_of m.kind m.rows y) (length items)) (stands m.kind y) m.bits n.bits = rw (← re', ← be', ← pe) p in
     let len = length_push items y in
     shows_after m n head head (items ++ y ∷ []) mn.kind mn.rows mn.width p.size h.room h.within (omega arith)
-    (add_shown m.kind m.rows m.width head at m.bits n.bits items y h.within al l h.shows p')
-    (λ k kl. row k (cases_lt k (length items)) kl)
+    (add_shown m.kind m.rows m.width head (length items) m.bits n.bits items y h.within l refl h.shows p')
+    (λ k kl. row yl' k (cases_lt k (length items)) kl)
   where
-    row : (k : ℕ) → (k < length items) ⊎ (length items ≤ k) → k < length (items ++ y ∷ []) → row_of m.kind m.rows (entry_at (items ++ y ∷ []) k) < m.rows
-    row k (inl i) kl = rw (get_or_append_left items (y ∷ []) _ k i) (h.rows k i)
-    row k (inr i) kl = let len = length_push items y in let e : length items ≡ k = omega arith in rw (get_or_push items y _ k e) yl
+    row : row_of m.kind m.rows y < m.rows → (k : ℕ) → (k < length items) ⊎ (length items ≤ k) → k < length (items ++ y ∷ []) → row_of m.kind m.rows (entry_at (items ++ y ∷ []) k) < m.rows
+    row yl' k (inl i) kl = rw (get_or_append_left items (y ∷ []) _ k i) (h.rows k i)
+    row yl' k (inr i) kl = let len = length_push items y in let e : length items ≡ k = omega arith in rw (get_or_push items y _ k e) yl'
 
-pub retired : (m n : Marks) (head r : ℕ) (items : List Entry) (x : Entry) → r ≡ row_of m.kind m.rows x → KeepsShape m n → IsSet (slot m.width head r 0) false m.bits n.bits
+pub added_in : (m n : Marks) (kd : Kind) (place r : ℕ) (b : Bool) (y : Entry) → m.kind ≡ kd → row_of kd m.rows y < m.rows
+    → r ≡ row_of kd m.rows y → b ≡ stands kd y → KeepsShape m n → IsSet (r * m.width + place) b m.bits n.bits
+    → (head : ℕ) (items : List Entry) → place ≡ wrapped m.width head (length items) → length items < m.width
+    → Shows m head items → Shows n head (items ++ y ∷ [])
+added_in m n kd place r b y ke yl re be mn p head items = added m n kd place r b y ke yl re be mn head items p
+
+retired_by : (m n : Marks) (head r : ℕ) (items : List Entry) (x : Entry) → r ≡ row_of m.kind m.rows x → KeepsShape m n → IsSet (slot m.width head r 0) false m.bits n.bits
     → front_of items ≡ Some x → Shows m head items → Shows n (wrapped m.width head 1) (rest items)
-retired m n head r [] x re mn p is h = absurd (is_some_none is)
+retired_by m n head r [] x re mn p is h = absurd (is_some_none is)
   where
     is_some_none : None ≡ Some x → ⊥
     is_some_none e = cc
-retired m n head r (z ∷ zs) x re mn p is h =
+retired_by m n head r (z ∷ zs) x re mn p is h =
     let p' : IsSet (slot m.width head (row_of m.kind m.rows z) 0) false m.bits n.bits = rw (own, ← re) p in
     let w : wrapped m.width head 1 < m.width = below (wrapped_cases m.width head 1) in
     let most : suc (length zs) ≤ m.width = h.most in
@@ -245,7 +305,47 @@ retired m n head r (z ∷ zs) x re mn p is h =
     below (inl t) = let a = t.1 in let b = t.0 in omega arith
     below (inr t) = let a = t.1 in let b = h.within in omega arith
 
--- entries that stand in the same rows, or in none
+-- what the sets show once something is made of an entry, where x becomes y
+pub now_shows : (m n : Marks) (kd : Kind) (rows w place head at : ℕ) (items : List Entry) (x new y : Entry) → IsMarks kd rows w m → place ≡ wrapped w head at
+    → at < length items → entry_at items at ≡ x → new ≡ y → row_of kd m.rows x ≡ row_of kd m.rows y
+    → ((head at : ℕ) (items : List Entry) → place ≡ wrapped m.width head at → at < length items → row_of kd m.rows (entry_at items at) ≡ row_of kd m.rows new → Shows m head items → Shows n head (set items at new))
+    → Shows m head items → Shows n head (set items at y)
+now_shows m n kd rows w place head at items x new y i pe l is made same change h =
+    let P : Entry → Type 0 = λ z. Shows n head (set items at z) in
+    subst P made (change head at items (rw i.width pe) l (ap (row_of kd m.rows) is ∙ same ∙ ap (row_of kd m.rows) (sym made)) h)
+
+pub shifted_shows : (m n : Marks) (kd : Kind) (rows w place head at : ℕ) (items : List Entry) (x new y : Entry) → IsMarks kd rows w m → place ≡ wrapped w head at
+    → at < length items → entry_at items at ≡ x → new ≡ y
+    → ((head at : ℕ) (items : List Entry) → place ≡ wrapped m.width head at → at < length items → entry_at items at ≡ x → Shows m head items → Shows n head (set items at new))
+    → Shows m head items → Shows n head (set items at y)
+shifted_shows m n kd rows w place head at items x new y i pe l is made change h =
+    let P : Entry → Type 0 = λ z. Shows n head (set items at z) in
+    subst P made (change head at items (rw i.width pe) l is h)
+
+pub still_shows : (m : Marks) (kd : Kind) (rows w head at : ℕ) (items : List Entry) (x y : Entry) → IsMarks kd rows w m → AreAlike kd m.rows x y
+    → row_of kd m.rows x ≡ row_of kd m.rows y → at < length items → entry_at items at ≡ x → Shows m head items → Shows m head (set items at y)
+still_shows m kd rs w head at items x y i same row l is h = record {
+  room = h.room;
+  within = h.within;
+  most = rw (length-set items at y) h.most;
+  shows = λ r k rl kl. h.shows r k rl kl ∙ sym (shown_too r k (cases_eq k at));
+  rows = λ k kl. rows_set m.kind m.rows at items y l yl h.rows k (rw (← length-set items at y) kl);
+}
+  where
+    yl : row_of m.kind m.rows y < m.rows
+    yl = let e : row_of m.kind m.rows (entry_at items at) ≡ row_of m.kind m.rows y = ap (row_of m.kind m.rows) is ∙ (rw i.kind row) in rw (← e) (h.rows at l)
+
+    alike : (r : ℕ) → in_row m.kind m.rows r x ≡ in_row m.kind m.rows r y
+    alike = rw i.kind same
+
+    shown_too : (r k : ℕ) → (k ≡ at) ⊎ (k ≡ at → ⊥) → shown m.kind m.rows r (set items at y) k ≡ shown m.kind m.rows r items k
+    shown_too r k (inl e) =
+        rw e
+        (shown_within m.kind m.rows r at (set items at y) y (rw (length-set items at y) l) (get_or-set_same items at y _ l)
+        ∙ sym (alike r) ∙ sym (shown_within m.kind m.rows r at items x l is))
+    shown_too r k (inr ne) = rw (length-set items at y, get_or-set_other items at k y _ ne) refl
+
+-- an entry that does not stand in its row
 and_false : (b : Bool) → b && false ≡ false
 and_false true = refl
 and_false false = refl
@@ -253,84 +353,68 @@ and_false false = refl
 in_none : (kd : Kind) (rows r : ℕ) (x : Entry) → stands kd x ≡ false → in_row kd rows r x ≡ false
 in_none kd rows r x out = rw out (and_false (eqb (row_of kd rows x) r))
 
-pub alike_out : (kd : Kind) (rows : ℕ) (x y : Entry) → stands kd x ≡ false → stands kd y ≡ false → AreAlike kd rows x y
-alike_out kd rows x y a b r = in_none kd rows r x a ∙ sym (in_none kd rows r y b)
-
-pub alike_in : (kd : Kind) (rows : ℕ) (x y : Entry) → stands kd x ≡ true → stands kd y ≡ true → row_of kd rows x ≡ row_of kd rows y → AreAlike kd rows x y
-alike_in kd rows x y a b e r = rw (a, b, e) refl
-
 keeps_shape : (m : Marks) → KeepsShape m m
 keeps_shape m = record { kind = refl; rows = refl; width = refl; size = refl }
 
-pub changed_alike : (m : Marks) (head at : ℕ) (items : List Entry) (x y : Entry) → AreAlike m.kind m.rows x y → row_of m.kind m.rows y < m.rows
-    → at < length items → entry_at items at ≡ x → Shows m head items → Shows m head (set items at y)
-changed_alike m head at items x y same yl l is h = record {
-  room = h.room;
-  within = h.within;
-  most = rw (length-set items at y) h.most;
-  shows = λ r k rl kl. h.shows r k rl kl ∙ sym (shown_too r k (cases_eq k at));
-  rows = λ k kl. row k (rw (← length-set items at y) kl) (cases_eq k at);
-}
+pub added_out : (m : Marks) (kd : Kind) (place : ℕ) (y : Entry) → m.kind ≡ kd → row_of kd m.rows y < m.rows → stands kd y ≡ false
+    → (head : ℕ) (items : List Entry) → place ≡ wrapped m.width head (length items) → length items < m.width
+    → Shows m head items → Shows m head (items ++ y ∷ [])
+added_out m kd place y ke yl out head items pe l h =
+    added m m kd place (row_of kd m.rows y) (stands kd y) y ke yl refl refl (keeps_shape m) head items (record { size = refl; here = rw pe here; other = λ j ne. refl }) pe l h
   where
-    shown_too : (r k : ℕ) → (k ≡ at) ⊎ (k ≡ at → ⊥) → shown m.kind m.rows r (set items at y) k ≡ shown m.kind m.rows r items k
-    shown_too r k (inl e) =
-        rw e
-        (shown_within m.kind m.rows r at (set items at y) y (rw (length-set items at y) l) (get_or-set_same items at y _ l)
-        ∙ sym (same r) ∙ sym (shown_within m.kind m.rows r at items x l is))
-    shown_too r k (inr ne) = rw (length-set items at y, get_or-set_other items at k y _ ne) refl
+    here : has m.bits (slot m.width head (row_of kd m.rows y) (length items)) ≡ stands kd y
+    here = h.shows (row_of kd m.rows y) (length items) yl l ∙ shown_past m.kind m.rows (row_of kd m.rows y) (length items) items (omega arith) ∙ sym out
 
-    row : (k : ℕ) → k < length items → (k ≡ at) ⊎ (k ≡ at → ⊥) → row_of m.kind m.rows (entry_at (set items at y) k) < m.rows
-    row k kl (inl e) = rw (e, get_or-set_same items at y _ l) yl
-    row k kl (inr ne) = rw (get_or-set_other items at k y _ ne) (h.rows k kl)
+-- what is taken out of its row, or was not in it
+pub left_in : (m n : Marks) (kd : Kind) (place r : ℕ) (x : Entry) → r ≡ row_of kd m.rows x → IsSet (r * m.width + place) false m.bits n.bits
+    → (head at : ℕ) (items : List Entry) → place ≡ wrapped m.width head at → at < length items → entry_at items at ≡ x → Shows m head items
+    → IsSet (row_of kd m.rows x * m.width + place) false m.bits n.bits
+left_in m n kd place r x re p head at items pe l is h = rw (← re) p
 
-pub added_out : (m : Marks) (head at : ℕ) (items : List Entry) (y : Entry) → at < m.width → row_of m.kind m.rows y < m.rows → stands m.kind y ≡ false
-    → length items ≡ at → Shows m head items → Shows m head (items ++ y ∷ [])
-added_out m head at items y al yl out l h =
-    added m m head at (row_of m.kind m.rows y) (stands m.kind y) items y al yl refl refl (keeps_shape m) (record { size = refl; here = here; other = λ j ne. refl }) l h
+pub left_out : (m : Marks) (kd : Kind) (place : ℕ) (x : Entry) → m.kind ≡ kd → row_of kd m.rows x < m.rows → stands kd x ≡ false
+    → (head at : ℕ) (items : List Entry) → place ≡ wrapped m.width head at → at < length items → entry_at items at ≡ x → Shows m head items
+    → IsSet (row_of kd m.rows x * m.width + place) false m.bits m.bits
+left_out m kd place x ke xl out head at items pe l is h = record { size = refl; here = rw pe here; other = λ j ne. refl }
   where
-    here : has m.bits (slot m.width head (row_of m.kind m.rows y) at) ≡ stands m.kind y
-    here = h.shows (row_of m.kind m.rows y) at yl al ∙ shown_past m.kind m.rows (row_of m.kind m.rows y) at items (omega arith) ∙ sym out
+    here : has m.bits (slot m.width head (row_of kd m.rows x) at) ≡ false
+    here =
+        let most = h.most in
+        h.shows (row_of kd m.rows x) at xl (omega arith) ∙ shown_within m.kind m.rows (row_of kd m.rows x) at items x l is
+        ∙ in_none m.kind m.rows (row_of kd m.rows x) x (rw ke out)
 
-pub retired_out : (m : Marks) (head : ℕ) (items : List Entry) (x : Entry) → stands m.kind x ≡ false → row_of m.kind m.rows x < m.rows
-    → front_of items ≡ Some x → Shows m head items → Shows m (wrapped m.width head 1) (rest items)
-retired_out m head items x out xl is h =
-    retired m m head (row_of m.kind m.rows x) items x refl (keeps_shape m) (record { size = refl; here = here items is h; other = λ j ne. refl }) is h
+pub retired : (m n : Marks) (kd : Kind) (head : ℕ) (x : Entry) → m.kind ≡ kd → KeepsShape m n
+    → ((head' at : ℕ) (items : List Entry) → head ≡ wrapped m.width head' at → at < length items → entry_at items at ≡ x → Shows m head' items → IsSet (row_of kd m.rows x * m.width + head) false m.bits n.bits)
+    → (items : List Entry) → front_of items ≡ Some x → Shows m head items → Shows n (wrapped m.width head 1) (rest items)
+retired m n kd head x ke mn leaves [] is h = absurd (none_some is)
   where
-    here : (items : List Entry) → front_of items ≡ Some x → Shows m head items → has m.bits (slot m.width head (row_of m.kind m.rows x) 0) ≡ false
-    here [] is h = absurd (none_some is)
-      where
-        none_some : None ≡ Some x → ⊥
-        none_some e = cc
-    here (z ∷ zs) is h =
-        let w = h.within in
-        let some : 0 < length (z ∷ zs) = omega arith in
-        h.shows (row_of m.kind m.rows x) 0 xl (omega arith) ∙ shown_within m.kind m.rows (row_of m.kind m.rows x) 0 (z ∷ zs) x some (own is) ∙ in_none m.kind m.rows (row_of m.kind m.rows x) x out
-      where
-        first_or : Entry → Option Entry → Entry
-        first_or d None = d
-        first_or d (Some y) = y
+    none_some : None ≡ Some x → ⊥
+    none_some e = cc
+retired m n kd head x ke mn leaves (z ∷ zs) is h =
+    let w = h.within in
+    let first : head ≡ wrapped m.width head 0 = sym (high m.width head 0 (omega arith) ∙ omega arith) in
+    let p = leaves head 0 (z ∷ zs) first (omega arith) (own is) h in
+    let p' : IsSet (slot m.width head (row_of m.kind m.rows x) 0) false m.bits n.bits = rw (ke, ← first) p in
+    retired_by m n head (row_of m.kind m.rows x) (z ∷ zs) x refl mn p' is h
+  where
+    first_or : Entry → Option Entry → Entry
+    first_or d None = d
+    first_or d (Some y) = y
 
-        own : Some z ≡ Some x → z ≡ x
-        own e = ap (first_or z) e
+    own : Some z ≡ Some x → z ≡ x
+    own e = ap (first_or z) e
 
 -- what a set shows of a number
-shown_yes : (kd : Kind) (rows r k : ℕ) (items : List Entry) → shown kd rows r items k ≡ true → (k < length items) × (in_row kd rows r (entry_at items k) ≡ true)
+pub shown_yes : (kd : Kind) (rows r k : ℕ) (items : List Entry) → shown kd rows r items k ≡ true → (k < length items) × (in_row kd rows r (entry_at items k) ≡ true)
 shown_yes kd rows r k items e = by (cases_lt k (length items))
   where
     by : (k < length items) ⊎ (length items ≤ k) → (k < length items) × (in_row kd rows r (entry_at items k) ≡ true)
     by (inl l) = (l, sym (shown_within kd rows r k items (entry_at items k) l refl) ∙ e)
     by (inr l) = absurd (false≢true (sym (shown_past kd rows r k items l) ∙ e))
 
-shown_out : (kd : Kind) (rows r k : ℕ) (items : List Entry) → k < length items → shown kd rows r items k ≡ false → in_row kd rows r (entry_at items k) ≡ false
+pub shown_out : (kd : Kind) (rows r k : ℕ) (items : List Entry) → k < length items → shown kd rows r items k ≡ false → in_row kd rows r (entry_at items k) ≡ false
 shown_out kd rows r k items l e = sym (shown_within kd rows r k items (entry_at items k) l refl) ∙ e
 
 -- the search in two parts of a ring
-high : (w h k : ℕ) → h + k < w → wrapped w h k ≡ h + k
-high w h k l = let e : nat_lt (h + k) w ≡ true = lt-ltb (h + k) w l in rw e refl
-
-low : (w h k : ℕ) → w ≤ h + k → wrapped w h k ≡ h + k - w
-low w h k l = let e : nat_lt (h + k) w ≡ false = le-ltb (h + k) w l in rw e refl
-
 at_high : (m : Marks) (head row k : ℕ) (items : List Entry) → Shows m head items → row < m.rows → head + k < m.width → has m.bits (row * m.width + head + k) ≡ shown m.kind m.rows row items k
 at_high m head row k items h rl l =
     let e : row * m.width + head + k ≡ row * m.width + wrapped m.width head k = rw (high m.width head k l) (omega arith) in
@@ -407,9 +491,8 @@ pending_below w x l =
     let s = side_below x.store in
     omega arith
 
--- the row of an entry within sets of this kind and size
-pub row_within : (kd : Kind) (rows w : ℕ) (m : Marks) (x : Entry) → IsMarks kd rows w m → row_of kd rows x < rows → row_of m.kind m.rows x < m.rows
-row_within kd rows w m x i l = rw (i.kind, i.rows) l
+pub pending_within : (w : ℕ) (m : Marks) (x : Entry) → IsMarks kind.Pending (2 * buckets w) w m → 64 ≤ w → row_of kind.Pending m.rows x < m.rows
+pending_within w m x i some = rw (i.rows) (pending_below (buckets w) x (omega arith))
 
 -- the port of an entry that shows is one of the rows by port
 pub port_within : (m : Marks) (head at rows w : ℕ) (items : List Entry) → IsMarks kind.Addr rows w m → Shows m head items → at < length items → (entry_at items at).port < m.rows

@@ -11,4 +11,6 @@ pub mod PortLemmas
 pub mod RowLemmas
 pub mod RunLemmas
 pub mod StayLemmas
+pub mod TurnLemmas
 pub mod ViewLemmas
+pub mod WaitLemmas

@@ -4,9 +4,7 @@ use Rattle.std.proofs.lemmas.Bool.{cases_lt}
 use Rattle.std.specs.List.{find, list_all}
 use Rattle.lsq_core.specs.declared.entry.Entry.{Entry}
 use Rattle.lsq_core.specs.Acts.{first_changed, last_such, executes}
-use Rattle.lsq_core.specs.declared.entry.Made.{Made}
-use Rattle.lsq_core.specs.declared.entry.Made.TheVariants as made
-use Rattle.lsq_core.specs.Wants.{changed_by, IsFirst, NoneBelow, NoneAbove}
+use Rattle.lsq_core.specs.Wants.{IsFirst, NoneBelow, NoneAbove}
 use Rattle.lsq_core.specs.Views.{entry_at, oldest_of, serial_of}
 
 none_rest : (t : Entry → Bool) (x : Entry) (xs : List Entry) (n : ℕ) → NoneBelow t (x ∷ xs) (suc n) → NoneBelow t xs n
@@ -113,10 +111,3 @@ none_above t xs i x b h is told fails k m l = by (cases_lt i k)
     by : (i < k) ⊎ (k ≤ i) → t (entry_at xs k) ≡ false
     by (inl m) = h k (omega arith) l
     by (inr n) = let e : k ≡ i = omega arith in ap (λ j. t (entry_at xs j)) e ∙ ap t (sym is) ∙ sym told ∙ fails
-
--- no act changes the port of an entry
-pub made_port : (m : Made) (x : Entry) → (changed_by m x).port ≡ x.port
-made_port (made.Addr v) x = refl
-made_port (made.Datum v) x = refl
-made_port (made.Done v) x = refl
-made_port made.Replied x = refl

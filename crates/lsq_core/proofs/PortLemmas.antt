@@ -1,5 +1,5 @@
 -- The least port at which an act is allowed, found by the entries or by the ports.
-use Rattle.std.proofs.Common.{◌≡◌, ℕ, suc, ◌+◌, ◌<◌, ◌≤◌, ◌⊎◌, ◌&&◌, nat_le, min, eqb, not, Bool, true, false, Option, Some, None, is_some, is_none, MatchOption, List, [], ◌∷◌, length, refl, sym, ap, ◌∙◌, inl, inr, arith}
+use Rattle.std.proofs.Common.{◌≡◌, ℕ, suc, zero, ◌+◌, ◌<◌, ◌≤◌, ◌⊎◌, ◌&&◌, nat_le, min, eqb, not, Bool, true, false, cond, Option, Some, None, is_some, is_none, MatchOption, List, [], ◌∷◌, length, refl, sym, ap, ◌∙◌, inl, inr, arith}
 use Rattle.std.proofs.lemmas.Bool.{cases_lt, le-leb, lt-leb, eqb-true, false≢true}
 use Rattle.std.specs.List.{find}
 use Rattle.lsq_core.specs.declared.entry.Entry.{Entry}
@@ -113,6 +113,15 @@ pub record HasSuch (test : Entry → Bool) (items : List Entry) : Type 0 where
   pub at : ℕ
   pub within : at < length items
   pub here : test (entry_at items at) ≡ true
+
+pub some_found : (t : Entry → Bool) (items : List Entry) (at : ℕ) → at < length items → t (entry_at items at) ≡ true → is_some (find t items) ≡ true
+some_found t [] at l h = absurd (omega arith)
+some_found t (x ∷ xs) zero l h = rw h refl
+some_found t (x ∷ xs) (suc at) l h = by (t x) (some_found t xs at (omega arith) h)
+  where
+    by : (b : Bool) → is_some (find t xs) ≡ true → is_some (cond b (Some x) (find t xs)) ≡ true
+    by true q = refl
+    by false q = q
 
 pub found_such : (t : Entry → Bool) (items : List Entry) → is_some (find t items) ≡ true → HasSuch t items
 found_such t [] h = absurd (false≢true h)

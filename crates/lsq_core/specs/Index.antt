@@ -84,6 +84,22 @@ pub record IsNextIn (m : Marks) (row from at : ℕ) (items : List Entry) : Type 
 abbrev pub HasNoMoreIn : Marks → ℕ → ℕ → List Entry → Type 0
 HasNoMoreIn m row from items = (k : ℕ) → from ≤ k → k < length items → in_row m.kind m.rows row (entry_at items k) ≡ false
 
+-- some entry stands in a row
+pub record HasOneIn (m : Marks) (row : ℕ) (items : List Entry) : Type 0 where
+  pub at : ℕ
+  pub within : at < length items
+  pub here : in_row m.kind m.rows row (entry_at items at) ≡ true
+
+-- the least row from one on, and below another, in which an entry stands
+pub record IsNextRow (m : Marks) (from to row : ℕ) (items : List Entry) : Type 0 where
+  pub from_on : from ≤ row
+  pub below : row < to
+  pub here : HasOneIn m row items
+  pub before : (r : ℕ) → from ≤ r → r < row → HasNoMoreIn m r 0 items
+
+abbrev pub HasNoRow : Marks → ℕ → ℕ → List Entry → Type 0
+HasNoRow m from to items = (r : ℕ) → from ≤ r → r < to → HasNoMoreIn m r 0 items
+
 -- how many rows there are for addresses of a side, for so many places
 abbrev pub buckets : ℕ → ℕ
 buckets width = width / 16
@@ -116,6 +132,10 @@ abbrev pub clear : Bool → Entry → Entry → Bool
 clear side x o =
     not (nat_lt o.serial x.serial)
     || not ((count_of o.store == count_of side) && ((is_some o.addr && not o.done) && same o.addr x.addr))
+
+-- it is so of the first n entries
+abbrev pub IsClearBelow : Bool → Entry → List Entry → ℕ → Type 0
+IsClearBelow side x items n = (k : ℕ) → k < n → clear side x (entry_at items k) ≡ true
 
 -- an entry of a side that may execute
 abbrev pub runs : Bool → Bool → List Entry → Entry → Bool

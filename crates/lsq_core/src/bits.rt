@@ -1,6 +1,6 @@
 //! Sets of small numbers, one bit each.
 
-ghost use Rattle.std.specs.Prelude.{◌≡◌, ◌*◌, ◌^◌, ◌<◌, ◌≤◌, length, IfOk};
+ghost use Rattle.std.specs.Prelude.{◌≡◌, ◌*◌, ◌^◌, ◌<◌, ◌≤◌, length, get_or, IfOk};
 ghost use Rattle.lsq_core.specs.Bits.{IsNext, IsSet, HasNoneIn};
 
 use net_types::Memory;
@@ -8,7 +8,7 @@ use std::alloc::Global;
 use std::marker::Model;
 
 /// How many bits a word has.
-const WORD: usize = 64;
+pub(crate) const WORD: usize = 64;
 
 /// A set of numbers below a bound.
 #[derive(Drop)]
@@ -44,7 +44,17 @@ impl Bits {
         self.words.len()
     }
 
+    /// One of its words: the 64 numbers from 64 times its own on.
+    #[inline(always)]
+    pub(crate) fn word(&self, at: usize) -> u64
+        requires { at < length self.now }
+        ensures { result ≡ get_or self.now at 0 }
+    {
+        self.words.as_slice()[at]
+    }
+
     /// Puts a number into the set or takes it out.
+    #[inline(always)]
     pub fn set(&mut self, at: usize, within: bool)
         requires { at < 64 * length self.old }
         ensures { IsSet at within self.old self.new }

@@ -107,6 +107,7 @@ impl Entries {
     }
 
     /// The entry at a place.
+    #[inline(always)]
     pub(crate) fn at(&self, at: usize) -> Entry
         requires { at < length self.now.queue.items }
         ensures { result ≡ entry_at self.now.queue.items at }
@@ -134,19 +135,25 @@ impl Entries {
         }
     }
 
-    /// Puts an entry in the place of one of its serial number.
-    pub(crate) fn put(&mut self, at: usize, entry: Entry)
-        requires at { at < length self.old.queue.items }
-        requires serial { entry.serial ≡ (entry_at self.old.queue.items at).serial }
-        requires port { entry.port < self.old.ports }
-        ensures items { self.new.queue.items ≡ set self.old.queue.items at entry }
+    /// Makes the entry at a place another, and answers what it was.
+    #[inline(always)]
+    pub(crate) fn alter(&mut self, at: usize, made: Made) -> Entry
+        requires { at < length self.old.queue.items }
+        ensures was { result ≡ entry_at self.old.queue.items at }
+        ensures items { self.new.queue.items
+            ≡ set self.old.queue.items at (changed_by made (entry_at self.old.queue.items at)) }
         ensures mark { self.new.queue.forward ≡ self.old.queue.forward }
         ensures next { self.new.queue.next ≡ self.old.queue.next }
         ensures depth { self.new.depth ≡ self.old.depth }
         ensures ports { self.new.ports ≡ self.old.ports }
     {
-        if let Some(old) = self.items.get_mut(at) {
-            *old = entry;
+        match self.items.get_mut(at) {
+            None => Entry::fresh(0, 0, false),
+            Some(entry) => {
+                let old = *entry;
+                entry.alter(made);
+                old
+            }
         }
     }
 
@@ -183,10 +190,7 @@ impl Entries {
         ensures ports { self.new.ports ≡ self.old.ports }
     {
         if let Some(at) = self.place_of(want) {
-            let changed = self.at(at).with(made);
-            if let Some(entry) = self.items.get_mut(at) {
-                *entry = changed;
-            }
+            self.alter(at, made);
         }
     }
 

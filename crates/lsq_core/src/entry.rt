@@ -74,6 +74,7 @@ impl PortAct {
 
 impl Entry {
     /// A new entry of a port.
+    #[inline(always)]
     pub(crate) fn fresh(serial: u64, port: u32, store: bool) -> Entry
         ensures { result ≡ fresh_entry serial port store }
     {
@@ -109,6 +110,7 @@ impl Entry {
     }
 
     /// Whether it has what it needs to execute, and has not.
+    #[inline(always)]
     pub(crate) fn is_ready(&self) -> bool
         ensures { result ≡ ready self.now }
     {
@@ -181,7 +183,24 @@ impl Entry {
         self.done && (self.store || self.replied)
     }
 
+    /// Makes it another.
+    #[inline(always)]
+    pub(crate) fn alter(&mut self, made: Made)
+        ensures { self.new ≡ changed_by made self.old }
+    {
+        match made {
+            Made::Addr(addr) => self.addr = Some(addr),
+            Made::Datum(datum) => self.datum = Some(datum),
+            Made::Done(value) => {
+                self.done = true;
+                self.value = value;
+            }
+            Made::Replied => self.replied = true,
+        }
+    }
+
     /// The entry with a change.
+    #[inline(always)]
     pub(crate) fn with(self, made: Made) -> Entry
         ensures { result ≡ changed_by made self }
     {

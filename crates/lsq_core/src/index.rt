@@ -2,12 +2,13 @@
 
 ghost use Rattle.std.specs.Prelude.{◌≡◌, ℕ, ◌+◌, ◌*◌, ◌^◌, ◌<◌, ◌≤◌, ◌++◌, ◌∷◌, [], Some, List, length, set, IfOk};
 ghost use Rattle.lsq_core.specs.declared.entry.Entry.{Entry};
-ghost use Rattle.lsq_core.specs.Acts.{rest};
+ghost use Rattle.lsq_core.specs.Acts.{rest, with_addr, with_data, executed, answered};
+ghost use Rattle.lsq_core.specs.Wants.{changed_by};
 ghost use Rattle.lsq_core.specs.Views.{entry_at, front_of};
 ghost use Rattle.lsq_core.specs.Index.{row_of, wrapped, IsIndex, IsMarks, Indexes, Shows};
 ghost use Rattle.lsq_core.specs.declared.marks.Kind.TheVariants as kind;
 
-use crate::entry::Entry;
+use crate::entry::{Entry, Made};
 use crate::marks::{Kind, Marks};
 use net_types::Memory;
 use std::alloc::Global;
@@ -62,27 +63,99 @@ impl Index {
         })
     }
 
-    /// Notes that the entry of a number becomes another.
-    pub(crate) fn change(&mut self, head: usize, at: usize, old: &Entry, new: &Entry)
+    /// Notes what is made of the entry of a number.
+    #[inline(always)]
+    pub(crate) fn change(&mut self, head: usize, at: usize, old: &Entry, made: Made)
         ghost shape: { ℕ × ℕ }
         requires index { IsIndex shape.0 shape.1 self.old }
         requires head { head < shape.1 }
         requires at { at < shape.1 }
         requires old { old.now.port < shape.0 }
-        requires new { new.now.port < shape.0 }
         ensures index { IsIndex shape.0 shape.1 self.new }
         ensures shows { (items : List Entry) → at < length items → entry_at items at ≡ old.now
-            → Indexes self.old head items → Indexes self.new head (set items at new.now) }
+            → Indexes self.old head items
+            → Indexes self.new head (set items at (changed_by made old.now)) }
     {
-        self.addr.change(head, at, old, new);
-        self.data.change(head, at, old, new);
-        self.reply.change(head, at, old, new);
-        self.blank.change(head, at, old, new);
-        self.ready.change(head, at, old, new);
-        self.pending.change(head, at, old, new);
+        let place = self.addr.place(head, at);
+        match made {
+            Made::Addr(addr) => self.change_addr(place, old, addr),
+            Made::Datum(datum) => self.change_datum(place, old, datum),
+            Made::Done(value) => self.change_done(place, old, value),
+            Made::Replied => self.change_replied(place, old),
+        }
+    }
+
+    /// Notes that an entry gets its address.
+    #[inline(always)]
+    fn change_addr(&mut self, place: usize, old: &Entry, addr: u64)
+        ghost shape: { ℕ × ℕ }
+        requires index { IsIndex shape.0 shape.1 self.old }
+        requires place { place < shape.1 }
+        requires old { old.now.port < shape.0 }
+        ensures index { IsIndex shape.0 shape.1 self.new }
+        ensures shows { (head at : ℕ) (items : List Entry) → place ≡ wrapped shape.1 head at
+            → at < length items → entry_at items at ≡ old.now → Indexes self.old head items
+            → Indexes self.new head (set items at (with_addr addr old.now)) }
+    {
+        let new = old.with(Made::Addr(addr));
+        self.addr.change(Kind::Addr, place, &new);
+        self.blank.change(Kind::Blank, place, &new);
+        self.ready.change(Kind::Ready, place, &new);
+        self.pending.transfer(Kind::Pending, place, old, &new);
+    }
+
+    /// Notes that an entry gets its data.
+    #[inline(always)]
+    fn change_datum(&mut self, place: usize, old: &Entry, datum: u64)
+        ghost shape: { ℕ × ℕ }
+        requires index { IsIndex shape.0 shape.1 self.old }
+        requires place { place < shape.1 }
+        requires old { old.now.port < shape.0 }
+        ensures index { IsIndex shape.0 shape.1 self.new }
+        ensures shows { (head at : ℕ) (items : List Entry) → place ≡ wrapped shape.1 head at
+            → at < length items → entry_at items at ≡ old.now → Indexes self.old head items
+            → Indexes self.new head (set items at (with_data datum old.now)) }
+    {
+        let new = old.with(Made::Datum(datum));
+        self.data.change(Kind::Data, place, &new);
+        self.ready.change(Kind::Ready, place, &new);
+    }
+
+    /// Notes that an entry is executed.
+    #[inline(always)]
+    fn change_done(&mut self, place: usize, old: &Entry, value: u64)
+        ghost shape: { ℕ × ℕ }
+        requires index { IsIndex shape.0 shape.1 self.old }
+        requires place { place < shape.1 }
+        requires old { old.now.port < shape.0 }
+        ensures index { IsIndex shape.0 shape.1 self.new }
+        ensures shows { (head at : ℕ) (items : List Entry) → place ≡ wrapped shape.1 head at
+            → at < length items → entry_at items at ≡ old.now → Indexes self.old head items
+            → Indexes self.new head (set items at (executed value old.now)) }
+    {
+        let new = old.with(Made::Done(value));
+        self.ready.change(Kind::Ready, place, &new);
+        self.pending.change(Kind::Pending, place, &new);
+    }
+
+    /// Notes that an entry has replied.
+    #[inline(always)]
+    fn change_replied(&mut self, place: usize, old: &Entry)
+        ghost shape: { ℕ × ℕ }
+        requires index { IsIndex shape.0 shape.1 self.old }
+        requires place { place < shape.1 }
+        requires old { old.now.port < shape.0 }
+        ensures index { IsIndex shape.0 shape.1 self.new }
+        ensures shows { (head at : ℕ) (items : List Entry) → place ≡ wrapped shape.1 head at
+            → at < length items → entry_at items at ≡ old.now → Indexes self.old head items
+            → Indexes self.new head (set items at (answered old.now)) }
+    {
+        let new = old.with(Made::Replied);
+        self.reply.change(Kind::Reply, place, &new);
     }
 
     /// Notes that an entry is added after so many.
+    #[inline(always)]
     pub(crate) fn add(&mut self, head: usize, len: usize, new: &Entry)
         ghost shape: { ℕ × ℕ }
         requires index { IsIndex shape.0 shape.1 self.old }
@@ -93,15 +166,17 @@ impl Index {
         ensures shows { (items : List Entry) → length items ≡ len
             → Indexes self.old head items → Indexes self.new head (items ++ new.now ∷ []) }
     {
-        self.addr.add(head, len, new);
-        self.data.add(head, len, new);
-        self.reply.add(head, len, new);
-        self.blank.add(head, len, new);
-        self.ready.add(head, len, new);
-        self.pending.add(head, len, new);
+        let place = self.addr.place(head, len);
+        self.addr.add(Kind::Addr, place, new);
+        self.data.add(Kind::Data, place, new);
+        self.reply.add(Kind::Reply, place, new);
+        self.blank.add(Kind::Blank, place, new);
+        self.ready.add(Kind::Ready, place, new);
+        self.pending.add(Kind::Pending, place, new);
     }
 
     /// Notes that the first entry is dropped.
+    #[inline(always)]
     pub(crate) fn retire(&mut self, head: usize, old: &Entry)
         ghost shape: { ℕ × ℕ }
         requires index { IsIndex shape.0 shape.1 self.old }
@@ -112,15 +187,16 @@ impl Index {
             → Indexes self.old head items
             → Indexes self.new (wrapped shape.1 head 1) (rest items) }
     {
-        self.addr.retire(head, old);
-        self.data.retire(head, old);
-        self.reply.retire(head, old);
-        self.blank.retire(head, old);
-        self.ready.retire(head, old);
-        self.pending.retire(head, old);
+        self.addr.retire(Kind::Addr, head, old);
+        self.data.retire(Kind::Data, head, old);
+        self.reply.retire(Kind::Reply, head, old);
+        self.blank.retire(Kind::Blank, head, old);
+        self.ready.retire(Kind::Ready, head, old);
+        self.pending.retire(Kind::Pending, head, old);
     }
 
     /// The row of the entries of a side that wait with the address of an entry.
+    #[inline(always)]
     pub(crate) fn address_row(&self, side: bool, entry: &Entry) -> usize
         requires kind { self.now.pending.kind ≡ kind.Pending }
         requires rows { self.now.pending.rows ≤ 2 ^ 60 }
@@ -131,7 +207,7 @@ impl Index {
             store: side,
             ..*entry
         };
-        self.pending.row(&beside)
+        Kind::Pending.row(self.pending.rows, &beside)
     }
 }
 

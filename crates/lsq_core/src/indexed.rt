@@ -1,12 +1,12 @@
 //! The entries of a queue with an index.
 
-ghost use Rattle.std.specs.Prelude.{◌≡◌, ◌+◌, ◌<◌, ◌≤◌, ◌^◌, ◌==◌, ◌&&◌, ◌++◌, ◌∷◌, [], None, Some, cond, true, length, IfOk, MatchOption};
+ghost use Rattle.std.specs.Prelude.{◌≡◌, ℕ, ◌+◌, ◌<◌, ◌≤◌, ◌^◌, ◌==◌, ◌&&◌, ◌++◌, ◌∷◌, [], None, Some, cond, true, length, option_map, IfOk, MatchOption};
 ghost use Rattle.std.specs.List.{find, list_all};
 ghost use Rattle.lsq_core.specs.Acts.{first_changed, is_nil, executes, last_such, waiting, lets, source_ok, order_ok, rest, fresh_entry};
 ghost use Rattle.lsq_core.specs.Views.{InOrder, InPorts, no_entries, oldest_of, front_of, entry_at, count_of};
 ghost use Rattle.lsq_core.specs.Parts.{none_from, IsPartOf};
-ghost use Rattle.lsq_core.specs.Wants.{wanted, changed_by, asks, allows_at, nearer, IsFirst, HasNone, HasNoPort, IsNextPort};
-ghost use Rattle.lsq_core.specs.Index.{filled, clear, reached, runs, wrapped};
+ghost use Rattle.lsq_core.specs.Wants.{wanted, changed_by, asks, allows_at, nearer, IsFirst, HasNone, NoneBelow, HasNoPort, IsNextPort, HasNoAddr, IsNextAddr, HasNoData, IsNextData};
+ghost use Rattle.lsq_core.specs.Index.{filled, clear, reached, runs, wrapped, IsClearBelow};
 ghost use Rattle.lsq_core.specs.declared.entry.Want.TheVariants as want;
 
 use crate::entries::Entries;
@@ -16,6 +16,9 @@ use crate::part::QueuePart;
 use net_types::{List, Memory};
 use std::alloc::Global;
 use std::marker::Model;
+
+/// So many ports are looked at one after another, however few entries there are.
+const FEW_PORTS: u32 = 8;
 
 /// The entries of a queue, and where those stand that wait for something.
 ///
@@ -109,6 +112,7 @@ impl Indexed {
     }
 
     /// The entry at a place.
+    #[inline(always)]
     fn at(&self, at: usize) -> Entry
         requires { at < length self.now.queue.items }
         ensures value { result ≡ entry_at self.now.queue.items at }
@@ -119,6 +123,7 @@ impl Indexed {
     }
 
     /// The place of the first entry that an act asks for.
+    #[inline(always)]
     fn place_of(&self, want: Want) -> Option<usize>
         ensures { MatchOption result (HasNone (wanted want) self.now.queue.items)
             (λ at. IsFirst (wanted want) self.now.queue.items at) }
@@ -131,6 +136,7 @@ impl Indexed {
         }
     }
 
+    #[inline(always)]
     fn place_of_addr(&self, port: u32) -> Option<usize>
         ensures { MatchOption result (HasNone (wanted (want.Addr port)) self.now.queue.items)
             (λ at. IsFirst (wanted (want.Addr port)) self.now.queue.items at) }
@@ -141,6 +147,7 @@ impl Indexed {
         self.index.addr.next(self.head, port as usize, 0)
     }
 
+    #[inline(always)]
     fn place_of_data(&self, port: u32) -> Option<usize>
         ensures { MatchOption result (HasNone (wanted (want.Data port)) self.now.queue.items)
             (λ at. IsFirst (wanted (want.Data port)) self.now.queue.items at) }
@@ -151,6 +158,7 @@ impl Indexed {
         self.index.data.next(self.head, port as usize, 0)
     }
 
+    #[inline(always)]
     fn place_of_reply(&self, port: u32) -> Option<usize>
         ensures { MatchOption result (HasNone (wanted (want.Reply port)) self.now.queue.items)
             (λ at. IsFirst (wanted (want.Reply port)) self.now.queue.items at) }
@@ -162,6 +170,7 @@ impl Indexed {
     }
 
     /// The first entry that an act asks for.
+    #[inline(always)]
     pub(crate) fn first(&self, want: Want) -> Option<Entry>
         ensures { result ≡ find (wanted want) self.now.queue.items }
     {
@@ -172,6 +181,7 @@ impl Indexed {
     }
 
     /// Whether an act is allowed at a port.
+    #[inline(always)]
     #[tactic(auto, using(crate::proofs::PortLemmas::some_such))]
     pub(crate) fn allows_at(&self, act: PortAct, port: u32) -> bool
         ensures { result ≡ allows_at act self.now.queue.items port }
@@ -203,6 +213,7 @@ impl Indexed {
     }
 
     /// The least port from a number on at which an act is allowed, by the entries.
+    #[inline(never)]
     fn next_by_entries(&self, act: PortAct, from: u32) -> Option<u32>
         ensures { MatchOption result (HasNoPort (allows_at act self.now.queue.items) from)
             (IsNextPort (allows_at act self.now.queue.items) from) }
@@ -215,7 +226,50 @@ impl Indexed {
         found
     }
 
+    /// The least port from a number on at which an act is allowed, by what waits at the ports.
+    #[inline(always)]
+    fn next_by_rows(&self, act: PortAct, from: u32, ports: u32) -> Option<u32>
+        requires { ports ≡ self.now.ports }
+        ensures { MatchOption result (HasNoPort (allows_at act self.now.queue.items) from)
+            (IsNextPort (allows_at act self.now.queue.items) from) }
+    {
+        match act {
+            PortAct::Addr => self.next_addr_port(from, ports),
+            PortAct::Data => self.next_data_port(from, ports),
+            PortAct::Reply => self.next_by_ports(PortAct::Reply, from, ports),
+        }
+    }
+
+    /// The least port from a number on at which an entry waits for its address.
+    #[inline(always)]
+    fn next_addr_port(&self, from: u32, ports: u32) -> Option<u32>
+        requires { ports ≡ self.now.ports }
+        ensures { MatchOption result (HasNoAddr self.now.queue.items from)
+            (IsNextAddr self.now.queue.items from) }
+    {
+        let _ = self.len();
+        match self.index.addr.next_row(from as usize, ports as usize) {
+            None => None,
+            Some(port) => Some(port as u32),
+        }
+    }
+
+    /// The least port from a number on at which an entry waits for its data.
+    #[inline(always)]
+    fn next_data_port(&self, from: u32, ports: u32) -> Option<u32>
+        requires { ports ≡ self.now.ports }
+        ensures { MatchOption result (HasNoData self.now.queue.items from)
+            (IsNextData self.now.queue.items from) }
+    {
+        let _ = self.len();
+        match self.index.data.next_row(from as usize, ports as usize) {
+            None => None,
+            Some(port) => Some(port as u32),
+        }
+    }
+
     /// The least port from a number on at which an act is allowed, by the ports.
+    #[inline(always)]
     fn next_by_ports(&self, act: PortAct, from: u32, ports: u32) -> Option<u32>
         requires { ports ≡ self.now.ports }
         ensures { MatchOption result (HasNoPort (allows_at act self.now.queue.items) from)
@@ -232,20 +286,22 @@ impl Indexed {
 
     /// The least port from a number on at which an act is allowed. Few entries of many ports are looked at one after another, else
     /// the ports are.
+    #[inline(always)]
     pub(crate) fn next_port(&self, act: PortAct, from: u32) -> Option<u32>
         ensures { MatchOption result (HasNoPort (allows_at act self.now.queue.items) from)
             (IsNextPort (allows_at act self.now.queue.items) from) }
     {
         let len = self.len();
         match u32::try_from(self.entries.ports()) {
-            Ok(ports) if len.saturating_mul(len) > ports as usize => {
-                self.next_by_ports(act, from, ports)
+            Ok(ports) if ports <= FEW_PORTS || len.saturating_mul(len) > ports as usize => {
+                self.next_by_rows(act, from, ports)
             }
             _ => self.next_by_entries(act, from),
         }
     }
 
     /// Changes the first entry that an act asks for, and no other.
+    #[inline(always)]
     pub(crate) fn change(&mut self, want: Want, made: Made)
         ensures items { self.new.queue.items
             ≡ first_changed (wanted want) (changed_by made) self.old.queue.items }
@@ -255,10 +311,8 @@ impl Indexed {
         ensures ports { self.new.ports ≡ self.old.ports }
     {
         if let Some(at) = self.place_of(want) {
-            let old = self.at(at);
-            let new = old.with(made);
-            self.index.change(self.head, at, &old, &new);
-            self.entries.put(at, new);
+            let old = self.entries.alter(at, made);
+            self.index.change(self.head, at, &old, made);
         }
     }
 
@@ -270,6 +324,7 @@ impl Indexed {
     }
 
     /// The serial number of the entry at a place.
+    #[inline(always)]
     fn serial_at(&self, at: usize) -> u64
         requires { at < length self.now.queue.items }
         ensures value { result ≡ (entry_at self.now.queue.items at).serial }
@@ -295,11 +350,31 @@ impl Indexed {
     }
 
     /// Whether no older entry of a side has the address of an entry and is not executed.
+    #[inline(always)]
     fn is_clear(&self, side: bool, entry: &Entry) -> bool
         ensures { result ≡ list_all (clear side entry.now) self.now.queue.items }
     {
         let row = self.index.address_row(side, entry);
-        let mut from = 0;
+        match self.index.pending.next(self.head, row, 0) {
+            None => true,
+            Some(first) => {
+                if self.serial_at(first) >= entry.serial {
+                    return true;
+                }
+                self.is_clear_from(side, entry, first)
+            }
+        }
+    }
+
+    /// The same, where it is so of the entries before a number.
+    #[inline(never)]
+    fn is_clear_from(&self, side: bool, entry: &Entry, first: usize) -> bool
+        requires within { first < length self.now.queue.items }
+        requires clear { IsClearBelow side entry.now self.now.queue.items first }
+        ensures { result ≡ list_all (clear side entry.now) self.now.queue.items }
+    {
+        let row = self.index.address_row(side, entry);
+        let mut from = first;
         while let Some(at) = self.index.pending.next(self.head, row, from) {
             if self.at(at).is_in_way(side, entry) {
                 return false;
@@ -309,18 +384,53 @@ impl Indexed {
         true
     }
 
-    /// The youngest store before a load that has the load's address and is not executed.
-    pub(crate) fn source(&self, load: &Entry) -> Option<Entry>
-        ensures { result ≡ last_such (waiting load.now) self.now.queue.items }
+    /// The place of the youngest store before a load that has the load's address and is not executed.
+    #[inline(always)]
+    fn place_of_source(&self, load: &Entry) -> Option<usize>
+        ensures entry { option_map (entry_at self.now.queue.items) result
+            ≡ last_such (waiting load.now) self.now.queue.items }
+        ensures within { (at : ℕ) → result ≡ Some at → at < length self.now.queue.items }
+    {
+        let row = self.index.address_row(true, load);
+        match self.index.pending.next(self.head, row, 0) {
+            None => None,
+            Some(first) => {
+                if self.serial_at(first) >= load.serial {
+                    return None;
+                }
+                self.place_of_source_from(load, first)
+            }
+        }
+    }
+
+    /// The same, where none of the entries before a number is such a store.
+    #[inline(never)]
+    fn place_of_source_from(&self, load: &Entry, first: usize) -> Option<usize>
+        requires within { first < length self.now.queue.items }
+        requires none { NoneBelow (waiting load.now) self.now.queue.items first }
+        ensures entry { option_map (entry_at self.now.queue.items) result
+            ≡ last_such (waiting load.now) self.now.queue.items }
+        ensures within { (at : ℕ) → result ≡ Some at → at < length self.now.queue.items }
     {
         let row = self.index.address_row(true, load);
         let mut found = None;
-        let mut from = 0;
+        let mut from = first;
         while let Some(at) = self.index.pending.next(self.head, row, from) {
-            found = younger(found, self.at(at), load);
+            found = younger(found, at, self.at(at).waits_before(load));
             from = at + 1;
         }
         found
+    }
+
+    /// The youngest store before a load that has the load's address and is not executed.
+    #[inline(always)]
+    pub(crate) fn source(&self, load: &Entry) -> Option<Entry>
+        ensures { result ≡ last_such (waiting load.now) self.now.queue.items }
+    {
+        match self.place_of_source(load) {
+            None => None,
+            Some(at) => Some(self.at(at)),
+        }
     }
 
     /// Whether a load may have its value from its source: it has none, or the queue forwards and the source has
@@ -329,9 +439,9 @@ impl Indexed {
         ensures { result
             ≡ source_ok self.now.queue.forward (last_such (waiting load.now) self.now.queue.items) }
     {
-        match self.source(load) {
+        match self.place_of_source(load) {
             None => true,
-            Some(store) => self.entries.forwards() && store.datum.is_some(),
+            Some(at) => self.entries.forwards() && self.at(at).datum.is_some(),
         }
     }
 
@@ -367,6 +477,7 @@ impl Indexed {
     }
 
     /// The serial number of the oldest entry that may execute.
+    #[inline(always)]
     pub(crate) fn oldest(&self) -> Option<u64>
         ensures { result ≡ oldest_of self.now.queue }
     {
@@ -384,14 +495,32 @@ impl Indexed {
     }
 
     /// The place of the first entry of a side that may execute.
+    #[inline(always)]
     fn first_of(&self, side: bool) -> Option<usize>
         ensures { MatchOption result
             (HasNone (runs side self.now.queue.forward self.now.queue.items) self.now.queue.items)
             (λ at. IsFirst (runs side self.now.queue.forward self.now.queue.items)
             self.now.queue.items at) }
     {
+        match self.index.ready.next(self.head, row_of_side(side), 0) {
+            None => None,
+            Some(first) => self.first_from(side, first),
+        }
+    }
+
+    /// The place of the first entry of a side that may execute, where none does before a number.
+    #[inline(never)]
+    fn first_from(&self, side: bool, first: usize) -> Option<usize>
+        requires within { first < length self.now.queue.items }
+        requires none { NoneBelow (runs side self.now.queue.forward self.now.queue.items)
+            self.now.queue.items first }
+        ensures { MatchOption result
+            (HasNone (runs side self.now.queue.forward self.now.queue.items) self.now.queue.items)
+            (λ at. IsFirst (runs side self.now.queue.forward self.now.queue.items)
+            self.now.queue.items at) }
+    {
         let row = row_of_side(side);
-        let mut from = 0;
+        let mut from = first;
         while let Some(at) = self.index.ready.next(self.head, row, from) {
             let entry = self.at(at);
             if self.executes(&entry) {
@@ -406,6 +535,7 @@ impl Indexed {
     }
 
     /// The place of the first entry that may execute.
+    #[inline(always)]
     fn first_that_executes(&self) -> Option<usize>
         ensures { MatchOption result
             (HasNone (executes self.now.queue.forward self.now.queue.items) self.now.queue.items)
@@ -503,6 +633,7 @@ fn after(at: usize, width: usize) -> usize
 }
 
 /// The row of a side: loads, or stores.
+#[inline(always)]
 fn row_of_side(side: bool) -> usize
     ensures value { result ≡ count_of side }
     ensures within { result < 2 }
@@ -510,12 +641,13 @@ fn row_of_side(side: bool) -> usize
     if side { 1 } else { 0 }
 }
 
-/// The entry where it is an older store of a load's address that is not executed, else what was found before.
-fn younger(found: Option<Entry>, entry: Entry, load: &Entry) -> Option<Entry>
-    ensures { result ≡ cond (waiting load.now entry) (Some entry) found }
+/// A place where it is one that is looked for, else what was found before.
+#[inline(always)]
+fn younger(found: Option<usize>, at: usize, waits: bool) -> Option<usize>
+    ensures { result ≡ cond waits (Some at) found }
 {
-    if entry.waits_before(load) {
-        return Some(entry);
+    if waits {
+        return Some(at);
     }
     found
 }

@@ -135,6 +135,7 @@ impl Lsq {
     }
 
     /// The least port from a number on at which the queue allows a reply, where it allows one.
+    #[inline(never)]
     pub fn next_reply(&self, from: u32) -> Option<u32>
         ensures { MatchOption result (HasNoReply self.now.queue.items from)
             (IsNextReply self.now.queue.items from) }

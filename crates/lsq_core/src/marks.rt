@@ -1,13 +1,13 @@
 //! Which entries stand in a row, as sets of places.
 
-ghost use Rattle.std.specs.Prelude.{◌≡◌, ℕ, ◌+◌, ◌*◌, ◌^◌, ◌<◌, ◌≤◌, ◌++◌, ◌∷◌, [], Some, true, List, length, set, max, MatchOption, IfOk};
+ghost use Rattle.std.specs.Prelude.{◌≡◌, ℕ, ◌+◌, ◌*◌, ◌^◌, ◌<◌, ◌≤◌, ◌++◌, ◌∷◌, [], Some, false, List, length, set, max, MatchOption, IfOk};
 ghost use Rattle.lsq_core.specs.declared.entry.Entry.{Entry};
 ghost use Rattle.lsq_core.specs.Acts.{or_zero, rest};
 ghost use Rattle.lsq_core.specs.Views.{entry_at, front_of};
 ghost use Rattle.lsq_core.specs.Bits.{IsSet, IsNext};
-ghost use Rattle.lsq_core.specs.Index.{bucket, row_of, stands, wrapped, HasRoom, AreAlike, Shows, KeepsShape, IsMarks, IsNextIn, HasNoMoreIn};
+ghost use Rattle.lsq_core.specs.Index.{bucket, row_of, stands, wrapped, HasRoom, Shows, KeepsShape, IsMarks, IsNextIn, HasNoMoreIn, IsNextRow, HasNoRow};
 
-use crate::bits::Bits;
+use crate::bits::{Bits, WORD};
 use crate::entry::Entry;
 use net_types::Memory;
 use std::alloc::Global;
@@ -51,6 +51,41 @@ fn bucket(buckets: usize, addr: u64) -> usize
     (addr.wrapping_mul(11400714819323198485) >> 32) as usize % buckets
 }
 
+impl Kind {
+    /// The row of an entry, among so many.
+    #[inline(always)]
+    pub(crate) fn row(self, rows: usize, entry: &Entry) -> usize
+        requires { rows ≤ 2 ^ 60 }
+        ensures { result ≡ row_of self rows entry.now }
+    {
+        let port = entry.port as usize;
+        let side = if entry.store { 1 } else { 0 };
+        match self {
+            Kind::Addr => port,
+            Kind::Data => port,
+            Kind::Reply => port,
+            Kind::Blank => side,
+            Kind::Ready => side,
+            Kind::Pending => 2 * bucket((rows / 2).max(1), entry.address()) + side,
+        }
+    }
+
+    /// Whether an entry stands in its row.
+    #[inline(always)]
+    fn has(self, entry: &Entry) -> bool
+        ensures { result ≡ stands self entry.now }
+    {
+        match self {
+            Kind::Addr => entry.addr.is_none(),
+            Kind::Data => entry.store && entry.datum.is_none(),
+            Kind::Reply => !entry.store && !entry.replied,
+            Kind::Blank => entry.addr.is_none(),
+            Kind::Ready => entry.is_ready(),
+            Kind::Pending => entry.addr.is_some() && !entry.done,
+        }
+    }
+}
+
 impl Marks {
     /// Sets without a place, for so many rows, of 64 times so many places each.
     ///
@@ -79,135 +114,163 @@ impl Marks {
         })
     }
 
-    /// The row of an entry.
-    pub(crate) fn row(&self, entry: &Entry) -> usize
-        requires { self.now.rows ≤ 2 ^ 60 }
-        ensures { result ≡ row_of self.now.kind self.now.rows entry.now }
-    {
-        let port = entry.port as usize;
-        let side = if entry.store { 1 } else { 0 };
-        match self.kind {
-            Kind::Addr => port,
-            Kind::Data => port,
-            Kind::Reply => port,
-            Kind::Blank => side,
-            Kind::Ready => side,
-            Kind::Pending => 2 * bucket((self.rows / 2).max(1), entry.address()) + side,
-        }
-    }
-
-    /// Whether an entry stands in its row.
-    fn has(&self, entry: &Entry) -> bool
-        ensures { result ≡ stands self.now.kind entry.now }
-    {
-        match self.kind {
-            Kind::Addr => entry.addr.is_none(),
-            Kind::Data => entry.store && entry.datum.is_none(),
-            Kind::Reply => !entry.store && !entry.replied,
-            Kind::Blank => entry.addr.is_none(),
-            Kind::Ready => entry.is_ready(),
-            Kind::Pending => entry.addr.is_some() && !entry.done,
-        }
-    }
-
-    /// Whether two entries stand in the same row, or neither stands in one.
-    fn are_alike(&self, old: &Entry, new: &Entry) -> bool
-        requires { self.now.rows ≤ 2 ^ 60 }
-        ensures { result ≡ true → AreAlike self.now.kind self.now.rows old.now new.now }
-    {
-        if self.has(old) {
-            self.has(new) && self.row(old) == self.row(new)
-        } else {
-            !self.has(new)
-        }
-    }
-
-    /// The place of an entry in a row.
-    fn slot(&self, head: usize, row: usize, at: usize) -> usize
-        requires room { HasRoom self.now }
+    /// The place of the entry of a number in the ring.
+    #[inline(always)]
+    pub(crate) fn place(&self, head: usize, at: usize) -> usize
+        requires small { self.now.width ≤ 2 ^ 60 }
         requires head { head < self.now.width }
-        requires row { row < self.now.rows }
         requires at { at < self.now.width }
-        ensures value { result ≡ row * self.now.width + wrapped self.now.width head at }
-        ensures within { result < 64 * length self.now.bits }
+        ensures { result ≡ wrapped self.now.width head at }
     {
-        let place = if head + at < self.width {
+        if head + at < self.width {
             head + at
         } else {
             head + at - self.width
-        };
-        row * self.width + place
+        }
     }
 
-    /// Puts an entry into a row or takes it out.
-    fn put(&mut self, head: usize, row: usize, at: usize, within: bool)
+    /// Puts a place into a row or takes it out.
+    #[inline(always)]
+    fn put(&mut self, place: usize, row: usize, within: bool)
         requires room { HasRoom self.old }
-        requires head { head < self.old.width }
+        requires place { place < self.old.width }
         requires row { row < self.old.rows }
-        requires at { at < self.old.width }
         ensures shape { KeepsShape self.old self.new }
-        ensures bits { IsSet (row * self.old.width + wrapped self.old.width head at) within
+        ensures bits { IsSet (row * self.old.width + place) within self.old.bits self.new.bits }
+    {
+        self.bits.set(row * self.width + place, within);
+    }
+
+    /// Takes an entry out of its row, where it stands in it.
+    #[inline(always)]
+    fn leave(&mut self, kind: Kind, place: usize, old: &Entry)
+        requires kind { self.old.kind ≡ kind }
+        requires room { HasRoom self.old }
+        requires place { place < self.old.width }
+        requires old { row_of kind self.old.rows old.now < self.old.rows }
+        ensures shape { KeepsShape self.old self.new }
+        ensures bits { (head at : ℕ) (items : List Entry)
+            → place ≡ wrapped self.old.width head at → at < length items
+            → entry_at items at ≡ old.now → Shows self.old head items
+            → IsSet (row_of kind self.old.rows old.now * self.old.width + place) false
             self.old.bits self.new.bits }
     {
-        let slot = self.slot(head, row, at);
-        self.bits.set(slot, within);
+        if kind.has(old) {
+            let row = kind.row(self.rows, old);
+            self.put(place, row, false);
+        }
     }
 
-    /// Notes that the entry of a number becomes another.
-    pub(crate) fn change(&mut self, head: usize, at: usize, old: &Entry, new: &Entry)
+    /// Notes that an entry changes in its row.
+    #[inline(always)]
+    pub(crate) fn change(&mut self, kind: Kind, place: usize, new: &Entry)
+        requires kind { self.old.kind ≡ kind }
         requires room { HasRoom self.old }
-        requires head { head < self.old.width }
-        requires at { at < self.old.width }
-        requires old { row_of self.old.kind self.old.rows old.now < self.old.rows }
-        requires new { row_of self.old.kind self.old.rows new.now < self.old.rows }
+        requires place { place < self.old.width }
+        requires new { row_of kind self.old.rows new.now < self.old.rows }
         ensures shape { KeepsShape self.old self.new }
-        ensures shows { (items : List Entry) → at < length items → entry_at items at ≡ old.now
+        ensures shows { (head at : ℕ) (items : List Entry)
+            → place ≡ wrapped self.old.width head at → at < length items
+            → row_of kind self.old.rows (entry_at items at) ≡ row_of kind self.old.rows new.now
             → Shows self.old head items → Shows self.new head (set items at new.now) }
     {
-        if self.are_alike(old, new) {
-            return;
-        }
-        let row = self.row(old);
-        self.put(head, row, at, false);
-        let row = self.row(new);
-        let within = self.has(new);
-        self.put(head, row, at, within);
+        let row = kind.row(self.rows, new);
+        self.put(place, row, kind.has(new));
     }
 
-    /// Notes that an entry is added after so many.
-    pub(crate) fn add(&mut self, head: usize, len: usize, new: &Entry)
+    /// Notes that an entry becomes another, maybe in another row.
+    #[inline(always)]
+    pub(crate) fn transfer(&mut self, kind: Kind, place: usize, old: &Entry, new: &Entry)
+        requires kind { self.old.kind ≡ kind }
         requires room { HasRoom self.old }
-        requires head { head < self.old.width }
-        requires len { len < self.old.width }
-        requires new { row_of self.old.kind self.old.rows new.now < self.old.rows }
+        requires place { place < self.old.width }
+        requires old { row_of kind self.old.rows old.now < self.old.rows }
+        requires new { row_of kind self.old.rows new.now < self.old.rows }
         ensures shape { KeepsShape self.old self.new }
-        ensures shows { (items : List Entry) → length items ≡ len
+        ensures shows { (head at : ℕ) (items : List Entry)
+            → place ≡ wrapped self.old.width head at → at < length items
+            → entry_at items at ≡ old.now
+            → Shows self.old head items → Shows self.new head (set items at new.now) }
+    {
+        self.leave(kind, place, old);
+        let row = kind.row(self.rows, new);
+        self.put(place, row, kind.has(new));
+    }
+
+    /// Notes that an entry is added after the others.
+    #[inline(always)]
+    pub(crate) fn add(&mut self, kind: Kind, place: usize, new: &Entry)
+        requires kind { self.old.kind ≡ kind }
+        requires room { HasRoom self.old }
+        requires place { place < self.old.width }
+        requires new { row_of kind self.old.rows new.now < self.old.rows }
+        ensures shape { KeepsShape self.old self.new }
+        ensures shows { (head : ℕ) (items : List Entry)
+            → place ≡ wrapped self.old.width head (length items) → length items < self.old.width
             → Shows self.old head items → Shows self.new head (items ++ new.now ∷ []) }
     {
-        if self.has(new) {
-            let row = self.row(new);
-            self.put(head, row, len, true);
+        if kind.has(new) {
+            let row = kind.row(self.rows, new);
+            self.put(place, row, true);
         }
     }
 
     /// Notes that the first entry is dropped.
-    pub(crate) fn retire(&mut self, head: usize, old: &Entry)
+    #[inline(always)]
+    pub(crate) fn retire(&mut self, kind: Kind, head: usize, old: &Entry)
+        requires kind { self.old.kind ≡ kind }
         requires room { HasRoom self.old }
         requires head { head < self.old.width }
-        requires old { row_of self.old.kind self.old.rows old.now < self.old.rows }
+        requires old { row_of kind self.old.rows old.now < self.old.rows }
         ensures shape { KeepsShape self.old self.new }
         ensures shows { (items : List Entry) → front_of items ≡ Some old.now
             → Shows self.old head items
             → Shows self.new (wrapped self.old.width head 1) (rest items) }
     {
-        if self.has(old) {
-            let row = self.row(old);
-            self.put(head, row, 0, false);
-        }
+        self.leave(kind, head, old);
     }
 
     /// The first entry from a number on that stands in a row.
+    #[inline(always)]
     pub(crate) fn next(&self, head: usize, row: usize, from: usize) -> Option<usize>
+        requires room { HasRoom self.now }
+        requires head { head < self.now.width }
+        requires row { row < self.now.rows }
+        ensures { (items : List Entry) → Shows self.now head items
+            → MatchOption result (HasNoMoreIn self.now row from items)
+            (λ at. IsNextIn self.now row from at items) }
+    {
+        if self.width == WORD {
+            self.next_in_word(head, row, from)
+        } else {
+            self.next_in_words(head, row, from)
+        }
+    }
+
+    /// The same where a row is one word, by the word turned so that the first entry has the lowest bit.
+    #[inline(always)]
+    fn next_in_word(&self, head: usize, row: usize, from: usize) -> Option<usize>
+        requires word { self.now.width ≡ 64 }
+        requires room { HasRoom self.now }
+        requires head { head < self.now.width }
+        requires row { row < self.now.rows }
+        ensures { (items : List Entry) → Shows self.now head items
+            → MatchOption result (HasNoMoreIn self.now row from items)
+            (λ at. IsNextIn self.now row from at items) }
+    {
+        if from >= WORD {
+            return None;
+        }
+        let rest = self.bits.word(row).rotate_right(head as u32) >> from;
+        if rest == 0 {
+            return None;
+        }
+        Some(from + rest.trailing_zeros() as usize)
+    }
+
+    /// The same where a row is many words.
+    #[inline(never)]
+    fn next_in_words(&self, head: usize, row: usize, from: usize) -> Option<usize>
         requires room { HasRoom self.now }
         requires head { head < self.now.width }
         requires row { row < self.now.rows }
@@ -232,6 +295,60 @@ impl Marks {
                 Some(at) => Some(at - base + self.width - head),
                 None => None,
             }
+        }
+    }
+
+    /// The least row from one on, and below another, in which an entry stands.
+    #[inline(always)]
+    pub(crate) fn next_row(&self, from: usize, to: usize) -> Option<usize>
+        requires room { HasRoom self.now }
+        requires some { 0 < self.now.width }
+        requires to { to ≤ self.now.rows }
+        ensures { (head : ℕ) (items : List Entry) → Shows self.now head items
+            → MatchOption result (HasNoRow self.now from to items)
+            (λ row. IsNextRow self.now from to row items) }
+    {
+        if self.width == WORD {
+            self.next_row_of_word(from, to)
+        } else {
+            self.next_row_of_words(from, to)
+        }
+    }
+
+    /// The same where a row is one word.
+    #[inline(always)]
+    fn next_row_of_word(&self, from: usize, to: usize) -> Option<usize>
+        requires word { self.now.width ≡ 64 }
+        requires room { HasRoom self.now }
+        requires to { to ≤ self.now.rows }
+        ensures { (head : ℕ) (items : List Entry) → Shows self.now head items
+            → MatchOption result (HasNoRow self.now from to items)
+            (λ row. IsNextRow self.now from to row items) }
+    {
+        for row in from..to {
+            if self.bits.word(row) != 0 {
+                return Some(row);
+            }
+        }
+        None
+    }
+
+    /// The same where a row is many words.
+    #[inline(never)]
+    fn next_row_of_words(&self, from: usize, to: usize) -> Option<usize>
+        requires room { HasRoom self.now }
+        requires some { 0 < self.now.width }
+        requires to { to ≤ self.now.rows }
+        ensures { (head : ℕ) (items : List Entry) → Shows self.now head items
+            → MatchOption result (HasNoRow self.now from to items)
+            (λ row. IsNextRow self.now from to row items) }
+    {
+        if from >= to {
+            return None;
+        }
+        match self.least(from * self.width, to * self.width) {
+            None => None,
+            Some(at) => Some(at / self.width),
         }
     }
 

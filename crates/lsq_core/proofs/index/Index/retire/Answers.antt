@@ -1,8 +1,5 @@
-use Rattle.std.proofs.Common.{◌*◌, arith}
-use Rattle.lsq_core.specs.declared.marks.Kind.TheVariants as kind
-use Rattle.lsq_core.specs.Index.{buckets}
-use Rattle.lsq_core.proofs.IndexLemmas.{pending_below, row_within}
+use Rattle.lsq_core.proofs.IndexLemmas.{pending_within}
 use Rattle.lsq_core.proofs.index.Index.retire.Goals as goal
 
 pub retire-requires-6-clause-old : goal.retire-requires-6-clause-old
-retire-requires-6-clause-old g c = row_within kind.Pending (2 * buckets g.shape.1) g.shape.1 c.args.self.now.pending c.args.old.now c.requires.0.pending (pending_below (buckets g.shape.1) c.args.old.now (let w = c.requires.0.some in omega arith))
+retire-requires-6-clause-old g c = pending_within g.shape.1 c.args.self.now.pending c.args.old.now c.requires.0.pending c.requires.0.some

@@ -1,7 +1,7 @@
 use Rattle.std.proofs.Common.{◌-◌, ◌≤◌, length}
 use Rattle.lsq_core.specs.Wants.{NoneBelow}
 use Rattle.lsq_core.specs.Index.{runs}
-use Rattle.lsq_core.proofs.indexed.Indexed.first_of.Given as goal
+use Rattle.lsq_core.proofs.indexed.Indexed.first_from.Given as goal
 
 abbrev pub invariant-loop-at : goal.invariant-loop-at
 invariant-loop-at l = record {

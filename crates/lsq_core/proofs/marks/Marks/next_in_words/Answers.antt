@@ -1,6 +1,6 @@
 use Rattle.std.proofs.Common.{◌+◌, ◌*◌, ◌-◌, arith}
 use Rattle.lsq_core.proofs.IndexLemmas.{next_high, next_low}
-use Rattle.lsq_core.proofs.marks.Marks.next.Goals as goal
+use Rattle.lsq_core.proofs.marks.Marks.next_in_words.Goals as goal
 
 pub returns-in-Some : goal.returns-in-Some
 returns-in-Some c = λ items. next_high c.args.self.now c.args.head c.args.row c.args.from c.in-Some.at items c.requires.row c.if-head-from.true c.in-Some.ensures.1 c.in-Some.ensures.0
