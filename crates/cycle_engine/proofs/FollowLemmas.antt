@@ -9,14 +9,14 @@ use Rattle.net_types.specs.declared.net.Net.{Net}
 use Rattle.net_types.specs.declared.firing.Firing.{Firing}
 use Rattle.net_types.specs.Nets.{into, out_of, chan_at}
 use Rattle.net_core.specs.Fire.{State, added, among, first, has_room, head_at, moved, puts_on, taken, takes_from, tokens_at}
-use Rattle.net_core.specs.Held.{Held}
+use Rattle.net_core.specs.declared.state.State.{State as Stored}
 use Rattle.net_core.specs.declared.plan.Put.{Put}
 use Rattle.net_core.specs.declared.plan.Plan.{Plan}
 use Rattle.net_core.specs.Plans.{chans_of, places_of, taken_of}
-use Rattle.net_core.specs.States.{state_of, IsPlanOf}
+use Rattle.net_core.specs.States.{state_of, dates_of, IsPlanOf}
 use Rattle.net_core.proofs.ApartLemmas.{puts-inv}
 use Rattle.net_core.proofs.GoesLemmas.{heads}
-use Rattle.net_core.proofs.MoveLemmas.{chans_are, slots_at}
+use Rattle.net_core.proofs.MoveLemmas.{chans_are}
 use Rattle.net_core.proofs.RowLemmas.{Each, Has, get-changed, length-changed}
 use Rattle.cycle_engine.specs.declared.engine.Engine.{Engine}
 use Rattle.cycle_engine.specs.Cycles.{Dated, dated}
@@ -155,8 +155,8 @@ holds_among d (c ∷ cs) h = by (d == c) refl h.at h.within h.is (λ k. holds_am
 -- ---- marks at channels that were full
 
 -- one channel, and then others
-pub freed_then : (held : Held) (c x : ℕ) (ds : List ℕ) (a b f : Freed) → IsFreed held c (x ∷ []) a b → IsFreed held c ds b f → IsFreed held c (x ∷ ds) a f
-freed_then held c x ds a b f p q = record {
+pub freed_then : (net : Net) (s : Stored) (c x : ℕ) (ds : List ℕ) (a b f : Freed) → IsFreed net s c (x ∷ []) a b → IsFreed net s c ds b f → IsFreed net s c (x ∷ ds) a f
+freed_then net s c x ds a b f p q = record {
   long = q.long ∙ p.long;
   listed = λ h. q.listed (p.listed h);
   marked = λ d h l w. in_list d h.at h.within h.is l w;
@@ -171,11 +171,11 @@ freed_then held c x ds a b f p q = record {
     one d zero l e = record { at = 0; within = omega arith; is = e }
     one d (suc i) l e = absurd (omega arith)
 
-    still : (d : ℕ) → IsLongFull held c d → d < length b.marked.items → get_or b.marked.items d false ≡ true → (y : Bool) → among d ds ≡ y → get_or f.marked.items d false ≡ true
+    still : (d : ℕ) → IsLongFull net s c d → d < length b.marked.items → get_or b.marked.items d false ≡ true → (y : Bool) → among d ds ≡ y → get_or f.marked.items d false ≡ true
     still d l w m true e = q.marked d (among_holds d ds e) l w
     still d l w m false e = q.others d (λ h. (let z : false ≡ true = sym e ∙ holds_among d ds h in cc)) ∙ m
 
-    in_list : (d i : ℕ) → i < length (x ∷ ds) → get_or (x ∷ ds) i 0 ≡ d → IsLongFull held c d → d < length a.marked.items → get_or f.marked.items d false ≡ true
+    in_list : (d i : ℕ) → i < length (x ∷ ds) → get_or (x ∷ ds) i 0 ≡ d → IsLongFull net s c d → d < length a.marked.items → get_or f.marked.items d false ≡ true
     in_list d zero l e full w = (let n = p.long in still d full (omega arith) (p.marked d (record { at = 0; within = omega arith; is = e }) full w) (among d ds) refl)
     in_list d (suc i) l e full w = (let n = p.long in q.marked d (record { at = i; within = omega arith; is = e }) full (omega arith))
 
@@ -205,11 +205,11 @@ dated_or net u c d (Some w) o od i j = by (d == out_of u w.place net.chans) i j
     by false i j = inl (sym i, sym j)
 
 module _ (net : Net) (c : ℕ) (start : Dated) (e e' : Engine) (f : Firing) (p : Plan) (eng : IsEngine net e) (is : IsPlanOf net e.state f (Some p)) (room : has_room net (state_of e.state) f.unit p.put)
-    (r : dated_of e' ≡ after_of net c (dated_of e) f.unit (effect_in net e f p)) (freed : IsFreed e.dates c (chans_of (taken_of net f.unit p.takes)) e.freed e'.freed) (long : length e.freed.marked.items ≡ length net.chans) where
-  known_of : (d : ℕ) → IsFollowed net c start e d → IsKnown (chan_at net d).slots c (length (tokens_at start.state d)) (tokens_at (state_of e.state) d) (get_or e.dates.tokens d []) (get_or e.freed.marked.items d false)
+    (r : dated_of e' ≡ after_of net c (dated_of e) f.unit (effect_in net e f p)) (freed : IsFreed net e.state c (chans_of (taken_of net f.unit p.takes)) e.freed e'.freed) (long : length e.freed.marked.items ≡ length net.chans) where
+  known_of : (d : ℕ) → IsFollowed net c start e d → IsKnown (chan_at net d).slots c (length (tokens_at start.state d)) (tokens_at (state_of e.state) d) (get_or (dates_of e.state) d []) (get_or e.freed.marked.items d false)
   known_of d h = record { marked = h.marked; clear = h.clear; newest = h.newest }
 
-  followed_of : (d : ℕ) (ys ds : List ℕ) → tokens_at (state_of e'.state) d ≡ ys → get_or e'.dates.tokens d [] ≡ ds
+  followed_of : (d : ℕ) (ys ds : List ℕ) → tokens_at (state_of e'.state) d ≡ ys → get_or (dates_of e'.state) d [] ≡ ds
       → IsKnown (chan_at net d).slots c (length (tokens_at start.state d)) ys ds (get_or e'.freed.marked.items d false) → IsFollowed net c start e' d
   followed_of d ys ds y z k =
       let P : List ℕ → Type 0 = λ xs. IsKnown (chan_at net d).slots c (length (tokens_at start.state d)) xs ds (get_or e'.freed.marked.items d false) in
@@ -217,16 +217,13 @@ module _ (net : Net) (c : ℕ) (start : Dated) (e e' : Engine) (f : Firing) (p :
       let h = subst Q (sym z) (subst P (sym y) k) in
       record { marked = h.marked; clear = h.clear; newest = h.newest }
 
-  slots_are : (d : ℕ) → get_or e.dates.slots d 0 ≡ (chan_at net d).slots
-  slots_are d = ap (λ xs. get_or xs d 0) eng.slots ∙ slots_at net.chans d
+  to_long : (d : ℕ) → IsLong (chan_at net d).slots c (get_or (dates_of e.state) d []) → IsLongFull net e.state c d
+  to_long d h = ((let a = h.0 in let b = eng.dated.each d in omega arith), h.1)
 
-  to_long : (d : ℕ) → IsLong (chan_at net d).slots c (get_or e.dates.tokens d []) → IsLongFull e.dates c d
-  to_long d h = ((let a = h.0 in let b = slots_are d in omega arith), h.1)
+  of_long : (d : ℕ) → IsLongFull net e.state c d → IsLong (chan_at net d).slots c (get_or (dates_of e.state) d [])
+  of_long d h = ((let a = h.0 in let b = eng.dated.each d in omega arith), h.1)
 
-  of_long : (d : ℕ) → IsLongFull e.dates c d → IsLong (chan_at net d).slots c (get_or e.dates.tokens d [])
-  of_long d h = ((let a = h.0 in let b = slots_are d in omega arith), h.1)
-
-  other : (d : ℕ) → (IsLong (chan_at net d).slots c (get_or e.dates.tokens d []) → ⊥) → get_or e'.freed.marked.items d false ≡ get_or e.freed.marked.items d false
+  other : (d : ℕ) → (IsLong (chan_at net d).slots c (get_or (dates_of e.state) d []) → ⊥) → get_or e'.freed.marked.items d false ≡ get_or e.freed.marked.items d false
   other d n = freed.kept d (λ h. n (of_long d h))
 
   -- the channels taken from are those of the moves
@@ -236,20 +233,20 @@ module _ (net : Net) (c : ℕ) (start : Dated) (e e' : Engine) (f : Firing) (p :
   pub followed_after : ((d : ℕ) → IsFollowed net c start e d) → (d : ℕ) → IsFollowed net c start e' d
   followed_after h d = at (cases_lt d (length (state_of e.state).tokens))
     where
-      k : IsKnown (chan_at net d).slots c (length (tokens_at start.state d)) (tokens_at (state_of e.state) d) (get_or e.dates.tokens d []) (get_or e.freed.marked.items d false)
+      k : IsKnown (chan_at net d).slots c (length (tokens_at start.state d)) (tokens_at (state_of e.state) d) (get_or (dates_of e.state) d []) (get_or e.freed.marked.items d false)
       k = known_of d (h d)
 
-      same : length (get_or e.dates.tokens d []) ≡ length (tokens_at (state_of e.state) d)
+      same : length (get_or (dates_of e.state) d []) ≡ length (tokens_at (state_of e.state) d)
       same = eng.dated.each d
 
       tokens : tokens_at (state_of e'.state) d ≡ tokens_at (after_of net c (dated_of e) f.unit (effect_in net e f p)).state d
       tokens = ap (λ (s : Dated). tokens_at s.state d) r
 
-      dates : get_or e'.dates.tokens d [] ≡ get_or (after_of net c (dated_of e) f.unit (effect_in net e f p)).dates d []
+      dates : get_or (dates_of e'.state) d [] ≡ get_or (after_of net c (dated_of e) f.unit (effect_in net e f p)).dates d []
       dates = ap (λ (s : Dated). get_or s.dates d []) r
 
-      stays : get_or e'.freed.marked.items d false ≡ get_or e.freed.marked.items d false → IsKnown (chan_at net d).slots c (length (tokens_at start.state d)) (tokens_at (state_of e.state) d) (get_or e.dates.tokens d []) (get_or e'.freed.marked.items d false)
-      stays m = (let P : Bool → Type 0 = λ b. IsKnown (chan_at net d).slots c (length (tokens_at start.state d)) (tokens_at (state_of e.state) d) (get_or e.dates.tokens d []) b in subst P (sym m) k)
+      stays : get_or e'.freed.marked.items d false ≡ get_or e.freed.marked.items d false → IsKnown (chan_at net d).slots c (length (tokens_at start.state d)) (tokens_at (state_of e.state) d) (get_or (dates_of e.state) d []) (get_or e'.freed.marked.items d false)
+      stays m = (let P : Bool → Type 0 = λ b. IsKnown (chan_at net d).slots c (length (tokens_at start.state d)) (tokens_at (state_of e.state) d) (get_or (dates_of e.state) d []) b in subst P (sym m) k)
 
       at : (d < length (state_of e.state).tokens) ⊎ (length (state_of e.state).tokens ≤ d) → IsFollowed net c start e' d
       at (inr l) =
@@ -257,9 +254,9 @@ module _ (net : Net) (c : ℕ) (start : Dated) (e e' : Engine) (f : Firing) (p :
           let a = eng.dated.chans in
           let b = eng.dated.lists in
           let m = length-changed (moved net f.unit (effect_in net e f p)) 0 (state_of e.state).tokens in
-          let n = length-changed (moved net f.unit (record (effect_in net e f p) { put = dated c p.put })) 0 e.dates.tokens in
-          let old : get_or e.dates.tokens d [] ≡ [] = get_or_past e.dates.tokens d [] (omega arith) in
-          followed_of d (tokens_at (state_of e.state) d) (get_or e.dates.tokens d [])
+          let n = length-changed (moved net f.unit (record (effect_in net e f p) { put = dated c p.put })) 0 (dates_of e.state) in
+          let old : get_or (dates_of e.state) d [] ≡ [] = get_or_past (dates_of e.state) d [] (omega arith) in
+          followed_of d (tokens_at (state_of e.state) d) (get_or (dates_of e.state) d [])
           (tokens ∙ (get_or_past (after_of net c (dated_of e) f.unit (effect_in net e f p)).state.tokens d [] (omega arith) ∙ sym (get_or_past (state_of e.state).tokens d [] l')))
           (dates ∙ (get_or_past (after_of net c (dated_of e) f.unit (effect_in net e f p)).dates d [] (omega arith) ∙ sym old))
           (stays (other d (λ z. (let P : List ℕ → Type 0 = λ xs. IsSomeAnd (last_item xs) (λ x. x < c) in subst P old z.1))))
@@ -271,8 +268,8 @@ module _ (net : Net) (c : ℕ) (start : Dated) (e e' : Engine) (f : Firing) (p :
           ys : tokens_at (state_of e'.state) d ≡ added (puts_on net f.unit p.put d) (taken (takes_from net f.unit (effect_in net e f p) d) (tokens_at (state_of e.state) d))
           ys = tokens ∙ get-changed (moved net f.unit (effect_in net e f p)) 0 (state_of e.state).tokens d d (omega arith) l
 
-          ds : get_or e'.dates.tokens d [] ≡ added (puts_on net f.unit (dated c p.put) d) (taken (takes_from net f.unit (effect_in net e f p) d) (get_or e.dates.tokens d []))
-          ds = dates ∙ get-changed (moved net f.unit (record (effect_in net e f p) { put = dated c p.put })) 0 e.dates.tokens d d (omega arith) (let a = eng.dated.chans in let b = eng.dated.lists in omega arith)
+          ds : get_or (dates_of e'.state) d [] ≡ added (puts_on net f.unit (dated c p.put) d) (taken (takes_from net f.unit (effect_in net e f p) d) (get_or (dates_of e.state) d []))
+          ds = dates ∙ get-changed (moved net f.unit (record (effect_in net e f p) { put = dated c p.put })) 0 (dates_of e.state) d d (omega arith) (let a = eng.dated.chans in let b = eng.dated.lists in omega arith)
 
           some : takes_from net f.unit (effect_in net e f p) d ≡ true → 0 < length (tokens_at (state_of e.state) d)
           some t = taken_all net f.unit d (effect_in net e f p) (λ q. 0 < length (tokens_at (state_of e.state) q)) t
@@ -284,7 +281,7 @@ module _ (net : Net) (c : ℕ) (start : Dated) (e e' : Engine) (f : Firing) (p :
           apart : takes_from net f.unit (effect_in net e f p) d ≡ false → get_or e'.freed.marked.items d false ≡ get_or e.freed.marked.items d false
           apart t = freed.others d (λ x. (let P : List ℕ → Type 0 = Holds d in false≢true (sym t ∙ holds_among d (map (λ q. into f.unit q net.chans) (places_of p.takes)) (subst P taken_are x))))
 
-          turns : takes_from net f.unit (effect_in net e f p) d ≡ true → IsLong (chan_at net d).slots c (get_or e.dates.tokens d []) → get_or e'.freed.marked.items d false ≡ true
+          turns : takes_from net f.unit (effect_in net e f p) d ≡ true → IsLong (chan_at net d).slots c (get_or (dates_of e.state) d []) → get_or e'.freed.marked.items d false ≡ true
           turns t x = freed.marked d (holds t) (to_long d x) (let a = eng.dated.chans in omega arith)
 
           free : (v : ℕ) → puts_on net f.unit p.put d ≡ Some v → length (tokens_at (state_of e.state) d) < (chan_at net d).slots
@@ -299,22 +296,22 @@ module _ (net : Net) (c : ℕ) (start : Dated) (e e' : Engine) (f : Firing) (p :
             where
               one : ((o ≡ None) × (od ≡ None)) ⊎ ((v : ℕ) × (o ≡ Some v) × (od ≡ Some c)) → (t : Bool) → takes_from net f.unit (effect_in net e f p) d ≡ t → IsFollowed net c start e' d
               one (inl q) false i =
-                  followed_of d (added None (taken false (tokens_at (state_of e.state) d))) (added None (taken false (get_or e.dates.tokens d [])))
+                  followed_of d (added None (taken false (tokens_at (state_of e.state) d))) (added None (taken false (get_or (dates_of e.state) d [])))
                   (ys ∙ (ap (λ x. added x (taken (takes_from net f.unit (effect_in net e f p) d) (tokens_at (state_of e.state) d))) (j ∙ q.0) ∙ ap (λ b. added None (taken b (tokens_at (state_of e.state) d))) i))
-                  (ds ∙ (ap (λ x. added x (taken (takes_from net f.unit (effect_in net e f p) d) (get_or e.dates.tokens d []))) (n ∙ q.1) ∙ ap (λ b. added None (taken b (get_or e.dates.tokens d []))) i))
+                  (ds ∙ (ap (λ x. added x (taken (takes_from net f.unit (effect_in net e f p) d) (get_or (dates_of e.state) d []))) (n ∙ q.1) ∙ ap (λ b. added None (taken b (get_or (dates_of e.state) d []))) i))
                   (stays (apart i))
               one (inl q) true i =
-                  followed_of d (added None (taken true (tokens_at (state_of e.state) d))) (added None (taken true (get_or e.dates.tokens d [])))
+                  followed_of d (added None (taken true (tokens_at (state_of e.state) d))) (added None (taken true (get_or (dates_of e.state) d [])))
                   (ys ∙ (ap (λ x. added x (taken (takes_from net f.unit (effect_in net e f p) d) (tokens_at (state_of e.state) d))) (j ∙ q.0) ∙ ap (λ b. added None (taken b (tokens_at (state_of e.state) d))) i))
-                  (ds ∙ (ap (λ x. added x (taken (takes_from net f.unit (effect_in net e f p) d) (get_or e.dates.tokens d []))) (n ∙ q.1) ∙ ap (λ b. added None (taken b (get_or e.dates.tokens d []))) i))
-                  (known_taken (chan_at net d).slots c (length (tokens_at start.state d)) (tokens_at (state_of e.state) d) (get_or e.dates.tokens d []) (get_or e.freed.marked.items d false) (get_or e'.freed.marked.items d false) same k (some i) (turns i) (other d))
+                  (ds ∙ (ap (λ x. added x (taken (takes_from net f.unit (effect_in net e f p) d) (get_or (dates_of e.state) d []))) (n ∙ q.1) ∙ ap (λ b. added None (taken b (get_or (dates_of e.state) d []))) i))
+                  (known_taken (chan_at net d).slots c (length (tokens_at start.state d)) (tokens_at (state_of e.state) d) (get_or (dates_of e.state) d []) (get_or e.freed.marked.items d false) (get_or e'.freed.marked.items d false) same k (some i) (turns i) (other d))
               one (inr (v, a, b)) false i =
-                  followed_of d (added (Some v) (taken false (tokens_at (state_of e.state) d))) (added (Some c) (taken false (get_or e.dates.tokens d [])))
+                  followed_of d (added (Some v) (taken false (tokens_at (state_of e.state) d))) (added (Some c) (taken false (get_or (dates_of e.state) d [])))
                   (ys ∙ (ap (λ x. added x (taken (takes_from net f.unit (effect_in net e f p) d) (tokens_at (state_of e.state) d))) (j ∙ a) ∙ ap (λ b. added (Some v) (taken b (tokens_at (state_of e.state) d))) i))
-                  (ds ∙ (ap (λ x. added x (taken (takes_from net f.unit (effect_in net e f p) d) (get_or e.dates.tokens d []))) (n ∙ b) ∙ ap (λ b. added (Some c) (taken b (get_or e.dates.tokens d []))) i))
-                  (known_put (chan_at net d).slots c (length (tokens_at start.state d)) (tokens_at (state_of e.state) d) (get_or e.dates.tokens d []) (get_or e.freed.marked.items d false) (get_or e'.freed.marked.items d false) same k v (free v (j ∙ a)) (apart i))
+                  (ds ∙ (ap (λ x. added x (taken (takes_from net f.unit (effect_in net e f p) d) (get_or (dates_of e.state) d []))) (n ∙ b) ∙ ap (λ b. added (Some c) (taken b (get_or (dates_of e.state) d []))) i))
+                  (known_put (chan_at net d).slots c (length (tokens_at start.state d)) (tokens_at (state_of e.state) d) (get_or (dates_of e.state) d []) (get_or e.freed.marked.items d false) (get_or e'.freed.marked.items d false) same k v (free v (j ∙ a)) (apart i))
               one (inr (v, a, b)) true i =
-                  followed_of d (added (Some v) (taken true (tokens_at (state_of e.state) d))) (added (Some c) (taken true (get_or e.dates.tokens d [])))
+                  followed_of d (added (Some v) (taken true (tokens_at (state_of e.state) d))) (added (Some c) (taken true (get_or (dates_of e.state) d [])))
                   (ys ∙ (ap (λ x. added x (taken (takes_from net f.unit (effect_in net e f p) d) (tokens_at (state_of e.state) d))) (j ∙ a) ∙ ap (λ b. added (Some v) (taken b (tokens_at (state_of e.state) d))) i))
-                  (ds ∙ (ap (λ x. added x (taken (takes_from net f.unit (effect_in net e f p) d) (get_or e.dates.tokens d []))) (n ∙ b) ∙ ap (λ b. added (Some c) (taken b (get_or e.dates.tokens d []))) i))
-                  (known_moved (chan_at net d).slots c (length (tokens_at start.state d)) (tokens_at (state_of e.state) d) (get_or e.dates.tokens d []) (get_or e.freed.marked.items d false) (get_or e'.freed.marked.items d false) same k (some i) (turns i) (other d) v)
+                  (ds ∙ (ap (λ x. added x (taken (takes_from net f.unit (effect_in net e f p) d) (get_or (dates_of e.state) d []))) (n ∙ b) ∙ ap (λ b. added (Some c) (taken b (get_or (dates_of e.state) d []))) i))
+                  (known_moved (chan_at net d).slots c (length (tokens_at start.state d)) (tokens_at (state_of e.state) d) (get_or (dates_of e.state) d []) (get_or e.freed.marked.items d false) (get_or e'.freed.marked.items d false) same k (some i) (turns i) (other d) v)

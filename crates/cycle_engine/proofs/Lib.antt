@@ -10,8 +10,10 @@ mod QueueTurnLemmas
 mod TurnLemmas
 mod ControlLemmas
 mod StepLemmas
+mod SendLemmas
 mod RunLemmas
 mod UsedLemmas
+mod FeedLemmas
 mod MakeLemmas
 mod StartLemmas
 mod MarkLemmas
@@ -19,5 +21,7 @@ mod NoteLemmas
 mod NextLemmas
 mod ExecLemmas
 pub mod FollowLemmas
+mod GoLemmas
+mod UnitTurnLemmas
 mod SwapLemmas
 pub mod SameLemmas

@@ -5,85 +5,86 @@ use Rattle.el_base.specs.Limits.{max_depth}
 use Rattle.el_base.specs.Logs.{Logged}
 use Rattle.net_types.specs.declared.net.Net.{Net}
 use Rattle.net_types.specs.declared.firing.Firing.{Firing}
-use Rattle.net_types.specs.Nets.{into, out_of, chan_at, kind_of}
-use Rattle.net_core.specs.Fire.{Effect, has_room, after, after_effect, applied}
+use Rattle.net_types.specs.Nets.{into, out_of, kind_of}
+use Rattle.net_core.specs.Fire.{Effect, has_room, tokens_at, after, after_effect, applied}
 use Rattle.net_core.specs.declared.plan.Put.{Put}
 use Rattle.net_core.specs.declared.plan.Moves.{Moves}
 use Rattle.net_core.specs.declared.plan.Change.TheVariants as change
 use Rattle.net_core.specs.declared.plan.Plan.{Plan}
-use Rattle.net_core.specs.Held.{AllWithin, HasRoom, laid_on, taken_all}
+use Rattle.net_core.specs.Held.{AllWithin, dated_laid, laid_on, taken_all}
 use Rattle.net_core.specs.Plans.{places_of, effect_by, apart, chans_of, taken_of, laid_of, moves_of}
 use Rattle.net_core.specs.private.Moves.{taken_chans}
-use Rattle.net_core.specs.States.{state_of, IsOf, own_at, array_at, IsPlanOf, CountsRise}
+use Rattle.net_core.specs.States.{state_of, dates_of, IsOf, own_at, array_at, IsPlanOf, CountsRise}
 use Rattle.net_core.proofs.StateLemmas.{plan_within}
-use Rattle.net_core.proofs.MoveLemmas.{chans_are, distinct_of, moves_are, slots_at}
+use Rattle.net_core.proofs.MoveLemmas.{chans_are, distinct_of, moves_are}
 use Rattle.net_replay.specs.Finishes.{IsLogged}
 use Rattle.net_replay.proofs.PathLemmas.{counts_more}
 use Rattle.cycle_engine.specs.declared.engine.Engine.{Engine}
 use Rattle.cycle_engine.specs.declared.engine.Bounds.{Bounds}
 use Rattle.cycle_engine.specs.declared.marks.Marks.{Marks}
+use Rattle.cycle_engine.specs.declared.feeds.Feeds.{Feeds}
 use Rattle.lsq_core.specs.Laws.{phase}
 use Rattle.cycle_engine.specs.Cycles.{Dated, dated, after_by, after_in, AreDated, May, Makes, Once, InOrder, IsUnused, IsOldest, place_of}
-use Rattle.cycle_engine.specs.Cuts.{joined, IsCut}
-use Rattle.cycle_engine.specs.private.Trials.{dated_of, IsEngine, IsBegun, dated_laid, dated_moves, dates_after}
+use Rattle.cycle_engine.specs.Cuts.{joined}
+use Rattle.cycle_engine.specs.private.Trials.{dated_of, IsEngine, IsBegun, dates_after}
 use Rattle.cycle_engine.specs.private.Goings.{Past, IsReady, InCycle, MayFollow, IsMade, IsMore, all_made}
 use Rattle.cycle_engine.specs.private.Control.{HasControl, control_after}
 use Rattle.cycle_engine.specs.private.Used.{AreTold}
-use Rattle.cycle_engine.specs.private.Marking.{IsListed, IsNoted, IsFreed}
+use Rattle.cycle_engine.specs.private.Marking.{IsListed, IsNoted, IsFreed, AreFeeds}
 use Rattle.cycle_engine.proofs.NoteLemmas.{after_is, coming_after}
 use Rattle.cycle_engine.proofs.FollowLemmas.{followed_after}
+use Rattle.cycle_engine.proofs.RousingLemmas.{slots_within}
 use Rattle.cycle_engine.proofs.BeforeLemmas.{after_of}
 use Rattle.cycle_engine.proofs.DateLemmas.{dated_after}
 
 -- ---- dates are moved as tokens are
 
-put_room : (net : Net) (e : Engine) (c u : ℕ) (o : Option Put) → IsEngine net e → has_room net (state_of e.state) u o → IfSome (dated_laid c (laid_of net u o)) (λ w. HasRoom e.dates w.chan)
-put_room net e c u None k h = tt
-put_room net e c u (Some w) k h =
-    let a = k.dated.each (out_of u w.place net.chans) in
-    let b : get_or e.dates.slots (out_of u w.place net.chans) 0 ≡ (chan_at net (out_of u w.place net.chans)).slots = ap (λ xs. get_or xs (out_of u w.place net.chans) 0) k.slots ∙ slots_at net.chans (out_of u w.place net.chans) in
-    omega arith
-
--- there is room for the date of the token that is put
-pub date_room : (net : Net) (e : Engine) (c u : ℕ) (p : Plan) (m : Moves) → m ≡ dated_moves c (moves_of net u p) → IsEngine net e → has_room net (state_of e.state) u p.put → IfSome m.laid (λ w. HasRoom e.dates w.chan)
-date_room net e c u p m s k h = let P : Moves → Type 0 = λ x. IfSome x.laid (λ w. HasRoom e.dates w.chan) in subst P (sym s) (put_room net e c u p.put k h)
-
 each_within : (n : ℕ) (f : ℕ → ℕ) (ps : List ℕ) → AllWithin n (map f ps) → AllByRecursion (λ p. f p < n) ps
 each_within n f [] h = tt
 each_within n f (p ∷ ps) h = (h.0, each_within n f ps h.1)
 
-plan_dates : (net : Net) (e : Engine) (f : Firing) (p : Plan) → IsEngine net e → IsPlanOf net e.state f (Some p) → AllWithin (length e.dates.tokens) (taken_chans net f.unit p.takes)
+plan_dates : (net : Net) (e : Engine) (f : Firing) (p : Plan) → IsEngine net e → IsPlanOf net e.state f (Some p) → AllWithin (length (dates_of e.state)) (taken_chans net f.unit p.takes)
 plan_dates net e f p k is =
     let P : ℕ → Type 0 = λ n. AllWithin n (taken_chans net f.unit p.takes) in
     subst P (k.dated.chans ∙ sym k.dated.lists) (plan_within net e.state f p (sym is))
 
 -- the channels from which a plan takes are among those of the dates
-pub takes_within : (net : Net) (e : Engine) (f : Firing) (p : Plan) → IsEngine net e → IsPlanOf net e.state f (Some p) → AllByRecursion (λ q. into f.unit q net.chans < length e.dates.tokens) (places_of p.takes)
-takes_within net e f p k is = each_within (length e.dates.tokens) (λ q. into f.unit q net.chans) (places_of p.takes) (plan_dates net e f p k is)
+pub takes_within : (net : Net) (e : Engine) (f : Firing) (p : Plan) → IsEngine net e → IsPlanOf net e.state f (Some p) → AllByRecursion (λ q. into f.unit q net.chans < length (dates_of e.state)) (places_of p.takes)
+takes_within net e f p k is = each_within (length (dates_of e.state)) (λ q. into f.unit q net.chans) (places_of p.takes) (plan_dates net e f p k is)
 
-pub dates_within : (net : Net) (e : Engine) (c : ℕ) (f : Firing) (p : Plan) (m : Moves) → m ≡ dated_moves c (moves_of net f.unit p) → IsEngine net e → IsPlanOf net e.state f (Some p) → AllWithin (length e.dates.tokens) (chans_of m.taken)
-dates_within net e c f p m s k is =
-    let P : Moves → Type 0 = λ x. AllWithin (length e.dates.tokens) (chans_of x.taken) in
-    let Q : List ℕ → Type 0 = AllWithin (length e.dates.tokens) in
-    subst P (sym s) (subst Q (sym (chans_are net f.unit p.takes)) (plan_dates net e f p k is))
+-- so are those of its moves, among those of the net
+pub moves_within : (net : Net) (e : Engine) (f : Firing) (p : Plan) (m : Moves) → m ≡ moves_of net f.unit p → IsEngine net e → IsPlanOf net e.state f (Some p) → AllWithin (length net.chans) (chans_of m.taken)
+moves_within net e f p m s k is =
+    let P : Moves → Type 0 = λ x. AllWithin (length net.chans) (chans_of x.taken) in
+    let Q : List ℕ → Type 0 = AllWithin (length net.chans) in
+    let N : ℕ → Type 0 = λ n. AllWithin n (taken_chans net f.unit p.takes) in
+    subst P (sym s) (subst Q (sym (chans_are net f.unit p.takes)) (subst N k.dated.chans (plan_within net e.state f p (sym is))))
+
+-- and that on which is put
+pub laid_within : (net : Net) (e : Engine) (f : Firing) (p : Plan) (m : Moves) → m ≡ moves_of net f.unit p → has_room net (state_of e.state) f.unit p.put → IfSome m.laid (λ w. w.chan < length net.chans)
+laid_within net e f p m s room = (let P : Moves → Type 0 = λ x. IfSome x.laid (λ w. w.chan < length net.chans) in subst P (sym s) (by p.put room))
+  where
+    by : (o : Option Put) → has_room net (state_of e.state) f.unit o → IfSome (laid_of net f.unit o) (λ w. w.chan < length net.chans)
+    by None h = tt
+    by (Some w) h = slots_within net.chans (out_of f.unit w.place net.chans) (length (tokens_at (state_of e.state) (out_of f.unit w.place net.chans))) h
 
 laid_dated : (net : Net) (u c : ℕ) (o : Option Put) → dated_laid c (laid_of net u o) ≡ laid_of net u (dated c o)
 laid_dated net u c None = refl
 laid_dated net u c (Some w) = refl
 
 -- so are the dates moved
-pub dates_made : (net : Net) (c : ℕ) (e : Engine) (f : Firing) (p : Plan) (m : Moves) (new : List (List ℕ)) → IsEngine net e → IsPlanOf net e.state f (Some p) → apart p.takes ≡ true → m ≡ dated_moves c (moves_of net f.unit p)
-    → new ≡ laid_on m.laid (taken_all (chans_of m.taken) e.dates.tokens) → new ≡ dates_after net f.unit p.takes p.put c e.dates.tokens
+pub dates_made : (net : Net) (c : ℕ) (e : Engine) (f : Firing) (p : Plan) (m : Moves) (new : List (List ℕ)) → IsEngine net e → IsPlanOf net e.state f (Some p) → apart p.takes ≡ true → m ≡ moves_of net f.unit p
+    → new ≡ laid_on (dated_laid c m.laid) (taken_all (chans_of m.taken) (dates_of e.state)) → new ≡ dates_after net f.unit p.takes p.put c (dates_of e.state)
 dates_made net c e f p m new k is a s r =
     let x : Plan = record { takes = p.takes; put = dated c p.put; change = change.Keep } in
     let P : ℕ → Type 0 = λ n. AllWithin n (taken_chans net f.unit p.takes) in
     let w : AllWithin (length net.chans) (taken_chans net f.unit p.takes) = subst P k.dated.chans (plan_within net e.state f p (sym is)) in
-    r ∙ (ap (λ (y : Moves). laid_on y.laid (taken_all (chans_of y.taken) e.dates.tokens)) s
-    ∙ (ap (λ l. laid_on l (taken_all (chans_of (taken_of net f.unit p.takes)) e.dates.tokens)) (laid_dated net f.unit c p.put)
-    ∙ moves_are net f.unit x e.dates.tokens (distinct_of net f.unit p.takes a w)))
+    r ∙ (ap (λ (y : Moves). laid_on (dated_laid c y.laid) (taken_all (chans_of y.taken) (dates_of e.state))) s
+    ∙ (ap (λ l. laid_on l (taken_all (chans_of (taken_of net f.unit p.takes)) (dates_of e.state))) (laid_dated net f.unit c p.put)
+    ∙ moves_are net f.unit x (dates_of e.state) (distinct_of net f.unit p.takes a w)))
 
 pub made_is : (net : Net) (c : ℕ) (e e' : Engine) (f : Firing) (p : Plan) → IsPlanOf net e.state f (Some p) → state_of e'.state ≡ after net (state_of e.state) f
-    → e'.dates.tokens ≡ dates_after net f.unit p.takes p.put c e.dates.tokens → dated_of e' ≡ after_in net c (dated_of e) f
+    → (dates_of e'.state) ≡ dates_after net f.unit p.takes p.put c (dates_of e.state) → dated_of e' ≡ after_in net c (dated_of e) f
 made_is net c e e' f p is st d =
     let x : Effect = effect_by (kind_of net f.unit) (own_at e.state f.unit) (array_at net e.state f.unit) p in
     let a : state_of e'.state ≡ applied net f.unit (effect_by (kind_of net f.unit) (own_at e.state f.unit) (array_at net e.state f.unit) p) (state_of e.state) = st ∙ ap (after_effect net (state_of e.state) f.unit) (sym is) in
@@ -91,12 +92,11 @@ made_is net c e e' f p is st d =
     let r : dated_of e' ≡ after_of net c (dated_of e) f.unit (effect_by (kind_of net f.unit) (own_at e.state f.unit) (array_at net e.state f.unit) p) = λ i. record { state = a i; dates = d i } in
     r ∙ sym b
 
-pub made_engine : (net : Net) (c : ℕ) (e e' : Engine) (f : Firing) (p : Plan) → IsEngine net e → IsPlanOf net e.state f (Some p) → dated_of e' ≡ after_in net c (dated_of e) f → IsOf net e'.state
-    → e'.dates.slots ≡ e.dates.slots → IsEngine net e'
-made_engine net c e e' f p k is r o s =
+pub made_engine : (net : Net) (c : ℕ) (e e' : Engine) (f : Firing) (p : Plan) → IsEngine net e → IsPlanOf net e.state f (Some p) → dated_of e' ≡ after_in net c (dated_of e) f → IsOf net e'.state → IsEngine net e'
+made_engine net c e e' f p k is r o =
     let b : after_in net c (dated_of e) f ≡ after_of net c (dated_of e) f.unit (effect_by (kind_of net f.unit) (own_at e.state f.unit) (array_at net e.state f.unit) p) = ap (after_by net c (dated_of e) f.unit) (sym is) in
     let P : Dated → Type 0 = AreDated net in
-    record { state = o; slots = s ∙ k.slots; dated = subst P (sym (r ∙ b)) (dated_after net c (dated_of e) f.unit (effect_by (kind_of net f.unit) (own_at e.state f.unit) (array_at net e.state f.unit) p) k.dated) }
+    record { state = o; dated = subst P (sym (r ∙ b)) (dated_after net c (dated_of e) f.unit (effect_by (kind_of net f.unit) (own_at e.state f.unit) (array_at net e.state f.unit) p) k.dated) }
 
 -- ---- the cycle after it
 
@@ -134,7 +134,7 @@ pub record Makes1 (net : Net) (b : Bounds) (c : ℕ) (old new : Engine) (f : Fir
   pub made : new.made ≡ old.made
   pub logged : IsLogged b.keep (f ∷ []) old.log new.log
   pub notes : IsNoted net m.laid c old.notes new.notes
-  pub freed : IsFreed old.dates c (chans_of m.taken) old.freed new.freed
+  pub freed : IsFreed net old.state c (chans_of m.taken) old.freed new.freed
   pub control : new.control ≡ control_after net m.laid old.control
 
 -- where it was one firing that the limit allows, the engine is ready for the next
@@ -149,10 +149,11 @@ room_left true limit before after f old new l n h k = let a = h refl in let b = 
 room_left false limit before after f old new l n h k = cc
 
 pub made_ready : (net : Net) (b : Bounds) (c : ℕ) (old new : Engine) (f : Firing) (m : Moves) → IsReady net b old → all_made old < b.limit → IsEngine net new → CountsRise max_depth (state_of old.state) (state_of new.state)
-    → AreTold new.used new.made new.fired.items → new.marks ≡ old.marks → Makes1 net b c old new f m → IsReady net b new
-made_ready net b c old new f m ready less engine rise told marks one =
+    → AreTold new.used new.made new.fired.items → length new.used.last.items ≡ length old.used.last.items → new.marks ≡ old.marks → new.feeds ≡ old.feeds → Makes1 net b c old new f m → IsReady net b new
+made_ready net b c old new f m ready less engine rise told long marks feeds one =
     let n = made_more old new f one.made one.fired in
     let P : Marks → Type 0 = IsListed net in
+    let Q : Feeds → Type 0 = AreFeeds net in
     record {
       engine = engine;
       few = ready.few;
@@ -165,6 +166,8 @@ made_ready net b c old new f m ready less engine rise told marks one =
       listed = subst P (sym marks) ready.listed;
       cells = one.notes.cells ∙ ready.cells;
       told = told;
+      places = (let p = ready.places in omega arith);
+      feeds = subst Q (sym feeds) ready.feeds;
     }
 
 pub more_made : (net : Net) (b : Bounds) (c : ℕ) (old new : Engine) (f : Firing) (m : Moves) → Makes1 net b c old new f m → IsMore old new true
@@ -175,7 +178,7 @@ made_begun : (net : Net) (b : Bounds) (c : ℕ) (start : Dated) (old new : Engin
 made_begun net b c start old new f p m ready is s may one began = record {
   chans =
       (let P : Option Effect → Type 0 = λ o. IsSomeAnd o (λ x. has_room net (state_of old.state) f.unit x.put) in
-      let Q : Moves → Type 0 = λ x. IsFreed old.dates c (chans_of x.taken) old.freed new.freed in
+      let Q : Moves → Type 0 = λ x. IsFreed net old.state c (chans_of x.taken) old.freed new.freed in
       followed_after net c start old new f p ready.engine is (subst P (sym is) may.turn) (after_is net c old new f p is one.after) (subst Q s one.freed) ready.chans began.chans);
   queues = λ u q. (ap (λ k. get_or k.items u 0) one.begun ∙ began.queues u q);
 }
@@ -204,21 +207,3 @@ made_going net past b c start old new f p m ready is s going follow un may one c
     control = control;
   };
 }
-
--- the limit cuts the cycle off before a firing that may be made in it
-pub cut_before : (net : Net) (past : Past) (b : Bounds) (c : ℕ) (start : Dated) (e : Engine) (f : Firing) → InCycle net past b c start e → May net c start (dated_of e) f → all_made e ≡ b.limit → IsCut net past.inputs b.limit
-cut_before net past b c start e f going may full =
-    let P : ℕ → Type 0 = λ n. Makes net n start start e.fired.items (dated_of e) in
-    record {
-      cycles = past.cycles;
-      start = start;
-      done = going.done;
-      last = e.fired.items;
-      to = dated_of e;
-      makes = subst P going.number going.makes;
-      once = going.once;
-      order = going.order;
-      count = omega (arith, going.made, full);
-      next = f;
-      goes = may.turn;
-    }

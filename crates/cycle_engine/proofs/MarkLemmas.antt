@@ -7,13 +7,12 @@ use Rattle.std.proofs.lemmas.List.{get_or_append_left, get_or_default}
 use Rattle.std.proofs.lemmas.List.Elements.{at_from_Contains}
 use Rattle.std.proofs.lemmas.List.Sorted.{Contains-permutation}
 use Rattle.net_types.specs.declared.net.Net.{Net}
-use Rattle.net_types.specs.declared.firing.Firing.{Firing}
 use Rattle.net_types.specs.Nets.{kind_of, chan_at}
 use Rattle.net_check.specs.Ends.{is_lsq}
 use Rattle.net_core.specs.Fire.{State}
 use Rattle.net_core.specs.declared.plan.Laid.{Laid}
 use Rattle.cycle_engine.specs.declared.marks.Marks.{Marks}
-use Rattle.cycle_engine.specs.private.Marking.{Holds, HasUnit, no_firing, IsMarked, IsListed, KeepsMarks, IsSourceMarked, IsMergeMarked, IsTargetMarked, IsPutMarked, IsTaken, IsEmptied, IsReordered}
+use Rattle.cycle_engine.specs.private.Marking.{Holds, IsMarked, IsListed, KeepsMarks, IsSourceMarked, IsMergeMarked, IsTargetMarked, IsPutMarked, IsTaken, IsEmptied, IsReordered}
 
 -- ---- lists
 
@@ -52,9 +51,6 @@ bool_within [] zero e = cc
 bool_within [] (suc u) e = cc
 bool_within (x ∷ xs) zero e = omega arith
 bool_within (x ∷ xs) (suc u) e = let l = bool_within xs u e in omega arith
-
-pub marked_within : (m : Marks) (u : ℕ) → IsMarked m u → u < length m.marked.items
-marked_within m u h = bool_within m.marked.items u h
 
 pub keeps_same : (m : Marks) → KeepsMarks m m
 keeps_same m = record { long = refl; kept = λ u h. h; listed = λ net h. h }
@@ -163,12 +159,6 @@ pub reordered_listed : (net : Net) (old new : Marks) → IsReordered old new →
 reordered_listed net old new r h v m =
     held net old new v (subst (Holds v) (ap (λ (x : _). x.items) (sym r.list))) (holds_reordered old.queues.items new.queues.items v r.queues) (h v (ap (λ (x : _). get_or x.items v false) (sym r.marked) ∙ m))
 
--- the last was taken, and has no mark
-pub passed_listed : (net : Net) (old new : Marks) (u : ℕ) → old.queues.items ≡ new.queues.items ++ u ∷ [] → new.list ≡ old.list → new.marked ≡ old.marked → get_or old.marked.items u false ≡ false → IsListed net old → IsListed net new
-passed_listed net old new u l g e f h v m =
-    let k : IsMarked old v = ap (λ (x : _). get_or x.items v false) (sym e) ∙ m in
-    held net old new v (subst (Holds v) (ap (λ (x : _). x.items) (sym g))) (held_left old.queues.items new.queues.items u v l (λ z. (let y : true ≡ false = sym k ∙ (ap (λ x. get_or old.marked.items x false) z ∙ f) in cc))) (h v k)
-
 -- the last was taken, and its mark
 pub turned_listed : (net : Net) (old new : Marks) (u : ℕ) → old.queues.items ≡ new.queues.items ++ u ∷ [] → new.list ≡ old.list → new.marked.items ≡ set old.marked.items u false → IsListed net old → IsListed net new
 turned_listed net old new u l g e h v m =
@@ -188,18 +178,8 @@ marked_queue net m u listed none k = by (listed u k)
 pub source_more : (net : Net) (s : State) (n : ℕ) (a b : Marks) (d : ℕ) → KeepsMarks a b → IsSourceMarked net s n a d → IsSourceMarked net s n b d
 source_more net s n a b d k h l f m = k.kept (chan_at net d).from.unit (h l f m)
 
-pub target_more : (net : Net) (n : ℕ) (a b : Marks) (d : ℕ) → KeepsMarks a b → IsTargetMarked net n a d → IsTargetMarked net n b d
-target_more net n a b d k h l m = k.kept (chan_at net d).to.unit (h l m)
-
 pub source_as : (net : Net) (s : State) (m n : ℕ) (a : Marks) (d : ℕ) → m ≡ n → IsSourceMarked net s m a d → IsSourceMarked net s n a d
 source_as net s m n a d e h l f k = h l f (omega arith)
-
--- the firing of a number has its unit
-pub unit_named : (fs : List Firing) (P : ℕ → Type 0) (u : ℕ) → HasUnit u fs → ((k : ℕ) → k < length fs → P (get_or fs k no_firing).unit) → P u
-unit_named fs P u h f = subst P h.is (f h.at h.within)
-
-pub number_held : (xs : List ℕ) (P : ℕ → Type 0) (x : ℕ) → Holds x xs → ((k : ℕ) → k < length xs → P (get_or xs k 0)) → P x
-number_held xs P x h f = subst P h.is (f h.at h.within)
 
 pub target_as : (net : Net) (m n : ℕ) (a : Marks) (d : ℕ) → m ≡ n → IsTargetMarked net m a d → IsTargetMarked net n a d
 target_as net m n a d e h l k = h l (omega arith)

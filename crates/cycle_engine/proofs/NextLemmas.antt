@@ -10,7 +10,7 @@ use Rattle.net_check.specs.Checks.{IsChecked}
 use Rattle.net_check.specs.Ends.{is_lsq}
 use Rattle.net_core.specs.Fire.{Own, idle, first, has_room, tokens_at}
 use Rattle.net_core.specs.declared.plan.Put.{Put}
-use Rattle.net_core.specs.States.{state_of}
+use Rattle.net_core.specs.States.{state_of, dates_of}
 use Rattle.net_core.proofs.ApartLemmas.{into-at, out_of-at, is_at-inv}
 use Rattle.cycle_engine.specs.declared.engine.Engine.{Engine}
 use Rattle.cycle_engine.specs.declared.engine.Bounds.{Bounds}
@@ -107,13 +107,13 @@ module _ (net : Net) (past : Past) (b : Bounds) (c : ℕ) (start : Dated) (e : E
           by false m = clear ((f.going.began.chans (out_of g.unit w.place net.chans)).clear m)
 
       ripes : (p : ℕ) → IsRipe net (suc c) (dated_of e) (into g.unit p net.chans) → IsRipe net c (dated_of e) (into g.unit p net.chans)
-      ripes p r = by (get_or e.dates.tokens (into g.unit p net.chans) []) refl (f.going.coming (into g.unit p net.chans)) r
+      ripes p r = by (get_or (dates_of e.state) (into g.unit p net.chans) []) refl (f.going.coming (into g.unit p net.chans)) r
         where
           delay : ℕ
           delay = (chan_at net (into g.unit p net.chans)).delay
 
           within : into g.unit p net.chans < length net.chans
-          within = (let w = some_within e.dates.tokens (into g.unit p net.chans) (λ x. x + (chan_at net (into g.unit p net.chans)).delay ≤ suc c) r in let k = eng.dated.lists in omega arith)
+          within = (let w = some_within (dates_of e.state) (into g.unit p net.chans) (λ x. x + (chan_at net (into g.unit p net.chans)).delay ≤ suc c) r in let k = eng.dated.lists in omega arith)
 
           at : (x : ℕ) → x + (chan_at net (into g.unit p net.chans)).delay ≤ suc c → (x < c + 1) × (c + 1 ≤ x + (chan_at net (into g.unit p net.chans)).delay → Holds (into g.unit p net.chans) (cell e.notes ((x + (chan_at net (into g.unit p net.chans)).delay) % 1024)))
               → (x + (chan_at net (into g.unit p net.chans)).delay ≤ c) ⊎ (c < x + (chan_at net (into g.unit p net.chans)).delay) → x + (chan_at net (into g.unit p net.chans)).delay ≤ c
@@ -135,7 +135,7 @@ module _ (net : Net) (past : Past) (b : Bounds) (c : ℕ) (start : Dated) (e : E
               swap (inl l) = inr l
               swap (inr l) = inl l
 
-          by : (ds : List ℕ) → get_or e.dates.tokens (into g.unit p net.chans) [] ≡ ds
+          by : (ds : List ℕ) → get_or (dates_of e.state) (into g.unit p net.chans) [] ≡ ds
               → AllByRecursion (λ x. (x < c + 1) × (c + 1 ≤ x + (chan_at net (into g.unit p net.chans)).delay → Holds (into g.unit p net.chans) (cell e.notes ((x + (chan_at net (into g.unit p net.chans)).delay) % 1024)))) ds
               → IsSomeAnd (first ds) (λ date. date + (chan_at net (into g.unit p net.chans)).delay ≤ suc c) → IsSomeAnd (first ds) (λ date. date + (chan_at net (into g.unit p net.chans)).delay ≤ c)
           by [] i k h = absurd h
@@ -192,10 +192,10 @@ begun_followed net c old new same none coming d = record {
     tokens : length (tokens_at (state_of new.state) d) ≡ length (tokens_at (state_of old.state) d)
     tokens = ap (λ (s : Dated). length (tokens_at s.state d)) same
 
-    older : AllByRecursion (λ x. x < c) (get_or new.dates.tokens d [])
+    older : AllByRecursion (λ x. x < c) (get_or (dates_of new.state) d [])
     older =
         let P : Dated → Type 0 = λ s. AllByRecursion (λ x. x < c) (get_or s.dates d []) in
-        subst P (sym same) (each_as (λ x. (x < c) × (c ≤ x + (chan_at net d).delay → Holds d (cell old.notes ((x + (chan_at net d).delay) % 1024)))) (λ x. x < c) (λ x k. k.0) (get_or old.dates.tokens d []) (coming d))
+        subst P (sym same) (each_as (λ x. (x < c) × (c ≤ x + (chan_at net d).delay → Holds d (cell old.notes ((x + (chan_at net d).delay) % 1024)))) (λ x. x < c) (λ x k. k.0) (get_or (dates_of old.state) d []) (coming d))
 
     by : (length (tokens_at (state_of old.state) d) < (chan_at net d).slots) ⊎ ((chan_at net d).slots ≤ length (tokens_at (state_of old.state) d))
         → (length (tokens_at (state_of old.state) d) < (chan_at net d).slots) ⊎ IsOldFull net c new d
@@ -206,11 +206,11 @@ apart_cells : (x c delay : ℕ) → delay ≤ max_delay → x < c → c + 1 ≤ 
 apart_cells x c delay m l k e = omega arith
 
 -- the cell of the cycle that begins is emptied
-pub begun_coming : (net : Net) (c : ℕ) (old new : Engine) → ((d : ℕ) → (chan_at net d).delay ≤ max_delay) → new.dates.tokens ≡ old.dates.tokens → cells_of new.notes ≡ set (cells_of old.notes) (c % 1024) [] → AreComing net c old → AreComing net (c + 1) new
+pub begun_coming : (net : Net) (c : ℕ) (old new : Engine) → ((d : ℕ) → (chan_at net d).delay ≤ max_delay) → (dates_of new.state) ≡ (dates_of old.state) → cells_of new.notes ≡ set (cells_of old.notes) (c % 1024) [] → AreComing net c old → AreComing net (c + 1) new
 begun_coming net c old new most same cells h d =
     let P : List (List ℕ) → Type 0 = λ xs. AllByRecursion (λ x. (x < c + 1) × (c + 1 ≤ x + (chan_at net d).delay → Holds d (cell new.notes ((x + (chan_at net d).delay) % 1024)))) (get_or xs d []) in
     subst P (sym same) (each_as (λ x. (x < c) × (c ≤ x + (chan_at net d).delay → Holds d (cell old.notes ((x + (chan_at net d).delay) % 1024)))) (λ x. (x < c + 1) × (c + 1 ≤ x + (chan_at net d).delay → Holds d (cell new.notes ((x + (chan_at net d).delay) % 1024))))
-    (λ x k. (omega (arith, k.0), λ l. at x k.0 l (k.1 (omega arith)))) (get_or old.dates.tokens d []) (h d))
+    (λ x k. (omega (arith, k.0), λ l. at x k.0 l (k.1 (omega arith)))) (get_or (dates_of old.state) d []) (h d))
   where
     at : (x : ℕ) → x < c → c + 1 ≤ x + (chan_at net d).delay → Holds d (cell old.notes ((x + (chan_at net d).delay) % 1024)) → Holds d (cell new.notes ((x + (chan_at net d).delay) % 1024))
     at x l k q =

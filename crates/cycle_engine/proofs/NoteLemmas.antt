@@ -13,7 +13,7 @@ use Rattle.net_core.specs.declared.plan.Put.{Put}
 use Rattle.net_core.specs.declared.plan.Laid.{Laid}
 use Rattle.net_core.specs.declared.plan.Plan.{Plan}
 use Rattle.net_core.specs.Plans.{effect_by, laid_of}
-use Rattle.net_core.specs.States.{IsPlanOf, own_at, array_at}
+use Rattle.net_core.specs.States.{dates_of, IsPlanOf, own_at, array_at}
 use Rattle.net_core.proofs.RowLemmas.{length-changed, get-changed}
 use Rattle.net_core.proofs.ApartLemmas.{puts-inv}
 use Rattle.cycle_engine.specs.declared.engine.Engine.{Engine}
@@ -121,17 +121,17 @@ laid_held net u d o P n h =
 -- each token is noted where it ripens
 pub coming_after : (net : Net) (c : ℕ) (e e' : Engine) (f : Firing) (p : Plan) → IsEngine net e → dated_of e' ≡ after_of net c (dated_of e) f.unit (effect_in net e f p)
     → IsNoted net (laid_of net f.unit p.put) c e.notes e'.notes → AreComing net (c + 1) e → AreComing net (c + 1) e'
-coming_after net c e e' f p eng r n h d = at (cases_lt d (length e.dates.tokens))
+coming_after net c e e' f p eng r n h d = at (cases_lt d (length (dates_of e.state)))
   where
     Q : ℕ → Type 0
     Q x = (x < c + 1) × (c + 1 ≤ x + (chan_at net d).delay → Holds d (cell e'.notes ((x + (chan_at net d).delay) % 1024)))
 
-    same : get_or e'.dates.tokens d [] ≡ get_or (after_of net c (dated_of e) f.unit (effect_in net e f p)).dates d []
+    same : get_or (dates_of e'.state) d [] ≡ get_or (after_of net c (dated_of e) f.unit (effect_in net e f p)).dates d []
     same = ap (λ (s : Dated). get_or s.dates d []) r
 
-    old : AllByRecursion (λ x. (x < c + 1) × (c + 1 ≤ x + (chan_at net d).delay → Holds d (cell e'.notes ((x + (chan_at net d).delay) % 1024)))) (get_or e.dates.tokens d [])
+    old : AllByRecursion (λ x. (x < c + 1) × (c + 1 ≤ x + (chan_at net d).delay → Holds d (cell e'.notes ((x + (chan_at net d).delay) % 1024)))) (get_or (dates_of e.state) d [])
     old = each_as (λ x. (x < c + 1) × (c + 1 ≤ x + (chan_at net d).delay → Holds d (cell e.notes ((x + (chan_at net d).delay) % 1024)))) (λ x. (x < c + 1) × (c + 1 ≤ x + (chan_at net d).delay → Holds d (cell e'.notes ((x + (chan_at net d).delay) % 1024))))
-        (λ x k. (k.0, λ l. n.kept ((x + (chan_at net d).delay) % 1024) d (k.1 l))) (get_or e.dates.tokens d []) (h d)
+        (λ x k. (k.0, λ l. n.kept ((x + (chan_at net d).delay) % 1024) d (k.1 l))) (get_or (dates_of e.state) d []) (h d)
 
     here : (x : ℕ) → puts_on net f.unit (dated c p.put) d ≡ Some x → (x < c + 1) × (c + 1 ≤ x + (chan_at net d).delay → Holds d (cell e'.notes ((x + (chan_at net d).delay) % 1024)))
     here x q =
@@ -142,16 +142,16 @@ coming_after net c e e' f p eng r n h d = at (cases_lt d (length e.dates.tokens)
         let S : ℕ → Type 0 = λ y. (y < c + 1) × (c + 1 ≤ y + (chan_at net d).delay → Holds d (cell e'.notes ((y + (chan_at net d).delay) % 1024))) in
         subst S (sym z) (omega arith, λ l. k (omega arith))
 
-    at : (d < length e.dates.tokens) ⊎ (length e.dates.tokens ≤ d) → AllByRecursion (λ x. (x < c + 1) × (c + 1 ≤ x + (chan_at net d).delay → Holds d (cell e'.notes ((x + (chan_at net d).delay) % 1024)))) (get_or e'.dates.tokens d [])
+    at : (d < length (dates_of e.state)) ⊎ (length (dates_of e.state) ≤ d) → AllByRecursion (λ x. (x < c + 1) × (c + 1 ≤ x + (chan_at net d).delay → Holds d (cell e'.notes ((x + (chan_at net d).delay) % 1024)))) (get_or (dates_of e'.state) d [])
     at (inl l) =
         let P : List ℕ → Type 0 = AllByRecursion (λ x. (x < c + 1) × (c + 1 ≤ x + (chan_at net d).delay → Holds d (cell e'.notes ((x + (chan_at net d).delay) % 1024)))) in
-        let ed = get-changed (moved net f.unit (record (effect_in net e f p) { put = dated c p.put })) 0 e.dates.tokens d d (omega arith) l in
-        subst P (sym (same ∙ ed)) (each_added (λ x. (x < c + 1) × (c + 1 ≤ x + (chan_at net d).delay → Holds d (cell e'.notes ((x + (chan_at net d).delay) % 1024)))) (puts_on net f.unit (dated c p.put) d) (taken (takes_from net f.unit (effect_in net e f p) d) (get_or e.dates.tokens d []))
-        (each_taken (λ x. (x < c + 1) × (c + 1 ≤ x + (chan_at net d).delay → Holds d (cell e'.notes ((x + (chan_at net d).delay) % 1024)))) (takes_from net f.unit (effect_in net e f p) d) (get_or e.dates.tokens d []) old) here)
+        let ed = get-changed (moved net f.unit (record (effect_in net e f p) { put = dated c p.put })) 0 (dates_of e.state) d d (omega arith) l in
+        subst P (sym (same ∙ ed)) (each_added (λ x. (x < c + 1) × (c + 1 ≤ x + (chan_at net d).delay → Holds d (cell e'.notes ((x + (chan_at net d).delay) % 1024)))) (puts_on net f.unit (dated c p.put) d) (taken (takes_from net f.unit (effect_in net e f p) d) (get_or (dates_of e.state) d []))
+        (each_taken (λ x. (x < c + 1) × (c + 1 ≤ x + (chan_at net d).delay → Holds d (cell e'.notes ((x + (chan_at net d).delay) % 1024)))) (takes_from net f.unit (effect_in net e f p) d) (get_or (dates_of e.state) d []) old) here)
     at (inr l) =
         let P : List ℕ → Type 0 = AllByRecursion (λ x. (x < c + 1) × (c + 1 ≤ x + (chan_at net d).delay → Holds d (cell e'.notes ((x + (chan_at net d).delay) % 1024)))) in
-        let m = length-changed (moved net f.unit (record (effect_in net e f p) { put = dated c p.put })) 0 e.dates.tokens in
-        let l' : length e.dates.tokens ≤ d = l in
+        let m = length-changed (moved net f.unit (record (effect_in net e f p) { put = dated c p.put })) 0 (dates_of e.state) in
+        let l' : length (dates_of e.state) ≤ d = l in
         subst P (sym (same ∙ get_or_past (after_of net c (dated_of e) f.unit (effect_in net e f p)).dates d [] (omega arith))) tt
 
 pub cleared_long : (old new : Notes) (i : ℕ) → cells_of new ≡ set (cells_of old) i [] → length new.coming.items ≡ length old.coming.items

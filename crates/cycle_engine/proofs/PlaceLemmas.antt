@@ -1,5 +1,5 @@
 -- The acts of units, by their ranks and numbers.
-use Rattle.std.proofs.Common.{is_some, suc, zero, cond, eqb-true, ◌≡◌, ◌≢◌, ℕ, ◌<◌, ◌≤◌, ◌⊎◌, inl, inr, Bool, true, false, Option, Some, None, List, [], ◌∷◌, length, get_or, refl, sym, ap, ◌∙◌, arith, nat_le, nat_lt, min, max, eqb, ltb-true, MatchOption}
+use Rattle.std.proofs.Common.{is_some, suc, zero, cond, eqb-true, ◌≡◌, ◌≢◌, ℕ, ◌<◌, ◌≤◌, ◌⊎◌, inl, inr, Bool, true, false, Option, Some, None, List, [], ◌∷◌, length, get_or, refl, sym, ap, ◌∙◌, arith, subst, nat_le, nat_lt, min, max, eqb, ltb-true, MatchOption, IsSomeAnd}
 use Rattle.std.proofs.lemmas.Bool.{cases_lt, and_parts, le-leb, lt-leb, eq-eqb, false≢true}
 use Rattle.net_types.specs.declared.net.Net.{Net}
 use Rattle.net_types.specs.declared.net.Unit.{Unit as Kind}
@@ -17,13 +17,17 @@ use Rattle.lsq_core.specs.Acts.{can, wants_addr, wants_data, wants_reply}
 use Rattle.lsq_core.specs.Views.{InPorts, QueueView}
 use Rattle.lsq_core.specs.Wants.{HasNoPort, IsNextPort, HasNoAddr, IsNextAddr, HasNoData, IsNextData, HasNoReply, IsNextReply, replies}
 use Rattle.lsq_core.proofs.PortLemmas.{done_some}
-use Rattle.net_core.specs.Fire.{State, Own, Row, Take, Setting, Effect, with_head, taking, on_go, fork_row, effect_of, idle, enabled, head_at, at_array, row, go_row, setting}
+use Rattle.net_core.specs.Fire.{State, Own, Row, Take, Setting, Effect, with_head, taking, on_go, fork_row, effect_of, idle, enabled, has_room, head_at, at_array, row, go_row, setting}
+use Rattle.net_core.specs.States.{state_of}
 use Rattle.net_core.proofs.GoesLemmas.{goes}
 use Rattle.net_core.proofs.ForkLemmas.{fork_is, send_inv}
 use Rattle.net_core.proofs.ActLemmas.{merge_inv, from_kind, alloc_kind}
 use Rattle.net_core.proofs.QueueActLemmas.{queue_inv, lsq_is, group_within}
 use Rattle.lsq_core.specs.Laws.{act_place}
 use Rattle.cycle_engine.specs.private.Places.{HasView, HasNoneFrom, IsNextNumber, IsNoted, IsViewOf, takes_at, count_in, inputs_in, outputs_in, ports_in, first_of}
+use Rattle.cycle_engine.specs.declared.engine.Engine.{Engine}
+use Rattle.cycle_engine.specs.declared.trial.Planned.{Planned}
+use Rattle.cycle_engine.specs.private.Trials.{IsEngine, IsPlanned}
 use Rattle.cycle_engine.specs.private.Control.{groups_in, noted_place, place_from, end_from}
 use Rattle.cycle_engine.specs.private.Marking.{asks_first, IsStarved}
 use Rattle.net_core.proofs.PlanUses.{fork_act}
@@ -182,9 +186,6 @@ place_fixed (Reply j) n = refl
 place_fixed Retire n = refl
 place_fixed End n = refl
 
-pub retire_is : (b : Act) → act_rank b ≡ 8 → act_place b ≡ Retire
-retire_is b e = ap act_place (act_is 8 b e)
-
 pub end_is : (b : Act) → act_rank b ≡ 9 → act_place b ≡ End
 end_is b e = ap act_place (act_is 9 b e)
 
@@ -240,38 +241,6 @@ first_send (Read a) i e = cc
 first_send (Lsq a d ps gs f) i e = cc
 first_send Exit i e = cc
 
-pub first_from : (k : Kind) (i : ℕ) → first_of k ≡ From i → From 0 ≡ first_of k
-first_from Entry i e = cc
-first_from (Param j) i e = cc
-first_from (Const w n) i e = cc
-first_from (Op1 op) i e = cc
-first_from (Op2 op) i e = cc
-first_from (Select w) i e = cc
-first_from (Fork w outs) i e = cc
-first_from (Mux w ins) i e = cc
-first_from (Cmerge ins) i e = refl
-first_from (Branch w) i e = cc
-first_from (Sink w) i e = cc
-first_from (Read a) i e = cc
-first_from (Lsq a d ps gs f) i e = cc
-first_from Exit i e = cc
-
-pub first_go : (k : Kind) → ((i : ℕ) → first_of k ≢ Send i) → ((i : ℕ) → first_of k ≢ From i) → Go ≡ first_of k
-first_go Entry n m = refl
-first_go (Param j) n m = refl
-first_go (Const w x) n m = refl
-first_go (Op1 op) n m = refl
-first_go (Op2 op) n m = refl
-first_go (Select w) n m = refl
-first_go (Fork w outs) n m = absurd (n 0 refl)
-first_go (Mux w ins) n m = refl
-first_go (Cmerge ins) n m = absurd (m 0 refl)
-first_go (Branch w) n m = refl
-first_go (Sink w) n m = refl
-first_go (Read a) n m = refl
-first_go (Lsq a d ps gs f) n m = refl
-first_go Exit n m = refl
-
 queue_kind : (k : Kind) (b : Act) (o : Own) (xs : List ℕ) (ss : Setting) (h : ℕ → Option ℕ) (e : Effect) → is_lsq k ≡ true → effect_of (row k b o xs ss) h ≡ Some e → 3 ≤ act_rank b
 unfolding row
 queue_kind (Lsq a d ps gs fw) Go o xs ss h e l q = cc
@@ -298,6 +267,12 @@ fires_within net s f checked long n = by (cases_lt f.unit (length net.units))
     by : (f.unit < length net.units) ⊎ (length net.units ≤ f.unit) → f.unit < length net.units
     by (inl l) = l
     by (inr l) = absurd (Rattle.net_core.proofs.FindLemmas.past_quiet net s f checked long l n)
+
+-- so is that of a planned firing
+pub planned_within : (net : Net) (e : Engine) (f : Firing) (p : Planned) → IsChecked net → IsEngine net e → IsPlanned net e f p → f.unit < length net.units
+planned_within net e f p checked k is =
+    let P : Option Effect → Type 0 = λ o. IsSomeAnd o (λ x. has_room net (state_of e.state) f.unit x.put) in
+    fires_within net (state_of e.state) f checked k.dated.chans (subst P is.effect is.room)
 
 pub rank_most : (a : Act) → act_rank a ≤ 9
 rank_most Go = omega arith

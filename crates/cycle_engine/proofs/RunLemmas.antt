@@ -1,10 +1,10 @@
 -- Lists of cycles with one more, and without those at the end that have no firing.
-use Rattle.std.proofs.Common.{◌≡◌, ◌≢◌, ℕ, suc, ◌+◌, ◌-◌, ◌*◌, ◌<◌, ◌≤◌, ◌^◌, ◌⊎◌, inl, inr, Bool, true, false, cond, not, nat_le, ◌==◌, eq-eqb, eqb-true, List, [], ◌∷◌, ◌++◌, length, get_or, refl, sym, ap, subst, ◌∙◌, arith, length-append, append_assoc}
+use Rattle.std.proofs.Common.{◌≡◌, ◌≢◌, ℕ, suc, ◌+◌, ◌-◌, ◌*◌, ◌<◌, ◌≤◌, ◌⊎◌, inl, inr, Bool, true, false, cond, nat_le, nat_lt, List, [], ◌∷◌, ◌++◌, length, get_or, refl, sym, ap, subst, ◌∙◌, arith, length-append, append_assoc}
 use Rattle.std.specs.List.{AllByRecursion}
-use Rattle.std.proofs.lemmas.Bool.{cases_lt, leb-true, leb-false}
+use Rattle.std.proofs.lemmas.Bool.{cases_lt, lt-ltb, leb-true, leb-false}
 use Rattle.std.proofs.lemmas.List.{append-nil}
 use Rattle.std.proofs.Math.Nat.{mul-le-mul_right}
-use Rattle.el_base.specs.Limits.{max_delay, max_firings}
+use Rattle.el_base.specs.Limits.{max_delay}
 use Rattle.net_types.specs.declared.net.Net.{Net}
 use Rattle.net_types.specs.declared.net.Chan.{Chan}
 use Rattle.net_types.specs.declared.firing.Firing.{Firing}
@@ -307,17 +307,6 @@ module _ (net : Net) (inputs : Inputs) (b : Bounds) (old new : Engine) (cycle la
       by true true i j = less_made b.limit (all_made old) (all_made new) max_delay cycle last (more j) within (run.near refl)
       by true false i j = let s = same j in let l = less_late b.limit (all_made old) max_delay cycle last (run.near refl) in let P : ℕ → Type 0 = λ a. (b.limit - a) * (max_delay + 2) + (last + max_delay + 1 - (cycle + 1)) < (b.limit - all_made old) * (max_delay + 2) + (last + max_delay + 1 - cycle) in subst P (sym s) l
 
--- a cycle's number has 64 bits
-pub cycle_small : (net : Net) (inputs : Inputs) (b : Bounds) (e : Engine) (cycle last : ℕ) → HasRun net inputs b e cycle last true → cycle + 1 < 2 ^ 64
-cycle_small net inputs b e cycle last run =
-    let n = run.near refl in
-    let w = run.ready.within in
-    let l = run.ready.few in
-    let f = run.few in
-    let q : all_made e ≤ max_firings = omega arith in
-    let p : all_made e * (max_delay + 1) ≤ max_firings * (max_delay + 1) = mul-le-mul_right (max_delay + 1) q in
-    omega arith
-
 pub run_timed : (net : Net) (inputs : Inputs) (b : Bounds) (e : Engine) (cycle last : ℕ) → HasRun net inputs b e cycle last false → IsTimed net inputs b.limit b.keep (record { state = e.state; firings = all_made e; cycles = last; log = e.log })
 run_timed net inputs b e cycle last run = record {
   cycles = trimmed run.cycles;
@@ -347,14 +336,13 @@ broken_timing net inputs b (fault.Stray a) h = h
 broken_timing net inputs b fault.Memory h = h
 
 -- the cycle that the engine has made
-pub cycled : (net : Net) (past : Past) (b : Bounds) (c : ℕ) (start : Dated) (e : Engine) (none : Bool) (n : ℕ) → none ≡ (n == 0) → n ≡ length e.fired.items → IsEngine net e → IsFull net past b c start e → IsCycled net past b c e (not none)
-cycled net past b c start e none n is long eng f = record { firings = e.fired.items; done = cycle_done net past b c start e eng f; some = some e.fired.items none is long; none = empty e.fired.items none is long }
+pub cycled : (net : Net) (past : Past) (b : Bounds) (c : ℕ) (start : Dated) (e : Engine) (did : Bool) → did ≡ nat_lt 0 (length e.fired.items) → IsEngine net e → IsFull net past b c start e → IsCycled net past b c e did
+cycled net past b c start e did is eng f = record { firings = e.fired.items; done = cycle_done net past b c start e eng f; some = some e.fired.items is; none = empty e.fired.items is }
   where
-    some : (fs : List Firing) (x : Bool) → x ≡ (n == 0) → n ≡ length fs → not x ≡ true → fs ≢ []
-    some [] x i l q = let z : x ≡ true = i ∙ eq-eqb n 0 l in let y : false ≡ true = sym (ap not z) ∙ q in cc
-    some (f ∷ fs) x i l q = λ z. cc
+    some : (fs : List Firing) → did ≡ nat_lt 0 (length fs) → did ≡ true → fs ≢ []
+    some [] i q = let z : false ≡ true = sym i ∙ q in cc
+    some (f ∷ fs) i q = λ z. cc
 
-    empty : (fs : List Firing) (x : Bool) → x ≡ (n == 0) → n ≡ length fs → not x ≡ false → fs ≡ []
-    empty [] x i l q = refl
-    empty (f ∷ fs) true i l q = let z = eqb-true n 0 (sym i) in absurd (omega arith)
-    empty (f ∷ fs) false i l q = cc
+    empty : (fs : List Firing) → did ≡ nat_lt 0 (length fs) → did ≡ false → fs ≡ []
+    empty [] i q = refl
+    empty (f ∷ fs) i q = let z : true ≡ false = sym (lt-ltb 0 (length (f ∷ fs)) (omega arith)) ∙ (sym i ∙ q) in cc

@@ -49,9 +49,6 @@ phase_place (Reply j) = refl
 phase_place Retire = refl
 phase_place End = refl
 
-exec_phase : (a : Act) → act_rank a ≡ 6 → phase a ≡ 2
-exec_phase a e = ap phase (exec_is a e)
-
 phase_exec : (a : Act) → phase a ≡ 2 → act_place a ≡ Exec 0
 phase_exec (Exec j) e = refl
 phase_exec Go e = absurd (omega arith)

@@ -13,15 +13,17 @@ use Rattle.net_types.specs.Nets.{into, chan_at}
 use Rattle.net_check.specs.Checks.{IsChecked}
 use Rattle.net_core.specs.Fire.{idle, opened, first, head_at, tokens_at}
 use Rattle.net_core.specs.Runs.{opening}
-use Rattle.net_core.specs.States.{state_of, IsOf, CountsWithin}
+use Rattle.net_core.specs.States.{state_of, dates_of, IsOf, CountsWithin}
 use Rattle.net_core.proofs.RegularLemmas.{opening_tokens}
 use Rattle.cycle_engine.specs.declared.engine.Engine.{Engine}
 use Rattle.cycle_engine.specs.declared.engine.Bounds.{Bounds}
 use Rattle.cycle_engine.specs.declared.freed.Freed.{Freed}
+use Rattle.cycle_engine.specs.declared.feeds.Feeds.{Feeds}
+use Rattle.cycle_engine.specs.declared.used.Used.{Used}
 use Rattle.cycle_engine.specs.Cycles.{Dated, dated_opening, May, AreDated, Makes, Once, InOrder}
 use Rattle.cycle_engine.specs.Cuts.{joined}
 use Rattle.cycle_engine.specs.private.Trials.{dated_of, IsBegun, IsEngine}
-use Rattle.cycle_engine.specs.private.Marking.{Holds, IsMarked, IsListed, AreListed, cell, entries_at}
+use Rattle.cycle_engine.specs.private.Marking.{Holds, IsMarked, IsListed, AreFeeds, AreListed, cell, entries_at}
 use Rattle.cycle_engine.specs.private.Control.{HasControl}
 use Rattle.cycle_engine.specs.private.Goings.{Past, IsReady, InCycle, HasDone, AreComing, all_made}
 use Rattle.cycle_engine.proofs.PlaceLemmas.{fires_within}
@@ -38,19 +40,19 @@ pub opening_are : (net : Net) (inputs : Inputs) → AreDated net (dated_opening 
 unfolding no_dates
 opening_are net inputs = record { chans = long_map net.chans; lists = long_map net.chans; each = λ d. refl }
 
-pub opened_as : (net : Net) (inputs : Inputs) (e : Engine) → state_of e.state ≡ opening net inputs → e.dates.tokens ≡ map (λ (c : Chan). []) net.chans → dated_opening net inputs ≡ dated_of e
+pub opened_as : (net : Net) (inputs : Inputs) (e : Engine) → state_of e.state ≡ opening net inputs → (dates_of e.state) ≡ map (λ (c : Chan). []) net.chans → dated_opening net inputs ≡ dated_of e
 opened_as net inputs e a d = λ i. record { state = sym a i; dates = sym d i }
 
-pub opened_ready : (net : Net) (inputs : Inputs) (b : Bounds) (e : Engine) → IsOf net e.state → e.dates.slots ≡ map (λ (c : Chan). c.slots) net.chans → dated_opening net inputs ≡ dated_of e → b.limit ≤ max_firings
+pub opened_ready : (net : Net) (inputs : Inputs) (b : Bounds) (e : Engine) → IsOf net e.state → dated_opening net inputs ≡ dated_of e → b.limit ≤ max_firings
     → e.made ≡ 0 → e.fired.items ≡ [] → CountsWithin 0 (state_of e.state) → e.log.room ≡ cond b.keep b.limit 0 → length e.freed.marked.items ≡ length net.chans → length e.begun.items ≡ length net.units
-    → length e.marks.marked.items ≡ length net.units → IsListed net e.marks → length e.notes.coming.items ≡ 1024 → IsReady net b e
-opened_ready net inputs b e of slots same few made fired counts room chans queues marked listed cells =
+    → length e.marks.marked.items ≡ length net.units → IsListed net e.marks → length e.notes.coming.items ≡ 1024 → length net.units ≤ length e.used.last.items → AreFeeds net e.feeds → IsReady net b e
+opened_ready net inputs b e of same few made fired counts room chans queues marked listed cells places feeds =
     let z : all_made e ≡ 0 = (let l = ap (λ (fs : List Firing). length fs) fired in omega arith) in
     let k : all_made e * max_depth ≡ 0 = ap (λ n. n * max_depth) z in
     let P : ℕ → Type 0 = λ n. CountsWithin n (state_of e.state) in
     let D : Dated → Type 0 = AreDated net in
     record {
-      engine = record { state = of; slots = slots; dated = subst D same (opening_are net inputs) };
+      engine = record { state = of; dated = subst D same (opening_are net inputs) };
       few = few;
       within = omega arith;
       counts = subst P (sym k) counts;
@@ -61,6 +63,8 @@ opened_ready net inputs b e of slots same few made fired counts room chans queue
       listed = listed;
       cells = cells;
       told = none_told e.used e.made e.fired.items fired;
+      places = places;
+      feeds = feeds;
     }
 
 items_none : (us : List Kind) (u : ℕ) → length (get_or (map opened us) u idle).queue.items ≡ 0
@@ -125,12 +129,14 @@ opened_done net inputs b e same made fired log checked chans queues marked = rec
 
 pub begun_ready : (net : Net) (b : Bounds) (old new : Engine) → IsReady net b old → IsEngine net new → state_of new.state ≡ state_of old.state → new.made ≡ all_made old → new.fired.items ≡ [] → new.log ≡ old.log
     → length new.freed.marked.items ≡ length net.chans → length new.begun.items ≡ length net.units
-    → length new.marks.marked.items ≡ length net.units → IsListed net new.marks → length new.notes.coming.items ≡ 1024 → IsReady net b new
-begun_ready net b old new r eng same made fired log chans queues marked listed cells =
+    → length new.marks.marked.items ≡ length net.units → IsListed net new.marks → length new.notes.coming.items ≡ 1024 → new.used ≡ old.used → new.feeds ≡ old.feeds → IsReady net b new
+begun_ready net b old new r eng same made fired log chans queues marked listed cells used feeds =
     let z : all_made new ≡ all_made old = (let l = ap (λ (fs : List Firing). length fs) fired in omega arith) in
     let k : all_made new * max_depth ≡ all_made old * max_depth = ap (λ n. n * max_depth) z in
     let P : ℕ → Type 0 = λ n. CountsWithin n (state_of new.state) in
     let Q : _ → Type 0 = CountsWithin (all_made old * max_depth) in
+    let F : Feeds → Type 0 = AreFeeds net in
+    let U : Used → Type 0 = λ u. length net.units ≤ length u.last.items in
     record {
       engine = eng;
       few = r.few;
@@ -143,6 +149,8 @@ begun_ready net b old new r eng same made fired log chans queues marked listed c
       listed = listed;
       cells = cells;
       told = none_told new.used new.made new.fired.items fired;
+      places = subst U (sym used) r.places;
+      feeds = subst F (sym feeds) r.feeds;
     }
 
 -- so a cycle begins

@@ -22,7 +22,7 @@ use Rattle.net_core.specs.declared.plan.Put.{Put}
 use Rattle.net_core.specs.declared.plan.Takes.{Takes}
 use Rattle.net_core.specs.declared.plan.Takes.TheVariants.{None as no_place, One, Two, Three}
 use Rattle.net_core.specs.declared.plan.Plan.{Plan}
-use Rattle.net_core.specs.States.{state_of, IsPlanOf}
+use Rattle.net_core.specs.States.{state_of, dates_of, IsPlanOf}
 use Rattle.net_core.proofs.ApartLemmas.{is_at-inv, out_of-at}
 use Rattle.net_core.proofs.CheckedLemmas.{premises_of}
 use Rattle.net_core.proofs.QueueActLemmas.{queue_inv, lsq_is, queue_effect}
@@ -31,7 +31,7 @@ use Rattle.cycle_engine.specs.declared.engine.Engine.{Engine}
 use Rattle.cycle_engine.specs.declared.engine.Bounds.{Bounds}
 use Rattle.cycle_engine.specs.declared.marks.Marks.{Marks}
 use Rattle.lsq_core.specs.Laws.{act_place, phase}
-use Rattle.cycle_engine.specs.Cycles.{Dated, dated_opening, IsRipe, HasDepth, May, IsOldest, Makes, place_of, IsUnused, Cycles, after_in, after_by, AreDated}
+use Rattle.cycle_engine.specs.Cycles.{Dated, dated_opening, IsRipe, HasDepth, May, Makes, place_of, IsUnused, Cycles, after_in, after_by, AreDated}
 use Rattle.cycle_engine.specs.Rousing.{GoesTo, ComesFrom, Stirs}
 use Rattle.cycle_engine.specs.private.Trials.{dated_of, IsEngine, IsFollowed}
 use Rattle.cycle_engine.specs.private.Marking.{IsMarked, IsListed, KeepsMarks, IsRoused, IsTaken, IsEmptied, IsReordered, HasNoTurn, HasTurn, IsMergeMarked, IsPutMarked, is_merge}
@@ -97,7 +97,7 @@ going_regular net past b c start e checked g =
 pub going_dated : (net : Net) (past : Past) (b : Bounds) (c : ℕ) (start : Dated) (e : Engine) → InCycle net past b c start e → AreDated net start
 going_dated net past b c start e g = cycles_dated net 0 (dated_opening net past.inputs) past.cycles start g.done (opening_are net past.inputs) (opening_by net past.inputs 0)
 
-going_dated_now : (net : Net) (past : Past) (b : Bounds) (c : ℕ) (start : Dated) (e : Engine) → InCycle net past b c start e → AreDated net (dated_of e)
+pub going_dated_now : (net : Net) (past : Past) (b : Bounds) (c : ℕ) (start : Dated) (e : Engine) → InCycle net past b c start e → AreDated net (dated_of e)
 going_dated_now net past b c start e g = (makes_dates net c start start e.fired.items (dated_of e) g.makes (going_dated net past b c start e g) (cycles_by net 0 (dated_opening net past.inputs) past.cycles start c (let n = g.number in omega arith) g.done (opening_are net past.inputs) (opening_by net past.inputs 0))).0
 
 -- ---- phases
@@ -115,30 +115,6 @@ fires_plain : (net : Net) (s : State) (f : Firing) → is_lsq (kind_of net f.uni
 fires_plain net s f l n =
     let w = effect_there net s f n in
     plain_phase (kind_of net f.unit) f.act (get_or s.own f.unit idle) (at_array s.arrays (uses (kind_of net f.unit))) (setting net s) (head_at net s f.unit) w.0 l w.1
-
-phase_fixed : (a : Act) → phase a ≡ 0 → act_place a ≡ a
-phase_fixed Go e = refl
-phase_fixed (From j) e = refl
-phase_fixed (Send j) e = refl
-phase_fixed (Alloc j) e = refl
-phase_fixed (Addr j) e = refl
-phase_fixed (Data j) e = refl
-phase_fixed (Exec j) e = absurd (omega arith)
-phase_fixed (Reply j) e = refl
-phase_fixed Retire e = refl
-phase_fixed End e = refl
-
-plain_oldest : (net : Net) (s : State) (u : ℕ) (a : Act) → phase a ≡ 0 → IsOldest net s u a
-plain_oldest net s u Go e = tt
-plain_oldest net s u (From j) e = tt
-plain_oldest net s u (Send j) e = tt
-plain_oldest net s u (Alloc j) e = tt
-plain_oldest net s u (Addr j) e = tt
-plain_oldest net s u (Data j) e = tt
-plain_oldest net s u (Exec j) e = absurd (omega arith)
-plain_oldest net s u (Reply j) e = tt
-plain_oldest net s u Retire e = tt
-plain_oldest net s u End e = tt
 
 phase_low : (b : Act) → (act_rank b ≤ phase b + 4) × (4 ≤ act_rank b → 1 ≤ phase b)
 phase_low Go = (omega arith, λ l. absurd (omega arith))
@@ -392,7 +368,7 @@ module _ (net : Net) (past : Past) (b : Bounds) (c : ℕ) (start : Dated) (marks
                 put (Some w) i =
                     let h = taken_all net f.unit (out_of g.unit w.place net.chans) (effect_in net old f p) (IsMergeMarked net (length old.marks.marked.items) new.marks) i
                     (taken_each net f.unit (IsMergeMarked net (length old.marks.marked.items) new.marks) p.takes roused.merges) in
-                    let d = taken_all net f.unit (out_of g.unit w.place net.chans) (effect_in net old f p) (λ y. y < length old.dates.tokens) i (takes_within net old f p eng is) in
+                    let d = taken_all net f.unit (out_of g.unit w.place net.chans) (effect_in net old f p) (λ y. y < length (dates_of old.state)) i (takes_within net old f p eng is) in
                     let k = eng.dated.lists in
                     let l' : out_of g.unit w.place net.chans < length net.chans = omega arith in
                     let e : (chan_at net (out_of g.unit w.place net.chans)).from.unit ≡ g.unit = (is_at-inv (chan_at net (out_of g.unit w.place net.chans)).from g.unit w.place (out_of-at g.unit w.place net.chans l')).0 in
@@ -592,7 +568,7 @@ unit_done net past b c start marks e u kind l is t = record { going = t.going; p
 
 -- the engine with other marks
 abbrev pub with_marks : Engine → Marks → Engine
-with_marks e m = record { state = e.state; dates = e.dates; begun = e.begun; fired = e.fired; used = e.used; made = e.made; log = e.log; marks = m; notes = e.notes; freed = e.freed; control = e.control }
+with_marks e m = record { state = e.state; begun = e.begun; fired = e.fired; used = e.used; made = e.made; log = e.log; marks = m; notes = e.notes; feeds = e.feeds; freed = e.freed; control = e.control }
 
 pub going_marks : (net : Net) (past : Past) (b : Bounds) (c : ℕ) (start : Dated) (e : Engine) (m : Marks) → InCycle net past b c start e → InCycle net past b c start (with_marks e m)
 going_marks net past b c start e m g = record {
@@ -614,7 +590,7 @@ going_marks net past b c start e m g = record {
 
 pub ready_marks : (net : Net) (b : Bounds) (e : Engine) (m : Marks) → IsReady net b e → length m.marked.items ≡ length net.units → IsListed net m → IsReady net b (with_marks e m)
 ready_marks net b e m r long listed = record {
-  engine = record { state = r.engine.state; slots = r.engine.slots; dated = r.engine.dated };
+  engine = record { state = r.engine.state; dated = r.engine.dated };
   few = r.few;
   within = r.within;
   counts = r.counts;
@@ -625,6 +601,8 @@ ready_marks net b e m r long listed = record {
   listed = listed;
   cells = r.cells;
   told = r.told;
+  places = r.places;
+  feeds = r.feeds;
 }
 
 -- a unit was taken from the list

@@ -1,5 +1,5 @@
 -- The places that a plan uses, and when the engine may make it.
-use Rattle.std.proofs.Common.{◌≡◌, ℕ, zero, suc, ◌<◌, ◌≤◌, ◌≢◌, ◌⊎◌, inl, inr, Bool, true, false, Option, Some, None, List, [], ◌∷◌, ◌++◌, ◌+◌, length, length-append, get_or, refl, sym, ap, subst, ◌∙◌, arith, IsSomeAnd}
+use Rattle.std.proofs.Common.{◌≡◌, ℕ, suc, ◌<◌, ◌≤◌, ◌≢◌, ◌⊎◌, inl, inr, Bool, true, false, Option, Some, None, List, [], ◌∷◌, ◌++◌, ◌+◌, ◌==◌, cond, length, length-append, get_or, refl, sym, ap, subst, ◌∙◌, arith, IsSomeAnd}
 use Rattle.net_types.specs.declared.net.Net.{Net}
 use Rattle.net_types.specs.declared.net.Unit.{Unit as Kind}
 use Rattle.net_types.specs.declared.net.Unit.TheVariants.{Entry, Param, Const, Op1, Op2, Select, Fork, Mux, Cmerge, Branch, Sink, Read, Lsq, Exit}
@@ -12,7 +12,7 @@ use Rattle.net_core.specs.Fire.{Own, Effect, idle, tokens_at, effect, has_room}
 use Rattle.net_core.specs.declared.plan.Put.{Put}
 use Rattle.net_core.specs.declared.plan.Plan.{Plan}
 use Rattle.net_core.specs.Plans.{effect_by, planned, laid_of}
-use Rattle.net_core.specs.States.{state_of, own_at, array_at, IsPlanOf}
+use Rattle.net_core.specs.States.{state_of, dates_of, own_at, array_at, IsPlanOf}
 use Rattle.net_core.specs.Uses.{used}
 use Rattle.net_core.proofs.PlanUses.{plans_use}
 use Rattle.cycle_engine.specs.declared.engine.Engine.{Engine}
@@ -108,7 +108,7 @@ pub may_of : (net : Net) (c : ℕ) (e : Engine) (start : Dated) (f : Firing) (p 
 may_of net c e start f p is a b =
     let P : Option Effect → Type 0 = λ o. IsSomeAnd o (λ x. has_room net (state_of e.state) f.unit x.put) in
     let Q : Option Effect → Type 0 = λ o. IsSomeAnd o (λ x. has_room net start.state f.unit x.put) in
-    let R : List ℕ → Type 0 = AllRipe net c e.dates.tokens f.unit in
+    let R : List ℕ → Type 0 = AllRipe net c (dates_of e.state) f.unit in
     record {
       turn = subst P is a.room;
       ripe = subst R (sym (plans_use net (state_of e.state) f.unit f.act (effect_by (kind_of net f.unit) (own_at e.state f.unit) (array_at net e.state f.unit) p) p.takes (sym is) refl)) a.ripe;
@@ -121,7 +121,7 @@ pub may_parts : (net : Net) (c : ℕ) (e : Engine) (start : Dated) (f : Firing) 
 may_parts net c e start f p is b m =
     let P : Option Effect → Type 0 = λ o. IsSomeAnd o (λ x. has_room net (state_of e.state) f.unit x.put) in
     let Q : Option Effect → Type 0 = λ o. IsSomeAnd o (λ x. has_room net start.state f.unit x.put) in
-    let R : List ℕ → Type 0 = AllRipe net c e.dates.tokens f.unit in
+    let R : List ℕ → Type 0 = AllRipe net c (dates_of e.state) f.unit in
     record {
       room = subst P (sym is) m.turn;
       had_room = room_start net c start e f.unit p.put b.chans (subst Q (sym is) m.room);
@@ -144,16 +144,11 @@ unused_of (x ∷ xs) f d h = (h 0 (omega arith), unused_of xs f d (λ k l. h (su
 pub unused_all : (xs : List Firing) (f : Firing) → IsUnusedFrom xs f 0 → IsUnused xs f
 unused_all xs f h = unused_of xs f no_firing (λ k l. h k (omega arith) l)
 
-pub unused_at : (xs : List Firing) (f : Firing) (k : ℕ) → IsUnused xs f → k < length xs → place_of (get_or xs k no_firing) ≢ place_of f
-unused_at [] f k un l = absurd (omega arith)
-unused_at (x ∷ xs) f zero un l = un.0
-unused_at (x ∷ xs) f (suc k) un l = unused_at xs f k un.1 (omega arith)
-
 -- places are one only if their numbers are
 number_as : (base : List ℕ) (f : Firing) → place_number base (place_of f) ≡ place_number base f
 number_as base f = by f.act
   where
-    by : (a : Act) → get_or base f.unit 0 + own_number (act_place a) ≡ get_or base f.unit 0 + own_number a
+    by : (a : Act) → cond (own_number (act_place a) == 0) f.unit (get_or base f.unit 0 + own_number (act_place a)) ≡ cond (own_number a == 0) f.unit (get_or base f.unit 0 + own_number a)
     by Go = refl
     by (From j) = refl
     by (Send j) = refl

@@ -4,4 +4,5 @@ pub mod Control
 pub mod Goings
 pub mod Marking
 pub mod Used
+pub mod Stacks
 pub mod Places

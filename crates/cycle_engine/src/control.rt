@@ -1,6 +1,6 @@
 //! The channel on which the last control token to a control merge or a queue was put.
 
-ghost use Rattle.std.specs.Prelude.{◌≡◌};
+ghost use Rattle.std.specs.Prelude.{◌≡◌, ◌<◌, IfSome, length};
 ghost use Rattle.cycle_engine.specs.private.Control.{place_from, control_after, end_from, leads_to_control_place, noted_place};
 
 use crate::places::control_places_of;
@@ -10,19 +10,17 @@ use net_core::Laid;
 /// Whether a channel leads control to an input of a control merge, or to a place of a queue.
 #[inline(always)]
 fn leads_to_control_place(net: &Checked, chan: u32) -> bool
+    requires { chan < length net.now.chans }
     ensures { result ≡ leads_to_control_place net.now chan }
 {
-    let chans = net.net().chans.as_slice();
-    if chan as usize >= chans.len() {
-        return false;
-    }
-    let chan = chans[chan as usize];
+    let chan = net.net().chans.as_slice()[chan as usize];
     chan.ctl && u64::from(chan.to.place) < control_places_of(net, chan.to.unit)
 }
 
 /// The channel that is noted after a token was put, where another was noted before.
 #[inline(always)]
 pub(crate) fn control_after(net: &Checked, laid: Option<Laid>, noted: u32) -> u32
+    requires { IfSome laid (λ w. w.chan < length net.now.chans) }
     ensures { result ≡ control_after net.now laid noted }
 {
     match laid {
@@ -42,11 +40,8 @@ pub(crate) fn control_after(net: &Checked, laid: Option<Laid>, noted: u32) -> u3
 fn noted_place(net: &Checked, noted: u32, unit: u32) -> Option<u32>
     ensures { result ≡ noted_place net.now noted unit }
 {
-    if !leads_to_control_place(net, noted) {
-        return None;
-    }
     let chans = net.net().chans.as_slice();
-    if noted as usize >= chans.len() {
+    if noted as usize >= chans.len() || !leads_to_control_place(net, noted) {
         return None;
     }
     let end = chans[noted as usize].to;

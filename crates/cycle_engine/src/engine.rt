@@ -7,17 +7,19 @@ ghost use Rattle.net_types.specs.Nets.{kind_of};
 ghost use Rattle.net_check.specs.Ends.{is_lsq};
 ghost use Rattle.net_core.specs.Fire.{idle};
 ghost use Rattle.net_core.specs.States.{IsOf, state_of};
-ghost use Rattle.cycle_engine.specs.private.Marking.{HasUnit, IsMarked, IsStarved, KeepsMarks, entries_at};
+ghost use Rattle.cycle_engine.specs.private.Marking.{HasUnit, IsMarked, IsStarved, KeepsMarks, AreFeeds, entries_at};
 
+use crate::feeds::Feeds;
 use crate::freed::Freed;
 use crate::marks::Marks;
 use crate::notes::Notes;
 use crate::places::is_queue;
+use crate::stack::Stack;
 use crate::used::Used;
 use el_base::Log;
 use lsq_core::Queue;
 use net_check::Checked;
-use net_core::{State, Tokens};
+use net_core::State;
 use net_types::{Firing, Inputs, Memory};
 use std::alloc::Global;
 
@@ -31,12 +33,10 @@ pub(crate) struct Bounds {
 /// A state with the cycle in which each token was put, and what was done in the cycle so far.
 pub(crate) struct Engine {
     pub state: State,
-    /// Beside the tokens of each channel the cycles in which they were put.
-    pub dates: Tokens,
     /// How many entries the queue of each unit had when the cycle began; 0 of a unit that is none.
     pub begun: Vec<u32>,
     /// The firings of the cycle so far.
-    pub fired: Vec<Firing>,
+    pub fired: Stack<Firing>,
     /// Which places have fired in the cycle.
     pub used: Used,
     /// How many firings the cycles before made.
@@ -46,6 +46,8 @@ pub(crate) struct Engine {
     pub marks: Marks,
     /// When tokens ripen.
     pub notes: Notes,
+    /// What feeds each unit.
+    pub feeds: Feeds,
     /// The channels that were full when the cycle began, and from which tokens were taken.
     pub freed: Freed,
     /// The channel on which the last control token to a control merge or a queue was put.
@@ -57,7 +59,6 @@ impl Drop for Engine {
     fn drop(self) {
         let Engine {
             state: _state,
-            dates: _dates,
             begun: _begun,
             fired: _fired,
             used: _used,
@@ -65,6 +66,7 @@ impl Drop for Engine {
             log: _log,
             marks: _marks,
             notes: _notes,
+            feeds: _feeds,
             freed: _freed,
             control: _control,
         } = self;
@@ -117,20 +119,20 @@ impl Engine {
         let marks = Marks::new(alloc, net)?;
         let notes = Notes::new(alloc)?;
         let state = State::new(alloc, net, inputs)?;
-        let dates = Tokens::new(alloc, chans)?;
         let begun = zeros(alloc, units.len())?;
+        let feeds = Feeds::new(alloc, net)?;
         let freed = Freed::new(alloc, chans.len())?;
         let log = Log::with_room(alloc, log_room(bounds))?;
         Ok(Engine {
             state,
-            dates,
             begun,
-            fired: Vec::new(alloc),
+            fired: Stack::new(alloc),
             used,
             made: 0,
             log,
             marks,
             notes,
+            feeds,
             freed,
             control: 0,
         })
@@ -143,7 +145,6 @@ impl Engine {
     {
         let Engine {
             state,
-            dates: _dates,
             begun: _begun,
             fired: _fired,
             used: _used,
@@ -151,6 +152,7 @@ impl Engine {
             log,
             marks: _marks,
             notes: _notes,
+            feeds: _feeds,
             freed: _freed,
             control: _control,
         } = self;
@@ -173,7 +175,14 @@ impl Engine {
         let _ = bounds;
         let _ = net.net();
         let fired = self.fired.as_slice();
-        settle(&mut self.marks, &mut self.begun, net, &self.state, fired)?;
+        settle(
+            &mut self.marks,
+            &mut self.begun,
+            net,
+            &self.state,
+            &self.feeds,
+            fired,
+        )?;
         let freed = self.freed.list.as_slice();
         self.marks.mark_sources(net, &self.state, freed)?;
         self.marks.mark_targets(net, self.notes.ripening(now))?;
@@ -208,9 +217,11 @@ fn settle(
     begun: &mut Vec<u32>,
     net: &Checked,
     state: &State,
+    feeds: &Feeds,
     fired: &[Firing],
 ) -> Result<(), Memory>
     requires of { IsOf net.now state.now }
+    requires feeds { AreFeeds net.now feeds.now }
     requires long { length begun.old.items ≡ length net.now.units }
     ensures kept { OnOk result (KeepsMarks marks.old marks.new) }
     ensures marked { OnOk result ((u : ℕ) → HasUnit u fired.now
@@ -222,8 +233,47 @@ fn settle(
         → get_or begun.new.items u 0 ≡ entries_at (state_of state.now) u) }
 {
     for firing in fired {
-        marks.mark_fed(net, state, firing.unit)?;
-        note_queue(begun, net, state, firing.unit);
+        settle_unit(marks, begun, net, state, feeds, firing.unit)?;
+    }
+    Ok(())
+}
+
+/// Marks a unit that does not want a token at its first input, and notes how many entries its queue has.
+///
+/// # Errors
+///
+/// [`Memory`] where memory is wanting.
+#[inline(always)]
+fn settle_unit(
+    marks: &mut Marks,
+    begun: &mut Vec<u32>,
+    net: &Checked,
+    state: &State,
+    feeds: &Feeds,
+    unit: u32,
+) -> Result<(), Memory>
+    requires of { IsOf net.now state.now }
+    requires feeds { AreFeeds net.now feeds.now }
+    requires long { length begun.old.items ≡ length net.now.units }
+    ensures kept { OnOk result (KeepsMarks marks.old marks.new) }
+    ensures marked { OnOk result ((IsStarved net.now (state_of state.now) unit → ⊥)
+        → unit < length marks.old.marked.items → IsMarked marks.new unit) }
+    ensures long { OnOk result (length begun.new.items ≡ length net.now.units) }
+    ensures noted { OnOk result (is_lsq (kind_of net.now unit) ≡ true
+        → get_or begun.new.items unit 0 ≡ entries_at (state_of state.now) unit) }
+    ensures others { OnOk result ((u : ℕ) → u ≢ unit
+        → get_or begun.new.items u 0 ≡ get_or begun.old.items u 0) }
+{
+    match feeds.first(unit) {
+        Some(chan) => {
+            if state.head(net, chan).is_some() {
+                marks.mark(unit)?;
+            }
+        }
+        None => {
+            marks.mark(unit)?;
+            note_queue(begun, net, state, unit);
+        }
     }
     Ok(())
 }

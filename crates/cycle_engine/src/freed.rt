@@ -1,10 +1,13 @@
 //! Channels that were full as a cycle began, and from which tokens were taken in it.
 
-ghost use Rattle.std.specs.Prelude.{◌≡◌, ◌↔◌, ◌∷◌, ℕ, [], true, false, replicate, IfOk, IsTrue, OnOk, get_or, length};
+ghost use Rattle.std.specs.Prelude.{◌≡◌, ◌≢◌, ◌↔◌, ◌<◌, ◌∷◌, ℕ, [], true, false, replicate, IfOk, IsTrue, OnOk, get_or, length};
+ghost use Rattle.net_core.specs.Held.{AllWithin};
 ghost use Rattle.net_core.specs.Plans.{chans_of};
+ghost use Rattle.net_core.specs.States.{IsOf};
 ghost use Rattle.cycle_engine.specs.private.Marking.{AreListed, Holds, IsFreed, IsLongFull};
 
-use net_core::{Taken, Tokens};
+use net_check::Checked;
+use net_core::{State, Taken};
 use net_types::Memory;
 use std::alloc::Global;
 
@@ -26,15 +29,17 @@ impl Drop for Freed {
     }
 }
 
-/// Whether a channel is full, by the dates of its tokens, and the newest was put before the cycle `now`.
+/// Whether a channel is full, and its newest token was put before the cycle `now`.
 #[inline(always)]
-fn is_long_full(dates: &Tokens, chan: u32, now: u64) -> bool
-    ensures { IsTrue result ↔ IsLongFull dates.now now chan }
+fn is_long_full(state: &State, net: &Checked, chan: u32, now: u64) -> bool
+    requires of { IsOf net.now state.now }
+    requires within { chan < length net.now.chans }
+    ensures { IsTrue result ↔ IsLongFull net.now state.now now chan }
 {
-    if dates.has_room(chan) {
+    if !state.is_full(net, chan) {
         return false;
     }
-    match dates.newest(chan) {
+    match state.newest_date(net, chan) {
         None => false,
         Some(date) => date < now,
     }
@@ -59,10 +64,33 @@ impl Freed {
     /// Whether a channel is marked.
     #[inline(always)]
     pub(crate) fn is_marked(&self, chan: u32) -> bool
+        requires { chan < length self.now.marked.items }
         ensures { result ≡ get_or self.now.marked.items chan false }
     {
+        self.marked[chan as usize]
+    }
+
+    /// Marks a channel. It stands apart so that what marks none stays small.
+    ///
+    /// # Errors
+    ///
+    /// [`Memory`] where memory is wanting.
+    #[inline(never)]
+    fn mark(&mut self, chan: u32) -> Result<(), Memory>
+        ensures long { OnOk result
+            (length self.new.marked.items ≡ length self.old.marked.items) }
+        ensures listed { OnOk result (AreListed self.old → AreListed self.new) }
+        ensures marked { OnOk result (chan < length self.old.marked.items
+            → get_or self.new.marked.items chan false ≡ true) }
+        ensures others { OnOk result ((d : ℕ) → d ≢ chan
+            → get_or self.new.marked.items d false ≡ get_or self.old.marked.items d false) }
+    {
         let at = chan as usize;
-        at < self.marked.len() && self.marked[at]
+        if at < self.marked.len() {
+            self.list.push(chan)?;
+            self.marked[at] = true;
+        }
+        Ok(())
     }
 
     /// Marks a channel from which a token is to be taken in the cycle `now`, where it is full of older tokens.
@@ -70,13 +98,14 @@ impl Freed {
     /// # Errors
     ///
     /// [`Memory`] where memory is wanting.
-    fn note_one(&mut self, dates: &Tokens, chan: u32, now: u64) -> Result<(), Memory>
-        ensures { OnOk result (IsFreed dates.now now (chan ∷ []) self.old self.new) }
+    #[inline(always)]
+    fn note_one(&mut self, state: &State, net: &Checked, chan: u32, now: u64) -> Result<(), Memory>
+        requires of { IsOf net.now state.now }
+        requires within { chan < length net.now.chans }
+        ensures { OnOk result (IsFreed net.now state.now now (chan ∷ []) self.old self.new) }
     {
-        let at = chan as usize;
-        if at < self.marked.len() && is_long_full(dates, chan, now) {
-            self.list.push(chan)?;
-            self.marked[at] = true;
+        if is_long_full(state, net, chan, now) {
+            self.mark(chan)?;
         }
         Ok(())
     }
@@ -87,24 +116,33 @@ impl Freed {
     ///
     /// [`Memory`] where memory is wanting.
     #[inline(always)]
-    pub(crate) fn note(&mut self, dates: &Tokens, taken: Taken, now: u64) -> Result<(), Memory>
-        ensures { OnOk result (IsFreed dates.now now (chans_of taken) self.old self.new) }
+    pub(crate) fn note(
+        &mut self,
+        state: &State,
+        net: &Checked,
+        taken: Taken,
+        now: u64,
+    ) -> Result<(), Memory>
+        requires of { IsOf net.now state.now }
+        requires within { AllWithin (length net.now.chans) (chans_of taken) }
+        ensures { OnOk result
+            (IsFreed net.now state.now now (chans_of taken) self.old self.new) }
     {
         match taken {
             Taken::None => Ok(()),
             Taken::One(c) => {
-                self.note_one(dates, c, now)?;
+                self.note_one(state, net, c, now)?;
                 Ok(())
             }
             Taken::Two(c, d) => {
-                self.note_one(dates, c, now)?;
-                self.note_one(dates, d, now)?;
+                self.note_one(state, net, c, now)?;
+                self.note_one(state, net, d, now)?;
                 Ok(())
             }
             Taken::Three(c, d, e) => {
-                self.note_one(dates, c, now)?;
-                self.note_one(dates, d, now)?;
-                self.note_one(dates, e, now)?;
+                self.note_one(state, net, c, now)?;
+                self.note_one(state, net, d, now)?;
+                self.note_one(state, net, e, now)?;
                 Ok(())
             }
         }

@@ -6,12 +6,15 @@
 mod control;
 mod dates;
 mod engine;
+mod feeds;
 mod freed;
 mod laws;
 mod marks;
 mod notes;
 mod places;
 mod runs;
+mod stack;
+mod straight;
 mod trial;
 mod turns;
 mod used;

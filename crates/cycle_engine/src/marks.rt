@@ -2,14 +2,14 @@
 
 ghost use Rattle.std.specs.Prelude.{◌≡◌, ◌≢◌, ℕ, ◌+◌, ◌<◌, ◌≤◌, [], true, false, IfOk, IfSome, OnOk, MatchOption, length, get_or, set};
 ghost use Rattle.std.specs.List.{AllByRecursion};
-ghost use Rattle.net_types.specs.Nets.{kind_of};
 ghost use Rattle.net_core.specs.Plans.{chans_of};
 ghost use Rattle.net_core.specs.States.{IsOf, state_of};
-ghost use Rattle.cycle_engine.specs.private.Marking.{Holds, IsMarked, IsListed, IsStarved, KeepsMarks, IsSourceMarked, IsMergeMarked, IsTargetMarked, IsPutMarked, IsRoused, IsTaken, IsEmptied, IsReordered, HasNoTurn, HasTurn};
-ghost use Rattle.net_core.specs.Uses.{is_fork};
+ghost use Rattle.cycle_engine.specs.private.Marking.{Holds, IsMarked, IsListed, IsStarved, KeepsMarks, IsSourceMarked, IsMergeMarked, IsTargetMarked, IsPutMarked, IsRoused, AreFeeds, AreInto, IsTaken, IsEmptied, IsReordered, HasNoTurn, HasTurn};
 
 use crate::dates::delay_of;
-use crate::places::{is_fork, is_merge, is_queue, is_starved};
+use crate::feeds::Feeds;
+use crate::places::{is_merge, is_queue, is_starved};
+use crate::stack::Stack;
 use net_check::Checked;
 use net_core::{Laid, Moves, State, Taken};
 use net_types::Memory;
@@ -20,7 +20,7 @@ pub(crate) struct Marks {
     /// Whether each unit is marked.
     pub marked: Vec<bool>,
     /// Each marked unit that is not among the queues, and maybe others.
-    pub list: Vec<u32>,
+    pub list: Stack<u32>,
     /// The queues that were taken from the list and keep their marks until their turns.
     pub queues: Vec<u32>,
 }
@@ -50,7 +50,7 @@ impl Marks {
         let count = net.net().units.as_slice().len();
         let mut marks = Marks {
             marked: vec![in alloc; false; count]?,
-            list: Vec::new(alloc),
+            list: Stack::new(alloc),
             queues: Vec::new(alloc),
         };
         for at in 0..count {
@@ -65,15 +65,34 @@ impl Marks {
     ///
     /// [`Memory`] where memory is wanting.
     #[inline(always)]
-    fn mark(&mut self, unit: u32) -> Result<(), Memory>
+    pub(crate) fn mark(&mut self, unit: u32) -> Result<(), Memory>
         ensures kept { OnOk result (KeepsMarks self.old self.new) }
         ensures marked { OnOk result
             (unit < length self.old.marked.items → IsMarked self.new unit) }
         ensures few { OnOk result
             (length self.new.list.items ≤ length self.old.list.items + 1) }
     {
+        if (unit as usize) < self.marked.len() {
+            self.mark_within(unit)?;
+        }
+        Ok(())
+    }
+
+    /// Marks a unit that is one of the net.
+    ///
+    /// # Errors
+    ///
+    /// [`Memory`] where memory is wanting.
+    #[inline(always)]
+    fn mark_within(&mut self, unit: u32) -> Result<(), Memory>
+        requires { unit < length self.old.marked.items }
+        ensures kept { OnOk result (KeepsMarks self.old self.new) }
+        ensures marked { OnOk result (IsMarked self.new unit) }
+        ensures few { OnOk result
+            (length self.new.list.items ≤ length self.old.list.items + 1) }
+    {
         let at = unit as usize;
-        if at >= self.marked.len() || self.marked[at] {
+        if self.marked[at] {
             return Ok(());
         }
         self.list.push(unit)?;
@@ -103,6 +122,20 @@ impl Marks {
         }
     }
 
+    /// Takes the mark of a unit away, where it is one of the net.
+    #[inline(always)]
+    fn unmark_of(&mut self, net: &Checked, unit: u32)
+        requires { length self.old.marked.items ≡ length net.now.units }
+        ensures marked { self.new.marked.items ≡ set self.old.marked.items unit false }
+        ensures list { self.new.list ≡ self.old.list }
+        ensures queues { self.new.queues ≡ self.old.queues }
+    {
+        let at = unit as usize;
+        if at < net.net().units.as_slice().len() {
+            self.marked[at] = false;
+        }
+    }
+
     /// Takes the next unit from the list, and its mark where it is no queue; a queue is put among those that are to have turns.
     ///
     /// # Errors
@@ -110,6 +143,7 @@ impl Marks {
     /// [`Memory`] where memory is wanting.
     #[inline(always)]
     pub(crate) fn take(&mut self, net: &Checked) -> Result<Option<u32>, Memory>
+        requires { length self.old.marked.items ≡ length net.now.units }
         ensures { IfOk result (λ unit. MatchOption unit (IsEmptied self.old self.new)
             (IsTaken net.now self.old self.new)) }
     {
@@ -119,7 +153,7 @@ impl Marks {
         if is_queue(net, unit) {
             self.queues.push(unit)?;
         } else {
-            self.unmark(unit);
+            self.unmark_of(net, unit);
         }
         Ok(Some(unit))
     }
@@ -211,23 +245,22 @@ impl Marks {
         Ok(())
     }
 
-    /// Marks the unit into which a channel goes.
+    /// Marks the unit into which a channel of the net goes.
     ///
     /// # Errors
     ///
     /// [`Memory`] where memory is wanting.
     #[inline(always)]
     fn mark_target(&mut self, net: &Checked, chan: u32) -> Result<(), Memory>
+        requires within { chan < length net.now.chans }
+        requires long { length self.old.marked.items ≡ length net.now.units }
         ensures kept { OnOk result (KeepsMarks self.old self.new) }
         ensures marked { OnOk result
             (IsTargetMarked net.now (length self.old.marked.items) self.new chan) }
         ensures few { OnOk result
             (length self.new.list.items ≤ length self.old.list.items + 1) }
     {
-        let chans = net.net().chans.as_slice();
-        if (chan as usize) < chans.len() {
-            self.mark(chans[chan as usize].to.unit)?;
-        }
+        self.mark_within(net.net().chans.as_slice()[chan as usize].to.unit)?;
         Ok(())
     }
 
@@ -236,7 +269,7 @@ impl Marks {
     /// # Errors
     ///
     /// [`Memory`] where memory is wanting.
-    #[inline(always)]
+    #[inline(never)]
     fn mark_merges(&mut self, net: &Checked, taken: Taken) -> Result<(), Memory>
         ensures kept { OnOk result (KeepsMarks self.old self.new) }
         ensures marked { OnOk result (AllByRecursion
@@ -264,8 +297,34 @@ impl Marks {
         }
     }
 
-    /// Marks the units of which a firing of a unit may let one fire in the cycle, by the tokens that it moved and the state
-    /// after it.
+    /// Marks the control merges that put on the channels into a unit from which it took tokens.
+    ///
+    /// # Errors
+    ///
+    /// [`Memory`] where memory is wanting.
+    #[inline(always)]
+    fn mark_merged(
+        &mut self,
+        net: &Checked,
+        feeds: &Feeds,
+        unit: u32,
+        taken: Taken,
+    ) -> Result<(), Memory>
+        requires feeds { AreFeeds net.now feeds.now }
+        requires into { AreInto net.now unit (chans_of taken) }
+        ensures kept { OnOk result (KeepsMarks self.old self.new) }
+        ensures marked { OnOk result (AllByRecursion
+            (IsMergeMarked net.now (length self.old.marked.items) self.new) (chans_of taken)) }
+        ensures few { OnOk result
+            (length self.new.list.items ≤ length self.old.list.items + 3) }
+    {
+        if feeds.is_merged(unit) {
+            self.mark_merges(net, taken)?;
+        }
+        Ok(())
+    }
+
+    /// Marks the units of which a firing of a unit that is no fork may let one fire in the cycle, by the tokens that it moved.
     ///
     /// # Errors
     ///
@@ -274,11 +333,48 @@ impl Marks {
     pub(crate) fn rouse(
         &mut self,
         net: &Checked,
-        state: &State,
+        feeds: &Feeds,
         unit: u32,
         moves: Moves,
     ) -> Result<(), Memory>
-        requires { IsOf net.now state.now }
+        requires feeds { AreFeeds net.now feeds.now }
+        requires into { AreInto net.now unit (chans_of moves.taken) }
+        requires within { IfSome moves.laid (λ w. w.chan < length net.now.chans) }
+        requires long { length self.old.marked.items ≡ length net.now.units }
+        ensures kept { OnOk result (KeepsMarks self.old self.new) }
+        ensures merges { OnOk result (AllByRecursion
+            (IsMergeMarked net.now (length self.old.marked.items) self.new)
+            (chans_of moves.taken)) }
+        ensures target { OnOk result
+            (IsPutMarked net.now moves.laid (length self.old.marked.items) self.new) }
+        ensures few { OnOk result
+            (length self.new.list.items ≤ length self.old.list.items + 4) }
+    {
+        self.mark_merged(net, feeds, unit, moves.taken)?;
+        self.mark_put(net, moves.laid)?;
+        Ok(())
+    }
+
+    /// Marks the units of which a firing of a fork may let one fire in the cycle, by the tokens that it moved and the state
+    /// after it: itself too where it took its head and has another.
+    ///
+    /// # Errors
+    ///
+    /// [`Memory`] where memory is wanting.
+    #[inline(always)]
+    pub(crate) fn rouse_fork(
+        &mut self,
+        net: &Checked,
+        state: &State,
+        feeds: &Feeds,
+        unit: u32,
+        moves: Moves,
+    ) -> Result<(), Memory>
+        requires of { IsOf net.now state.now }
+        requires feeds { AreFeeds net.now feeds.now }
+        requires into { AreInto net.now unit (chans_of moves.taken) }
+        requires within { IfSome moves.laid (λ w. w.chan < length net.now.chans) }
+        requires long { length self.old.marked.items ≡ length net.now.units }
         ensures kept { OnOk result (KeepsMarks self.old self.new) }
         ensures roused { OnOk result (IsRoused net.now (state_of state.now) unit moves
             (length self.old.marked.items) self.new) }
@@ -286,12 +382,11 @@ impl Marks {
             (length self.new.list.items ≤ length self.old.list.items + 5) }
     {
         self.mark_own(net, state, unit, moves.taken)?;
-        self.mark_merges(net, moves.taken)?;
-        self.mark_put(net, moves.laid)?;
+        self.rouse(net, feeds, unit, moves)?;
         Ok(())
     }
 
-    /// Marks a fork that took its head and has another.
+    /// Marks a unit that took tokens and does not want one at its first input.
     ///
     /// # Errors
     ///
@@ -306,8 +401,8 @@ impl Marks {
     ) -> Result<(), Memory>
         requires { IsOf net.now state.now }
         ensures kept { OnOk result (KeepsMarks self.old self.new) }
-        ensures marked { OnOk result (is_fork (kind_of net.now unit) ≡ true
-            → chans_of taken ≢ [] → (IsStarved net.now (state_of state.now) unit → ⊥)
+        ensures marked { OnOk result (chans_of taken ≢ []
+            → (IsStarved net.now (state_of state.now) unit → ⊥)
             → unit < length self.old.marked.items → IsMarked self.new unit) }
         ensures few { OnOk result
             (length self.new.list.items ≤ length self.old.list.items + 1) }
@@ -315,9 +410,7 @@ impl Marks {
         match taken {
             Taken::None => Ok(()),
             _ => {
-                if is_fork(net, unit) {
-                    self.mark_fed(net, state, unit)?;
-                }
+                self.mark_fed(net, state, unit)?;
                 Ok(())
             }
         }
@@ -330,6 +423,8 @@ impl Marks {
     /// [`Memory`] where memory is wanting.
     #[inline(always)]
     fn mark_put(&mut self, net: &Checked, laid: Option<Laid>) -> Result<(), Memory>
+        requires within { IfSome laid (λ w. w.chan < length net.now.chans) }
+        requires long { length self.old.marked.items ≡ length net.now.units }
         ensures kept { OnOk result (KeepsMarks self.old self.new) }
         ensures marked { OnOk result (IsPutMarked net.now laid
             (length self.old.marked.items) self.new) }
@@ -346,6 +441,24 @@ impl Marks {
         Ok(())
     }
 
+    /// Marks the unit into which a channel goes, where it is one of the net.
+    ///
+    /// # Errors
+    ///
+    /// [`Memory`] where memory is wanting.
+    #[inline(always)]
+    fn mark_target_of(&mut self, net: &Checked, chan: u32) -> Result<(), Memory>
+        ensures kept { OnOk result (KeepsMarks self.old self.new) }
+        ensures marked { OnOk result
+            (IsTargetMarked net.now (length self.old.marked.items) self.new chan) }
+    {
+        let chans = net.net().chans.as_slice();
+        if (chan as usize) < chans.len() {
+            self.mark(chans[chan as usize].to.unit)?;
+        }
+        Ok(())
+    }
+
     /// Marks the units into which channels go.
     ///
     /// # Errors
@@ -357,7 +470,7 @@ impl Marks {
             → IsTargetMarked net.now (length self.old.marked.items) self.new d) }
     {
         for chan in chans {
-            self.mark_target(net, *chan)?;
+            self.mark_target_of(net, *chan)?;
         }
         Ok(())
     }

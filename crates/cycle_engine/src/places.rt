@@ -5,9 +5,8 @@ ghost use Rattle.net_types.specs.Nets.{kind_of};
 ghost use Rattle.net_check.specs.Ends.{is_lsq};
 ghost use Rattle.net_core.specs.States.{IsOf, state_of};
 ghost use Rattle.cycle_engine.specs.private.Marking.{IsStarved, asks_first, is_merge};
-ghost use Rattle.net_core.specs.Uses.{is_fork};
 ghost use Rattle.net_types.specs.declared.firing.Act.TheVariants as acts;
-ghost use Rattle.cycle_engine.specs.private.Places.{HasView, HasNoExec, HasNoneFrom, IsFirstExec, IsNextNumber, IsNoted, IsViewOf, first_of, count_in, inputs_in, outputs_in, ports_in, numbered};
+ghost use Rattle.cycle_engine.specs.private.Places.{HasView, HasNoExec, HasNoneFrom, IsFirstExec, IsNextNumber, IsNoted, IsViewOf, count_in, inputs_in, outputs_in, ports_in, numbered};
 ghost use Rattle.cycle_engine.specs.private.Control.{control_places_in, groups_in};
 
 use crate::control::{next_control_place, next_end};
@@ -48,25 +47,9 @@ pub(crate) fn is_merge(net: &Checked, unit: u32) -> bool
     }
 }
 
-/// Whether a unit is a fork.
-#[inline(always)]
-pub(crate) fn is_fork(net: &Checked, unit: u32) -> bool
-    ensures { result ≡ is_fork (kind_of net.now unit) }
-{
-    let units = net.net().units.as_slice();
-    if (unit as usize) < units.len() {
-        match &units[unit as usize] {
-            Unit::Fork { .. } => true,
-            _ => false,
-        }
-    } else {
-        false
-    }
-}
-
 /// Whether a unit does not fire without a token at its first input.
 #[inline(always)]
-fn asks_first(net: &Checked, unit: u32) -> bool
+pub(crate) fn asks_first(net: &Checked, unit: u32) -> bool
     ensures { result ≡ asks_first (kind_of net.now unit) }
 {
     let units = net.net().units.as_slice();
@@ -96,25 +79,6 @@ pub(crate) fn is_starved(net: &Checked, state: &State, unit: u32) -> bool
     match state.head(net, net.into_place(unit, 0)) {
         None => true,
         Some(_) => false,
-    }
-}
-
-/// The first act of a unit that is no queue; none of a queue.
-#[inline(always)]
-pub(crate) fn first_act(net: &Checked, unit: u32) -> Option<Act>
-    ensures { MatchOption result (is_lsq (kind_of net.now unit) ≡ true)
-        (λ act. (is_lsq (kind_of net.now unit) ≡ false) × (act ≡ first_of (kind_of net.now unit))) }
-{
-    let units = net.net().units.as_slice();
-    if (unit as usize) < units.len() {
-        match &units[unit as usize] {
-            Unit::Fork { .. } => Some(Act::Send(0)),
-            Unit::Cmerge { .. } => Some(Act::From(0)),
-            Unit::Lsq { .. } => None,
-            _ => Some(Act::Go),
-        }
-    } else {
-        Some(Act::Go)
     }
 }
 

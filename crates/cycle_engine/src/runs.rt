@@ -93,7 +93,7 @@ impl Engine {
         self.begin(net, bounds, now)?;
         self.run_units(net, bounds, now)?;
         self.run_queues(net, bounds, now)?;
-        Ok(!self.fired.is_empty())
+        Ok(self.fired.len() > 0)
     }
 
     /// The run that the engine has made, of so many cycles.

@@ -9,8 +9,8 @@ ghost use Rattle.net_core.specs.States.{IsOf, IsPlanOf, CountsWithin, CountsRise
 ghost use Rattle.net_replay.specs.Finishes.{IsLogged};
 ghost use Rattle.net_replay.specs.declared.fault.RunFault.TheVariants as fault;
 ghost use Rattle.cycle_engine.specs.Cycles.{Dated, May, IsUnused, place_of, after_in};
-ghost use Rattle.cycle_engine.specs.private.Trials.{dated_of, AllRipe, HadRoom, HasRoomNow, HadDepth, EntriesFit, Allowed, IsBegun, IsEngine};
-ghost use Rattle.net_core.specs.Uses.{places_used, is_fork};
+ghost use Rattle.cycle_engine.specs.private.Trials.{dated_of, HadRoom, IsPlanned, HasRoomNow, HadDepth, EntriesFit, Allowed, IsBegun, IsEngine};
+ghost use Rattle.net_core.specs.Uses.{is_fork};
 ghost use Rattle.cycle_engine.specs.private.Goings.{Past, IsReady, InCycle, MayFollow, IsTried, IsBroken, IsMore};
 ghost use Rattle.cycle_engine.specs.private.Marking.{IsFreed, IsNoted};
 ghost use Rattle.cycle_engine.specs.private.Control.{control_after};
@@ -18,10 +18,9 @@ ghost use Rattle.cycle_engine.specs.private.Used.{AreTold, IsUnusedFrom};
 ghost use Rattle.std.specs.Prelude.{MatchResult};
 
 use crate::control::control_after;
-use crate::dates::{are_ripe, dated, is_ripe};
+use crate::dates::are_ripe;
 use crate::engine::{Bounds, Engine};
-use crate::freed::Freed;
-use crate::places::is_fork;
+use crate::stack::Stack;
 use el_base::Log;
 use net_check::Checked;
 use net_core::{Laid, Moves, Plan, moves_of};
@@ -44,17 +43,6 @@ fn noted(entries: &[u32], at: u32) -> u32
         entries[at as usize]
     } else {
         0
-    }
-}
-
-/// Whether the channel on which is put is not among those that were full as the cycle began and from which tokens were taken.
-#[inline(always)]
-fn had_room(freed: &Freed, laid: Option<Laid>) -> bool
-    ensures { IsTrue result ↔ HadRoom freed.now.marked.items laid }
-{
-    match laid {
-        None => true,
-        Some(laid) => !freed.is_marked(laid.chan),
     }
 }
 
@@ -137,7 +125,7 @@ fn same_place(first: Firing, second: Firing) -> bool
 ///
 /// `Memory` where memory is wanting.
 #[inline(always)]
-fn note_fired(fired: &mut Vec<Firing>, firing: Firing) -> Result<(), RunFault>
+fn note_fired(fired: &mut Stack<Firing>, firing: Firing) -> Result<(), RunFault>
     ensures fired { OnOk result (fired.new.items ≡ fired.old.items ++ firing ∷ []) }
     ensures memory { IfErr result (λ e. e ≡ fault.Memory) }
 {
@@ -160,6 +148,7 @@ fn note(log: &mut Log<Firing>, keep: bool, firing: Firing)
 
 impl Engine {
     /// Whether a firing of the cycle, from a number on, is at the place of a firing.
+    #[inline(never)]
     fn is_from(&self, first: usize, firing: Firing) -> bool
         ensures used { result ≡ true → IsUnused self.now.fired.items firing → ⊥ }
         ensures unused { result ≡ false → IsUnusedFrom self.now.fired.items firing first }
@@ -174,6 +163,7 @@ impl Engine {
     }
 
     /// Whether a firing of the cycle is at the place of a firing.
+    #[inline(never)]
     fn is_among(&self, firing: Firing) -> bool
         ensures used { result ≡ true → IsUnused self.now.fired.items firing → ⊥ }
         ensures unused { result ≡ false → IsUnused self.now.fired.items firing }
@@ -185,7 +175,8 @@ impl Engine {
     /// told as the last at the place is at the place.
     #[inline(always)]
     fn is_used(&self, firing: Firing) -> bool
-        requires { AreTold self.now.used self.now.made self.now.fired.items }
+        requires told { AreTold self.now.used self.now.made self.now.fired.items }
+        requires within { firing.unit < length self.now.used.last.items }
         ensures used { result ≡ true → IsUnused self.now.fired.items firing → ⊥ }
         ensures unused { result ≡ false → IsUnused self.now.fired.items firing }
     {
@@ -198,73 +189,62 @@ impl Engine {
         self.is_among(firing)
     }
 
-    /// Whether the heads that a plan of a unit uses may be used in the cycle.
-    #[inline(always)]
-    fn uses_ripe(&self, net: &Checked, unit: u32, planned: &Planned, now: u64) -> bool
-        requires { planned.now.moves ≡ moves_of net.now unit planned.now.plan }
-        ensures { IsTrue result ↔ AllRipe net.now now self.now.dates.tokens unit
-            (places_used (is_fork (kind_of net.now unit)) planned.now.plan.takes) }
-    {
-        if is_fork(net, unit) {
-            is_ripe(&self.dates, net, net.into_place(unit, 0), now)
-        } else {
-            are_ripe(&self.dates, net, planned.moves.taken, now)
-        }
-    }
-
     /// Whether there is room for the token that a firing puts, and was where the cycle began.
     #[inline(always)]
-    fn has_room(&self, net: &Checked, laid: Option<Laid>) -> bool
-        requires { IsOf net.now self.now.state }
+    pub(crate) fn has_room(&self, net: &Checked, laid: Option<Laid>) -> bool
+        requires of { IsOf net.now self.now.state }
+        requires long { length self.now.freed.marked.items ≡ length net.now.chans }
         ensures { IsTrue result
             ↔ HasRoomNow net.now self.now laid × HadRoom self.now.freed.marked.items laid }
     {
         match laid {
             None => true,
-            Some(put) => self.state.has_room_on(net, put.chan) && had_room(&self.freed, laid),
+            Some(put) => {
+                self.state.has_room_on(net, put.chan) && !self.freed.is_marked(put.chan)
+            }
         }
     }
 
-    /// Whether a planned firing may be made in the cycle.
+    /// Whether a planned firing of a unit that is no fork may be made in the cycle, where its queue had depth.
     #[inline(always)]
-    fn allows(&self, net: &Checked, firing: Firing, planned: &Planned, now: u64) -> bool
-        requires of { IsOf net.now self.now.state }
+    pub(crate) fn allows(&self, net: &Checked, firing: Firing, planned: &Planned, now: u64) -> bool
+        requires engine { IsEngine net.now self.now }
+        requires long { length self.now.freed.marked.items ≡ length net.now.chans }
+        requires straight { is_fork (kind_of net.now firing.unit) ≡ false }
+        requires depth { HadDepth (kind_of net.now firing.unit)
+            (get_or self.now.begun.items firing.unit 0) firing.act }
+        requires effect { IsPlanOf net.now self.now.state firing (Some planned.now.plan) }
         requires moves { planned.now.moves ≡ moves_of net.now firing.unit planned.now.plan }
         ensures { IsTrue result ↔ Allowed net.now now self.now firing planned.now.plan }
     {
-        had_depth(self.begun.as_slice(), net, firing)
-            && self.uses_ripe(net, firing.unit, planned, now)
+        let _ = firing;
+        are_ripe(&self.state, net, planned.moves.taken, now)
             && self.has_room(net, planned.moves.laid)
     }
 
-    /// What a firing does that may be made in the cycle, by its plan; `None` where it may not.
+    /// What a firing of a unit that is no fork does that may be made in the cycle, by its plan; `None` where it may not.
     #[inline(always)]
     fn may(&self, net: &Checked, firing: Firing, plan: Option<Plan>, now: u64) -> Option<Planned>
         requires engine { IsEngine net.now self.now }
+        requires long { length self.now.freed.marked.items ≡ length net.now.chans }
+        requires straight { is_fork (kind_of net.now firing.unit) ≡ false }
         requires apart { IfSome plan (λ p. apart p.takes ≡ true) }
         requires admits { IfSome plan
             (λ p. admits (cell_at self.now.state firing.unit) p.change ≡ true) }
         requires effect { IsPlanOf net.now self.now.state firing plan }
-        ensures moves { IfSome result (λ p. p.moves ≡ moves_of net.now firing.unit p.plan) }
-        ensures apart { IfSome result (λ p. apart p.plan.takes ≡ true) }
-        ensures admits { IfSome result
-            (λ p. admits (cell_at self.now.state firing.unit) p.plan.change ≡ true) }
-        ensures effect { IfSome result
-            (λ p. IsPlanOf net.now self.now.state firing (Some p.plan)) }
-        ensures room { IfSome result
-            (λ p. has_room net.now (state_of self.now.state) firing.unit p.plan.put) }
+        ensures planned { IfSome result (IsPlanned net.now self.now firing) }
         ensures may { (start : Dated) → IsBegun net.now now start self.now → MatchOption result
             (May net.now now start (dated_of self.now) firing → ⊥)
             (λ p. May net.now now start (dated_of self.now) firing) }
     {
-        let Some(plan) = plan else {
-            return None;
-        };
+        let plan = plan?;
         let planned = Planned {
             plan,
             moves: moves_of(net, firing.unit, &plan),
         };
-        if self.allows(net, firing, &planned, now) {
+        if had_depth(self.begun.as_slice(), net, firing)
+            && self.allows(net, firing, &planned, now)
+        {
             Some(planned)
         } else {
             None
@@ -286,18 +266,17 @@ impl Engine {
         now: u64,
     ) -> Result<(), RunFault>
         requires engine { IsEngine net.now self.old }
-        requires moves { planned.moves ≡ moves_of net.now firing.unit planned.plan }
-        requires apart { apart planned.plan.takes ≡ true }
-        requires admits { admits (cell_at self.old.state firing.unit) planned.plan.change ≡ true }
-        requires effect { IsPlanOf net.now self.old.state firing (Some planned.plan) }
-        requires room { has_room net.now (state_of self.old.state) firing.unit planned.plan.put }
+        requires planned { IsPlanned net.now self.old firing planned }
         requires counts { CountsWithin (2 ^ 62) (state_of self.old.state) }
         requires log { keep ≡ true → 0 < self.old.log.room }
         requires cells { length self.old.notes.coming.items ≡ 1024 }
         requires few { self.old.made + length self.old.fired.items < 2 ^ 63 }
         requires told { AreTold self.old.used self.old.made self.old.fired.items }
+        requires within { firing.unit < length self.old.used.last.items }
         ensures told { OnOk result
             (AreTold self.new.used self.new.made self.new.fired.items) }
+        ensures places { OnOk result
+            (length self.new.used.last.items ≡ length self.old.used.last.items) }
         ensures engine { OnOk result (IsEngine net.now self.new) }
         ensures after { OnOk result
             (dated_of self.new ≡ after_in net.now now (dated_of self.old) firing) }
@@ -308,10 +287,11 @@ impl Engine {
         ensures begun { OnOk result (self.new.begun ≡ self.old.begun) }
         ensures made { OnOk result (self.new.made ≡ self.old.made) }
         ensures marks { OnOk result (self.new.marks ≡ self.old.marks) }
+        ensures feeds { OnOk result (self.new.feeds ≡ self.old.feeds) }
         ensures notes { OnOk result
             (IsNoted net.now planned.moves.laid now self.old.notes self.new.notes) }
-        ensures freed { OnOk result (IsFreed self.old.dates now (chans_of planned.moves.taken)
-            self.old.freed self.new.freed) }
+        ensures freed { OnOk result (IsFreed net.now self.old.state now
+            (chans_of planned.moves.taken) self.old.freed self.new.freed) }
         ensures control { OnOk result (self.new.control
             ≡ control_after net.now planned.moves.laid self.old.control) }
         ensures log { OnOk result (IsLogged keep (firing ∷ []) self.old.log self.new.log) }
@@ -321,21 +301,62 @@ impl Engine {
         self.used.note(firing, self.made, count);
         note_fired(&mut self.fired, firing)?;
         let moves = planned.moves;
-        self.freed.note(&self.dates, moves.taken, now)?;
+        self.freed.note(&self.state, net, moves.taken, now)?;
         self.control = control_after(net, moves.laid, self.control);
         self.notes.note(net, moves.laid, now)?;
-        self.state.make_moves(net, firing, planned.plan, moves);
-        self.dates.make(dated(moves, now));
+        self.state.make_dated(net, firing, planned.plan, moves, now);
         note(&mut self.log, keep, firing);
         Ok(())
     }
 
-    /// Makes a firing, by its plan, where it may be made in the cycle and its place has not fired, and gives what it does where
-    /// it was made.
+    /// Makes a firing that may be made in the cycle, where its place has not fired, and tells whether it did.
     ///
     /// # Errors
     ///
-    /// `Limit` where it may be made and as many firings as the limit allows are made. `Memory` where memory is wanting.
+    /// `Limit` where it is to be made and as many firings as the limit allows are made. `Memory` where memory is wanting.
+    #[inline(always)]
+    pub(crate) fn fire(
+        &mut self,
+        net: &Checked,
+        bounds: Bounds,
+        firing: Firing,
+        planned: Planned,
+        now: u64,
+    ) -> Result<bool, RunFault>
+        requires ready { IsReady net.now bounds self.old }
+        requires planned { IsPlanned net.now self.old firing planned }
+        requires may { (start : Dated) → IsBegun net.now now start self.old
+            → May net.now now start (dated_of self.old) firing }
+        ensures ready { OnOk result (IsReady net.now bounds self.new) }
+        ensures more { IfOk result (λ did. IsMore self.old self.new did) }
+        ensures marks { OnOk result (self.new.marks ≡ self.old.marks) }
+        ensures feeds { OnOk result (self.new.feeds ≡ self.old.feeds) }
+        ensures tried { (past : Past) (start : Dated)
+            → InCycle net.now past bounds now start self.old
+            → MayFollow net.now self.old firing
+            → MatchResult result
+            (λ did. IsTried net.now past bounds now start self.old self.new firing did)
+            (IsBroken net.now past.inputs bounds) }
+    {
+        let _ = net.net();
+        if self.is_used(firing) {
+            return Ok(false);
+        }
+        if self.made + self.fired.len() as u64 == bounds.limit {
+            return Err(RunFault::Limit {
+                limit: bounds.limit,
+            });
+        }
+        self.make(net, firing, planned, bounds.keep, now)?;
+        Ok(true)
+    }
+
+    /// Makes a firing of a unit that is no fork, by its plan, where it may be made in the cycle and its place has not fired, and
+    /// gives what it does where it was made.
+    ///
+    /// # Errors
+    ///
+    /// As [`Engine::fire`].
     #[inline(always)]
     pub(crate) fn attempt(
         &mut self,
@@ -346,6 +367,7 @@ impl Engine {
         now: u64,
     ) -> Result<Option<Planned>, RunFault>
         requires ready { IsReady net.now bounds self.old }
+        requires straight { is_fork (kind_of net.now firing.unit) ≡ false }
         requires apart { IfSome plan (λ p. apart p.takes ≡ true) }
         requires admits { IfSome plan
             (λ p. admits (cell_at self.old.state firing.unit) p.change ≡ true) }
@@ -353,10 +375,8 @@ impl Engine {
         ensures ready { OnOk result (IsReady net.now bounds self.new) }
         ensures more { IfOk result (λ did. IsMore self.old self.new (is_some did)) }
         ensures marks { OnOk result (self.new.marks ≡ self.old.marks) }
-        ensures plan { IfOk result (λ did. IfSome did
-            (λ p. IsPlanOf net.now self.old.state firing (Some p.plan))) }
-        ensures moves { IfOk result (λ did. IfSome did
-            (λ p. p.moves ≡ moves_of net.now firing.unit p.plan)) }
+        ensures feeds { OnOk result (self.new.feeds ≡ self.old.feeds) }
+        ensures planned { IfOk result (λ did. IfSome did (IsPlanned net.now self.old firing)) }
         ensures tried { (past : Past) (start : Dated)
             → InCycle net.now past bounds now start self.old
             → MayFollow net.now self.old firing
@@ -364,19 +384,13 @@ impl Engine {
             (λ did. IsTried net.now past bounds now start self.old self.new firing (is_some did))
             (IsBroken net.now past.inputs bounds) }
     {
-        let _ = net.net();
         let Some(planned) = self.may(net, firing, plan, now) else {
             return Ok(None);
         };
-        if self.is_used(firing) {
-            return Ok(None);
+        if self.fire(net, bounds, firing, planned, now)? {
+            Ok(Some(planned))
+        } else {
+            Ok(None)
         }
-        if self.made + self.fired.len() as u64 == bounds.limit {
-            return Err(RunFault::Limit {
-                limit: bounds.limit,
-            });
-        }
-        self.make(net, firing, planned, bounds.keep, now)?;
-        Ok(Some(planned))
     }
 }

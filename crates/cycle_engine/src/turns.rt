@@ -1,28 +1,25 @@
 //! A cycle's turns: first the marked units that are no queues, until none is marked, then the marked queues once.
 
-ghost use Rattle.std.specs.Prelude.{◌≢◌, ℕ, ◌+◌, ◌<◌, ◌≤◌, OnOk, MatchResult};
+ghost use Rattle.std.specs.Prelude.{◌≡◌, ◌≢◌, true, false, ℕ, ◌+◌, ◌<◌, ◌≤◌, OnOk, MatchResult};
 ghost use Rattle.net_types.specs.Order.{act_rank};
+ghost use Rattle.net_types.specs.Nets.{kind_of};
+ghost use Rattle.net_check.specs.Ends.{is_lsq};
 ghost use Rattle.net_core.specs.States.{state_of};
+ghost use Rattle.net_core.specs.Uses.{is_fork};
 ghost use Rattle.cycle_engine.specs.Cycles.{Dated};
 ghost use Rattle.cycle_engine.specs.declared.marks.Marks.{Marks as MarksValue};
 ghost use Rattle.cycle_engine.specs.private.Goings.{Past, IsReady, IsBroken, IsBegunIn, to_visit};
-ghost use Rattle.cycle_engine.specs.private.Places.{IsTurn, IsNextAct, IsOpenTurn, IsSettled, IsServed, IsFull};
+ghost use Rattle.cycle_engine.specs.private.Places.{IsTurn, IsNextAct, IsSettled, IsServed, IsFull};
 
 use crate::engine::{Bounds, Engine};
-use crate::places::{
-    count_acts, first_act, is_queue, look_at_queue, next_number, numbered, oldest,
-};
+use crate::places::{count_acts, is_queue, look_at_queue, next_number, numbered, oldest};
 use net_check::Checked;
 use net_replay::RunFault;
 use net_types::{Act, Firing};
 
 /// Names for copies of [`Engine::steps`], one for each kind of acts: they have no part in what it does, but in a copy that is
 /// called with one kind alone the compiler decides most tests.
-pub(crate) struct Sends;
-
 pub(crate) struct Froms;
-
-pub(crate) struct Goes;
 
 pub(crate) struct Allocs;
 
@@ -39,7 +36,7 @@ pub(crate) struct Retires;
 pub(crate) struct Ends;
 
 impl Engine {
-    /// Tries a place, and marks the units of which its firing may let one fire in the cycle.
+    /// Tries a place of a unit that is no fork, and marks the units of which its firing may let one fire in the cycle.
     ///
     /// # Errors
     ///
@@ -51,7 +48,8 @@ impl Engine {
         firing: Firing,
         now: u64,
     ) -> Result<(), RunFault>
-        requires { IsReady net.now bounds self.old }
+        requires ready { IsReady net.now bounds self.old }
+        requires straight { is_fork (kind_of net.now firing.unit) ≡ false }
         ensures ready { OnOk result (IsReady net.now bounds self.new) }
         ensures less { OnOk result (to_visit bounds self.new ≤ to_visit bounds self.old) }
         ensures tried { (past : Past) (start : Dated) (marks : MarksValue) (rank number : ℕ)
@@ -68,18 +66,18 @@ impl Engine {
         };
         if !is_queue(net, firing.unit) {
             self.marks
-                .rouse(net, &self.state, firing.unit, planned.moves)?;
+                .rouse(net, &self.feeds, firing.unit, planned.moves)?;
         }
         Ok(())
     }
 
-    /// Tries all places of a unit of one kind but those at which its queue allows no act, and those for the control token to which
-    /// the channel that is noted for it does not lead.
+    /// Tries all places of one kind of a unit that is no fork but those at which its queue allows no act, and those for the
+    /// control token to which the channel that is noted for it does not lead.
     ///
     /// # Errors
     ///
     /// As [`Engine::attempt`].
-    fn steps<K>(
+    pub(crate) fn steps<K>(
         &mut self,
         net: &Checked,
         bounds: Bounds,
@@ -89,6 +87,7 @@ impl Engine {
     ) -> Result<(), RunFault>
         requires ready { IsReady net.now bounds self.old }
         requires kind { act_rank kind ≢ 6 }
+        requires straight { is_fork (kind_of net.now unit) ≡ false }
         ensures ready { OnOk result (IsReady net.now bounds self.new) }
         ensures less { OnOk result (to_visit bounds self.new ≤ to_visit bounds self.old) }
         ensures tried { (past : Past) (start : Dated) (marks : MarksValue)
@@ -129,7 +128,8 @@ impl Engine {
         unit: u32,
         now: u64,
     ) -> Result<(), RunFault>
-        requires { IsReady net.now bounds self.old }
+        requires ready { IsReady net.now bounds self.old }
+        requires queue { is_lsq (kind_of net.now unit) ≡ true }
         ensures ready { OnOk result (IsReady net.now bounds self.new) }
         ensures tried { (past : Past) (start : Dated) (marks : MarksValue)
             → IsTurn net.now past bounds now start marks self.old unit 6 0
@@ -169,38 +169,6 @@ impl Engine {
         Ok(())
     }
 
-    /// Tries the places of a unit whose mark was taken, where it is no queue.
-    ///
-    /// # Errors
-    ///
-    /// As [`Engine::attempt`].
-    fn run_unit(
-        &mut self,
-        net: &Checked,
-        bounds: Bounds,
-        unit: u32,
-        now: u64,
-    ) -> Result<(), RunFault>
-        requires { IsReady net.now bounds self.old }
-        ensures ready { OnOk result (IsReady net.now bounds self.new) }
-        ensures less { OnOk result (to_visit bounds self.new ≤ to_visit bounds self.old) }
-        ensures tried { (past : Past) (start : Dated)
-            → IsOpenTurn net.now past bounds now start self.old unit
-            → MatchResult result
-            (λ _. IsBegunIn net.now past bounds now start self.new)
-            (IsBroken net.now past.inputs bounds) }
-    {
-        let Some(kind) = first_act(net, unit) else {
-            return Ok(());
-        };
-        match kind {
-            Act::Send(_) => self.steps::<Sends>(net, bounds, unit, Act::Send(0), now)?,
-            Act::From(_) => self.steps::<Froms>(net, bounds, unit, Act::From(0), now)?,
-            _ => self.steps::<Goes>(net, bounds, unit, Act::Go, now)?,
-        }
-        Ok(())
-    }
-
     /// Tries the places of a queue, in the order of its acts.
     ///
     /// # Errors
@@ -213,7 +181,8 @@ impl Engine {
         unit: u32,
         now: u64,
     ) -> Result<(), RunFault>
-        requires { IsReady net.now bounds self.old }
+        requires ready { IsReady net.now bounds self.old }
+        requires queue { is_lsq (kind_of net.now unit) ≡ true }
         ensures ready { OnOk result (IsReady net.now bounds self.new) }
         ensures tried { (past : Past) (start : Dated) (marks : MarksValue)
             → IsTurn net.now past bounds now start marks self.old unit 3 0
@@ -248,6 +217,9 @@ impl Engine {
         let Some(unit) = self.marks.take_queue() else {
             return Ok(());
         };
+        if !is_queue(net, unit) {
+            return Ok(());
+        }
         self.run_queue(net, bounds, unit, now)?;
         Ok(())
     }

@@ -1,6 +1,6 @@
 //! Which places have fired in a cycle.
 
-ghost use Rattle.std.specs.Prelude.{◌≡◌, ◌<◌, ◌^◌, true, false, IfSome, get_or, length};
+ghost use Rattle.std.specs.Prelude.{◌≡◌, ◌↔◌, ◌<◌, ◌≤◌, ◌^◌, true, false, IfOk, IfSome, get_or, length};
 ghost use Rattle.cycle_engine.specs.private.Used.{IsTold, IsUntold, own_number, place_number};
 
 use net_check::Checked;
@@ -12,7 +12,7 @@ use std::alloc::Global;
 /// What is told of the places that have fired in the cycle is right whatever numbers the places have: where a number is met
 /// twice in a cycle, nothing is told any more. By the numbers that [`Used::new`] gives it is never met twice.
 pub(crate) struct Used {
-    /// From where on the places of each unit have their numbers.
+    /// From where on the places of each unit have their numbers, but its place 0, which has the unit's.
     pub base: Vec<u32>,
     /// Of each place how many firings there were with its last one; 0 before its first.
     pub last: Vec<u64>,
@@ -75,10 +75,12 @@ impl Used {
     /// # Errors
     ///
     /// [`Memory`] where memory is wanting.
-    pub(crate) fn new(alloc: Global, net: &Checked) -> Result<Used, Memory> {
+    pub(crate) fn new(alloc: Global, net: &Checked) -> Result<Used, Memory>
+        ensures { IfOk result (λ u. length net.now.units ≤ length u.last.items) }
+    {
         let units = net.net().units.as_slice();
         let mut base = Vec::new(alloc);
-        let mut count: u32 = 0;
+        let mut count = units.len() as u32;
         for unit in units {
             base.push(count)?;
             count = count.saturating_add(places(unit));
@@ -95,34 +97,49 @@ impl Used {
     fn number(&self, firing: Firing) -> u64
         ensures { result ≡ place_number self.now.base.items firing }
     {
+        let own = own_number(firing.act);
+        if own == 0 {
+            return u64::from(firing.unit);
+        }
         let at = firing.unit as usize;
         let base = if at < self.base.len() {
             self.base[at]
         } else {
             0
         };
-        u64::from(base) + own_number(firing.act)
+        u64::from(base) + own
+    }
+
+    /// Whether the table has the number of a firing's place.
+    #[inline(always)]
+    fn has(&self, firing: Firing) -> bool
+        requires { firing.unit < length self.now.last.items }
+        ensures { result ≡ true
+            ↔ (place_number self.now.base.items firing < length self.now.last.items) }
+    {
+        own_number(firing.act) == 0 || self.number(firing) < self.last.len() as u64
     }
 
     /// How many firings there were with the last one of a firing's place, where that is told.
     #[inline(always)]
     fn last(&self, firing: Firing) -> Option<u64>
+        requires { firing.unit < length self.now.last.items }
         ensures clear { IfSome result (λ _. self.now.mixed ≡ false) }
         ensures within { IfSome result
             (λ _. place_number self.now.base.items firing < length self.now.last.items) }
         ensures value { IfSome result
             (λ n. n ≡ get_or self.now.last.items (place_number self.now.base.items firing) 0) }
     {
-        let at = self.number(firing) as usize;
-        if self.mixed || at >= self.last.len() {
+        if self.mixed || !self.has(firing) {
             return None;
         }
-        Some(self.last[at])
+        Some(self.last[self.number(firing) as usize])
     }
 
     /// Whether the table tells that a firing's place has not fired after so many firings.
     #[inline(always)]
     pub(crate) fn has_not_fired(&self, firing: Firing, earlier: u64) -> bool
+        requires { firing.unit < length self.now.last.items }
         ensures { result ≡ true → IsUntold self.now earlier firing }
     {
         let Some(last) = self.last(firing) else {
@@ -135,7 +152,9 @@ impl Used {
     }
 
     /// How many firings came between so many and the one that is told as the last of a firing's place.
-    pub(crate) fn told(&self, firing: Firing, earlier: u64) -> usize {
+    pub(crate) fn told(&self, firing: Firing, earlier: u64) -> usize
+        requires { firing.unit < length self.now.last.items }
+    {
         match self.last(firing) {
             None => 0,
             Some(last) => last.saturating_sub(earlier).saturating_sub(1) as usize,
@@ -145,11 +164,12 @@ impl Used {
     /// Notes that a place fires after so many firings, of which so many were made in earlier cycles.
     #[inline(always)]
     pub(crate) fn note(&mut self, firing: Firing, earlier: u64, count: u64)
-        requires { count < 2 ^ 63 }
+        requires within { firing.unit < length self.old.last.items }
+        requires few { count < 2 ^ 63 }
         ensures { IsTold firing earlier count self.old self.new }
     {
-        let at = self.number(firing) as usize;
-        if at < self.last.len() {
+        if self.has(firing) {
+            let at = self.number(firing) as usize;
             if self.last[at] > earlier {
                 self.mixed = true;
             }

@@ -1,5 +1,5 @@
 -- Changes of slots and delays, made one after another and taken back.
-use Rattle.std.proofs.Common.{◌≡◌, ◌≢◌, ◌⊎◌, inl, inr, ℕ, zero, suc, ◌+◌, ◌<◌, ◌==◌, Bool, true, false, cond, Option, Some, None, List, [], ◌∷◌, ◌++◌, get_or, length, map, refl, sym, ap, subst, ◌∙◌, arith}
+use Rattle.std.proofs.Common.{◌≡◌, ℕ, zero, suc, ◌+◌, ◌<◌, ◌==◌, Bool, true, false, cond, Option, Some, None, List, [], ◌∷◌, ◌++◌, get_or, length, map, refl, sym, ap, subst, ◌∙◌, arith}
 use Rattle.std.specs.Prelude.{slice_set, take, Result, Ok, Err, OnOk, IfErr}
 use Rattle.std.specs.List.{All}
 use Rattle.std.specs.Option.{option_or}
@@ -13,8 +13,11 @@ use Rattle.net_check.specs.declared.refusal.NetRefusal.{NetRefusal}
 use Rattle.net_check.specs.declared.retiming.Change.{Change}
 use Rattle.net_check.specs.declared.wires.Side.TheVariants.{In, Out}
 use Rattle.net_check.specs.declared.wires.Wires.{Wires}
+use Rattle.net_check.specs.declared.pins.Pins.{Pins}
+use Rattle.net_check.specs.Pins.{pins_of}
+use Rattle.net_check.specs.private.Pinned.{ArePins, no_pins}
 use Rattle.net_check.specs.private.Steers.{IsTableOf}
-use Rattle.net_check.specs.Retimed.{untimed, plain, SamePlain, last_change, changed, changed_from, with_changes}
+use Rattle.net_check.specs.Retimed.{untimed, SamePlain, last_change, changed, changed_from, with_changes}
 use Rattle.net_check.specs.Checks.{IsChecked}
 use Rattle.net_check.specs.Sizes.{KeepsC3}
 use Rattle.net_check.specs.Cycles.{KeepsC4}
@@ -200,19 +203,30 @@ out_changed xs n u p (c ∷ cs) = at (last_change n xs) (out_changed xs (suc n) 
     at (Some x) r = ap (λ m. cond (is_at c.from u p) 0 (suc m)) r
 
 in_table : (xs : List Change) (net : Net) (w : Wires) → IsTableOf In net w → IsTableOf In (with_changes xs net) w
-in_table xs net w t = record { tells = λ u p. t.tells u p ∙ sym (into_changed xs 0 u p net.chans) }
+in_table xs net w t = record { past = t.past ∙ sym (length_changed xs 0 net.chans); tells = λ u p. t.tells u p ∙ sym (into_changed xs 0 u p net.chans) }
 
 out_table : (xs : List Change) (net : Net) (w : Wires) → IsTableOf Out net w → IsTableOf Out (with_changes xs net) w
-out_table xs net w t = record { tells = λ u p. t.tells u p ∙ sym (out_changed xs 0 u p net.chans) }
+out_table xs net w t = record { past = t.past ∙ sym (length_changed xs 0 net.chans); tells = λ u p. t.tells u p ∙ sym (out_changed xs 0 u p net.chans) }
+
+pins_changed : (xs : List Change) (net : Net) (ps : List Pins) → ArePins ps net.chans → ArePins ps (with_changes xs net).chans
+pins_changed xs net ps t = record { tells = λ u. ap (λ n. get_or ps u (no_pins n)) (length_changed xs 0 net.chans) ∙ t.tells u ∙ sym (same u) }
+  where
+    same : (u : ℕ) → pins_of u (changed_from xs 0 net.chans) ≡ pins_of u net.chans
+    same u =
+        let a = into_changed xs 0 u 0 net.chans in
+        let b = into_changed xs 0 u 1 net.chans in
+        let c = into_changed xs 0 u 2 net.chans in
+        let d = out_changed xs 0 u 0 net.chans in
+        λ i. record { first = a i; second = b i; third = c i; out = d i }
 
 -- the tables serve the net after the call, whether it made the changes or not
-pub tables_after : (xs : List Change) (net net2 : Net) (ins outs : Wires) (r : Result (Unit {0}) NetRefusal) → IsTableOf In net ins → IsTableOf Out net outs → IsChecked net
+pub tables_after : (xs : List Change) (net net2 : Net) (ins outs : Wires) (ps : List Pins) (r : Result (Unit {0}) NetRefusal) → IsTableOf In net ins → IsTableOf Out net outs → ArePins ps net.chans → IsChecked net
     → OnOk r (net2 ≡ with_changes xs net) → IfErr r (λ e. net2 ≡ net) → OnOk r (IsChecked net2)
-    → (IsTableOf In net2 ins × IsTableOf Out net2 outs) × IsChecked net2
-tables_after xs net net2 ins outs (Ok x) i o k a b h =
-    ((subst (λ n. IsTableOf In n ins) (sym a) (in_table xs net ins i), subst (λ n. IsTableOf Out n outs) (sym a) (out_table xs net outs o)), h)
-tables_after xs net net2 ins outs (Err e) i o k a b h =
-    ((subst (λ n. IsTableOf In n ins) (sym b) i, subst (λ n. IsTableOf Out n outs) (sym b) o), subst IsChecked (sym b) k)
+    → (IsTableOf In net2 ins × IsTableOf Out net2 outs) × (ArePins ps net2.chans × IsChecked net2)
+tables_after xs net net2 ins outs ps (Ok x) i o t k a b h =
+    ((subst (λ n. IsTableOf In n ins) (sym a) (in_table xs net ins i), subst (λ n. IsTableOf Out n outs) (sym a) (out_table xs net outs o)), (subst (λ n. ArePins ps n.chans) (sym a) (pins_changed xs net ps t), h))
+tables_after xs net net2 ins outs ps (Err e) i o t k a b h =
+    ((subst (λ n. IsTableOf In n ins) (sym b) i, subst (λ n. IsTableOf Out n outs) (sym b) o), (subst (λ n. ArePins ps n.chans) (sym b) t, subst IsChecked (sym b) k))
 
 -- the saved changes name channels of the changed net
 pub saved_name : (cs : List Chan) (xs ys : List Change) (zs : List Chan) → ys ≡ times_before cs xs → zs ≡ changed_from xs 0 cs → All (λ (x : Change). x.chan < length cs) xs → All (λ (x : Change). x.chan < length zs) ys

@@ -25,3 +25,4 @@ pub mod KeepLemmas
 pub mod LawLemmas
 pub mod TimeLemmas
 pub mod ChangeLemmas
+pub mod PinLemmas

@@ -40,7 +40,7 @@ pub first-cons : (side : Side) (u p : ℕ) (c : Chan) (cs : List Chan) → first
 first-cons In u p c cs = refl
 first-cons Out u p c cs = refl
 
-first-nil : (side : Side) (u p : ℕ) → first_at side u p [] ≡ 0
+pub first-nil : (side : Side) (u p : ℕ) → first_at side u p [] ≡ 0
 first-nil In u p = refl
 first-nil Out u p = refl
 
@@ -57,7 +57,7 @@ one_entry starts u v p q rises lu lv a b e = by (cases_lt u v) (cases_lt v u)
         let s : get_or starts u 0 ≡ get_or starts v 0 = ap (λ x. get_or starts x 0) k in
         (k, omega arith)
 
-not_at : (x : Place) (u p : ℕ) → (x.unit ≡ u → x.place ≡ p → ⊥) → is_at x u p ≡ false
+pub not_at : (x : Place) (u p : ℕ) → (x.unit ≡ u → x.place ≡ p → ⊥) → is_at x u p ≡ false
 not_at x u p h = by (x.unit == u) refl (x.place == p) refl
   where
     by : (a : Bool) → (x.unit == u) ≡ a → (b : Bool) → (x.place == p) ≡ b → a && b ≡ false
@@ -136,7 +136,7 @@ filled_none side starts chans table size all rises = record {
     gone u p = ap (first_at side u p) (empty chans) ∙ first-nil side u p
 
 pub filled_all : (side : Side) (starts table : List ℕ) (chans : List Chan) → Filled side starts table 0 chans → IsTable side starts table (length chans) chans
-filled_all side starts table chans f = record { tells = λ u p. by u p (cases_lt (get_or starts u 0 + p) (get_or starts (u + 1) 0)) }
+filled_all side starts table chans f = record { past = refl; tells = λ u p. by u p (cases_lt (get_or starts u 0 + p) (get_or starts (u + 1) 0)) }
   where
     by : (u p : ℕ) → (get_or starts u 0 + p < get_or starts (u + 1) 0) ⊎ (get_or starts (u + 1) 0 ≤ get_or starts u 0 + p) → wire starts table (length chans) u p ≡ first_at side u p chans
     by u p (inl l) = let b : nat_lt (get_or starts u 0 + p) (get_or starts (u + 1) 0) ≡ true = lt-ltb _ _ l in let i = f.inside u p l in rw b (i ∙ omega arith)

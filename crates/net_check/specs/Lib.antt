@@ -9,6 +9,7 @@ pub mod Ends
 pub mod Keeps
 pub mod Refusals
 pub mod Checks
+pub mod Pins
 pub mod Laws
 pub mod private
 pub mod Retimed

@@ -15,5 +15,6 @@ pub mod Walks
 pub mod Joins
 pub mod Bounds
 pub mod Bases
+pub mod Pinned
 pub mod Tabled
 pub mod Times

@@ -1,8 +1,9 @@
-ghost use Rattle.std.specs.Prelude.{◌≡◌, None, IfOk, IfErr, OnOk};
+ghost use Rattle.std.specs.Prelude.{◌≡◌, ℕ, None, IfOk, IfErr, OnOk, get_or, length};
 ghost use Rattle.net_types.specs.Nets.{into, out_of};
 ghost use Rattle.net_types.specs.Numbered.{AreNumbered};
 ghost use Rattle.net_types.specs.Rules.{KeepsC1};
 ghost use Rattle.net_check.specs.Checks.{IsChecked};
+ghost use Rattle.net_check.specs.Pins.{pins_of};
 ghost use Rattle.net_check.specs.Refusals.{RefusalHolds};
 ghost use Rattle.net_check.specs.Retimed.{NameChannels, with_changes};
 ghost use Rattle.net_check.specs.private.Bases.{KeepsBase};
@@ -15,6 +16,7 @@ use crate::cycles::check_cycles;
 use crate::ends::check_ends;
 use crate::headers::check_header;
 use crate::matches::check_widths;
+use crate::pins::{Pins, pins_by_unit};
 use crate::places::check_places;
 use crate::refusal::{At, NetRefusal, Rule};
 use crate::retiming::{Change, retime_net};
@@ -30,6 +32,7 @@ pub struct Checked {
     net: Net,
     into: Wires,
     out_of: Wires,
+    pins: Vec<Pins>,
 }
 
 // By hand, so that to let go of one is a call.
@@ -39,6 +42,7 @@ impl Drop for Checked {
             net: _net,
             into: _into,
             out_of: _out_of,
+            pins: _pins,
         } = self;
     }
 }
@@ -74,8 +78,14 @@ impl Checked {
         ensures { IfOk result (λ copy. copy ≡ self.now) }
     {
         let (into, out_of) = tables(alloc, &self.net)?;
+        let pins = pins_by_unit(alloc, &self.net, &into, &out_of)?;
         let net = self.net.copy(alloc)?;
-        Ok(Checked { net, into, out_of })
+        Ok(Checked {
+            net,
+            into,
+            out_of,
+            pins,
+        })
     }
 
     /// Gives channels other slots and delays, by changes in their order: of two changes of one channel the later counts.
@@ -95,12 +105,52 @@ impl Checked {
         retime_net(alloc, &mut self.net, changes)
     }
 
+    /// The channels at the first places of a unit; past the units none has one. It costs one step.
+    #[inline(always)]
+    pub fn pins(&self, unit: u32) -> Pins
+        ensures { result ≡ pins_of unit self.now.chans }
+    {
+        let at = unit as usize;
+        if at < self.pins.len() {
+            self.pins[at]
+        } else {
+            Pins::none(self.into.none)
+        }
+    }
+
+    /// The numbers of the channels into the input places of a unit; of all channels at a place that has none.
+    ///
+    /// Places past the end have none, and a unit past the last has no place. It costs one step.
+    #[inline(always)]
+    pub fn ins_of(&self, unit: u32) -> &[u32]
+        ensures { (p : ℕ) → get_or result.now p (length self.now.chans)
+            ≡ into unit p self.now.chans }
+    {
+        self.into.of(unit)
+    }
+
+    /// The numbers of the channels out of the output places of a unit; of all channels at a place that has none.
+    ///
+    /// Places past the end have none, and a unit past the last has no place. It costs one step.
+    #[inline(always)]
+    pub fn outs_of(&self, unit: u32) -> &[u32]
+        ensures { (p : ℕ) → get_or result.now p (length self.now.chans)
+            ≡ out_of unit p self.now.chans }
+    {
+        self.out_of.of(unit)
+    }
+
     /// The number of the channel into an input place, or of all channels where there is none. It costs one step.
     #[inline(always)]
     pub fn into_place(&self, unit: u32, place: u64) -> u32
         ensures { result ≡ into unit place self.now.chans }
     {
-        self.into.at(unit, place)
+        match place {
+            0 => self.pins(unit).first,
+            1 => self.pins(unit).second,
+            2 => self.pins(unit).third,
+            _ => self.into.at(unit, place),
+        }
     }
 
     /// The number of the channel out of an output place, or of all channels where there is none. It costs one step.
@@ -108,7 +158,10 @@ impl Checked {
     pub fn out_of_place(&self, unit: u32, place: u64) -> u32
         ensures { result ≡ out_of unit place self.now.chans }
     {
-        self.out_of.at(unit, place)
+        match place {
+            0 => self.pins(unit).out,
+            _ => self.out_of.at(unit, place),
+        }
     }
 }
 
@@ -131,7 +184,13 @@ pub fn check_net(alloc: Global, net: Net) -> Result<Checked, NetRefusal>
     ensures refused { IfErr result (λ e. RefusalHolds net e) }
 {
     let (into, out_of) = checked_tables(alloc, &net)?;
-    Ok(Checked { net, into, out_of })
+    let pins = pins_by_unit(alloc, &net, &into, &out_of)?;
+    Ok(Checked {
+        net,
+        into,
+        out_of,
+        pins,
+    })
 }
 
 /// The tables of a net that keeps the eight rules.

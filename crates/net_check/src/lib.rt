@@ -13,6 +13,7 @@ mod headers;
 mod laws;
 mod marks;
 mod matches;
+mod pins;
 mod places;
 mod refusal;
 mod retiming;
@@ -28,6 +29,7 @@ pub use laws::{
     cycles_are_endless_walks, slots_and_delays_break_two_rules,
 };
 pub use matches::check_widths;
+pub use pins::Pins;
 pub use refusal::{At, NetRefusal};
 pub use retiming::Change;
 pub use shapes::check_shapes;

@@ -1,4 +1,4 @@
-ghost use Rattle.std.specs.Prelude.{◌≡◌, ◌^◌, ◌<◌, length, IfOk};
+ghost use Rattle.std.specs.Prelude.{◌≡◌, ◌^◌, ◌<◌, ℕ, get_or, length, IfOk};
 ghost use Rattle.net_types.specs.Numbered.{AreNumbered};
 ghost use Rattle.net_types.specs.Rules.{KeepsC1};
 ghost use Rattle.net_check.specs.declared.wires.Side.TheVariants.{In, Out};
@@ -156,6 +156,23 @@ impl Wires {
             chans,
             none,
         })
+    }
+
+    /// The numbers of the channels at the places of a unit, up to the last that has an entry.
+    #[inline(always)]
+    pub(crate) fn of(&self, unit: u32) -> &[u32]
+        ensures { (p : ℕ) → get_or result.now p self.now.none
+            ≡ wire self.now.starts.items self.now.chans.items self.now.none unit p }
+    {
+        let unit = unit as usize;
+        if unit + 1 < self.starts.len() {
+            let start = self.starts[unit];
+            let end = self.starts[unit + 1];
+            if start <= end {
+                return &self.chans.as_slice()[start..end];
+            }
+        }
+        &[]
     }
 
     /// The number of the channel at a place, or how many channels there are where it has none. It costs one step.

@@ -8,19 +8,20 @@ use Rattle.net_types.specs.declared.net.Chan.{Chan}
 use Rattle.net_types.specs.declared.net.Port.{Port}
 use Rattle.net_types.specs.declared.net.Unit.{Unit as Kind}
 use Rattle.net_types.specs.declared.net.Unit.TheVariants as unit
+use Rattle.net_types.specs.declared.firing.Act.TheVariants.{Send}
 use Rattle.net_types.specs.declared.firing.Firing.{Firing}
-use Rattle.net_types.specs.Nets.{nowhere, kind_of, uses, owns}
+use Rattle.net_types.specs.Nets.{nowhere, firing, kind_of, uses, owns}
 use Rattle.net_check.specs.Checks.{IsChecked}
 use Rattle.net_core.specs.declared.cell.Cell.{Cell}
-use Rattle.net_core.specs.declared.cell.Cell.TheVariants.{Plain, Queue}
+use Rattle.net_core.specs.declared.cell.Cell.TheVariants.{Fork, Plain, Queue}
 use Rattle.net_core.specs.declared.plan.Plan.{Plan}
 use Rattle.net_core.specs.declared.plan.Change.{Change}
 use Rattle.net_core.specs.declared.state.State.{State as Stored}
 use Rattle.net_core.specs.declared.opening.Home.{Home}
 use Rattle.net_core.specs.declared.opening.Home.TheVariants as home
-use Rattle.net_core.specs.Fire.{effect, after, after_effect, applied, changed_from, moved, written, counted, raised, at_array}
-use Rattle.net_core.specs.Plans.{own_of, own_with, array_with, strays_of, effect_by, admits, keeps, planned, cell_after, strays_after, IsShaped}
-use Rattle.net_core.specs.States.{state_of, arrays_of, array_in, queue_array, cell_at, home_at, IsOf, IsQueueAt, own_at, array_at}
+use Rattle.net_core.specs.Fire.{effect, after, after_effect, applied, changed_from, moved, written, counted, raised, at_array, effect_of, head_at, row, setting}
+use Rattle.net_core.specs.Plans.{own_of, own_with, array_with, strays_of, effect_by, admits, keeps, planned, cell_after, strays_after, IsActPlan, IsForkOf, IsSendPlan, IsShaped}
+use Rattle.net_core.specs.States.{state_of, arrays_of, array_in, queue_array, cell_at, home_at, IsOf, IsPlanOf, IsQueueAt, own_at, array_at}
 use Rattle.net_core.specs.private.Moves.{taken_chans}
 use Rattle.net_core.specs.Held.{AllWithin}
 use Rattle.net_core.proofs.RowLemmas.{length-changed}
@@ -210,17 +211,37 @@ fired_of net s t m u ch of sl tok ho ex ser cells = record {
 pub unit_is : (net : Net) (us : List Kind) (u : ℕ) (k : Kind) → us ≡ net.units → u < length us → k ≡ get_or us u k → kind_of net u ≡ k
 unit_is net us u k same l is = ap (λ x. get_or x u (unit.Sink 0)) (sym same) ∙ get_or_default us u (unit.Sink 0) k l ∙ sym is
 
-cell_is : (net : Net) (s : Stored) (us : List Kind) (u : ℕ) (c : Cell) → IsOf net s → us ≡ net.units → u < length us → c ≡ get_or s.cells.items u c → cell_at s u ≡ c
-cell_is net s us u c of same l is = let e = of.cells in let m = ap length same in get_or_default s.cells.items u Plain c (omega arith) ∙ sym is
+pub cell_here : (net : Net) (s : Stored) (u : ℕ) (c : Cell) → IsOf net s → u < length net.units → c ≡ get_or s.cells.items u c → cell_at s u ≡ c
+cell_here net s u c of l is = let e = of.cells in get_or_default s.cells.items u Plain c (omega arith) ∙ sym is
 
-pub plan_keeps : (net : Net) (s : Stored) (us : List Kind) (u : ℕ) (k : Kind) (c : Cell) → IsOf net s → us ≡ net.units → u < length us → k ≡ get_or us u k → c ≡ get_or s.cells.items u c → keeps k c ≡ true
-plan_keeps net s us u k c of same l ku cu = rw (← unit_is net us u k same l ku, ← cell_is net s us u c of same l cu) (of.kept u)
+pub plan_keeps : (net : Net) (s : Stored) (u : ℕ) (k : Kind) (c : Cell) → IsOf net s → u < length net.units → k ≡ kind_of net u → c ≡ get_or s.cells.items u c → keeps k c ≡ true
+plan_keeps net s u k c of l ku cu = rw (ku, ← cell_here net s u c of l cu) (of.kept u)
 
-pub plan_shape : (net : Net) (s : Stored) (us : List Kind) (u : ℕ) (k : Kind) (c : Cell) (xs : List ℕ) → IsOf net s → us ≡ net.units → u < length us → k ≡ get_or us u k → c ≡ get_or s.cells.items u c
-    → xs ≡ at_array (arrays_of s) (uses k) → IsShaped k c xs
-plan_shape net s us u k c xs of same l ku cu is =
+pub plan_shape : (net : Net) (s : Stored) (u : ℕ) (k : Kind) (c : Cell) (xs : List ℕ) → IsOf net s → u < length net.units → k ≡ kind_of net u → c ≡ get_or s.cells.items u c → xs ≡ at_array (arrays_of s) (uses k)
+    → IsShaped k c xs
+plan_shape net s u k c xs of l ku cu is =
     let P : List ℕ → Type 0 = λ ys. IsShaped k c ys in
-    subst P (sym is) (rw (← unit_is net us u k same l ku, ← cell_is net s us u c of same l cu) (shape_at net s u of))
+    subst P (sym is) (rw (ku, ← cell_here net s u c of l cu) (shape_at net s u of))
+
+-- what an act of a unit that its cell shows does
+pub act_plan : (net : Net) (s : Stored) (f : Firing) (k : Kind) (c : Cell) (plan : Option Plan) → IsOf net s → f.unit < length net.units → k ≡ kind_of net f.unit → c ≡ get_or s.cells.items f.unit c
+    → IsActPlan k f.act c (head_at net (state_of s) f.unit) plan → IsPlanOf net s f plan
+act_plan net s f k c plan of l ku cu h =
+    let o : own_at s f.unit ≡ own_of c = get_or-map own_of s.cells.items f.unit Plain ∙ ap own_of (cell_here net s f.unit c of l cu) in
+    let shape : IsShaped k c (array_at net s f.unit) = plan_shape net s f.unit k c (array_at net s f.unit) of l ku cu (ap (λ j. at_array (arrays_of s) (uses j)) (sym ku)) in
+    (λ i. planned (sym ku i) (o i) (array_at net s f.unit) plan) ∙ h (array_at net s f.unit) (setting net (state_of s)) shape
+    ∙ (λ i. effect_of (row (ku i) f.act (sym o i) (array_at net s f.unit) (setting net (state_of s))) (head_at net (state_of s) f.unit))
+
+-- so of the sending of a fork
+pub send_plan : (net : Net) (s : Stored) (u outs j : ℕ) (c : Cell) (bits : List Bool) (plan : Option Plan) → IsOf net s → u < length net.units → IsForkOf outs (kind_of net u) → c ≡ get_or s.cells.items u c → c ≡ Fork bits
+    → IsSendPlan outs j bits [] (head_at net (state_of s) u) plan → IsPlanOf net s (firing u (Send j)) plan
+unfolding row
+send_plan net s u outs j c bits plan of l fork cu is h =
+    let k : kind_of net u ≡ unit.Fork fork.width outs = fork.shape in
+    let o : own_at s u ≡ own_of (Fork bits) = get_or-map own_of s.cells.items u Plain ∙ ap own_of (cell_here net s u c of l cu ∙ is) in
+    let a : array_at net s u ≡ [] = ap (λ j. at_array (arrays_of s) (uses j)) k in
+    (λ i. planned (k i) (o i) (a i) plan) ∙ h (unit.Fork fork.width outs)
+    ∙ (λ i. effect_of (row (sym k i) (Send j) (sym o i) (sym a i) (setting net (state_of s))) (head_at net (state_of s) u))
 
 -- the queue of a unit
 pub queue_here : (net : Net) (s : Stored) (u : ℕ) (b : _) → IsOf net s → cell_at s u ≡ Queue b → IsQueueAt net s u b.value
@@ -239,9 +260,6 @@ queue_here net s u b of is = by (kind_of net u) refl (subst (λ c. keeps (kind_o
           elements = h.elements;
         }
     by k e f h = cc
-
-pub cell_here : (net : Net) (s : Stored) (u : ℕ) (c : Cell) → IsOf net s → u < length net.units → c ≡ get_or s.cells.items u c → cell_at s u ≡ c
-cell_here net s u c of l is = let e = of.cells in get_or_default s.cells.items u Plain c (omega arith) ∙ sym is
 
 -- a channel of a checked net has fewer than 2^32 slots
 pub slots_below : (net : Net) (s : Stored) (c : ℕ) → IsChecked net → IsOf net s → c < length net.chans → get_or s.tokens.slots c 0 < 2 ^ 32

@@ -4,6 +4,7 @@ use Rattle.net_types.specs.declared.net.Port.{Port}
 use Rattle.net_types.specs.declared.net.Unit.{Unit as Kind}
 use Rattle.net_types.specs.declared.net.Unit.TheVariants.{Entry, Param, Const, Op1, Op2, Select, Fork, Mux, Cmerge, Branch, Sink, Read, Lsq, Exit}
 use Rattle.net_types.specs.declared.firing.Act.{Act}
+use Rattle.net_types.specs.declared.firing.Act.TheVariants.{From}
 use Rattle.net_types.specs.declared.net.Net.{Net}
 use Rattle.net_types.specs.Nets.{into, out_of}
 use Rattle.lsq_core.specs.Acts.{Stepped, step, plain}
@@ -20,7 +21,7 @@ use Rattle.net_core.specs.declared.plan.Moves.{Moves}
 use Rattle.net_core.specs.declared.plan.Change.{Change}
 use Rattle.net_core.specs.declared.plan.Change.TheVariants as change
 use Rattle.net_core.specs.declared.plan.Plan.{Plan}
-use Rattle.net_core.specs.Fire.{Own, idle, Setting, Effect, Take, Fires, sent_to, put_at, effect_of, row, go_row, entry_row, send_row, queue_row}
+use Rattle.net_core.specs.Fire.{Own, idle, Setting, Effect, Take, Fires, sent_to, put_at, effect_of, row, go_row, entry_row, send_row, cmerge_row, queue_row}
 
 -- what a cell keeps
 
@@ -120,6 +121,16 @@ IsShaped (Lsq a d ps gs f) (cell.Exit b v) xs = Unit {0}
 IsShaped (Lsq a d ps gs f) (cell.Fork bits) xs = Unit {0}
 IsShaped (Lsq a d ps gs f) (cell.Queue b) xs = HasForm d ps gs f xs b.value
 IsShaped Exit c xs = Unit {0}
+
+-- so with some array
+pub record KeepsShape (k : Kind) (c : Cell) : Type 0 where
+  pub array : List ℕ
+  pub shaped : IsShaped k c array
+
+-- a fork with so many outputs
+pub record IsForkOf (outs : ℕ) (k : Kind) : Type 0 where
+  pub width : ℕ
+  pub shape : k ≡ Fork width outs
 
 -- a plan's effect
 
@@ -237,6 +248,15 @@ IsExitPlan c valued heads plan =
 abbrev pub IsSendPlan : (outs j : ℕ) → List Bool → List ℕ → (ℕ → Option ℕ) → Option Plan → Type 0
 IsSendPlan outs j bits xs heads plan =
     (k : Kind) → planned k (own_of (cell.Fork bits)) xs plan ≡ effect_of (send_row outs j (own_of (cell.Fork bits)) xs) heads
+
+-- so of a control merge that takes from input j
+abbrev pub IsFromPlan : (ins j : ℕ) → (ℕ → Option ℕ) → Option Plan → Type 0
+IsFromPlan ins j heads plan =
+    (k : Kind) (o : Own) (xs : List ℕ) → planned k o xs plan ≡ effect_of (cmerge_row ins (From j) o xs) heads
+
+-- so of an act of a unit, with each array with which the cell has the unit's shape
+abbrev pub IsActPlan : Kind → Act → Cell → (ℕ → Option ℕ) → Option Plan → Type 0
+IsActPlan k act c heads plan = (xs : List ℕ) (ss : Setting) → IsShaped k c xs → IsUnitPlan k act c xs ss heads plan
 
 -- a plan that takes these and puts a value at a place
 abbrev pub putting : Takes → ℕ → ℕ → Plan

@@ -41,6 +41,10 @@ state_of s = record {
   strays = s.strays.items;
 }
 
+-- the date of each token, by channel; 0 where no cycle is told
+abbrev pub dates_of : Stored → List (List ℕ)
+dates_of s = s.tokens.dates
+
 -- the state with other tokens on its channels
 abbrev pub with_tokens : List (List ℕ) → State → State
 with_tokens xss s = record s { tokens = xss }

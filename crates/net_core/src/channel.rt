@@ -1,37 +1,45 @@
 //! The tokens of one channel.
 
-ghost use Rattle.std.specs.Prelude.{◌≡◌, ◌<◌, ◌↔◌, [], ◌∷◌, ◌++◌, drop, length, IfOk, IsTrue};
-ghost use Rattle.circular_buffer.specs.Buffer.{buffer, last_item};
+ghost use Rattle.std.specs.Prelude.{◌≡◌, ◌<◌, ◌≤◌, ◌↔◌, [], ◌∷◌, ◌++◌, drop, length, map, IfOk, IsTrue, OnOk};
+ghost use Rattle.circular_buffer.specs.Buffer.{last_item};
+ghost use Rattle.net_core.specs.declared.channel.Follower.{Follower as FollowerValue};
 ghost use Rattle.net_core.specs.Fire.{first};
+ghost use Rattle.net_core.specs.Held.{lane};
 
-use crate::parts::append;
 use circular_buffer::HeapCircularBuffer;
 use net_types::{List, Memory};
 use std::alloc::Global;
 use std::marker::Model;
 
-/// The tokens of a channel, of which a clause sees the list, oldest first, and as capacity the slots.
+/// A token behind the oldest, with its date.
+#[derive(Clone, Copy, Debug)]
+struct Follower {
+    value: u64,
+    date: u64,
+}
+
+/// The tokens of a channel, of which a clause sees two lists, oldest first: the values and the dates; and the slots.
 ///
-/// The oldest token is kept by itself, so a channel of at most one token never goes through the ring of those behind it.
+/// The date of a token tells the cycle in which it was put, and is 0 where no cycle is told. The oldest token is kept by
+/// itself, so a channel of at most one token never goes through the ring of those behind it.
 #[derive(Drop)]
 pub(crate) struct Channel {
     oldest: u64,
+    date: u64,
     count: u32,
     slots: u32,
-    behind: HeapCircularBuffer<u64>,
+    behind: HeapCircularBuffer<Follower>,
 }
 
 impl Model for Channel {
-    ghost use Rattle.std.specs.Prelude.{ℕ};
-    ghost use Rattle.std.specs.Coded.{coded_ℕ};
-    ghost use Rattle.circular_buffer.specs.Buffer.{Buffer, buffer, buffer_code};
-    ghost use Rattle.net_core.specs.private.Channels.{IsChannel, tokens_from};
+    ghost use Rattle.net_core.specs.Held.{Lane};
+    ghost use Rattle.net_core.specs.private.Channels.{IsChannel, lane_code, lane_from};
 
-    ghost Value = { Buffer ℕ };
+    ghost Value = { Lane };
 
-    ghost coded = { buffer_code coded_ℕ };
+    ghost coded = { lane_code };
 
-    ghost view = { λ c. buffer (tokens_from c.count c.oldest c.behind.items) c.slots };
+    ghost view = { λ c. lane_from c.count c.oldest c.date c.slots c.behind.items };
 
     ghost invariant = { λ c. IsChannel c.count c.slots c.behind };
 }
@@ -43,11 +51,12 @@ impl Channel {
     ///
     /// [`Memory`] where memory is wanting.
     pub(crate) fn new(alloc: Global, slots: u32) -> Result<Channel, Memory>
-        ensures { IfOk result (λ c. c ≡ buffer [] slots) }
+        ensures { IfOk result (λ c. c ≡ lane [] [] slots) }
     {
         let behind = HeapCircularBuffer::with_capacity(alloc, slots.saturating_sub(1) as usize)?;
         Ok(Channel {
             oldest: 0,
+            date: 0,
             count: 0,
             slots,
             behind,
@@ -57,7 +66,7 @@ impl Channel {
     /// The oldest token.
     #[inline(always)]
     pub(crate) fn head(&self) -> Option<u64>
-        ensures { result ≡ first self.now.items }
+        ensures { result ≡ first self.now.tokens }
     {
         if self.count == 0 {
             None
@@ -66,22 +75,46 @@ impl Channel {
         }
     }
 
-    /// The newest token.
+    /// The date of the oldest token.
     #[inline(always)]
-    pub(crate) fn newest(&self) -> Option<u64>
-        ensures { result ≡ last_item self.now.items }
+    pub(crate) fn date(&self) -> Option<u64>
+        ensures { result ≡ first self.now.dates }
+    {
+        if self.count == 0 {
+            None
+        } else {
+            Some(self.date)
+        }
+    }
+
+    /// The date of the newest token.
+    #[inline(always)]
+    pub(crate) fn newest_date(&self) -> Option<u64>
+        ensures { result ≡ last_item self.now.dates }
     {
         if self.count > 1 {
-            self.behind.back().copied()
+            self.last_date()
         } else {
-            self.head()
+            self.date()
+        }
+    }
+
+    /// The date of the newest of several tokens. It stands apart so that what looks at a lone token stays small.
+    #[inline(never)]
+    fn last_date(&self) -> Option<u64>
+        requires { 1 < length self.now.dates }
+        ensures { result ≡ last_item self.now.dates }
+    {
+        match self.behind.back() {
+            None => None,
+            Some(last) => Some(last.date),
         }
     }
 
     /// How many tokens the channel has.
     #[inline(always)]
     pub(crate) fn held(&self) -> u32
-        ensures { result ≡ length self.now.items }
+        ensures { result ≡ length self.now.tokens }
     {
         self.count
     }
@@ -89,15 +122,24 @@ impl Channel {
     /// Whether the channel has fewer tokens than slots.
     #[inline(always)]
     pub(crate) fn has_room(&self) -> bool
-        ensures { IsTrue result ↔ (length self.now.items < self.now.capacity) }
+        ensures { IsTrue result ↔ (length self.now.tokens < self.now.slots) }
     {
         self.count < self.slots
+    }
+
+    /// Whether the channel has as many tokens as slots.
+    #[inline(always)]
+    pub(crate) fn is_full(&self) -> bool
+        ensures { IsTrue result ↔ self.now.slots ≤ length self.now.tokens }
+    {
+        self.count >= self.slots
     }
 
     /// Takes the oldest token, where there is one.
     #[inline(always)]
     pub(crate) fn take(&mut self)
-        ensures { self.new ≡ buffer (drop 1 self.old.items) self.old.capacity }
+        ensures { self.new
+            ≡ lane (drop 1 self.old.tokens) (drop 1 self.old.dates) self.old.slots }
     {
         if self.count > 1 {
             self.move_up();
@@ -109,37 +151,42 @@ impl Channel {
     /// Takes the oldest of several tokens. It stands apart so that what takes a lone token stays small.
     #[inline(never)]
     fn move_up(&mut self)
-        requires { 1 < length self.old.items }
-        ensures { self.new ≡ buffer (drop 1 self.old.items) self.old.capacity }
+        requires { 1 < length self.old.tokens }
+        ensures { self.new
+            ≡ lane (drop 1 self.old.tokens) (drop 1 self.old.dates) self.old.slots }
     {
         if let Some(next) = self.behind.pop_front() {
-            self.oldest = next;
+            self.oldest = next.value;
+            self.date = next.date;
             self.count -= 1;
         }
     }
 
     /// Puts a token.
     #[inline(always)]
-    pub(crate) fn put(&mut self, value: u64)
-        requires { length self.old.items < self.old.capacity }
-        ensures { self.new ≡ buffer (self.old.items ++ value ∷ []) self.old.capacity }
+    pub(crate) fn put(&mut self, value: u64, date: u64)
+        requires { length self.old.tokens < self.old.slots }
+        ensures { self.new
+            ≡ lane (self.old.tokens ++ value ∷ []) (self.old.dates ++ date ∷ []) self.old.slots }
     {
         if self.count == 0 {
             self.oldest = value;
+            self.date = date;
             self.count = 1;
         } else {
-            self.put_behind(value);
+            self.put_behind(value, date);
         }
     }
 
     /// Puts a token behind others. It stands apart so that what puts a lone token stays small.
     #[inline(never)]
-    fn put_behind(&mut self, value: u64)
-        requires some { 0 < length self.old.items }
-        requires room { length self.old.items < self.old.capacity }
-        ensures { self.new ≡ buffer (self.old.items ++ value ∷ []) self.old.capacity }
+    fn put_behind(&mut self, value: u64, date: u64)
+        requires some { 0 < length self.old.tokens }
+        requires room { length self.old.tokens < self.old.slots }
+        ensures { self.new
+            ≡ lane (self.old.tokens ++ value ∷ []) (self.old.dates ++ date ∷ []) self.old.slots }
     {
-        self.behind.push_back(value);
+        self.behind.push_back(Follower { value, date });
         self.count += 1;
     }
 
@@ -149,7 +196,7 @@ impl Channel {
     ///
     /// [`Memory`] where memory is wanting.
     pub(crate) fn list(&self, alloc: Global) -> Result<List<u64>, Memory>
-        ensures { IfOk result (λ l. l ≡ self.now.items) }
+        ensures { IfOk result (λ l. l ≡ self.now.tokens) }
     {
         let mut list = List::new(alloc);
         if self.count == 0 {
@@ -157,8 +204,23 @@ impl Channel {
         }
         let (first, second) = self.behind.as_slices();
         list.push(self.oldest)?;
-        append(&mut list, first)?;
-        append(&mut list, second)?;
+        append_values(&mut list, first)?;
+        append_values(&mut list, second)?;
         Ok(list)
     }
+}
+
+/// Adds the tokens behind the oldest at the end of a list.
+///
+/// # Errors
+///
+/// [`Memory`] where memory is wanting.
+fn append_values(list: &mut List<u64>, behind: &[Follower]) -> Result<(), Memory>
+    ensures { OnOk result
+        (list.new ≡ list.old ++ map (λ (f : FollowerValue). f.value) behind.now) }
+{
+    for follower in behind {
+        list.push(follower.value)?;
+    }
+    Ok(())
 }

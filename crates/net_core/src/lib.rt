@@ -25,7 +25,8 @@ pub use laws::{
     rows_use_only, settled, spent_is_at_rest, worked_nets_run,
 };
 pub use parts::Parts;
-pub use plan::{Change, Heads, Laid, Moves, Plan, Put, Taken, Takes, moves_of, plan_firing};
+pub use plan::{
+    Change, Heads, Laid, Moves, Plan, Put, Taken, Takes, moves_at, moves_of, plan_firing,
+};
 pub use sent::Sent;
 pub use state::State;
-pub use tokens::Tokens;

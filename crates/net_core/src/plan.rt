@@ -1,20 +1,23 @@
 //! What a firing does, from the unit's own state and the heads at its places.
 
-ghost use Rattle.std.specs.Prelude.{◌≡◌, ◌+◌, ℕ, Option, Some, None, true, get_or, length, IfSome};
+ghost use Rattle.std.specs.Prelude.{◌≡◌, ◌≢◌, ◌+◌, ℕ, Option, Some, None, true, get_or, length, IfSome};
 ghost use Rattle.net_core.specs.declared.cell.Cell.{Cell as CellKept};
 ghost use Rattle.net_core.specs.declared.cell.Cell.TheVariants as cells;
 ghost use Rattle.net_core.specs.declared.plan.Change.TheVariants as change;
 ghost use Rattle.net_types.specs.declared.net.Unit.TheVariants as units;
 ghost use Rattle.net_types.specs.declared.firing.Act.TheVariants as acts;
 ghost use Rattle.lsq_core.specs.Acts.{in_place, out_place};
+ghost use Rattle.net_check.specs.Pins.{pins_of};
+ghost use Rattle.net_types.specs.Nets.{into, out_of};
+ghost use Rattle.net_types.specs.Order.{act_rank};
 ghost use Rattle.lsq_core.specs.Views.{given};
-ghost use Rattle.net_core.specs.Plans.{IsExitPlan, IsGoPlan, IsPlainPlan, IsQueuePlan, IsSendPlan, IsShaped, IsStartPlan, IsTakingPlan, IsUnitPlan, admits, apart, is_exit_cell, is_start, keeps, putting, moves_of, queue_admits, setting_of, taken_of};
+ghost use Rattle.net_core.specs.Plans.{IsActPlan, IsExitPlan, IsFromPlan, IsGoPlan, IsPlainPlan, IsQueuePlan, IsSendPlan, IsShaped, IsStartPlan, IsTakingPlan, IsUnitPlan, KeepsShape, admits, apart, is_exit_cell, is_start, keeps, putting, moves_of, queue_admits, setting_of, taken_of};
 
 use crate::cell::{Cell, UnitQueue};
 use crate::sent::Sent;
 use el_base::{Op1, Op2};
 use lsq_core::Queue;
-use net_check::Checked;
+use net_check::{Checked, Pins};
 use net_types::{Act, List, Unit};
 use word_ops::{apply1, apply2};
 
@@ -86,19 +89,46 @@ pub struct Plan {
     pub change: Change,
 }
 
+/// The channel into an input place of a unit whose first places are known, or the number of all channels.
+#[inline(always)]
+pub(crate) fn into_at(net: &Checked, unit: u32, pins: Pins, place: u64) -> u32
+    requires { pins ≡ pins_of unit net.now.chans }
+    ensures { result ≡ into unit place net.now.chans }
+{
+    match place {
+        0 => pins.first,
+        1 => pins.second,
+        2 => pins.third,
+        _ => net.into_place(unit, place),
+    }
+}
+
+/// The channel out of an output place of a unit whose first places are known, or the number of all channels.
+#[inline(always)]
+fn out_of_at(net: &Checked, unit: u32, pins: Pins, place: u64) -> u32
+    requires { pins ≡ pins_of unit net.now.chans }
+    ensures { result ≡ out_of unit place net.now.chans }
+{
+    match place {
+        0 => pins.out,
+        _ => net.out_of_place(unit, place),
+    }
+}
+
 /// The channels from which a unit takes at places.
 #[inline(always)]
-fn taken_of(net: &Checked, unit: u32, takes: Takes) -> Taken
+fn taken_at(net: &Checked, unit: u32, pins: Pins, takes: Takes) -> Taken
+    requires { pins ≡ pins_of unit net.now.chans }
     ensures { result ≡ taken_of net.now unit takes }
 {
     match takes {
         Takes::None => Taken::None,
-        Takes::One(p) => Taken::One(net.into_place(unit, p)),
-        Takes::Two(p, q) => Taken::Two(net.into_place(unit, p), net.into_place(unit, q)),
+        Takes::One(p) => Taken::One(into_at(net, unit, pins, p)),
+        Takes::Two(p, q) => Taken::Two(into_at(net, unit, pins, p), into_at(net, unit, pins, q)),
         Takes::Three(p, q, r) => Taken::Three(
-            net.into_place(unit, p),
-            net.into_place(unit, q),
-            net.into_place(unit, r),
+            into_at(net, unit, pins, p),
+            into_at(net, unit, pins, q),
+            into_at(net, unit, pins, r),
         ),
     }
 }
@@ -108,11 +138,20 @@ fn taken_of(net: &Checked, unit: u32, takes: Takes) -> Taken
 pub fn moves_of(net: &Checked, unit: u32, plan: &Plan) -> Moves
     ensures { result ≡ moves_of net.now unit plan.now }
 {
-    let taken = taken_of(net, unit, plan.takes);
+    moves_at(net, unit, net.pins(unit), plan)
+}
+
+/// As [`moves_of`], where the channels at the first places of the unit are known.
+#[inline(always)]
+pub fn moves_at(net: &Checked, unit: u32, pins: Pins, plan: &Plan) -> Moves
+    requires { pins ≡ pins_of unit net.now.chans }
+    ensures { result ≡ moves_of net.now unit plan.now }
+{
+    let taken = taken_at(net, unit, pins, plan.takes);
     let laid = match plan.put {
         None => None,
         Some(put) => Some(Laid {
-            chan: net.out_of_place(unit, put.place),
+            chan: out_of_at(net, unit, pins, put.place),
             value: put.value,
         }),
     };
@@ -133,7 +172,13 @@ fn puts(takes: Takes, place: u64, value: u64) -> Option<Plan>
 /// What a fork's sending does.
 #[tactic(auto, unfolding(crate::specs::Fire::row))]
 #[inline(always)]
-fn plan_send<H: Heads>(heads: &H, outs: u32, out: u32, sent: &Sent, array: &[u64]) -> Option<Plan>
+pub(crate) fn plan_send<H: Heads>(
+    heads: &H,
+    outs: u32,
+    out: u32,
+    sent: &Sent,
+    array: &[u64],
+) -> Option<Plan>
     ensures apart { IfSome result (λ p. apart p.takes ≡ true) }
     ensures admits { IfSome result (λ p. admits (cells.Fork sent.now) p.change ≡ true) }
     ensures effect { IsSendPlan outs out sent.now array.now (H.heads heads.now) result }
@@ -317,7 +362,7 @@ fn scalar_at(scalars: &[u64], scalar: u32) -> u64
 /// What the firing of a unit that only goes does.
 #[tactic(auto, unfolding(crate::specs::Fire::row))]
 #[inline(always)]
-fn plan_go<H: Heads>(
+pub(crate) fn plan_go<H: Heads>(
     heads: &H,
     unit: &Unit,
     cell: &Cell,
@@ -466,6 +511,46 @@ fn plan_queue<H: Heads>(
     }
 }
 
+/// What the firing of a control merge from an input does.
+#[inline(always)]
+fn plan_from<H: Heads>(heads: &H, ins: u32, which: u32) -> Option<Plan>
+    ensures apart { IfSome result (λ p. apart p.takes ≡ true) }
+    ensures change { IfSome result (λ p. p.change ≡ change.Keep) }
+    ensures effect { IsFromPlan ins which (H.heads heads.now) result }
+{
+    if which >= ins {
+        return None;
+    }
+    heads.head(which as u64)?;
+    puts(Takes::One(which as u64), 0, which as u64)
+}
+
+/// What an act does of a queue or a control merge; none of them is Go or the sending to an output.
+#[tactic(auto, unfolding(crate::specs::Fire::row))]
+#[inline(always)]
+pub(crate) fn plan_act<H: Heads>(heads: &H, unit: &Unit, act: Act, cell: &Cell) -> Option<Plan>
+    requires keeps { keeps unit.now cell.now ≡ true }
+    requires shape { KeepsShape unit.now cell.now }
+    requires goes { act_rank act ≢ 0 }
+    requires sends { act_rank act ≢ 2 }
+    ensures apart { IfSome result (λ p. apart p.takes ≡ true) }
+    ensures admits { IfSome result (λ p. admits cell.now p.change ≡ true) }
+    ensures effect { IsActPlan unit.now act cell.now (H.heads heads.now) result }
+{
+    match act {
+        Act::From(which) => match unit {
+            Unit::Cmerge { ins } => plan_from(heads, *ins, which),
+            _ => None,
+        },
+        _ => match (unit, cell) {
+            (Unit::Lsq { groups, .. }, Cell::Queue(queue)) => {
+                plan_queue(heads, groups.as_slice(), queue, act)
+            }
+            _ => None,
+        },
+    }
+}
+
 /// What a firing does; `None` where its heads or its own state hold it back.
 #[tactic(auto, unfolding(crate::specs::Fire::row))]
 #[inline(always)]
@@ -487,27 +572,12 @@ pub fn plan_firing<H: Heads>(
 {
     match act {
         Act::Go => plan_go(heads, unit, cell, array, scalars, valued),
-        Act::From(which) => match unit {
-            Unit::Cmerge { ins } => {
-                if which >= *ins {
-                    return None;
-                }
-                heads.head(which as u64)?;
-                puts(Takes::One(which as u64), 0, which as u64)
-            }
-            _ => None,
-        },
         Act::Send(out) => match (unit, cell) {
             (Unit::Fork { outs, .. }, Cell::Fork(sent)) => plan_send(
                 heads, *outs, out, sent, array,
             ),
             _ => None,
         },
-        _ => match (unit, cell) {
-            (Unit::Lsq { groups, .. }, Cell::Queue(queue)) => {
-                plan_queue(heads, groups.as_slice(), queue, act)
-            }
-            _ => None,
-        },
+        _ => plan_act(heads, unit, act, cell),
     }
 }

@@ -1,27 +1,34 @@
 //! The state of a circuit.
 
-ghost use Rattle.std.specs.Prelude.{◌≡◌, ◌<◌, ◌≤◌, ◌↔◌, ◌^◌, [], Some, get_or, length, map, true, IsTrue, IfOk, IfSome, MatchOption, false};
+ghost use Rattle.std.specs.Prelude.{◌≡◌, ◌<◌, ◌≤◌, ◌↔◌, ◌^◌, ◌≢◌, [], Some, get_or, length, map, true, IsTrue, IfOk, IfSome, MatchOption, false};
 ghost use Rattle.el_base.specs.Limits.{max_depth};
+ghost use Rattle.circular_buffer.specs.Buffer.{last_item};
+ghost use Rattle.net_types.specs.declared.net.Chan.{Chan as ChanValue};
 ghost use Rattle.net_types.specs.declared.net.Net.{Net};
 ghost use Rattle.net_types.specs.Inputs.{InputsFit};
-ghost use Rattle.net_types.specs.Nets.{chan_at, kind_of, uses};
+ghost use Rattle.net_types.specs.Nets.{chan_at, firing, kind_of, uses};
+ghost use Rattle.net_types.specs.Order.{act_rank};
+ghost use Rattle.net_types.specs.declared.firing.Act.TheVariants as acts;
 ghost use Rattle.net_check.specs.Ends.{is_lsq};
+ghost use Rattle.net_check.specs.Pins.{pins_of};
 ghost use Rattle.net_core.specs.declared.cell.Cell.TheVariants.{Plain};
 ghost use Rattle.net_core.specs.Fire.{first, enabled, after, at_array, has_room, tokens_at};
-ghost use Rattle.net_core.specs.Held.{put_at_end, take_at};
+ghost use Rattle.net_core.specs.Held.{dated_laid, laid_on, put_at_end, take_at, taken_all};
 ghost use Rattle.net_core.specs.Parts.{IsByUnit, Stands, state_from};
-ghost use Rattle.net_core.specs.Plans.{apart, admits, moves_of};
+ghost use Rattle.net_core.specs.Plans.{IsForkOf, apart, admits, chans_of, moves_of};
 ghost use Rattle.net_core.specs.Runs.{HasExited, opening};
-ghost use Rattle.net_core.specs.States.{CountsRise, CountsWithin, IsOf, IsPlanOf, IsQueueAt, TookAtExit, after_where, array_in, arrays_of, cell_at, elements_at, queue_array, state_of, strays_at, with_tokens};
+ghost use Rattle.net_core.specs.States.{CountsRise, CountsWithin, IsOf, IsPlanOf, IsQueueAt, TookAtExit, after_where, array_in, arrays_of, cell_at, dates_of, elements_at, queue_array, state_of, strays_at, with_tokens};
 
 use crate::cell::{Cell, UnitQueue};
 use crate::opening::{Home, exit_of, fresh_cells, homes, owners};
 use crate::parts::{Parts, fired_flags, joined, queue_parts, restore_cells, sent_parts};
-use crate::plan::{Heads, Moves, Plan, Put, moves_of, plan_firing};
+use crate::plan::{
+    Heads, Moves, Plan, Put, into_at, moves_of, plan_act, plan_firing, plan_go, plan_send,
+};
 use crate::steps::{change_cell, count_strays};
 use crate::tokens::Tokens;
 use lsq_core::Queue;
-use net_check::Checked;
+use net_check::{Checked, Pins};
 use net_types::{Firing, Inputs, List, Memory, Unit};
 use std::alloc::Global;
 
@@ -57,6 +64,8 @@ struct UnitHeads<'a> {
     net: &'a Checked,
     tokens: &'a Tokens,
     unit: u32,
+    pins: Pins,
+    ghost pinned: { pins ≡ pins_of unit net.now.chans },
 }
 
 impl Heads for UnitHeads<'_> {
@@ -66,8 +75,10 @@ impl Heads for UnitHeads<'_> {
 
     ghost heads = { λ h p. first (get_or h.tokens.now.tokens (into h.unit p h.net.now.chans) []) };
 
+    #[inline(always)]
     fn head(&self, place: u64) -> Option<u64> {
-        self.tokens.head(self.net.into_place(self.unit, place))
+        let chan = into_at(self.net, self.unit, self.pins, place);
+        self.tokens.head(chan)
     }
 }
 
@@ -122,6 +133,8 @@ impl State {
         ensures of { IfOk result (λ s. IsOf net.now s) }
         ensures state { IfOk result (λ s. state_of s ≡ opening net.now inputs.now) }
         ensures counts { IfOk result (λ s. CountsWithin 0 (state_of s)) }
+        ensures dates { IfOk result
+            (λ s. dates_of s ≡ map (λ (c : ChanValue). []) net.now.chans) }
     {
         let units = net.net().units.as_slice();
         let arrays = inputs.arrays.as_slice();
@@ -161,6 +174,7 @@ impl State {
     fn restore(&mut self, net: &Checked, parts: &Parts)
         requires of { IsOf net.now self.old }
         requires opening { state_of self.old ≡ opening net.now parts.now.given }
+        requires undated { dates_of self.old ≡ map (λ (c : ChanValue). []) net.now.chans }
         requires stands { Stands net.now parts.now }
         ensures of { IsOf net.now self.new }
         ensures state { state_of self.new ≡ state_from net.now parts.now }
@@ -252,12 +266,35 @@ impl State {
     }
 
     /// The oldest token of a channel, where it has one.
+    #[inline(always)]
     pub fn head(&self, net: &Checked, chan: u32) -> Option<u64>
         requires { IsOf net.now self.now }
         ensures { result ≡ first (tokens_at (state_of self.now) chan) }
     {
         let _ = net;
         self.tokens.head(chan)
+    }
+
+    /// The date of the oldest token of a channel of the net, where it has one: the cycle in which it was put, 0 where none was told.
+    #[inline(always)]
+    pub fn date(&self, net: &Checked, chan: u32) -> Option<u64>
+        requires of { IsOf net.now self.now }
+        requires within { chan < length net.now.chans }
+        ensures { result ≡ first (get_or (dates_of self.now) chan []) }
+    {
+        let _ = net;
+        self.tokens.date(chan)
+    }
+
+    /// The date of the newest token of a channel of the net, where it has one.
+    #[inline(always)]
+    pub fn newest_date(&self, net: &Checked, chan: u32) -> Option<u64>
+        requires of { IsOf net.now self.now }
+        requires within { chan < length net.now.chans }
+        ensures { result ≡ last_item (get_or (dates_of self.now) chan []) }
+    {
+        let _ = net;
+        self.tokens.newest_date(chan)
     }
 
     /// How many tokens a channel of the net has.
@@ -321,24 +358,125 @@ impl State {
             (λ p. admits (cell_at self.now firing.unit) p.change ≡ true) }
         ensures effect { IsPlanOf net.now self.now firing result }
     {
+        let at = firing.unit as usize;
+        let units = net.net().units.as_slice();
+        let pins = net.pins(firing.unit);
+        if at < units.len() {
+            return self.plan_at(net, firing, &units[at], pins);
+        }
         let heads = UnitHeads {
             net,
             tokens: &self.tokens,
             unit: firing.unit,
+            pins,
         };
-        let at = firing.unit as usize;
-        let units = net.net().units.as_slice();
         let valued = net.net().result.is_some();
         let scalars = self.scalars.as_slice();
         let act = firing.act;
-        if at < units.len() {
-            let unit = &units[at];
-            let array = self.used(unit);
-            plan_firing(&heads, unit, act, &self.cells[at], array, scalars, valued)
-        } else {
-            let none = Unit::Sink { width: 0 };
-            plan_firing(&heads, &none, act, &Cell::Plain, &[], scalars, valued)
+        let none = Unit::Sink { width: 0 };
+        plan_firing(&heads, &none, act, &Cell::Plain, &[], scalars, valued)
+    }
+
+    /// As [`State::plan`], where the unit and the channels at its first places are known.
+    #[inline(always)]
+    fn plan_at(&self, net: &Checked, firing: Firing, unit: &Unit, pins: Pins) -> Option<Plan>
+        requires of { IsOf net.now self.now }
+        requires within { firing.unit < length net.now.units }
+        requires unit { unit.now ≡ kind_of net.now firing.unit }
+        requires pins { pins ≡ pins_of firing.unit net.now.chans }
+        ensures apart { IfSome result (λ p. apart p.takes ≡ true) }
+        ensures admits { IfSome result
+            (λ p. admits (cell_at self.now firing.unit) p.change ≡ true) }
+        ensures effect { IsPlanOf net.now self.now firing result }
+    {
+        let heads = UnitHeads {
+            net,
+            tokens: &self.tokens,
+            unit: firing.unit,
+            pins,
+        };
+        let valued = net.net().result.is_some();
+        let scalars = self.scalars.as_slice();
+        let act = firing.act;
+        let cell = &self.cells[firing.unit as usize];
+        let array = self.used(unit);
+        plan_firing(&heads, unit, act, cell, array, scalars, valued)
+    }
+
+    /// What the act Go of a unit does, where its kind and the channels at its first places are known.
+    #[inline(always)]
+    pub fn plan_go_at(&self, net: &Checked, unit: u32, kind: &Unit, pins: Pins) -> Option<Plan>
+        requires of { IsOf net.now self.now }
+        requires within { unit < length net.now.units }
+        requires kind { kind.now ≡ kind_of net.now unit }
+        requires pins { pins ≡ pins_of unit net.now.chans }
+        ensures apart { IfSome result (λ p. apart p.takes ≡ true) }
+        ensures admits { IfSome result (λ p. admits (cell_at self.now unit) p.change ≡ true) }
+        ensures effect { IsPlanOf net.now self.now (firing unit acts.Go) result }
+    {
+        let heads = UnitHeads {
+            net,
+            tokens: &self.tokens,
+            unit,
+            pins,
+        };
+        let valued = net.net().result.is_some();
+        let scalars = self.scalars.as_slice();
+        let cell = &self.cells[unit as usize];
+        let array = self.used(kind);
+        plan_go(&heads, kind, cell, array, scalars, valued)
+    }
+
+    /// What the sending of a fork to an output does, where its outputs and the channels at its first places are known.
+    #[inline(always)]
+    pub fn plan_send_at(
+        &self,
+        net: &Checked,
+        unit: u32,
+        outs: u32,
+        out: u32,
+        pins: Pins,
+    ) -> Option<Plan>
+        requires of { IsOf net.now self.now }
+        requires within { unit < length net.now.units }
+        requires fork { IsForkOf outs (kind_of net.now unit) }
+        requires pins { pins ≡ pins_of unit net.now.chans }
+        ensures apart { IfSome result (λ p. apart p.takes ≡ true) }
+        ensures admits { IfSome result (λ p. admits (cell_at self.now unit) p.change ≡ true) }
+        ensures effect { IsPlanOf net.now self.now (firing unit (acts.Send out)) result }
+    {
+        let heads = UnitHeads {
+            net,
+            tokens: &self.tokens,
+            unit,
+            pins,
+        };
+        match &self.cells[unit as usize] {
+            Cell::Fork(sent) => plan_send(&heads, outs, out, sent, &[]),
+            _ => None,
         }
+    }
+
+    /// What an act of a queue or a control merge does, where the unit's kind is known.
+    #[inline(always)]
+    pub fn plan_act_at(&self, net: &Checked, firing: Firing, kind: &Unit) -> Option<Plan>
+        requires of { IsOf net.now self.now }
+        requires within { firing.unit < length net.now.units }
+        requires kind { kind.now ≡ kind_of net.now firing.unit }
+        requires goes { act_rank firing.act ≢ 0 }
+        requires sends { act_rank firing.act ≢ 2 }
+        ensures apart { IfSome result (λ p. apart p.takes ≡ true) }
+        ensures admits { IfSome result
+            (λ p. admits (cell_at self.now firing.unit) p.change ≡ true) }
+        ensures effect { IsPlanOf net.now self.now firing result }
+    {
+        let heads = UnitHeads {
+            net,
+            tokens: &self.tokens,
+            unit: firing.unit,
+            pins: net.pins(firing.unit),
+        };
+        plan_act(&heads, kind, firing.act, &self.cells[firing.unit as usize])
     }
 
     /// Whether a unit has room where it puts a token.
@@ -362,6 +500,18 @@ impl State {
     {
         let _ = net;
         self.tokens.has_room(chan)
+    }
+
+    /// Whether a channel of the net has as many tokens as slots. It costs one step.
+    #[inline(always)]
+    pub fn is_full(&self, net: &Checked, chan: u32) -> bool
+        requires of { IsOf net.now self.now }
+        requires within { chan < length net.now.chans }
+        ensures { IsTrue result
+            ↔ (chan_at net.now chan).slots ≤ length (tokens_at (state_of self.now) chan) }
+    {
+        let _ = net;
+        self.tokens.is_full(chan)
     }
 
     /// Whether a firing is enabled.
@@ -405,7 +555,27 @@ impl State {
         ensures state { state_of self.new ≡ after net.now (state_of self.old) firing }
         ensures counts { CountsRise max_depth (state_of self.old) (state_of self.new) }
     {
-        self.tokens.make(moves);
+        self.make_dated(net, firing, plan, moves, 0);
+    }
+
+    /// Makes a planned firing that has room, by its moves, in the cycle that is the date of what it puts.
+    #[inline(always)]
+    pub fn make_dated(&mut self, net: &Checked, firing: Firing, plan: Plan, moves: Moves, date: u64)
+        requires of { IsOf net.now self.old }
+        requires effect { IsPlanOf net.now self.old firing (Some plan) }
+        requires moves { moves ≡ moves_of net.now firing.unit plan }
+        requires apart { apart plan.takes ≡ true }
+        requires admits { admits (cell_at self.old firing.unit) plan.change ≡ true }
+        requires room { has_room net.now (state_of self.old) firing.unit plan.put }
+        requires counts { CountsWithin (2 ^ 62) (state_of self.old) }
+        ensures of { IsOf net.now self.new }
+        ensures state { state_of self.new ≡ after net.now (state_of self.old) firing }
+        ensures counts { CountsRise max_depth (state_of self.old) (state_of self.new) }
+        ensures dates { dates_of self.new
+            ≡ laid_on (dated_laid date moves.laid)
+            (taken_all (chans_of moves.taken) (dates_of self.old)) }
+    {
+        self.tokens.make(moves, date);
         let stray = change_cell(&mut self.cells, firing.unit, plan.change);
         count_strays(&mut self.strays, net, firing.unit, stray);
         let _ = net.net();
@@ -421,7 +591,7 @@ impl State {
             (put_at_end chan value (state_of self.old).tokens) (state_of self.old) }
     {
         let _ = net;
-        self.tokens.put(chan, value);
+        self.tokens.put(chan, value, 0);
     }
 
     /// Takes the oldest token of a channel of the net, beside any firing.

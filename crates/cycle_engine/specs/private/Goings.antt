@@ -7,7 +7,7 @@ use Rattle.net_types.specs.declared.firing.Firing.{Firing}
 use Rattle.net_types.specs.declared.firing.Inputs.{Inputs}
 use Rattle.net_types.specs.Nets.{kind_of, chan_at}
 use Rattle.net_check.specs.Ends.{is_lsq}
-use Rattle.net_core.specs.States.{state_of, CountsWithin}
+use Rattle.net_core.specs.States.{state_of, dates_of, CountsWithin}
 use Rattle.net_replay.specs.declared.fault.RunFault.{RunFault}
 use Rattle.net_replay.specs.declared.fault.RunFault.TheVariants as fault
 use Rattle.cycle_engine.specs.declared.engine.Engine.{Engine}
@@ -19,7 +19,7 @@ use Rattle.cycle_engine.specs.Cuts.{joined, IsCut}
 use Rattle.cycle_engine.specs.private.Trials.{dated_of, IsBegun, IsEngine}
 use Rattle.cycle_engine.specs.private.Control.{HasControl}
 use Rattle.cycle_engine.specs.private.Used.{AreTold}
-use Rattle.cycle_engine.specs.private.Marking.{Holds, HasUnit, IsMarked, IsStarved, IsListed, AreListed, cell, entries_at}
+use Rattle.cycle_engine.specs.private.Marking.{Holds, HasUnit, IsMarked, IsStarved, IsListed, AreFeeds, AreListed, cell, entries_at}
 
 -- how many firings are made in all
 abbrev pub all_made : Engine → ℕ
@@ -38,6 +38,8 @@ pub record IsReady (net : Net) (b : Bounds) (e : Engine) : Type 0 where
   pub listed : IsListed net e.marks
   pub cells : length e.notes.coming.items ≡ 1024
   pub told : AreTold e.used e.made e.fired.items
+  pub places : length net.units ≤ length e.used.last.items
+  pub feeds : AreFeeds net e.feeds
 
 -- what the loop over marked units counts down: each firing adds five numbers to the list at most
 abbrev pub to_visit : Bounds → Engine → ℕ
@@ -50,7 +52,7 @@ pub record Past : Type 0 where
 
 -- each token was put before the cycle c, and is noted where it ripens from that cycle on
 abbrev pub AreComing : Net → ℕ → Engine → Type 0
-AreComing net c e = (d : ℕ) → AllByRecursion (λ x. (x < c) × (c ≤ x + (chan_at net d).delay → Holds d (cell e.notes ((x + (chan_at net d).delay) % 1024)))) (get_or e.dates.tokens d [])
+AreComing net c e = (d : ℕ) → AllByRecursion (λ x. (x < c) × (c ≤ x + (chan_at net d).delay → Holds d (cell e.notes ((x + (chan_at net d).delay) % 1024)))) (get_or (dates_of e.state) d [])
 
 -- the engine in the middle of the cycle c, which began with start
 pub record InCycle (net : Net) (past : Past) (b : Bounds) (c : ℕ) (start : Dated) (e : Engine) : Type 0 where

@@ -1,5 +1,5 @@
 -- Private: only contracts of this crate cite it. Marks at the units that may fire, and what is noted for the next cycle.
-use Rattle.std.specs.Prelude.{◌≡◌, ◌≢◌, ◌⊎◌, ℕ, ◌+◌, ◌-◌, ◌<◌, ◌≤◌, ◌++◌, ◌∷◌, ◌%◌, nat_lt, cond, set, Bool, true, false, Option, None, List, [], map, reverse, length, get_or, IfSome, IsSomeAnd}
+use Rattle.std.specs.Prelude.{◌≡◌, ◌≢◌, ◌⊎◌, ℕ, ◌+◌, ◌-◌, ◌<◌, ◌≤◌, ◌++◌, ◌∷◌, ◌%◌, nat_lt, cond, set, Bool, true, false, Option, Some, None, List, [], map, reverse, length, get_or, IfSome, IsSomeAnd}
 use Rattle.std.specs.List.{AllByRecursion}
 use Rattle.std.specs.List.Sorted.{IsPermutation, IsNonDecreasing}
 use Rattle.std.specs.declared.vec.Vec.{Vec}
@@ -9,16 +9,18 @@ use Rattle.net_types.specs.declared.net.Unit.{Unit as Kind}
 use Rattle.net_types.specs.declared.net.Unit.TheVariants.{Entry, Param, Const, Op1, Op2, Select, Fork, Mux, Cmerge, Branch, Sink, Read, Lsq, Exit}
 use Rattle.net_types.specs.declared.firing.Act.TheVariants.{Go}
 use Rattle.net_types.specs.declared.firing.Firing.{Firing}
-use Rattle.net_types.specs.Nets.{kind_of, chan_at, firing}
+use Rattle.net_types.specs.Nets.{kind_of, chan_at, into, firing}
 use Rattle.net_check.specs.Ends.{is_lsq}
-use Rattle.net_core.specs.Fire.{State, idle, head_at}
+use Rattle.net_core.specs.Fire.{State, idle, head_at, tokens_at}
 use Rattle.circular_buffer.specs.Buffer.{last_item}
 use Rattle.net_core.specs.declared.plan.Laid.{Laid}
 use Rattle.net_core.specs.declared.plan.Moves.{Moves}
-use Rattle.net_core.specs.Held.{Held}
+use Rattle.net_core.specs.declared.state.State.{State as Stored}
+use Rattle.net_core.specs.States.{state_of, dates_of}
 use Rattle.net_core.specs.Plans.{chans_of}
 use Rattle.cycle_engine.specs.declared.marks.Marks.{Marks}
 use Rattle.cycle_engine.specs.declared.notes.Notes.{Notes}
+use Rattle.cycle_engine.specs.declared.feeds.Feeds.{Feeds}
 use Rattle.cycle_engine.specs.declared.freed.Freed.{Freed}
 use Rattle.net_core.specs.Uses.{is_fork}
 
@@ -99,6 +101,27 @@ is_merge (Sink w) = false
 is_merge (Read a) = false
 is_merge (Lsq a d ps gs f) = false
 is_merge Exit = false
+
+-- the channel into the first place of a unit that asks for a token there
+abbrev pub asked : Net → ℕ → Option ℕ
+asked net u = cond (asks_first (kind_of net u)) (Some (into u 0 net.chans)) None
+
+-- for each unit is told the channel that it asks of
+pub record AreFirsts (net : Net) (firsts : List (Option ℕ)) : Type 0 where
+  pub long : length firsts ≡ length net.units
+  pub each : (u : ℕ) → u < length net.units → get_or firsts u None ≡ asked net u
+
+-- no unit into which a control merge puts is left out
+abbrev pub AreMerged : Net → List Bool → Type 0
+AreMerged net merged = (d : ℕ) → d < length net.chans → is_merge (kind_of net (chan_at net d).from.unit) ≡ true → get_or merged (chan_at net d).to.unit true ≡ true
+
+pub record AreFeeds (net : Net) (f : Feeds) : Type 0 where
+  pub firsts : AreFirsts net f.firsts.items
+  pub merged : AreMerged net f.merged.items
+
+-- channels go into the unit, as far as they are channels of the net
+abbrev pub AreInto : Net → ℕ → List ℕ → Type 0
+AreInto net u ds = AllByRecursion (λ d. d < length net.chans → (chan_at net d).to.unit ≡ u) ds
 
 -- the unit that puts on a channel is marked, where it is a control merge
 abbrev pub IsMergeMarked : Net → ℕ → Marks → ℕ → Type 0
@@ -184,14 +207,14 @@ pub record IsNoted (net : Net) (laid : Option Laid) (c : ℕ) (old new : Notes) 
 abbrev pub AreListed : Freed → Type 0
 AreListed f = (d : ℕ) → get_or f.marked.items d false ≡ true → Holds d f.list.items
 
--- by the dates of its tokens the channel d is full, and the newest was put before the cycle c
-abbrev pub IsLongFull : Held → ℕ → ℕ → Type 0
-IsLongFull held c d = (get_or held.slots d 0 ≤ length (get_or held.tokens d [])) × IsSomeAnd (last_item (get_or held.tokens d [])) (λ x. x < c)
+-- the channel d is full, and the newest of its tokens was put before the cycle c
+abbrev pub IsLongFull : Net → Stored → ℕ → ℕ → Type 0
+IsLongFull net s c d = ((chan_at net d).slots ≤ length (tokens_at (state_of s) d)) × IsSomeAnd (last_item (get_or (dates_of s) d [])) (λ x. x < c)
 
 -- tokens are to be taken from these channels in the cycle c: those of them that are full of older tokens are marked
-pub record IsFreed (held : Held) (c : ℕ) (ds : List ℕ) (old new : Freed) : Type 0 where
+pub record IsFreed (net : Net) (s : Stored) (c : ℕ) (ds : List ℕ) (old new : Freed) : Type 0 where
   pub long : length new.marked.items ≡ length old.marked.items
   pub listed : AreListed old → AreListed new
-  pub marked : (d : ℕ) → Holds d ds → IsLongFull held c d → d < length old.marked.items → get_or new.marked.items d false ≡ true
+  pub marked : (d : ℕ) → Holds d ds → IsLongFull net s c d → d < length old.marked.items → get_or new.marked.items d false ≡ true
   pub others : (d : ℕ) → (Holds d ds → ⊥) → get_or new.marked.items d false ≡ get_or old.marked.items d false
-  pub kept : (d : ℕ) → (IsLongFull held c d → ⊥) → get_or new.marked.items d false ≡ get_or old.marked.items d false
+  pub kept : (d : ℕ) → (IsLongFull net s c d → ⊥) → get_or new.marked.items d false ≡ get_or old.marked.items d false

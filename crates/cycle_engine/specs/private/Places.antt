@@ -10,7 +10,15 @@ use Rattle.net_types.specs.declared.net.Unit.{Unit as Kind}
 use Rattle.net_types.specs.declared.net.Unit.TheVariants.{Entry, Param, Const, Op1, Op2, Select, Fork, Mux, Cmerge, Branch, Sink, Read, Lsq, Exit}
 use Rattle.net_types.specs.declared.firing.Act.{Act}
 use Rattle.net_types.specs.declared.firing.Act.TheVariants.{Go, From, Send, Alloc, Addr, Data, Exec, Reply, Retire, End}
-use Rattle.net_types.specs.Nets.{kind_of, into, firing}
+use Rattle.net_types.specs.Nets.{kind_of, into, out_of, firing}
+use Rattle.net_core.specs.declared.plan.Put.{Put}
+use Rattle.net_core.specs.declared.plan.Takes.{Takes}
+use Rattle.net_core.specs.declared.plan.Takes.TheVariants as takes
+use Rattle.net_core.specs.declared.plan.Taken.{Taken}
+use Rattle.net_core.specs.declared.plan.Taken.TheVariants as taken
+use Rattle.net_core.specs.declared.plan.Laid.{Laid}
+use Rattle.net_core.specs.declared.plan.Moves.{Moves}
+use Rattle.net_core.specs.declared.plan.Plan.{Plan}
 use Rattle.net_types.specs.Order.{act_rank, act_number}
 use Rattle.net_check.specs.Ends.{is_lsq}
 use Rattle.lsq_core.specs.Views.{QueueView, InOrder, InPorts}
@@ -170,6 +178,24 @@ pub record IsNextNumber (net : Net) (s : State) (u : ℕ) (kind : Act) (from n :
 -- no entry may execute
 abbrev pub HasNoExec : Net → State → ℕ → Type 0
 HasNoExec net s u = (j : ℕ) → enabled net s (firing u (Exec j)) → ⊥
+
+-- the firing sends to an output of a unit, at which the channel is
+abbrev pub IsSendOn : Net → Firing → ℕ → Type 0
+IsSendOn net f chan = (out : ℕ) × (f.act ≡ Send out) × (chan ≡ out_of f.unit out net.chans)
+
+-- the tokens that a firing of a fork moves: it takes from its input where it takes, and puts on this channel
+abbrev pub taken_first : ℕ → Takes → Taken
+taken_first first takes.None = taken.None
+taken_first first (takes.One p) = taken.One first
+taken_first first (takes.Two p q) = taken.One first
+taken_first first (takes.Three p q r) = taken.One first
+
+abbrev pub laid_there : ℕ → Option Put → Option Laid
+laid_there chan None = None
+laid_there chan (Some w) = Some (record { chan = chan; value = w.value })
+
+abbrev pub moves_to : ℕ → ℕ → Plan → Moves
+moves_to first chan p = record { taken = taken_first first p.takes; laid = laid_there chan p.put }
 
 -- ---- places that were tried
 

@@ -1,8 +1,7 @@
 -- Private: only contracts of this crate cite it. What the engine asks of a firing that it tries in a cycle.
-use Rattle.std.specs.Prelude.{◌≡◌, ◌⊎◌, ℕ, ◌+◌, ◌<◌, ◌≤◌, Bool, true, false, Option, Some, None, List, [], length, get_or, map, IsSomeAnd}
+use Rattle.std.specs.Prelude.{◌≡◌, ◌⊎◌, ℕ, ◌+◌, ◌<◌, ◌≤◌, Bool, true, false, Option, Some, None, List, [], length, get_or, IsSomeAnd}
 use Rattle.std.specs.List.{AllByRecursion}
 use Rattle.net_types.specs.declared.net.Net.{Net}
-use Rattle.net_types.specs.declared.net.Chan.{Chan}
 use Rattle.net_types.specs.declared.net.Unit.{Unit as Kind}
 use Rattle.net_types.specs.declared.net.Unit.TheVariants.{Entry, Param, Const, Op1, Op2, Select, Fork, Mux, Cmerge, Branch, Sink, Read, Lsq, Exit}
 use Rattle.net_types.specs.declared.firing.Act.{Act}
@@ -16,17 +15,17 @@ use Rattle.net_core.specs.declared.plan.Change.TheVariants as change
 use Rattle.net_core.specs.declared.plan.Plan.{Plan}
 use Rattle.net_core.specs.Fire.{idle, first, has_room, tokens_at, changed_from, moved}
 use Rattle.net_core.specs.declared.plan.Laid.{Laid}
-use Rattle.net_core.specs.declared.plan.Moves.{Moves}
-use Rattle.net_core.specs.Plans.{effect_by, laid_of}
+use Rattle.net_core.specs.Plans.{effect_by, laid_of, moves_of, apart, admits}
 use Rattle.circular_buffer.specs.Buffer.{last_item}
-use Rattle.net_core.specs.States.{state_of, IsOf}
+use Rattle.net_core.specs.States.{state_of, dates_of, cell_at, IsOf, IsPlanOf}
+use Rattle.cycle_engine.specs.declared.trial.Planned.{Planned}
 use Rattle.cycle_engine.specs.declared.engine.Engine.{Engine}
 use Rattle.cycle_engine.specs.Cycles.{Dated, AreDated, dated}
 use Rattle.net_core.specs.Uses.{is_fork, places_used}
 
 -- the state of the engine with the dates of its tokens
 abbrev pub dated_of : Engine → Dated
-dated_of e = record { state = state_of e.state; dates = e.dates.tokens }
+dated_of e = record { state = state_of e.state; dates = dates_of e.state }
 
 -- ---- dates
 
@@ -37,14 +36,6 @@ RipeAt net c dates d = IsSomeAnd (first (get_or dates d [])) (λ date. date + (c
 -- the heads at these places of a unit are ripe
 abbrev pub AllRipe : Net → ℕ → List (List ℕ) → ℕ → List ℕ → Type 0
 AllRipe net c dates u places = AllByRecursion (λ p. RipeAt net c dates (into u p net.chans)) places
-
--- the date c is put where a token is put
-abbrev pub dated_laid : ℕ → Option Laid → Option Laid
-dated_laid c None = None
-dated_laid c (Some w) = Some (record { chan = w.chan; value = c })
-
-abbrev pub dated_moves : ℕ → Moves → Moves
-dated_moves c m = record { taken = m.taken; laid = dated_laid c m.laid }
 
 -- the dates after a firing that takes and puts in the cycle c
 abbrev pub dates_after : Net → ℕ → Takes → Option Put → ℕ → List (List ℕ) → List (List ℕ)
@@ -97,11 +88,11 @@ pub record Allowed (net : Net) (c : ℕ) (e : Engine) (f : Firing) (p : Plan) : 
   pub room : has_room net (state_of e.state) f.unit p.put
   pub had_room : HadRoom e.freed.marked.items (laid_of net f.unit p.put)
   pub had_depth : HadDepth (kind_of net f.unit) (get_or e.begun.items f.unit 0) f.act
-  pub ripe : AllRipe net c e.dates.tokens f.unit (places_used (is_fork (kind_of net f.unit)) p.takes)
+  pub ripe : AllRipe net c (dates_of e.state) f.unit (places_used (is_fork (kind_of net f.unit)) p.takes)
 
 -- the channel d is full, of tokens alone that were put before the cycle c
 abbrev pub IsOldFull : Net → ℕ → Engine → ℕ → Type 0
-IsOldFull net c e d = ((chan_at net d).slots ≤ length (tokens_at (state_of e.state) d)) × AllByRecursion (λ x. x < c) (get_or e.dates.tokens d [])
+IsOldFull net c e d = ((chan_at net d).slots ≤ length (tokens_at (state_of e.state) d)) × AllByRecursion (λ x. x < c) (get_or (dates_of e.state) d [])
 
 -- what is known of the channel d in the cycle c, which began with start
 pub record IsFollowed (net : Net) (c : ℕ) (start : Dated) (e : Engine) (d : ℕ) : Type 0 where
@@ -110,7 +101,7 @@ pub record IsFollowed (net : Net) (c : ℕ) (start : Dated) (e : Engine) (d : �
   -- where it is not it had room then, or is full of older tokens still
   pub clear : get_or e.freed.marked.items d false ≡ false → (length (tokens_at start.state d) < (chan_at net d).slots) ⊎ IsOldFull net c e d
   -- it has no more tokens than then, or the newest is of this cycle
-  pub newest : (length (tokens_at (state_of e.state) d) ≤ length (tokens_at start.state d)) ⊎ (last_item (get_or e.dates.tokens d []) ≡ Some c)
+  pub newest : (length (tokens_at (state_of e.state) d) ≤ length (tokens_at start.state d)) ⊎ (last_item (get_or (dates_of e.state) d []) ≡ Some c)
 
 -- what the engine keeps of the state with which the cycle c began: which channels were full in it, and the entries of queues
 pub record IsBegun (net : Net) (c : ℕ) (start : Dated) (e : Engine) : Type 0 where
@@ -120,5 +111,12 @@ pub record IsBegun (net : Net) (c : ℕ) (start : Dated) (e : Engine) : Type 0 w
 -- the engine is of the net, and each token has a date
 pub record IsEngine (net : Net) (e : Engine) : Type 0 where
   pub state : IsOf net e.state
-  pub slots : e.dates.slots ≡ map (λ (c : Chan). c.slots) net.chans
   pub dated : AreDated net (dated_of e)
+
+-- what a firing does, and the tokens that it moves, which has room
+pub record IsPlanned (net : Net) (e : Engine) (f : Firing) (p : Planned) : Type 0 where
+  pub effect : IsPlanOf net e.state f (Some p.plan)
+  pub moves : p.moves ≡ moves_of net f.unit p.plan
+  pub apart : apart p.plan.takes ≡ true
+  pub admits : admits (cell_at e.state f.unit) p.plan.change ≡ true
+  pub room : has_room net (state_of e.state) f.unit p.plan.put

@@ -80,8 +80,9 @@ pub record AreInside (side : Side) (starts : List ℕ) (chans : List Chan) : Typ
 abbrev pub wire : List ℕ → List ℕ → ℕ → ℕ → ℕ → ℕ
 wire starts chans none u p = cond (nat_lt (get_or starts u 0 + p) (get_or starts (u + 1) 0)) (get_or chans (get_or starts u 0 + p) 0) none
 
--- `none` is the number of channels
+-- the table tells the first channel at each place, and `none` is the number of channels
 pub record IsTable (side : Side) (starts table : List ℕ) (none : ℕ) (chans : List Chan) : Type 0 where
+  pub past : none ≡ length chans
   pub tells : (u p : ℕ) → wire starts table none u p ≡ first_at side u p chans
 
 -- the table of all channels, with an entry for each place

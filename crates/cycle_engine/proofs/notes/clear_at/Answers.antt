@@ -7,4 +7,4 @@ use Rattle.cycle_engine.specs.private.Marking.{lists_of}
 use Rattle.cycle_engine.proofs.notes.clear_at.Goals as goal
 
 pub returns : goal.returns
-returns c = map-set (λ (v : Vec ℕ Global). v.items) c.args.cells.now.items c.args.at c.clear.new.self ∙ ap (set (lists_of c.args.cells.now.items) c.args.at) c.clear.ensures.items
+returns c = map-set (λ (v : Vec ℕ Global). v.items) c.args.cells.now.items c.args.at c.empty.new.list ∙ ap (set (lists_of c.args.cells.now.items) c.args.at) c.empty.ensures

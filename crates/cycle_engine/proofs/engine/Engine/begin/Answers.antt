@@ -15,7 +15,6 @@ pub returns-clause-ready : goal.returns-clause-ready
 returns-clause-ready c =
     let e : Engine = record {
       state = c.args.self.now.state;
-      dates = c.args.self.now.dates;
       begun = c.settle.new.begun;
       fired = c.clear-3.new.self;
       used = c.args.self.now.used;
@@ -23,23 +22,23 @@ returns-clause-ready c =
       log = c.args.self.now.log;
       marks = c.mark_targets.new.self;
       notes = c.clear-2.new.self;
+      feeds = c.args.self.now.feeds;
       freed = c.clear.new.self;
       control = c.args.self.now.control;
     } in
     let net = c.args.net.now in
-    let made : c.args.self.now.made + c.len.result ≡ all_made c.args.self.now = omega (arith, c.len.ensures, c.args.self.now.fired.ok.0) in
+    let made : c.args.self.now.made + c.len.result ≡ all_made c.args.self.now = omega (arith, c.len.ensures) in
     begun_ready c.args.net.now c.args.bounds c.args.self.now e c.requires
-    (record { state = c.requires.engine.state; slots = c.requires.engine.slots; dated = c.requires.engine.dated })
-    refl made c.clear-3.ensures.items refl (c.clear.ensures.long ∙ c.requires.chans) c.in_ok-settle.ensures.long
+    (record { state = c.requires.engine.state; dated = c.requires.engine.dated })
+    refl made c.clear-3.ensures refl (c.clear.ensures.long ∙ c.requires.chans) c.in_ok-settle.ensures.long
     (c.in_ok-mark_targets.ensures.kept.long ∙ (c.in_ok-mark_sources.ensures.kept.long ∙ (c.in_ok-settle.ensures.kept.long ∙ c.requires.marked)))
     (c.in_ok-mark_targets.ensures.kept.listed net (c.in_ok-mark_sources.ensures.kept.listed net (c.in_ok-settle.ensures.kept.listed net c.requires.listed)))
-    (cleared_long c.args.self.now.notes c.clear-2.new.self _ c.clear-2.ensures ∙ c.requires.cells)
+    (cleared_long c.args.self.now.notes c.clear-2.new.self _ c.clear-2.ensures ∙ c.requires.cells) refl refl
 
 pub returns-clause-going : goal.returns-clause-going
 returns-clause-going c past done =
     let e : Engine = record {
       state = c.args.self.now.state;
-      dates = c.args.self.now.dates;
       begun = c.settle.new.begun;
       fired = c.clear-3.new.self;
       used = c.args.self.now.used;
@@ -47,10 +46,11 @@ returns-clause-going c past done =
       log = c.args.self.now.log;
       marks = c.mark_targets.new.self;
       notes = c.clear-2.new.self;
+      feeds = c.args.self.now.feeds;
       freed = c.clear.new.self;
       control = c.args.self.now.control;
     } in
-    let made : c.args.self.now.made + c.len.result ≡ all_made c.args.self.now = omega (arith, c.len.ensures, c.args.self.now.fired.ok.0) in
+    let made : c.args.self.now.made + c.len.result ≡ all_made c.args.self.now = omega (arith, c.len.ensures) in
     let P : List Firing → Type 0 = AllPlain c.args.net.now in
     let k1 = c.in_ok-settle.ensures.kept in
     let k2 = c.in_ok-mark_sources.ensures.kept in
@@ -59,14 +59,14 @@ returns-clause-going c past done =
       going = begun_going c.args.net.now past c.args.bounds c.args.now c.args.self.now e done
           (record {
             chans = begun_followed c.args.net.now c.args.now c.args.self.now e refl (c.clear.ensures.none done.listed) done.coming;
-            queues = λ u l. c.in_ok-settle.ensures.noted u l (or_as (HasUnit u) (sym c.as_slice-fired.ensures.value) (done.entries u l));
+            queues = λ u l. c.in_ok-settle.ensures.noted u l (or_as (HasUnit u) (sym c.as_slice-fired.ensures) (done.entries u l));
           })
-          refl c.clear-3.ensures.items made refl (none_listed c.clear.new.self (c.clear.ensures.none done.listed))
+          refl c.clear-3.ensures made refl (none_listed c.clear.new.self (c.clear.ensures.none done.listed))
           (begun_coming c.args.net.now c.args.now c.args.self.now e (delay_most c.args.net.now c.net.ensures.checked) refl c.clear-2.ensures done.coming) done.control;
-      plain = subst P (sym c.clear-3.ensures.items) tt;
+      plain = subst P (sym c.clear-3.ensures) tt;
       watching = begun_watching c.args.net.now past c.args.bounds c.args.now 0 c.args.self.now e c.net.ensures.checked c.requires done refl
           (stirred_marked c.args.net.now c.args.now c.args.self.now c.settle.new.marks c.mark_sources.new.self c.mark_targets.new.self (length c.args.self.now.marks.marked.items) (sym c.requires.marked)
-          k1.kept k2.kept k3.kept (λ u h f l. c.in_ok-settle.ensures.marked u (subst (HasUnit u) (sym c.as_slice-fired.ensures.value) h) f l)
+          k1.kept k2.kept k3.kept (λ u h f l. c.in_ok-settle.ensures.marked u (subst (HasUnit u) (sym c.as_slice-fired.ensures) h) f l)
           (λ d h. source_as c.args.net.now (state_of c.args.self.now.state) _ _ c.mark_sources.new.self d k1.long (c.in_ok-mark_sources.ensures.marked d (subst (Holds d) (sym c.as_slice-freed.ensures.value) h)))
           (λ d h. target_as c.args.net.now _ _ c.mark_targets.new.self d (k2.long ∙ k1.long) (c.in_ok-mark_targets.ensures.marked d (subst (Holds d) (sym c.ripening.ensures) h))));
     }

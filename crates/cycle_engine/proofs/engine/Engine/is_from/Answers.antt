@@ -6,4 +6,4 @@ use Rattle.cycle_engine.proofs.engine.Engine.is_from.Goals as goal
 pub returns-clause-unused : goal.returns-clause-unused
 returns-clause-unused c z =
     let P : List Firing → Type 0 = λ xs. IsUnusedFrom xs c.args.firing c.args.first in
-    subst P c.as_slice-fired.ensures.value (λ k l m. c.loop-at.invariant k l (omega (arith, m, c.loop-at-test.false)))
+    subst P c.as_slice-fired.ensures (λ k l m. c.loop-at.invariant k l (omega (arith, m, c.loop-at-test.false)))

@@ -1,38 +1,61 @@
-use Rattle.cycle_engine.proofs.MakeLemmas.{dates_within, date_room, dates_made, made_is, made_engine}
-use Rattle.std.proofs.Common.{◌+◌, ◌∙◌, ap, arith}
-use Rattle.cycle_engine.specs.private.Trials.{dated_moves}
+use Rattle.std.proofs.Common.{◌+◌, arith}
+use Rattle.cycle_engine.specs.declared.engine.Engine.{Engine}
+use Rattle.cycle_engine.proofs.MakeLemmas.{moves_within, laid_within, dates_made, made_is, made_engine}
 use Rattle.cycle_engine.proofs.UsedLemmas.{told_more}
 use Rattle.cycle_engine.proofs.engine.Engine.make.Goals as goal
 
-pub make-requires-clause-within : goal.make-requires-clause-within
-make-requires-clause-within c =
-    dates_within c.args.net.now c.args.self.now c.args.now c.args.firing c.args.planned.plan c.dated.result (c.dated.ensures ∙ ap (dated_moves c.args.now) c.requires.moves) c.requires.engine c.requires.effect
+pub note-requires-2-clause-within : goal.note-requires-2-clause-within
+note-requires-2-clause-within c = moves_within c.args.net.now c.args.self.now c.args.firing c.args.planned.plan c.args.planned.moves c.requires.planned.moves c.requires.engine c.requires.planned.effect
 
-pub make-requires-clause-room : goal.make-requires-clause-room
-make-requires-clause-room c =
-    date_room c.args.net.now c.args.self.now c.args.now c.args.firing.unit c.args.planned.plan c.dated.result (c.dated.ensures ∙ ap (dated_moves c.args.now) c.requires.moves) c.requires.engine c.requires.room
+pub control_after-self-requires : goal.control_after-self-requires
+control_after-self-requires c = laid_within c.args.net.now c.args.self.now c.args.firing c.args.planned.plan c.args.planned.moves c.requires.planned.moves c.requires.planned.room
+
+pub note-requires-3-clause-within : goal.note-requires-3-clause-within
+note-requires-3-clause-within c = laid_within c.args.net.now c.args.self.now c.args.firing c.args.planned.plan c.args.planned.moves c.requires.planned.moves c.requires.planned.room
 
 pub returns-clause-after : goal.returns-clause-after
 returns-clause-after c =
-    made_is c.args.net.now c.args.now c.args.self.now
-    (record { state = c.make_moves.new.self; dates = c.make.new.self; begun = c.args.self.now.begun; fired = c.note_fired.new.fired; used = c.note.new.self; made = c.args.self.now.made; log = c.note-4.new.log; marks = c.args.self.now.marks; notes = c.note-3.new.self; freed = c.note-2.new.self; control = c.control_after-self.result })
-    c.args.firing c.args.planned.plan c.requires.effect c.make_moves.ensures.state
-    (dates_made c.args.net.now c.args.now c.args.self.now c.args.firing c.args.planned.plan c.dated.result c.make.new.self.tokens c.requires.engine c.requires.effect c.requires.apart
-    (c.dated.ensures ∙ ap (dated_moves c.args.now) c.requires.moves) c.make.ensures.tokens)
+    let new : Engine = record {
+      state = c.make_dated.new.self;
+      begun = c.args.self.now.begun;
+      fired = c.note_fired.new.fired;
+      used = c.note.new.self;
+      made = c.args.self.now.made;
+      log = c.note-4.new.log;
+      marks = c.args.self.now.marks;
+      notes = c.note-3.new.self;
+      feeds = c.args.self.now.feeds;
+      freed = c.note-2.new.self;
+      control = c.control_after-self.result;
+    } in
+    made_is c.args.net.now c.args.now c.args.self.now new c.args.firing c.args.planned.plan c.requires.planned.effect c.make_dated.ensures.state
+    (dates_made c.args.net.now c.args.now c.args.self.now c.args.firing c.args.planned.plan c.args.planned.moves c.make_dated.new.self.tokens.dates c.requires.engine c.requires.planned.effect c.requires.planned.apart
+    c.requires.planned.moves c.make_dated.ensures.dates)
 
 pub returns-clause-engine : goal.returns-clause-engine
 returns-clause-engine c =
-    made_engine c.args.net.now c.args.now c.args.self.now
-    (record { state = c.make_moves.new.self; dates = c.make.new.self; begun = c.args.self.now.begun; fired = c.note_fired.new.fired; used = c.note.new.self; made = c.args.self.now.made; log = c.note-4.new.log; marks = c.args.self.now.marks; notes = c.note-3.new.self; freed = c.note-2.new.self; control = c.control_after-self.result })
-    c.args.firing c.args.planned.plan c.requires.engine c.requires.effect (returns-clause-after c) c.make_moves.ensures.of c.make.ensures.slots
+    let new : Engine = record {
+      state = c.make_dated.new.self;
+      begun = c.args.self.now.begun;
+      fired = c.note_fired.new.fired;
+      used = c.note.new.self;
+      made = c.args.self.now.made;
+      log = c.note-4.new.log;
+      marks = c.args.self.now.marks;
+      notes = c.note-3.new.self;
+      feeds = c.args.self.now.feeds;
+      freed = c.note-2.new.self;
+      control = c.control_after-self.result;
+    } in
+    made_engine c.args.net.now c.args.now c.args.self.now new c.args.firing c.args.planned.plan c.requires.engine c.requires.planned.effect (returns-clause-after c) c.make_dated.ensures.of
 
 pub returns-clause-told : goal.returns-clause-told
 returns-clause-told c =
     told_more c.args.self.now.fired.items c.note_fired.new.fired.items c.args.firing c.args.self.now.made (c.args.self.now.made + c.len.result) c.args.self.now.used c.note.new.self
-    (omega (arith, c.len.ensures, c.args.self.now.fired.ok.0)) c.in_ok-note_fired.ensures.fired c.note.ensures c.requires.told
+    (omega (arith, c.len.ensures)) c.in_ok-note_fired.ensures.fired c.note.ensures c.requires.told
 
 pub returns-clause-counts : goal.returns-clause-counts
-returns-clause-counts c = c.make_moves.ensures.counts
+returns-clause-counts c = c.make_dated.ensures.counts
 
 pub returns-clause-fired : goal.returns-clause-fired
 returns-clause-fired c = c.in_ok-note_fired.ensures.fired

@@ -1,4 +1,4 @@
-use Rattle.std.proofs.Common.{◌≡◌, ◌∙◌, ℕ, Bool, false, List, [], map, replicate, length, ap, refl}
+use Rattle.std.proofs.Common.{◌≡◌, ◌∙◌, ℕ, Bool, false, List, replicate, length, ap, refl}
 use Rattle.std.proofs.lemmas.List.{length-replicate}
 use Rattle.net_types.specs.declared.net.Chan.{Chan}
 use Rattle.net_types.specs.declared.net.Net.{Net}
@@ -11,7 +11,6 @@ pub returns-clause-ready : goal.returns-clause-ready
 returns-clause-ready c =
     let e : Engine = record {
       state = c.in_ok-state.state;
-      dates = c.in_ok-dates.dates;
       begun = c.in_ok-begun.begun;
       fired = c.new-7.result;
       used = c.in_ok-used.used;
@@ -19,23 +18,23 @@ returns-clause-ready c =
       log = c.in_ok-log.log;
       marks = c.in_ok-marks.marks;
       notes = c.in_ok-notes.notes;
+      feeds = c.in_ok-feeds.feeds;
       freed = c.in_ok-freed.freed;
       control = 0;
     } in
     let chans : c.as_slice-chans.result.now ≡ c.args.net.now.chans = c.as_slice-chans.ensures ∙ ap (λ (n : Net). n.chans) c.net.ensures.net in
     let units : c.as_slice-units.result.now ≡ c.args.net.now.units = c.as_slice-units.ensures ∙ ap (λ (n : Net). n.units) c.net-2.ensures.net in
-    opened_ready c.args.net.now c.args.inputs.now c.args.bounds e c.in_ok-state.ensures.of (c.in_ok-dates.ensures.slots ∙ ap (map (λ (d : Chan). d.slots)) chans)
-    (opened_as c.args.net.now c.args.inputs.now e c.in_ok-state.ensures.state (c.in_ok-dates.ensures.tokens ∙ ap (map (λ (d : Chan). [])) chans))
-    c.requires.few refl c.new-7.ensures.items c.in_ok-state.ensures.counts (c.in_ok-log.ensures.room ∙ c.log_room.ensures)
+    opened_ready c.args.net.now c.args.inputs.now c.args.bounds e c.in_ok-state.ensures.of
+    (opened_as c.args.net.now c.args.inputs.now e c.in_ok-state.ensures.state c.in_ok-state.ensures.dates)
+    c.requires.few refl c.new-7.ensures c.in_ok-state.ensures.counts (c.in_ok-log.ensures.room ∙ c.log_room.ensures)
     (ap (λ (xs : List Bool). length xs) c.in_ok-freed.ensures.marked ∙ (length-replicate _ _ ∙ ap (λ (xs : List Chan). length xs) chans))
     (ap (λ (xs : List ℕ). length xs) c.in_ok-begun.ensures ∙ (length-replicate _ _ ∙ ap (λ (xs : List Kind). length xs) units))
-    c.in_ok-marks.ensures.long c.in_ok-marks.ensures.listed c.in_ok-notes.ensures
+    c.in_ok-marks.ensures.long c.in_ok-marks.ensures.listed c.in_ok-notes.ensures c.in_ok-used.ensures c.in_ok-feeds.ensures
 
 pub returns-clause-done : goal.returns-clause-done
 returns-clause-done c =
     let e : Engine = record {
       state = c.in_ok-state.state;
-      dates = c.in_ok-dates.dates;
       begun = c.in_ok-begun.begun;
       fired = c.new-7.result;
       used = c.in_ok-used.used;
@@ -43,13 +42,14 @@ returns-clause-done c =
       log = c.in_ok-log.log;
       marks = c.in_ok-marks.marks;
       notes = c.in_ok-notes.notes;
+      feeds = c.in_ok-feeds.feeds;
       freed = c.in_ok-freed.freed;
       control = 0;
     } in
     let chans : c.as_slice-chans.result.now ≡ c.args.net.now.chans = c.as_slice-chans.ensures ∙ ap (λ (n : Net). n.chans) c.net.ensures.net in
     let units : c.as_slice-units.result.now ≡ c.args.net.now.units = c.as_slice-units.ensures ∙ ap (λ (n : Net). n.units) c.net-2.ensures.net in
     opened_done c.args.net.now c.args.inputs.now c.args.bounds e
-    (opened_as c.args.net.now c.args.inputs.now e c.in_ok-state.ensures.state (c.in_ok-dates.ensures.tokens ∙ ap (map (λ (d : Chan). [])) chans))
-    refl c.new-7.ensures.items c.in_ok-log.ensures.items c.net.ensures.checked
+    (opened_as c.args.net.now c.args.inputs.now e c.in_ok-state.ensures.state c.in_ok-state.ensures.dates)
+    refl c.new-7.ensures c.in_ok-log.ensures.items c.net.ensures.checked
     (c.in_ok-freed.ensures.marked ∙ ap (λ (xs : List Chan). replicate (length xs) false) chans) (c.in_ok-begun.ensures ∙ ap (λ (xs : List Kind). replicate (length xs) 0) units)
     c.in_ok-marks.ensures.all

@@ -1,4 +1,6 @@
-use Rattle.std.proofs.Common.{◌∙◌, Bool, List, false, ap, length, length-set}
+use Rattle.std.proofs.Common.{◌≡◌, ◌∙◌, rules, Bool, List, false, sym, ap, length, length-set}
+use Rattle.std.proofs.lemmas.Bool.{false≢true}
+use Rattle.cycle_engine.proofs.MarkLemmas.{marked_queue}
 use Rattle.cycle_engine.proofs.TurnLemmas.{ready_marks, served_left, served_turn, turn_served, exit_broken}
 use Rattle.cycle_engine.proofs.engine.Engine.serve.Goals as goal
 
@@ -10,8 +12,18 @@ pub returns-in_default-clause-served : goal.returns-in_default-clause-served
 returns-in_default-clause-served c past start count n s l =
     served_left c.args.net.now past c.args.bounds c.args.now start c.args.self.now c.take_queue.new.self count n c.in_default.ensures l s
 
-pub run_queue-requires : goal.run_queue-requires
-run_queue-requires c =
+pub returns-then-not-is_queue-clause-ready : goal.returns-then-not-is_queue-clause-ready
+returns-then-not-is_queue-clause-ready c =
+    ready_marks c.args.net.now c.args.bounds c.args.self.now c.take_queue.new.self c.requires
+    (ap (λ (xs : List Bool). length xs) c.in-Some.ensures.marked ∙ (length-set c.args.self.now.marks.marked.items c.in-Some.unit false ∙ c.requires.marked)) (c.in-Some.ensures.listed c.args.net.now c.requires.listed)
+
+pub returns-then-not-is_queue-clause-served : goal.returns-then-not-is_queue-clause-served
+returns-then-not-is_queue-clause-served c past start count n s l =
+    let q : c.is_queue.result ≡ false = search rules in
+    absurd (false≢true (sym q ∙ (c.is_queue.ensures ∙ (marked_queue c.args.net.now c.args.self.now.marks c.in-Some.unit c.requires.listed s.list c.in-Some.ensures.was).0)))
+
+pub run_queue-requires-clause-ready : goal.run_queue-requires-clause-ready
+run_queue-requires-clause-ready c =
     ready_marks c.args.net.now c.args.bounds c.args.self.now c.take_queue.new.self c.requires
     (ap (λ (xs : List Bool). length xs) c.in-Some.ensures.marked ∙ (length-set c.args.self.now.marks.marked.items c.in-Some.unit false ∙ c.requires.marked)) (c.in-Some.ensures.listed c.args.net.now c.requires.listed)
 

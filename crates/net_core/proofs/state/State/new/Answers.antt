@@ -20,6 +20,9 @@ module _ (c : goal.After-drop-owners-2) where
   slots : c.in_ok-tokens.tokens.slots ≡ map (λ (d : Chan). d.slots) c.args.net.now.chans
   slots = c.in_ok-tokens.ensures.slots ∙ ap (map (λ (d : Chan). d.slots)) (c.as_slice.ensures ∙ ap (λ n. n.chans) c.net-2.ensures.net)
 
+  dates : c.in_ok-tokens.tokens.dates ≡ map (λ (d : Chan). []) c.args.net.now.chans
+  dates = c.in_ok-tokens.ensures.dates ∙ ap (map (λ (d : Chan). [])) (c.as_slice.ensures ∙ ap (λ n. n.chans) c.net-2.ensures.net)
+
   fresh : AreFresh c.args.inputs.now.arrays c.args.net.now.units c.in_ok-cells.cells.items
   fresh = subst (λ (ks : List Kind). AreFresh c.args.inputs.now.arrays ks c.in_ok-cells.cells.items) units (subst (λ xss. AreFresh xss c.as_slice-units.result.now c.in_ok-cells.cells.items) arrays c.in_ok-cells.ensures)
 
@@ -53,3 +56,6 @@ returns-clause-state c =
 
 pub returns-clause-counts : goal.returns-clause-counts
 returns-clause-counts c = subst (CountsWithin 0) (sym (returns-clause-state c)) (opening_counts c.args.net.now c.args.inputs.now)
+
+pub returns-clause-dates : goal.returns-clause-dates
+returns-clause-dates c = dates c

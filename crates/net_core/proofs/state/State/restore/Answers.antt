@@ -10,6 +10,9 @@ use Rattle.net_core.proofs.state.State.restore.Goals as goal
 pub fill-requires-clause-none : goal.fill-requires-clause-none
 fill-requires-clause-none c = λ x. ap (λ (s : State). get_or s.tokens x []) c.requires.opening ∙ opening_tokens c.args.net.now c.args.parts.now.given x
 
+pub fill-requires-clause-undated : goal.fill-requires-clause-undated
+fill-requires-clause-undated c = λ x. ap (λ dss. get_or dss x []) c.requires.undated ∙ opening_tokens c.args.net.now c.args.parts.now.given x
+
 pub copy_from_slice-requires : goal.copy_from_slice-requires
 copy_from_slice-requires c =
     let a = strays_long c.args.net.now c.args.self.now c.args.parts.now c.requires.opening c.requires.stands in

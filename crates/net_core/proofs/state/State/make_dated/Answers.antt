@@ -8,7 +8,7 @@ use Rattle.net_core.specs.States.{state_of, CountsRise}
 use Rattle.net_core.proofs.MoveLemmas.{chans_are, distinct_of, laid_room, moves_are}
 use Rattle.net_core.proofs.RaiseLemmas.{counts_after}
 use Rattle.net_core.proofs.StateLemmas.{plan_within, fired_of, fired_state}
-use Rattle.net_core.proofs.state.State.make_moves.Goals as goal
+use Rattle.net_core.proofs.state.State.make_dated.Goals as goal
 
 pub make-requires-clause-within : goal.make-requires-clause-within
 make-requires-clause-within c =

@@ -1,0 +1,112 @@
+//! Stacks that keep their room.
+
+ghost use Rattle.std.specs.Prelude.{◌≡◌, [], ◌∷◌, ◌++◌, length, OnOk, MatchOption};
+
+use net_types::Memory;
+use std::alloc::Global;
+use std::marker::Model;
+
+/// Items one upon another. What is taken away leaves its room, so that most items are put without asking for memory.
+#[derive(Drop)]
+pub(crate) struct Stack<T> {
+    room: Vec<T>,
+    len: usize,
+}
+
+impl<T> Model for Stack<T> {
+    ghost use Rattle.std.specs.Prelude.{◌≤◌, take, length};
+    ghost use Rattle.cycle_engine.specs.private.Stacks.{Stacked, stacked_code};
+
+    ghost Value = { Stacked T };
+
+    ghost coded = { stacked_code T.code };
+
+    ghost view = { λ s. record { items = take s.len s.room.items } };
+
+    ghost invariant = { λ s. s.len ≤ length s.room.items };
+}
+
+impl<T: Copy> Stack<T> {
+    /// A stack without items.
+    pub(crate) fn new(alloc: Global) -> Stack<T>
+        ensures { result.items ≡ [] }
+    {
+        Stack {
+            room: Vec::new(alloc),
+            len: 0,
+        }
+    }
+
+    /// How many items there are.
+    #[inline(always)]
+    pub(crate) fn len(&self) -> usize
+        ensures { result ≡ length self.now.items }
+    {
+        self.len
+    }
+
+    /// Puts an item on the top.
+    ///
+    /// # Errors
+    ///
+    /// [`Memory`] where memory is wanting.
+    #[inline(always)]
+    pub(crate) fn push(&mut self, item: T) -> Result<(), Memory>
+        ensures { OnOk result (self.new.items ≡ self.old.items ++ item ∷ []) }
+    {
+        if self.len < self.room.len() {
+            self.room[self.len] = item;
+            self.len += 1;
+            return Ok(());
+        }
+        self.grow(item)
+    }
+
+    /// Puts an item on the top where there is no room left. It stands apart so that what puts an item stays small.
+    ///
+    /// # Errors
+    ///
+    /// [`Memory`] where memory is wanting.
+    #[inline(never)]
+    fn grow(&mut self, item: T) -> Result<(), Memory>
+        ensures { OnOk result (self.new.items ≡ self.old.items ++ item ∷ []) }
+    {
+        self.room.truncate(self.len);
+        match self.room.push(item) {
+            Ok(()) => {
+                self.len += 1;
+                Ok(())
+            }
+            Err(_) => Err(Memory),
+        }
+    }
+
+    /// Takes the top away.
+    #[inline(always)]
+    pub(crate) fn pop(&mut self) -> Option<T>
+        ensures { MatchOption result
+            ((self.old.items ≡ []) × (self.new.items ≡ []))
+            (λ item. self.old.items ≡ self.new.items ++ item ∷ []) }
+    {
+        if self.len == 0 {
+            return None;
+        }
+        self.len -= 1;
+        Some(self.room[self.len])
+    }
+
+    /// The items, the lowest first.
+    #[inline(always)]
+    pub(crate) fn as_slice(&self) -> &[T]
+        ensures { result.now ≡ self.now.items }
+    {
+        &self.room.as_slice()[0..self.len]
+    }
+
+    /// Takes all away.
+    pub(crate) fn clear(&mut self)
+        ensures { self.new.items ≡ [] }
+    {
+        self.len = 0;
+    }
+}
