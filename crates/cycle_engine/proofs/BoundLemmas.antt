@@ -9,17 +9,20 @@ use Rattle.net_core.specs.Fire.{enabled}
 use Rattle.std.specs.List.{AllByRecursion}
 use Rattle.cycle_engine.specs.Cycles.{Dated, dated_opening, Makes, Cycle, Cycles, AreDated}
 use Rattle.cycle_engine.specs.Bounds.{firing_count, EndsFiring, CyclesBound}
-use Rattle.cycle_engine.proofs.DateLemmas.{AllBy, each_as, makes_dates, ripe_may}
+use Rattle.cycle_engine.proofs.DateLemmas.{AllBy, AllRipe, each_as, makes_dates, ripe_may}
 
 -- every token is ripe from the cycle m on
 abbrev pub RipeFrom : ℕ → ℕ → Dated → Type 0
 RipeFrom most m s = (d : ℕ) → AllByRecursion (λ x. x + most ≤ m) (get_or s.dates d [])
 
+pub from_ripe : (net : Net) (c most : ℕ) (s : Dated) → ((d : ℕ) → (chan_at net d).delay ≤ most) → RipeFrom most c s → AllRipe net c s
+from_ripe net c most s l r d = let m : (chan_at net d).delay ≤ most = l d in each_as (λ x. x + most ≤ c) (λ x. x + (chan_at net d).delay ≤ c) (λ x z. omega arith) (get_or s.dates d []) (r d)
+
 -- an empty cycle in which every token is ripe starts at rest
-pub empty_rests : (net : Net) (c most : ℕ) (s t : Dated) → ((d : ℕ) → (chan_at net d).delay ≤ most) → AreDated net s → RipeFrom most c s → Cycle net c s [] t → (f : Firing) → enabled net s.state f → ⊥
-empty_rests net c most s t l k r y f n =
+pub empty_rests : (net : Net) (c : ℕ) (s t : Dated) → AreDated net s → AllRipe net c s → Cycle net c s [] t → (f : Firing) → enabled net s.state f → ⊥
+empty_rests net c s t k r y f n =
     let P : Dated → Type 0 = λ x. (g : Firing) → Unit {0} → Rattle.cycle_engine.specs.Cycles.May net c s x g → ⊥ in
-    subst P (sym y.makes) y.full f tt (ripe_may net c most s f k l r n)
+    subst P (sym y.makes) y.full f tt (ripe_may net c s f k r n)
 
 -- from rest on no cycle has a firing
 pub no_more : (net : Net) (c : ℕ) (s : Dated) (fss : List (List Firing)) (t : Dated) → ((f : Firing) → enabled net s.state f → ⊥) → Cycles net c s fss t → fss ≢ [] → EndsFiring fss → ⊥
@@ -50,7 +53,7 @@ bound net most c m s ([] ∷ fss) t l k r h y e =
         omega arith
     by (inr q) i =
         let ripe : RipeFrom most c s = λ d. each_as (λ x. x + most ≤ m) (λ x. x + most ≤ c) (λ x z. (let q' : m ≤ c = q in omega arith)) (get_or s.dates d []) (r d) in
-        absurd (no_more net c s ([] ∷ fss) t (empty_rests net c most s y.0 l k ripe y.1) y (λ z. cc) e)
+        absurd (no_more net c s ([] ∷ fss) t (empty_rests net c s y.0 k (from_ripe net c most s l ripe) y.1) y (λ z. cc) e)
 bound net most c m s ((f ∷ fs) ∷ fss) t l k r h y e =
     let w = makes_dates net c s s (f ∷ fs) y.0 y.1.makes k h in
     let ripe : RipeFrom most (c + most) y.0 = λ d. each_as (λ x. x ≤ c) (λ x. x + most ≤ c + most) (λ x z. omega arith) (get_or y.0.dates d []) (w.1 d) in

@@ -9,6 +9,7 @@ use Rattle.net_types.specs.declared.firing.Act.{Act}
 use Rattle.net_types.specs.declared.firing.Act.TheVariants.{Go, From, Send, Alloc, Addr, Data, Exec, Reply, Retire, End}
 use Rattle.net_types.specs.declared.firing.Firing.{Firing}
 use Rattle.net_types.specs.Nets.{into, out_of, kind_of, uses, chan_at, firing}
+use Rattle.net_types.specs.Order.{act_rank, act_number}
 use Rattle.net_check.specs.Checks.{IsChecked}
 use Rattle.net_check.specs.Controls.{ctl_in, ctl_out}
 use Rattle.net_core.specs.declared.plan.Moves.{Moves}
@@ -34,9 +35,10 @@ use Rattle.cycle_engine.specs.Cycles.{Dated, May}
 use Rattle.cycle_engine.specs.private.Trials.{dated_of}
 use Rattle.cycle_engine.specs.private.Control.{HasControl, control_places_in, groups_in, leads_to_control_place, control_after, noted_place}
 use Rattle.cycle_engine.specs.private.Goings.{Past, InCycle}
-use Rattle.cycle_engine.specs.private.Places.{IsNoted, takes_at}
+use Rattle.cycle_engine.specs.private.Places.{KeepsControl, TakesControl, takes_at}
 use Rattle.cycle_engine.proofs.MakeLemmas.{Makes1}
 use Rattle.cycle_engine.proofs.NoteLemmas.{effect_in, after_is}
+use Rattle.cycle_engine.proofs.PlaceLemmas.{act_is}
 use Rattle.cycle_engine.proofs.QueueTurnLemmas.{laws}
 use Rattle.cycle_engine.proofs.TurnLemmas.{going_regular}
 
@@ -134,57 +136,82 @@ control_made net past b c start old new f p m checked is s going may one =
 
 -- ---- acts that take the control token
 
--- a token at such a place is where the noted channel leads to
-place_noted : (net : Net) (s : State) (u p v noted : ℕ) → IsChecked net → IsRegular net s → HasControl net s noted → p < control_places_in (kind_of net u) → head_at net s u p ≡ Some v → noted_place net noted u ≡ Some p
-place_noted net s u p v noted checked good control l h =
-    let held = control_held net s u p v checked good l h in
-    let end = is_at-inv (chan_at net (into u p net.chans)).to u p (into-at u p net.chans held.0.within) in
-    let there : noted_place net (into u p net.chans) u ≡ Some p =
-    ap (λ b. cond b (Some (chan_at net (into u p net.chans)).to.place) None) (both_true held.1 (eq-eqb _ _ end.0)) ∙ ap Some end.1 in
-    subst (λ d. noted_place net d u ≡ Some p) (control u p v l h) there
+-- a token at a place of a unit whose tokens are taken by acts with a place each
+record HasToken (net : Net) (s : State) (u p : ℕ) : Type 0 where
+  pub value : ℕ
+  pub within : p < control_places_in (kind_of net u)
+  pub head : head_at net s u p ≡ Some value
 
-module _ (net : Net) (s : State) (noted : ℕ) (checked : IsChecked net) (good : IsRegular net s) (control : HasControl net s noted) (u : ℕ) where
-  from_noted : (j : ℕ) → enabled net s (firing u (From j)) → noted_place net noted u ≡ Some j
-  from_noted j n =
+module _ (net : Net) (s : State) (u : ℕ) where
+  from_token : (j : ℕ) → enabled net s (firing u (From j)) → HasToken net s u j
+  from_token j n =
       let g = goes net s (firing u (From j)) n in
       let k = from_kind (kind_of net u) j (get_or s.own u idle) (at_array s.arrays (uses (kind_of net u))) (setting net s) (head_at net s u) g.0 g.1.is in
       let m = merge_inv net s u k.0 (From j) k.1 g.0 g.1.is in
       let e : j ≡ m.0 = (let q : From j ≡ From m.0 = m.1 in cc) in
       let c : control_places_in (kind_of net u) ≡ k.0 = ap control_places_in k.1 in
       let l = m.2 in
-      let h : head_at net s u j ≡ Some m.3 = ap (head_at net s u) e ∙ m.4 in
-      place_noted net s u j m.3 noted checked good control (omega arith) h
+      record { value = m.3; within = omega arith; head = ap (head_at net s u) e ∙ m.4 }
 
-  alloc_noted : (j : ℕ) → enabled net s (firing u (Alloc j)) → noted_place net noted u ≡ Some j
-  alloc_noted j n =
+  alloc_token : (j : ℕ) → enabled net s (firing u (Alloc j)) → HasToken net s u j
+  alloc_token j n =
       let g = goes net s (firing u (Alloc j)) n in
       let k = alloc_kind (kind_of net u) j (get_or s.own u idle) (at_array s.arrays (uses (kind_of net u))) (setting net s) (head_at net s u) g.0 g.1.is in
       let i = queue_inv k.depth k.ports k.groups (Alloc j) (get_or s.own u idle) (get_or s.arrays k.array []) (head_at net s u) g.0 (sym (lsq_is net u k.array k.depth k.ports k.groups k.mark k.is s (Alloc j)) ∙ g.1.is) in
       let m : j < length k.groups = group_within k.depth k.groups (get_or s.own u idle).queue j i.1 in
       let c : control_places_in (kind_of net u) ≡ suc (length k.groups) = ap control_places_in k.is in
-      place_noted net s u j i.0 noted checked good control (omega arith) i.2
+      record { value = i.0; within = omega arith; head = i.2 }
 
-  end_noted : enabled net s (firing u End) → noted_place net noted u ≡ Some (groups_in (kind_of net u))
-  end_noted n =
+  end_token : enabled net s (firing u End) → HasToken net s u (groups_in (kind_of net u))
+  end_token n =
       let g = goes net s (firing u End) n in
       let k = end_kind (kind_of net u) (get_or s.own u idle) (at_array s.arrays (uses (kind_of net u))) (setting net s) (head_at net s u) g.0 g.1.is in
       let i = queue_inv k.depth k.ports k.groups End (get_or s.own u idle) (get_or s.arrays k.array []) (head_at net s u) g.0 (sym (lsq_is net u k.array k.depth k.ports k.groups k.mark k.is s End) ∙ g.1.is) in
       let e : groups_in (kind_of net u) ≡ length k.groups = ap groups_in k.is in
       let c : control_places_in (kind_of net u) ≡ suc (length k.groups) = ap control_places_in k.is in
-      place_noted net s u (length k.groups) i.0 noted checked good control (omega arith) i.2 ∙ ap Some (sym e)
+      record { value = i.0; within = omega arith; head = ap (head_at net s u) e ∙ i.2 }
 
-  noted_by : (a : Act) (p : ℕ) → takes_at (kind_of net u) a ≡ Some p → enabled net s (firing u a) → noted_place net noted u ≡ Some p
-  noted_by Go p i n = cc
-  noted_by (From j) p i n = from_noted j n ∙ i
-  noted_by (Send j) p i n = cc
-  noted_by (Alloc j) p i n = alloc_noted j n ∙ i
-  noted_by (Addr j) p i n = cc
-  noted_by (Data j) p i n = cc
-  noted_by (Exec j) p i n = cc
-  noted_by (Reply j) p i n = cc
-  noted_by Retire p i n = cc
-  noted_by End p i n = end_noted n ∙ i
+  -- an act that takes the token at a place finds it there
+  token_by : (a : Act) (p : ℕ) → takes_at (kind_of net u) a ≡ Some p → enabled net s (firing u a) → HasToken net s u p
+  token_by Go p i n = cc
+  token_by (From j) p i n = let e : j ≡ p = cc in subst (HasToken net s u) e (from_token j n)
+  token_by (Send j) p i n = cc
+  token_by (Alloc j) p i n = let e : j ≡ p = cc in subst (HasToken net s u) e (alloc_token j n)
+  token_by (Addr j) p i n = cc
+  token_by (Data j) p i n = cc
+  token_by (Exec j) p i n = cc
+  token_by (Reply j) p i n = cc
+  token_by Retire p i n = cc
+  token_by End p i n = let e : groups_in (kind_of net u) ≡ p = cc in subst (HasToken net s u) e (end_token n)
 
--- in a cycle what takes the control token is where the noted channel leads to
-pub acts_noted : (net : Net) (past : Past) (b : Bounds) (c : ℕ) (start : Dated) (e : Engine) → IsChecked net → InCycle net past b c start e → IsNoted net (state_of e.state) e.control
-acts_noted net past b c start e checked going u p a i n = noted_by net (state_of e.state) e.control checked (going_regular net past b c start e checked going) going.control u a p i n
+-- a token at such a place is where the noted channel leads to
+place_noted : (net : Net) (s : State) (u p noted : ℕ) → IsChecked net → IsRegular net s → HasControl net s noted → HasToken net s u p → noted_place net noted u ≡ Some p
+place_noted net s u p noted checked good control t =
+    let held = control_held net s u p t.value checked good t.within t.head in
+    let end = is_at-inv (chan_at net (into u p net.chans)).to u p (into-at u p net.chans held.0.within) in
+    let there : noted_place net (into u p net.chans) u ≡ Some p =
+    ap (λ b. cond b (Some (chan_at net (into u p net.chans)).to.place) None) (both_true held.1 (eq-eqb _ _ end.0)) ∙ ap Some end.1 in
+    subst (λ d. noted_place net d u ≡ Some p) (control u p t.value t.within t.head) there
+
+-- in a cycle what takes the control token finds it on the noted channel, which leads to where it is taken
+pub keeps_control : (net : Net) (past : Past) (b : Bounds) (c : ℕ) (start : Dated) (e : Engine) → IsChecked net → InCycle net past b c start e → KeepsControl net (state_of e.state) e.control
+keeps_control net past b c start e checked going = record {
+  places = λ u p a i n. place_noted net (state_of e.state) u p e.control checked (going_regular net past b c start e checked going) going.control (token_by net (state_of e.state) u a p i n);
+  control = going.control;
+}
+
+-- an act of a kind that takes the control token takes it at a place
+taken_at : (k : Kind) (kind a : Act) → TakesControl kind → act_rank a ≡ act_rank kind → (p : ℕ) × (takes_at k a ≡ Some p)
+taken_at k (From j) a t r = (act_number a, ap (takes_at k) (act_is 1 a r))
+taken_at k (Alloc j) a t r = (act_number a, ap (takes_at k) (act_is 3 a r))
+taken_at k End a t r = (groups_in k, ap (takes_at k) (act_is 9 a r))
+taken_at k _ a t r = absurd t
+
+-- so none of them is enabled where no token is on the noted channel
+pub control_none : (net : Net) (s : State) (noted u : ℕ) (kind a : Act) → HasControl net s noted → first (tokens_at s noted) ≡ None → TakesControl kind → act_rank a ≡ act_rank kind → enabled net s (firing u a) → ⊥
+control_none net s noted u kind a control none takes r n =
+    let p = taken_at (kind_of net u) kind a takes r in
+    let t = token_by net s u a p.0 p.1 n in
+    let h : first (tokens_at s noted) ≡ Some t.value = ap (λ d. first (tokens_at s d)) (sym (control u p.0 t.value t.within t.head)) ∙ t.head in
+    let z : Some t.value ≡ None = sym h ∙ none in
+    cc

@@ -134,18 +134,22 @@ used_heads (Look p next) h e q = next_heads h (h p) (λ v. effect_of (next v) h)
 used_heads (Take p next) h e q = next_heads h (h p) (λ v. taking p (effect_of (next v) h)) next e q (λ v x. let w = untaking p (effect_of (next v) h) e x in used_heads (next v) h w.0 w.1)
 used_heads (Fires put own array strays) h e q = tt
 
-ripe_by : (net : Net) (c most : ℕ) (s : Dated) (d : ℕ) → AreDated net s → (chan_at net d).delay ≤ most → AllByRecursion (λ x. x + most ≤ c) (get_or s.dates d []) → IsSomeAnd (first (tokens_at s.state d)) (λ x. Unit {0}) → IsRipe net c s d
-ripe_by net c most s d k l r i = by (tokens_at s.state d) (get_or s.dates d []) (k.each d) r i
+-- all tokens are ripe in the cycle c
+abbrev pub AllRipe : Net → ℕ → Dated → Type 0
+AllRipe net c s = (d : ℕ) → AllByRecursion (λ x. x + (chan_at net d).delay ≤ c) (get_or s.dates d [])
+
+ripe_by : (net : Net) (c : ℕ) (s : Dated) (d : ℕ) → AreDated net s → AllByRecursion (λ x. x + (chan_at net d).delay ≤ c) (get_or s.dates d []) → IsSomeAnd (first (tokens_at s.state d)) (λ x. Unit {0}) → IsRipe net c s d
+ripe_by net c s d k r i = by (tokens_at s.state d) (get_or s.dates d []) (k.each d) r i
   where
-    by : (xs ds : List ℕ) → length ds ≡ length xs → AllByRecursion (λ x. x + most ≤ c) ds → IsSomeAnd (first xs) (λ x. Unit {0}) → IsSomeAnd (first ds) (λ x. x + (chan_at net d).delay ≤ c)
+    by : (xs ds : List ℕ) → length ds ≡ length xs → AllByRecursion (λ x. x + (chan_at net d).delay ≤ c) ds → IsSomeAnd (first xs) (λ x. Unit {0}) → IsSomeAnd (first ds) (λ x. x + (chan_at net d).delay ≤ c)
     by [] ds e r i = absurd i
     by (x ∷ xs) [] e r i = absurd (omega arith)
-    by (x ∷ xs) (y ∷ ds) e r i = let z : y + most ≤ c = r.0 in omega arith
+    by (x ∷ xs) (y ∷ ds) e r i = r.0
 
-each_ripe : (net : Net) (c most : ℕ) (s : Dated) (u : ℕ) (ps : List ℕ) → AreDated net s → ((d : ℕ) → (chan_at net d).delay ≤ most) → ((d : ℕ) → AllByRecursion (λ x. x + most ≤ c) (get_or s.dates d []))
+each_ripe : (net : Net) (c : ℕ) (s : Dated) (u : ℕ) (ps : List ℕ) → AreDated net s → AllRipe net c s
     → AllByRecursion (λ p. IsSomeAnd (head_at net s.state u p) (λ x. Unit {0})) ps → AllByRecursion (λ p. IsRipe net c s (into u p net.chans)) ps
-each_ripe net c most s u [] k l r i = tt
-each_ripe net c most s u (p ∷ ps) k l r i = (ripe_by net c most s (into u p net.chans) k (l (into u p net.chans)) (r (into u p net.chans)) i.0, each_ripe net c most s u ps k l r i.1)
+each_ripe net c s u [] k r i = tt
+each_ripe net c s u (p ∷ ps) k r i = (ripe_by net c s (into u p net.chans) k (r (into u p net.chans)) i.0, each_ripe net c s u ps k r i.1)
 
 both : (a b : Bool) → a && b ≡ true → b ≡ true
 both true true e = refl
@@ -174,13 +178,12 @@ depth_of (Lsq a d ps gs fw) End o xs h e net s q = tt
 depth_of _ act o xs h e net s q = tt
 
 -- where all tokens are ripe, what is enabled may be made
-pub ripe_may : (net : Net) (c most : ℕ) (s : Dated) (f : Firing) → AreDated net s → ((d : ℕ) → (chan_at net d).delay ≤ most) → ((d : ℕ) → AllByRecursion (λ x. x + most ≤ c) (get_or s.dates d []))
-    → enabled net s.state f → May net c s s f
-ripe_may net c most s f k l r n =
+pub ripe_may : (net : Net) (c : ℕ) (s : Dated) (f : Firing) → AreDated net s → AllRipe net c s → enabled net s.state f → May net c s s f
+ripe_may net c s f k r n =
     let w = effect_there net s.state f n in
     record {
       turn = n;
-      ripe = each_ripe net c most s f.unit (used net s.state f) k l r
+      ripe = each_ripe net c s f.unit (used net s.state f) k r
           (used_heads (row (kind_of net f.unit) f.act (get_or s.state.own f.unit idle) (at_array s.state.arrays (uses (kind_of net f.unit))) (setting net s.state)) (head_at net s.state f.unit) w.0 w.1);
       room = n;
       depth = depth_of (kind_of net f.unit) f.act (get_or s.state.own f.unit idle) (at_array s.state.arrays (uses (kind_of net f.unit))) (head_at net s.state f.unit) w.0 net s.state w.1;

@@ -1,31 +1,29 @@
 -- Turns of units that are no queues: what a planned firing moves, and what a turn of each kind begins and ends with.
-use Rattle.std.proofs.Common.{◌≡◌, ◌≢◌, ℕ, ◌<◌, true, false, Some, None, List, length, get_or, refl, sym, ap, subst, ◌∙◌, arith}
+use Rattle.std.proofs.Common.{◌≡◌, ℕ, ◌<◌, true, false, None, length, refl, sym, ap, subst, ◌∙◌, arith}
 use Rattle.std.specs.List.{AllByRecursion}
 use Rattle.net_types.specs.declared.net.Net.{Net}
 use Rattle.net_types.specs.declared.net.Unit.{Unit as Kind}
 use Rattle.net_types.specs.declared.net.Unit.TheVariants.{Entry, Param, Const, Op1, Op2, Select, Fork, Mux, Cmerge, Branch, Sink, Read, Lsq, Exit}
 use Rattle.net_types.specs.declared.firing.Act.{Act}
 use Rattle.net_types.specs.declared.firing.Act.TheVariants.{Go, From}
-use Rattle.net_types.specs.Nets.{into, kind_of, uses, chan_at, firing}
+use Rattle.net_types.specs.Nets.{into, kind_of, chan_at, firing}
 use Rattle.net_types.specs.Order.{act_rank, act_number}
-use Rattle.net_core.specs.Fire.{State, idle, at_array, setting, head_at, tokens_at, first, enabled}
+use Rattle.net_core.specs.Fire.{State, tokens_at, first, enabled}
 use Rattle.net_core.specs.declared.plan.Moves.{Moves}
 use Rattle.net_core.specs.declared.plan.Plan.{Plan}
 use Rattle.net_core.specs.declared.plan.Takes.{Takes}
 use Rattle.net_core.specs.declared.plan.Takes.TheVariants.{None as no_place, One, Two, Three}
 use Rattle.net_core.specs.Plans.{chans_of, taken_of, moves_of}
 use Rattle.net_core.specs.Uses.{is_fork}
-use Rattle.net_check.proofs.MarkLemmas.{default}
 use Rattle.net_core.proofs.ApartLemmas.{into-at, is_at-inv}
-use Rattle.net_core.proofs.GoesLemmas.{goes}
-use Rattle.net_core.proofs.ActLemmas.{merge_inv, from_kind}
 use Rattle.lsq_core.specs.Laws.{act_place}
 use Rattle.cycle_engine.specs.declared.marks.Marks.{Marks}
-use Rattle.cycle_engine.specs.private.Control.{HasControl, control_places_in}
+use Rattle.cycle_engine.specs.private.Control.{HasControl}
 use Rattle.cycle_engine.specs.private.Marking.{AreInto, IsMergeMarked, IsPutMarked, IsRoused, is_merge}
 use Rattle.cycle_engine.specs.private.Places.{IsNextAct}
 use Rattle.cycle_engine.specs.private.Trials.{HadDepth}
-use Rattle.cycle_engine.proofs.PlaceLemmas.{act_is, go_is}
+use Rattle.cycle_engine.proofs.ControlLemmas.{control_none}
+use Rattle.cycle_engine.proofs.PlaceLemmas.{go_is}
 
 -- ---- what a planned firing moves
 
@@ -74,24 +72,9 @@ go_below a r = let z : act_number (act_place a) ≡ 0 = ap act_number (go_is a r
 
 -- ---- the acts of a control merge
 
--- an act that takes a token finds it on the channel that is noted
-from_head : (net : Net) (s : State) (u j noted : ℕ) → HasControl net s noted → enabled net s (firing u (From j)) → first (tokens_at s noted) ≢ None
-from_head net s u j noted control n none =
-    let g = goes net s (firing u (From j)) n in
-    let k = from_kind (kind_of net u) j (get_or s.own u idle) (at_array s.arrays (uses (kind_of net u))) (setting net s) (head_at net s u) g.0 g.1.is in
-    let m = merge_inv net s u k.0 (From j) k.1 g.0 g.1.is in
-    let c : control_places_in (kind_of net u) ≡ k.0 = ap control_places_in k.1 in
-    let l = m.2 in
-    let i : into u m.0 net.chans ≡ noted = control u m.0 m.3 (omega arith) m.4 in
-    let h : first (tokens_at s noted) ≡ Some m.3 = ap (λ d. first (tokens_at s d)) (sym i) ∙ m.4 in
-    let z : Some m.3 ≡ None = sym h ∙ none in
-    cc
-
--- so none is enabled where no token is there
+-- none is enabled where no token is on the channel that is noted
 pub from_none : (net : Net) (s : State) (u noted : ℕ) (a : Act) → HasControl net s noted → first (tokens_at s noted) ≡ None → enabled net s (firing u a) → act_rank a ≡ 1 → ⊥
-from_none net s u noted a control none n r =
-    let N : Act → Type 0 = λ x. enabled net s (firing u x) in
-    from_head net s u (act_number a) noted control (subst N (act_is 1 a r) n) none
+from_none net s u noted a control none n r = control_none net s noted u (From 0) a control none tt r n
 
 pub merge_plain : (k : Kind) → is_merge k ≡ true → is_fork k ≡ false
 merge_plain (Fork w outs) e = cc
@@ -108,8 +91,3 @@ merge_plain (Sink w) e = refl
 merge_plain (Read a) e = refl
 merge_plain (Lsq a d ps gs f) e = refl
 merge_plain Exit e = refl
-
--- ---- a unit that was looked up
-
-pub looked_up : (net : Net) (us : List Kind) (u : ℕ) (k l : Kind) → us ≡ net.units → u < length us → k ≡ get_or us u k → k ≡ l → kind_of net u ≡ l
-looked_up net us u k l same w is e = ap (λ xs. get_or xs u (Sink 0)) (sym same) ∙ (default us u (Sink 0) k w ∙ (sym is ∙ e))

@@ -1,5 +1,6 @@
 -- Marks, and lists of units that are marked.
-use Rattle.std.proofs.Common.{◌≡◌, ◌≢◌, ℕ, suc, zero, ◌<◌, ◌≤◌, ◌⊎◌, inl, inr, Bool, true, false, Option, Some, None, MatchOption, List, [], ◌∷◌, ◌++◌, length, get_or, set, refl, sym, ap, subst, ◌∙◌, arith, length-append, length-set, get_or-set_same, get_or-set_other}
+use Rattle.std.proofs.Common.{◌≡◌, ◌≢◌, ℕ, suc, zero, not, eqb, eqb-true, ◌<◌, ◌≤◌, ◌⊎◌, inl, inr, Bool, true, false, Option, Some, None, MatchOption, Result, Ok, Err, OnOk, Bor, List, [], ◌∷◌, ◌++◌, length, get_or, set, refl, sym, ap, subst, ◌∙◌, arith, length-append, length-set, get_or-set_same, get_or-set_other}
+use Rattle.std.specs.Option.{option_eq}
 use Rattle.std.specs.List.{AllByRecursion}
 use Rattle.std.proofs.lemmas.Bool.{cases_eq, cases_lt}
 use Rattle.std.specs.List.Sorted.{IsPermutation}
@@ -7,12 +8,17 @@ use Rattle.std.proofs.lemmas.List.{get_or_append_left, get_or_default}
 use Rattle.std.proofs.lemmas.List.Elements.{at_from_Contains}
 use Rattle.std.proofs.lemmas.List.Sorted.{Contains-permutation}
 use Rattle.net_types.specs.declared.net.Net.{Net}
+use Rattle.net_types.specs.declared.net.Port.{Port}
+use Rattle.net_types.specs.declared.net.Unit.{Unit as Kind}
+use Rattle.net_types.specs.declared.net.Unit.TheVariants.{Lsq}
 use Rattle.net_types.specs.Nets.{kind_of, chan_at}
 use Rattle.net_check.specs.Ends.{is_lsq}
 use Rattle.net_core.specs.Fire.{State}
 use Rattle.net_core.specs.declared.plan.Laid.{Laid}
+use Rattle.net_core.proofs.ActLemmas.{kind_within}
 use Rattle.cycle_engine.specs.declared.marks.Marks.{Marks}
-use Rattle.cycle_engine.specs.private.Marking.{Holds, IsMarked, IsListed, KeepsMarks, IsSourceMarked, IsMergeMarked, IsTargetMarked, IsPutMarked, IsTaken, IsEmptied, IsReordered}
+use Rattle.cycle_engine.specs.declared.marks.Turn.{Turn}
+use Rattle.cycle_engine.specs.private.Marking.{Holds, IsMarked, IsListed, KeepsMarks, IsSourceMarked, IsMergeMarked, IsTargetMarked, IsPutMarked, IsTaken, IsTurnKind, IsEmptied, IsReordered}
 
 -- ---- lists
 
@@ -43,6 +49,15 @@ holds_none x h = let w = h.within in omega arith
 
 pub none_held : (xs : List ℕ) (x : ℕ) → xs ≡ [] → Holds x xs → ⊥
 none_held xs x e h = holds_none x (subst (Holds x) e h)
+
+-- what is no other than a number is that number
+pub same_some : (o : Option ℕ) (u : ℕ) → false ≡ not (option_eq eqb o (Some u)) → o ≡ Some u
+same_some None u e = cc
+same_some (Some v) u e = by (eqb v u) refl
+  where
+    by : (b : Bool) → eqb v u ≡ b → Some v ≡ Some u
+    by true q = ap Some (eqb-true v u q)
+    by false q = let z : false ≡ true = e ∙ ap not q in cc
 
 -- ---- marks
 
@@ -122,6 +137,11 @@ held_left xs ys u v l n h = by (holds_snoc ys u v (subst (Holds v) l h))
     by (inl k) = k
     by (inr z) = absurd (n z)
 
+-- what is told apart from all queues is none
+pub other_kind : (k : Kind) → ((a d : ℕ) (ps : List Port) (gs : List (List ℕ)) (fw : Bool) → k ≡ Lsq a d ps gs fw → ⊥) → is_lsq k ≡ false
+other_kind (Lsq a d ps gs fw) n = absurd (n a d ps gs fw refl)
+other_kind k n = refl
+
 -- the next number of the list was taken, and its mark
 pub taken_marked : (net : Net) (old new : Marks) (u : ℕ) → old.list.items ≡ new.list.items ++ u ∷ [] → new.queues ≡ old.queues → new.marked.items ≡ set old.marked.items u false → is_lsq (kind_of net u) ≡ false → IsTaken net old new u
 taken_marked net old new u l g e q = record {
@@ -173,6 +193,9 @@ marked_queue net m u listed none k = by (listed u k)
     by (inl h) = absurd (none_held m.list.items u none h)
     by (inr h) = h
 
+pub queue_within : (net : Net) (u : ℕ) → is_lsq (kind_of net u) ≡ true → u < length net.units
+queue_within net u q = kind_within net u (λ e. (let z : false ≡ true = sym (ap is_lsq e) ∙ q in cc))
+
 -- ---- marks at the ends of channels, as more are marked
 
 pub source_more : (net : Net) (s : State) (n : ℕ) (a b : Marks) (d : ℕ) → KeepsMarks a b → IsSourceMarked net s n a d → IsSourceMarked net s n b d
@@ -193,12 +216,16 @@ emptied_listed net old new e h u m =
     held net old new u (λ k. absurd (none_held old.list.items u e.before k)) (subst (Holds u) (ap (λ (v : _). v.items) (sym e.queues))) (h u (ap (λ (v : _). get_or v.items u false) (sym e.same) ∙ m))
 
 -- what was taken, where a unit was or none was
-pub taken_none : (net : Net) (old new : Marks) (o : Option ℕ) → o ≡ None → MatchOption o (IsEmptied old new) (IsTaken net old new) → IsEmptied old new
+pub taken_none : (net : Net) (old new : Marks) (o : Option Turn) → o ≡ None → MatchOption o (IsEmptied old new) (λ t. IsTaken net old new t.unit × IsTurnKind net t) → IsEmptied old new
 taken_none net old new None e h = h
-taken_none net old new (Some u) e h = cc
+taken_none net old new (Some t) e h = cc
 
-pub taken_some : (net : Net) (old new : Marks) (o : Option ℕ) (u : ℕ) → o ≡ Some u → MatchOption o (IsEmptied old new) (IsTaken net old new) → IsTaken net old new u
-taken_some net old new o u e h = let P : Option ℕ → Type 0 = λ x. MatchOption x (IsEmptied old new) (IsTaken net old new) in subst P e h
+pub taken_some : (net : Net) (old new : Marks) (o : Option Turn) (t : Turn) → o ≡ Some t → MatchOption o (IsEmptied old new) (λ t. IsTaken net old new t.unit × IsTurnKind net t) → IsTaken net old new t.unit × IsTurnKind net t
+taken_some net old new o t e h = let P : Option Turn → Type 0 = λ x. MatchOption x (IsEmptied old new) (λ y. IsTaken net old new y.unit × IsTurnKind net y) in subst P e h
+
+-- where no kind is told, the number is past the units
+pub no_kind : (net : Net) (t : Turn) → t.kind ≡ None → IsTurnKind net t → length net.units ≤ t.unit
+no_kind net t e h = let P : Option (Bor Kind) → Type 0 = λ o. MatchOption o (length net.units ≤ t.unit) (λ k. (t.unit < length net.units) × (k.now ≡ kind_of net t.unit)) in subst P e h
 
 -- ---- merges
 
@@ -208,6 +235,12 @@ merge_more net m n a b d e k h l q x = k.kept (chan_at net d).from.unit (h l q (
 pub merges_more : (net : Net) (m n : ℕ) (a b : Marks) (ds : List ℕ) → m ≡ n → KeepsMarks a b → AllByRecursion (IsMergeMarked net m a) ds → AllByRecursion (IsMergeMarked net n b) ds
 merges_more net m n a b [] e k h = tt
 merges_more net m n a b (d ∷ ds) e k h = (merge_more net m n a b d e k h.0, merges_more net m n a b ds e k h.1)
+
+-- one more merge was marked before those of the others
+pub merges_then : {T E : Type 0} (r : Result T E) (net : Net) (a b c : Marks) (d : ℕ) (ds : List ℕ) → KeepsMarks a b → IsMergeMarked net (length a.marked.items) b d → OnOk r (KeepsMarks b c)
+    → OnOk r (AllByRecursion (IsMergeMarked net (length b.marked.items) c) ds) → OnOk r (AllByRecursion (IsMergeMarked net (length a.marked.items) c) (d ∷ ds))
+merges_then (Ok v) net a b c d ds k h l m = (merge_more net _ _ b c d refl l h, merges_more net _ _ c c ds k.long (keeps_same c) m)
+merges_then (Err e) net a b c d ds k h l m = tt
 
 pub put_as : (net : Net) (laid : Option Laid) (m n : ℕ) (a : Marks) → m ≡ n → IsPutMarked net laid m a → IsPutMarked net laid n a
 put_as net None m n a e h = tt

@@ -21,7 +21,7 @@ use Rattle.cycle_engine.specs.private.Marking.{Holds, HasUnit, no_firing, IsMark
 use Rattle.cycle_engine.specs.private.Goings.{Past, IsReady, HasDone, IsStirred, IsWatching, AreComing}
 use Rattle.cycle_engine.specs.private.Places.{IsFull}
 use Rattle.cycle_engine.specs.Rousing.{Could}
-use Rattle.cycle_engine.proofs.BeforeLemmas.{after_of, may_could}
+use Rattle.cycle_engine.proofs.BeforeLemmas.{some_within, after_of, may_could}
 use Rattle.cycle_engine.proofs.RousingLemmas.{slots_within, next_could}
 use Rattle.cycle_engine.proofs.DateLemmas.{each_as, effect_there}
 use Rattle.cycle_engine.proofs.PlaceLemmas.{fires_within, starved_quiet}
@@ -57,11 +57,6 @@ has_unit_or (f ∷ fs) u = by (cases_eq f.unit u) (has_unit_or fs u)
         none : (i : ℕ) → i < length (f ∷ fs) → (get_or (f ∷ fs) i no_firing).unit ≡ u → ⊥
         none zero l z = e z
         none (suc i) l z = k (record { at = i; within = omega arith; is = z })
-
-some_within : (xss : List (List ℕ)) (k : ℕ) (Q : ℕ → Type 0) → IsSomeAnd (first (get_or xss k [])) Q → k < length xss
-some_within [] k Q i = absurd i
-some_within (y ∷ xss) zero Q i = omega arith
-some_within (y ∷ xss) (suc k) Q i = let h = some_within xss k Q i in omega arith
 
 -- a unit that is not to be marked as the next cycle begins may not fire in it
 module _ (net : Net) (past : Past) (b : Bounds) (c : ℕ) (start : Dated) (e : Engine) (eng : IsEngine net e) (f : IsFull net past b c start e) where

@@ -1,8 +1,6 @@
 -- What is noted of a firing, and what is known from it.
-use Rattle.std.proofs.Common.{◌≡◌, ◌≢◌, ℕ, suc, zero, ◌+◌, ◌%◌, ◌<◌, ◌≤◌, ◌⊎◌, ◌==◌, ◌||◌, inl, inr, nat_lt, Bool, true, false, cond, Option, Some, None, List, [], ◌∷◌, ◌++◌, length, map, get_or, set, refl, sym, ap, subst, ◌∙◌, arith, IfSome, length-set, get_or-set_same, get_or-set_other, eqb-true}
+use Rattle.std.proofs.Common.{◌≡◌, ◌≢◌, ℕ, suc, zero, ◌+◌, ◌-◌, ◌%◌, ◌<◌, ◌≤◌, ◌⊎◌, ◌==◌, ◌||◌, inl, inr, nat_lt, Bool, true, false, cond, Option, Some, None, List, [], ◌∷◌, ◌++◌, length, map, get_or, set, refl, sym, ap, subst, ◌∙◌, arith, IfSome, length-set, get_or-set_same, get_or-set_other, eqb-true}
 use Rattle.std.specs.List.{AllByRecursion}
-use Rattle.std.specs.declared.vec.Vec.{Vec}
-use Rattle.std.specs.declared.alloc.Global.{Global}
 use Rattle.std.proofs.lemmas.Bool.{cases_eq, cases_lt, lt-ltb}
 use Rattle.std.proofs.lemmas.List.{get_or_past, length-map}
 use Rattle.net_types.specs.declared.net.Net.{Net}
@@ -21,6 +19,7 @@ use Rattle.cycle_engine.specs.declared.notes.Notes.{Notes}
 use Rattle.cycle_engine.specs.Cycles.{Dated, dated, after_by, after_in}
 use Rattle.cycle_engine.specs.private.Trials.{dated_of, IsEngine}
 use Rattle.cycle_engine.specs.private.Marking.{Holds, cell, lists_of, cells_of, cells_with, IsNoted}
+use Rattle.cycle_engine.specs.private.Stacks.{Stacked}
 use Rattle.cycle_engine.specs.private.Goings.{AreComing}
 use Rattle.cycle_engine.proofs.BeforeLemmas.{after_of, dated_put}
 use Rattle.cycle_engine.proofs.DateLemmas.{each_as, each_taken, each_added}
@@ -73,10 +72,23 @@ comes_with net d c xs long p = by (nat_lt 0 (chan_at net d).delay) refl
     by false e = let z : true ≡ false = sym (lt-ltb 0 (chan_at net d).delay p) ∙ e in cc
 
 -- the list of a cell
-pub list_at : (xs : List (Vec ℕ Global)) (i : ℕ) (v : Vec ℕ Global) → i < length xs → v ≡ get_or xs i v → v.items ≡ get_or (lists_of xs) i []
+pub list_at : (xs : List (Stacked ℕ)) (i : ℕ) (v : Stacked ℕ) → i < length xs → v ≡ get_or xs i v → v.items ≡ get_or (lists_of xs) i []
 list_at [] i v l e = absurd (omega arith)
-list_at (x ∷ xs) zero v l e = ap (λ (y : Vec ℕ Global). y.items) e
+list_at (x ∷ xs) zero v l e = ap (λ (y : Stacked ℕ). y.items) e
 list_at (x ∷ xs) (suc i) v l e = list_at xs i v (omega arith) e
+
+-- where each cell from one on is empty, so many in all, each is
+pub none_noted : (n : Notes) (first : ℕ) → length n.coming.items ≡ 1024 → first < 1024 → ((a : ℕ) → a < 1024 → cell n ((first + a) % 1024) ≡ []) → (k : ℕ) → cell n k ≡ []
+none_noted n first long l empty k = by (cases_lt k 1024)
+  where
+    by : (k < 1024) ⊎ (1024 ≤ k) → cell n k ≡ []
+    by (inl w) =
+        let w' : k < 1024 = w in
+        let a : ℕ = (k + (1024 - first)) % 1024 in
+        let e : (first + (k + (1024 - first)) % 1024) % 1024 ≡ k = omega arith in
+        let P : ℕ → Type 0 = λ i. cell n i ≡ [] in
+        subst P e (empty ((k + (1024 - first)) % 1024) (omega arith))
+    by (inr w) = let w' : 1024 ≤ k = w in let e = length-map n.coming.items (λ (v : Stacked ℕ). v.items) in get_or_past (cells_of n) k [] (omega arith)
 
 -- a firing that puts a token on a channel
 pub noted_some : (net : Net) (laid : Option Laid) (w : Laid) (c : ℕ) (old new : Notes) → laid ≡ Some w → length old.coming.items ≡ 1024 → cells_of new ≡ cells_with net w.chan c (cells_of old) → IsNoted net laid c old new

@@ -24,7 +24,7 @@ use Rattle.net_core.proofs.ForkLemmas.{fork_is, send_inv}
 use Rattle.net_core.proofs.ActLemmas.{merge_inv, from_kind, alloc_kind}
 use Rattle.net_core.proofs.QueueActLemmas.{queue_inv, lsq_is, group_within}
 use Rattle.lsq_core.specs.Laws.{act_place}
-use Rattle.cycle_engine.specs.private.Places.{HasView, HasNoneFrom, IsNextNumber, IsNoted, IsViewOf, takes_at, count_in, inputs_in, outputs_in, ports_in, first_of}
+use Rattle.cycle_engine.specs.private.Places.{HasView, HasNoneFrom, IsNextNumber, IsNoted, IsViewOf, TakesControl, takes_at, count_in, inputs_in, outputs_in, ports_in, first_of}
 use Rattle.cycle_engine.specs.declared.engine.Engine.{Engine}
 use Rattle.cycle_engine.specs.declared.trial.Planned.{Planned}
 use Rattle.cycle_engine.specs.private.Trials.{IsEngine, IsPlanned}
@@ -224,23 +224,6 @@ first_rank net s u b l n =
     let g = goes net s (firing u b) n in
     first_kind (kind_of net u) b (get_or s.own u idle) (at_array s.arrays (uses (kind_of net u))) (setting net s) (head_at net s u) g.0 l g.1.is
 
--- the kind of act of a unit that is no queue, by the first of them
-pub first_send : (k : Kind) (i : ℕ) → first_of k ≡ Send i → Send 0 ≡ first_of k
-first_send Entry i e = cc
-first_send (Param j) i e = cc
-first_send (Const w n) i e = cc
-first_send (Op1 op) i e = cc
-first_send (Op2 op) i e = cc
-first_send (Select w) i e = cc
-first_send (Fork w outs) i e = refl
-first_send (Mux w ins) i e = cc
-first_send (Cmerge ins) i e = cc
-first_send (Branch w) i e = cc
-first_send (Sink w) i e = cc
-first_send (Read a) i e = cc
-first_send (Lsq a d ps gs f) i e = cc
-first_send Exit i e = cc
-
 queue_kind : (k : Kind) (b : Act) (o : Own) (xs : List ℕ) (ss : Setting) (h : ℕ → Option ℕ) (e : Effect) → is_lsq k ≡ true → effect_of (row k b o xs ss) h ≡ Some e → 3 ≤ act_rank b
 unfolding row
 queue_kind (Lsq a d ps gs fw) Go o xs ss h e l q = cc
@@ -405,7 +388,7 @@ module _ (net : Net) (s : State) (noted u : ℕ) (on : IsNoted net s noted) (kin
       let m : act_number (act_place b) ≡ act_number b = ap (λ x. act_number (act_place x)) e ∙ number (act_number b) in
       on u (act_number b) b (ap (takes_at (kind_of net u)) e ∙ takes (act_number b)) n ∙ ap Some (sym m)
 
-  pub told_control_place : (from : ℕ) (o : Option ℕ) → o ≡ place_from (noted_place net noted u) from → MatchOption o (HasNoneFrom net s u kind from) (IsNextNumber net s u kind from)
+  told_control_place : (from : ℕ) (o : Option ℕ) → o ≡ place_from (noted_place net noted u) from → MatchOption o (HasNoneFrom net s u kind from) (IsNextNumber net s u kind from)
   told_control_place from o told = rw told (by (noted_place net noted u) refl)
     where
       by : (c : Option ℕ) → noted_place net noted u ≡ c → MatchOption (place_from c from) (HasNoneFrom net s u kind from) (IsNextNumber net s u kind from)
@@ -418,6 +401,14 @@ module _ (net : Net) (s : State) (noted u : ℕ) (on : IsNoted net s noted) (kin
           at : (p < from) ⊎ (from ≤ p) → MatchOption (place_from (Some p) from) (HasNoneFrom net s u kind from) (IsNextNumber net s u kind from)
           at (inl l) = let e : nat_le from p ≡ false = lt-leb from p l in rw e (λ b r f n. (let k = same b r n in absurd (omega arith)))
           at (inr l) = let e : nat_le from p ≡ true = le-leb from p l in rw e (record { from_on = l; none = λ b r f h n. (let k = same b r n in absurd (omega arith)) })
+
+-- so for each kind of acts that takes the control token but the end
+pub told_control : (net : Net) (s : State) (noted u : ℕ) → IsNoted net s noted → (from : ℕ) (o : Option ℕ) → o ≡ place_from (noted_place net noted u) from → (kind : Act) → TakesControl kind → kind ≢ End
+    → MatchOption o (HasNoneFrom net s u kind from) (IsNextNumber net s u kind from)
+told_control net s noted u on from o told (From j) takes other = told_control_place net s noted u on (From j) From (act_is 1) (λ n. refl) (λ n. refl) from o told
+told_control net s noted u on from o told (Alloc j) takes other = told_control_place net s noted u on (Alloc j) Alloc (act_is 3) (λ n. refl) (λ n. refl) from o told
+told_control net s noted u on from o told End takes other = absurd (other refl)
+told_control net s noted u on from o told _ takes other = absurd takes
 
 pub told_end : (net : Net) (s : State) (noted u : ℕ) → IsNoted net s noted → (from end : ℕ) (o : Option ℕ) → end ≡ groups_in (kind_of net u) → o ≡ end_from (noted_place net noted u) end from
     → MatchOption o (HasNoneFrom net s u End from) (IsNextNumber net s u End from)

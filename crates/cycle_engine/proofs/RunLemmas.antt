@@ -1,7 +1,7 @@
 -- Lists of cycles with one more, and without those at the end that have no firing.
-use Rattle.std.proofs.Common.{◌≡◌, ◌≢◌, ℕ, suc, ◌+◌, ◌-◌, ◌*◌, ◌<◌, ◌≤◌, ◌⊎◌, inl, inr, Bool, true, false, cond, nat_le, nat_lt, List, [], ◌∷◌, ◌++◌, length, get_or, refl, sym, ap, subst, ◌∙◌, arith, length-append, append_assoc}
+use Rattle.std.proofs.Common.{◌≡◌, ◌≢◌, ℕ, suc, ◌+◌, ◌-◌, ◌*◌, ◌%◌, ◌<◌, ◌≤◌, ◌⊎◌, inl, inr, Bool, true, false, cond, nat_lt, List, [], ◌∷◌, ◌++◌, length, get_or, refl, sym, ap, subst, ◌∙◌, arith, length-append, append_assoc}
 use Rattle.std.specs.List.{AllByRecursion}
-use Rattle.std.proofs.lemmas.Bool.{cases_lt, lt-ltb, leb-true, leb-false}
+use Rattle.std.proofs.lemmas.Bool.{cases_lt, lt-ltb}
 use Rattle.std.proofs.lemmas.List.{append-nil}
 use Rattle.std.proofs.Math.Nat.{mul-le-mul_right}
 use Rattle.el_base.specs.Limits.{max_delay}
@@ -13,9 +13,9 @@ use Rattle.net_types.specs.Nets.{chan_at, nowhere}
 use Rattle.net_check.specs.Checks.{IsChecked}
 use Rattle.net_core.specs.Fire.{enabled}
 use Rattle.net_core.specs.Runs.{AtRest}
-use Rattle.net_core.specs.States.{state_of}
-use Rattle.net_replay.specs.declared.fault.RunFault.{RunFault}
-use Rattle.net_replay.specs.declared.fault.RunFault.TheVariants as fault
+use Rattle.net_core.specs.States.{state_of, dates_of}
+use Rattle.cycle_engine.specs.declared.broken.Broken.{Broken}
+use Rattle.cycle_engine.specs.declared.broken.Broken.TheVariants as broken
 use Rattle.cycle_engine.specs.declared.engine.Engine.{Engine}
 use Rattle.cycle_engine.specs.declared.engine.Bounds.{Bounds}
 use Rattle.cycle_engine.specs.declared.runs.Timed.{Timed}
@@ -23,11 +23,12 @@ use Rattle.cycle_engine.specs.Cycles.{Dated, dated_opening, Cycle, Cycles, AreDa
 use Rattle.cycle_engine.specs.Bounds.{firing_count, EndsFiring}
 use Rattle.cycle_engine.specs.Cuts.{joined}
 use Rattle.cycle_engine.specs.Timings.{IsTimed, HasFewCycles, IsTimingFault}
+use Rattle.cycle_engine.specs.private.Marking.{Holds, cell}
 use Rattle.cycle_engine.specs.private.Trials.{dated_of, IsEngine}
-use Rattle.cycle_engine.specs.private.Goings.{Past, IsReady, HasDone, IsBroken, all_made}
+use Rattle.cycle_engine.specs.private.Goings.{Past, IsReady, AreComing, HasNoneComing, HasDone, IsBroken, fault_of, all_made}
 use Rattle.cycle_engine.specs.private.Places.{IsFull, IsCycled, kept_before, trimmed, HasRun}
-use Rattle.cycle_engine.proofs.DateLemmas.{AllBy, each_as, makes_dates}
-use Rattle.cycle_engine.proofs.BoundLemmas.{RipeFrom, empty_rests, cycles_bound}
+use Rattle.cycle_engine.proofs.DateLemmas.{AllBy, AllRipe, each_as, makes_dates}
+use Rattle.cycle_engine.proofs.BoundLemmas.{RipeFrom, from_ripe, empty_rests, cycles_bound}
 use Rattle.cycle_engine.proofs.StartLemmas.{opening_are}
 use Rattle.cycle_engine.proofs.TurnLemmas.{no_dates}
 use Rattle.cycle_engine.proofs.NextLemmas.{entries_now, next_quiet}
@@ -183,19 +184,34 @@ delay_most net checked d = by (cases_lt d (length net.chans))
 opening_below : (net : Net) (inputs : Inputs) → AllBelow 0 (dated_opening net inputs)
 opening_below net inputs d = let P : List ℕ → Type 0 = AllByRecursion (λ x. x < 0) in subst P (sym (no_dates net inputs d)) tt
 
--- an empty cycle so late that all tokens are ripe leaves the state at rest
-late_rests : (net : Net) (inputs : Inputs) (fss : List (List Firing)) (t : Dated) → IsChecked net → Cycles net 0 (dated_opening net inputs) (fss ++ [] ∷ []) t → length (trimmed fss) + max_delay ≤ length fss → (f : Firing) → enabled net t.state f → ⊥
-late_rests net inputs fss t checked y l f n =
+-- an empty cycle in which all tokens are ripe leaves the state at rest
+ripe_rests : (net : Net) (inputs : Inputs) (fss : List (List Firing)) (t : Dated) → Cycles net 0 (dated_opening net inputs) (fss ++ [] ∷ []) t → AllRipe net (length fss) t → (f : Firing) → enabled net t.state f → ⊥
+ripe_rests net inputs fss t y ripe f n =
     let w = cycles_split net 0 (dated_opening net inputs) fss [] t y in
-    let m : Dated = w.0 in
-    let below : AllBelow (last_end 0 0 (trimmed fss)) w.0 = below_end net 0 0 (dated_opening net inputs) fss w.0 (omega arith) (opening_are net inputs) (opening_below net inputs) w.1 in
-    let e : last_end 0 0 (trimmed fss) ≡ length (trimmed fss) = end_is (trimmed fss) in
-    let ripe : RipeFrom max_delay (length fss) w.0 = λ d. each_as (λ x. x < last_end 0 0 (trimmed fss)) (λ x. x + max_delay ≤ length fss) (λ x z. omega arith) (get_or w.0.dates d []) (below d) in
     let k : AreDated net w.0 = Rattle.cycle_engine.proofs.TurnLemmas.cycles_dated net 0 (dated_opening net inputs) fss w.0 w.1 (opening_are net inputs) (Rattle.cycle_engine.proofs.TurnLemmas.opening_by net inputs 0) in
     let P : Dated → Type 0 = λ x. enabled net x.state f in
     let Q : ℕ → Type 0 = λ n. Cycle net n w.0 [] t in
+    let R : Dated → Type 0 = AllRipe net (length fss) in
     let z : 0 + length fss ≡ length fss = omega arith in
-    empty_rests net (length fss) max_delay w.0 t (delay_most net checked) k ripe (subst Q z w.2) f (subst P (sym w.2.makes) n)
+    empty_rests net (length fss) w.0 t k (subst R (sym w.2.makes) ripe) (subst Q z w.2) f (subst P (sym w.2.makes) n)
+
+-- all tokens are ripe in an empty cycle so late
+late_ripe : (net : Net) (inputs : Inputs) (fss : List (List Firing)) (t : Dated) → IsChecked net → Cycles net 0 (dated_opening net inputs) (fss ++ [] ∷ []) t → length (trimmed fss) + max_delay ≤ length fss → AllRipe net (length fss) t
+late_ripe net inputs fss t checked y l =
+    let w = cycles_split net 0 (dated_opening net inputs) fss [] t y in
+    let below : AllBelow (last_end 0 0 (trimmed fss)) w.0 = below_end net 0 0 (dated_opening net inputs) fss w.0 (omega arith) (opening_are net inputs) (opening_below net inputs) w.1 in
+    let e : last_end 0 0 (trimmed fss) ≡ length (trimmed fss) = end_is (trimmed fss) in
+    let ripe : RipeFrom max_delay (length fss) w.0 = λ d. each_as (λ x. x < last_end 0 0 (trimmed fss)) (λ x. x + max_delay ≤ length fss) (λ x z. omega arith) (get_or w.0.dates d []) (below d) in
+    let R : Dated → Type 0 = AllRipe net (length fss) in
+    subst R w.2.makes (from_ripe net (length fss) max_delay w.0 (delay_most net checked) ripe)
+
+-- all tokens are ripe in the cycle c where none is noted that is to ripen later
+spent_ripe : (net : Net) (c : ℕ) (e : Engine) → AreComing net (c + 1) e → HasNoneComing e → AllRipe net c (dated_of e)
+spent_ripe net c e coming none d = each_as (λ x. (x < c + 1) × (c + 1 ≤ x + (chan_at net d).delay → Holds d (cell e.notes ((x + (chan_at net d).delay) % 1024)))) (λ x. x + (chan_at net d).delay ≤ c) (λ x k. at x k.1 (cases_lt c (x + (chan_at net d).delay))) (get_or (dates_of e.state) d []) (coming d)
+  where
+    at : (x : ℕ) → (c + 1 ≤ x + (chan_at net d).delay → Holds d (cell e.notes ((x + (chan_at net d).delay) % 1024))) → (c < x + (chan_at net d).delay) ⊎ (x + (chan_at net d).delay ≤ c) → x + (chan_at net d).delay ≤ c
+    at x k (inr l) = l
+    at x k (inl l) = let P : List ℕ → Type 0 = Holds d in let h : Holds d [] = subst P (none ((x + (chan_at net d).delay) % 1024)) (k (let l' : c < x + (chan_at net d).delay = l in omega arith)) in let w : h.at < 0 = h.within in absurd (omega arith)
 
 -- ---- numbers
 
@@ -233,7 +249,8 @@ pub run_first : (net : Net) (inputs : Inputs) (b : Bounds) (e : Engine) → IsRe
 run_first net inputs b e r d = record { cycles = []; ready = r; done = d; number = refl; near = λ z. omega arith; rest = λ z. cc; few = omega arith }
 
 module _ (net : Net) (inputs : Inputs) (b : Bounds) (old new : Engine) (cycle last : ℕ) (did going : Bool) (checked : IsChecked net) (run : HasRun net inputs b old cycle last true) (ready : IsReady net b new)
-    (cycled : IsCycled net (record { inputs = inputs; cycles = run.cycles }) b cycle new did) (goes : going ≡ nat_le (cycle + 1 - cond did (cycle + 1) last) max_delay) where
+    (cycled : IsCycled net (record { inputs = inputs; cycles = run.cycles }) b cycle new did) (near : going ≡ true → cycle + 1 ≤ cond did (cycle + 1) last + max_delay)
+    (spent : going ≡ false → (max_delay < cycle + 1 - cond did (cycle + 1) last) ⊎ ((did ≡ false) × HasNoneComing new)) where
   -- the firings of the cycle
   made : all_made new ≡ all_made old + length cycled.firings
   made = (let a = cycled.done.made in let c = run.done.made in let d = count_snoc run.cycles cycled.firings in omega arith)
@@ -263,23 +280,21 @@ module _ (net : Net) (inputs : Inputs) (b : Bounds) (old new : Engine) (cycle la
       let e : trimmed (run.cycles ++ cycled.firings ∷ []) ≡ trimmed run.cycles = ap (λ fs. trimmed (run.cycles ++ fs ∷ [])) (cycled.none d) ∙ trimmed_none run.cycles in
       run.number ∙ sym (ap (λ (xs : List (List Firing)). length xs) e)
 
-  near : (x : Bool) → did ≡ x → going ≡ true → cycle + 1 ≤ cond x (cycle + 1) last + max_delay
-  near x d g =
-      let P : Bool → Type 0 = λ y. going ≡ nat_le (cycle + 1 - cond y (cycle + 1) last) max_delay in
-      let l = leb-true (cycle + 1 - cond x (cycle + 1) last) max_delay (sym (subst P d goes) ∙ g) in
-      omega arith
+  -- a cycle without a firing in which all tokens are ripe leaves the state at rest
+  empty : did ≡ false → AllRipe net (length run.cycles) (dated_of new) → AtRest net (state_of new.state)
+  empty d ripe =
+      let P : List Firing → Type 0 = λ fs. Cycles net 0 (dated_opening net inputs) (run.cycles ++ fs ∷ []) (dated_of new) in
+      ripe_rests net inputs run.cycles (dated_of new) (subst P (cycled.none d) cycled.done.done) ripe
 
-  -- a cycle without a firing, so late that all tokens are ripe, leaves the state at rest
-  rest : (x : Bool) → did ≡ x → going ≡ false → AtRest net (state_of new.state)
-  rest x d g = at x d (let P : Bool → Type 0 = λ y. going ≡ nat_le (cycle + 1 - cond y (cycle + 1) last) max_delay in leb-false (cycle + 1 - cond x (cycle + 1) last) max_delay (sym (subst P d goes) ∙ g))
-    where
-      at : (x : Bool) → did ≡ x → max_delay < cycle + 1 - cond x (cycle + 1) last → AtRest net (state_of new.state)
-      at true d l = absurd (omega arith)
-      at false d l =
-          let n = run.number in
-          let m = run.done.number in
-          let P : List Firing → Type 0 = λ fs. Cycles net 0 (dated_opening net inputs) (run.cycles ++ fs ∷ []) (dated_of new) in
-          late_rests net inputs run.cycles (dated_of new) checked (subst P (cycled.none d) cycled.done.done) (omega arith)
+  rest : (x : Bool) → did ≡ x → (max_delay < cycle + 1 - cond x (cycle + 1) last) ⊎ ((did ≡ false) × HasNoneComing new) → AtRest net (state_of new.state)
+  rest true d (inl l) = let l' : max_delay < cycle + 1 - (cycle + 1) = l in absurd (omega arith)
+  rest false d (inl l) =
+      let l' : max_delay < cycle + 1 - last = l in
+      let n = run.number in
+      let m = run.done.number in
+      let P : List Firing → Type 0 = λ fs. Cycles net 0 (dated_opening net inputs) (run.cycles ++ fs ∷ []) (dated_of new) in
+      empty d (late_ripe net inputs run.cycles (dated_of new) checked (subst P (cycled.none d) cycled.done.done) (omega arith))
+  rest x d (inr w) = let P : ℕ → Type 0 = λ n. AllRipe net n (dated_of new) in empty w.0 (subst P run.done.number (spent_ripe net cycle new cycled.done.coming w.1))
 
   few : (x : Bool) → did ≡ x → cond x (cycle + 1) last ≤ all_made new * (max_delay + 1)
   few true d = few_more (all_made old) (all_made new) max_delay cycle last (more d) run.few (run.near refl)
@@ -291,8 +306,8 @@ module _ (net : Net) (inputs : Inputs) (b : Bounds) (old new : Engine) (cycle la
     ready = ready;
     done = cycled.done;
     number = number did refl;
-    near = near did refl;
-    rest = rest did refl;
+    near = near;
+    rest = λ g. rest did refl (spent g);
     few = few did refl;
   }
 
@@ -329,11 +344,10 @@ timed_few net inputs limit keep t k most d =
     let f : t.firings * (most + 1) ≡ firing_count k.cycles * (most + 1) = ap (λ x. x * (most + 1)) k.firings in
     omega arith
 
-pub broken_timing : (net : Net) (inputs : Inputs) (b : Bounds) (f : RunFault) → IsBroken net inputs b f → IsTimingFault net inputs b.limit f
-broken_timing net inputs b (fault.Limit n) h = h
-broken_timing net inputs b fault.Stuck h = h
-broken_timing net inputs b (fault.Stray a) h = h
-broken_timing net inputs b fault.Memory h = h
+-- the fault of a run that is broken off
+pub broken_timing : (net : Net) (inputs : Inputs) (b : Bounds) (e : Broken) → IsBroken net inputs b e → IsTimingFault net inputs b.limit (fault_of b.limit e)
+broken_timing net inputs b broken.Limit h = (refl, h)
+broken_timing net inputs b broken.Memory h = h
 
 -- the cycle that the engine has made
 pub cycled : (net : Net) (past : Past) (b : Bounds) (c : ℕ) (start : Dated) (e : Engine) (did : Bool) → did ≡ nat_lt 0 (length e.fired.items) → IsEngine net e → IsFull net past b c start e → IsCycled net past b c e did

@@ -63,7 +63,7 @@ first_kept None (d ∷ ds) Q h = h
 first_kept (Some x) (d ∷ ds) Q h = h
 
 -- a ripe head that is not taken stays ripe
-ripe_kept : (net : Net) (c : ℕ) (s : Dated) (v d : ℕ) (e : Effect) → AreDated net s → (d < length net.chans → takes_from net v e d ≡ false) → IsRipe net c s d → IsRipe net c (after_of net c s v e) d
+pub ripe_kept : (net : Net) (c : ℕ) (s : Dated) (v d : ℕ) (e : Effect) → AreDated net s → (d < length net.chans → takes_from net v e d ≡ false) → IsRipe net c s d → IsRipe net c (after_of net c s v e) d
 ripe_kept net c s v d e k free r =
     let Q : ℕ → Type 0 = λ date. date + (chan_at net d).delay ≤ c in
     let w : d < length s.dates = some_within s.dates d (λ date. date + (chan_at net d).delay ≤ c) r in

@@ -1,7 +1,7 @@
 -- Turns of units and queues in a cycle.
-use Rattle.std.proofs.Common.{◌≡◌, ◌≢◌, ℕ, suc, zero, ◌+◌, ◌<◌, ◌≤◌, ◌⊎◌, inl, inr, Bool, true, false, Option, Some, None, List, [], ◌∷◌, ◌++◌, length, map, get_or, refl, sym, ap, subst, ◌∙◌, arith, Result, IsErrAnd, MatchResult, IsSomeAnd}
+use Rattle.std.proofs.Common.{◌≡◌, ◌≢◌, ℕ, suc, zero, ◌+◌, ◌<◌, ◌≤◌, ◌⊎◌, inl, inr, Bool, true, false, Option, Some, None, List, [], ◌∷◌, ◌++◌, length, length-set, map, get_or, refl, sym, ap, subst, ◌∙◌, arith, Result, IsErrAnd, MatchResult, IsSomeAnd}
 use Rattle.std.proofs.lemmas.Result.{err_from_is_err_and}
-use Rattle.net_replay.specs.declared.fault.RunFault.{RunFault}
+use Rattle.cycle_engine.specs.declared.broken.Broken.{Broken}
 use Rattle.std.specs.List.{AllByRecursion}
 use Rattle.std.proofs.lemmas.Bool.{cases_lt, cases_eq}
 use Rattle.net_types.specs.declared.net.Chan.{Chan}
@@ -262,7 +262,7 @@ stirs_fork (Sink w) e l h = absurd h
 stirs_fork (Read a) e l h = absurd h
 stirs_fork Exit e l h = absurd h
 
-none_taken : (net : Net) (u : ℕ) (t : Takes) → chans_of (taken_of net u t) ≡ [] → places_of t ≡ []
+pub none_taken : (net : Net) (u : ℕ) (t : Takes) → chans_of (taken_of net u t) ≡ [] → places_of t ≡ []
 none_taken net u no_place e = refl
 none_taken net u (One p) e = cc
 none_taken net u (Two p q) e = cc
@@ -605,6 +605,10 @@ ready_marks net b e m r long listed = record {
   feeds = r.feeds;
 }
 
+-- so where the mark of a queue was taken
+pub ready_turn : (net : Net) (b : Bounds) (e : Engine) (m : Marks) (u : ℕ) → HasTurn e.marks m u → IsReady net b e → IsReady net b (with_marks e m)
+ready_turn net b e m u t r = ready_marks net b e m r (ap (λ (xs : List Bool). length xs) t.marked ∙ (length-set e.marks.marked.items u false ∙ r.marked)) (t.listed net r.listed)
+
 -- a unit was taken from the list
 pub taken_open : (net : Net) (past : Past) (b : Bounds) (c : ℕ) (start : Dated) (e : Engine) (m : Marks) (u : ℕ) → IsTaken net e.marks m u → IsBegunIn net past b c start e → IsOpenTurn net past b c start (with_marks e m) u
 taken_open net past b c start e m u k t = record { going = going_marks net past b c start e m t.going; plain = t.plain; watched = λ g un x. at g (k.left g.unit (t.watching g un x)) }
@@ -714,8 +718,8 @@ served_full net past b c start e count n most listed s = record {
 }
 
 -- what a fault that is handed on says
-pub exit_broken : {T : Type 0} (P : T → Type 0) (Q : RunFault → Type 0) (r : Result T RunFault) (e : RunFault) → IsErrAnd r (λ d. d ≡ e) → Q e → MatchResult r P Q
+pub exit_broken : {T : Type 0} (P : T → Type 0) (Q : Broken → Type 0) (r : Result T Broken) (e : Broken) → IsErrAnd r (λ d. d ≡ e) → Q e → MatchResult r P Q
 exit_broken P Q r e x h =
     let p = err_from_is_err_and r x in
-    let R : Result _ RunFault → Type 0 = λ q. MatchResult q P Q in
+    let R : Result _ Broken → Type 0 = λ q. MatchResult q P Q in
     subst R (sym p.1) (subst Q (sym p.2) h)

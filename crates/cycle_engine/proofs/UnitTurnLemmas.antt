@@ -1,7 +1,8 @@
 -- Turns of units that are no queues: what a try of the act of a unit that has one told, and whole turns.
-use Rattle.std.proofs.Common.{◌≡◌, ℕ, ◌+◌, ◌≤◌, ◌⊎◌, inl, inr, false, None, length, refl, subst, arith, Result, MatchResult, Ok, Err}
+use Rattle.std.proofs.Common.{◌≡◌, ◌∙◌, ℕ, ◌+◌, ◌≤◌, ◌⊎◌, inl, inr, false, None, length, refl, sym, ap, subst, arith, Result, MatchResult, Ok, Err}
 use Rattle.std.specs.List.{AllByRecursion}
 use Rattle.net_types.specs.declared.net.Net.{Net}
+use Rattle.net_types.specs.declared.net.Unit.{Unit as Kind}
 use Rattle.net_types.specs.declared.firing.Act.{Act}
 use Rattle.net_types.specs.declared.firing.Act.TheVariants.{Go}
 use Rattle.net_types.specs.declared.firing.Firing.{Firing}
@@ -19,13 +20,13 @@ use Rattle.cycle_engine.specs.declared.engine.Bounds.{Bounds}
 use Rattle.cycle_engine.specs.declared.marks.Marks.{Marks}
 use Rattle.cycle_engine.specs.declared.trial.Planned.{Planned}
 use Rattle.cycle_engine.specs.Cycles.{Dated, May}
-use Rattle.cycle_engine.specs.private.Goings.{Past, IsReady, IsMade, IsPassed, IsBegunIn}
+use Rattle.cycle_engine.specs.private.Goings.{Past, IsReady, IsMade, IsPassed, IsBegunIn, IsBroken}
 use Rattle.cycle_engine.specs.private.Marking.{IsMarked, KeepsMarks, IsMergeMarked, IsPutMarked, IsRoused}
-use Rattle.cycle_engine.specs.private.Places.{IsNextAct, IsTurn, IsOpenTurn, first_of}
+use Rattle.cycle_engine.specs.private.Places.{IsNextAct, IsTurn, IsTurnMade, IsOpenTurn, first_of}
 use Rattle.cycle_engine.specs.private.Trials.{IsPlanned, dated_of}
 use Rattle.cycle_engine.proofs.PlaceLemmas.{fires_within}
 use Rattle.cycle_engine.proofs.TurnLemmas.{turn_passed, unit_made, turn_on, with_marks, going_marks, open_unit, unit_done, going_dated_now}
-use Rattle.net_replay.specs.declared.fault.RunFault.{RunFault}
+use Rattle.cycle_engine.specs.declared.broken.Broken.{Broken}
 use Rattle.cycle_engine.proofs.GoLemmas.{roused_by, go_next, go_below, from_none}
 
 -- ---- a planned firing was made
@@ -71,10 +72,15 @@ module _ (net : Net) (past : Past) (b : Bounds) (c : ℕ) (start : Dated) (marks
 
 module _ (net : Net) (past : Past) (b : Bounds) (c : ℕ) (start : Dated) (old : Engine) (u : ℕ) where
   -- all acts of a unit that is no queue were tried
-  pub unit_turn : (new : Engine) (kind : Act) (T : Type 0) (r : Result T RunFault) (Q : RunFault → Type 0) → is_lsq (kind_of net u) ≡ false → kind ≡ first_of (kind_of net u) → IsOpenTurn net past b c start old u
+  pub unit_turn : (new : Engine) (kind : Act) (T : Type 0) (r : Result T Broken) (Q : Broken → Type 0) → is_lsq (kind_of net u) ≡ false → kind ≡ first_of (kind_of net u) → IsOpenTurn net past b c start old u
       → (IsTurn net past b c start old.marks old u (act_rank kind) 0 → MatchResult r (λ _. IsTurn net past b c start old.marks new u (act_rank kind + 1) 0) Q) → MatchResult r (λ _. IsBegunIn net past b c start new) Q
   unit_turn new kind T (Ok v) Q l is t h = unit_done net past b c start old.marks new u kind l is (h (open_unit net past b c start old u kind l is t))
   unit_turn new kind T (Err e) Q l is t h = h (open_unit net past b c start old u kind l is t)
+
+  -- so it is by what a turn of its first acts told
+  pub turn_begun : (new : Engine) (k : Kind) {T : Type 0} (r : Result T Broken) → k ≡ kind_of net u → is_lsq k ≡ false → IsOpenTurn net past b c start old u → IsTurnMade net b c u (act_rank (first_of k)) (act_rank (first_of k) + 1) old new r
+      → MatchResult r (λ _. IsBegunIn net past b c start new) (IsBroken net past.inputs b)
+  turn_begun new k {T} r is l t made = unit_turn new (first_of k) T r (IsBroken net past.inputs b) (ap is_lsq (sym is) ∙ l) (ap first_of is) t (made.tried past start old.marks)
 
   -- past the units none fires
   pub unit_past : IsChecked net → length net.units ≤ u → IsOpenTurn net past b c start old u → IsBegunIn net past b c start old

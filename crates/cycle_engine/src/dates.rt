@@ -1,6 +1,6 @@
 //! The cycles in which tokens were put.
 
-ghost use Rattle.std.specs.Prelude.{◌≡◌, ◌<◌, ◌^◌, ◌↔◌, IsTrue, length};
+ghost use Rattle.std.specs.Prelude.{◌≡◌, ◌<◌, ◌^◌, ◌↔◌, ◌∷◌, [], IsTrue, length};
 ghost use Rattle.std.specs.List.{AllByRecursion};
 ghost use Rattle.net_types.specs.Nets.{chan_at};
 ghost use Rattle.net_core.specs.Held.{AllWithin};
@@ -47,10 +47,17 @@ pub(crate) fn are_ripe(state: &State, net: &Checked, taken: Taken, now: u64) -> 
         Taken::None => true,
         Taken::One(c) => is_ripe(state, net, c, now),
         Taken::Two(c, d) => is_ripe(state, net, c, now) && is_ripe(state, net, d, now),
-        Taken::Three(c, d, e) => {
-            is_ripe(state, net, c, now)
-                && is_ripe(state, net, d, now)
-                && is_ripe(state, net, e, now)
-        }
+        Taken::Three(c, d, e) => are_three_ripe(state, net, c, d, e, now),
     }
+}
+
+/// Whether the heads of three channels may be used in the cycle `now`. It stands apart so that what takes fewer stays small.
+#[inline(never)]
+fn are_three_ripe(state: &State, net: &Checked, c: u32, d: u32, e: u32, now: u64) -> bool
+    requires of { IsOf net.now state.now }
+    requires within { AllWithin (length net.now.chans) (c ∷ d ∷ e ∷ []) }
+    ensures { IsTrue result
+        ↔ AllByRecursion (RipeAt net.now now (dates_of state.now)) (c ∷ d ∷ e ∷ []) }
+{
+    is_ripe(state, net, c, now) && is_ripe(state, net, d, now) && is_ripe(state, net, e, now)
 }

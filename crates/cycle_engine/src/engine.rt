@@ -20,7 +20,7 @@ use el_base::Log;
 use lsq_core::Queue;
 use net_check::Checked;
 use net_core::State;
-use net_types::{Firing, Inputs, Memory};
+use net_types::{Act, Firing, Inputs, Memory};
 use std::alloc::Global;
 
 /// How many firings there may be in all, and whether they are kept in the log.
@@ -72,6 +72,12 @@ impl Drop for Engine {
         } = self;
     }
 }
+
+/// What fills the room for firings.
+const NO_FIRING: Firing = Firing {
+    unit: 0,
+    act: Act::Go,
+};
 
 /// How many firings the log has to have room for.
 fn log_room(bounds: Bounds) -> u64
@@ -126,7 +132,7 @@ impl Engine {
         Ok(Engine {
             state,
             begun,
-            fired: Stack::new(alloc),
+            fired: Stack::new(alloc, NO_FIRING),
             used,
             made: 0,
             log,
@@ -207,7 +213,8 @@ fn entries(net: &Checked, state: &State, unit: u32) -> u32
     }
 }
 
-/// Marks the units of firings that do not want a token at their first input, and notes how many entries their queues have.
+/// Marks the units of firings that do not want a token at their first input, and notes how many entries their queues have. Of
+/// firings of one unit in a row the first does.
 ///
 /// # Errors
 ///
@@ -232,8 +239,12 @@ fn settle(
         → (get_or begun.old.items u 0 ≡ entries_at (state_of state.now) u) ⊎ HasUnit u fired.now
         → get_or begun.new.items u 0 ≡ entries_at (state_of state.now) u) }
 {
+    let mut last = None;
     for firing in fired {
-        settle_unit(marks, begun, net, state, feeds, firing.unit)?;
+        if last != Some(firing.unit) {
+            settle_unit(marks, begun, net, state, feeds, firing.unit)?;
+            last = Some(firing.unit);
+        }
     }
     Ok(())
 }

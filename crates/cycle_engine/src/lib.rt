@@ -3,6 +3,7 @@
 //! [`run_cycles`] runs a net to rest or to a limit, and counts the cycles.
 #![tactic(auto)]
 
+mod broken;
 mod control;
 mod dates;
 mod engine;

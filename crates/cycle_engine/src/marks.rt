@@ -1,18 +1,18 @@
 //! The units that may fire in a cycle.
 
-ghost use Rattle.std.specs.Prelude.{◌≡◌, ◌≢◌, ℕ, ◌+◌, ◌<◌, ◌≤◌, [], true, false, IfOk, IfSome, OnOk, MatchOption, length, get_or, set};
+ghost use Rattle.std.specs.Prelude.{◌≡◌, ◌≢◌, ℕ, ◌+◌, ◌<◌, ◌≤◌, ◌∷◌, [], true, false, IfOk, IfSome, OnOk, MatchOption, length, get_or, set};
 ghost use Rattle.std.specs.List.{AllByRecursion};
 ghost use Rattle.net_core.specs.Plans.{chans_of};
 ghost use Rattle.net_core.specs.States.{IsOf, state_of};
-ghost use Rattle.cycle_engine.specs.private.Marking.{Holds, IsMarked, IsListed, IsStarved, KeepsMarks, IsSourceMarked, IsMergeMarked, IsTargetMarked, IsPutMarked, IsRoused, AreFeeds, AreInto, IsTaken, IsEmptied, IsReordered, HasNoTurn, HasTurn};
+ghost use Rattle.cycle_engine.specs.private.Marking.{Holds, IsMarked, IsListed, IsStarved, KeepsMarks, IsSourceMarked, IsMergeMarked, IsTargetMarked, IsPutMarked, IsRoused, AreFeeds, AreInto, IsTaken, IsTurnKind, IsEmptied, IsReordered, HasNoTurn, HasTurn};
 
 use crate::dates::delay_of;
 use crate::feeds::Feeds;
-use crate::places::{is_merge, is_queue, is_starved};
+use crate::places::{is_merge, is_starved};
 use crate::stack::Stack;
 use net_check::Checked;
 use net_core::{Laid, Moves, State, Taken};
-use net_types::Memory;
+use net_types::{Memory, Unit};
 use std::alloc::Global;
 
 /// Marks at units that may fire, and a list of those that are to be looked at.
@@ -36,6 +36,13 @@ impl Drop for Marks {
     }
 }
 
+/// A unit that was taken from the list, and its kind; none of a number past the units.
+#[derive(Clone, Copy)]
+pub(crate) struct Turn<'a> {
+    pub unit: u32,
+    pub kind: Option<&'a Unit>,
+}
+
 impl Marks {
     /// A mark at each unit of a net.
     ///
@@ -50,7 +57,7 @@ impl Marks {
         let count = net.net().units.as_slice().len();
         let mut marks = Marks {
             marked: vec![in alloc; false; count]?,
-            list: Stack::new(alloc),
+            list: Stack::new(alloc, 0),
             queues: Vec::new(alloc),
         };
         for at in 0..count {
@@ -122,40 +129,33 @@ impl Marks {
         }
     }
 
-    /// Takes the mark of a unit away, where it is one of the net.
-    #[inline(always)]
-    fn unmark_of(&mut self, net: &Checked, unit: u32)
-        requires { length self.old.marked.items ≡ length net.now.units }
-        ensures marked { self.new.marked.items ≡ set self.old.marked.items unit false }
-        ensures list { self.new.list ≡ self.old.list }
-        ensures queues { self.new.queues ≡ self.old.queues }
-    {
-        let at = unit as usize;
-        if at < net.net().units.as_slice().len() {
-            self.marked[at] = false;
-        }
-    }
-
     /// Takes the next unit from the list, and its mark where it is no queue; a queue is put among those that are to have turns.
     ///
     /// # Errors
     ///
     /// [`Memory`] where memory is wanting.
     #[inline(always)]
-    pub(crate) fn take(&mut self, net: &Checked) -> Result<Option<u32>, Memory>
+    pub(crate) fn take<'a>(&mut self, net: &'a Checked) -> Result<Option<Turn<'a>>, Memory>
         requires { length self.old.marked.items ≡ length net.now.units }
-        ensures { IfOk result (λ unit. MatchOption unit (IsEmptied self.old self.new)
-            (IsTaken net.now self.old self.new)) }
+        ensures { IfOk result (λ turn. MatchOption turn (IsEmptied self.old self.new)
+            (λ t. IsTaken net.now self.old self.new t.unit × IsTurnKind net.now t)) }
     {
         let Some(unit) = self.list.pop() else {
             return Ok(None);
         };
-        if is_queue(net, unit) {
-            self.queues.push(unit)?;
-        } else {
-            self.unmark_of(net, unit);
+        let units = net.net().units.as_slice();
+        if unit as usize >= units.len() {
+            return Ok(Some(Turn { unit, kind: None }));
         }
-        Ok(Some(unit))
+        let kind = &units[unit as usize];
+        match kind {
+            Unit::Lsq { .. } => self.queues.push(unit)?,
+            _ => self.marked[unit as usize] = false,
+        }
+        Ok(Some(Turn {
+            unit,
+            kind: Some(kind),
+        }))
     }
 
     /// Puts the queues that are to have turns into the order in which they are taken, the least unit first.
@@ -182,12 +182,12 @@ impl Marks {
         Some(unit)
     }
 
-    /// Marks the unit that puts on a channel, where it is a control merge.
+    /// Marks the unit that puts on a channel, where it is a control merge. It stands apart so that what marks none stays small.
     ///
     /// # Errors
     ///
     /// [`Memory`] where memory is wanting.
-    #[inline(always)]
+    #[inline(never)]
     fn mark_merge(&mut self, net: &Checked, chan: u32) -> Result<(), Memory>
         ensures kept { OnOk result (KeepsMarks self.old self.new) }
         ensures marked { OnOk result
@@ -264,37 +264,22 @@ impl Marks {
         Ok(())
     }
 
-    /// Marks the control merges that put on channels from which tokens were taken.
+    /// Marks the control merges that put on two channels. It stands apart so that what marks none stays small.
     ///
     /// # Errors
     ///
     /// [`Memory`] where memory is wanting.
     #[inline(never)]
-    fn mark_merges(&mut self, net: &Checked, taken: Taken) -> Result<(), Memory>
+    fn mark_two_merges(&mut self, net: &Checked, c: u32, d: u32) -> Result<(), Memory>
         ensures kept { OnOk result (KeepsMarks self.old self.new) }
         ensures marked { OnOk result (AllByRecursion
-            (IsMergeMarked net.now (length self.old.marked.items) self.new) (chans_of taken)) }
+            (IsMergeMarked net.now (length self.old.marked.items) self.new) (c ∷ d ∷ [])) }
         ensures few { OnOk result
-            (length self.new.list.items ≤ length self.old.list.items + 3) }
+            (length self.new.list.items ≤ length self.old.list.items + 2) }
     {
-        match taken {
-            Taken::None => Ok(()),
-            Taken::One(c) => {
-                self.mark_merge(net, c)?;
-                Ok(())
-            }
-            Taken::Two(c, d) => {
-                self.mark_merge(net, c)?;
-                self.mark_merge(net, d)?;
-                Ok(())
-            }
-            Taken::Three(c, d, e) => {
-                self.mark_merge(net, c)?;
-                self.mark_merge(net, d)?;
-                self.mark_merge(net, e)?;
-                Ok(())
-            }
-        }
+        self.mark_merge(net, c)?;
+        self.mark_merge(net, d)?;
+        Ok(())
     }
 
     /// Marks the control merges that put on the channels into a unit from which it took tokens.
@@ -318,10 +303,18 @@ impl Marks {
         ensures few { OnOk result
             (length self.new.list.items ≤ length self.old.list.items + 3) }
     {
-        if feeds.is_merged(unit) {
-            self.mark_merges(net, taken)?;
+        if !feeds.is_merged(unit) {
+            return Ok(());
         }
-        Ok(())
+        match taken {
+            Taken::None => Ok(()),
+            Taken::One(c) => self.mark_merge(net, c),
+            Taken::Two(c, d) => self.mark_two_merges(net, c, d),
+            Taken::Three(c, d, e) => {
+                self.mark_merge(net, c)?;
+                self.mark_two_merges(net, d, e)
+            }
+        }
     }
 
     /// Marks the units of which a firing of a unit that is no fork may let one fire in the cycle, by the tokens that it moved.
@@ -422,7 +415,7 @@ impl Marks {
     ///
     /// [`Memory`] where memory is wanting.
     #[inline(always)]
-    fn mark_put(&mut self, net: &Checked, laid: Option<Laid>) -> Result<(), Memory>
+    pub(crate) fn mark_put(&mut self, net: &Checked, laid: Option<Laid>) -> Result<(), Memory>
         requires within { IfSome laid (λ w. w.chan < length net.now.chans) }
         requires long { length self.old.marked.items ≡ length net.now.units }
         ensures kept { OnOk result (KeepsMarks self.old self.new) }

@@ -1,9 +1,10 @@
 //! When tokens ripen.
 
-ghost use Rattle.std.specs.Prelude.{◌≡◌, ◌<◌, ◌++◌, ◌∷◌, ◌%◌, [], IfOk, IfSome, OnOk, get_or, length, set};
+ghost use Rattle.std.specs.Prelude.{◌≡◌, ◌<◌, ◌++◌, ◌∷◌, ◌%◌, ℕ, None, [], IfOk, IfSome, OnOk, get_or, length, set};
 ghost use Rattle.cycle_engine.specs.private.Marking.{IsNoted, cell, cells_of, cells_with, lists_of};
 
 use crate::dates::delay_of;
+use crate::stack::Stack;
 use net_check::Checked;
 use net_core::Laid;
 use net_types::Memory;
@@ -13,13 +14,23 @@ use std::mem;
 /// How many cycles have a list of their own: more than the greatest delay.
 const CELLS: u64 = 1024;
 
+/// How many lists leave their rooms to others when they are emptied.
+const ROOMS: u64 = 16;
+
+/// Rooms that no list uses.
+#[derive(Drop)]
+struct Rooms {
+    /// Empty lists, of which the first so many have room.
+    lists: Vec<Stack<u32>>,
+    free: usize,
+}
+
 /// Channels of which tokens ripen in cycles to come.
 #[derive(Drop)]
 pub(crate) struct Notes {
     /// For each cycle to come, by its number's rest modulo [`CELLS`], the channels of which a token ripens then.
-    pub coming: Vec<Vec<u32>>,
-    /// Room that no list uses.
-    pub spare: Vec<u32>,
+    pub coming: Vec<Stack<u32>>,
+    rooms: Rooms,
 }
 
 impl Notes {
@@ -31,13 +42,13 @@ impl Notes {
     pub(crate) fn new(alloc: Global) -> Result<Notes, Memory>
         ensures { IfOk result (λ n. length n.coming.items ≡ 1024) }
     {
-        let mut coming = Vec::new(alloc);
-        for _ in 0..CELLS {
-            coming.push(Vec::new(alloc))?;
+        let mut lists = Vec::new(alloc);
+        for _ in 0..ROOMS {
+            lists.push(Stack::new(alloc, 0))?;
         }
         Ok(Notes {
-            coming,
-            spare: Vec::new(alloc),
+            coming: empty_lists(alloc)?,
+            rooms: Rooms { lists, free: 0 },
         })
     }
 
@@ -49,12 +60,25 @@ impl Notes {
         self.coming[(now % CELLS) as usize].as_slice()
     }
 
+    /// The first cycle from `now` on in which a noted token ripens; `None` where none is noted.
+    pub(crate) fn next(&self, now: u64) -> Option<u64>
+        requires { length self.now.coming.items ≡ 1024 }
+        ensures { result ≡ None → (k : ℕ) → cell self.now k ≡ [] }
+    {
+        for ahead in 0..CELLS {
+            if self.coming[((now % CELLS + ahead) % CELLS) as usize].len() > 0 {
+                return Some(now.saturating_add(ahead));
+            }
+        }
+        None
+    }
+
     /// Forgets which tokens ripen in a cycle.
     pub(crate) fn clear(&mut self, now: u64)
         requires { length self.old.coming.items ≡ 1024 }
         ensures { cells_of self.new ≡ set (cells_of self.old) (now % 1024) [] }
     {
-        clear_at(&mut self.coming, &mut self.spare, (now % CELLS) as usize);
+        clear_at(&mut self.coming, &mut self.rooms, (now % CELLS) as usize);
     }
 
     /// Notes when the token ripens that is put on a channel in the cycle `now`.
@@ -73,7 +97,7 @@ impl Notes {
         if delay > 0 {
             note_at(
                 &mut self.coming,
-                &mut self.spare,
+                &mut self.rooms,
                 ((now % CELLS + delay) % CELLS) as usize,
                 chan,
             )?;
@@ -102,6 +126,21 @@ impl Notes {
     }
 }
 
+/// An empty list for each cell.
+///
+/// # Errors
+///
+/// [`Memory`] where memory is wanting.
+fn empty_lists(alloc: Global) -> Result<Vec<Stack<u32>>, Memory>
+    ensures { IfOk result (λ lists. length lists.items ≡ 1024) }
+{
+    let mut lists = Vec::with_capacity(alloc, CELLS as usize)?;
+    for _ in 0..CELLS {
+        lists.push(Stack::new(alloc, 0))?;
+    }
+    Ok(lists)
+}
+
 /// Adds a channel to the list of a cell.
 ///
 /// # Errors
@@ -109,8 +148,8 @@ impl Notes {
 /// [`Memory`] where memory is wanting.
 #[inline(always)]
 fn note_at(
-    cells: &mut Vec<Vec<u32>>,
-    spare: &mut Vec<u32>,
+    cells: &mut Vec<Stack<u32>>,
+    rooms: &mut Rooms,
     at: usize,
     chan: u32,
 ) -> Result<(), Memory>
@@ -118,59 +157,64 @@ fn note_at(
     ensures { OnOk result (lists_of cells.new.items
         ≡ set (lists_of cells.old.items) at (get_or (lists_of cells.old.items) at [] ++ chan ∷ [])) }
 {
-    add(&mut cells[at], spare, chan)?;
+    add(&mut cells[at], rooms, chan)?;
     Ok(())
 }
 
-/// Adds a channel to a list; the first in the spare room where the list has none.
+/// Adds a channel to a list, which takes a room where it has none.
 ///
 /// # Errors
 ///
 /// [`Memory`] where memory is wanting.
 #[inline(always)]
-fn add(list: &mut Vec<u32>, spare: &mut Vec<u32>, chan: u32) -> Result<(), Memory>
+fn add(list: &mut Stack<u32>, rooms: &mut Rooms, chan: u32) -> Result<(), Memory>
     ensures { OnOk result (list.new.items ≡ list.old.items ++ chan ∷ []) }
 {
-    if list.len() == 0 {
-        take_room(list, spare);
+    if !list.has_room() {
+        rooms.give(list);
     }
     list.push(chan)?;
     Ok(())
 }
 
-/// Gives an empty list that has no room the spare one.
-#[inline(never)]
-fn take_room(list: &mut Vec<u32>, spare: &mut Vec<u32>)
-    requires { list.old.items ≡ [] }
-    ensures { list.new.items ≡ [] }
-{
-    if list.capacity() == 0 {
-        change_room(list, spare);
-    }
-}
-
-/// Empties a list and the spare room, and gives each the room of the other.
-fn change_room(list: &mut Vec<u32>, spare: &mut Vec<u32>)
-    ensures { list.new.items ≡ [] }
-{
-    list.clear();
-    spare.clear();
-    mem::swap(list, spare);
-}
-
-/// Empties the list of a cell, whose room is the spare one then.
-fn clear_at(cells: &mut Vec<Vec<u32>>, spare: &mut Vec<u32>, at: usize)
+/// Empties the list of a cell, whose room others may take then.
+fn clear_at(cells: &mut Vec<Stack<u32>>, rooms: &mut Rooms, at: usize)
     requires { at < length cells.old.items }
     ensures { lists_of cells.new.items ≡ set (lists_of cells.old.items) at [] }
 {
-    empty(&mut cells[at], spare);
+    rooms.take(&mut cells[at]);
 }
 
-/// Empties a list, whose room is the spare one then where it had items.
-fn empty(list: &mut Vec<u32>, spare: &mut Vec<u32>)
+impl Rooms {
+    /// Gives an empty list a room, where one is free.
+    #[inline(never)]
+    fn give(&mut self, list: &mut Stack<u32>)
+        ensures { list.new.items ≡ list.old.items }
+    {
+        if list.len() == 0 && self.free > 0 && self.free <= self.lists.len() {
+            self.free -= 1;
+            change_room(list, &mut self.lists[self.free]);
+        }
+    }
+
+    /// Empties a list and takes its room, where it has one and another can be kept.
+    #[inline(always)]
+    fn take(&mut self, list: &mut Stack<u32>)
+        ensures { list.new.items ≡ [] }
+    {
+        list.clear();
+        if list.has_room() && self.free < self.lists.len() {
+            change_room(list, &mut self.lists[self.free]);
+            self.free += 1;
+        }
+    }
+}
+
+/// Empties two lists, and gives each the room of the other.
+fn change_room(list: &mut Stack<u32>, other: &mut Stack<u32>)
     ensures { list.new.items ≡ [] }
 {
-    if list.len() > 0 {
-        change_room(list, spare);
-    }
+    list.clear();
+    other.clear();
+    mem::swap(list, other);
 }

@@ -6,7 +6,7 @@ ghost use Rattle.net_check.specs.Ends.{is_lsq};
 ghost use Rattle.net_core.specs.States.{IsOf, state_of};
 ghost use Rattle.cycle_engine.specs.private.Marking.{IsStarved, asks_first, is_merge};
 ghost use Rattle.net_types.specs.declared.firing.Act.TheVariants as acts;
-ghost use Rattle.cycle_engine.specs.private.Places.{HasView, HasNoExec, HasNoneFrom, IsFirstExec, IsNextNumber, IsNoted, IsViewOf, count_in, inputs_in, outputs_in, ports_in, numbered};
+ghost use Rattle.cycle_engine.specs.private.Places.{HasView, HasNoExec, HasNoneFrom, IsFirstExec, IsNextNumber, IsViewOf, KeepsControl, TakesControl, count_in, inputs_in, outputs_in, ports_in, numbered};
 ghost use Rattle.cycle_engine.specs.private.Control.{control_places_in, groups_in};
 
 use crate::control::{next_control_place, next_end};
@@ -21,13 +21,17 @@ pub(crate) fn is_queue(net: &Checked, unit: u32) -> bool
     ensures { result ≡ is_lsq (kind_of net.now unit) }
 {
     let units = net.net().units.as_slice();
-    if (unit as usize) < units.len() {
-        match &units[unit as usize] {
-            Unit::Lsq { .. } => true,
-            _ => false,
-        }
-    } else {
-        false
+    (unit as usize) < units.len() && is_queue_kind(&units[unit as usize])
+}
+
+/// Whether a kind of units is that of queues.
+#[inline(always)]
+pub(crate) fn is_queue_kind(kind: &Unit) -> bool
+    ensures { result ≡ is_lsq kind.now }
+{
+    match kind {
+        Unit::Lsq { .. } => true,
+        _ => false,
     }
 }
 
@@ -248,6 +252,32 @@ fn next_reply(net: &Checked, state: &State, unit: u32, from: u32) -> Option<u32>
     queue.next_reply(from)
 }
 
+/// The least number from one on of an act of a kind that takes the control token and may be enabled, as far as the channel that is
+/// noted for it tells.
+#[inline(always)]
+fn next_control(
+    net: &Checked,
+    state: &State,
+    noted: u32,
+    unit: u32,
+    kind: Act,
+    from: u32,
+) -> Option<u32>
+    requires of { IsOf net.now state.now }
+    requires takes { TakesControl kind }
+    ensures { KeepsControl net.now (state_of state.now) noted
+        → MatchOption result (HasNoneFrom net.now (state_of state.now) unit kind from)
+        (IsNextNumber net.now (state_of state.now) unit kind from) }
+{
+    if state.head(net, noted).is_none() {
+        return None;
+    }
+    match kind {
+        Act::End => next_end(net, noted, unit, groups_of(net, unit), from),
+        _ => next_control_place(net, noted, unit, from),
+    }
+}
+
 /// The least number from one on of an act of a kind that may be enabled, as far as the queue of the unit tells, and the channel
 /// that is noted for control.
 #[inline(always)]
@@ -260,17 +290,17 @@ fn next_told(
     from: u32,
 ) -> Option<u32>
     requires { IsOf net.now state.now }
-    ensures { IsNoted net.now (state_of state.now) noted
+    ensures { KeepsControl net.now (state_of state.now) noted
         → MatchOption result (HasNoneFrom net.now (state_of state.now) unit kind from)
         (IsNextNumber net.now (state_of state.now) unit kind from) }
 {
     match kind {
-        Act::From(_) => next_control_place(net, noted, unit, from),
-        Act::Alloc(_) => next_control_place(net, noted, unit, from),
+        Act::From(_) => next_control(net, state, noted, unit, kind, from),
+        Act::Alloc(_) => next_control(net, state, noted, unit, kind, from),
+        Act::End => next_control(net, state, noted, unit, kind, from),
         Act::Addr(_) => next_addr(net, state, unit, from),
         Act::Data(_) => next_data(net, state, unit, from),
         Act::Reply(_) => next_reply(net, state, unit, from),
-        Act::End => next_end(net, noted, unit, groups_of(net, unit), from),
         Act::Go => Some(from),
         Act::Send(_) => Some(from),
         Act::Exec(_) => Some(from),
@@ -292,7 +322,7 @@ pub(crate) fn next_number(
 ) -> u32
     requires of { IsOf net.now state.now }
     requires within { from ≤ count }
-    ensures next { IsNoted net.now (state_of state.now) noted
+    ensures next { KeepsControl net.now (state_of state.now) noted
         → IsNextNumber net.now (state_of state.now) unit kind from result }
     ensures from_on { from ≤ result }
     ensures within { result ≤ count }

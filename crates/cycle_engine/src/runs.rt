@@ -1,12 +1,13 @@
 //! Whole runs by cycles.
 
-ghost use Rattle.std.specs.Prelude.{◌≡◌, ◌+◌, ◌-◌, ◌≤◌, nat_le, length, cond, IfOk, OnOk, MatchResult};
+ghost use Rattle.std.specs.Prelude.{◌≡◌, ◌⊎◌, ◌+◌, ◌-◌, ◌≤◌, ◌<◌, true, false, length, cond, IfOk, OnOk, MatchResult};
 ghost use Rattle.el_base.specs.Limits.{max_delay, max_firings};
 ghost use Rattle.net_types.specs.Inputs.{InputsFit};
 ghost use Rattle.cycle_engine.specs.Timings.{IsTimed, HasFewCycles, IsTimingFault};
-ghost use Rattle.cycle_engine.specs.private.Goings.{Past, IsReady, HasDone, IsBroken};
+ghost use Rattle.cycle_engine.specs.private.Goings.{Past, IsReady, HasDone, IsBroken, HasNoneComing};
 ghost use Rattle.cycle_engine.specs.private.Places.{IsCycled};
 
+use crate::broken::Broken;
 use crate::engine::{Bounds, Engine};
 use el_base::{Log, MAX_DELAY};
 use net_check::Checked;
@@ -51,12 +52,16 @@ pub fn run_cycles(
     let mut engine = Engine::new(alloc, net, inputs, bounds)?;
     let mut cycle: u64 = 0;
     let mut last: u64 = 0;
+    let mut awaited: u64 = 0;
     let mut going = true;
     'cycles: while going {
-        let fired = engine.run_cycle(net, bounds, cycle)?;
+        let fired = match engine.run_cycle(net, bounds, cycle) {
+            Ok(fired) => fired,
+            Err(broken) => return Err(broken.fault(limit)),
+        };
         cycle += 1;
         last = last_of(fired, cycle, last);
-        going = goes_on(cycle, last);
+        going = engine.goes_on(fired, cycle, last, &mut awaited);
     }
     Ok(engine.timed(last))
 }
@@ -68,14 +73,6 @@ fn last_of(fired: bool, cycle: u64, last: u64) -> u64
     if fired { cycle } else { last }
 }
 
-/// Whether there may be a firing in a cycle to come, after so many of which those from `last` on have none: whether not all
-/// tokens were there long enough for each delay.
-fn goes_on(cycle: u64, last: u64) -> bool
-    ensures { result ≡ nat_le (cycle - last) max_delay }
-{
-    cycle.saturating_sub(last) <= u64::from(MAX_DELAY)
-}
-
 impl Engine {
     /// Makes a cycle, and tells whether it has a firing.
     ///
@@ -83,7 +80,7 @@ impl Engine {
     ///
     /// `Limit` where as many firings as the limit allows are made and one more may be made in the cycle. `Memory` where
     /// memory is wanting.
-    fn run_cycle(&mut self, net: &Checked, bounds: Bounds, now: u64) -> Result<bool, RunFault>
+    fn run_cycle(&mut self, net: &Checked, bounds: Bounds, now: u64) -> Result<bool, Broken>
         requires { IsReady net.now bounds self.old }
         ensures ready { OnOk result (IsReady net.now bounds self.new) }
         ensures cycled { (past : Past) → HasDone net.now past bounds now self.old
@@ -94,6 +91,38 @@ impl Engine {
         self.run_units(net, bounds, now)?;
         self.run_queues(net, bounds, now)?;
         Ok(self.fired.len() > 0)
+    }
+
+    /// Whether there may be a firing in a cycle to come, after so many of which those from `last` on have none: whether the
+    /// last has one, or a token is to ripen, and not all tokens were there long enough for each delay.
+    fn goes_on(&self, fired: bool, cycle: u64, last: u64, awaited: &mut u64) -> bool
+        requires { length self.now.notes.coming.items ≡ 1024 }
+        ensures near { result ≡ true → cycle ≤ last + max_delay }
+        ensures spent { result ≡ false → (max_delay < cycle - last)
+            ⊎ ((fired ≡ false) × HasNoneComing self.now) }
+    {
+        if cycle.saturating_sub(last) > u64::from(MAX_DELAY) {
+            return false;
+        }
+        fired || self.awaits(cycle, awaited)
+    }
+
+    /// Whether a token is noted that ripens in the cycle `now` or later. The next such cycle is kept in `awaited`: before it no
+    /// search is needed.
+    fn awaits(&self, now: u64, awaited: &mut u64) -> bool
+        requires { length self.now.notes.coming.items ≡ 1024 }
+        ensures { result ≡ false → HasNoneComing self.now }
+    {
+        if now <= *awaited {
+            return true;
+        }
+        match self.notes.next(now) {
+            None => false,
+            Some(next) => {
+                *awaited = next;
+                true
+            }
+        }
     }
 
     /// The run that the engine has made, of so many cycles.

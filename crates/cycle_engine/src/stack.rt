@@ -1,6 +1,6 @@
 //! Stacks that keep their room.
 
-ghost use Rattle.std.specs.Prelude.{◌≡◌, [], ◌∷◌, ◌++◌, length, OnOk, MatchOption};
+ghost use Rattle.std.specs.Prelude.{◌≡◌, ◌≤◌, [], ◌∷◌, ◌++◌, length, OnOk, MatchOption};
 
 use net_types::Memory;
 use std::alloc::Global;
@@ -11,6 +11,8 @@ use std::marker::Model;
 pub(crate) struct Stack<T> {
     room: Vec<T>,
     len: usize,
+    /// What new room is filled with.
+    fill: T,
 }
 
 impl<T> Model for Stack<T> {
@@ -27,13 +29,14 @@ impl<T> Model for Stack<T> {
 }
 
 impl<T: Copy> Stack<T> {
-    /// A stack without items.
-    pub(crate) fn new(alloc: Global) -> Stack<T>
+    /// A stack without items, whose room is filled with an item that no clause sees.
+    pub(crate) fn new(alloc: Global, fill: T) -> Stack<T>
         ensures { result.items ≡ [] }
     {
         Stack {
             room: Vec::new(alloc),
             len: 0,
+            fill,
         }
     }
 
@@ -45,6 +48,12 @@ impl<T: Copy> Stack<T> {
         self.len
     }
 
+    /// Whether there is room that needs no memory, used or not. No clause rests on it.
+    #[inline(always)]
+    pub(crate) fn has_room(&self) -> bool {
+        self.room.len() > 0
+    }
+
     /// Puts an item on the top.
     ///
     /// # Errors
@@ -54,31 +63,12 @@ impl<T: Copy> Stack<T> {
     pub(crate) fn push(&mut self, item: T) -> Result<(), Memory>
         ensures { OnOk result (self.new.items ≡ self.old.items ++ item ∷ []) }
     {
-        if self.len < self.room.len() {
-            self.room[self.len] = item;
-            self.len += 1;
-            return Ok(());
+        if self.len >= self.room.len() {
+            grow(&mut self.room, self.fill)?;
         }
-        self.grow(item)
-    }
-
-    /// Puts an item on the top where there is no room left. It stands apart so that what puts an item stays small.
-    ///
-    /// # Errors
-    ///
-    /// [`Memory`] where memory is wanting.
-    #[inline(never)]
-    fn grow(&mut self, item: T) -> Result<(), Memory>
-        ensures { OnOk result (self.new.items ≡ self.old.items ++ item ∷ []) }
-    {
-        self.room.truncate(self.len);
-        match self.room.push(item) {
-            Ok(()) => {
-                self.len += 1;
-                Ok(())
-            }
-            Err(_) => Err(Memory),
-        }
+        self.room[self.len] = item;
+        self.len += 1;
+        Ok(())
     }
 
     /// Takes the top away.
@@ -109,4 +99,18 @@ impl<T: Copy> Stack<T> {
     {
         self.len = 0;
     }
+}
+
+/// Makes room for one more item. It stands apart so that what puts an item stays small.
+///
+/// # Errors
+///
+/// [`Memory`] where memory is wanting.
+#[inline(never)]
+fn grow<T: Copy>(room: &mut Vec<T>, fill: T) -> Result<(), Memory>
+    ensures grown { OnOk result (room.new.items ≡ room.old.items ++ fill ∷ []) }
+    ensures kept { length room.old.items ≤ length room.new.items }
+{
+    room.push(fill)?;
+    Ok(())
 }

@@ -1,51 +1,30 @@
 //! Turns of units that are no queues: each kind by itself, with the channels at its first places looked up once.
 
-ghost use Rattle.std.specs.Prelude.{◌≡◌, ◌+◌, ◌<◌, ◌≤◌, ℕ, true, false, IfSome, IsTrue, ◌↔◌, OnOk, MatchOption, MatchResult, get_or, length};
+ghost use Rattle.std.specs.Prelude.{◌≡◌, ◌<◌, ◌≤◌, true, false, IfOk, IfSome, IsTrue, ◌↔◌, OnOk, MatchOption, MatchResult, get_or, length};
 ghost use Rattle.net_types.specs.declared.firing.Act.TheVariants as acts;
+ghost use Rattle.net_types.specs.declared.net.Unit.TheVariants as units;
 ghost use Rattle.net_types.specs.Nets.{kind_of, out_of, firing};
 ghost use Rattle.net_check.specs.Ends.{is_lsq};
 ghost use Rattle.net_check.specs.Pins.{pins_of};
-ghost use Rattle.net_core.specs.States.{IsOf, dates_of};
+ghost use Rattle.net_core.specs.Plans.{IsBranch, IsConstOf, IsForkOf, IsMuxOf, IsSelect, IsSink, admits, apart};
+ghost use Rattle.net_core.specs.States.{IsOf, IsPlanOf, cell_at, dates_of};
 ghost use Rattle.net_core.specs.Uses.{is_fork};
 ghost use Rattle.cycle_engine.specs.Cycles.{Dated, May};
 ghost use Rattle.cycle_engine.specs.declared.marks.Marks.{Marks as MarksValue};
 ghost use Rattle.cycle_engine.specs.private.Trials.{dated_of, RipeAt, IsBegun, IsEngine, IsPlanned};
 ghost use Rattle.cycle_engine.specs.private.Goings.{Past, IsReady, IsBegunIn, IsBroken, to_visit};
 ghost use Rattle.cycle_engine.specs.private.Marking.{is_merge};
-ghost use Rattle.cycle_engine.specs.private.Places.{IsTurn, IsOpenTurn, IsSendOn, moves_to, outputs_in};
+ghost use Rattle.cycle_engine.specs.private.Places.{IsOpenTurn, IsSent, IsTurn, IsTurnMade, moves_to};
 
+use crate::broken::Broken;
 use crate::dates::is_ripe;
 use crate::engine::{Bounds, Engine};
 use crate::trial::Planned;
 use crate::turns::Froms;
+use el_base::{Op1, Op2};
 use net_check::{Checked, Pins};
 use net_core::{Laid, Moves, Plan, State, Taken, Takes, moves_at};
-use net_replay::RunFault;
 use net_types::{Act, Firing, Unit};
-
-/// Names for copies of [`Engine::go`], one for each kind of units: in a copy that is called with one kind alone the compiler
-/// decides most tests.
-pub(crate) struct Entries;
-
-pub(crate) struct Params;
-
-pub(crate) struct Consts;
-
-pub(crate) struct Unaries;
-
-pub(crate) struct Binaries;
-
-pub(crate) struct Selects;
-
-pub(crate) struct Muxes;
-
-pub(crate) struct Branches;
-
-pub(crate) struct Sinks;
-
-pub(crate) struct Reads;
-
-pub(crate) struct Exits;
 
 /// Whether the head of a channel may be used in the cycle `now`; of no channel past those of the net.
 #[inline(always)]
@@ -90,22 +69,31 @@ fn moves_to(pins: Pins, chan: u32, plan: &Plan) -> Moves
 }
 
 impl Engine {
-    /// What the firing of a unit does that has one place and may fire in the cycle; `None` where it may not.
+    /// What the firing of a unit does that has one place and may fire in the cycle, by its plan; `None` where it may not.
     #[inline(always)]
-    fn may_go(&self, net: &Checked, unit: u32, kind: &Unit, pins: Pins, now: u64) -> Option<Planned>
+    fn may_go(
+        &self,
+        net: &Checked,
+        unit: u32,
+        pins: Pins,
+        plan: Option<Plan>,
+        now: u64,
+    ) -> Option<Planned>
         requires engine { IsEngine net.now self.now }
         requires long { length self.now.freed.marked.items ≡ length net.now.chans }
-        requires within { unit < length net.now.units }
-        requires kind { kind.now ≡ kind_of net.now unit }
         requires pins { pins ≡ pins_of unit net.now.chans }
-        requires straight { is_fork kind.now ≡ false }
+        requires straight { is_fork (kind_of net.now unit) ≡ false }
+        requires apart { IfSome plan (λ p. apart p.takes ≡ true) }
+        requires admits { IfSome plan
+            (λ p. admits (cell_at self.now.state unit) p.change ≡ true) }
+        requires effect { IsPlanOf net.now self.now.state (firing unit acts.Go) plan }
         ensures planned { IfSome result (IsPlanned net.now self.now (firing unit acts.Go)) }
         ensures may { (start : Dated) → IsBegun net.now now start self.now → MatchOption result
             (May net.now now start (dated_of self.now) (firing unit acts.Go) → ⊥)
             (λ p. May net.now now start (dated_of self.now) (firing unit acts.Go)) }
     {
         let firing = Firing { unit, act: Act::Go };
-        let plan = self.state.plan_go_at(net, unit, kind, pins)?;
+        let plan = plan?;
         let planned = Planned {
             plan,
             moves: moves_at(net, unit, pins, &plan),
@@ -117,37 +105,33 @@ impl Engine {
         }
     }
 
-    /// Tries the place of a unit that has one, and marks the units of which its firing may let one fire in the cycle.
+    /// Tries the place of a unit that has one, by its plan, and marks the units of which its firing may let one fire in the cycle.
     ///
     /// # Errors
     ///
     /// As [`Engine::fire`].
     #[inline(always)]
-    fn go<K>(
+    fn go(
         &mut self,
         net: &Checked,
         bounds: Bounds,
         unit: u32,
-        kind: &Unit,
         pins: Pins,
+        plan: Option<Plan>,
         now: u64,
-    ) -> Result<(), RunFault>
+    ) -> Result<(), Broken>
         requires ready { IsReady net.now bounds self.old }
-        requires within { unit < length net.now.units }
-        requires kind { kind.now ≡ kind_of net.now unit }
         requires pins { pins ≡ pins_of unit net.now.chans }
-        requires plain { is_lsq kind.now ≡ false }
-        requires straight { is_fork kind.now ≡ false }
-        ensures ready { OnOk result (IsReady net.now bounds self.new) }
-        ensures less { OnOk result (to_visit bounds self.new ≤ to_visit bounds self.old) }
-        ensures tried { (past : Past) (start : Dated) (marks : MarksValue)
-            → IsTurn net.now past bounds now start marks self.old unit 0 0
-            → MatchResult result
-            (λ _. IsTurn net.now past bounds now start marks self.new unit 1 0)
-            (IsBroken net.now past.inputs bounds) }
+        requires plain { is_lsq (kind_of net.now unit) ≡ false }
+        requires straight { is_fork (kind_of net.now unit) ≡ false }
+        requires apart { IfSome plan (λ p. apart p.takes ≡ true) }
+        requires admits { IfSome plan
+            (λ p. admits (cell_at self.old.state unit) p.change ≡ true) }
+        requires effect { IsPlanOf net.now self.old.state (firing unit acts.Go) plan }
+        ensures { IsTurnMade net.now bounds now unit 0 1 self.old self.new result }
     {
         let _ = net.net();
-        let Some(planned) = self.may_go(net, unit, kind, pins, now) else {
+        let Some(planned) = self.may_go(net, unit, pins, plan, now) else {
             return Ok(());
         };
         let firing = Firing { unit, act: Act::Go };
@@ -157,44 +141,271 @@ impl Engine {
         Ok(())
     }
 
-    /// What the sending of a fork to an output does that may be made in the cycle; `None` where it may not.
+    /// Tries the place of a constant.
+    ///
+    /// # Errors
+    ///
+    /// As [`Engine::fire`].
+    #[inline(never)]
+    fn go_const(
+        &mut self,
+        net: &Checked,
+        bounds: Bounds,
+        unit: u32,
+        value: u64,
+        pins: Pins,
+        now: u64,
+    ) -> Result<(), Broken>
+        requires ready { IsReady net.now bounds self.old }
+        requires within { unit < length net.now.units }
+        requires kind { IsConstOf value (kind_of net.now unit) }
+        requires pins { pins ≡ pins_of unit net.now.chans }
+        ensures { IsTurnMade net.now bounds now unit 0 1 self.old self.new result }
+    {
+        let plan = self.state.plan_const_at(net, unit, value, pins);
+        self.go(net, bounds, unit, pins, plan, now)
+    }
+
+    /// Tries the place of an operation on one pattern.
+    ///
+    /// # Errors
+    ///
+    /// As [`Engine::fire`].
+    #[inline(never)]
+    fn go_op1(
+        &mut self,
+        net: &Checked,
+        bounds: Bounds,
+        unit: u32,
+        op: Op1,
+        pins: Pins,
+        now: u64,
+    ) -> Result<(), Broken>
+        requires ready { IsReady net.now bounds self.old }
+        requires within { unit < length net.now.units }
+        requires kind { kind_of net.now unit ≡ units.Op1 op }
+        requires pins { pins ≡ pins_of unit net.now.chans }
+        ensures { IsTurnMade net.now bounds now unit 0 1 self.old self.new result }
+    {
+        let plan = self.state.plan_op1_at(net, unit, op, pins);
+        self.go(net, bounds, unit, pins, plan, now)
+    }
+
+    /// Tries the place of an operation on two patterns.
+    ///
+    /// # Errors
+    ///
+    /// As [`Engine::fire`].
+    #[inline(never)]
+    fn go_op2(
+        &mut self,
+        net: &Checked,
+        bounds: Bounds,
+        unit: u32,
+        op: Op2,
+        pins: Pins,
+        now: u64,
+    ) -> Result<(), Broken>
+        requires ready { IsReady net.now bounds self.old }
+        requires within { unit < length net.now.units }
+        requires kind { kind_of net.now unit ≡ units.Op2 op }
+        requires pins { pins ≡ pins_of unit net.now.chans }
+        ensures { IsTurnMade net.now bounds now unit 0 1 self.old self.new result }
+    {
+        let plan = self.state.plan_op2_at(net, unit, op, pins);
+        self.go(net, bounds, unit, pins, plan, now)
+    }
+
+    /// Tries the place of a select.
+    ///
+    /// # Errors
+    ///
+    /// As [`Engine::fire`].
+    #[inline(never)]
+    fn go_select(
+        &mut self,
+        net: &Checked,
+        bounds: Bounds,
+        unit: u32,
+        pins: Pins,
+        now: u64,
+    ) -> Result<(), Broken>
+        requires ready { IsReady net.now bounds self.old }
+        requires within { unit < length net.now.units }
+        requires kind { IsSelect (kind_of net.now unit) }
+        requires pins { pins ≡ pins_of unit net.now.chans }
+        ensures { IsTurnMade net.now bounds now unit 0 1 self.old self.new result }
+    {
+        let plan = self.state.plan_select_at(net, unit, pins);
+        self.go(net, bounds, unit, pins, plan, now)
+    }
+
+    /// Tries the place of a mux.
+    ///
+    /// # Errors
+    ///
+    /// As [`Engine::fire`].
+    #[inline(never)]
+    fn go_mux(
+        &mut self,
+        net: &Checked,
+        bounds: Bounds,
+        unit: u32,
+        ins: u32,
+        pins: Pins,
+        now: u64,
+    ) -> Result<(), Broken>
+        requires ready { IsReady net.now bounds self.old }
+        requires within { unit < length net.now.units }
+        requires kind { IsMuxOf ins (kind_of net.now unit) }
+        requires pins { pins ≡ pins_of unit net.now.chans }
+        ensures { IsTurnMade net.now bounds now unit 0 1 self.old self.new result }
+    {
+        let plan = self.state.plan_mux_at(net, unit, ins, pins);
+        self.go(net, bounds, unit, pins, plan, now)
+    }
+
+    /// Tries the place of a branch.
+    ///
+    /// # Errors
+    ///
+    /// As [`Engine::fire`].
+    #[inline(never)]
+    fn go_branch(
+        &mut self,
+        net: &Checked,
+        bounds: Bounds,
+        unit: u32,
+        pins: Pins,
+        now: u64,
+    ) -> Result<(), Broken>
+        requires ready { IsReady net.now bounds self.old }
+        requires within { unit < length net.now.units }
+        requires kind { IsBranch (kind_of net.now unit) }
+        requires pins { pins ≡ pins_of unit net.now.chans }
+        ensures { IsTurnMade net.now bounds now unit 0 1 self.old self.new result }
+    {
+        let plan = self.state.plan_branch_at(net, unit, pins);
+        self.go(net, bounds, unit, pins, plan, now)
+    }
+
+    /// Tries the place of a sink.
+    ///
+    /// # Errors
+    ///
+    /// As [`Engine::fire`].
+    #[inline(never)]
+    fn go_sink(
+        &mut self,
+        net: &Checked,
+        bounds: Bounds,
+        unit: u32,
+        pins: Pins,
+        now: u64,
+    ) -> Result<(), Broken>
+        requires ready { IsReady net.now bounds self.old }
+        requires within { unit < length net.now.units }
+        requires kind { IsSink (kind_of net.now unit) }
+        requires pins { pins ≡ pins_of unit net.now.chans }
+        ensures { IsTurnMade net.now bounds now unit 0 1 self.old self.new result }
+    {
+        let plan = self.state.plan_sink_at(net, unit, pins);
+        self.go(net, bounds, unit, pins, plan, now)
+    }
+
+    /// Tries the place of a read.
+    ///
+    /// # Errors
+    ///
+    /// As [`Engine::fire`].
+    #[inline(never)]
+    fn go_read(
+        &mut self,
+        net: &Checked,
+        bounds: Bounds,
+        unit: u32,
+        array: u32,
+        pins: Pins,
+        now: u64,
+    ) -> Result<(), Broken>
+        requires ready { IsReady net.now bounds self.old }
+        requires within { unit < length net.now.units }
+        requires kind { kind_of net.now unit ≡ units.Read array }
+        requires pins { pins ≡ pins_of unit net.now.chans }
+        ensures { IsTurnMade net.now bounds now unit 0 1 self.old self.new result }
+    {
+        let plan = self.state.plan_read_at(net, unit, array, pins);
+        self.go(net, bounds, unit, pins, plan, now)
+    }
+
+    /// Tries the place of a unit that fires once in a run: an entry, a parameter or the exit.
+    ///
+    /// # Errors
+    ///
+    /// As [`Engine::fire`].
+    #[inline(never)]
+    fn go_once(
+        &mut self,
+        net: &Checked,
+        bounds: Bounds,
+        unit: u32,
+        kind: &Unit,
+        pins: Pins,
+        now: u64,
+    ) -> Result<(), Broken>
+        requires ready { IsReady net.now bounds self.old }
+        requires within { unit < length net.now.units }
+        requires kind { kind.now ≡ kind_of net.now unit }
+        requires plain { is_lsq kind.now ≡ false }
+        requires straight { is_fork kind.now ≡ false }
+        requires pins { pins ≡ pins_of unit net.now.chans }
+        ensures { IsTurnMade net.now bounds now unit 0 1 self.old self.new result }
+    {
+        let plan = self.state.plan_go_at(net, unit, kind, pins);
+        self.go(net, bounds, unit, pins, plan, now)
+    }
+
+    /// What the sending of a fork to an output does that may be made in the cycle, where the head of the fork is ripe; `None` where it
+    /// may not.
     #[inline(always)]
     fn may_send(
         &self,
         net: &Checked,
-        firing: Firing,
-        kind: &Unit,
+        unit: u32,
+        outs: u32,
+        out: u32,
         pins: Pins,
         chan: u32,
         now: u64,
     ) -> Option<Planned>
         requires engine { IsEngine net.now self.now }
         requires long { length self.now.freed.marked.items ≡ length net.now.chans }
-        requires within { firing.unit < length net.now.units }
-        requires kind { kind.now ≡ kind_of net.now firing.unit }
-        requires pins { pins ≡ pins_of firing.unit net.now.chans }
-        requires fork { is_fork kind.now ≡ true }
-        requires send { IsSendOn net.now firing chan }
-        ensures planned { IfSome result (IsPlanned net.now self.now firing) }
+        requires within { unit < length net.now.units }
+        requires fork { IsForkOf outs (kind_of net.now unit) }
+        requires pins { pins ≡ pins_of unit net.now.chans }
+        requires there { chan ≡ out_of unit out net.now.chans }
+        requires ripe { RipeAt net.now now (dates_of self.now.state) pins.first }
+        ensures planned { IfSome result
+            (IsPlanned net.now self.now (firing unit (acts.Send out))) }
         ensures may { (start : Dated) → IsBegun net.now now start self.now → MatchOption result
-            (May net.now now start (dated_of self.now) firing → ⊥)
-            (λ p. May net.now now start (dated_of self.now) firing) }
+            (May net.now now start (dated_of self.now) (firing unit (acts.Send out)) → ⊥)
+            (λ p. May net.now now start (dated_of self.now) (firing unit (acts.Send out))) }
     {
-        let plan = self.state.plan(net, firing)?;
+        let _ = now;
+        let plan = self.state.plan_send_at(net, unit, outs, out, pins)?;
         let planned = Planned {
             plan,
             moves: moves_to(pins, chan, &plan),
         };
-        if has_ripe_head(&self.state, net, pins.first, now)
-            && self.has_room(net, planned.moves.laid)
-        {
+        if self.has_room(net, planned.moves.laid) {
             Some(planned)
         } else {
             None
         }
     }
 
-    /// Tries the sending of a fork to an output, and marks the units of which it may let one fire in the cycle.
+    /// Tries the sending of a fork, whose head is ripe, to an output, and marks the units of which it may let one fire in the cycle.
+    /// It tells whether the head was taken, after which no place of the fork is left to be tried: it is marked where it has another.
     ///
     /// # Errors
     ///
@@ -204,36 +415,51 @@ impl Engine {
         &mut self,
         net: &Checked,
         bounds: Bounds,
-        firing: Firing,
-        kind: &Unit,
+        unit: u32,
+        outs: u32,
+        out: u32,
         pins: Pins,
         chan: u32,
         now: u64,
-    ) -> Result<(), RunFault>
+    ) -> Result<bool, Broken>
         requires ready { IsReady net.now bounds self.old }
-        requires within { firing.unit < length net.now.units }
-        requires kind { kind.now ≡ kind_of net.now firing.unit }
-        requires pins { pins ≡ pins_of firing.unit net.now.chans }
-        requires fork { is_fork kind.now ≡ true }
-        requires send { IsSendOn net.now firing chan }
+        requires within { unit < length net.now.units }
+        requires fork { IsForkOf outs (kind_of net.now unit) }
+        requires pins { pins ≡ pins_of unit net.now.chans }
+        requires there { chan ≡ out_of unit out net.now.chans }
+        requires ripe { RipeAt net.now now (dates_of self.old.state) pins.first }
         ensures ready { OnOk result (IsReady net.now bounds self.new) }
         ensures less { OnOk result (to_visit bounds self.new ≤ to_visit bounds self.old) }
-        ensures tried { (past : Past) (start : Dated) (marks : MarksValue) (out : ℕ)
-            → firing.act ≡ acts.Send out
-            → IsTurn net.now past bounds now start marks self.old firing.unit 2 out
+        ensures kept { IfOk result (λ took. took ≡ false
+            → RipeAt net.now now (dates_of self.new.state) pins.first) }
+        ensures tried { (past : Past) (start : Dated) (marks : MarksValue)
+            → IsTurn net.now past bounds now start marks self.old unit 2 out
             → MatchResult result
-            (λ _. IsTurn net.now past bounds now start marks self.new firing.unit 2 (out + 1))
+            (IsSent net.now past bounds now start marks self.new unit out)
             (IsBroken net.now past.inputs bounds) }
     {
         let _ = net.net();
-        let Some(planned) = self.may_send(net, firing, kind, pins, chan, now) else {
-            return Ok(());
+        let Some(planned) = self.may_send(net, unit, outs, out, pins, chan, now) else {
+            return Ok(false);
         };
-        if self.fire(net, bounds, firing, planned, now)? {
-            self.marks
-                .rouse_fork(net, &self.state, &self.feeds, firing.unit, planned.moves)?;
+        let firing = Firing {
+            unit,
+            act: Act::Send(out),
+        };
+        if !self.fire(net, bounds, firing, planned, now)? {
+            return Ok(false);
         }
-        Ok(())
+        match planned.moves.taken {
+            Taken::None => {
+                self.marks.mark_put(net, planned.moves.laid)?;
+                Ok(false)
+            }
+            _ => {
+                self.marks
+                    .rouse_fork(net, &self.state, &self.feeds, unit, planned.moves)?;
+                Ok(true)
+            }
+        }
     }
 
     /// Tries the sendings of a fork, where its head is ripe.
@@ -246,61 +472,54 @@ impl Engine {
         net: &Checked,
         bounds: Bounds,
         unit: u32,
-        kind: &Unit,
-        pins: Pins,
         outs: u32,
+        pins: Pins,
         now: u64,
-    ) -> Result<(), RunFault>
+    ) -> Result<(), Broken>
         requires ready { IsReady net.now bounds self.old }
         requires within { unit < length net.now.units }
-        requires kind { kind.now ≡ kind_of net.now unit }
+        requires fork { IsForkOf outs (kind_of net.now unit) }
         requires pins { pins ≡ pins_of unit net.now.chans }
-        requires fork { is_fork kind.now ≡ true }
-        requires outs { outs ≡ outputs_in kind.now }
-        ensures ready { OnOk result (IsReady net.now bounds self.new) }
-        ensures less { OnOk result (to_visit bounds self.new ≤ to_visit bounds self.old) }
-        ensures tried { (past : Past) (start : Dated) (marks : MarksValue)
-            → IsTurn net.now past bounds now start marks self.old unit 2 0
-            → MatchResult result
-            (λ _. IsTurn net.now past bounds now start marks self.new unit 3 0)
-            (IsBroken net.now past.inputs bounds) }
+        ensures { IsTurnMade net.now bounds now unit 2 3 self.old self.new result }
     {
         if !has_ripe_head(&self.state, net, pins.first, now) {
             return Ok(());
         }
         let chans = net.outs_of(unit);
         for out in 0..outs {
-            let firing = Firing {
-                unit,
-                act: Act::Send(out),
-            };
             let chan = listed(net, chans, out);
-            self.send(net, bounds, firing, kind, pins, chan, now)?;
+            if self.send(net, bounds, unit, outs, out, pins, chan, now)? {
+                return Ok(());
+            }
         }
         Ok(())
     }
 
-    /// Tries the places of a control merge, where a control token lies on the channel that is noted for it.
+    /// Tries the places of a control merge, where a token lies on the channel that is noted for control.
     ///
     /// # Errors
     ///
-    /// As [`Engine::attempt`].
-    fn froms(&mut self, net: &Checked, bounds: Bounds, unit: u32, now: u64) -> Result<(), RunFault>
+    /// As [`Engine::fire`].
+    #[inline(always)]
+    fn froms(
+        &mut self,
+        net: &Checked,
+        bounds: Bounds,
+        unit: u32,
+        kind: &Unit,
+        now: u64,
+    ) -> Result<(), Broken>
         requires ready { IsReady net.now bounds self.old }
-        requires merge { is_merge (kind_of net.now unit) ≡ true }
-        ensures ready { OnOk result (IsReady net.now bounds self.new) }
-        ensures less { OnOk result (to_visit bounds self.new ≤ to_visit bounds self.old) }
-        ensures tried { (past : Past) (start : Dated) (marks : MarksValue)
-            → IsTurn net.now past bounds now start marks self.old unit 1 0
-            → MatchResult result
-            (λ _. IsTurn net.now past bounds now start marks self.new unit 2 0)
-            (IsBroken net.now past.inputs bounds) }
+        requires within { unit < length net.now.units }
+        requires kind { kind.now ≡ kind_of net.now unit }
+        requires merge { is_merge kind.now ≡ true }
+        ensures { IsTurnMade net.now bounds now unit 1 2 self.old self.new result }
     {
         let _ = net.net();
         if self.state.head(net, self.control).is_none() {
             return Ok(());
         }
-        self.steps::<Froms>(net, bounds, unit, Act::From(0), now)
+        self.steps::<Froms>(net, bounds, unit, kind, Act::From(0), now)
     }
 
     /// Tries the places of a unit whose mark was taken, where it is no queue.
@@ -314,9 +533,12 @@ impl Engine {
         net: &Checked,
         bounds: Bounds,
         unit: u32,
+        kind: &Unit,
         now: u64,
-    ) -> Result<(), RunFault>
-        requires { IsReady net.now bounds self.old }
+    ) -> Result<(), Broken>
+        requires ready { IsReady net.now bounds self.old }
+        requires within { unit < length net.now.units }
+        requires kind { kind.now ≡ kind_of net.now unit }
         ensures ready { OnOk result (IsReady net.now bounds self.new) }
         ensures less { OnOk result (to_visit bounds self.new ≤ to_visit bounds self.old) }
         ensures tried { (past : Past) (start : Dated)
@@ -325,26 +547,21 @@ impl Engine {
             (λ _. IsBegunIn net.now past bounds now start self.new)
             (IsBroken net.now past.inputs bounds) }
     {
-        let units = net.net().units.as_slice();
-        if unit as usize >= units.len() {
-            return Ok(());
-        }
-        let kind = &units[unit as usize];
         let pins = net.pins(unit);
         match kind {
-            Unit::Entry => self.go::<Entries>(net, bounds, unit, kind, pins, now),
-            Unit::Param(_) => self.go::<Params>(net, bounds, unit, kind, pins, now),
-            Unit::Const { .. } => self.go::<Consts>(net, bounds, unit, kind, pins, now),
-            Unit::Op1(_) => self.go::<Unaries>(net, bounds, unit, kind, pins, now),
-            Unit::Op2(_) => self.go::<Binaries>(net, bounds, unit, kind, pins, now),
-            Unit::Select { .. } => self.go::<Selects>(net, bounds, unit, kind, pins, now),
-            Unit::Mux { .. } => self.go::<Muxes>(net, bounds, unit, kind, pins, now),
-            Unit::Branch { .. } => self.go::<Branches>(net, bounds, unit, kind, pins, now),
-            Unit::Sink { .. } => self.go::<Sinks>(net, bounds, unit, kind, pins, now),
-            Unit::Read(_) => self.go::<Reads>(net, bounds, unit, kind, pins, now),
-            Unit::Exit => self.go::<Exits>(net, bounds, unit, kind, pins, now),
-            Unit::Fork { outs, .. } => { self.sends(net, bounds, unit, kind, pins, *outs, now) }
-            Unit::Cmerge { .. } => self.froms(net, bounds, unit, now),
+            Unit::Const { value, .. } => self.go_const(net, bounds, unit, *value, pins, now),
+            Unit::Op1(op) => self.go_op1(net, bounds, unit, *op, pins, now),
+            Unit::Op2(op) => self.go_op2(net, bounds, unit, *op, pins, now),
+            Unit::Select { .. } => self.go_select(net, bounds, unit, pins, now),
+            Unit::Mux { ins, .. } => self.go_mux(net, bounds, unit, *ins, pins, now),
+            Unit::Branch { .. } => self.go_branch(net, bounds, unit, pins, now),
+            Unit::Sink { .. } => self.go_sink(net, bounds, unit, pins, now),
+            Unit::Read(array) => self.go_read(net, bounds, unit, *array, pins, now),
+            Unit::Entry => self.go_once(net, bounds, unit, kind, pins, now),
+            Unit::Param(_) => self.go_once(net, bounds, unit, kind, pins, now),
+            Unit::Exit => self.go_once(net, bounds, unit, kind, pins, now),
+            Unit::Fork { outs, .. } => { self.sends(net, bounds, unit, *outs, pins, now) }
+            Unit::Cmerge { .. } => self.froms(net, bounds, unit, kind, now),
             Unit::Lsq { .. } => Ok(()),
         }
     }

@@ -1,31 +1,29 @@
 //! One firing is tried.
 
-ghost use Rattle.std.specs.Prelude.{◌≡◌, ◌↔◌, ◌+◌, ◌<◌, ◌^◌, ◌∷◌, ◌++◌, [], Some, is_some, true, false, IsTrue, IfSome, IfOk, IfErr, OnOk, MatchOption, length, get_or};
+ghost use Rattle.std.specs.Prelude.{◌≡◌, ◌↔◌, ◌+◌, ◌<◌, ◌^◌, ◌∷◌, ◌++◌, [], Some, is_some, true, false, IsTrue, IfSome, IfOk, OnOk, MatchOption, length, get_or};
 ghost use Rattle.el_base.specs.Limits.{max_depth};
-ghost use Rattle.net_types.specs.Nets.{kind_of};
-ghost use Rattle.net_core.specs.Fire.{has_room};
+ghost use Rattle.net_types.specs.Nets.{firing, kind_of};
+ghost use Rattle.net_types.specs.declared.firing.Act.TheVariants as acts;
 ghost use Rattle.net_core.specs.Plans.{apart, admits, chans_of, moves_of};
 ghost use Rattle.net_core.specs.States.{IsOf, IsPlanOf, CountsWithin, CountsRise, cell_at, state_of};
 ghost use Rattle.net_replay.specs.Finishes.{IsLogged};
-ghost use Rattle.net_replay.specs.declared.fault.RunFault.TheVariants as fault;
 ghost use Rattle.cycle_engine.specs.Cycles.{Dated, May, IsUnused, place_of, after_in};
-ghost use Rattle.cycle_engine.specs.private.Trials.{dated_of, HadRoom, IsPlanned, HasRoomNow, HadDepth, EntriesFit, Allowed, IsBegun, IsEngine};
+ghost use Rattle.cycle_engine.specs.private.Trials.{dated_of, HadRoom, IsPlanned, HasRoomNow, HadDepth, Allowed, IsBegun, IsEngine};
 ghost use Rattle.net_core.specs.Uses.{is_fork};
-ghost use Rattle.cycle_engine.specs.private.Goings.{Past, IsReady, InCycle, MayFollow, IsTried, IsBroken, IsMore};
+ghost use Rattle.cycle_engine.specs.private.Goings.{Past, IsReady, InCycle, MayFollow, IsTried, IsBroken, IsMore, after_where};
 ghost use Rattle.cycle_engine.specs.private.Marking.{IsFreed, IsNoted};
 ghost use Rattle.cycle_engine.specs.private.Control.{control_after};
-ghost use Rattle.cycle_engine.specs.private.Used.{AreTold, IsUnusedFrom};
+ghost use Rattle.cycle_engine.specs.private.Used.{AreTold, IsPlaceIn, IsUnusedFrom};
 ghost use Rattle.std.specs.Prelude.{MatchResult};
 
+use crate::broken::Broken;
 use crate::control::control_after;
 use crate::dates::are_ripe;
 use crate::engine::{Bounds, Engine};
-use crate::stack::Stack;
 use el_base::Log;
 use net_check::Checked;
 use net_core::{Laid, Moves, Plan, moves_of};
-use net_replay::RunFault;
-use net_types::{Act, Firing, List, Unit};
+use net_types::{Act, Firing, List, Memory, Unit};
 
 /// What a firing does, and the tokens that it moves.
 #[derive(Clone, Copy)]
@@ -43,25 +41,6 @@ fn noted(entries: &[u32], at: u32) -> u32
         entries[at as usize]
     } else {
         0
-    }
-}
-
-/// Whether so many entries leave room for those of a group, where an act allocates one.
-#[inline(always)]
-fn entries_fit(depth: u32, groups: &[List<u32>], entries: u32, act: Act) -> bool
-    ensures { IsTrue result ↔ EntriesFit depth groups.now entries act }
-{
-    match act {
-        Act::Go => true,
-        Act::From(_) => true,
-        Act::Send(_) => true,
-        Act::Alloc(group) => entries as u64 + group_size(groups, group) <= depth as u64,
-        Act::Addr(_) => true,
-        Act::Data(_) => true,
-        Act::Exec(_) => true,
-        Act::Reply(_) => true,
-        Act::Retire => true,
-        Act::End => true,
     }
 }
 
@@ -83,17 +62,35 @@ fn had_depth(begun: &[u32], net: &Checked, firing: Firing) -> bool
     ensures { IsTrue result ↔ HadDepth (kind_of net.now firing.unit)
         (get_or begun.now firing.unit 0) firing.act }
 {
+    match firing.act {
+        Act::Alloc(group) => had_room_for(begun, net, firing.unit, group),
+        Act::Go => true,
+        Act::From(_) => true,
+        Act::Send(_) => true,
+        Act::Addr(_) => true,
+        Act::Data(_) => true,
+        Act::Exec(_) => true,
+        Act::Reply(_) => true,
+        Act::Retire => true,
+        Act::End => true,
+    }
+}
+
+/// Whether a queue had free depth for the entries of a group. It stands apart so that what allocates none stays small.
+#[inline(never)]
+fn had_room_for(begun: &[u32], net: &Checked, unit: u32, group: u32) -> bool
+    ensures { IsTrue result ↔ HadDepth (kind_of net.now unit)
+        (get_or begun.now unit 0) (acts.Alloc group) }
+{
     let units = net.net().units.as_slice();
-    let entries = noted(begun, firing.unit);
-    if (firing.unit as usize) < units.len() {
-        match &units[firing.unit as usize] {
-            Unit::Lsq { depth, groups, .. } => {
-                entries_fit(*depth, groups.as_slice(), entries, firing.act)
-            }
-            _ => true,
+    if unit as usize >= units.len() {
+        return true;
+    }
+    match &units[unit as usize] {
+        Unit::Lsq { depth, groups, .. } => {
+            noted(begun, unit) as u64 + group_size(groups.as_slice(), group) <= *depth as u64
         }
-    } else {
-        true
+        _ => true,
     }
 }
 
@@ -117,22 +114,6 @@ fn same_place(first: Firing, second: Firing) -> bool
     ensures { IsTrue result ↔ (place_of first ≡ place_of second) }
 {
     place(first) == place(second)
-}
-
-/// Adds a firing to those of the cycle.
-///
-/// # Errors
-///
-/// `Memory` where memory is wanting.
-#[inline(always)]
-fn note_fired(fired: &mut Stack<Firing>, firing: Firing) -> Result<(), RunFault>
-    ensures fired { OnOk result (fired.new.items ≡ fired.old.items ++ firing ∷ []) }
-    ensures memory { IfErr result (λ e. e ≡ fault.Memory) }
-{
-    match fired.push(firing) {
-        Ok(()) => Ok(()),
-        Err(_) => Err(RunFault::Memory),
-    }
 }
 
 /// Adds a firing to the log where it is kept.
@@ -162,31 +143,33 @@ impl Engine {
         false
     }
 
-    /// Whether a firing of the cycle is at the place of a firing.
-    #[inline(never)]
-    fn is_among(&self, firing: Firing) -> bool
-        ensures used { result ≡ true → IsUnused self.now.fired.items firing → ⊥ }
-        ensures unused { result ≡ false → IsUnused self.now.fired.items firing }
-    {
-        self.is_from(0, firing)
-    }
-
     /// Whether the place of a firing has fired in the cycle. It costs one step where it has not, and where the firing that is
     /// told as the last at the place is at the place.
     #[inline(always)]
-    fn is_used(&self, firing: Firing) -> bool
+    fn is_used(&self, firing: Firing, place: Option<usize>) -> bool
         requires told { AreTold self.now.used self.now.made self.now.fired.items }
         requires within { firing.unit < length self.now.used.last.items }
+        requires place { IsPlaceIn self.now.used firing place }
         ensures used { result ≡ true → IsUnused self.now.fired.items firing → ⊥ }
         ensures unused { result ≡ false → IsUnused self.now.fired.items firing }
     {
-        if self.used.has_not_fired(firing, self.made) {
+        if self.used.has_not_fired(firing, place, self.made) {
             return false;
         }
-        if self.is_from(self.used.told(firing, self.made), firing) {
-            return true;
-        }
-        self.is_among(firing)
+        self.is_listed(firing.unit, firing.act)
+    }
+
+    /// Whether the place of a firing, by its unit and its act, is among the places of the cycle's firings: that of the firing which
+    /// is told as the last there is looked at first. It stands apart, and takes the parts of the firing, so that what asks first
+    /// needs no memory for it.
+    #[inline(never)]
+    fn is_listed(&self, unit: u32, act: Act) -> bool
+        requires within { unit < length self.now.used.last.items }
+        ensures used { result ≡ true → IsUnused self.now.fired.items (firing unit act) → ⊥ }
+        ensures unused { result ≡ false → IsUnused self.now.fired.items (firing unit act) }
+    {
+        let firing = Firing { unit, act };
+        self.is_from(self.used.told(firing, self.made), firing) || self.is_from(0, firing)
     }
 
     /// Whether there is room for the token that a firing puts, and was where the cycle began.
@@ -255,16 +238,17 @@ impl Engine {
     ///
     /// # Errors
     ///
-    /// `Memory` where memory is wanting.
+    /// [`Memory`] where memory is wanting.
     #[inline(always)]
     fn make(
         &mut self,
         net: &Checked,
         firing: Firing,
+        place: Option<usize>,
         planned: Planned,
         keep: bool,
         now: u64,
-    ) -> Result<(), RunFault>
+    ) -> Result<(), Memory>
         requires engine { IsEngine net.now self.old }
         requires planned { IsPlanned net.now self.old firing planned }
         requires counts { CountsWithin (2 ^ 62) (state_of self.old.state) }
@@ -272,7 +256,7 @@ impl Engine {
         requires cells { length self.old.notes.coming.items ≡ 1024 }
         requires few { self.old.made + length self.old.fired.items < 2 ^ 63 }
         requires told { AreTold self.old.used self.old.made self.old.fired.items }
-        requires within { firing.unit < length self.old.used.last.items }
+        requires place { IsPlaceIn self.old.used firing place }
         ensures told { OnOk result
             (AreTold self.new.used self.new.made self.new.fired.items) }
         ensures places { OnOk result
@@ -295,11 +279,10 @@ impl Engine {
         ensures control { OnOk result (self.new.control
             ≡ control_after net.now planned.moves.laid self.old.control) }
         ensures log { OnOk result (IsLogged keep (firing ∷ []) self.old.log self.new.log) }
-        ensures memory { IfErr result (λ e. e ≡ fault.Memory) }
     {
         let count = self.made + self.fired.len() as u64;
-        self.used.note(firing, self.made, count);
-        note_fired(&mut self.fired, firing)?;
+        self.used.note(firing, place, self.made, count);
+        self.fired.push(firing)?;
         let moves = planned.moves;
         self.freed.note(&self.state, net, moves.taken, now)?;
         self.control = control_after(net, moves.laid, self.control);
@@ -322,13 +305,15 @@ impl Engine {
         firing: Firing,
         planned: Planned,
         now: u64,
-    ) -> Result<bool, RunFault>
+    ) -> Result<bool, Broken>
         requires ready { IsReady net.now bounds self.old }
         requires planned { IsPlanned net.now self.old firing planned }
         requires may { (start : Dated) → IsBegun net.now now start self.old
             → May net.now now start (dated_of self.old) firing }
         ensures ready { OnOk result (IsReady net.now bounds self.new) }
         ensures more { IfOk result (λ did. IsMore self.old self.new did) }
+        ensures after { IfOk result (λ did. dated_of self.new
+            ≡ after_where did net.now now (dated_of self.old) firing) }
         ensures marks { OnOk result (self.new.marks ≡ self.old.marks) }
         ensures feeds { OnOk result (self.new.feeds ≡ self.old.feeds) }
         ensures tried { (past : Past) (start : Dated)
@@ -339,15 +324,14 @@ impl Engine {
             (IsBroken net.now past.inputs bounds) }
     {
         let _ = net.net();
-        if self.is_used(firing) {
+        let place = self.used.place(firing);
+        if self.is_used(firing, place) {
             return Ok(false);
         }
         if self.made + self.fired.len() as u64 == bounds.limit {
-            return Err(RunFault::Limit {
-                limit: bounds.limit,
-            });
+            return Err(Broken::Limit);
         }
-        self.make(net, firing, planned, bounds.keep, now)?;
+        self.make(net, firing, place, planned, bounds.keep, now)?;
         Ok(true)
     }
 
@@ -365,7 +349,7 @@ impl Engine {
         firing: Firing,
         plan: Option<Plan>,
         now: u64,
-    ) -> Result<Option<Planned>, RunFault>
+    ) -> Result<Option<Planned>, Broken>
         requires ready { IsReady net.now bounds self.old }
         requires straight { is_fork (kind_of net.now firing.unit) ≡ false }
         requires apart { IfSome plan (λ p. apart p.takes ≡ true) }

@@ -1,6 +1,6 @@
 //! A cycle's turns: first the marked units that are no queues, until none is marked, then the marked queues once.
 
-ghost use Rattle.std.specs.Prelude.{◌≡◌, ◌≢◌, true, false, ℕ, ◌+◌, ◌<◌, ◌≤◌, OnOk, MatchResult};
+ghost use Rattle.std.specs.Prelude.{◌≡◌, ◌≢◌, true, false, ℕ, ◌+◌, ◌<◌, ◌≤◌, length, OnOk, MatchResult};
 ghost use Rattle.net_types.specs.Order.{act_rank};
 ghost use Rattle.net_types.specs.Nets.{kind_of};
 ghost use Rattle.net_check.specs.Ends.{is_lsq};
@@ -11,11 +11,11 @@ ghost use Rattle.cycle_engine.specs.declared.marks.Marks.{Marks as MarksValue};
 ghost use Rattle.cycle_engine.specs.private.Goings.{Past, IsReady, IsBroken, IsBegunIn, to_visit};
 ghost use Rattle.cycle_engine.specs.private.Places.{IsTurn, IsNextAct, IsSettled, IsServed, IsFull};
 
+use crate::broken::Broken;
 use crate::engine::{Bounds, Engine};
-use crate::places::{count_acts, is_queue, look_at_queue, next_number, numbered, oldest};
+use crate::places::{count_acts, is_queue_kind, look_at_queue, next_number, numbered, oldest};
 use net_check::Checked;
-use net_replay::RunFault;
-use net_types::{Act, Firing};
+use net_types::{Act, Firing, Unit};
 
 /// Names for copies of [`Engine::steps`], one for each kind of acts: they have no part in what it does, but in a copy that is
 /// called with one kind alone the compiler decides most tests.
@@ -46,9 +46,14 @@ impl Engine {
         net: &Checked,
         bounds: Bounds,
         firing: Firing,
+        kind: &Unit,
         now: u64,
-    ) -> Result<(), RunFault>
+    ) -> Result<(), Broken>
         requires ready { IsReady net.now bounds self.old }
+        requires within { firing.unit < length net.now.units }
+        requires kind { kind.now ≡ kind_of net.now firing.unit }
+        requires goes { act_rank firing.act ≢ 0 }
+        requires sends { act_rank firing.act ≢ 2 }
         requires straight { is_fork (kind_of net.now firing.unit) ≡ false }
         ensures ready { OnOk result (IsReady net.now bounds self.new) }
         ensures less { OnOk result (to_visit bounds self.new ≤ to_visit bounds self.old) }
@@ -60,19 +65,19 @@ impl Engine {
             (IsBroken net.now past.inputs bounds) }
     {
         let _ = net.net();
-        let plan = self.state.plan(net, firing);
+        let plan = self.state.plan_act_at(net, firing, kind);
         let Some(planned) = self.attempt(net, bounds, firing, plan, now)? else {
             return Ok(());
         };
-        if !is_queue(net, firing.unit) {
+        if !is_queue_kind(kind) {
             self.marks
                 .rouse(net, &self.feeds, firing.unit, planned.moves)?;
         }
         Ok(())
     }
 
-    /// Tries all places of one kind of a unit that is no fork but those at which its queue allows no act, and those for the
-    /// control token to which the channel that is noted for it does not lead.
+    /// Tries all places for one kind of acts of a unit that is no fork but those at which its queue allows no act, and those for the
+    /// control token to which the channel that is noted for it does not lead, or on which it has no token.
     ///
     /// # Errors
     ///
@@ -82,35 +87,32 @@ impl Engine {
         net: &Checked,
         bounds: Bounds,
         unit: u32,
-        kind: Act,
+        kind: &Unit,
+        act: Act,
         now: u64,
-    ) -> Result<(), RunFault>
+    ) -> Result<(), Broken>
         requires ready { IsReady net.now bounds self.old }
-        requires kind { act_rank kind ≢ 6 }
+        requires within { unit < length net.now.units }
+        requires kind { kind.now ≡ kind_of net.now unit }
+        requires goes { act_rank act ≢ 0 }
+        requires sends { act_rank act ≢ 2 }
+        requires executes { act_rank act ≢ 6 }
         requires straight { is_fork (kind_of net.now unit) ≡ false }
         ensures ready { OnOk result (IsReady net.now bounds self.new) }
         ensures less { OnOk result (to_visit bounds self.new ≤ to_visit bounds self.old) }
         ensures tried { (past : Past) (start : Dated) (marks : MarksValue)
-            → IsTurn net.now past bounds now start marks self.old unit (act_rank kind) 0
+            → IsTurn net.now past bounds now start marks self.old unit (act_rank act) 0
             → MatchResult result
-            (λ _. IsTurn net.now past bounds now start marks self.new unit (act_rank kind + 1) 0)
+            (λ _. IsTurn net.now past bounds now start marks self.new unit (act_rank act + 1) 0)
             (IsBroken net.now past.inputs bounds) }
     {
         let _ = net.net();
-        let count = count_acts(net, unit, kind);
-        let mut number = next_number(net, &self.state, self.control, unit, kind, 0, count);
+        let count = count_acts(net, unit, act);
+        let mut number = next_number(net, &self.state, self.control, unit, act, 0, count);
         while number < count {
-            let act = numbered(kind, number);
-            self.step::<K>(net, bounds, Firing { unit, act }, now)?;
-            number = next_number(
-                net,
-                &self.state,
-                self.control,
-                unit,
-                kind,
-                number + 1,
-                count,
-            );
+            let next = numbered(act, number);
+            self.step::<K>(net, bounds, Firing { unit, act: next }, kind, now)?;
+            number = next_number(net, &self.state, self.control, unit, act, number + 1, count);
         }
         look_at_queue(net, &self.state, unit);
         Ok(())
@@ -126,10 +128,13 @@ impl Engine {
         net: &Checked,
         bounds: Bounds,
         unit: u32,
+        kind: &Unit,
         now: u64,
-    ) -> Result<(), RunFault>
+    ) -> Result<(), Broken>
         requires ready { IsReady net.now bounds self.old }
-        requires queue { is_lsq (kind_of net.now unit) ≡ true }
+        requires within { unit < length net.now.units }
+        requires kind { kind.now ≡ kind_of net.now unit }
+        requires queue { is_lsq kind.now ≡ true }
         ensures ready { OnOk result (IsReady net.now bounds self.new) }
         ensures tried { (past : Past) (start : Dated) (marks : MarksValue)
             → IsTurn net.now past bounds now start marks self.old unit 6 0
@@ -140,7 +145,7 @@ impl Engine {
         let Some(act) = oldest(net, &self.state, unit) else {
             return Ok(());
         };
-        self.step::<Execs>(net, bounds, Firing { unit, act }, now)?;
+        self.step::<Execs>(net, bounds, Firing { unit, act }, kind, now)?;
         Ok(())
     }
 
@@ -154,7 +159,7 @@ impl Engine {
         net: &Checked,
         bounds: Bounds,
         now: u64,
-    ) -> Result<(), RunFault>
+    ) -> Result<(), Broken>
         requires { IsReady net.now bounds self.old }
         ensures ready { OnOk result (IsReady net.now bounds self.new) }
         ensures settled { (past : Past) (start : Dated)
@@ -163,8 +168,12 @@ impl Engine {
             (λ _. IsSettled net.now past bounds now start self.new)
             (IsBroken net.now past.inputs bounds) }
     {
-        'units: while let Some(unit) = self.marks.take(net)? {
-            self.run_unit(net, bounds, unit, now)?;
+        let _ = net.net();
+        'units: while let Some(turn) = self.marks.take(net)? {
+            match turn.kind {
+                None => {}
+                Some(kind) => self.run_unit(net, bounds, turn.unit, kind, now)?,
+            }
         }
         Ok(())
     }
@@ -179,10 +188,13 @@ impl Engine {
         net: &Checked,
         bounds: Bounds,
         unit: u32,
+        kind: &Unit,
         now: u64,
-    ) -> Result<(), RunFault>
+    ) -> Result<(), Broken>
         requires ready { IsReady net.now bounds self.old }
-        requires queue { is_lsq (kind_of net.now unit) ≡ true }
+        requires within { unit < length net.now.units }
+        requires kind { kind.now ≡ kind_of net.now unit }
+        requires queue { is_lsq kind.now ≡ true }
         ensures ready { OnOk result (IsReady net.now bounds self.new) }
         ensures tried { (past : Past) (start : Dated) (marks : MarksValue)
             → IsTurn net.now past bounds now start marks self.old unit 3 0
@@ -190,13 +202,13 @@ impl Engine {
             (λ _. IsTurn net.now past bounds now start marks self.new unit 10 0)
             (IsBroken net.now past.inputs bounds) }
     {
-        self.steps::<Allocs>(net, bounds, unit, Act::Alloc(0), now)?;
-        self.steps::<Addrs>(net, bounds, unit, Act::Addr(0), now)?;
-        self.steps::<Datas>(net, bounds, unit, Act::Data(0), now)?;
-        self.execute(net, bounds, unit, now)?;
-        self.steps::<Replies>(net, bounds, unit, Act::Reply(0), now)?;
-        self.steps::<Retires>(net, bounds, unit, Act::Retire, now)?;
-        self.steps::<Ends>(net, bounds, unit, Act::End, now)?;
+        self.steps::<Allocs>(net, bounds, unit, kind, Act::Alloc(0), now)?;
+        self.steps::<Addrs>(net, bounds, unit, kind, Act::Addr(0), now)?;
+        self.steps::<Datas>(net, bounds, unit, kind, Act::Data(0), now)?;
+        self.execute(net, bounds, unit, kind, now)?;
+        self.steps::<Replies>(net, bounds, unit, kind, Act::Reply(0), now)?;
+        self.steps::<Retires>(net, bounds, unit, kind, Act::Retire, now)?;
+        self.steps::<Ends>(net, bounds, unit, kind, Act::End, now)?;
         Ok(())
     }
 
@@ -205,7 +217,7 @@ impl Engine {
     /// # Errors
     ///
     /// As [`Engine::attempt`].
-    fn serve(&mut self, net: &Checked, bounds: Bounds, now: u64) -> Result<(), RunFault>
+    fn serve(&mut self, net: &Checked, bounds: Bounds, now: u64) -> Result<(), Broken>
         requires { IsReady net.now bounds self.old }
         ensures ready { OnOk result (IsReady net.now bounds self.new) }
         ensures served { (past : Past) (start : Dated) (count n : ℕ)
@@ -217,10 +229,14 @@ impl Engine {
         let Some(unit) = self.marks.take_queue() else {
             return Ok(());
         };
-        if !is_queue(net, unit) {
+        let units = net.net().units.as_slice();
+        if unit as usize >= units.len() {
             return Ok(());
         }
-        self.run_queue(net, bounds, unit, now)?;
+        let kind = &units[unit as usize];
+        if is_queue_kind(kind) {
+            self.run_queue(net, bounds, unit, kind, now)?;
+        }
         Ok(())
     }
 
@@ -234,7 +250,7 @@ impl Engine {
         net: &Checked,
         bounds: Bounds,
         now: u64,
-    ) -> Result<(), RunFault>
+    ) -> Result<(), Broken>
         requires { IsReady net.now bounds self.old }
         ensures ready { OnOk result (IsReady net.now bounds self.new) }
         ensures full { (past : Past) (start : Dated)

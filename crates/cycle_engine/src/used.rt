@@ -1,7 +1,7 @@
 //! Which places have fired in a cycle.
 
-ghost use Rattle.std.specs.Prelude.{◌≡◌, ◌↔◌, ◌<◌, ◌≤◌, ◌^◌, true, false, IfOk, IfSome, get_or, length};
-ghost use Rattle.cycle_engine.specs.private.Used.{IsTold, IsUntold, own_number, place_number};
+ghost use Rattle.std.specs.Prelude.{◌≡◌, ◌<◌, ◌≤◌, ◌^◌, true, IfOk, length};
+ghost use Rattle.cycle_engine.specs.private.Used.{IsPlaceIn, IsTold, IsUntold, own_number, place_number};
 
 use net_check::Checked;
 use net_types::{Act, Firing, Memory, Unit};
@@ -110,66 +110,51 @@ impl Used {
         u64::from(base) + own
     }
 
-    /// Whether the table has the number of a firing's place.
+    /// The number of a firing's place, where the table has it.
     #[inline(always)]
-    fn has(&self, firing: Firing) -> bool
+    pub(crate) fn place(&self, firing: Firing) -> Option<usize>
         requires { firing.unit < length self.now.last.items }
-        ensures { result ≡ true
-            ↔ (place_number self.now.base.items firing < length self.now.last.items) }
+        ensures { IsPlaceIn self.now firing result }
     {
-        own_number(firing.act) == 0 || self.number(firing) < self.last.len() as u64
-    }
-
-    /// How many firings there were with the last one of a firing's place, where that is told.
-    #[inline(always)]
-    fn last(&self, firing: Firing) -> Option<u64>
-        requires { firing.unit < length self.now.last.items }
-        ensures clear { IfSome result (λ _. self.now.mixed ≡ false) }
-        ensures within { IfSome result
-            (λ _. place_number self.now.base.items firing < length self.now.last.items) }
-        ensures value { IfSome result
-            (λ n. n ≡ get_or self.now.last.items (place_number self.now.base.items firing) 0) }
-    {
-        if self.mixed || !self.has(firing) {
-            return None;
+        if own_number(firing.act) == 0 {
+            return Some(firing.unit as usize);
         }
-        Some(self.last[self.number(firing) as usize])
+        let at = self.number(firing) as usize;
+        if at < self.last.len() { Some(at) } else { None }
     }
 
-    /// Whether the table tells that a firing's place has not fired after so many firings.
+    /// Whether the table tells that a firing's place, of this number, has not fired after so many firings.
     #[inline(always)]
-    pub(crate) fn has_not_fired(&self, firing: Firing, earlier: u64) -> bool
-        requires { firing.unit < length self.now.last.items }
+    pub(crate) fn has_not_fired(&self, firing: Firing, place: Option<usize>, earlier: u64) -> bool
+        requires { IsPlaceIn self.now firing place }
         ensures { result ≡ true → IsUntold self.now earlier firing }
     {
-        let Some(last) = self.last(firing) else {
-            return false;
-        };
-        if last > earlier {
-            return false;
+        let _ = firing;
+        match place {
+            None => false,
+            Some(at) => !self.mixed && self.last[at] <= earlier,
         }
-        true
     }
 
     /// How many firings came between so many and the one that is told as the last of a firing's place.
     pub(crate) fn told(&self, firing: Firing, earlier: u64) -> usize
         requires { firing.unit < length self.now.last.items }
     {
-        match self.last(firing) {
+        match self.place(firing) {
             None => 0,
-            Some(last) => last.saturating_sub(earlier).saturating_sub(1) as usize,
+            Some(at) => self.last[at].saturating_sub(earlier).saturating_sub(1) as usize,
         }
     }
 
-    /// Notes that a place fires after so many firings, of which so many were made in earlier cycles.
+    /// Notes that a firing's place, of this number, fires after so many firings, of which so many were made in earlier cycles.
     #[inline(always)]
-    pub(crate) fn note(&mut self, firing: Firing, earlier: u64, count: u64)
-        requires within { firing.unit < length self.old.last.items }
+    pub(crate) fn note(&mut self, firing: Firing, place: Option<usize>, earlier: u64, count: u64)
+        requires place { IsPlaceIn self.old firing place }
         requires few { count < 2 ^ 63 }
         ensures { IsTold firing earlier count self.old self.new }
     {
-        if self.has(firing) {
-            let at = self.number(firing) as usize;
+        let _ = firing;
+        if let Some(at) = place {
             if self.last[at] > earlier {
                 self.mixed = true;
             }

@@ -8,6 +8,7 @@ use Rattle.net_types.specs.declared.net.Chan.{Chan}
 use Rattle.net_types.specs.declared.net.Port.{Port}
 use Rattle.net_types.specs.declared.net.Unit.{Unit as Kind}
 use Rattle.net_types.specs.declared.net.Unit.TheVariants as unit
+use Rattle.net_types.specs.declared.firing.Act.{Act}
 use Rattle.net_types.specs.declared.firing.Act.TheVariants.{Send}
 use Rattle.net_types.specs.declared.firing.Firing.{Firing}
 use Rattle.net_types.specs.Nets.{nowhere, firing, kind_of, uses, owns}
@@ -223,25 +224,28 @@ plan_shape net s u k c xs of l ku cu is =
     let P : List ℕ → Type 0 = λ ys. IsShaped k c ys in
     subst P (sym is) (rw (ku, ← cell_here net s u c of l cu) (shape_at net s u of))
 
--- what an act of a unit that its cell shows does
-pub act_plan : (net : Net) (s : Stored) (f : Firing) (k : Kind) (c : Cell) (plan : Option Plan) → IsOf net s → f.unit < length net.units → k ≡ kind_of net f.unit → c ≡ get_or s.cells.items f.unit c
-    → IsActPlan k f.act c (head_at net (state_of s) f.unit) plan → IsPlanOf net s f plan
-act_plan net s f k c plan of l ku cu h =
+-- what the act of a unit of a known kind does, by the heads that its code sees
+pub row_plan : (net : Net) (s : Stored) (u : ℕ) (act : Act) (k : Kind) (heads : ℕ → Option ℕ) (plan : Option Plan) → kind_of net u ≡ k → heads ≡ head_at net (state_of s) u
+    → planned k (own_at s u) (at_array (arrays_of s) (uses k)) plan ≡ effect_of (row k act (own_at s u) (at_array (arrays_of s) (uses k)) (setting net (state_of s))) heads → IsPlanOf net s (firing u act) plan
+row_plan net s u act k heads plan is seen h =
+    (λ i. planned (is i) (own_at s u) (at_array (arrays_of s) (uses (is i))) plan) ∙ h
+    ∙ (λ i. effect_of (row (sym is i) act (own_at s u) (at_array (arrays_of s) (uses (sym is i))) (setting net (state_of s))) (seen i))
+
+-- so of an act of a unit that its cell shows
+pub act_plan : (net : Net) (s : Stored) (f : Firing) (k : Kind) (c : Cell) (heads : ℕ → Option ℕ) (plan : Option Plan) → IsOf net s → f.unit < length net.units → k ≡ kind_of net f.unit
+    → c ≡ get_or s.cells.items f.unit c → heads ≡ head_at net (state_of s) f.unit → IsActPlan k f.act c heads plan → IsPlanOf net s f plan
+act_plan net s f k c heads plan of l ku cu seen h =
+    let xs = at_array (arrays_of s) (uses k) in
     let o : own_at s f.unit ≡ own_of c = get_or-map own_of s.cells.items f.unit Plain ∙ ap own_of (cell_here net s f.unit c of l cu) in
-    let shape : IsShaped k c (array_at net s f.unit) = plan_shape net s f.unit k c (array_at net s f.unit) of l ku cu (ap (λ j. at_array (arrays_of s) (uses j)) (sym ku)) in
-    (λ i. planned (sym ku i) (o i) (array_at net s f.unit) plan) ∙ h (array_at net s f.unit) (setting net (state_of s)) shape
-    ∙ (λ i. effect_of (row (ku i) f.act (sym o i) (array_at net s f.unit) (setting net (state_of s))) (head_at net (state_of s) f.unit))
+    row_plan net s f.unit f.act k heads plan (sym ku) seen (rw o (h xs (setting net (state_of s)) (plan_shape net s f.unit k c xs of l ku cu refl)))
 
 -- so of the sending of a fork
-pub send_plan : (net : Net) (s : Stored) (u outs j : ℕ) (c : Cell) (bits : List Bool) (plan : Option Plan) → IsOf net s → u < length net.units → IsForkOf outs (kind_of net u) → c ≡ get_or s.cells.items u c → c ≡ Fork bits
-    → IsSendPlan outs j bits [] (head_at net (state_of s) u) plan → IsPlanOf net s (firing u (Send j)) plan
+pub send_plan : (net : Net) (s : Stored) (u outs j : ℕ) (c : Cell) (bits : List Bool) (heads : ℕ → Option ℕ) (plan : Option Plan) → IsOf net s → u < length net.units → IsForkOf outs (kind_of net u)
+    → c ≡ get_or s.cells.items u c → c ≡ Fork bits → heads ≡ head_at net (state_of s) u → IsSendPlan outs j bits [] heads plan → IsPlanOf net s (firing u (Send j)) plan
 unfolding row
-send_plan net s u outs j c bits plan of l fork cu is h =
-    let k : kind_of net u ≡ unit.Fork fork.width outs = fork.shape in
+send_plan net s u outs j c bits heads plan of l fork cu is seen h =
     let o : own_at s u ≡ own_of (Fork bits) = get_or-map own_of s.cells.items u Plain ∙ ap own_of (cell_here net s u c of l cu ∙ is) in
-    let a : array_at net s u ≡ [] = ap (λ j. at_array (arrays_of s) (uses j)) k in
-    (λ i. planned (k i) (o i) (a i) plan) ∙ h (unit.Fork fork.width outs)
-    ∙ (λ i. effect_of (row (sym k i) (Send j) (sym o i) (sym a i) (setting net (state_of s))) (head_at net (state_of s) u))
+    row_plan net s u (Send j) (unit.Fork fork.width outs) heads plan fork.shape seen (rw o (h (unit.Fork fork.width outs)))
 
 -- the queue of a unit
 pub queue_here : (net : Net) (s : Stored) (u : ℕ) (b : _) → IsOf net s → cell_at s u ≡ Queue b → IsQueueAt net s u b.value

@@ -132,6 +132,29 @@ pub record IsForkOf (outs : ℕ) (k : Kind) : Type 0 where
   pub width : ℕ
   pub shape : k ≡ Fork width outs
 
+-- a constant that puts this value
+pub record IsConstOf (value : ℕ) (k : Kind) : Type 0 where
+  pub width : ℕ
+  pub shape : k ≡ Const width value
+
+-- a mux with so many inputs for values and the choice
+pub record IsMuxOf (ins : ℕ) (k : Kind) : Type 0 where
+  pub width : ℕ
+  pub shape : k ≡ Mux width ins
+
+-- a select, a branch, a sink
+pub record IsSelect (k : Kind) : Type 0 where
+  pub width : ℕ
+  pub shape : k ≡ Select width
+
+pub record IsBranch (k : Kind) : Type 0 where
+  pub width : ℕ
+  pub shape : k ≡ Branch width
+
+pub record IsSink (k : Kind) : Type 0 where
+  pub width : ℕ
+  pub shape : k ≡ Sink width
+
 -- a plan's effect
 
 abbrev pub places_of : Takes → List ℕ

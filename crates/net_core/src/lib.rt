@@ -13,6 +13,7 @@ mod laws;
 mod opening;
 mod parts;
 mod plan;
+mod plans_at;
 mod sent;
 mod state;
 mod steps;

@@ -99,8 +99,29 @@ pub(crate) fn into_at(net: &Checked, unit: u32, pins: Pins, place: u64) -> u32
         0 => pins.first,
         1 => pins.second,
         2 => pins.third,
-        _ => net.into_place(unit, place),
+        _ => far_into(net, unit, place),
     }
+}
+
+/// The channel into an input place behind the first. It stands apart so that what looks at the first places stays small.
+#[inline(never)]
+fn far_into(net: &Checked, unit: u32, place: u64) -> u32
+    ensures { result ≡ into unit place net.now.chans }
+{
+    let ins = net.ins_of(unit);
+    if place < ins.len() as u64 {
+        ins[place as usize]
+    } else {
+        net.net().chans.as_slice().len() as u32
+    }
+}
+
+/// The channel out of an output place behind the first. It stands apart so that what looks at the first places stays small.
+#[inline(never)]
+fn far_out(net: &Checked, unit: u32, place: u64) -> u32
+    ensures { result ≡ out_of unit place net.now.chans }
+{
+    net.out_of_place(unit, place)
 }
 
 /// The channel out of an output place of a unit whose first places are known, or the number of all channels.
@@ -111,7 +132,7 @@ fn out_of_at(net: &Checked, unit: u32, pins: Pins, place: u64) -> u32
 {
     match place {
         0 => pins.out,
-        _ => net.out_of_place(unit, place),
+        _ => far_out(net, unit, place),
     }
 }
 
@@ -223,7 +244,7 @@ fn plan_start(cell: &Cell, value: u64) -> Option<Plan>
 
 /// What a unit does that takes the head of its one place, and keeps nothing.
 #[inline(always)]
-fn plan_one<H: Heads>(heads: &H, put: Option<Put>) -> Option<Plan>
+pub(crate) fn plan_one<H: Heads>(heads: &H, put: Option<Put>) -> Option<Plan>
     ensures apart { IfSome result (λ p. apart p.takes ≡ true) }
     ensures change { IfSome result (λ p. p.change ≡ change.Keep) }
     ensures effect { IsTakingPlan put (H.heads heads.now) result }
@@ -238,7 +259,7 @@ fn plan_one<H: Heads>(heads: &H, put: Option<Put>) -> Option<Plan>
 
 /// What the firing of an operation on one word does.
 #[inline(always)]
-fn plan_op1<H: Heads>(heads: &H, op: Op1) -> Option<Plan>
+pub(crate) fn plan_op1<H: Heads>(heads: &H, op: Op1) -> Option<Plan>
     ensures apart { IfSome result (λ p. apart p.takes ≡ true) }
     ensures change { IfSome result (λ p. p.change ≡ change.Keep) }
     ensures effect { IsPlainPlan (units.Op1 op) (H.heads heads.now) result }
@@ -249,7 +270,7 @@ fn plan_op1<H: Heads>(heads: &H, op: Op1) -> Option<Plan>
 
 /// What the firing of an operation on two words does.
 #[inline(always)]
-fn plan_op2<H: Heads>(heads: &H, op: Op2) -> Option<Plan>
+pub(crate) fn plan_op2<H: Heads>(heads: &H, op: Op2) -> Option<Plan>
     ensures apart { IfSome result (λ p. apart p.takes ≡ true) }
     ensures change { IfSome result (λ p. p.change ≡ change.Keep) }
     ensures effect { IsPlainPlan (units.Op2 op) (H.heads heads.now) result }
@@ -261,7 +282,7 @@ fn plan_op2<H: Heads>(heads: &H, op: Op2) -> Option<Plan>
 
 /// What the firing of a select does.
 #[inline(always)]
-fn plan_select<H: Heads>(heads: &H) -> Option<Plan>
+pub(crate) fn plan_select<H: Heads>(heads: &H) -> Option<Plan>
     ensures apart { IfSome result (λ p. apart p.takes ≡ true) }
     ensures change { IfSome result (λ p. p.change ≡ change.Keep) }
     ensures effect { (w : ℕ) → IsPlainPlan (units.Select w) (H.heads heads.now) result }
@@ -274,7 +295,7 @@ fn plan_select<H: Heads>(heads: &H) -> Option<Plan>
 
 /// What the firing of a mux does.
 #[inline(always)]
-fn plan_mux<H: Heads>(heads: &H, ins: u32) -> Option<Plan>
+pub(crate) fn plan_mux<H: Heads>(heads: &H, ins: u32) -> Option<Plan>
     ensures apart { IfSome result (λ p. apart p.takes ≡ true) }
     ensures change { IfSome result (λ p. p.change ≡ change.Keep) }
     ensures effect { (w : ℕ) → IsPlainPlan (units.Mux w ins) (H.heads heads.now) result }
@@ -288,7 +309,7 @@ fn plan_mux<H: Heads>(heads: &H, ins: u32) -> Option<Plan>
 
 /// What the firing of a branch does.
 #[inline(always)]
-fn plan_branch<H: Heads>(heads: &H) -> Option<Plan>
+pub(crate) fn plan_branch<H: Heads>(heads: &H) -> Option<Plan>
     ensures apart { IfSome result (λ p. apart p.takes ≡ true) }
     ensures change { IfSome result (λ p. p.change ≡ change.Keep) }
     ensures effect { (w : ℕ) → IsPlainPlan (units.Branch w) (H.heads heads.now) result }
@@ -300,7 +321,7 @@ fn plan_branch<H: Heads>(heads: &H) -> Option<Plan>
 
 /// What the firing of a read does.
 #[inline(always)]
-fn plan_read<H: Heads>(heads: &H, array: &[u64]) -> Option<Plan>
+pub(crate) fn plan_read<H: Heads>(heads: &H, array: &[u64]) -> Option<Plan>
     ensures apart { IfSome result (λ p. apart p.takes ≡ true) }
     ensures admits { (c : CellKept) → IfSome result (λ p. admits c p.change ≡ true) }
     ensures effect { (a : ℕ) → IsGoPlan (units.Read a) array.now (H.heads heads.now) result }
@@ -485,6 +506,7 @@ fn answer<H: Heads>(heads: &H, queue: &UnitQueue, port: u32, place: u64) -> Opti
 }
 
 /// What an act of a queue does.
+#[inline(always)]
 fn plan_queue<H: Heads>(
     heads: &H,
     groups: &[List<u32>],

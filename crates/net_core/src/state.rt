@@ -1,34 +1,29 @@
 //! The state of a circuit.
 
-ghost use Rattle.std.specs.Prelude.{◌≡◌, ◌<◌, ◌≤◌, ◌↔◌, ◌^◌, ◌≢◌, [], Some, get_or, length, map, true, IsTrue, IfOk, IfSome, MatchOption, false};
+ghost use Rattle.std.specs.Prelude.{◌≡◌, ◌<◌, ◌≤◌, ◌↔◌, ◌^◌, [], Some, get_or, length, map, true, IsTrue, IfOk, MatchOption, false};
 ghost use Rattle.el_base.specs.Limits.{max_depth};
 ghost use Rattle.circular_buffer.specs.Buffer.{last_item};
 ghost use Rattle.net_types.specs.declared.net.Chan.{Chan as ChanValue};
 ghost use Rattle.net_types.specs.declared.net.Net.{Net};
 ghost use Rattle.net_types.specs.Inputs.{InputsFit};
-ghost use Rattle.net_types.specs.Nets.{chan_at, firing, kind_of, uses};
-ghost use Rattle.net_types.specs.Order.{act_rank};
-ghost use Rattle.net_types.specs.declared.firing.Act.TheVariants as acts;
+ghost use Rattle.net_types.specs.Nets.{chan_at, kind_of, uses};
 ghost use Rattle.net_check.specs.Ends.{is_lsq};
-ghost use Rattle.net_check.specs.Pins.{pins_of};
 ghost use Rattle.net_core.specs.declared.cell.Cell.TheVariants.{Plain};
 ghost use Rattle.net_core.specs.Fire.{first, enabled, after, at_array, has_room, tokens_at};
 ghost use Rattle.net_core.specs.Held.{dated_laid, laid_on, put_at_end, take_at, taken_all};
 ghost use Rattle.net_core.specs.Parts.{IsByUnit, Stands, state_from};
-ghost use Rattle.net_core.specs.Plans.{IsForkOf, apart, admits, chans_of, moves_of};
+ghost use Rattle.net_core.specs.Plans.{apart, admits, chans_of, moves_of};
 ghost use Rattle.net_core.specs.Runs.{HasExited, opening};
 ghost use Rattle.net_core.specs.States.{CountsRise, CountsWithin, IsOf, IsPlanOf, IsQueueAt, TookAtExit, after_where, array_in, arrays_of, cell_at, dates_of, elements_at, queue_array, state_of, strays_at, with_tokens};
 
 use crate::cell::{Cell, UnitQueue};
 use crate::opening::{Home, exit_of, fresh_cells, homes, owners};
 use crate::parts::{Parts, fired_flags, joined, queue_parts, restore_cells, sent_parts};
-use crate::plan::{
-    Heads, Moves, Plan, Put, into_at, moves_of, plan_act, plan_firing, plan_go, plan_send,
-};
+use crate::plan::{Moves, Plan, Put, moves_of};
 use crate::steps::{change_cell, count_strays};
 use crate::tokens::Tokens;
 use lsq_core::Queue;
-use net_check::{Checked, Pins};
+use net_check::Checked;
 use net_types::{Firing, Inputs, List, Memory, Unit};
 use std::alloc::Global;
 
@@ -36,9 +31,9 @@ use std::alloc::Global;
 ///
 /// It holds all memory that its firings take.
 pub struct State {
-    scalars: List<u64>,
-    tokens: Tokens,
-    cells: Vec<Cell>,
+    pub(crate) scalars: List<u64>,
+    pub(crate) tokens: Tokens,
+    pub(crate) cells: Vec<Cell>,
     homes: Vec<Home>,
     strays: Vec<u64>,
     exit: u32,
@@ -55,30 +50,6 @@ impl Drop for State {
             strays: _strays,
             exit: _exit,
         } = self;
-    }
-}
-
-/// The heads at the input places of one unit.
-#[derive(Drop)]
-struct UnitHeads<'a> {
-    net: &'a Checked,
-    tokens: &'a Tokens,
-    unit: u32,
-    pins: Pins,
-    ghost pinned: { pins ≡ pins_of unit net.now.chans },
-}
-
-impl Heads for UnitHeads<'_> {
-    ghost use Rattle.std.specs.Prelude.{[], get_or};
-    ghost use Rattle.net_types.specs.Nets.{into};
-    ghost use Rattle.net_core.specs.Fire.{first};
-
-    ghost heads = { λ h p. first (get_or h.tokens.now.tokens (into h.unit p h.net.now.chans) []) };
-
-    #[inline(always)]
-    fn head(&self, place: u64) -> Option<u64> {
-        let chan = into_at(self.net, self.unit, self.pins, place);
-        self.tokens.head(chan)
     }
 }
 
@@ -217,7 +188,7 @@ impl State {
 
     /// The elements of an array; none of an array that is not there.
     #[inline(always)]
-    fn elements(&self, array: u32) -> &[u64]
+    pub(crate) fn elements(&self, array: u32) -> &[u64]
         ensures { result.now ≡ get_or (arrays_of self.now) array [] }
     {
         let at = array as usize;
@@ -233,7 +204,7 @@ impl State {
 
     /// The elements of the array that a unit works on.
     #[inline(always)]
-    fn used(&self, unit: &Unit) -> &[u64]
+    pub(crate) fn used(&self, unit: &Unit) -> &[u64]
         ensures { result.now ≡ at_array (arrays_of self.now) (uses unit.now) }
     {
         match unit {
@@ -345,138 +316,6 @@ impl State {
         } else {
             None
         }
-    }
-
-    /// What a firing does; `None` where the unit's heads or its own state hold it back.
-    ///
-    /// It is enabled where there is a plan and [`State::has_room`] for what the plan puts.
-    #[inline(always)]
-    pub fn plan(&self, net: &Checked, firing: Firing) -> Option<Plan>
-        requires { IsOf net.now self.now }
-        ensures apart { IfSome result (λ p. apart p.takes ≡ true) }
-        ensures admits { IfSome result
-            (λ p. admits (cell_at self.now firing.unit) p.change ≡ true) }
-        ensures effect { IsPlanOf net.now self.now firing result }
-    {
-        let at = firing.unit as usize;
-        let units = net.net().units.as_slice();
-        let pins = net.pins(firing.unit);
-        if at < units.len() {
-            return self.plan_at(net, firing, &units[at], pins);
-        }
-        let heads = UnitHeads {
-            net,
-            tokens: &self.tokens,
-            unit: firing.unit,
-            pins,
-        };
-        let valued = net.net().result.is_some();
-        let scalars = self.scalars.as_slice();
-        let act = firing.act;
-        let none = Unit::Sink { width: 0 };
-        plan_firing(&heads, &none, act, &Cell::Plain, &[], scalars, valued)
-    }
-
-    /// As [`State::plan`], where the unit and the channels at its first places are known.
-    #[inline(always)]
-    fn plan_at(&self, net: &Checked, firing: Firing, unit: &Unit, pins: Pins) -> Option<Plan>
-        requires of { IsOf net.now self.now }
-        requires within { firing.unit < length net.now.units }
-        requires unit { unit.now ≡ kind_of net.now firing.unit }
-        requires pins { pins ≡ pins_of firing.unit net.now.chans }
-        ensures apart { IfSome result (λ p. apart p.takes ≡ true) }
-        ensures admits { IfSome result
-            (λ p. admits (cell_at self.now firing.unit) p.change ≡ true) }
-        ensures effect { IsPlanOf net.now self.now firing result }
-    {
-        let heads = UnitHeads {
-            net,
-            tokens: &self.tokens,
-            unit: firing.unit,
-            pins,
-        };
-        let valued = net.net().result.is_some();
-        let scalars = self.scalars.as_slice();
-        let act = firing.act;
-        let cell = &self.cells[firing.unit as usize];
-        let array = self.used(unit);
-        plan_firing(&heads, unit, act, cell, array, scalars, valued)
-    }
-
-    /// What the act Go of a unit does, where its kind and the channels at its first places are known.
-    #[inline(always)]
-    pub fn plan_go_at(&self, net: &Checked, unit: u32, kind: &Unit, pins: Pins) -> Option<Plan>
-        requires of { IsOf net.now self.now }
-        requires within { unit < length net.now.units }
-        requires kind { kind.now ≡ kind_of net.now unit }
-        requires pins { pins ≡ pins_of unit net.now.chans }
-        ensures apart { IfSome result (λ p. apart p.takes ≡ true) }
-        ensures admits { IfSome result (λ p. admits (cell_at self.now unit) p.change ≡ true) }
-        ensures effect { IsPlanOf net.now self.now (firing unit acts.Go) result }
-    {
-        let heads = UnitHeads {
-            net,
-            tokens: &self.tokens,
-            unit,
-            pins,
-        };
-        let valued = net.net().result.is_some();
-        let scalars = self.scalars.as_slice();
-        let cell = &self.cells[unit as usize];
-        let array = self.used(kind);
-        plan_go(&heads, kind, cell, array, scalars, valued)
-    }
-
-    /// What the sending of a fork to an output does, where its outputs and the channels at its first places are known.
-    #[inline(always)]
-    pub fn plan_send_at(
-        &self,
-        net: &Checked,
-        unit: u32,
-        outs: u32,
-        out: u32,
-        pins: Pins,
-    ) -> Option<Plan>
-        requires of { IsOf net.now self.now }
-        requires within { unit < length net.now.units }
-        requires fork { IsForkOf outs (kind_of net.now unit) }
-        requires pins { pins ≡ pins_of unit net.now.chans }
-        ensures apart { IfSome result (λ p. apart p.takes ≡ true) }
-        ensures admits { IfSome result (λ p. admits (cell_at self.now unit) p.change ≡ true) }
-        ensures effect { IsPlanOf net.now self.now (firing unit (acts.Send out)) result }
-    {
-        let heads = UnitHeads {
-            net,
-            tokens: &self.tokens,
-            unit,
-            pins,
-        };
-        match &self.cells[unit as usize] {
-            Cell::Fork(sent) => plan_send(&heads, outs, out, sent, &[]),
-            _ => None,
-        }
-    }
-
-    /// What an act of a queue or a control merge does, where the unit's kind is known.
-    #[inline(always)]
-    pub fn plan_act_at(&self, net: &Checked, firing: Firing, kind: &Unit) -> Option<Plan>
-        requires of { IsOf net.now self.now }
-        requires within { firing.unit < length net.now.units }
-        requires kind { kind.now ≡ kind_of net.now firing.unit }
-        requires goes { act_rank firing.act ≢ 0 }
-        requires sends { act_rank firing.act ≢ 2 }
-        ensures apart { IfSome result (λ p. apart p.takes ≡ true) }
-        ensures admits { IfSome result
-            (λ p. admits (cell_at self.now firing.unit) p.change ≡ true) }
-        ensures effect { IsPlanOf net.now self.now firing result }
-    {
-        let heads = UnitHeads {
-            net,
-            tokens: &self.tokens,
-            unit: firing.unit,
-            pins: net.pins(firing.unit),
-        };
-        plan_act(&heads, kind, firing.act, &self.cells[firing.unit as usize])
     }
 
     /// Whether a unit has room where it puts a token.

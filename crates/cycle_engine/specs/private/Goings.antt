@@ -10,6 +10,8 @@ use Rattle.net_check.specs.Ends.{is_lsq}
 use Rattle.net_core.specs.States.{state_of, dates_of, CountsWithin}
 use Rattle.net_replay.specs.declared.fault.RunFault.{RunFault}
 use Rattle.net_replay.specs.declared.fault.RunFault.TheVariants as fault
+use Rattle.cycle_engine.specs.declared.broken.Broken.{Broken}
+use Rattle.cycle_engine.specs.declared.broken.Broken.TheVariants as broken
 use Rattle.cycle_engine.specs.declared.engine.Engine.{Engine}
 use Rattle.cycle_engine.specs.declared.engine.Bounds.{Bounds}
 use Rattle.lsq_core.specs.Laws.{phase}
@@ -53,6 +55,10 @@ pub record Past : Type 0 where
 -- each token was put before the cycle c, and is noted where it ripens from that cycle on
 abbrev pub AreComing : Net → ℕ → Engine → Type 0
 AreComing net c e = (d : ℕ) → AllByRecursion (λ x. (x < c) × (c ≤ x + (chan_at net d).delay → Holds d (cell e.notes ((x + (chan_at net d).delay) % 1024)))) (get_or (dates_of e.state) d [])
+
+-- no token is noted that is to ripen
+abbrev pub HasNoneComing : Engine → Type 0
+HasNoneComing e = (k : ℕ) → cell e.notes k ≡ []
 
 -- the engine in the middle of the cycle c, which began with start
 pub record InCycle (net : Net) (past : Past) (b : Bounds) (c : ℕ) (start : Dated) (e : Engine) : Type 0 where
@@ -115,11 +121,14 @@ pub record IsBegunIn (net : Net) (past : Past) (b : Bounds) (c : ℕ) (start : D
   pub watching : IsWatching net c start e
 
 -- what a fault says of a run that is broken off in a cycle
-abbrev pub IsBroken : Net → Inputs → Bounds → RunFault → Type 0
-IsBroken net inputs b (fault.Limit n) = (n ≡ b.limit) × IsCut net inputs b.limit
-IsBroken net inputs b fault.Stuck = ⊥
-IsBroken net inputs b (fault.Stray a) = ⊥
-IsBroken net inputs b fault.Memory = Unit {0}
+abbrev pub IsBroken : Net → Inputs → Bounds → Broken → Type 0
+IsBroken net inputs b broken.Limit = IsCut net inputs b.limit
+IsBroken net inputs b broken.Memory = Unit {0}
+
+-- the fault of a run that is broken off so
+abbrev pub fault_of : ℕ → Broken → RunFault
+fault_of limit broken.Limit = fault.Limit limit
+fault_of limit broken.Memory = fault.Memory
 
 -- ---- one firing
 
@@ -143,6 +152,10 @@ pub record IsPassed (net : Net) (c : ℕ) (start : Dated) (old new : Engine) (f 
 abbrev pub IsTried : Net → Past → Bounds → ℕ → Dated → Engine → Engine → Firing → Bool → Type 0
 IsTried net past b c start old new f true = IsMade net past b c start old new f
 IsTried net past b c start old new f false = IsPassed net c start old new f
+
+-- after a firing in the cycle c, where it was made
+abbrev pub after_where : Bool → Net → ℕ → Dated → Firing → Dated
+after_where did net c s f = cond did (after_in net c s f) s
 
 -- how many firings were made: at least one where it is so, and none is undone
 pub record IsMore (old new : Engine) (did : Bool) : Type 0 where

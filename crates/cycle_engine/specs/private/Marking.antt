@@ -1,9 +1,7 @@
 -- Private: only contracts of this crate cite it. Marks at the units that may fire, and what is noted for the next cycle.
-use Rattle.std.specs.Prelude.{◌≡◌, ◌≢◌, ◌⊎◌, ℕ, ◌+◌, ◌-◌, ◌<◌, ◌≤◌, ◌++◌, ◌∷◌, ◌%◌, nat_lt, cond, set, Bool, true, false, Option, Some, None, List, [], map, reverse, length, get_or, IfSome, IsSomeAnd}
+use Rattle.std.specs.Prelude.{◌≡◌, ◌≢◌, ◌⊎◌, ℕ, ◌+◌, ◌-◌, ◌<◌, ◌≤◌, ◌++◌, ◌∷◌, ◌%◌, nat_lt, cond, set, Bool, true, false, Option, Some, None, List, [], map, reverse, length, get_or, IfSome, IsSomeAnd, MatchOption}
 use Rattle.std.specs.List.{AllByRecursion}
 use Rattle.std.specs.List.Sorted.{IsPermutation, IsNonDecreasing}
-use Rattle.std.specs.declared.vec.Vec.{Vec}
-use Rattle.std.specs.declared.alloc.Global.{Global}
 use Rattle.net_types.specs.declared.net.Net.{Net}
 use Rattle.net_types.specs.declared.net.Unit.{Unit as Kind}
 use Rattle.net_types.specs.declared.net.Unit.TheVariants.{Entry, Param, Const, Op1, Op2, Select, Fork, Mux, Cmerge, Branch, Sink, Read, Lsq, Exit}
@@ -19,10 +17,12 @@ use Rattle.net_core.specs.declared.state.State.{State as Stored}
 use Rattle.net_core.specs.States.{state_of, dates_of}
 use Rattle.net_core.specs.Plans.{chans_of}
 use Rattle.cycle_engine.specs.declared.marks.Marks.{Marks}
+use Rattle.cycle_engine.specs.declared.marks.Turn.{Turn}
 use Rattle.cycle_engine.specs.declared.notes.Notes.{Notes}
 use Rattle.cycle_engine.specs.declared.feeds.Feeds.{Feeds}
 use Rattle.cycle_engine.specs.declared.freed.Freed.{Freed}
 use Rattle.net_core.specs.Uses.{is_fork}
+use Rattle.cycle_engine.specs.private.Stacks.{Stacked}
 
 -- ---- lists
 
@@ -152,6 +152,10 @@ pub record IsTaken (net : Net) (old new : Marks) (u : ℕ) : Type 0 where
   pub left : (v : ℕ) → IsMarked old v → IsMarked new v ⊎ ((v ≡ u) × (is_lsq (kind_of net v) ≡ false))
   pub fewer : length new.list.items + 1 ≡ length old.list.items
 
+-- the kind is that of the unit, and none is told past the units
+abbrev pub IsTurnKind : Net → Turn → Type 0
+IsTurnKind net t = MatchOption t.kind (length net.units ≤ t.unit) (λ k. (t.unit < length net.units) × (k.now ≡ kind_of net t.unit))
+
 -- the queues that are to have turns stand in another order, the greatest first
 pub record IsReordered (old new : Marks) : Type 0 where
   pub marked : new.marked ≡ old.marked
@@ -180,8 +184,8 @@ entries_at s u = length (get_or s.own u idle).queue.items
 
 -- ---- what is noted
 
-abbrev pub lists_of : List (Vec ℕ Global) → List (List ℕ)
-lists_of cells = map (λ (v : Vec ℕ Global). v.items) cells
+abbrev pub lists_of : List (Stacked ℕ) → List (List ℕ)
+lists_of cells = map (λ (v : Stacked ℕ). v.items) cells
 
 abbrev pub cells_of : Notes → List (List ℕ)
 cells_of n = lists_of n.coming.items

@@ -1,5 +1,5 @@
 -- Private: only contracts of this crate cite it. Places that were tried, and those that may not fire any more in a cycle.
-use Rattle.std.specs.Prelude.{◌≡◌, ◌≢◌, ◌⊎◌, ℕ, ◌+◌, ◌*◌, ◌<◌, ◌≤◌, Bool, true, false, Option, Some, None, List, [], ◌∷◌, ◌++◌, length, get_or}
+use Rattle.std.specs.Prelude.{◌≡◌, ◌≢◌, ◌⊎◌, ℕ, ◌+◌, ◌*◌, ◌<◌, ◌≤◌, Bool, true, false, Option, Some, None, List, [], ◌∷◌, ◌++◌, length, get_or, Result, OnOk, MatchResult}
 use Rattle.std.specs.List.{AllByRecursion}
 use Rattle.el_base.specs.Limits.{max_delay}
 use Rattle.net_types.specs.declared.net.Net.{Net}
@@ -10,7 +10,7 @@ use Rattle.net_types.specs.declared.net.Unit.{Unit as Kind}
 use Rattle.net_types.specs.declared.net.Unit.TheVariants.{Entry, Param, Const, Op1, Op2, Select, Fork, Mux, Cmerge, Branch, Sink, Read, Lsq, Exit}
 use Rattle.net_types.specs.declared.firing.Act.{Act}
 use Rattle.net_types.specs.declared.firing.Act.TheVariants.{Go, From, Send, Alloc, Addr, Data, Exec, Reply, Retire, End}
-use Rattle.net_types.specs.Nets.{kind_of, into, out_of, firing}
+use Rattle.net_types.specs.Nets.{kind_of, into, firing}
 use Rattle.net_core.specs.declared.plan.Put.{Put}
 use Rattle.net_core.specs.declared.plan.Takes.{Takes}
 use Rattle.net_core.specs.declared.plan.Takes.TheVariants as takes
@@ -33,8 +33,9 @@ use Rattle.lsq_core.specs.Laws.{act_place}
 use Rattle.cycle_engine.specs.Cycles.{Dated, May, IsOldest, IsRipe, IsUnused}
 use Rattle.cycle_engine.specs.private.Trials.{dated_of}
 use Rattle.cycle_engine.specs.private.Marking.{IsMarked}
-use Rattle.cycle_engine.specs.private.Control.{groups_in, noted_place}
-use Rattle.cycle_engine.specs.private.Goings.{Past, IsReady, InCycle, HasDone, AllPlain, IsWatching, all_made}
+use Rattle.cycle_engine.specs.private.Control.{HasControl, groups_in, noted_place}
+use Rattle.cycle_engine.specs.declared.broken.Broken.{Broken}
+use Rattle.cycle_engine.specs.private.Goings.{Past, IsBroken, IsReady, to_visit, InCycle, HasDone, AllPlain, IsWatching, all_made}
 
 -- ---- the acts of a unit
 
@@ -162,6 +163,24 @@ takes_at k End = Some (groups_in k)
 abbrev pub IsNoted : Net → State → ℕ → Type 0
 IsNoted net s noted = (u p : ℕ) (a : Act) → takes_at (kind_of net u) a ≡ Some p → enabled net s (firing u a) → noted_place net noted u ≡ Some p
 
+-- what takes the control token finds it on the noted channel, which leads to where it is taken
+pub record KeepsControl (net : Net) (s : State) (noted : ℕ) : Type 0 where
+  pub places : IsNoted net s noted
+  pub control : HasControl net s noted
+
+-- an act of this kind takes the control token
+abbrev pub TakesControl : Act → Type 0
+TakesControl Go = ⊥
+TakesControl (From j) = Unit {0}
+TakesControl (Send j) = ⊥
+TakesControl (Alloc j) = Unit {0}
+TakesControl (Addr j) = ⊥
+TakesControl (Data j) = ⊥
+TakesControl (Exec j) = ⊥
+TakesControl (Reply j) = ⊥
+TakesControl Retire = ⊥
+TakesControl End = Unit {0}
+
 -- no act of a kind with a number from one on is enabled
 abbrev pub HasNoneFrom : Net → State → ℕ → Act → ℕ → Type 0
 HasNoneFrom net s u kind from = (b : Act) → act_rank b ≡ act_rank kind → from ≤ act_number (act_place b) → enabled net s (firing u b) → ⊥
@@ -178,10 +197,6 @@ pub record IsNextNumber (net : Net) (s : State) (u : ℕ) (kind : Act) (from n :
 -- no entry may execute
 abbrev pub HasNoExec : Net → State → ℕ → Type 0
 HasNoExec net s u = (j : ℕ) → enabled net s (firing u (Exec j)) → ⊥
-
--- the firing sends to an output of a unit, at which the channel is
-abbrev pub IsSendOn : Net → Firing → ℕ → Type 0
-IsSendOn net f chan = (out : ℕ) × (f.act ≡ Send out) × (chan ≡ out_of f.unit out net.chans)
 
 -- the tokens that a firing of a fork moves: it takes from its input where it takes, and puts on this channel
 abbrev pub taken_first : ℕ → Takes → Taken
@@ -238,6 +253,17 @@ pub record IsTurn (net : Net) (past : Past) (b : Bounds) (c : ℕ) (start : Date
   pub going : InCycle net past b c start e
   pub watched : IsWatched net c start e u r n
   pub of : IsTurnOf (is_lsq (kind_of net u)) net c marks e u r
+
+-- the acts of the unit u from those of the rank r on to those of the rank s were tried, or the cycle was broken off
+pub record IsTurnMade {T : Type 0} (net : Net) (b : Bounds) (c u r s : ℕ) (old new : Engine) (done : Result T Broken) : Type 0 where
+  pub ready : OnOk done (IsReady net b new)
+  pub less : OnOk done (to_visit b new ≤ to_visit b old)
+  pub tried : (past : Past) (start : Dated) (marks : Marks) → IsTurn net past b c start marks old u r 0 → MatchResult done (λ _. IsTurn net past b c start marks new u s 0) (IsBroken net past.inputs b)
+
+-- the sending of a fork to an output was tried; where it took the head, no act of the fork is left
+abbrev pub IsSent : Net → Past → Bounds → ℕ → Dated → Marks → Engine → ℕ → ℕ → Bool → Type 0
+IsSent net past b c start marks e u out true = IsTurn net past b c start marks e u 3 0
+IsSent net past b c start marks e u out false = IsTurn net past b c start marks e u 2 (out + 1)
 
 -- the mark of the unit u was taken where it is no queue
 pub record IsOpenTurn (net : Net) (past : Past) (b : Bounds) (c : ℕ) (start : Dated) (e : Engine) (u : ℕ) : Type 0 where

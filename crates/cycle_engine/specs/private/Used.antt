@@ -1,5 +1,5 @@
 -- Private: only contracts of this crate cite it. Which places have fired in a cycle, by numbers of places.
-use Rattle.std.specs.Prelude.{◌≡◌, ◌≢◌, ◌==◌, ℕ, suc, ◌+◌, ◌*◌, ◌<◌, ◌≤◌, cond, false, List, length, get_or}
+use Rattle.std.specs.Prelude.{◌≡◌, ◌≢◌, ◌==◌, ℕ, suc, ◌+◌, ◌*◌, ◌<◌, ◌≤◌, cond, false, Option, Some, None, List, length, get_or}
 use Rattle.net_types.specs.declared.firing.Act.{Act}
 use Rattle.net_types.specs.declared.firing.Act.TheVariants.{Go, From, Send, Alloc, Addr, Data, Exec, Reply, Retire, End}
 use Rattle.net_types.specs.declared.firing.Firing.{Firing}
@@ -23,6 +23,11 @@ own_number End = 2
 -- the number of a firing's place: its unit's, of the place 0 of a unit; else its own from where those of the unit's places begin
 abbrev pub place_number : List ℕ → Firing → ℕ
 place_number base f = cond (own_number f.act == 0) f.unit (get_or base f.unit 0 + own_number f.act)
+
+-- this is the number of the firing's place, where the table has it
+abbrev pub IsPlaceIn : Used → Firing → Option ℕ → Type 0
+IsPlaceIn used f None = length used.last.items ≤ place_number used.base.items f
+IsPlaceIn used f (Some at) = (at ≡ place_number used.base.items f) × (at < length used.last.items)
 
 -- after so many firings, earlier ones, each firing of the cycle is told as the last at its place, but where a number was met twice
 abbrev pub AreTold : Used → ℕ → List Firing → Type 0

@@ -1,4 +1,4 @@
-use Rattle.std.proofs.Common.{◌≡◌, ℕ, ◌<◌, true, length, get_or}
+use Rattle.std.proofs.Common.{◌≡◌, ℕ, ◌<◌, true, IfSome, length, get_or}
 use Rattle.net_types.specs.Nets.{kind_of}
 use Rattle.net_check.specs.Ends.{is_lsq}
 use Rattle.net_core.specs.States.{state_of}
@@ -7,6 +7,7 @@ use Rattle.cycle_engine.proofs.engine.settle.Given as goal
 
 abbrev pub invariant-loop-firing : goal.invariant-loop-firing
 invariant-loop-firing l = record {
+  told : IfSome l.last (λ u. (k : ℕ) × (k < l.firing-index) × ((get_or l.fired k no_firing).unit ≡ u));
   kept : KeepsMarks l.fn.marks l.marks;
   marked : (k : ℕ) → k < l.firing-index → (IsStarved l.net (state_of l.state) (get_or l.fired k no_firing).unit → ⊥) → (get_or l.fired k no_firing).unit < length l.fn.marks.marked.items → IsMarked l.marks (get_or l.fired k no_firing).unit;
   long : length l.begun.items ≡ length l.net.units;

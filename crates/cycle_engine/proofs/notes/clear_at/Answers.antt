@@ -1,10 +1,9 @@
 use Rattle.std.proofs.Common.{◌∙◌, ap}
 use Rattle.std.proofs.lemmas.List.{map-set}
-use Rattle.std.specs.declared.vec.Vec.{Vec}
-use Rattle.std.specs.declared.alloc.Global.{Global}
 use Rattle.std.proofs.Common.{ℕ, set}
+use Rattle.cycle_engine.specs.private.Stacks.{Stacked}
 use Rattle.cycle_engine.specs.private.Marking.{lists_of}
 use Rattle.cycle_engine.proofs.notes.clear_at.Goals as goal
 
 pub returns : goal.returns
-returns c = map-set (λ (v : Vec ℕ Global). v.items) c.args.cells.now.items c.args.at c.empty.new.list ∙ ap (set (lists_of c.args.cells.now.items) c.args.at) c.empty.ensures
+returns c = map-set (λ (v : Stacked ℕ). v.items) c.args.cells.now.items c.args.at c.take.new.list ∙ ap (set (lists_of c.args.cells.now.items) c.args.at) c.take.ensures

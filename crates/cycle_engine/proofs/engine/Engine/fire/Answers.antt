@@ -4,14 +4,14 @@ use Rattle.cycle_engine.proofs.ControlLemmas.{control_made}
 use Rattle.cycle_engine.proofs.PlaceLemmas.{planned_within}
 use Rattle.cycle_engine.proofs.engine.Engine.fire.Goals as goal
 
-pub is_used-requires-clause-within : goal.is_used-requires-clause-within
-is_used-requires-clause-within c =
+pub place-place-requires : goal.place-place-requires
+place-place-requires c =
     let within = planned_within c.args.net.now c.args.self.now c.args.firing c.args.planned c.net.ensures.checked c.requires.ready.engine c.requires.planned in
     let places = c.requires.ready.places in
     omega arith
 
-pub make-requires-clause-within : goal.make-requires-clause-within
-make-requires-clause-within c =
+pub is_used-requires-clause-within : goal.is_used-requires-clause-within
+is_used-requires-clause-within c =
     let within = planned_within c.args.net.now c.args.self.now c.args.firing c.args.planned c.net.ensures.checked c.requires.ready.engine c.requires.planned in
     let places = c.requires.ready.places in
     omega arith
@@ -34,6 +34,7 @@ returns c =
     record {
       ready = made_ready c.args.net.now c.args.bounds c.args.now old new c.args.firing moves c.requires.ready (omega arith) c.in_ok-make.ensures.engine c.in_ok-make.ensures.counts c.in_ok-make.ensures.told c.in_ok-make.ensures.places c.in_ok-make.ensures.marks c.in_ok-make.ensures.feeds one;
       more = more_made c.args.net.now c.args.bounds c.args.now old new c.args.firing moves one;
+      after = c.in_ok-make.ensures.after;
       marks = c.in_ok-make.ensures.marks;
       feeds = c.in_ok-make.ensures.feeds;
       tried = λ past start going follow.

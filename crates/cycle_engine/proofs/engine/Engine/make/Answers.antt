@@ -18,7 +18,7 @@ returns-clause-after c =
     let new : Engine = record {
       state = c.make_dated.new.self;
       begun = c.args.self.now.begun;
-      fired = c.note_fired.new.fired;
+      fired = c.push.new.self;
       used = c.note.new.self;
       made = c.args.self.now.made;
       log = c.note-4.new.log;
@@ -37,7 +37,7 @@ returns-clause-engine c =
     let new : Engine = record {
       state = c.make_dated.new.self;
       begun = c.args.self.now.begun;
-      fired = c.note_fired.new.fired;
+      fired = c.push.new.self;
       used = c.note.new.self;
       made = c.args.self.now.made;
       log = c.note-4.new.log;
@@ -51,14 +51,14 @@ returns-clause-engine c =
 
 pub returns-clause-told : goal.returns-clause-told
 returns-clause-told c =
-    told_more c.args.self.now.fired.items c.note_fired.new.fired.items c.args.firing c.args.self.now.made (c.args.self.now.made + c.len.result) c.args.self.now.used c.note.new.self
-    (omega (arith, c.len.ensures)) c.in_ok-note_fired.ensures.fired c.note.ensures c.requires.told
+    told_more c.args.self.now.fired.items c.push.new.self.items c.args.firing c.args.self.now.made (c.args.self.now.made + c.len.result) c.args.self.now.used c.note.new.self
+    (omega (arith, c.len.ensures)) c.in_ok-push.ensures c.note.ensures c.requires.told
 
 pub returns-clause-counts : goal.returns-clause-counts
 returns-clause-counts c = c.make_dated.ensures.counts
 
 pub returns-clause-fired : goal.returns-clause-fired
-returns-clause-fired c = c.in_ok-note_fired.ensures.fired
+returns-clause-fired c = c.in_ok-push.ensures
 
 pub returns-clause-log : goal.returns-clause-log
 returns-clause-log c = c.note-4.ensures

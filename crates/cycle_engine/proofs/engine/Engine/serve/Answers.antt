@@ -1,7 +1,7 @@
-use Rattle.std.proofs.Common.{◌≡◌, ◌∙◌, rules, Bool, List, false, sym, ap, length, length-set}
-use Rattle.std.proofs.lemmas.Bool.{false≢true}
-use Rattle.cycle_engine.proofs.MarkLemmas.{marked_queue}
-use Rattle.cycle_engine.proofs.TurnLemmas.{ready_marks, served_left, served_turn, turn_served, exit_broken}
+use Rattle.std.proofs.Common.{◌∙◌, ap, length, arith}
+use Rattle.net_types.specs.declared.net.Net.{Net}
+use Rattle.cycle_engine.proofs.MarkLemmas.{marked_queue, queue_within}
+use Rattle.cycle_engine.proofs.TurnLemmas.{ready_marks, ready_turn, served_left, served_turn, turn_served, exit_broken}
 use Rattle.cycle_engine.proofs.engine.Engine.serve.Goals as goal
 
 pub returns-in_default-clause-ready : goal.returns-in_default-clause-ready
@@ -12,27 +12,27 @@ pub returns-in_default-clause-served : goal.returns-in_default-clause-served
 returns-in_default-clause-served c past start count n s l =
     served_left c.args.net.now past c.args.bounds c.args.now start c.args.self.now c.take_queue.new.self count n c.in_default.ensures l s
 
-pub returns-then-not-is_queue-clause-ready : goal.returns-then-not-is_queue-clause-ready
-returns-then-not-is_queue-clause-ready c =
-    ready_marks c.args.net.now c.args.bounds c.args.self.now c.take_queue.new.self c.requires
-    (ap (λ (xs : List Bool). length xs) c.in-Some.ensures.marked ∙ (length-set c.args.self.now.marks.marked.items c.in-Some.unit false ∙ c.requires.marked)) (c.in-Some.ensures.listed c.args.net.now c.requires.listed)
+pub returns-then-unit-units-clause-ready : goal.returns-then-unit-units-clause-ready
+returns-then-unit-units-clause-ready c = ready_turn c.args.net.now c.args.bounds c.args.self.now c.take_queue.new.self c.in-Some.unit c.in-Some.ensures c.requires
 
-pub returns-then-not-is_queue-clause-served : goal.returns-then-not-is_queue-clause-served
-returns-then-not-is_queue-clause-served c past start count n s l =
-    let q : c.is_queue.result ≡ false = search rules in
-    absurd (false≢true (sym q ∙ (c.is_queue.ensures ∙ (marked_queue c.args.net.now c.args.self.now.marks c.in-Some.unit c.requires.listed s.list c.in-Some.ensures.was).0)))
+pub returns-then-unit-units-clause-served : goal.returns-then-unit-units-clause-served
+returns-then-unit-units-clause-served c past start count n s l =
+    let w = queue_within c.args.net.now c.in-Some.unit (marked_queue c.args.net.now c.args.self.now.marks c.in-Some.unit c.requires.listed s.list c.in-Some.ensures.was).0 in
+    let same = ap length (c.as_slice-units.ensures ∙ ap (λ (n : Net). n.units) c.net.ensures.net) in
+    absurd (omega (arith, w, same, c.if-unit-units.true))
 
 pub run_queue-requires-clause-ready : goal.run_queue-requires-clause-ready
-run_queue-requires-clause-ready c =
-    ready_marks c.args.net.now c.args.bounds c.args.self.now c.take_queue.new.self c.requires
-    (ap (λ (xs : List Bool). length xs) c.in-Some.ensures.marked ∙ (length-set c.args.self.now.marks.marked.items c.in-Some.unit false ∙ c.requires.marked)) (c.in-Some.ensures.listed c.args.net.now c.requires.listed)
+run_queue-requires-clause-ready c = ready_turn c.args.net.now c.args.bounds c.args.self.now c.take_queue.new.self c.in-Some.unit c.in-Some.ensures c.requires
 
 pub returns-in_err-run_queue-clause-served : goal.returns-in_err-run_queue-clause-served
 returns-in_err-run_queue-clause-served c past start count n s l =
     exit_broken _ _ c.from_residual.result c.in_err-run_queue.field-0.0 c.from_residual.ensures.1
     (c.in_err-run_queue.ensures.tried past start c.take_queue.new.self (served_turn c.args.net.now past c.args.bounds c.args.now start c.args.self.now c.take_queue.new.self count n c.in-Some.unit c.in-Some.ensures c.requires.listed s))
 
-pub returns-clause-served : goal.returns-clause-served
-returns-clause-served c past start count n s l =
+pub returns-in_ok-run_queue-clause-served : goal.returns-in_ok-run_queue-clause-served
+returns-in_ok-run_queue-clause-served c past start count n s l =
     turn_served c.args.net.now past c.args.bounds c.args.now start c.args.self.now c.run_queue.new.self c.take_queue.new.self count n c.in-Some.unit c.in-Some.ensures c.requires.listed l s
     (c.in_ok-run_queue.ensures.tried past start c.take_queue.new.self (served_turn c.args.net.now past c.args.bounds c.args.now start c.args.self.now c.take_queue.new.self count n c.in-Some.unit c.in-Some.ensures c.requires.listed s))
+
+pub returns-else-is_queue_kind-clause-ready : goal.returns-else-is_queue_kind-clause-ready
+returns-else-is_queue_kind-clause-ready c = ready_turn c.args.net.now c.args.bounds c.args.self.now c.take_queue.new.self c.in-Some.unit c.in-Some.ensures c.requires

@@ -1,4 +1,5 @@
-use Rattle.std.proofs.Common.{◌≡◌, ◌∙◌, Option, true, false, sym, subst, rules, IfSome}
+use Rattle.std.proofs.Common.{◌≡◌, ◌∙◌, Option, true, false, ap, sym, subst, rules, IfSome}
+use Rattle.net_check.specs.Ends.{is_lsq}
 use Rattle.cycle_engine.specs.declared.trial.Planned.{Planned}
 use Rattle.cycle_engine.specs.private.Trials.{IsPlanned}
 use Rattle.cycle_engine.proofs.GoLemmas.{moves_into}
@@ -31,18 +32,18 @@ rouse-requires-clause-within g c =
 
 pub returns-in_ok-rouse-clause-tried : goal.returns-in_ok-rouse-clause-tried
 returns-in_ok-rouse-clause-tried g c past start marks rank number t next =
-    let l : c.is_queue.result ≡ false = search rules in
+    let l : c.is_queue_kind.result ≡ false = search rules in
     step_unit c.args.net.now past c.args.bounds c.args.now start marks c.args.self.now c.attempt.new.self c.args.firing rank number t next c.in_ok-planned.field-0
     (c.in_ok-planned.ensures.tried past start t.going (turn_follows c.args.net.now past c.args.bounds c.args.now start marks c.args.self.now c.args.firing rank number t next))
-    c.in-Some.planned c.rouse.new.self c.in-Some.is c.in_ok-planned.ensures.planned c.in_ok-planned.ensures.marks c.net.ensures.checked c.requires.ready (sym c.is_queue.ensures ∙ l) c.requires.straight
+    c.in-Some.planned c.rouse.new.self c.in-Some.is c.in_ok-planned.ensures.planned c.in_ok-planned.ensures.marks c.net.ensures.checked c.requires.ready (ap is_lsq (sym c.requires.kind) ∙ (sym c.is_queue_kind.ensures ∙ l)) c.requires.straight
     c.in_ok-rouse.ensures.kept c.in_ok-rouse.ensures.merges c.in_ok-rouse.ensures.target
 
-pub returns-else-not-is_queue-clause-tried : goal.returns-else-not-is_queue-clause-tried
-returns-else-not-is_queue-clause-tried g c past start marks rank number t next =
-    let l : c.is_queue.result ≡ true = search rules in
+pub returns-else-not-is_queue_kind-clause-tried : goal.returns-else-not-is_queue_kind-clause-tried
+returns-else-not-is_queue_kind-clause-tried g c past start marks rank number t next =
+    let l : c.is_queue_kind.result ≡ true = search rules in
     step_queue c.args.net.now past c.args.bounds c.args.now start marks c.args.self.now c.attempt.new.self c.args.firing rank number t next c.in_ok-planned.field-0
     (c.in_ok-planned.ensures.tried past start t.going (turn_follows c.args.net.now past c.args.bounds c.args.now start marks c.args.self.now c.args.firing rank number t next))
-    c.in-Some.planned c.in-Some.is c.in_ok-planned.ensures.marks c.net.ensures.checked c.requires.ready (sym c.is_queue.ensures ∙ l)
+    c.in-Some.planned c.in-Some.is c.in_ok-planned.ensures.marks c.net.ensures.checked c.requires.ready (ap is_lsq (sym c.requires.kind) ∙ (sym c.is_queue_kind.ensures ∙ l))
 
 pub returns-in_ok-rouse-clause-ready : goal.returns-in_ok-rouse-clause-ready
 returns-in_ok-rouse-clause-ready g c =

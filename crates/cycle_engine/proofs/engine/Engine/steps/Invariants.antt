@@ -11,7 +11,7 @@ invariant-loop-number g l = record {
   ready : IsReady l.net l.bounds l.self;
   less : to_visit l.bounds l.self ≤ to_visit l.bounds l.fn.self;
   within : l.number ≤ l.count;
-  tried : (past : Past) (start : Dated) (marks : Marks) → IsTurn l.net past l.bounds l.now start marks l.fn.self l.unit (act_rank l.kind) 0 → IsTurn l.net past l.bounds l.now start marks l.self l.unit (act_rank l.kind) l.number;
+  tried : (past : Past) (start : Dated) (marks : Marks) → IsTurn l.net past l.bounds l.now start marks l.fn.self l.unit (act_rank l.act) 0 → IsTurn l.net past l.bounds l.now start marks l.self l.unit (act_rank l.act) l.number;
 }
 
 abbrev pub decreases-loop-number : goal.decreases-loop-number

@@ -9,9 +9,3 @@ pub returns-in_ok-note_one-in-Two-2 : goal.returns-in_ok-note_one-in-Two-2
 returns-in_ok-note_one-in-Two-2 c =
     let P : Taken → Type 0 = λ t. IsFreed c.args.net.now c.args.state.now c.args.now (chans_of t) c.args.self.now c.note_one-in-Two-2.new.self in
     subst P (sym c.in-Two.is) (freed_then c.args.net.now c.args.state.now c.args.now c.in-Two.c (c.in-Two.d ∷ []) c.args.self.now c.note_one-in-Two.new.self c.note_one-in-Two-2.new.self c.in_ok-note_one-in-Two.ensures c.in_ok-note_one-in-Two-2.ensures)
-
-pub returns-in_ok-note_one-in-Three-3 : goal.returns-in_ok-note_one-in-Three-3
-returns-in_ok-note_one-in-Three-3 c =
-    let P : Taken → Type 0 = λ t. IsFreed c.args.net.now c.args.state.now c.args.now (chans_of t) c.args.self.now c.note_one-in-Three-3.new.self in
-    subst P (sym c.in-Three.is) (freed_then c.args.net.now c.args.state.now c.args.now c.in-Three.c (c.in-Three.d ∷ c.in-Three.e ∷ []) c.args.self.now c.note_one-in-Three.new.self c.note_one-in-Three-3.new.self c.in_ok-note_one-in-Three.ensures
-    (freed_then c.args.net.now c.args.state.now c.args.now c.in-Three.d (c.in-Three.e ∷ []) c.note_one-in-Three.new.self c.note_one-in-Three-2.new.self c.note_one-in-Three-3.new.self c.in_ok-note_one-in-Three-2.ensures c.in_ok-note_one-in-Three-3.ensures))

@@ -1,0 +1,290 @@
+//! What firings do in a state: their plans, each by what is known of the unit.
+
+ghost use Rattle.std.specs.Prelude.{◌≡◌, ◌<◌, ◌≢◌, length, true, IfSome};
+ghost use Rattle.net_types.specs.Nets.{firing, kind_of};
+ghost use Rattle.net_types.specs.Order.{act_rank};
+ghost use Rattle.net_types.specs.declared.firing.Act.TheVariants as acts;
+ghost use Rattle.net_types.specs.declared.net.Unit.TheVariants as units;
+ghost use Rattle.net_check.specs.Pins.{pins_of};
+ghost use Rattle.net_core.specs.Fire.{head_at};
+ghost use Rattle.net_core.specs.Plans.{IsBranch, IsConstOf, IsForkOf, IsMuxOf, IsSelect, IsSink, apart, admits};
+ghost use Rattle.net_core.specs.States.{IsOf, IsPlanOf, cell_at, state_of};
+
+use crate::cell::Cell;
+use crate::plan::{
+    Heads, Plan, Put, into_at, plan_act, plan_branch, plan_firing, plan_go, plan_mux, plan_one,
+    plan_op1, plan_op2, plan_read, plan_select, plan_send,
+};
+use crate::state::State;
+use crate::tokens::Tokens;
+use el_base::{Op1, Op2};
+use net_check::{Checked, Pins};
+use net_types::{Firing, Unit};
+
+/// The heads at the input places of one unit.
+#[derive(Drop)]
+struct UnitHeads<'a> {
+    net: &'a Checked,
+    tokens: &'a Tokens,
+    unit: u32,
+    pins: Pins,
+    ghost pinned: { pins ≡ pins_of unit net.now.chans },
+}
+
+impl Heads for UnitHeads<'_> {
+    ghost use Rattle.std.specs.Prelude.{[], get_or};
+    ghost use Rattle.net_types.specs.Nets.{into};
+    ghost use Rattle.net_core.specs.Fire.{first};
+
+    ghost heads = { λ h p. first (get_or h.tokens.now.tokens (into h.unit p h.net.now.chans) []) };
+
+    #[inline(always)]
+    fn head(&self, place: u64) -> Option<u64> {
+        let chan = into_at(self.net, self.unit, self.pins, place);
+        self.tokens.head(chan)
+    }
+}
+
+impl State {
+    /// The heads at the input places of a unit whose first channels are known.
+    #[inline(always)]
+    fn heads<'a>(&'a self, net: &'a Checked, unit: u32, pins: Pins) -> UnitHeads<'a>
+        requires { pins ≡ pins_of unit net.now.chans }
+        ensures { ⟦<UnitHeads<'a> as Heads>⟧.heads result
+            ≡ head_at net.now (state_of self.now) unit }
+    {
+        UnitHeads {
+            net,
+            tokens: &self.tokens,
+            unit,
+            pins,
+        }
+    }
+
+    /// What a firing does; `None` where the unit's heads or its own state hold it back.
+    ///
+    /// It is enabled where there is a plan and [`State::has_room`] for what the plan puts.
+    #[inline(always)]
+    pub fn plan(&self, net: &Checked, firing: Firing) -> Option<Plan>
+        requires { IsOf net.now self.now }
+        ensures apart { IfSome result (λ p. apart p.takes ≡ true) }
+        ensures admits { IfSome result
+            (λ p. admits (cell_at self.now firing.unit) p.change ≡ true) }
+        ensures effect { IsPlanOf net.now self.now firing result }
+    {
+        let at = firing.unit as usize;
+        let units = net.net().units.as_slice();
+        let pins = net.pins(firing.unit);
+        if at < units.len() {
+            return self.plan_at(net, firing, &units[at], pins);
+        }
+        let heads = self.heads(net, firing.unit, pins);
+        let valued = net.net().result.is_some();
+        let scalars = self.scalars.as_slice();
+        let act = firing.act;
+        let none = Unit::Sink { width: 0 };
+        plan_firing(&heads, &none, act, &Cell::Plain, &[], scalars, valued)
+    }
+
+    /// As [`State::plan`], where the unit and the channels at its first places are known.
+    #[inline(always)]
+    fn plan_at(&self, net: &Checked, firing: Firing, unit: &Unit, pins: Pins) -> Option<Plan>
+        requires of { IsOf net.now self.now }
+        requires within { firing.unit < length net.now.units }
+        requires unit { unit.now ≡ kind_of net.now firing.unit }
+        requires pins { pins ≡ pins_of firing.unit net.now.chans }
+        ensures apart { IfSome result (λ p. apart p.takes ≡ true) }
+        ensures admits { IfSome result
+            (λ p. admits (cell_at self.now firing.unit) p.change ≡ true) }
+        ensures effect { IsPlanOf net.now self.now firing result }
+    {
+        let heads = self.heads(net, firing.unit, pins);
+        let valued = net.net().result.is_some();
+        let scalars = self.scalars.as_slice();
+        let act = firing.act;
+        let cell = &self.cells[firing.unit as usize];
+        let array = self.used(unit);
+        plan_firing(&heads, unit, act, cell, array, scalars, valued)
+    }
+
+    /// What the act Go of a unit does, where its kind and the channels at its first places are known.
+    #[inline(always)]
+    pub fn plan_go_at(&self, net: &Checked, unit: u32, kind: &Unit, pins: Pins) -> Option<Plan>
+        requires of { IsOf net.now self.now }
+        requires within { unit < length net.now.units }
+        requires kind { kind.now ≡ kind_of net.now unit }
+        requires pins { pins ≡ pins_of unit net.now.chans }
+        ensures apart { IfSome result (λ p. apart p.takes ≡ true) }
+        ensures admits { IfSome result (λ p. admits (cell_at self.now unit) p.change ≡ true) }
+        ensures effect { IsPlanOf net.now self.now (firing unit acts.Go) result }
+    {
+        let heads = self.heads(net, unit, pins);
+        let valued = net.net().result.is_some();
+        let scalars = self.scalars.as_slice();
+        let cell = &self.cells[unit as usize];
+        let array = self.used(kind);
+        plan_go(&heads, kind, cell, array, scalars, valued)
+    }
+
+    /// What the firing of a constant does, where the channels at its first places are known.
+    #[inline(always)]
+    pub fn plan_const_at(&self, net: &Checked, unit: u32, value: u64, pins: Pins) -> Option<Plan>
+        requires of { IsOf net.now self.now }
+        requires within { unit < length net.now.units }
+        requires kind { IsConstOf value (kind_of net.now unit) }
+        requires pins { pins ≡ pins_of unit net.now.chans }
+        ensures apart { IfSome result (λ p. apart p.takes ≡ true) }
+        ensures admits { IfSome result (λ p. admits (cell_at self.now unit) p.change ≡ true) }
+        ensures effect { IsPlanOf net.now self.now (firing unit acts.Go) result }
+    {
+        let heads = self.heads(net, unit, pins);
+        plan_one(&heads, Some(Put { place: 0, value }))
+    }
+
+    /// What the firing of an operation on one pattern does, where the channels at its first places are known.
+    #[inline(always)]
+    pub fn plan_op1_at(&self, net: &Checked, unit: u32, op: Op1, pins: Pins) -> Option<Plan>
+        requires of { IsOf net.now self.now }
+        requires within { unit < length net.now.units }
+        requires kind { kind_of net.now unit ≡ units.Op1 op }
+        requires pins { pins ≡ pins_of unit net.now.chans }
+        ensures apart { IfSome result (λ p. apart p.takes ≡ true) }
+        ensures admits { IfSome result (λ p. admits (cell_at self.now unit) p.change ≡ true) }
+        ensures effect { IsPlanOf net.now self.now (firing unit acts.Go) result }
+    {
+        let heads = self.heads(net, unit, pins);
+        plan_op1(&heads, op)
+    }
+
+    /// What the firing of an operation on two patterns does, where the channels at its first places are known.
+    #[inline(always)]
+    pub fn plan_op2_at(&self, net: &Checked, unit: u32, op: Op2, pins: Pins) -> Option<Plan>
+        requires of { IsOf net.now self.now }
+        requires within { unit < length net.now.units }
+        requires kind { kind_of net.now unit ≡ units.Op2 op }
+        requires pins { pins ≡ pins_of unit net.now.chans }
+        ensures apart { IfSome result (λ p. apart p.takes ≡ true) }
+        ensures admits { IfSome result (λ p. admits (cell_at self.now unit) p.change ≡ true) }
+        ensures effect { IsPlanOf net.now self.now (firing unit acts.Go) result }
+    {
+        let heads = self.heads(net, unit, pins);
+        plan_op2(&heads, op)
+    }
+
+    /// What the firing of a select does, where the channels at its first places are known.
+    #[inline(always)]
+    pub fn plan_select_at(&self, net: &Checked, unit: u32, pins: Pins) -> Option<Plan>
+        requires of { IsOf net.now self.now }
+        requires within { unit < length net.now.units }
+        requires kind { IsSelect (kind_of net.now unit) }
+        requires pins { pins ≡ pins_of unit net.now.chans }
+        ensures apart { IfSome result (λ p. apart p.takes ≡ true) }
+        ensures admits { IfSome result (λ p. admits (cell_at self.now unit) p.change ≡ true) }
+        ensures effect { IsPlanOf net.now self.now (firing unit acts.Go) result }
+    {
+        let heads = self.heads(net, unit, pins);
+        plan_select(&heads)
+    }
+
+    /// What the firing of a mux does, where the channels at its first places are known.
+    #[inline(always)]
+    pub fn plan_mux_at(&self, net: &Checked, unit: u32, ins: u32, pins: Pins) -> Option<Plan>
+        requires of { IsOf net.now self.now }
+        requires within { unit < length net.now.units }
+        requires kind { IsMuxOf ins (kind_of net.now unit) }
+        requires pins { pins ≡ pins_of unit net.now.chans }
+        ensures apart { IfSome result (λ p. apart p.takes ≡ true) }
+        ensures admits { IfSome result (λ p. admits (cell_at self.now unit) p.change ≡ true) }
+        ensures effect { IsPlanOf net.now self.now (firing unit acts.Go) result }
+    {
+        let heads = self.heads(net, unit, pins);
+        plan_mux(&heads, ins)
+    }
+
+    /// What the firing of a branch does, where the channels at its first places are known.
+    #[inline(always)]
+    pub fn plan_branch_at(&self, net: &Checked, unit: u32, pins: Pins) -> Option<Plan>
+        requires of { IsOf net.now self.now }
+        requires within { unit < length net.now.units }
+        requires kind { IsBranch (kind_of net.now unit) }
+        requires pins { pins ≡ pins_of unit net.now.chans }
+        ensures apart { IfSome result (λ p. apart p.takes ≡ true) }
+        ensures admits { IfSome result (λ p. admits (cell_at self.now unit) p.change ≡ true) }
+        ensures effect { IsPlanOf net.now self.now (firing unit acts.Go) result }
+    {
+        let heads = self.heads(net, unit, pins);
+        plan_branch(&heads)
+    }
+
+    /// What the firing of a sink does, where the channels at its first places are known.
+    #[inline(always)]
+    pub fn plan_sink_at(&self, net: &Checked, unit: u32, pins: Pins) -> Option<Plan>
+        requires of { IsOf net.now self.now }
+        requires within { unit < length net.now.units }
+        requires kind { IsSink (kind_of net.now unit) }
+        requires pins { pins ≡ pins_of unit net.now.chans }
+        ensures apart { IfSome result (λ p. apart p.takes ≡ true) }
+        ensures admits { IfSome result (λ p. admits (cell_at self.now unit) p.change ≡ true) }
+        ensures effect { IsPlanOf net.now self.now (firing unit acts.Go) result }
+    {
+        let heads = self.heads(net, unit, pins);
+        plan_one(&heads, None)
+    }
+
+    /// What the firing of a read does, where the channels at its first places are known.
+    #[inline(always)]
+    pub fn plan_read_at(&self, net: &Checked, unit: u32, array: u32, pins: Pins) -> Option<Plan>
+        requires of { IsOf net.now self.now }
+        requires within { unit < length net.now.units }
+        requires kind { kind_of net.now unit ≡ units.Read array }
+        requires pins { pins ≡ pins_of unit net.now.chans }
+        ensures apart { IfSome result (λ p. apart p.takes ≡ true) }
+        ensures admits { IfSome result (λ p. admits (cell_at self.now unit) p.change ≡ true) }
+        ensures effect { IsPlanOf net.now self.now (firing unit acts.Go) result }
+    {
+        let heads = self.heads(net, unit, pins);
+        plan_read(&heads, self.elements(array))
+    }
+
+    /// What the sending of a fork to an output does, where its outputs and the channels at its first places are known.
+    #[inline(always)]
+    pub fn plan_send_at(
+        &self,
+        net: &Checked,
+        unit: u32,
+        outs: u32,
+        out: u32,
+        pins: Pins,
+    ) -> Option<Plan>
+        requires of { IsOf net.now self.now }
+        requires within { unit < length net.now.units }
+        requires fork { IsForkOf outs (kind_of net.now unit) }
+        requires pins { pins ≡ pins_of unit net.now.chans }
+        ensures apart { IfSome result (λ p. apart p.takes ≡ true) }
+        ensures admits { IfSome result (λ p. admits (cell_at self.now unit) p.change ≡ true) }
+        ensures effect { IsPlanOf net.now self.now (firing unit (acts.Send out)) result }
+    {
+        let heads = self.heads(net, unit, pins);
+        match &self.cells[unit as usize] {
+            Cell::Fork(sent) => plan_send(&heads, outs, out, sent, &[]),
+            _ => None,
+        }
+    }
+
+    /// What an act of a queue or a control merge does, where the unit's kind is known.
+    #[inline(always)]
+    pub fn plan_act_at(&self, net: &Checked, firing: Firing, kind: &Unit) -> Option<Plan>
+        requires of { IsOf net.now self.now }
+        requires within { firing.unit < length net.now.units }
+        requires kind { kind.now ≡ kind_of net.now firing.unit }
+        requires goes { act_rank firing.act ≢ 0 }
+        requires sends { act_rank firing.act ≢ 2 }
+        ensures apart { IfSome result (λ p. apart p.takes ≡ true) }
+        ensures admits { IfSome result
+            (λ p. admits (cell_at self.now firing.unit) p.change ≡ true) }
+        ensures effect { IsPlanOf net.now self.now firing result }
+    {
+        let heads = self.heads(net, firing.unit, net.pins(firing.unit));
+        plan_act(&heads, kind, firing.act, &self.cells[firing.unit as usize])
+    }
+}
