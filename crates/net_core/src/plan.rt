@@ -380,9 +380,9 @@ fn scalar_at(scalars: &[u64], scalar: u32) -> u64
     }
 }
 
-/// What the firing of a unit that only goes does.
+/// What the firing of a unit that only goes does. It stands apart so that what plans any firing stays small.
 #[tactic(auto, unfolding(crate::specs::Fire::row))]
-#[inline(always)]
+#[inline(never)]
 pub(crate) fn plan_go<H: Heads>(
     heads: &H,
     unit: &Unit,
@@ -535,7 +535,7 @@ fn plan_queue<H: Heads>(
 
 /// What the firing of a control merge from an input does.
 #[inline(always)]
-fn plan_from<H: Heads>(heads: &H, ins: u32, which: u32) -> Option<Plan>
+pub(crate) fn plan_from<H: Heads>(heads: &H, ins: u32, which: u32) -> Option<Plan>
     ensures apart { IfSome result (λ p. apart p.takes ≡ true) }
     ensures change { IfSome result (λ p. p.change ≡ change.Keep) }
     ensures effect { IsFromPlan ins which (H.heads heads.now) result }

@@ -1,7 +1,7 @@
 //! What firings do in a state: their plans, each by what is known of the unit.
 
 ghost use Rattle.std.specs.Prelude.{◌≡◌, ◌<◌, ◌≢◌, length, true, IfSome};
-ghost use Rattle.net_types.specs.Nets.{firing, kind_of};
+ghost use Rattle.net_types.specs.Nets.{firing, into, kind_of};
 ghost use Rattle.net_types.specs.Order.{act_rank};
 ghost use Rattle.net_types.specs.declared.firing.Act.TheVariants as acts;
 ghost use Rattle.net_types.specs.declared.net.Unit.TheVariants as units;
@@ -12,8 +12,8 @@ ghost use Rattle.net_core.specs.States.{IsOf, IsPlanOf, cell_at, state_of};
 
 use crate::cell::Cell;
 use crate::plan::{
-    Heads, Plan, Put, into_at, plan_act, plan_branch, plan_firing, plan_go, plan_mux, plan_one,
-    plan_op1, plan_op2, plan_read, plan_select, plan_send,
+    Heads, Plan, Put, into_at, plan_act, plan_branch, plan_firing, plan_from, plan_go, plan_mux,
+    plan_one, plan_op1, plan_op2, plan_read, plan_select, plan_send,
 };
 use crate::state::State;
 use crate::tokens::Tokens;
@@ -45,6 +45,35 @@ impl Heads for UnitHeads<'_> {
     }
 }
 
+/// The heads at the input places of one unit, of which the channel into one place is known.
+#[derive(Drop)]
+struct HeadsBeside<'a> {
+    net: &'a Checked,
+    tokens: &'a Tokens,
+    unit: u32,
+    place: u64,
+    chan: u32,
+    ghost known: { chan ≡ into unit place net.now.chans },
+}
+
+impl Heads for HeadsBeside<'_> {
+    ghost use Rattle.std.specs.Prelude.{[], get_or};
+    ghost use Rattle.net_types.specs.Nets.{into};
+    ghost use Rattle.net_core.specs.Fire.{first};
+
+    ghost heads = { λ h p. first (get_or h.tokens.now.tokens (into h.unit p h.net.now.chans) []) };
+
+    #[inline(always)]
+    fn head(&self, place: u64) -> Option<u64> {
+        let chan = if place == self.place {
+            self.chan
+        } else {
+            self.net.into_place(self.unit, place)
+        };
+        self.tokens.head(chan)
+    }
+}
+
 impl State {
     /// The heads at the input places of a unit whose first channels are known.
     #[inline(always)]
@@ -58,6 +87,28 @@ impl State {
             tokens: &self.tokens,
             unit,
             pins,
+        }
+    }
+
+    /// The heads at the input places of a unit, where the channel into one of them is known.
+    #[inline(always)]
+    fn heads_beside<'a>(
+        &'a self,
+        net: &'a Checked,
+        unit: u32,
+        place: u64,
+        chan: u32,
+    ) -> HeadsBeside<'a>
+        requires { chan ≡ into unit place net.now.chans }
+        ensures { ⟦<HeadsBeside<'a> as Heads>⟧.heads result
+            ≡ head_at net.now (state_of self.now) unit }
+    {
+        HeadsBeside {
+            net,
+            tokens: &self.tokens,
+            unit,
+            place,
+            chan,
         }
     }
 
@@ -108,6 +159,7 @@ impl State {
     }
 
     /// What the act Go of a unit does, where its kind and the channels at its first places are known.
+    /// `None` where the heads hold it back, or what the unit keeps.
     #[inline(always)]
     pub fn plan_go_at(&self, net: &Checked, unit: u32, kind: &Unit, pins: Pins) -> Option<Plan>
         requires of { IsOf net.now self.now }
@@ -127,6 +179,7 @@ impl State {
     }
 
     /// What the firing of a constant does, where the channels at its first places are known.
+    /// `None` where the heads hold it back.
     #[inline(always)]
     pub fn plan_const_at(&self, net: &Checked, unit: u32, value: u64, pins: Pins) -> Option<Plan>
         requires of { IsOf net.now self.now }
@@ -142,6 +195,7 @@ impl State {
     }
 
     /// What the firing of an operation on one pattern does, where the channels at its first places are known.
+    /// `None` where the heads hold it back.
     #[inline(always)]
     pub fn plan_op1_at(&self, net: &Checked, unit: u32, op: Op1, pins: Pins) -> Option<Plan>
         requires of { IsOf net.now self.now }
@@ -157,6 +211,7 @@ impl State {
     }
 
     /// What the firing of an operation on two patterns does, where the channels at its first places are known.
+    /// `None` where the heads hold it back.
     #[inline(always)]
     pub fn plan_op2_at(&self, net: &Checked, unit: u32, op: Op2, pins: Pins) -> Option<Plan>
         requires of { IsOf net.now self.now }
@@ -172,6 +227,7 @@ impl State {
     }
 
     /// What the firing of a select does, where the channels at its first places are known.
+    /// `None` where the heads hold it back.
     #[inline(always)]
     pub fn plan_select_at(&self, net: &Checked, unit: u32, pins: Pins) -> Option<Plan>
         requires of { IsOf net.now self.now }
@@ -187,6 +243,7 @@ impl State {
     }
 
     /// What the firing of a mux does, where the channels at its first places are known.
+    /// `None` where the heads hold it back.
     #[inline(always)]
     pub fn plan_mux_at(&self, net: &Checked, unit: u32, ins: u32, pins: Pins) -> Option<Plan>
         requires of { IsOf net.now self.now }
@@ -202,6 +259,7 @@ impl State {
     }
 
     /// What the firing of a branch does, where the channels at its first places are known.
+    /// `None` where the heads hold it back.
     #[inline(always)]
     pub fn plan_branch_at(&self, net: &Checked, unit: u32, pins: Pins) -> Option<Plan>
         requires of { IsOf net.now self.now }
@@ -217,6 +275,7 @@ impl State {
     }
 
     /// What the firing of a sink does, where the channels at its first places are known.
+    /// `None` where the heads hold it back.
     #[inline(always)]
     pub fn plan_sink_at(&self, net: &Checked, unit: u32, pins: Pins) -> Option<Plan>
         requires of { IsOf net.now self.now }
@@ -232,6 +291,7 @@ impl State {
     }
 
     /// What the firing of a read does, where the channels at its first places are known.
+    /// `None` where the heads hold it back.
     #[inline(always)]
     pub fn plan_read_at(&self, net: &Checked, unit: u32, array: u32, pins: Pins) -> Option<Plan>
         requires of { IsOf net.now self.now }
@@ -246,7 +306,31 @@ impl State {
         plan_read(&heads, self.elements(array))
     }
 
+    /// What the firing of a control merge from an input does, where the channel into the input is known.
+    /// `None` where the heads hold it back.
+    #[inline(always)]
+    pub fn plan_from_at(
+        &self,
+        net: &Checked,
+        unit: u32,
+        ins: u32,
+        input: u32,
+        chan: u32,
+    ) -> Option<Plan>
+        requires of { IsOf net.now self.now }
+        requires within { unit < length net.now.units }
+        requires kind { kind_of net.now unit ≡ units.Cmerge ins }
+        requires into { chan ≡ into unit input net.now.chans }
+        ensures apart { IfSome result (λ p. apart p.takes ≡ true) }
+        ensures admits { IfSome result (λ p. admits (cell_at self.now unit) p.change ≡ true) }
+        ensures effect { IsPlanOf net.now self.now (firing unit (acts.From input)) result }
+    {
+        let heads = self.heads_beside(net, unit, u64::from(input), chan);
+        plan_from(&heads, ins, input)
+    }
+
     /// What the sending of a fork to an output does, where its outputs and the channels at its first places are known.
+    /// `None` where the heads hold it back, or the output has its token.
     #[inline(always)]
     pub fn plan_send_at(
         &self,
@@ -272,6 +356,7 @@ impl State {
     }
 
     /// What an act of a queue or a control merge does, where the unit's kind is known.
+    /// `None` where the heads hold it back, or what the unit keeps.
     #[inline(always)]
     pub fn plan_act_at(&self, net: &Checked, firing: Firing, kind: &Unit) -> Option<Plan>
         requires of { IsOf net.now self.now }
