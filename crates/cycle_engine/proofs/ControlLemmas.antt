@@ -55,7 +55,7 @@ control_fork (Lsq a d ps gs fw) p l = refl
 control_fork _ p l = absurd (omega arith)
 
 -- a head at such a place counts, and its channel leads there
-control_held : (net : Net) (s : State) (u p v : ℕ) → IsChecked net → IsRegular net s → p < control_places_in (kind_of net u) → head_at net s u p ≡ Some v
+pub control_held : (net : Net) (s : State) (u p v : ℕ) → IsChecked net → IsRegular net s → p < control_places_in (kind_of net u) → head_at net s u p ≡ Some v
     → IsHeld net s (into u p net.chans) × (leads_to_control_place net (into u p net.chans) ≡ true)
 control_held net s u p v checked good l h =
     let k = control_kind (kind_of net u) p l (ctl_in net u) (ctl_out net u) ((premises_of net laws checked).steered u) in

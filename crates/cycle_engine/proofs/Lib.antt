@@ -8,9 +8,11 @@ pub mod JoinLemmas
 pub mod PlaceLemmas
 mod QueueTurnLemmas
 mod TurnLemmas
+mod ServeLemmas
 mod ControlLemmas
 mod StepLemmas
 mod SendLemmas
+mod FromLemmas
 mod RunLemmas
 mod UsedLemmas
 mod FeedLemmas

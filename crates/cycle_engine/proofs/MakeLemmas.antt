@@ -1,14 +1,15 @@
 -- A firing made by the engine.
-use Rattle.std.proofs.Common.{◌≡◌, ℕ, ◌+◌, ◌*◌, ◌<◌, ◌≤◌, ◌≢◌, Bool, true, false, cond, Option, Some, None, List, [], ◌∷◌, ◌++◌, length, map, get_or, refl, sym, ap, subst, ◌∙◌, arith, IfSome, IsSomeAnd, length-append, append_assoc}
+use Rattle.std.proofs.Common.{◌≡◌, ℕ, ◌+◌, ◌*◌, ◌<◌, ◌≤◌, ◌≢◌, Bool, true, false, cond, Option, Some, None, List, [], ◌∷◌, ◌++◌, length, map, get_or, refl, sym, ap, subst, ◌∙◌, arith, IfSome, IsSomeAnd, Result, Ok, Err, OnOk, length-append, append_assoc}
 use Rattle.std.specs.List.{AllByRecursion}
 use Rattle.el_base.specs.Limits.{max_depth}
 use Rattle.el_base.specs.Logs.{Logged}
 use Rattle.net_types.specs.declared.net.Net.{Net}
 use Rattle.net_types.specs.declared.firing.Firing.{Firing}
 use Rattle.net_types.specs.Nets.{into, out_of, kind_of}
-use Rattle.net_core.specs.Fire.{Effect, has_room, tokens_at, after, after_effect, applied}
+use Rattle.net_core.specs.Fire.{State, Effect, has_room, tokens_at, after, after_effect, applied}
 use Rattle.net_core.specs.declared.plan.Put.{Put}
 use Rattle.net_core.specs.declared.plan.Moves.{Moves}
+use Rattle.net_core.specs.declared.plan.Laid.{Laid}
 use Rattle.net_core.specs.declared.plan.Change.TheVariants as change
 use Rattle.net_core.specs.declared.plan.Plan.{Plan}
 use Rattle.net_core.specs.Held.{AllWithin, dated_laid, laid_on, taken_all}
@@ -27,15 +28,16 @@ use Rattle.lsq_core.specs.Laws.{phase}
 use Rattle.cycle_engine.specs.Cycles.{Dated, dated, after_by, after_in, AreDated, May, Makes, Once, InOrder, IsUnused, IsOldest, place_of}
 use Rattle.cycle_engine.specs.Cuts.{joined}
 use Rattle.cycle_engine.specs.private.Trials.{dated_of, IsEngine, IsBegun, dates_after}
-use Rattle.cycle_engine.specs.private.Goings.{Past, IsReady, InCycle, MayFollow, IsMade, IsMore, all_made}
+use Rattle.cycle_engine.specs.private.Goings.{Past, IsReady, InCycle, MayFollow, IsMade, all_made}
 use Rattle.cycle_engine.specs.private.Control.{HasControl, control_after}
-use Rattle.cycle_engine.specs.private.Used.{AreTold}
-use Rattle.cycle_engine.specs.private.Marking.{IsListed, IsNoted, IsFreed, AreFeeds}
+use Rattle.cycle_engine.specs.private.Used.{AreNumbered, AreTold, HasPlace, IsStamped, place_number}
+use Rattle.cycle_engine.specs.private.Marking.{IsListed, IsMarkedWhere, IsNoted, IsFreed, AreFeeds}
 use Rattle.cycle_engine.proofs.NoteLemmas.{after_is, coming_after}
 use Rattle.cycle_engine.proofs.FollowLemmas.{followed_after}
 use Rattle.cycle_engine.proofs.RousingLemmas.{slots_within}
 use Rattle.cycle_engine.proofs.BeforeLemmas.{after_of}
 use Rattle.cycle_engine.proofs.DateLemmas.{dated_after}
+use Rattle.cycle_engine.proofs.UsedLemmas.{told_stamped, numbered_stamped}
 
 -- ---- dates are moved as tokens are
 
@@ -98,6 +100,11 @@ made_engine net c e e' f p k is r o =
     let P : Dated → Type 0 = AreDated net in
     record { state = o; dated = subst P (sym (r ∙ b)) (dated_after net c (dated_of e) f.unit (effect_by (kind_of net f.unit) (own_at e.state f.unit) (array_at net e.state f.unit) p) k.dated) }
 
+-- what is made holds also where the call then gave up
+pub on_ok : {T E : Type 0} (r : Result T E) (P : Type 0) → P → OnOk r P
+on_ok (Ok v) P h = h
+on_ok (Err e) P h = tt
+
 -- ---- the cycle after it
 
 pub length_snoc : (fs : List Firing) (f : Firing) → length (fs ++ f ∷ []) ≡ length fs + 1
@@ -138,7 +145,7 @@ pub record Makes1 (net : Net) (b : Bounds) (c : ℕ) (old new : Engine) (f : Fir
   pub control : new.control ≡ control_after net m.laid old.control
 
 -- where it was one firing that the limit allows, the engine is ready for the next
-made_more : (old new : Engine) (f : Firing) → new.made ≡ old.made → new.fired.items ≡ old.fired.items ++ f ∷ [] → all_made new ≡ all_made old + 1
+pub made_more : (old new : Engine) (f : Firing) → new.made ≡ old.made → new.fired.items ≡ old.fired.items ++ f ∷ [] → all_made new ≡ all_made old + 1
 made_more old new f made fired =
     let n = length_snoc old.fired.items f in
     let k = ap (λ (xs : List Firing). length xs) fired in
@@ -148,11 +155,27 @@ room_left : (keep : Bool) (limit before after : ℕ) (f : Firing) (old new : Log
 room_left true limit before after f old new l n h k = let a = h refl in let b = l.room in omega arith
 room_left false limit before after f old new l n h k = cc
 
-pub made_ready : (net : Net) (b : Bounds) (c : ℕ) (old new : Engine) (f : Firing) (m : Moves) → IsReady net b old → all_made old < b.limit → IsEngine net new → CountsRise max_depth (state_of old.state) (state_of new.state)
-    → AreTold new.used new.made new.fired.items → length new.used.last.items ≡ length old.used.last.items → new.marks ≡ old.marks → new.feeds ≡ old.feeds → Makes1 net b c old new f m → IsReady net b new
-made_ready net b c old new f m ready less engine rise told long marks feeds one =
-    let n = made_more old new f one.made one.fired in
+-- the list of marks serves the net on
+marks_where : (rouses : Bool) (net : Net) (s : State) (laid : Option Laid) (old new : Marks) → IsMarkedWhere rouses net s laid old new → (length new.marked.items ≡ length old.marked.items) × (IsListed net old → IsListed net new)
+marks_where true net s laid old new h = (h.0.long, h.0.listed net)
+marks_where false net s laid old new h =
     let P : Marks → Type 0 = IsListed net in
+    (ap (λ (x : Marks). length x.marked.items) h, λ l. subst P (sym h) l)
+
+-- the place of the firing tells of it
+made_told : (net : Net) (old new : Engine) (f : Firing) → HasPlace net f → AreNumbered net old.used.base.items (length old.used.last.items) → IsStamped (place_number old.used.base.items f) (all_made old) old.used new.used
+    → new.made ≡ old.made → new.fired.items ≡ old.fired.items ++ f ∷ [] → AreTold net old.used old.made old.fired.items → AreTold net new.used new.made new.fired.items
+made_told net old new f place numbers stamped made fired told =
+    let P : ℕ → Type 0 = λ n. AreTold net new.used n new.fired.items in
+    let Q : List Firing → Type 0 = λ fs. AreTold net new.used old.made fs in
+    subst P (sym made) (subst Q (sym fired) (told_stamped net old.used new.used old.made old.fired.items f numbers place told stamped))
+
+pub made_ready : (net : Net) (b : Bounds) (c : ℕ) (old new : Engine) (f : Firing) (m : Moves) (rouses : Bool) → IsReady net b old → all_made old < b.limit → IsEngine net new → CountsRise max_depth (state_of old.state) (state_of new.state)
+    → HasPlace net f → IsStamped (place_number old.used.base.items f) (all_made old) old.used new.used → IsMarkedWhere rouses net (state_of new.state) m.laid old.marks new.marks → new.feeds ≡ old.feeds → Makes1 net b c old new f m
+    → IsReady net b new
+made_ready net b c old new f m rouses ready less engine rise place stamped marked feeds one =
+    let n = made_more old new f one.made one.fired in
+    let w = marks_where rouses net (state_of new.state) m.laid old.marks new.marks marked in
     let Q : Feeds → Type 0 = AreFeeds net in
     record {
       engine = engine;
@@ -162,16 +185,13 @@ made_ready net b c old new f m ready less engine rise told long marks feeds one 
       room = room_left b.keep b.limit (all_made old) (all_made new) f old.log new.log one.logged n ready.room;
       chans = one.freed.long ∙ ready.chans;
       queues = ap (λ (v : _). length v.items) one.begun ∙ ready.queues;
-      marked = ap (λ (x : Marks). length x.marked.items) marks ∙ ready.marked;
-      listed = subst P (sym marks) ready.listed;
+      marked = w.0 ∙ ready.marked;
+      listed = w.1 ready.listed;
       cells = one.notes.cells ∙ ready.cells;
-      told = told;
-      places = (let p = ready.places in omega arith);
+      told = made_told net old new f place ready.places stamped one.made one.fired ready.told;
+      places = numbered_stamped net (place_number old.used.base.items f) (all_made old) old.used new.used ready.places stamped;
       feeds = subst Q (sym feeds) ready.feeds;
     }
-
-pub more_made : (net : Net) (b : Bounds) (c : ℕ) (old new : Engine) (f : Firing) (m : Moves) → Makes1 net b c old new f m → IsMore old new true
-more_made net b c old new f m one = let n = made_more old new f one.made one.fired in record { kept = omega arith; more = λ y. omega arith }
 
 made_begun : (net : Net) (b : Bounds) (c : ℕ) (start : Dated) (old new : Engine) (f : Firing) (p : Plan) (m : Moves) → IsReady net b old → IsPlanOf net old.state f (Some p) → m ≡ moves_of net f.unit p → May net c start (dated_of old) f
     → Makes1 net b c old new f m → IsBegun net c start old → IsBegun net c start new

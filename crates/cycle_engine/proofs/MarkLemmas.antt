@@ -1,7 +1,5 @@
 -- Marks, and lists of units that are marked.
-use Rattle.std.proofs.Common.{◌≡◌, ◌≢◌, ℕ, suc, zero, not, eqb, eqb-true, ◌<◌, ◌≤◌, ◌⊎◌, inl, inr, Bool, true, false, Option, Some, None, MatchOption, Result, Ok, Err, OnOk, Bor, List, [], ◌∷◌, ◌++◌, length, get_or, set, refl, sym, ap, subst, ◌∙◌, arith, length-append, length-set, get_or-set_same, get_or-set_other}
-use Rattle.std.specs.Option.{option_eq}
-use Rattle.std.specs.List.{AllByRecursion}
+use Rattle.std.proofs.Common.{◌≡◌, ◌≢◌, ℕ, suc, zero, ◌<◌, ◌≤◌, ◌⊎◌, inl, inr, Bool, true, false, Option, Some, None, MatchOption, Bor, List, [], ◌∷◌, ◌++◌, length, get_or, set, refl, sym, ap, subst, ◌∙◌, arith, length-append, length-set, get_or-set_same, get_or-set_other}
 use Rattle.std.proofs.lemmas.Bool.{cases_eq, cases_lt}
 use Rattle.std.specs.List.Sorted.{IsPermutation}
 use Rattle.std.proofs.lemmas.List.{get_or_append_left, get_or_default}
@@ -14,20 +12,19 @@ use Rattle.net_types.specs.declared.net.Unit.TheVariants.{Lsq}
 use Rattle.net_types.specs.Nets.{kind_of, chan_at}
 use Rattle.net_check.specs.Ends.{is_lsq}
 use Rattle.net_core.specs.Fire.{State}
-use Rattle.net_core.specs.declared.plan.Laid.{Laid}
 use Rattle.net_core.proofs.ActLemmas.{kind_within}
 use Rattle.cycle_engine.specs.declared.marks.Marks.{Marks}
 use Rattle.cycle_engine.specs.declared.marks.Turn.{Turn}
-use Rattle.cycle_engine.specs.private.Marking.{Holds, IsMarked, IsListed, KeepsMarks, IsSourceMarked, IsMergeMarked, IsTargetMarked, IsPutMarked, IsTaken, IsTurnKind, IsEmptied, IsReordered}
+use Rattle.cycle_engine.specs.private.Marking.{Holds, IsMarked, IsListed, KeepsMarks, IsSourceMarked, IsTargetMarked, IsFedMarked, IsTaken, IsTurnKind, IsEmptied, IsReordered}
 
 -- ---- lists
 
-get_last : (xs : List ℕ) (x : ℕ) → get_or (xs ++ x ∷ []) (length xs) 0 ≡ x
-get_last [] x = refl
-get_last (y ∷ xs) x = get_last xs x
+pub get_last : {A : Type 0} (xs : List A) (x e : A) → get_or (xs ++ x ∷ []) (length xs) e ≡ x
+get_last [] x e = refl
+get_last (y ∷ xs) x e = get_last xs x e
 
 pub holds_last : (xs : List ℕ) (x : ℕ) → Holds x (xs ++ x ∷ [])
-holds_last xs x = record { at = length xs; within = (let n = length-append xs (x ∷ []) in omega arith); is = get_last xs x }
+holds_last xs x = record { at = length xs; within = (let n = length-append xs (x ∷ []) in omega arith); is = get_last xs x 0 }
 
 pub holds_more : (xs ys : List ℕ) (x : ℕ) → Holds x xs → Holds x (xs ++ ys)
 holds_more xs ys x h = record { at = h.at; within = (let n = length-append xs ys in let w = h.within in omega arith); is = get_or_append_left xs ys 0 h.at h.within ∙ h.is }
@@ -42,22 +39,13 @@ holds_snoc xs y x h = by (cases_lt h.at (length xs))
         let n = length-append xs (y ∷ []) in
         let w = h.within in
         let e : h.at ≡ length xs = omega arith in
-        inr (sym h.is ∙ (ap (λ k. get_or (xs ++ y ∷ []) k 0) e ∙ get_last xs y))
+        inr (sym h.is ∙ (ap (λ k. get_or (xs ++ y ∷ []) k 0) e ∙ get_last xs y 0))
 
 pub holds_none : (x : ℕ) → Holds x [] → ⊥
 holds_none x h = let w = h.within in omega arith
 
 pub none_held : (xs : List ℕ) (x : ℕ) → xs ≡ [] → Holds x xs → ⊥
 none_held xs x e h = holds_none x (subst (Holds x) e h)
-
--- what is no other than a number is that number
-pub same_some : (o : Option ℕ) (u : ℕ) → false ≡ not (option_eq eqb o (Some u)) → o ≡ Some u
-same_some None u e = cc
-same_some (Some v) u e = by (eqb v u) refl
-  where
-    by : (b : Bool) → eqb v u ≡ b → Some v ≡ Some u
-    by true q = ap Some (eqb-true v u q)
-    by false q = let z : false ≡ true = e ∙ ap not q in cc
 
 -- ---- marks
 
@@ -207,6 +195,12 @@ source_as net s m n a d e h l f k = h l f (omega arith)
 pub target_as : (net : Net) (m n : ℕ) (a : Marks) (d : ℕ) → m ≡ n → IsTargetMarked net m a d → IsTargetMarked net n a d
 target_as net m n a d e h l k = h l (omega arith)
 
+pub fed_more : (net : Net) (s : State) (n : ℕ) (a b : Marks) (d : ℕ) → KeepsMarks a b → IsFedMarked net s n a d → IsFedMarked net s n b d
+fed_more net s n a b d k h f l m = k.kept (chan_at net d).to.unit (h f l m)
+
+pub fed_as : (net : Net) (s : State) (m n : ℕ) (a : Marks) (d : ℕ) → m ≡ n → IsFedMarked net s m a d → IsFedMarked net s n a d
+fed_as net s m n a d e h f = target_as net m n a d e (h f)
+
 pub or_as : {A : Type 0} {X : Type 0} (P : A → Type 0) {a b : A} → a ≡ b → X ⊎ P a → X ⊎ P b
 or_as P e (inl x) = inl x
 or_as P e (inr p) = inr (subst P e p)
@@ -226,22 +220,3 @@ taken_some net old new o t e h = let P : Option Turn → Type 0 = λ x. MatchOpt
 -- where no kind is told, the number is past the units
 pub no_kind : (net : Net) (t : Turn) → t.kind ≡ None → IsTurnKind net t → length net.units ≤ t.unit
 no_kind net t e h = let P : Option (Bor Kind) → Type 0 = λ o. MatchOption o (length net.units ≤ t.unit) (λ k. (t.unit < length net.units) × (k.now ≡ kind_of net t.unit)) in subst P e h
-
--- ---- merges
-
-pub merge_more : (net : Net) (m n : ℕ) (a b : Marks) (d : ℕ) → m ≡ n → KeepsMarks a b → IsMergeMarked net m a d → IsMergeMarked net n b d
-merge_more net m n a b d e k h l q x = k.kept (chan_at net d).from.unit (h l q (omega arith))
-
-pub merges_more : (net : Net) (m n : ℕ) (a b : Marks) (ds : List ℕ) → m ≡ n → KeepsMarks a b → AllByRecursion (IsMergeMarked net m a) ds → AllByRecursion (IsMergeMarked net n b) ds
-merges_more net m n a b [] e k h = tt
-merges_more net m n a b (d ∷ ds) e k h = (merge_more net m n a b d e k h.0, merges_more net m n a b ds e k h.1)
-
--- one more merge was marked before those of the others
-pub merges_then : {T E : Type 0} (r : Result T E) (net : Net) (a b c : Marks) (d : ℕ) (ds : List ℕ) → KeepsMarks a b → IsMergeMarked net (length a.marked.items) b d → OnOk r (KeepsMarks b c)
-    → OnOk r (AllByRecursion (IsMergeMarked net (length b.marked.items) c) ds) → OnOk r (AllByRecursion (IsMergeMarked net (length a.marked.items) c) (d ∷ ds))
-merges_then (Ok v) net a b c d ds k h l m = (merge_more net _ _ b c d refl l h, merges_more net _ _ c c ds k.long (keeps_same c) m)
-merges_then (Err e) net a b c d ds k h l m = tt
-
-pub put_as : (net : Net) (laid : Option Laid) (m n : ℕ) (a : Marks) → m ≡ n → IsPutMarked net laid m a → IsPutMarked net laid n a
-put_as net None m n a e h = tt
-put_as net (Some w) m n a e h = λ z. target_as net m n a w.chan e (h z)

@@ -4,11 +4,14 @@ use Rattle.std.specs.List.{AllByRecursion}
 use Rattle.std.proofs.lemmas.Bool.{cases_lt, cases_eq}
 use Rattle.el_base.specs.Limits.{max_delay}
 use Rattle.net_types.specs.declared.net.Net.{Net}
+use Rattle.net_types.specs.declared.net.Unit.{Unit as Kind}
+use Rattle.net_types.specs.declared.net.Unit.TheVariants.{Lsq}
+use Rattle.net_types.specs.declared.firing.Act.{Act}
 use Rattle.net_types.specs.declared.firing.Firing.{Firing}
 use Rattle.net_types.specs.Nets.{into, out_of, kind_of, chan_at}
 use Rattle.net_check.specs.Checks.{IsChecked}
 use Rattle.net_check.specs.Ends.{is_lsq}
-use Rattle.net_core.specs.Fire.{Own, idle, first, has_room, tokens_at}
+use Rattle.net_core.specs.Fire.{Own, Effect, idle, effect, first, has_room, tokens_at}
 use Rattle.net_core.specs.declared.plan.Put.{Put}
 use Rattle.net_core.specs.States.{state_of, dates_of}
 use Rattle.net_core.proofs.ApartLemmas.{into-at, out_of-at, is_at-inv}
@@ -17,13 +20,14 @@ use Rattle.cycle_engine.specs.declared.engine.Bounds.{Bounds}
 use Rattle.cycle_engine.specs.declared.marks.Marks.{Marks}
 use Rattle.cycle_engine.specs.Cycles.{Dated, IsRipe, HasDepth, May, Makes, IsUnused, after_by, after_in}
 use Rattle.cycle_engine.specs.private.Trials.{dated_of, IsOldFull, IsFollowed, IsEngine}
-use Rattle.cycle_engine.specs.private.Marking.{Holds, HasUnit, no_firing, IsMarked, IsStarved, IsSourceMarked, IsTargetMarked, cell, cells_of, entries_at}
+use Rattle.cycle_engine.specs.private.Marking.{Holds, HasUnit, no_firing, IsMarked, IsStarved, IsSourceMarked, IsFedMarked, cell, cells_of, entries_at}
 use Rattle.cycle_engine.specs.private.Goings.{Past, IsReady, HasDone, IsStirred, IsWatching, AreComing}
 use Rattle.cycle_engine.specs.private.Places.{IsFull}
 use Rattle.cycle_engine.specs.Rousing.{Could}
 use Rattle.cycle_engine.proofs.BeforeLemmas.{some_within, after_of, may_could}
 use Rattle.cycle_engine.proofs.RousingLemmas.{slots_within, next_could}
 use Rattle.cycle_engine.proofs.DateLemmas.{each_as, effect_there}
+use Rattle.cycle_engine.proofs.FeedLemmas.{lacking_quiet}
 use Rattle.cycle_engine.proofs.PlaceLemmas.{fires_within, starved_quiet}
 
 get_other : (xs : List Own) (v u : ℕ) (o : Own) → u ≢ v → get_or (set xs v o) u idle ≡ get_or xs u idle
@@ -45,6 +49,14 @@ unit_unused (f ∷ fs) g n = (
   unit_unused fs g (λ h. n (record { at = suc h.at; within = (let l = h.within in omega arith); is = h.is })),
 )
 
+pub no_unit : (fs : List Firing) (u : ℕ) → AllByRecursion (λ g. g.unit ≢ u) fs → HasUnit u fs → ⊥
+no_unit fs u h k = by fs k.at h k.within k.is
+  where
+    by : (fs : List Firing) (i : ℕ) → AllByRecursion (λ g. g.unit ≢ u) fs → i < length fs → (get_or fs i no_firing).unit ≡ u → ⊥
+    by [] i h l e = absurd (omega arith)
+    by (g ∷ fs) zero h l e = h.0 e
+    by (g ∷ fs) (suc i) h l e = by fs i h.1 (omega arith) e
+
 has_unit_or : (fs : List Firing) (u : ℕ) → HasUnit u fs ⊎ (HasUnit u fs → ⊥)
 has_unit_or [] u = inr (λ h. (let l = h.within in omega arith))
 has_unit_or (f ∷ fs) u = by (cases_eq f.unit u) (has_unit_or fs u)
@@ -58,23 +70,40 @@ has_unit_or (f ∷ fs) u = by (cases_eq f.unit u) (has_unit_or fs u)
         none zero l z = e z
         none (suc i) l z = k (record { at = i; within = omega arith; is = z })
 
+-- what an act of a unit that is no queue asks of a depth it always has
+plain_depth : (k : Kind) (o : Own) (a : Act) → is_lsq k ≡ false → HasDepth k o a
+plain_depth (Lsq x d ps gs fw) o a q = cc
+plain_depth k o a q = tt
+
 -- a unit that is not to be marked as the next cycle begins may not fire in it
 module _ (net : Net) (past : Past) (b : Bounds) (c : ℕ) (start : Dated) (e : Engine) (eng : IsEngine net e) (f : IsFull net past b c start e) where
-  pub entries_now : (u : ℕ) → is_lsq (kind_of net u) ≡ true → (get_or e.begun.items u 0 ≡ entries_at (state_of e.state) u) ⊎ HasUnit u e.fired.items
+  -- a queue is to be looked at again where it has fired
+  queue_again : (u : ℕ) → is_lsq (kind_of net u) ≡ true → HasUnit u e.fired.items → Holds u e.again.items
+  queue_again u l h = by (f.again u l h)
+    where
+      by : ⊥ ⊎ Holds u e.again.items → Holds u e.again.items
+      by (inl z) = absurd z
+      by (inr k) = k
+
+  pub entries_now : (u : ℕ) → is_lsq (kind_of net u) ≡ true → (get_or e.begun.items u 0 ≡ entries_at (state_of e.state) u) ⊎ Holds u e.again.items
   entries_now u l = by (has_unit_or e.fired.items u)
     where
-      by : HasUnit u e.fired.items ⊎ (HasUnit u e.fired.items → ⊥) → (get_or e.begun.items u 0 ≡ entries_at (state_of e.state) u) ⊎ HasUnit u e.fired.items
-      by (inl h) = inr h
+      by : HasUnit u e.fired.items ⊎ (HasUnit u e.fired.items → ⊥) → (get_or e.begun.items u 0 ≡ entries_at (state_of e.state) u) ⊎ Holds u e.again.items
+      by (inl h) = inr (queue_again u l h)
       by (inr n) = inl (f.going.began.queues u l ∙ ap (λ (o : Own). length o.queue.items) (sym (own_same net c start start e.fired.items (dated_of e) u f.going.makes n)))
 
   pub next_quiet : (g : Firing) → May net (c + 1) (dated_of e) (dated_of e) g → (IsStirred net (c + 1) e g.unit → ⊥) → ⊥
-  next_quiet g m quiet = f.full g (unit_unused e.fired.items g none) (record { turn = m.turn; ripe = then_could.ripe; room = then_could.acts; depth = then_could.depth })
+  next_quiet g m quiet = end (has_unit_or e.fired.items g.unit)
     where
+      there : (x : Effect) × (effect net (state_of e.state) g ≡ Some x) × has_room net (state_of e.state) g.unit x.put
+      there = effect_there net (state_of e.state) g m.turn
+
       fed : IsStarved net (state_of e.state) g.unit → ⊥
       fed h = starved_quiet net (state_of e.state) g.unit g.act h m.turn
 
-      none : HasUnit g.unit e.fired.items → ⊥
-      none h = quiet (inr (inl (h, fed)))
+      -- the unit is not to be looked at again
+      not_again : Holds g.unit e.again.items → ⊥
+      not_again h = quiet (inr (inl (h, fed)))
 
       -- where what g puts has room now it had room as the cycle began
       rooms : (o : Option Put) → has_room net (state_of e.state) g.unit o → has_room net start.state g.unit o
@@ -121,6 +150,7 @@ module _ (net : Net) (past : Past) (b : Bounds) (c : ℕ) (start : Dated) (e : E
                 coming = subst P z (k.1 (omega arith));
                 within = within;
                 target = (is_at-inv (chan_at net (into g.unit p net.chans)).to g.unit p (into-at g.unit p net.chans within)).0;
+                fed = lacking_quiet net (state_of e.state) g (into g.unit p net.chans) there.0 there.1 (is_at-inv (chan_at net (into g.unit p net.chans)).to g.unit p (into-at g.unit p net.chans within)).0;
               })))))
 
           or : (x y : ℕ) → (x ≤ y) ⊎ (y < x)
@@ -137,13 +167,22 @@ module _ (net : Net) (past : Past) (b : Bounds) (c : ℕ) (start : Dated) (e : E
           by (x ∷ ds) i k h = at x h k.0 (or (x + (chan_at net (into g.unit p net.chans)).delay) c)
 
       depth : HasDepth (kind_of net g.unit) (get_or (state_of e.state).own g.unit idle) g.act → HasDepth (kind_of net g.unit) (get_or start.state.own g.unit idle) g.act
-      depth h = (let P : Own → Type 0 = λ o. HasDepth (kind_of net g.unit) o g.act in subst P (own_same net c start start e.fired.items (dated_of e) g.unit f.going.makes none) h)
+      depth h = by (is_lsq (kind_of net g.unit)) refl (has_unit_or e.fired.items g.unit)
+        where
+          by : (q : Bool) → is_lsq (kind_of net g.unit) ≡ q → HasUnit g.unit e.fired.items ⊎ (HasUnit g.unit e.fired.items → ⊥) → HasDepth (kind_of net g.unit) (get_or start.state.own g.unit idle) g.act
+          by false q k = plain_depth (kind_of net g.unit) (get_or start.state.own g.unit idle) g.act q
+          by true q (inl k) = absurd (not_again (queue_again g.unit q k))
+          by true q (inr n) = (let P : Own → Type 0 = λ o. HasDepth (kind_of net g.unit) o g.act in subst P (own_same net c start start e.fired.items (dated_of e) g.unit f.going.makes n) h)
 
       sooner : May net (suc c) (dated_of e) (dated_of e) g
       sooner = (let z : c + 1 ≡ suc c = omega arith in let P : ℕ → Type 0 = λ n. May net n (dated_of e) (dated_of e) g in subst P z m)
 
       then_could : Could net c start (dated_of e) g
       then_could = next_could net c start (dated_of e) g rooms ripes depth (may_could net (suc c) (dated_of e) (dated_of e) g sooner)
+
+      end : HasUnit g.unit e.fired.items ⊎ (HasUnit g.unit e.fired.items → ⊥) → ⊥
+      end (inl h) = not_again (f.kept g h then_could)
+      end (inr n) = f.full g (unit_unused e.fired.items g n) (record { turn = m.turn; ripe = then_could.ripe; room = then_could.acts; depth = then_could.depth })
 
 -- as a cycle begins, what is to be marked was marked
 pub begun_watching : (net : Net) (past : Past) (b : Bounds) (c n : ℕ) (old new : Engine) → IsChecked net → IsReady net b old → HasDone net past b c old → dated_of new ≡ dated_of old
@@ -162,19 +201,19 @@ begun_watching net past b c n old new checked ready done same marked g un m = by
 
 -- the marks of a cycle's beginning
 pub stirred_marked : (net : Net) (c : ℕ) (old : Engine) (m1 m2 m3 : Marks) (n : ℕ) → length net.units ≡ n → ((u : ℕ) → IsMarked old.marks u → IsMarked m1 u) → ((u : ℕ) → IsMarked m1 u → IsMarked m2 u) → ((u : ℕ) → IsMarked m2 u → IsMarked m3 u)
-    → ((u : ℕ) → HasUnit u old.fired.items → (IsStarved net (state_of old.state) u → ⊥) → u < n → IsMarked m1 u)
+    → ((u : ℕ) → Holds u old.again.items → (IsStarved net (state_of old.state) u → ⊥) → u < n → IsMarked m1 u)
     → ((d : ℕ) → Holds d old.freed.list.items → IsSourceMarked net (state_of old.state) n m2 d)
-    → ((d : ℕ) → Holds d (cell old.notes (c % 1024)) → IsTargetMarked net n m3 d)
+    → ((d : ℕ) → Holds d (cell old.notes (c % 1024)) → IsFedMarked net (state_of old.state) n m3 d)
     → (u : ℕ) → u < length net.units → IsStirred net c old u → IsMarked m3 u
-stirred_marked net c old m1 m2 m3 n e a1 a2 a3 fired freed ripened u l (inl k) = a3 u (a2 u (a1 u k))
-stirred_marked net c old m1 m2 m3 n e a1 a2 a3 fired freed ripened u l (inr (inl h)) = a3 u (a2 u (fired u h.0 h.1 (omega arith)))
-stirred_marked net c old m1 m2 m3 n e a1 a2 a3 fired freed ripened u l (inr (inr (inl h))) =
+stirred_marked net c old m1 m2 m3 n e a1 a2 a3 again freed ripened u l (inl k) = a3 u (a2 u (a1 u k))
+stirred_marked net c old m1 m2 m3 n e a1 a2 a3 again freed ripened u l (inr (inl h)) = a3 u (a2 u (again u h.0 h.1 (omega arith)))
+stirred_marked net c old m1 m2 m3 n e a1 a2 a3 again freed ripened u l (inr (inr (inl h))) =
     let s = h.source in
     let F : ℕ → Type 0 = λ v. IsStarved net (state_of old.state) v → ⊥ in
     a3 u (subst (IsMarked m2) h.source (freed h.chan h.listed h.within (subst F (sym h.source) h.fed) (omega arith)))
-stirred_marked net c old m1 m2 m3 n e a1 a2 a3 fired freed ripened u l (inr (inr (inr h))) =
+stirred_marked net c old m1 m2 m3 n e a1 a2 a3 again freed ripened u l (inr (inr (inr h))) =
     let s = h.target in
-    subst (IsMarked m3) h.target (ripened h.chan h.coming h.within (omega arith))
+    subst (IsMarked m3) h.target (ripened h.chan h.coming h.fed h.within (omega arith))
 
 -- no channel is marked as a cycle begins, and all tokens are older
 pub begun_followed : (net : Net) (c : ℕ) (old new : Engine) → dated_of new ≡ dated_of old → ((d : ℕ) → get_or new.freed.marked.items d false ≡ false) → AreComing net c old → (d : ℕ) → IsFollowed net c (dated_of old) new d

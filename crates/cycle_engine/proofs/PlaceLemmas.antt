@@ -1,5 +1,5 @@
 -- The acts of units, by their ranks and numbers.
-use Rattle.std.proofs.Common.{is_some, suc, zero, cond, eqb-true, ◌≡◌, ◌≢◌, ℕ, ◌<◌, ◌≤◌, ◌⊎◌, inl, inr, Bool, true, false, Option, Some, None, List, [], ◌∷◌, length, get_or, refl, sym, ap, ◌∙◌, arith, subst, nat_le, nat_lt, min, max, eqb, ltb-true, MatchOption, IsSomeAnd}
+use Rattle.std.proofs.Common.{is_some, suc, zero, cond, eqb-true, ◌≡◌, ◌≢◌, ℕ, ◌<◌, ◌≤◌, ◌⊎◌, inl, inr, Bool, true, false, Option, Some, None, List, [], length, get_or, refl, sym, ap, ◌∙◌, arith, nat_le, nat_lt, min, max, eqb, ltb-true, MatchOption}
 use Rattle.std.proofs.lemmas.Bool.{cases_lt, and_parts, le-leb, lt-leb, eq-eqb, false≢true}
 use Rattle.net_types.specs.declared.net.Net.{Net}
 use Rattle.net_types.specs.declared.net.Unit.{Unit as Kind}
@@ -12,22 +12,18 @@ use Rattle.net_types.specs.Order.{act_rank, act_number}
 use Rattle.net_check.specs.Checks.{IsChecked}
 use Rattle.net_check.specs.Ends.{is_lsq}
 use Rattle.std.specs.List.{find}
-use Rattle.lsq_core.specs.declared.entry.Entry.{Entry as Item}
 use Rattle.lsq_core.specs.Acts.{can, wants_addr, wants_data, wants_reply}
-use Rattle.lsq_core.specs.Views.{InPorts, QueueView}
+use Rattle.lsq_core.specs.Views.{QueueView}
 use Rattle.lsq_core.specs.Wants.{HasNoPort, IsNextPort, HasNoAddr, IsNextAddr, HasNoData, IsNextData, HasNoReply, IsNextReply, replies}
 use Rattle.lsq_core.proofs.PortLemmas.{done_some}
-use Rattle.net_core.specs.Fire.{State, Own, Row, Take, Setting, Effect, with_head, taking, on_go, fork_row, effect_of, idle, enabled, has_room, head_at, at_array, row, go_row, setting}
-use Rattle.net_core.specs.States.{state_of}
+use Rattle.net_core.specs.Fire.{State, Own, Row, Take, Setting, Effect, with_head, taking, on_go, fork_row, effect_of, idle, effect, enabled, head_at, at_array, row, go_row, setting}
 use Rattle.net_core.proofs.GoesLemmas.{goes}
 use Rattle.net_core.proofs.ForkLemmas.{fork_is, send_inv}
 use Rattle.net_core.proofs.ActLemmas.{merge_inv, from_kind, alloc_kind}
 use Rattle.net_core.proofs.QueueActLemmas.{queue_inv, lsq_is, group_within}
 use Rattle.lsq_core.specs.Laws.{act_place}
+use Rattle.cycle_engine.proofs.UsedLemmas.{found_port}
 use Rattle.cycle_engine.specs.private.Places.{HasView, HasNoneFrom, IsNextNumber, IsNoted, IsViewOf, TakesControl, takes_at, count_in, inputs_in, outputs_in, ports_in, first_of}
-use Rattle.cycle_engine.specs.declared.engine.Engine.{Engine}
-use Rattle.cycle_engine.specs.declared.trial.Planned.{Planned}
-use Rattle.cycle_engine.specs.private.Trials.{IsEngine, IsPlanned}
 use Rattle.cycle_engine.specs.private.Control.{groups_in, noted_place, place_from, end_from}
 use Rattle.cycle_engine.specs.private.Marking.{asks_first, IsStarved}
 use Rattle.net_core.proofs.PlanUses.{fork_act}
@@ -54,15 +50,6 @@ reply_kind : (k : Kind) (j : ℕ) (o : Own) (xs : List ℕ) (ss : Setting) (h : 
 unfolding row
 reply_kind (Lsq a d ps gs fw) j o xs ss h e q = refl
 reply_kind _ j o xs ss h e q = cc
-
--- an act that a queue finds an entry for is of a port
-found_port : (t : Item → Bool) (items : List Item) (p n : ℕ) → InPorts n items → ((x : Item) → t x ≡ true → x.port ≡ p) → is_some (find t items) ≡ true → p < n
-found_port t [] p n within port e = cc
-found_port t (y ∷ items) p n within port e = by (t y) refl e (λ k. found_port t items p n (λ j l. within (suc j) (omega arith)) port k)
-  where
-    by : (b : Bool) → t y ≡ b → is_some (cond b (Some y) (find t items)) ≡ true → (is_some (find t items) ≡ true → p < n) → p < n
-    by true i e rest = let k = port y i in let l : y.port < n = within 0 (omega arith) in omega arith
-    by false i e rest = rest e
 
 module _ (net : Net) (s : State) (u : ℕ) where
   from_below : (j : ℕ) → enabled net s (firing u (From j)) → j < inputs_in (kind_of net u)
@@ -251,12 +238,6 @@ fires_within net s f checked long n = by (cases_lt f.unit (length net.units))
     by (inl l) = l
     by (inr l) = absurd (Rattle.net_core.proofs.FindLemmas.past_quiet net s f checked long l n)
 
--- so is that of a planned firing
-pub planned_within : (net : Net) (e : Engine) (f : Firing) (p : Planned) → IsChecked net → IsEngine net e → IsPlanned net e f p → f.unit < length net.units
-planned_within net e f p checked k is =
-    let P : Option Effect → Type 0 = λ o. IsSomeAnd o (λ x. has_room net (state_of e.state) f.unit x.put) in
-    fires_within net (state_of e.state) f checked k.dated.chans (subst P is.effect is.room)
-
 pub rank_most : (a : Act) → act_rank a ≤ 9
 rank_most Go = omega arith
 rank_most (From j) = omega arith
@@ -310,11 +291,15 @@ asks (Branch w) a o xs ss h e t n q = go_asks a _ h e n q
 asks (Sink w) a o xs ss h e t n q = go_asks a _ h e n q
 asks (Read x) a o xs ss h e t n q = go_asks a _ h e n q
 
--- a unit that wants a token does not fire
+-- a unit that wants a token does nothing
+pub starved_none : (net : Net) (s : State) (u : ℕ) (a : Act) (e : Effect) → IsStarved net s u → effect net s (firing u a) ≡ Some e → ⊥
+starved_none net s u a e h is = asks (kind_of net u) a (get_or s.own u idle) (at_array s.arrays (uses (kind_of net u))) (setting net s) (head_at net s u) e h.0 h.1 is
+
+-- so it does not fire
 pub starved_quiet : (net : Net) (s : State) (u : ℕ) (a : Act) → IsStarved net s u → enabled net s (firing u a) → ⊥
 starved_quiet net s u a h n =
     let g = goes net s (firing u a) n in
-    asks (kind_of net u) a (get_or s.own u idle) (at_array s.arrays (uses (kind_of net u))) (setting net s) (head_at net s u) g.0 h.0 h.1 g.1.is
+    starved_none net s u a g.0 h g.1.is
 
 -- ---- ports at which a queue does not allow an act
 

@@ -1,5 +1,5 @@
 -- What a firing of a queue makes possible in its cycle: nothing that stands before it.
-use Rattle.std.proofs.Common.{◌≡◌, ◌≢◌, ℕ, suc, zero, ◌+◌, ◌-◌, ◌*◌, ◌<◌, ◌≤◌, ◌⊎◌, ◌==◌, ◌&&◌, ◌||◌, inl, inr, Bool, true, false, cond, not, nat_lt, nat_le, Option, Some, None, List, [], ◌∷◌, ◌++◌, length, map, get_or, set, refl, sym, ap, subst, ◌∙◌, arith, IsSomeAnd, eqb-true, eq-eqb, ne_eqb, ltb-true, get_or-set_same, get_or-set_other}
+use Rattle.std.proofs.Common.{◌≡◌, ◌≢◌, ℕ, ◌+◌, ◌-◌, ◌*◌, ◌<◌, ◌≤◌, ◌⊎◌, ◌==◌, ◌&&◌, ◌||◌, inl, inr, Bool, true, false, cond, nat_lt, Option, Some, None, List, [], ◌∷◌, ◌++◌, length, map, get_or, set, refl, sym, ap, subst, ◌∙◌, arith, IsSomeAnd, eqb-true, eq-eqb, ltb-true, get_or-set_same, get_or-set_other}
 use Rattle.std.specs.List.{AllByRecursion, find}
 use Rattle.std.proofs.lemmas.Bool.{cases_eq, le-leb}
 use Rattle.net_types.specs.declared.net.Net.{Net}
@@ -25,9 +25,10 @@ use Rattle.net_core.specs.Fire.{State, Own, Row, Take, Fires, Setting, Effect, e
 use Rattle.net_core.specs.Uses.{used_by, then_used, used}
 use Rattle.net_core.proofs.Premises.{Steers, QueueLaws}
 use Rattle.net_core.proofs.CheckedLemmas.{premises_of}
-use Rattle.net_core.proofs.RowLemmas.{get-changed}
+use Rattle.net_core.proofs.RowLemmas.{Has, get-changed}
+use Rattle.net_core.proofs.GoesLemmas.{heads}
 use Rattle.net_core.proofs.AccountLemmas.{is_fork}
-use Rattle.net_core.proofs.ApartLemmas.{out_of-at, is_at-inv, same_in, same_out, puts-inv, length-taken}
+use Rattle.net_core.proofs.ApartLemmas.{out_of-at, is_at-inv, same_in, same_out, puts-inv, length-taken, among_some}
 use Rattle.net_core.proofs.ForkLemmas.{send_inv, when_inv}
 use Rattle.net_core.proofs.ActLemmas.{kind_within, merge_inv}
 use Rattle.net_core.proofs.QueueActLemmas.{place_list, queue_effect, Given, queue_inv, queue_goes, put_out_inv, some_eq, group_within, one_in, lsq_is}
@@ -38,6 +39,7 @@ use Rattle.cycle_engine.specs.Cycles.{Dated, IsRipe, HasDepth, May, Makes, place
 use Rattle.cycle_engine.specs.Rousing.{Could, GoesTo, ComesFrom}
 use Rattle.cycle_engine.specs.private.Marking.{is_merge}
 use Rattle.cycle_engine.specs.private.Places.{AllocsOnce}
+use Rattle.cycle_engine.proofs.UsedLemmas.{unused_last, unused_before}
 use Rattle.cycle_engine.proofs.BeforeLemmas.{after_of, IsLate, before, may_could, kept_free}
 use Rattle.cycle_engine.proofs.RousingLemmas.{slots_within, room_before, rouses, late_or}
 use Rattle.cycle_engine.proofs.DateLemmas.{some_effect, effect_there, dated_after}
@@ -206,31 +208,24 @@ lsq_fork : (k : Kind) → is_lsq k ≡ true → is_fork k ≡ false
 lsq_fork (Lsq a d ps gs fw) e = refl
 lsq_fork _ e = cc
 
--- a queue and a merge don't both have a control token
-two_tokens : (net : Net) (s : State) (u n d : ℕ) (ps : List Port) (gs : List (List ℕ)) (fw : Bool) (a : Act) (e : Effect) (m ins : ℕ) (b : Act) (x : Effect) (w : Put) → IsChecked net → IsRegular net s
-    → kind_of net u ≡ Lsq n d ps gs fw → effect net s (firing u a) ≡ Some e → kind_of net m ≡ Cmerge ins → effect net s (firing m b) ≡ Some x → x.put ≡ Some w
-    → takes_from net u e (out_of m w.place net.chans) ≡ true → ⊥
-two_tokens net s u n d ps gs fw a e m ins b x w checked good ku ea km eb px t =
-    let i = queue_inv d ps gs a (get_or s.own u idle) (get_or s.arrays n []) (head_at net s u) e (sym (lsq_is net u n d ps gs fw ku s a) ∙ ea) in
-    let j = merge_inv net s m ins b km x eb in
-    let zero_place : w.place ≡ 0 = merge_put net s m ins j.0 x w km (subst (λ y. effect net s (firing m y) ≡ Some x) j.1 eb) px in
-    let ts : e.takes ≡ place_list (in_place gs a) = ap (λ (y : Effect). y.takes) (sym i.3) in
-    let c = takes_at net u (in_place gs a) (out_of m w.place net.chans) (ap (λ ps. among (out_of m w.place net.chans) (map (λ p. into u p net.chans) ps)) (sym ts) ∙ t) in
-    let hu : head_at net s u c.0 ≡ Some i.0 = given_head (in_place gs a) c.0 i.0 (head_at net s u) c.1 i.2 in
+-- a unit that is no fork takes no control token where a merge has one
+pub one_token : (net : Net) (s : State) (f : Firing) (e : Effect) (g : Firing) (ins : ℕ) (x : Effect) (w : Put) → IsChecked net → IsRegular net s → is_fork (kind_of net f.unit) ≡ false → effect net s f ≡ Some e → g.unit ≢ f.unit
+    → kind_of net g.unit ≡ Cmerge ins → effect net s g ≡ Some x → x.put ≡ Some w → takes_from net f.unit e (out_of g.unit w.place net.chans) ≡ true → ⊥
+one_token net s f e g ins x w checked good plain ef ne kg eg px t =
+    let j = merge_inv net s g.unit ins g.act kg x eg in
+    let zero_place : w.place ≡ 0 = merge_put net s g.unit ins j.0 x w kg (subst (λ y. effect net s (firing g.unit y) ≡ Some x) j.1 eg) px in
+    let c = among_some (Has (head_at net s f.unit)) (out_of g.unit w.place net.chans) (λ p. into f.unit p net.chans) e.takes t (heads net s f e ef) in
     let p = premises_of net laws checked in
-    let st : Steers (Cmerge ins) (ctl_in net m) (ctl_out net m) = subst (λ k. Steers k (ctl_in net m) (ctl_out net m)) km (p.steered m) in
-    let same : into u c.0 net.chans ≡ out_of m 0 net.chans = sym c.2 ∙ ap (λ q. out_of m q net.chans) zero_place in
-    let cu : ctl_in net u c.0 ≡ true = ap (λ q. (chan_at net q).ctl) same ∙ st.1 in
-    let nu : is_fork (kind_of net u) ≡ false = lsq_fork (kind_of net u) (ap is_lsq ku) in
-    let nm : is_fork (kind_of net m) ≡ false = ap is_fork km in
-    let a1 = counted_head net s u c.0 i.0 good nu cu hu in
-    let a2 = counted_head net s m j.0 j.3 good nm (st.0 j.0 j.2) j.4 in
-    let o = one_held net s (into u c.0 net.chans) (into m j.0 net.chans) good a1 a2 in
-    let un = (same_in u m c.0 j.0 net.chans a1.within o).0 in
-    let z : Lsq n d ps gs fw ≡ Cmerge ins = sym ku ∙ (ap (kind_of net) un ∙ km) in
-    cc
+    let st : Steers (Cmerge ins) (ctl_in net g.unit) (ctl_out net g.unit) = subst (λ k. Steers k (ctl_in net g.unit) (ctl_out net g.unit)) kg (p.steered g.unit) in
+    let same : into f.unit c.0 net.chans ≡ out_of g.unit 0 net.chans = sym c.1 ∙ ap (λ q. out_of g.unit q net.chans) zero_place in
+    let cu : ctl_in net f.unit c.0 ≡ true = ap (λ q. (chan_at net q).ctl) same ∙ st.1 in
+    let nm : is_fork (kind_of net g.unit) ≡ false = ap is_fork kg in
+    let a1 = counted_head net s f.unit c.0 c.2.0 good plain cu c.2.1 in
+    let a2 = counted_head net s g.unit j.0 j.3 good nm (st.0 j.0 j.2) j.4 in
+    let o = one_held net s (into f.unit c.0 net.chans) (into g.unit j.0 net.chans) good a1 a2 in
+    ne (sym (same_in f.unit g.unit c.0 j.0 net.chans a1.within o).0)
 
-merge_kind : (k : Kind) → (is_merge k ≡ false) ⊎ ((ins : ℕ) × (k ≡ Cmerge ins))
+pub merge_kind : (k : Kind) → (is_merge k ≡ false) ⊎ ((ins : ℕ) × (k ≡ Cmerge ins))
 merge_kind (Cmerge ins) = inr (ins, refl)
 merge_kind Entry = inl refl
 merge_kind (Param j) = inl refl
@@ -281,7 +276,7 @@ others_back net c start fs s u n d ps gs fw a e g checked good ks k m ku ea ne u
           where
             took : (t : Bool) → takes_from net u e (out_of g.unit w.place net.chans) ≡ t → has_room net s.state g.unit (Some w)
             took false free = room_before net c s u g.unit e w ne k free h
-            took true there = absurd (two_tokens net s.state u n d ps gs fw a e g.unit q.0 g.act x.0 w checked good ku ea q.1 x.1 i there)
+            took true there = absurd (one_token net s.state (firing u a) e g q.0 x.0 w checked good (lsq_fork (kind_of net u) (ap is_lsq ku)) ea ne q.1 x.1 i there)
 
 -- what a firing makes possible elsewhere: at the unit into which it put without delay, or at a merge that puts on a channel from
 -- which it took
@@ -493,14 +488,6 @@ alloc_place gs (Addr p) b l e = let k = some_eq e in absurd (omega arith)
 alloc_place gs (Data p) b l e = let k = some_eq e in absurd (omega arith)
 alloc_place gs End b l e = let k = some_eq e in absurd (omega arith)
 alloc_place gs _ b l e = cc
-
-pub unused_last : (fs : List Firing) (f g : Firing) → IsUnused (fs ++ f ∷ []) g → place_of f ≢ place_of g
-unused_last [] f g h = h.0
-unused_last (x ∷ fs) f g h = unused_last fs f g h.1
-
-pub unused_before : (fs : List Firing) (f g : Firing) → IsUnused (fs ++ f ∷ []) g → IsUnused fs g
-unused_before [] f g h = tt
-unused_before (x ∷ fs) f g h = (h.0, unused_before fs f g h.1)
 
 ripe_head : (net : Net) (c : ℕ) (s : Dated) (d : ℕ) → AreDated net s → IsRipe net c s d → (v : ℕ) × (first (tokens_at s.state d) ≡ Some v)
 ripe_head net c s d k r = by (get_or s.dates d []) (tokens_at s.state d) (k.each d) r

@@ -23,14 +23,14 @@ use Rattle.net_core.proofs.ActLemmas.{IsLsq, kind_within}
 use Rattle.net_core.proofs.QueueActLemmas.{queue_effect, queue_goes, queue_inv, lsq_is}
 use Rattle.cycle_engine.specs.Cycles.{Dated, dated_opening, after_by, after_in, May, IsOldest, Makes, place_of, IsUnused, Once, InOrder, Cycle, Cycles, AreDated}
 use Rattle.cycle_engine.specs.Bounds.{EndsFiring, CyclesAreOne, CyclesMeet}
-use Rattle.cycle_engine.specs.private.Marking.{HasUnit, no_firing}
 use Rattle.cycle_engine.proofs.BeforeLemmas.{after_of}
 use Rattle.cycle_engine.proofs.DateLemmas.{AllBy, each_as, effect_there, dated_after, makes_dates}
 use Rattle.cycle_engine.proofs.BoundLemmas.{no_more, ends_rest}
 use Rattle.cycle_engine.proofs.MakeLemmas.{makes_snoc, all_snoc}
-use Rattle.cycle_engine.proofs.NextLemmas.{own_same}
+use Rattle.cycle_engine.proofs.NextLemmas.{own_same, no_unit}
 use Rattle.cycle_engine.proofs.PlaceLemmas.{same_act, exec_is, place_rank, place_fixed}
-use Rattle.cycle_engine.proofs.QueueTurnLemmas.{laws, others_back, unused_before}
+use Rattle.cycle_engine.proofs.QueueTurnLemmas.{laws, others_back}
+use Rattle.cycle_engine.proofs.UsedLemmas.{unused_before}
 use Rattle.cycle_engine.proofs.StartLemmas.{opening_are}
 use Rattle.cycle_engine.proofs.SwapLemmas.{swaps}
 use Rattle.cycle_engine.proofs.TurnLemmas.{makes_regular, cycles_regular, cycles_dated, opening_by}
@@ -286,14 +286,6 @@ early_or (g ∷ fs) = by (cases_lt (phase g.act) 2) (early_or fs)
 late_unused : (fs : List Firing) (f : Firing) → AllByRecursion Late fs → phase f.act < 2 → IsUnused fs f
 late_unused fs f h l = all_as Late (λ g. place_of g ≢ place_of f) fs (λ g m e. (let a = phase_place g.act in let b = phase_place f.act in let z = ap (λ (x : Firing). phase x.act) e in let m' : 2 ≤ phase g.act = m in absurd (omega arith))) h
 
-no_unit : (fs : List Firing) (u : ℕ) → AllByRecursion (λ g. g.unit ≢ u) fs → HasUnit u fs → ⊥
-no_unit fs u h k = by fs k.at h k.within k.is
-  where
-    by : (fs : List Firing) (i : ℕ) → AllByRecursion (λ g. g.unit ≢ u) fs → i < length fs → (get_or fs i no_firing).unit ≡ u → ⊥
-    by [] i h l e = absurd (omega arith)
-    by (g ∷ fs) zero h l e = h.0 e
-    by (g ∷ fs) (suc i) h l e = by fs i h.1 (omega arith) e
-
 -- ---- the rest of a cycle
 
 module _ (net : Net) (c : ℕ) (start : Dated) (checked : IsChecked net) (begun : AreDated net start) where
@@ -361,7 +353,7 @@ module _ (net : Net) (c : ℕ) (start : Dated) (checked : IsChecked net) (begun 
         order = order_without a b f r.order;
         free = all_both (IsUnused done) (λ g. place_of g ≢ place_of f) (IsUnused (done ++ f ∷ [])) (a ++ b)
             (λ g h n. all_snoc (λ x. place_of x ≢ place_of g) done f h (λ e. n (sym e))) (all_without (IsUnused done) a b f r.free) un;
-        full = λ g ud ur m. r.full g (unused_before done f g ud) (all_with (λ x. place_of x ≢ place_of g) a b f ur (Rattle.cycle_engine.proofs.QueueTurnLemmas.unused_last done f g ud)) m;
+        full = λ g ud ur m. r.full g (unused_before done f g ud) (all_with (λ x. place_of x ≢ place_of g) a b f ur (Rattle.cycle_engine.proofs.UsedLemmas.unused_last done f g ud)) m;
       }
 
   -- the firings before one of the rest, the state there, and that it may be made

@@ -25,9 +25,10 @@ use Rattle.cycle_engine.specs.Cuts.{joined}
 use Rattle.cycle_engine.specs.private.Trials.{dated_of, IsBegun, IsEngine}
 use Rattle.cycle_engine.specs.private.Marking.{Holds, IsMarked, IsListed, AreFeeds, AreListed, cell, entries_at}
 use Rattle.cycle_engine.specs.private.Control.{HasControl}
+use Rattle.cycle_engine.specs.private.Used.{AreNumbered, AreTold}
 use Rattle.cycle_engine.specs.private.Goings.{Past, IsReady, InCycle, HasDone, AreComing, all_made}
 use Rattle.cycle_engine.proofs.PlaceLemmas.{fires_within}
-use Rattle.cycle_engine.proofs.UsedLemmas.{none_told}
+use Rattle.cycle_engine.proofs.UsedLemmas.{told_first, told_next}
 
 no_dates : List ℕ
 no_dates = []
@@ -45,12 +46,13 @@ opened_as net inputs e a d = λ i. record { state = sym a i; dates = sym d i }
 
 pub opened_ready : (net : Net) (inputs : Inputs) (b : Bounds) (e : Engine) → IsOf net e.state → dated_opening net inputs ≡ dated_of e → b.limit ≤ max_firings
     → e.made ≡ 0 → e.fired.items ≡ [] → CountsWithin 0 (state_of e.state) → e.log.room ≡ cond b.keep b.limit 0 → length e.freed.marked.items ≡ length net.chans → length e.begun.items ≡ length net.units
-    → length e.marks.marked.items ≡ length net.units → IsListed net e.marks → length e.notes.coming.items ≡ 1024 → length net.units ≤ length e.used.last.items → AreFeeds net e.feeds → IsReady net b e
-opened_ready net inputs b e of same few made fired counts room chans queues marked listed cells places feeds =
+    → length e.marks.marked.items ≡ length net.units → IsListed net e.marks → length e.notes.coming.items ≡ 1024 → AreNumbered net e.used.base.items (length e.used.last.items) → ((x : ℕ) → get_or e.used.last.items x 0 ≡ 0) → AreFeeds net e.feeds → IsReady net b e
+opened_ready net inputs b e of same few made fired counts room chans queues marked listed cells places none feeds =
     let z : all_made e ≡ 0 = (let l = ap (λ (fs : List Firing). length fs) fired in omega arith) in
     let k : all_made e * max_depth ≡ 0 = ap (λ n. n * max_depth) z in
     let P : ℕ → Type 0 = λ n. CountsWithin n (state_of e.state) in
     let D : Dated → Type 0 = AreDated net in
+    let T : ℕ → Type 0 = λ n. AreTold net e.used n e.fired.items in
     record {
       engine = record { state = of; dated = subst D same (opening_are net inputs) };
       few = few;
@@ -62,7 +64,7 @@ opened_ready net inputs b e of same few made fired counts room chans queues mark
       marked = marked;
       listed = listed;
       cells = cells;
-      told = none_told e.used e.made e.fired.items fired;
+      told = subst T (sym made) (subst (AreTold net e.used 0) (sym fired) (told_first net e.used none));
       places = places;
       feeds = feeds;
     }
@@ -136,7 +138,8 @@ begun_ready net b old new r eng same made fired log chans queues marked listed c
     let P : ℕ → Type 0 = λ n. CountsWithin n (state_of new.state) in
     let Q : _ → Type 0 = CountsWithin (all_made old * max_depth) in
     let F : Feeds → Type 0 = AreFeeds net in
-    let U : Used → Type 0 = λ u. length net.units ≤ length u.last.items in
+    let U : Used → Type 0 = λ u. AreNumbered net u.base.items (length u.last.items) in
+    let T : Used → Type 0 = λ u. AreTold net u new.made [] in
     record {
       engine = eng;
       few = r.few;
@@ -148,7 +151,7 @@ begun_ready net b old new r eng same made fired log chans queues marked listed c
       marked = marked;
       listed = listed;
       cells = cells;
-      told = none_told new.used new.made new.fired.items fired;
+      told = subst (AreTold net new.used new.made) (sym fired) (subst T (sym used) (told_next net old.used old.made new.made old.fired.items r.told made));
       places = subst U (sym used) r.places;
       feeds = subst F (sym feeds) r.feeds;
     }

@@ -1,6 +1,5 @@
 -- Steps of turns: the acts of one kind by their numbers, and what a try of a place told.
-use Rattle.std.proofs.Common.{◌≡◌, ◌≢◌, ℕ, ◌+◌, ◌<◌, ◌≤◌, ◌⊎◌, inl, inr, true, false, Option, Some, None, is_some, length, refl, sym, ap, subst, ◌∙◌, arith, IfSome}
-use Rattle.std.specs.List.{AllByRecursion}
+use Rattle.std.proofs.Common.{◌≡◌, ◌≢◌, ℕ, ◌+◌, ◌<◌, ◌≤◌, ◌⊎◌, inl, inr, Bool, true, false, refl, sym, ap, subst, ◌∙◌, arith}
 use Rattle.std.proofs.lemmas.Bool.{cases_lt}
 use Rattle.net_types.specs.declared.net.Net.{Net}
 use Rattle.net_types.specs.declared.net.Unit.{Unit as Kind}
@@ -12,22 +11,16 @@ use Rattle.net_types.specs.Order.{act_rank, act_number}
 use Rattle.net_check.specs.Checks.{IsChecked}
 use Rattle.net_check.specs.Ends.{is_lsq}
 use Rattle.net_core.specs.Fire.{State, enabled}
-use Rattle.net_core.specs.Plans.{chans_of}
 use Rattle.net_core.specs.States.{state_of}
-use Rattle.net_core.specs.Uses.{is_fork}
 use Rattle.cycle_engine.specs.declared.engine.Engine.{Engine}
 use Rattle.cycle_engine.specs.declared.engine.Bounds.{Bounds}
 use Rattle.cycle_engine.specs.declared.marks.Marks.{Marks}
-use Rattle.cycle_engine.specs.declared.trial.Planned.{Planned}
 use Rattle.lsq_core.specs.Laws.{act_place}
 use Rattle.cycle_engine.specs.Cycles.{Dated, IsOldest}
-use Rattle.cycle_engine.specs.private.Trials.{IsPlanned}
-use Rattle.cycle_engine.specs.private.Marking.{KeepsMarks, IsMergeMarked, IsPutMarked}
 use Rattle.cycle_engine.specs.private.Goings.{Past, IsReady, IsTried}
 use Rattle.cycle_engine.specs.private.Places.{IsNextAct, IsNextNumber, IsTurn, HasNoExec, count_in, numbered}
 use Rattle.cycle_engine.proofs.PlaceLemmas.{exec_is}
-use Rattle.cycle_engine.proofs.TurnLemmas.{turn_passed, queue_made, turn_on, turn_to, with_marks}
-use Rattle.cycle_engine.proofs.UnitTurnLemmas.{straight_made}
+use Rattle.cycle_engine.proofs.TurnLemmas.{turn_passed, queue_made, turn_on, turn_to}
 
 -- ---- the acts of one kind, by their numbers
 
@@ -91,17 +84,8 @@ exec_done net past b c start marks e u t = turn_on net past b c start marks e u 
 
 -- ---- what a try told
 
-module _ (net : Net) (past : Past) (b : Bounds) (c : ℕ) (start : Dated) (marks : Marks) (old mid : Engine) (f : Firing) (r n : ℕ) (t : IsTurn net past b c start marks old f.unit r n) (next : IsNextAct net (state_of old.state) f r n) (o : Option Planned)
-    (tried : IsTried net past b c start old mid f (is_some o)) where
-  pub step_passed : o ≡ None → IsTurn net past b c start marks mid f.unit r (n + 1)
-  step_passed e = (let T : Option Planned → Type 0 = λ x. IsTried net past b c start old mid f (is_some x) in let k = subst T e tried in turn_passed net past b c start marks old f r n t next mid k.same k.refused)
-
-  pub step_unit : (p : Planned) (m : Marks) → o ≡ Some p → IfSome o (IsPlanned net old f) → mid.marks ≡ old.marks → IsChecked net → IsReady net b old → is_lsq (kind_of net f.unit) ≡ false → is_fork (kind_of net f.unit) ≡ false
-      → KeepsMarks mid.marks m → AllByRecursion (IsMergeMarked net (length mid.marks.marked.items) m) (chans_of p.moves.taken) → IsPutMarked net p.moves.laid (length mid.marks.marked.items) m → IsTurn net past b c start marks (with_marks mid m) f.unit r (n + 1)
-  step_unit p m e planned same checked ready l k kept merges target =
-      let T : Option Planned → Type 0 = λ x. IsTried net past b c start old mid f (is_some x) in
-      let P : Option Planned → Type 0 = λ x. IfSome x (IsPlanned net old f) in
-      straight_made net past b c start marks old f r n t next mid (subst T e tried) p (subst P e planned) checked ready l same m kept k merges target
-
-  pub step_queue : (p : Planned) → o ≡ Some p → mid.marks ≡ old.marks → IsChecked net → IsReady net b old → is_lsq (kind_of net f.unit) ≡ true → IsTurn net past b c start marks mid f.unit r (n + 1)
-  step_queue p e same checked ready l = let T : Option Planned → Type 0 = λ x. IsTried net past b c start old mid f (is_some x) in queue_made net past b c start marks old f r n t next mid (subst T e tried) checked ready.engine l same
+-- a queue tried a place
+pub step_tried : (net : Net) (past : Past) (b : Bounds) (c : ℕ) (start : Dated) (marks : Marks) (old new : Engine) (f : Firing) (r n : ℕ) (did : Bool) → IsTurn net past b c start marks old f.unit r n → IsNextAct net (state_of old.state) f r n
+    → IsTried net past b c start old new f did → new.marks ≡ old.marks → new.again ≡ old.again → IsChecked net → IsReady net b old → is_lsq (kind_of net f.unit) ≡ true → IsTurn net past b c start marks new f.unit r (n + 1)
+step_tried net past b c start marks old new f r n true t next made marked again checked ready l = queue_made net past b c start marks old f r n t next new made checked ready.engine l marked again
+step_tried net past b c start marks old new f r n false t next passed marked again checked ready l = turn_passed net past b c start marks old f r n t next new passed.same passed.refused

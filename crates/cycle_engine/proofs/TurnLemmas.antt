@@ -1,9 +1,10 @@
 -- Turns of units and queues in a cycle.
-use Rattle.std.proofs.Common.{◌≡◌, ◌≢◌, ℕ, suc, zero, ◌+◌, ◌<◌, ◌≤◌, ◌⊎◌, inl, inr, Bool, true, false, Option, Some, None, List, [], ◌∷◌, ◌++◌, length, length-set, map, get_or, refl, sym, ap, subst, ◌∙◌, arith, Result, IsErrAnd, MatchResult, IsSomeAnd}
+use Rattle.std.proofs.Common.{◌≡◌, ◌≢◌, ℕ, suc, zero, ◌+◌, ◌<◌, ◌≤◌, ◌⊎◌, inl, inr, Bool, true, false, Option, Some, None, List, [], ◌∷◌, ◌++◌, length, length-append, length-set, map, get_or, refl, sym, ap, subst, ◌∙◌, arith, Result, IsErrAnd, MatchResult, IsSomeAnd}
 use Rattle.std.proofs.lemmas.Result.{err_from_is_err_and}
 use Rattle.cycle_engine.specs.declared.broken.Broken.{Broken}
 use Rattle.std.specs.List.{AllByRecursion}
 use Rattle.std.proofs.lemmas.Bool.{cases_lt, cases_eq}
+use Rattle.std.proofs.lemmas.List.{get_or_append_left}
 use Rattle.net_types.specs.declared.net.Chan.{Chan}
 use Rattle.net_types.specs.declared.net.Net.{Net}
 use Rattle.net_types.specs.declared.net.Unit.{Unit as Kind}
@@ -32,22 +33,25 @@ use Rattle.cycle_engine.specs.declared.engine.Bounds.{Bounds}
 use Rattle.cycle_engine.specs.declared.marks.Marks.{Marks}
 use Rattle.lsq_core.specs.Laws.{act_place, phase}
 use Rattle.cycle_engine.specs.Cycles.{Dated, dated_opening, IsRipe, HasDepth, May, Makes, place_of, IsUnused, Cycles, after_in, after_by, AreDated}
-use Rattle.cycle_engine.specs.Rousing.{GoesTo, ComesFrom, Stirs}
+use Rattle.cycle_engine.specs.Rousing.{Could, GoesTo, ComesFrom, Stirs}
 use Rattle.cycle_engine.specs.private.Trials.{dated_of, IsEngine, IsFollowed}
-use Rattle.cycle_engine.specs.private.Marking.{IsMarked, IsListed, KeepsMarks, IsRoused, IsTaken, IsEmptied, IsReordered, HasNoTurn, HasTurn, IsMergeMarked, IsPutMarked, is_merge}
+use Rattle.cycle_engine.specs.private.Marking.{Holds, HasUnit, no_firing, IsMarked, IsListed, KeepsMarks, IsRoused, IsTaken, IsEmptied, HasTurn, IsFullMarked, IsPutMarked, is_merge}
+use Rattle.cycle_engine.specs.private.Stacks.{Stacked}
 use Rattle.net_core.specs.Uses.{is_fork}
-use Rattle.cycle_engine.specs.private.Goings.{Past, IsReady, InCycle, MayFollow, IsMade, AllPlain, IsBegunIn}
-use Rattle.cycle_engine.specs.private.Places.{IsOpen, IsNextAct, AllocsOnce, IsQueueTurn, IsTurnOf, IsTurn, IsOpenTurn, IsSettled, IsServed, IsFull, first_of}
-use Rattle.cycle_engine.proofs.BeforeLemmas.{after_of}
-use Rattle.cycle_engine.proofs.RousingLemmas.{slots_within}
+use Rattle.cycle_engine.specs.private.Goings.{Past, IsReady, InCycle, MayFollow, IsMade, AllPlain, IsNotedUnit, IsKeptBut, IsBegunIn, with_marks, with_again}
+use Rattle.cycle_engine.specs.private.Places.{IsOpen, IsNextAct, AllocsOnce, IsQueueTurn, QueuesKept, IsTurnOf, IsTurn, IsTurnEnded, IsOpenTurn, IsSettled, first_of}
+use Rattle.cycle_engine.proofs.BeforeLemmas.{after_of, IsLate, before, may_could}
+use Rattle.cycle_engine.proofs.RousingLemmas.{slots_within, late_or}
+use Rattle.cycle_engine.proofs.FeedLemmas.{lacking_quiet}
 use Rattle.cycle_engine.proofs.OwnLemmas.{own_rouses}
-use Rattle.cycle_engine.proofs.DateLemmas.{AllBy, each_as, makes_dates, effect_there}
+use Rattle.cycle_engine.proofs.DateLemmas.{AllBy, each_as, makes_dates, some_effect, effect_there}
 use Rattle.cycle_engine.proofs.MakeLemmas.{all_snoc, takes_within}
 use Rattle.cycle_engine.proofs.StartLemmas.{opening_are}
-use Rattle.cycle_engine.proofs.MarkLemmas.{marked_queue, unmarked, still_marked}
+use Rattle.cycle_engine.proofs.MarkLemmas.{holds_last, holds_more}
 use Rattle.cycle_engine.proofs.NoteLemmas.{effect_in, taken_all}
-use Rattle.cycle_engine.proofs.PlaceLemmas.{same_act, exec_is, place_rank, place_fixed, first_rank, queue_rank, rank_most, fires_within, starved_quiet}
-use Rattle.cycle_engine.proofs.QueueTurnLemmas.{laws, queue_used, unused_before, unused_last, allocs_more, allocs_none, queue_rouses, unit_rouses}
+use Rattle.cycle_engine.proofs.PlaceLemmas.{same_act, exec_is, place_rank, place_fixed, first_rank, fires_within, starved_quiet}
+use Rattle.cycle_engine.proofs.UsedLemmas.{unused_last, unused_before}
+use Rattle.cycle_engine.proofs.QueueTurnLemmas.{laws, queue_used, queue_late, merge_kind, one_token, allocs_more, queue_rouses, unit_rouses}
 
 -- ---- what holds along cycles
 
@@ -150,9 +154,38 @@ phase_rises a b l = by (phase_high a) (phase_low b)
 
 -- ---- units and acts
 
-each_order : (fs : List Firing) (P : Firing → Type 0) (Q : Firing → Type 0) → ((g : Firing) → P g → Q g) → AllByRecursion P fs → AllByRecursion Q fs
+pub each_order : (fs : List Firing) (P : Firing → Type 0) (Q : Firing → Type 0) → ((g : Firing) → P g → Q g) → AllByRecursion P fs → AllByRecursion Q fs
 each_order [] P Q h a = tt
 each_order (g ∷ fs) P Q h a = (h g a.0, each_order fs P Q h a.1)
+
+pub all_at : (P : Firing → Type 0) (fs : List Firing) (k : ℕ) → k < length fs → AllByRecursion P fs → P (get_or fs k no_firing)
+all_at P [] k l h = absurd (omega arith)
+all_at P (g ∷ fs) zero l h = h.0
+all_at P (g ∷ fs) (suc k) l h = all_at P fs k (omega arith) h.1
+
+-- a unit that has fired did so before the last firing, or that is its
+pub has_before : (fs : List Firing) (f : Firing) (v : ℕ) → v ≢ f.unit → HasUnit v (fs ++ f ∷ []) → HasUnit v fs
+has_before fs f v ne h = by (cases_lt h.at (length fs)) (cases_eq h.at (length fs))
+  where
+    by : (h.at < length fs) ⊎ (length fs ≤ h.at) → (h.at ≡ length fs) ⊎ (h.at ≢ length fs) → HasUnit v fs
+    by (inl l) e = record { at = h.at; within = l; is = ap (λ (x : Firing). x.unit) (sym (get_or_append_left fs (f ∷ []) no_firing h.at l)) ∙ h.is }
+    by (inr l) (inl e) = absurd (ne (sym h.is ∙ ap (λ (x : Firing). x.unit) (ap (λ k. get_or (fs ++ f ∷ []) k no_firing) e ∙ get_last fs)))
+      where
+        get_last : (gs : List Firing) → get_or (gs ++ f ∷ []) (length gs) no_firing ≡ f
+        get_last [] = refl
+        get_last (g ∷ gs) = get_last gs
+    by (inr l) (inr e) = (let n = length-append fs (f ∷ []) in let w = h.within in absurd (e (omega arith)))
+
+pub pushed_holds : (xs : List ℕ) (x v : ℕ) → Holds v xs → Holds v (xs ++ x ∷ [])
+pushed_holds xs x v h = holds_more xs (x ∷ []) v h
+
+pub pushed_last : (xs : List ℕ) (x : ℕ) → Holds x (xs ++ x ∷ [])
+pushed_last xs x = holds_last xs x
+
+-- a unit stays marked or to be looked at again
+noted_kept : (old new : Engine) (v : ℕ) → (IsMarked old.marks v → IsMarked new.marks v) → (Holds v old.again.items → Holds v new.again.items) → IsNotedUnit old v → IsNotedUnit new v
+noted_kept old new v marks again (inl k) = inl (marks k)
+noted_kept old new v marks again (inr k) = inr (again k)
 
 -- ---- the next place
 
@@ -290,7 +323,7 @@ module _ (net : Net) (past : Past) (b : Bounds) (c : ℕ) (start : Dated) (marks
   pub turn_passed : (new : Engine) → new ≡ old → (IsUnused old.fired.items f → May net c start (dated_of old) f → ⊥) → IsTurn net past b c start marks new f.unit r (n + 1)
   turn_passed new same refused =
       let P : Engine → Type 0 = λ e. IsTurn net past b c start marks e f.unit r (n + 1) in
-      subst P (sym same) (record { going = t.going; watched = λ g un m. at g un m (t.watched g un m); of = t.of })
+      subst P (sym same) (record { going = t.going; watched = λ g un m. at g un m (t.watched g un m); kept = t.kept; of = t.of })
     where
       at : (g : Firing) → IsUnused old.fired.items g → May net c start (dated_of old) g → IsMarked old.marks g.unit ⊎ ((g.unit ≡ f.unit) × IsOpen r n g.act) → IsMarked old.marks g.unit ⊎ ((g.unit ≡ f.unit) × IsOpen r (n + 1) g.act)
       at g un m (inl k) = inl k
@@ -321,10 +354,12 @@ module _ (net : Net) (past : Past) (b : Bounds) (c : ℕ) (start : Dated) (marks
 
     -- a unit that is no queue made it, and the units were marked at which it can have let one fire
     pub unit_made : IsChecked net → IsEngine net old → is_lsq (kind_of net f.unit) ≡ false → (p : Plan) → IsPlanOf net old.state f (Some p) → KeepsMarks old.marks new.marks → length old.marks.marked.items ≡ length net.units
-        → IsRoused net (state_of new.state) f.unit (moves_of net f.unit p) (length old.marks.marked.items) new.marks → IsTurn net past b c start marks new f.unit r (n + 1)
-    unit_made checked eng l p is kept long roused = record {
+        → ((v : ℕ) → Holds v old.again.items → Holds v new.again.items)
+        → IsRoused net (state_of old.state) (state_of new.state) f.unit (moves_of net f.unit p) (length old.marks.marked.items) new.marks → IsTurn net past b c start marks new f.unit r (n + 1)
+    unit_made checked eng l p is kept long again roused = record {
       going = made.going;
       watched = watched;
+      kept = keeps;
       of = (let P : Bool → Type 0 = λ q. IsTurnOf q net c marks new f.unit r in subst P (sym l) all);
     }
       where
@@ -344,36 +379,84 @@ module _ (net : Net) (past : Past) (b : Bounds) (c : ℕ) (start : Dated) (marks
             chans_after : length (state_of new.state).tokens ≡ length net.chans
             chans_after = (going_dated_now net past b c start new made.going).chans
 
+        after_is : dated_of new ≡ after_of net c (dated_of old) f.unit (effect_in net old f p)
+        after_is = made.after ∙ ap (after_by net c (dated_of old) f.unit) (sym is)
+
+        -- the unit into which was put at once lacks no token where it fires
+        goes : (g : Firing) (x : Effect) → effect net (state_of new.state) g ≡ Some x → (o : Option Put) → has_room net (state_of old.state) f.unit o
+            → IsPutMarked net (state_of new.state) (laid_of net f.unit o) (length old.marks.marked.items) new.marks
+            → IsSomeAnd o (λ w. ((chan_at net (out_of f.unit w.place net.chans)).delay ≡ 0) × ((chan_at net (out_of f.unit w.place net.chans)).to.unit ≡ g.unit)) → IsMarked new.marks g.unit
+        goes g x acts None h k i = absurd i
+        goes g x acts (Some w) h k i =
+            let d : out_of f.unit w.place net.chans < length net.chans = slots_within net.chans (out_of f.unit w.place net.chans) (length (tokens_at (state_of old.state) (out_of f.unit w.place net.chans))) h in
+            let q = checked.within.to (out_of f.unit w.place net.chans) d in
+            subst (IsMarked new.marks) i.1 (k i.0 (lacking_quiet net (state_of new.state) g (out_of f.unit w.place net.chans) x acts i.1) d (omega arith))
+
+        -- what could be made by another unit might have been before, or is of the unit into which was put at once
+        others : (g : Firing) → g.unit ≢ f.unit → IsLate net f.unit g.unit (effect_in net old f p) → Could net c start (dated_of new) g
+            → Could net c start (dated_of old) g × (effect net (after_of net c (dated_of old) f.unit (effect_in net old f p)).state g ≡ effect net (state_of old.state) g)
+        others g ne late k =
+            let P : Dated → Type 0 = λ x. Could net c start x g in
+            before net c start (dated_of old) f.unit g (effect_in net old f p) (λ u v a differ o r. differ (sym (checked.alone u v a o r))) ne eng.dated late (subst P after_is k)
+
+        keeps : IsKeptBut net c start new f.unit
+        keeps g h k = by (cases_eq g.unit f.unit) (late_or net f.unit g.unit (effect_in net old f p))
+          where
+            H : List Firing → Type 0
+            H fs = HasUnit g.unit fs
+
+            held : (g.unit ≡ f.unit) ⊎ IsNotedUnit old g.unit → (g.unit ≡ f.unit) ⊎ IsNotedUnit new g.unit
+            held (inl e) = inl e
+            held (inr x) = inr (noted_kept old new g.unit (kept.kept g.unit) (again g.unit) x)
+
+            by : (g.unit ≡ f.unit) ⊎ (g.unit ≢ f.unit) → IsLate net f.unit g.unit (effect_in net old f p) ⊎ GoesTo net f.unit (effect_in net old f p) g.unit → (g.unit ≡ f.unit) ⊎ IsNotedUnit new g.unit
+            by (inl e) z = inl e
+            by (inr ne) (inl late) = held (t.kept g (has_before old.fired.items f g.unit ne (subst H made.fired h)) (others g ne late k).0)
+            by (inr ne) (inr to) =
+                let x = some_effect (effect net (state_of new.state) g) (λ x. has_room net start.state g.unit x.put) k.acts in
+                inr (inl (goes g x.0 x.1 p.put room roused.target to))
+
         watched : (g : Firing) → IsUnused new.fired.items g → May net c start (dated_of new) g → IsMarked new.marks g.unit ⊎ ((g.unit ≡ f.unit) × IsOpen r (n + 1) g.act)
-        watched g un m = by (unit_rouses net c start old.fired.items (dated_of old) f g (effect_in net old f p) checked (going_dated net past b c start old t.going) eng.dated t.going.makes (unused g un) (sym is) after)
+        watched g un m = by (cases_eq g.unit f.unit) (late_or net f.unit g.unit (effect_in net old f p))
+            (unit_rouses net c start old.fired.items (dated_of old) f g (effect_in net old f p) checked (going_dated net past b c start old t.going) eng.dated t.going.makes (unused g un) (sym is) after)
           where
             after : May net c start (after_in net c (dated_of old) f) g
             after = (let P : Dated → Type 0 = λ x. May net c start x g in subst P made.after m)
 
-            goes : (o : Option Put) → has_room net (state_of old.state) f.unit o → IsPutMarked net (laid_of net f.unit o) (length old.marks.marked.items) new.marks
-                → IsSomeAnd o (λ w. ((chan_at net (out_of f.unit w.place net.chans)).delay ≡ 0) × ((chan_at net (out_of f.unit w.place net.chans)).to.unit ≡ g.unit)) → IsMarked new.marks g.unit
-            goes None h k i = absurd i
-            goes (Some w) h k i =
-                let d : out_of f.unit w.place net.chans < length net.chans = slots_within net.chans (out_of f.unit w.place net.chans) (length (tokens_at (state_of old.state) (out_of f.unit w.place net.chans))) h in
-                let e = i.1 in
-                let q = within g m in
-                subst (IsMarked new.marks) e (k i.0 d (omega arith))
+            to : GoesTo net f.unit (effect_in net old f p) g.unit → IsMarked new.marks g.unit
+            to k = (let x = effect_there net (state_of new.state) g m.turn in goes g x.0 x.1 p.put room roused.target k)
 
-            comes : is_merge (kind_of net g.unit) ≡ true → (o : Option Effect) → IsSomeAnd o (λ x. IsSomeAnd x.put (λ w. takes_from net f.unit (effect_in net old f p) (out_of g.unit w.place net.chans) ≡ true)) → IsMarked new.marks g.unit
-            comes merge None i = absurd i
-            comes merge (Some x) i = put x.put i
+            -- from the channel on which a merge would put takes a fork alone, and had it room the merge might have fired before
+            comes : is_merge (kind_of net g.unit) ≡ true → g.unit ≢ f.unit → IsLate net f.unit g.unit (effect_in net old f p) → (o : Option Effect) → effect net (state_of old.state) g ≡ o
+                → IsSomeAnd o (λ x. IsSomeAnd x.put (λ w. takes_from net f.unit (effect_in net old f p) (out_of g.unit w.place net.chans) ≡ true)) → IsMarked new.marks g.unit ⊎ May net c start (dated_of old) g
+            comes merge ne late None q i = absurd i
+            comes merge ne late (Some x) q i = put x.put refl i
               where
-                put : (o : Option Put) → IsSomeAnd o (λ w. takes_from net f.unit (effect_in net old f p) (out_of g.unit w.place net.chans) ≡ true) → IsMarked new.marks g.unit
-                put None i = absurd i
-                put (Some w) i =
-                    let h = taken_all net f.unit (out_of g.unit w.place net.chans) (effect_in net old f p) (IsMergeMarked net (length old.marks.marked.items) new.marks) i
-                    (taken_each net f.unit (IsMergeMarked net (length old.marks.marked.items) new.marks) p.takes roused.merges) in
-                    let d = taken_all net f.unit (out_of g.unit w.place net.chans) (effect_in net old f p) (λ y. y < length (dates_of old.state)) i (takes_within net old f p eng is) in
-                    let k = eng.dated.lists in
-                    let l' : out_of g.unit w.place net.chans < length net.chans = omega arith in
-                    let e : (chan_at net (out_of g.unit w.place net.chans)).from.unit ≡ g.unit = (is_at-inv (chan_at net (out_of g.unit w.place net.chans)).from g.unit w.place (out_of-at g.unit w.place net.chans l')).0 in
-                    let q = within g m in
-                    subst (IsMarked new.marks) e (h l' (ap (λ v. is_merge (kind_of net v)) e ∙ merge) (omega arith))
+                put : (o : Option Put) → x.put ≡ o → IsSomeAnd o (λ w. takes_from net f.unit (effect_in net old f p) (out_of g.unit w.place net.chans) ≡ true) → IsMarked new.marks g.unit ⊎ May net c start (dated_of old) g
+                put None z i = absurd i
+                put (Some w) z i = by_kind (is_fork (kind_of net f.unit)) refl (merge_kind (kind_of net g.unit))
+                  where
+                    by_kind : (k : Bool) → is_fork (kind_of net f.unit) ≡ k → (is_merge (kind_of net g.unit) ≡ false) ⊎ ((ins : ℕ) × (kind_of net g.unit ≡ Cmerge ins)) → IsMarked new.marks g.unit ⊎ May net c start (dated_of old) g
+                    by_kind k e (inl y) = (let v : true ≡ false = sym merge ∙ y in cc)
+                    by_kind false e (inr y) = absurd (one_token net (state_of old.state) f (effect_in net old f p) g y.0 x w checked (going_regular net past b c start old checked t.going) e (sym is) ne y.1 q z i)
+                    by_kind true e (inr y) = by_room (cases_lt (length (tokens_at (state_of old.state) (out_of g.unit w.place net.chans))) (chan_at net (out_of g.unit w.place net.chans)).slots)
+                      where
+                        by_room : (length (tokens_at (state_of old.state) (out_of g.unit w.place net.chans)) < (chan_at net (out_of g.unit w.place net.chans)).slots)
+                            ⊎ ((chan_at net (out_of g.unit w.place net.chans)).slots ≤ length (tokens_at (state_of old.state) (out_of g.unit w.place net.chans))) → IsMarked new.marks g.unit ⊎ May net c start (dated_of old) g
+                        by_room (inl l) =
+                            let o = (others g ne late (may_could net c start (dated_of new) g m)).0 in
+                            let S : Option Put → Type 0 = has_room net (state_of old.state) g.unit in
+                            let R : Option Effect → Type 0 = λ o. IsSomeAnd o (λ y. has_room net (state_of old.state) g.unit y.put) in
+                            inr (record { turn = subst R (sym q) (subst S (sym z) l); ripe = o.ripe; room = o.acts; depth = o.depth })
+                        by_room (inr l) =
+                            let h = taken_all net f.unit (out_of g.unit w.place net.chans) (effect_in net old f p) (IsFullMarked net (state_of old.state) (length old.marks.marked.items) new.marks) i
+                            (taken_each net f.unit (IsFullMarked net (state_of old.state) (length old.marks.marked.items) new.marks) p.takes (roused.merges e)) in
+                            let d = taken_all net f.unit (out_of g.unit w.place net.chans) (effect_in net old f p) (λ y. y < length (dates_of old.state)) i (takes_within net old f p eng is) in
+                            let k = eng.dated.lists in
+                            let l' : out_of g.unit w.place net.chans < length net.chans = omega arith in
+                            let v : (chan_at net (out_of g.unit w.place net.chans)).from.unit ≡ g.unit = (is_at-inv (chan_at net (out_of g.unit w.place net.chans)).from g.unit w.place (out_of-at g.unit w.place net.chans l')).0 in
+                            let s = within g m in
+                            inl (subst (IsMarked new.marks) v (h l l' (ap (λ v. is_merge (kind_of net v)) v ∙ merge) (omega arith)))
 
             -- a fork that took its head has another, since it may fire
             stirred : g.unit ≡ f.unit → Stirs (kind_of net f.unit) (effect_in net old f p) → IsMarked new.marks g.unit
@@ -399,21 +482,29 @@ module _ (net : Net) (past : Past) (b : Bounds) (c : ℕ) (start : Dated) (marks
                     → IsMarked new.marks g.unit ⊎ ((g.unit ≡ f.unit) × IsOpen r (n + 1) g.act)
                 at (inl mo) = before_on g un kept.kept (subst B (sym e) mo)
                 at (inr (inl h)) = inl (stirred e h)
-                at (inr (inr k)) = inl (goes p.put room roused.target (subst G (sym e) k))
+                at (inr (inr k)) = inl (to (subst G (sym e) k))
 
-            by : May net c start (dated_of old) g ⊎ ((g.unit ≡ f.unit) ⊎ (GoesTo net f.unit (effect_in net old f p) g.unit ⊎ ((is_merge (kind_of net g.unit) ≡ true) × ComesFrom net f.unit (effect_in net old f p) (dated_of old) g)))
+            come : IsMarked new.marks g.unit ⊎ May net c start (dated_of old) g → IsMarked new.marks g.unit ⊎ ((g.unit ≡ f.unit) × IsOpen r (n + 1) g.act)
+            come (inl k) = inl k
+            come (inr mo) = before_on g un kept.kept mo
+
+            by : (g.unit ≡ f.unit) ⊎ (g.unit ≢ f.unit) → IsLate net f.unit g.unit (effect_in net old f p) ⊎ GoesTo net f.unit (effect_in net old f p) g.unit
+                → May net c start (dated_of old) g ⊎ ((g.unit ≡ f.unit) ⊎ (GoesTo net f.unit (effect_in net old f p) g.unit ⊎ ((is_merge (kind_of net g.unit) ≡ true) × ComesFrom net f.unit (effect_in net old f p) (dated_of old) g)))
                 → IsMarked new.marks g.unit ⊎ ((g.unit ≡ f.unit) × IsOpen r (n + 1) g.act)
-            by (inl mo) = before_on g un kept.kept mo
-            by (inr (inl e)) = own e
-            by (inr (inr (inl k))) = inl (goes p.put room roused.target k)
-            by (inr (inr (inr k))) = inl (comes k.0 (effect net (state_of old.state) g) k.1)
+            by (inl e) z k = own e
+            by (inr ne) (inr k) z = inl (to k)
+            by (inr ne) (inl late) (inl mo) = before_on g un kept.kept mo
+            by (inr ne) (inl late) (inr (inl e)) = own e
+            by (inr ne) (inl late) (inr (inr (inl k))) = inl (to k)
+            by (inr ne) (inl late) (inr (inr (inr k))) = come (comes k.0 ne late (effect net (state_of old.state) g) refl k.1)
 
     -- a queue made it
-    pub queue_made : IsChecked net → IsEngine net old → is_lsq (kind_of net f.unit) ≡ true → new.marks ≡ old.marks → IsTurn net past b c start marks new f.unit r (n + 1)
-    queue_made checked eng l same = record {
+    pub queue_made : IsChecked net → IsEngine net old → is_lsq (kind_of net f.unit) ≡ true → new.marks ≡ old.marks → new.again ≡ old.again → IsTurn net past b c start marks new f.unit r (n + 1)
+    queue_made checked eng l same looked = record {
       going = made.going;
       watched = watched;
-      of = (let P : Bool → Type 0 = λ q. IsTurnOf q net c marks new f.unit r in subst P (sym l) (record { allocs = allocs; behind = behind; fresh = fresh; same = same ∙ turn.same }));
+      kept = keeps;
+      of = (let P : Bool → Type 0 = λ q. IsTurnOf q net c marks new f.unit r in subst P (sym l) (record { allocs = allocs; behind = behind; fresh = fresh; same = same ∙ turn.same; again = again }));
     }
       where
         turn : IsQueueTurn net c marks old f.unit r
@@ -457,29 +548,62 @@ module _ (net : Net) (past : Past) (b : Bounds) (c : ℕ) (start : Dated) (marks
         fresh = (let P : List Firing → Type 0 = AllByRecursion (λ g. is_lsq (kind_of net g.unit) ≡ true → (g.unit ≡ f.unit) ⊎ (IsMarked marks g.unit → ⊥)) in
             subst P (sym made.fired) (all_snoc (λ g. is_lsq (kind_of net g.unit) ≡ true → (g.unit ≡ f.unit) ⊎ (IsMarked marks g.unit → ⊥)) old.fired.items f turn.fresh (λ q. inl refl)))
 
-        before : (g : Firing) → IsUnused new.fired.items g → (g.unit ≡ f.unit → phase g.act ≤ phase f.act) → May net c start (dated_of new) g → May net c start (dated_of old) g
-        before g un ph m =
+        kept : (v : ℕ) → IsMarked old.marks v → IsMarked new.marks v
+        kept v h = (let P : Marks → Type 0 = λ y. IsMarked y v in subst P (sym same) h)
+
+        been : (v : ℕ) → v ≢ f.unit → HasUnit v new.fired.items → HasUnit v old.fired.items
+        been v ne h = (let H : List Firing → Type 0 = λ fs. HasUnit v fs in has_before old.fired.items f v ne (subst H made.fired h))
+
+        looks : (v : ℕ) → Holds v old.again.items → Holds v new.again.items
+        looks v h = (let P : Stacked ℕ → Type 0 = λ x. Holds v x.items in subst P (sym looked) h)
+
+        again : QueuesKept net new (λ v. v ≡ f.unit)
+        again v q h = by (cases_eq v f.unit)
+          where
+            held : (v ≡ f.unit) ⊎ Holds v old.again.items → (v ≡ f.unit) ⊎ Holds v new.again.items
+            held (inl e) = inl e
+            held (inr x) = inr (looks v x)
+
+            by : (v ≡ f.unit) ⊎ (v ≢ f.unit) → (v ≡ f.unit) ⊎ Holds v new.again.items
+            by (inl e) = inl e
+            by (inr ne) = held (turn.again v q (been v ne h))
+
+        keeps : IsKeptBut net c start new f.unit
+        keeps g h k = by (cases_eq g.unit f.unit)
+          where
+            then : Could net c start (after_of net c (dated_of old) f.unit w.0) g
+            then = (let P : Dated → Type 0 = λ x. Could net c start x g in subst P (made.after ∙ ap (after_by net c (dated_of old) f.unit) w.1) k)
+
+            held : (g.unit ≡ f.unit) ⊎ IsNotedUnit old g.unit → (g.unit ≡ f.unit) ⊎ IsNotedUnit new g.unit
+            held (inl e) = inl e
+            held (inr x) = inr (noted_kept old new g.unit (kept g.unit) (looks g.unit) x)
+
+            by : (g.unit ≡ f.unit) ⊎ (g.unit ≢ f.unit) → (g.unit ≡ f.unit) ⊎ IsNotedUnit new g.unit
+            by (inl e) = inl e
+            by (inr ne) =
+                let o = before net c start (dated_of old) f.unit g w.0 (λ u v a differ o r. differ (sym (checked.alone u v a o r))) ne eng.dated (queue_late net f.unit g.unit w.0 checked l) then in
+                held (t.kept g (been g.unit ne h) o.0)
+
+        may_before : (g : Firing) → IsUnused new.fired.items g → (g.unit ≡ f.unit → phase g.act ≤ phase f.act) → May net c start (dated_of new) g → May net c start (dated_of old) g
+        may_before g un ph m =
             let P : List Firing → Type 0 = λ fs. IsUnused fs g in
             let Q : Dated → Type 0 = λ s. May net c start s g in
             queue_rouses net c start old.fired.items (dated_of old) f.unit f.act g checked good (going_dated net past b c start old t.going) eng.dated t.going.makes turn.allocs l made.may.turn (subst P made.fired un) ph (subst Q made.after m)
-
-        kept : (v : ℕ) → IsMarked old.marks v → IsMarked new.marks v
-        kept v h = (let P : Marks → Type 0 = λ y. IsMarked y v in subst P (sym same) h)
 
         watched : (g : Firing) → IsUnused new.fired.items g → May net c start (dated_of new) g → IsMarked new.marks g.unit ⊎ ((g.unit ≡ f.unit) × IsOpen r (n + 1) g.act)
         watched g un m = by (cases_eq g.unit f.unit) (open_or r (n + 1) g.act)
           where
             by : (g.unit ≡ f.unit) ⊎ (g.unit ≢ f.unit) → IsOpen r (n + 1) g.act ⊎ (IsOpen r (n + 1) g.act → ⊥) → IsMarked new.marks g.unit ⊎ ((g.unit ≡ f.unit) × IsOpen r (n + 1) g.act)
             by (inl e) (inl o) = inr (e, o)
-            by (inl e) (inr o) = before_on g un kept (before g un (λ z. phase_rises g.act f.act (let x = closed_rank r (n + 1) g.act o in let y = next.rank in omega arith)) m)
-            by (inr e) o = before_on g un kept (before g un (λ z. absurd (e z)) m)
+            by (inl e) (inr o) = before_on g un kept (may_before g un (λ z. phase_rises g.act f.act (let x = closed_rank r (n + 1) g.act o in let y = next.rank in omega arith)) m)
+            by (inr e) o = before_on g un kept (may_before g un (λ z. absurd (e z)) m)
 
 -- ---- acts that may be passed over
 
 -- no act of the rank r between the numbers n and m is enabled
 pub turn_to : (net : Net) (past : Past) (b : Bounds) (c : ℕ) (start : Dated) (marks : Marks) (e : Engine) (u r n m : ℕ) → IsTurn net past b c start marks e u r n
     → ((a : Act) → enabled net (state_of e.state) (firing u a) → act_rank a ≡ r → (act_number (act_place a) < n) ⊎ (m ≤ act_number (act_place a))) → IsTurn net past b c start marks e u r m
-turn_to net past b c start marks e u r n m t apart = record { going = t.going; watched = λ g un may. at g may (t.watched g un may); of = t.of }
+turn_to net past b c start marks e u r n m t apart = record { going = t.going; watched = λ g un may. at g may (t.watched g un may); kept = t.kept; of = t.of }
   where
     at : (g : Firing) → May net c start (dated_of e) g → IsMarked e.marks g.unit ⊎ ((g.unit ≡ u) × IsOpen r n g.act) → IsMarked e.marks g.unit ⊎ ((g.unit ≡ u) × IsOpen r m g.act)
     at g may (inl k) = inl k
@@ -499,7 +623,7 @@ turn_to net past b c start marks e u r n m t apart = record { going = t.going; w
 -- all acts of the rank r were tried
 pub turn_on : (net : Net) (past : Past) (b : Bounds) (c : ℕ) (start : Dated) (marks : Marks) (e : Engine) (u r n : ℕ) → IsTurn net past b c start marks e u r n
     → ((a : Act) → enabled net (state_of e.state) (firing u a) → act_rank a ≡ r → act_number (act_place a) < n) → IsTurn net past b c start marks e u (r + 1) 0
-turn_on net past b c start marks e u r n t below = record { going = t.going; watched = λ g un m. at g m (t.watched g un m); of = of (is_lsq (kind_of net u)) t.of }
+turn_on net past b c start marks e u r n t below = record { going = t.going; watched = λ g un m. at g m (t.watched g un m); kept = t.kept; of = of (is_lsq (kind_of net u)) t.of }
   where
     at : (g : Firing) → May net c start (dated_of e) g → IsMarked e.marks g.unit ⊎ ((g.unit ≡ u) × IsOpen r n g.act) → IsMarked e.marks g.unit ⊎ ((g.unit ≡ u) × IsOpen (r + 1) 0 g.act)
     at g m (inl k) = inl k
@@ -522,21 +646,28 @@ turn_on net past b c start marks e u r n t below = record { going = t.going; wat
       behind = each_order e.fired.items (λ g. g.unit ≡ u → act_rank g.act ≤ r) (λ g. g.unit ≡ u → act_rank g.act ≤ r + 1) (λ g h z. (let y = h z in omega arith)) o.behind;
       fresh = o.fresh;
       same = o.same;
+      again = o.again;
     }
     of false o = o
 
 -- ---- a unit that is no queue
 
 pub open_queue : (net : Net) (past : Past) (b : Bounds) (c : ℕ) (start : Dated) (e : Engine) (u : ℕ) → is_lsq (kind_of net u) ≡ true → IsOpenTurn net past b c start e u → IsBegunIn net past b c start e
-open_queue net past b c start e u l t = record { going = t.going; plain = t.plain; watching = λ g un m. at g (t.watched g un m) }
+open_queue net past b c start e u l t = record { going = t.going; plain = t.plain; watching = λ g un m. at g (t.watched g un m); kept = λ g h k. noted g h (t.kept g h k) }
   where
+    noted : (g : Firing) → HasUnit g.unit e.fired.items → (g.unit ≡ u) ⊎ IsNotedUnit e g.unit → IsNotedUnit e g.unit
+    noted g h (inr k) = k
+    noted g h (inl k) =
+        let p = (all_at (λ x. (is_lsq (kind_of net x.unit) ≡ false) × (phase x.act ≡ 0)) e.fired.items h.at h.within t.plain).0 in
+        let z : true ≡ false = sym l ∙ (ap (λ x. is_lsq (kind_of net x)) (sym k ∙ sym h.is) ∙ p) in cc
+
     at : (g : Firing) → IsMarked e.marks g.unit ⊎ ((g.unit ≡ u) × (is_lsq (kind_of net g.unit) ≡ false)) → IsMarked e.marks g.unit
     at g (inl k) = k
     at g (inr k) = let z : true ≡ false = sym l ∙ (ap (λ x. is_lsq (kind_of net x)) (sym k.0) ∙ k.1) in cc
 
 pub open_unit : (net : Net) (past : Past) (b : Bounds) (c : ℕ) (start : Dated) (e : Engine) (u : ℕ) (kind : Act) → is_lsq (kind_of net u) ≡ false → kind ≡ first_of (kind_of net u) → IsOpenTurn net past b c start e u
     → IsTurn net past b c start e.marks e u (act_rank kind) 0
-open_unit net past b c start e u kind l is t = record { going = t.going; watched = λ g un m. at g m (t.watched g un m); of = (let P : Bool → Type 0 = λ q. IsTurnOf q net c e.marks e u (act_rank kind) in subst P (sym l) t.plain) }
+open_unit net past b c start e u kind l is t = record { going = t.going; watched = λ g un m. at g m (t.watched g un m); kept = t.kept; of = (let P : Bool → Type 0 = λ q. IsTurnOf q net c e.marks e u (act_rank kind) in subst P (sym l) t.plain) }
   where
     N : Act → ℕ → Type 0
     N a v = enabled net (state_of e.state) (firing v a)
@@ -548,10 +679,22 @@ open_unit net past b c start e u kind l is t = record { going = t.going; watched
         let q = ap act_rank is in
         inr (k.0, inr (omega arith, omega arith))
 
-pub unit_done : (net : Net) (past : Past) (b : Bounds) (c : ℕ) (start : Dated) (marks : Marks) (e : Engine) (u : ℕ) (kind : Act) → is_lsq (kind_of net u) ≡ false → kind ≡ first_of (kind_of net u) → IsTurn net past b c start marks e u (act_rank kind + 1) 0
+pub unit_done : (net : Net) (past : Past) (b : Bounds) (c : ℕ) (start : Dated) (marks : Marks) (e : Engine) (u : ℕ) (kind : Act) → is_lsq (kind_of net u) ≡ false → kind ≡ first_of (kind_of net u) → IsTurnEnded net past b c start marks e u (act_rank kind + 1)
     → IsBegunIn net past b c start e
-unit_done net past b c start marks e u kind l is t = record { going = t.going; plain = (let P : Bool → Type 0 = λ q. IsTurnOf q net c marks e u (act_rank kind + 1) in subst P l t.of); watching = λ g un m. at g m (t.watched g un m) }
+unit_done net past b c start marks e u kind l is t = record {
+  going = t.turn.going;
+  plain = (let P : Bool → Type 0 = λ q. IsTurnOf q net c marks e u (act_rank kind + 1) in subst P l t.turn.of);
+  watching = λ g un m. at g m (t.turn.watched g un m);
+  kept = λ g h k. noted g h k (t.turn.kept g h k);
+}
   where
+    noted : (g : Firing) → HasUnit g.unit e.fired.items → Could net c start (dated_of e) g → (g.unit ≡ u) ⊎ IsNotedUnit e g.unit → IsNotedUnit e g.unit
+    noted g h k (inr x) = x
+    noted g h k (inl z) =
+        let H : ℕ → Type 0 = λ v. HasUnit v e.fired.items in
+        let C : ℕ → Type 0 = λ v. Could net c start (dated_of e) (firing v g.act) in
+        subst (IsNotedUnit e) (sym z) (t.own g.act (subst H z h) (subst C z k))
+
     N : Act → ℕ → Type 0
     N a v = enabled net (state_of e.state) (firing v a)
 
@@ -565,10 +708,6 @@ unit_done net past b c start marks e u kind l is t = record { going = t.going; p
         by : IsOpen (act_rank kind + 1) 0 g.act → act_rank g.act ≡ act_rank kind → ⊥
         by (inl o) z = omega arith
         by (inr o) z = let y = o.0 in omega arith
-
--- the engine with other marks
-abbrev pub with_marks : Engine → Marks → Engine
-with_marks e m = record { state = e.state; begun = e.begun; fired = e.fired; used = e.used; made = e.made; log = e.log; marks = m; notes = e.notes; feeds = e.feeds; freed = e.freed; control = e.control }
 
 pub going_marks : (net : Net) (past : Past) (b : Bounds) (c : ℕ) (start : Dated) (e : Engine) (m : Marks) → InCycle net past b c start e → InCycle net past b c start (with_marks e m)
 going_marks net past b c start e m g = record {
@@ -605,14 +744,79 @@ ready_marks net b e m r long listed = record {
   feeds = r.feeds;
 }
 
+-- other units are to be looked at again
+going_again : (net : Net) (past : Past) (b : Bounds) (c : ℕ) (start : Dated) (e : Engine) (s : Stacked ℕ) → InCycle net past b c start e → InCycle net past b c start (with_again e s)
+going_again net past b c start e s g = record {
+  began = record { chans = λ d. followed d (g.began.chans d); queues = g.began.queues };
+  done = g.done;
+  number = g.number;
+  makes = g.makes;
+  once = g.once;
+  order = g.order;
+  made = g.made;
+  log = g.log;
+  listed = g.listed;
+  coming = g.coming;
+  control = g.control;
+}
+  where
+    followed : (d : ℕ) → IsFollowed net c start e d → IsFollowed net c start (with_again e s) d
+    followed d k = record { marked = k.marked; clear = k.clear; newest = k.newest }
+
+pub turn_again : (net : Net) (past : Past) (b : Bounds) (c : ℕ) (start : Dated) (marks : Marks) (e : Engine) (s : Stacked ℕ) (u r n : ℕ) → ((v : ℕ) → Holds v e.again.items → Holds v s.items)
+    → IsTurn net past b c start marks e u r n → IsTurn net past b c start marks (with_again e s) u r n
+turn_again net past b c start marks e s u r n more t = record {
+  going = going_again net past b c start e s t.going;
+  watched = t.watched;
+  kept = λ g h k. noted g.unit (t.kept g h k);
+  of = of (is_lsq (kind_of net u)) t.of;
+}
+  where
+    noted : (v : ℕ) → (v ≡ u) ⊎ IsNotedUnit e v → (v ≡ u) ⊎ IsNotedUnit (with_again e s) v
+    noted v (inl z) = inl z
+    noted v (inr k) = inr (noted_kept e (with_again e s) v (λ y. y) (more v) k)
+
+    told : (v : ℕ) → (v ≡ u) ⊎ Holds v e.again.items → (v ≡ u) ⊎ Holds v s.items
+    told v (inl z) = inl z
+    told v (inr k) = inr (more v k)
+
+    of : (q : Bool) → IsTurnOf q net c marks e u r → IsTurnOf q net c marks (with_again e s) u r
+    of true o = record { allocs = o.allocs; behind = o.behind; fresh = o.fresh; same = o.same; again = λ v q h. told v (o.again v q h) }
+    of false o = o
+
+pub ready_again : (net : Net) (b : Bounds) (e : Engine) (s : Stacked ℕ) → IsReady net b e → IsReady net b (with_again e s)
+ready_again net b e s r = record {
+  engine = record { state = r.engine.state; dated = r.engine.dated };
+  few = r.few;
+  within = r.within;
+  counts = r.counts;
+  room = r.room;
+  chans = r.chans;
+  queues = r.queues;
+  marked = r.marked;
+  listed = r.listed;
+  cells = r.cells;
+  told = r.told;
+  places = r.places;
+  feeds = r.feeds;
+}
+
 -- so where the mark of a queue was taken
 pub ready_turn : (net : Net) (b : Bounds) (e : Engine) (m : Marks) (u : ℕ) → HasTurn e.marks m u → IsReady net b e → IsReady net b (with_marks e m)
 ready_turn net b e m u t r = ready_marks net b e m r (ap (λ (xs : List Bool). length xs) t.marked ∙ (length-set e.marks.marked.items u false ∙ r.marked)) (t.listed net r.listed)
 
 -- a unit was taken from the list
 pub taken_open : (net : Net) (past : Past) (b : Bounds) (c : ℕ) (start : Dated) (e : Engine) (m : Marks) (u : ℕ) → IsTaken net e.marks m u → IsBegunIn net past b c start e → IsOpenTurn net past b c start (with_marks e m) u
-taken_open net past b c start e m u k t = record { going = going_marks net past b c start e m t.going; plain = t.plain; watched = λ g un x. at g (k.left g.unit (t.watching g un x)) }
+taken_open net past b c start e m u k t = record { going = going_marks net past b c start e m t.going; plain = t.plain; watched = λ g un x. at g (k.left g.unit (t.watching g un x)); kept = λ g h x. noted g.unit (t.kept g h x) }
   where
+    left : (v : ℕ) → IsMarked m v ⊎ ((v ≡ u) × (is_lsq (kind_of net v) ≡ false)) → (v ≡ u) ⊎ IsNotedUnit (with_marks e m) v
+    left v (inl x) = inr (inl x)
+    left v (inr x) = inl x.0
+
+    noted : (v : ℕ) → IsNotedUnit e v → (v ≡ u) ⊎ IsNotedUnit (with_marks e m) v
+    noted v (inl x) = left v (k.left v x)
+    noted v (inr x) = inr (inr x)
+
     at : (g : Firing) → IsMarked m g.unit ⊎ ((g.unit ≡ u) × (is_lsq (kind_of net g.unit) ≡ false)) → IsMarked m g.unit ⊎ ((g.unit ≡ u) × (is_lsq (kind_of net g.unit) ≡ false))
     at g x = x
 
@@ -621,100 +825,8 @@ begun_settled net past b c start e m k t = record {
   going = going_marks net past b c start e m t.going;
   plain = t.plain;
   watching = λ g un x. ap (λ (v : _). get_or v.items g.unit false) k.same ∙ t.watching g un x;
+  kept = λ g h x. noted_kept e (with_marks e m) g.unit (λ y. ap (λ (v : _). get_or v.items g.unit false) k.same ∙ y) (λ y. y) (t.kept g h x);
   list = k.none;
-}
-
--- ---- queues
-
-pub served_first : (net : Net) (past : Past) (b : Bounds) (c : ℕ) (start : Dated) (e : Engine) (m : Marks) (count : ℕ) → IsReordered e.marks m → count ≡ length m.queues.items → IsSettled net past b c start e
-    → IsServed net past b c start (with_marks e m) count 0
-served_first net past b c start e m count r l s = record {
-  going = going_marks net past b c start e m s.going;
-  allocs = allocs_none net c e.fired.items (dated_of e) s.plain;
-  watching = λ g un x. ap (λ (v : _). get_or v.items g.unit false) r.marked ∙ s.watching g un x;
-  list = ap (λ (v : _). v.items) r.list ∙ s.list;
-  fresh = each_order e.fired.items (λ g. (is_lsq (kind_of net g.unit) ≡ false) × (phase g.act ≡ 0)) (λ g. is_lsq (kind_of net g.unit) ≡ true → IsMarked m g.unit → ⊥) (λ g h q. (let z : true ≡ false = sym q ∙ h.0 in cc)) s.plain;
-  left = omega arith;
-}
-
--- the queue has no turn
-pub served_left : (net : Net) (past : Past) (b : Bounds) (c : ℕ) (start : Dated) (e : Engine) (m : Marks) (count n : ℕ) → HasNoTurn e.marks m → n < count → IsServed net past b c start e count n → IsServed net past b c start (with_marks e m) count (n + 1)
-served_left net past b c start e m count n t l s = record {
-  going = going_marks net past b c start e m s.going;
-  allocs = s.allocs;
-  watching = λ g un x. ap (λ (v : _). get_or v.items g.unit false) t.marked ∙ s.watching g un x;
-  list = ap (λ (v : _). v.items) t.list ∙ s.list;
-  fresh = each_order e.fired.items (λ g. is_lsq (kind_of net g.unit) ≡ true → IsMarked e.marks g.unit → ⊥) (λ g. is_lsq (kind_of net g.unit) ≡ true → IsMarked m g.unit → ⊥)
-      (λ g h q x. h q (ap (λ (v : _). get_or v.items g.unit false) (sym t.marked) ∙ x)) s.fresh;
-  left = (let a = s.left in let k = t.fewer in omega arith);
-}
-
--- its mark was taken, and its turn begins
-pub served_turn : (net : Net) (past : Past) (b : Bounds) (c : ℕ) (start : Dated) (e : Engine) (m : Marks) (count n u : ℕ) → HasTurn e.marks m u → IsListed net e.marks → IsServed net past b c start e count n → IsTurn net past b c start m (with_marks e m) u 3 0
-served_turn net past b c start e m count n u t listed s = record {
-  going = going_marks net past b c start e m s.going;
-  watched = λ g un k. at g k (cases_eq g.unit u) (s.watching g un k);
-  of = (let P : Bool → Type 0 = λ q. IsTurnOf q net c m (with_marks e m) u 3 in subst P (sym l) (record {
-    allocs = s.allocs;
-    behind = each_order e.fired.items (λ g. is_lsq (kind_of net g.unit) ≡ true → IsMarked e.marks g.unit → ⊥) (λ g. g.unit ≡ u → act_rank g.act ≤ 3)
-        (λ g h z. absurd (h (ap (λ x. is_lsq (kind_of net x)) z ∙ l) (subst (IsMarked e.marks) (sym z) t.was))) s.fresh;
-    fresh = each_order e.fired.items (λ g. is_lsq (kind_of net g.unit) ≡ true → IsMarked e.marks g.unit → ⊥) (λ g. is_lsq (kind_of net g.unit) ≡ true → (g.unit ≡ u) ⊎ (IsMarked m g.unit → ⊥))
-        (λ g h q. inr (λ z. h q (unmarked e.marks m u g.unit t.marked z).1)) s.fresh;
-    same = refl;
-  }));
-}
-  where
-    l : is_lsq (kind_of net u) ≡ true
-    l = (marked_queue net e.marks u listed s.list t.was).0
-
-    N : Act → ℕ → Type 0
-    N a v = enabled net (state_of e.state) (firing v a)
-
-    at : (g : Firing) → May net c start (dated_of e) g → (g.unit ≡ u) ⊎ (g.unit ≢ u) → IsMarked e.marks g.unit → IsMarked m g.unit ⊎ ((g.unit ≡ u) × IsOpen 3 0 g.act)
-    at g k (inr x) w = inl (still_marked e.marks m u g.unit t.marked x w)
-    at g k (inl x) w =
-        let r = queue_rank net (state_of e.state) u g.act l (subst (N g.act) x k.turn) in
-        inr (x, by (cases_lt 3 (act_rank g.act)))
-      where
-        by : (3 < act_rank g.act) ⊎ (act_rank g.act ≤ 3) → IsOpen 3 0 g.act
-        by (inl y) = inl y
-        by (inr y) = (let r = queue_rank net (state_of e.state) u g.act l (subst (N g.act) x k.turn) in inr (omega arith, omega arith))
-
--- its turn has ended
-pub turn_served : (net : Net) (past : Past) (b : Bounds) (c : ℕ) (start : Dated) (old e : Engine) (m : Marks) (count n u : ℕ) → HasTurn old.marks m u → IsListed net old.marks → n < count
-    → IsServed net past b c start old count n → IsTurn net past b c start m e u 10 0 → IsServed net past b c start e count (n + 1)
-turn_served net past b c start old e m count n u k listed l s t = record {
-  going = t.going;
-  allocs = turn.allocs;
-  watching = λ g un x. watch g (t.watched g un x);
-  list = ap (λ (x : Marks). x.list.items) turn.same ∙ (ap (λ (v : _). v.items) k.list ∙ s.list);
-  fresh = each_order e.fired.items (λ g. is_lsq (kind_of net g.unit) ≡ true → (g.unit ≡ u) ⊎ (IsMarked m g.unit → ⊥)) (λ g. is_lsq (kind_of net g.unit) ≡ true → IsMarked e.marks g.unit → ⊥) (λ g h q x. fresh g (h q) (here g.unit x)) turn.fresh;
-  left = (let a = s.left in let f = k.fewer in let x = ap (λ (x : Marks). length x.queues.items) turn.same in omega arith);
-}
-  where
-    turn : IsQueueTurn net c m e u 10
-    turn = (let P : Bool → Type 0 = λ q. IsTurnOf q net c m e u 10 in subst P (marked_queue net old.marks u listed s.list k.was).0 t.of)
-
-    here : (v : ℕ) → IsMarked e.marks v → IsMarked m v
-    here v k = (let P : Marks → Type 0 = λ y. IsMarked y v in subst P turn.same k)
-
-    watch : (g : Firing) → IsMarked e.marks g.unit ⊎ ((g.unit ≡ u) × IsOpen 10 0 g.act) → IsMarked e.marks g.unit
-    watch g (inl k) = k
-    watch g (inr k) = absurd (by k.1)
-      where
-        by : IsOpen 10 0 g.act → ⊥
-        by (inl o) = let r = rank_most g.act in omega arith
-        by (inr o) = let r = rank_most g.act in let y = o.0 in omega arith
-
-    fresh : (g : Firing) → (g.unit ≡ u) ⊎ (IsMarked m g.unit → ⊥) → IsMarked m g.unit → ⊥
-    fresh g (inl z) x = (unmarked old.marks m u g.unit k.marked x).0 z
-    fresh g (inr f) x = f x
-
--- all queues had their turns
-pub served_full : (net : Net) (past : Past) (b : Bounds) (c : ℕ) (start : Dated) (e : Engine) (count n : ℕ) → count ≤ n → IsListed net e.marks → IsServed net past b c start e count n → IsFull net past b c start e
-served_full net past b c start e count n most listed s = record {
-  going = s.going;
-  full = λ g un m. (let h = (marked_queue net e.marks g.unit listed s.list (s.watching g un m)).1 in let w = h.within in let l = s.left in omega arith);
 }
 
 -- what a fault that is handed on says

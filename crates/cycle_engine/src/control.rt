@@ -1,7 +1,8 @@
 //! The channel on which the last control token to a control merge or a queue was put.
 
-ghost use Rattle.std.specs.Prelude.{◌≡◌, ◌<◌, IfSome, length};
-ghost use Rattle.cycle_engine.specs.private.Control.{place_from, control_after, end_from, leads_to_control_place, noted_place};
+ghost use Rattle.std.specs.Prelude.{◌≡◌, ◌<◌, IfSome, MatchOption, length};
+ghost use Rattle.net_types.specs.Nets.{into};
+ghost use Rattle.cycle_engine.specs.private.Control.{GoesIntoNone, place_from, control_after, end_from, leads_to_control_place, noted_place};
 
 use crate::places::control_places_of;
 use net_check::Checked;
@@ -17,21 +18,34 @@ fn leads_to_control_place(net: &Checked, chan: u32) -> bool
     chan.ctl && u64::from(chan.to.place) < control_places_of(net, chan.to.unit)
 }
 
-/// The channel that is noted after a token was put, where another was noted before.
+/// Notes the channel on which a token was put, where it leads control to such a place.
 #[inline(always)]
-pub(crate) fn control_after(net: &Checked, laid: Option<Laid>, noted: u32) -> u32
+pub(crate) fn note_control(noted: &mut u32, net: &Checked, laid: Option<Laid>)
     requires { IfSome laid (λ w. w.chan < length net.now.chans) }
-    ensures { result ≡ control_after net.now laid noted }
+    ensures { noted.new ≡ control_after net.now laid noted.old }
 {
-    match laid {
-        None => noted,
-        Some(laid) => {
-            if leads_to_control_place(net, laid.chan) {
-                laid.chan
-            } else {
-                noted
-            }
+    if let Some(laid) = laid {
+        if leads_to_control_place(net, laid.chan) {
+            *noted = laid.chan;
         }
+    }
+}
+
+/// The place of a control merge, of so many inputs, into which a channel goes, where it goes into one.
+#[inline(always)]
+pub(crate) fn input_of(net: &Checked, chan: u32, unit: u32, ins: u32) -> Option<u32>
+    ensures { MatchOption result (GoesIntoNone net.now chan unit ins)
+        (λ p. p < ins × chan < length net.now.chans × (chan ≡ into unit p net.now.chans)) }
+{
+    let chans = net.net().chans.as_slice();
+    if chan as usize >= chans.len() {
+        return None;
+    }
+    let end = chans[chan as usize].to;
+    if end.unit == unit && end.place < ins {
+        Some(end.place)
+    } else {
+        None
     }
 }
 

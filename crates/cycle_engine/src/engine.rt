@@ -7,7 +7,7 @@ ghost use Rattle.net_types.specs.Nets.{kind_of};
 ghost use Rattle.net_check.specs.Ends.{is_lsq};
 ghost use Rattle.net_core.specs.Fire.{idle};
 ghost use Rattle.net_core.specs.States.{IsOf, state_of};
-ghost use Rattle.cycle_engine.specs.private.Marking.{HasUnit, IsMarked, IsStarved, KeepsMarks, AreFeeds, entries_at};
+ghost use Rattle.cycle_engine.specs.private.Marking.{Holds, IsMarked, IsStarved, KeepsMarks, AreFeeds, entries_at};
 
 use crate::feeds::Feeds;
 use crate::freed::Freed;
@@ -50,6 +50,8 @@ pub(crate) struct Engine {
     pub feeds: Feeds,
     /// The channels that were full when the cycle began, and from which tokens were taken.
     pub freed: Freed,
+    /// The units of which one of the firings of the cycle may let another be made in the next, and maybe others.
+    pub again: Stack<u32>,
     /// The channel on which the last control token to a control merge or a queue was put.
     pub control: u32,
 }
@@ -68,6 +70,7 @@ impl Drop for Engine {
             notes: _notes,
             feeds: _feeds,
             freed: _freed,
+            again: _again,
             control: _control,
         } = self;
     }
@@ -140,6 +143,7 @@ impl Engine {
             notes,
             feeds,
             freed,
+            again: Stack::new(alloc, 0),
             control: 0,
         })
     }
@@ -160,6 +164,7 @@ impl Engine {
             notes: _notes,
             feeds: _feeds,
             freed: _freed,
+            again: _again,
             control: _control,
         } = self;
         (state, log)
@@ -180,18 +185,20 @@ impl Engine {
     {
         let _ = bounds;
         let _ = net.net();
-        let fired = self.fired.as_slice();
         settle(
             &mut self.marks,
             &mut self.begun,
             net,
             &self.state,
             &self.feeds,
-            fired,
+            self.again.as_slice(),
         )?;
         let freed = self.freed.list.as_slice();
         self.marks.mark_sources(net, &self.state, freed)?;
-        self.marks.mark_targets(net, self.notes.ripening(now))?;
+        let ripening = self.notes.ripening(now);
+        self.marks
+            .mark_targets(net, &self.feeds, &self.state, ripening)?;
+        self.again.clear();
         self.freed.clear();
         self.notes.clear(now);
         self.made += self.fired.len() as u64;
@@ -213,8 +220,7 @@ fn entries(net: &Checked, state: &State, unit: u32) -> u32
     }
 }
 
-/// Marks the units of firings that do not want a token at their first input, and notes how many entries their queues have. Of
-/// firings of one unit in a row the first does.
+/// Marks those of some units that do not want a token at their first input, and notes how many entries their queues have.
 ///
 /// # Errors
 ///
@@ -225,26 +231,22 @@ fn settle(
     net: &Checked,
     state: &State,
     feeds: &Feeds,
-    fired: &[Firing],
+    units: &[u32],
 ) -> Result<(), Memory>
     requires of { IsOf net.now state.now }
     requires feeds { AreFeeds net.now feeds.now }
     requires long { length begun.old.items ≡ length net.now.units }
     ensures kept { OnOk result (KeepsMarks marks.old marks.new) }
-    ensures marked { OnOk result ((u : ℕ) → HasUnit u fired.now
+    ensures marked { OnOk result ((u : ℕ) → Holds u units.now
         → (IsStarved net.now (state_of state.now) u → ⊥)
         → u < length marks.old.marked.items → IsMarked marks.new u) }
     ensures long { OnOk result (length begun.new.items ≡ length net.now.units) }
     ensures noted { OnOk result ((u : ℕ) → is_lsq (kind_of net.now u) ≡ true
-        → (get_or begun.old.items u 0 ≡ entries_at (state_of state.now) u) ⊎ HasUnit u fired.now
+        → (get_or begun.old.items u 0 ≡ entries_at (state_of state.now) u) ⊎ Holds u units.now
         → get_or begun.new.items u 0 ≡ entries_at (state_of state.now) u) }
 {
-    let mut last = None;
-    for firing in fired {
-        if last != Some(firing.unit) {
-            settle_unit(marks, begun, net, state, feeds, firing.unit)?;
-            last = Some(firing.unit);
-        }
+    for unit in units {
+        settle_unit(marks, begun, net, state, feeds, *unit)?;
     }
     Ok(())
 }

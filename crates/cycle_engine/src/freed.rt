@@ -70,12 +70,11 @@ impl Freed {
         self.marked[chan as usize]
     }
 
-    /// Marks a channel. It stands apart so that what marks none stays small.
+    /// Marks a channel.
     ///
     /// # Errors
     ///
     /// [`Memory`] where memory is wanting.
-    #[inline(never)]
     fn mark(&mut self, chan: u32) -> Result<(), Memory>
         ensures long { OnOk result
             (length self.new.marked.items ≡ length self.old.marked.items) }
@@ -100,6 +99,23 @@ impl Freed {
     /// [`Memory`] where memory is wanting.
     #[inline(always)]
     fn note_one(&mut self, state: &State, net: &Checked, chan: u32, now: u64) -> Result<(), Memory>
+        requires of { IsOf net.now state.now }
+        requires within { chan < length net.now.chans }
+        ensures { OnOk result (IsFreed net.now state.now now (chan ∷ []) self.old self.new) }
+    {
+        if state.is_full(net, chan) {
+            self.note_full(state, net, chan, now)?;
+        }
+        Ok(())
+    }
+
+    /// As [`Freed::note_one`]. It stands apart so that what takes from a channel that is not full stays small.
+    ///
+    /// # Errors
+    ///
+    /// [`Memory`] where memory is wanting.
+    #[inline(never)]
+    fn note_full(&mut self, state: &State, net: &Checked, chan: u32, now: u64) -> Result<(), Memory>
         requires of { IsOf net.now state.now }
         requires within { chan < length net.now.chans }
         ensures { OnOk result (IsFreed net.now state.now now (chan ∷ []) self.old self.new) }

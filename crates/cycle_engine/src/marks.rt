@@ -1,17 +1,14 @@
 //! The units that may fire in a cycle.
 
-ghost use Rattle.std.specs.Prelude.{◌≡◌, ◌≢◌, ℕ, ◌+◌, ◌<◌, ◌≤◌, ◌∷◌, [], true, false, IfOk, IfSome, OnOk, MatchOption, length, get_or, set};
-ghost use Rattle.std.specs.List.{AllByRecursion};
-ghost use Rattle.net_core.specs.Plans.{chans_of};
+ghost use Rattle.std.specs.Prelude.{◌≡◌, ℕ, ◌+◌, ◌<◌, ◌≤◌, true, false, IfOk, OnOk, MatchOption, length, get_or, set};
 ghost use Rattle.net_core.specs.States.{IsOf, state_of};
-ghost use Rattle.cycle_engine.specs.private.Marking.{Holds, IsMarked, IsListed, IsStarved, KeepsMarks, IsSourceMarked, IsMergeMarked, IsTargetMarked, IsPutMarked, IsRoused, AreFeeds, AreInto, IsTaken, IsTurnKind, IsEmptied, IsReordered, HasNoTurn, HasTurn};
+ghost use Rattle.cycle_engine.specs.private.Marking.{Holds, IsMarked, IsListed, IsStarved, KeepsMarks, IsSourceMarked, IsMergeMarked, IsTargetMarked, IsFedMarked, AreFeeds, IsTaken, IsTurnKind, IsEmptied, IsReordered, HasNoTurn, HasTurn};
 
-use crate::dates::delay_of;
 use crate::feeds::Feeds;
 use crate::places::{is_merge, is_starved};
 use crate::stack::Stack;
 use net_check::Checked;
-use net_core::{Laid, Moves, State, Taken};
+use net_core::State;
 use net_types::{Memory, Unit};
 use std::alloc::Global;
 
@@ -188,7 +185,7 @@ impl Marks {
     ///
     /// [`Memory`] where memory is wanting.
     #[inline(never)]
-    fn mark_merge(&mut self, net: &Checked, chan: u32) -> Result<(), Memory>
+    pub(crate) fn mark_merge(&mut self, net: &Checked, chan: u32) -> Result<(), Memory>
         ensures kept { OnOk result (KeepsMarks self.old self.new) }
         ensures marked { OnOk result
             (IsMergeMarked net.now (length self.old.marked.items) self.new chan) }
@@ -211,7 +208,7 @@ impl Marks {
     ///
     /// [`Memory`] where memory is wanting.
     #[inline(always)]
-    pub(crate) fn mark_fed(&mut self, net: &Checked, state: &State, unit: u32) -> Result<(), Memory>
+    fn mark_unit(&mut self, net: &Checked, state: &State, unit: u32) -> Result<(), Memory>
         requires { IsOf net.now state.now }
         ensures few { OnOk result
             (length self.new.list.items ≤ length self.old.list.items + 1) }
@@ -240,7 +237,7 @@ impl Marks {
     {
         let chans = net.net().chans.as_slice();
         if (chan as usize) < chans.len() {
-            self.mark_fed(net, state, chans[chan as usize].from.unit)?;
+            self.mark_unit(net, state, chans[chan as usize].from.unit)?;
         }
         Ok(())
     }
@@ -264,206 +261,84 @@ impl Marks {
         Ok(())
     }
 
-    /// Marks the control merges that put on two channels. It stands apart so that what marks none stays small.
-    ///
-    /// # Errors
-    ///
-    /// [`Memory`] where memory is wanting.
-    #[inline(never)]
-    fn mark_two_merges(&mut self, net: &Checked, c: u32, d: u32) -> Result<(), Memory>
-        ensures kept { OnOk result (KeepsMarks self.old self.new) }
-        ensures marked { OnOk result (AllByRecursion
-            (IsMergeMarked net.now (length self.old.marked.items) self.new) (c ∷ d ∷ [])) }
-        ensures few { OnOk result
-            (length self.new.list.items ≤ length self.old.list.items + 2) }
-    {
-        self.mark_merge(net, c)?;
-        self.mark_merge(net, d)?;
-        Ok(())
-    }
-
-    /// Marks the control merges that put on the channels into a unit from which it took tokens.
+    /// Marks the unit into which a channel of the net goes, where it wants no token beside it.
     ///
     /// # Errors
     ///
     /// [`Memory`] where memory is wanting.
     #[inline(always)]
-    fn mark_merged(
+    pub(crate) fn mark_fed(
         &mut self,
         net: &Checked,
         feeds: &Feeds,
-        unit: u32,
-        taken: Taken,
-    ) -> Result<(), Memory>
-        requires feeds { AreFeeds net.now feeds.now }
-        requires into { AreInto net.now unit (chans_of taken) }
-        ensures kept { OnOk result (KeepsMarks self.old self.new) }
-        ensures marked { OnOk result (AllByRecursion
-            (IsMergeMarked net.now (length self.old.marked.items) self.new) (chans_of taken)) }
-        ensures few { OnOk result
-            (length self.new.list.items ≤ length self.old.list.items + 3) }
-    {
-        if !feeds.is_merged(unit) {
-            return Ok(());
-        }
-        match taken {
-            Taken::None => Ok(()),
-            Taken::One(c) => self.mark_merge(net, c),
-            Taken::Two(c, d) => self.mark_two_merges(net, c, d),
-            Taken::Three(c, d, e) => {
-                self.mark_merge(net, c)?;
-                self.mark_two_merges(net, d, e)
-            }
-        }
-    }
-
-    /// Marks the units of which a firing of a unit that is no fork may let one fire in the cycle, by the tokens that it moved.
-    ///
-    /// # Errors
-    ///
-    /// [`Memory`] where memory is wanting.
-    #[inline(always)]
-    pub(crate) fn rouse(
-        &mut self,
-        net: &Checked,
-        feeds: &Feeds,
-        unit: u32,
-        moves: Moves,
-    ) -> Result<(), Memory>
-        requires feeds { AreFeeds net.now feeds.now }
-        requires into { AreInto net.now unit (chans_of moves.taken) }
-        requires within { IfSome moves.laid (λ w. w.chan < length net.now.chans) }
-        requires long { length self.old.marked.items ≡ length net.now.units }
-        ensures kept { OnOk result (KeepsMarks self.old self.new) }
-        ensures merges { OnOk result (AllByRecursion
-            (IsMergeMarked net.now (length self.old.marked.items) self.new)
-            (chans_of moves.taken)) }
-        ensures target { OnOk result
-            (IsPutMarked net.now moves.laid (length self.old.marked.items) self.new) }
-        ensures few { OnOk result
-            (length self.new.list.items ≤ length self.old.list.items + 4) }
-    {
-        self.mark_merged(net, feeds, unit, moves.taken)?;
-        self.mark_put(net, moves.laid)?;
-        Ok(())
-    }
-
-    /// Marks the units of which a firing of a fork may let one fire in the cycle, by the tokens that it moved and the state
-    /// after it: itself too where it took its head and has another.
-    ///
-    /// # Errors
-    ///
-    /// [`Memory`] where memory is wanting.
-    #[inline(always)]
-    pub(crate) fn rouse_fork(
-        &mut self,
-        net: &Checked,
         state: &State,
-        feeds: &Feeds,
-        unit: u32,
-        moves: Moves,
+        chan: u32,
     ) -> Result<(), Memory>
         requires of { IsOf net.now state.now }
         requires feeds { AreFeeds net.now feeds.now }
-        requires into { AreInto net.now unit (chans_of moves.taken) }
-        requires within { IfSome moves.laid (λ w. w.chan < length net.now.chans) }
+        requires within { chan < length net.now.chans }
         requires long { length self.old.marked.items ≡ length net.now.units }
         ensures kept { OnOk result (KeepsMarks self.old self.new) }
-        ensures roused { OnOk result (IsRoused net.now (state_of state.now) unit moves
-            (length self.old.marked.items) self.new) }
+        ensures marked { OnOk result (IsFedMarked net.now (state_of state.now)
+            (length self.old.marked.items) self.new chan) }
         ensures few { OnOk result
-            (length self.new.list.items ≤ length self.old.list.items + 5) }
+            (length self.new.list.items ≤ length self.old.list.items + 1) }
     {
-        self.mark_own(net, state, unit, moves.taken)?;
-        self.rouse(net, feeds, unit, moves)?;
+        if feeds.lacks(net, state, chan) {
+            return Ok(());
+        }
+        self.mark_target(net, chan)?;
         Ok(())
     }
 
-    /// Marks a unit that took tokens and does not want one at its first input.
+    /// Marks the unit into which a channel goes, where it is one of the net and its unit wants no token beside it.
     ///
     /// # Errors
     ///
     /// [`Memory`] where memory is wanting.
     #[inline(always)]
-    fn mark_own(
+    fn mark_ripe(
         &mut self,
         net: &Checked,
+        feeds: &Feeds,
         state: &State,
-        unit: u32,
-        taken: Taken,
+        chan: u32,
     ) -> Result<(), Memory>
-        requires { IsOf net.now state.now }
-        ensures kept { OnOk result (KeepsMarks self.old self.new) }
-        ensures marked { OnOk result (chans_of taken ≢ []
-            → (IsStarved net.now (state_of state.now) unit → ⊥)
-            → unit < length self.old.marked.items → IsMarked self.new unit) }
-        ensures few { OnOk result
-            (length self.new.list.items ≤ length self.old.list.items + 1) }
-    {
-        match taken {
-            Taken::None => Ok(()),
-            _ => {
-                self.mark_fed(net, state, unit)?;
-                Ok(())
-            }
-        }
-    }
-
-    /// Marks the unit into which a token was put without delay.
-    ///
-    /// # Errors
-    ///
-    /// [`Memory`] where memory is wanting.
-    #[inline(always)]
-    pub(crate) fn mark_put(&mut self, net: &Checked, laid: Option<Laid>) -> Result<(), Memory>
-        requires within { IfSome laid (λ w. w.chan < length net.now.chans) }
+        requires of { IsOf net.now state.now }
+        requires feeds { AreFeeds net.now feeds.now }
         requires long { length self.old.marked.items ≡ length net.now.units }
         ensures kept { OnOk result (KeepsMarks self.old self.new) }
-        ensures marked { OnOk result (IsPutMarked net.now laid
-            (length self.old.marked.items) self.new) }
-        ensures few { OnOk result
-            (length self.new.list.items ≤ length self.old.list.items + 1) }
+        ensures marked { OnOk result (IsFedMarked net.now (state_of state.now)
+            (length self.old.marked.items) self.new chan) }
     {
-        let Some(laid) = laid else {
-            return Ok(());
-        };
-        if delay_of(net, laid.chan) > 0 {
-            return Ok(());
-        }
-        self.mark_target(net, laid.chan)?;
-        Ok(())
-    }
-
-    /// Marks the unit into which a channel goes, where it is one of the net.
-    ///
-    /// # Errors
-    ///
-    /// [`Memory`] where memory is wanting.
-    #[inline(always)]
-    fn mark_target_of(&mut self, net: &Checked, chan: u32) -> Result<(), Memory>
-        ensures kept { OnOk result (KeepsMarks self.old self.new) }
-        ensures marked { OnOk result
-            (IsTargetMarked net.now (length self.old.marked.items) self.new chan) }
-    {
-        let chans = net.net().chans.as_slice();
-        if (chan as usize) < chans.len() {
-            self.mark(chans[chan as usize].to.unit)?;
+        if (chan as usize) < net.net().chans.as_slice().len() {
+            self.mark_fed(net, feeds, state, chan)?;
         }
         Ok(())
     }
 
-    /// Marks the units into which channels go.
+    /// Marks the units into which channels go, where they want no token beside them.
     ///
     /// # Errors
     ///
     /// [`Memory`] where memory is wanting.
-    pub(crate) fn mark_targets(&mut self, net: &Checked, chans: &[u32]) -> Result<(), Memory>
+    pub(crate) fn mark_targets(
+        &mut self,
+        net: &Checked,
+        feeds: &Feeds,
+        state: &State,
+        chans: &[u32],
+    ) -> Result<(), Memory>
+        requires of { IsOf net.now state.now }
+        requires feeds { AreFeeds net.now feeds.now }
+        requires long { length self.old.marked.items ≡ length net.now.units }
         ensures kept { OnOk result (KeepsMarks self.old self.new) }
         ensures marked { OnOk result ((d : ℕ) → Holds d chans.now
-            → IsTargetMarked net.now (length self.old.marked.items) self.new d) }
+            → IsFedMarked net.now (state_of state.now)
+            (length self.old.marked.items) self.new d) }
     {
         for chan in chans {
-            self.mark_target_of(net, *chan)?;
+            self.mark_ripe(net, feeds, state, *chan)?;
         }
         Ok(())
     }

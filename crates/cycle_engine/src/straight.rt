@@ -1,30 +1,31 @@
 //! Turns of units that are no queues: each kind by itself, with the channels at its first places looked up once.
 
-ghost use Rattle.std.specs.Prelude.{◌≡◌, ◌<◌, ◌≤◌, true, false, IfOk, IfSome, IsTrue, ◌↔◌, OnOk, MatchOption, MatchResult, get_or, length};
+ghost use Rattle.std.specs.Prelude.{◌≡◌, ◌≢◌, ◌+◌, ◌<◌, ◌≤◌, [], true, false, IfOk, IfSome, IsTrue, ◌↔◌, OnOk, MatchOption, MatchResult, get_or, length};
 ghost use Rattle.net_types.specs.declared.firing.Act.TheVariants as acts;
 ghost use Rattle.net_types.specs.declared.net.Unit.TheVariants as units;
-ghost use Rattle.net_types.specs.Nets.{kind_of, out_of, firing};
-ghost use Rattle.net_check.specs.Ends.{is_lsq};
+ghost use Rattle.net_types.specs.Nets.{kind_of, into, out_of, firing};
 ghost use Rattle.net_check.specs.Pins.{pins_of};
-ghost use Rattle.net_core.specs.Plans.{IsBranch, IsConstOf, IsForkOf, IsMuxOf, IsSelect, IsSink, admits, apart};
-ghost use Rattle.net_core.specs.States.{IsOf, IsPlanOf, cell_at, dates_of};
+ghost use Rattle.net_core.specs.Plans.{IsBranch, IsConstOf, IsForkOf, IsMuxOf, IsSelect, IsSink, admits, apart, chans_of};
+ghost use Rattle.net_core.specs.States.{IsOf, IsPlanOf, cell_at, dates_of, state_of};
 ghost use Rattle.net_core.specs.Uses.{is_fork};
-ghost use Rattle.cycle_engine.specs.Cycles.{Dated, May};
+ghost use Rattle.cycle_engine.specs.Cycles.{Dated, IsUnused, May};
+ghost use Rattle.cycle_engine.specs.declared.engine.Engine.{Engine as EngineValue};
 ghost use Rattle.cycle_engine.specs.declared.marks.Marks.{Marks as MarksValue};
 ghost use Rattle.cycle_engine.specs.private.Trials.{dated_of, RipeAt, IsBegun, IsEngine, IsPlanned};
-ghost use Rattle.cycle_engine.specs.private.Goings.{Past, IsReady, IsBegunIn, IsBroken, to_visit};
-ghost use Rattle.cycle_engine.specs.private.Marking.{is_merge};
-ghost use Rattle.cycle_engine.specs.private.Places.{IsOpenTurn, IsSent, IsTurn, IsTurnMade, moves_to};
+ghost use Rattle.cycle_engine.specs.private.Goings.{Past, IsReady, IsBegunIn, IsBroken, to_visit, with_marks};
+ghost use Rattle.cycle_engine.specs.private.Marking.{IsMarked, IsMergeMarked, IsStarved, KeepsMarks, asks_first};
+ghost use Rattle.cycle_engine.specs.private.Places.{HasSentOrTold, IsOpenTurn, IsSent, IsTurn, IsTurnMade, moves_to};
+ghost use Rattle.cycle_engine.specs.private.Used.{AreNumbered, AreTold, goes};
 
 use crate::broken::Broken;
+use crate::control::input_of;
 use crate::dates::is_ripe;
 use crate::engine::{Bounds, Engine};
 use crate::trial::Planned;
-use crate::turns::Froms;
 use el_base::{Op1, Op2};
 use net_check::{Checked, Pins};
 use net_core::{Laid, Moves, Plan, State, Taken, Takes, moves_at};
-use net_types::{Act, Firing, Unit};
+use net_types::{Act, Firing, Memory, Unit};
 
 /// Whether the head of a channel may be used in the cycle `now`; of no channel past those of the net.
 #[inline(always)]
@@ -68,6 +69,31 @@ fn moves_to(pins: Pins, chan: u32, plan: &Plan) -> Moves
     Moves { taken, laid }
 }
 
+/// The tokens that a firing of a control merge moves, by its plan and the channel into its input.
+#[inline(always)]
+fn moves_from(pins: Pins, chan: u32, plan: &Plan) -> Moves
+    ensures { result ≡ moves_to chan pins.out plan.now }
+{
+    let from = Pins {
+        first: chan,
+        ..pins
+    };
+    moves_to(from, pins.out, plan)
+}
+
+/// Whether tokens are taken from channels.
+#[inline(always)]
+fn takes(taken: Taken) -> bool
+    ensures { IsTrue result ↔ chans_of taken ≢ [] }
+{
+    match taken {
+        Taken::None => false,
+        Taken::One(_) => true,
+        Taken::Two(_, _) => true,
+        Taken::Three(_, _, _) => true,
+    }
+}
+
 impl Engine {
     /// What the firing of a unit does that has one place and may fire in the cycle, by its plan; `None` where it may not.
     #[inline(always)]
@@ -105,7 +131,8 @@ impl Engine {
         }
     }
 
-    /// Tries the place of a unit that has one, by its plan, and marks the units of which its firing may let one fire in the cycle.
+    /// Tries the place of a unit that has one, by its plan, where it has not fired, and marks the unit that its firing may let fire in
+    /// the cycle. Where the unit has another token at its first input, or `asks` is false, it is to be looked at again in the next.
     ///
     /// # Errors
     ///
@@ -119,11 +146,14 @@ impl Engine {
         pins: Pins,
         plan: Option<Plan>,
         now: u64,
+        asks: bool,
     ) -> Result<(), Broken>
         requires ready { IsReady net.now bounds self.old }
         requires pins { pins ≡ pins_of unit net.now.chans }
-        requires plain { is_lsq (kind_of net.now unit) ≡ false }
-        requires straight { is_fork (kind_of net.now unit) ≡ false }
+        requires within { unit < length net.now.units }
+        requires goes { goes (kind_of net.now unit) ≡ true }
+        requires asks { asks ≡ true → asks_first (kind_of net.now unit) ≡ true }
+        requires unused { IsUnused self.old.fired.items (firing unit acts.Go) }
         requires apart { IfSome plan (λ p. apart p.takes ≡ true) }
         requires admits { IfSome plan
             (λ p. admits (cell_at self.old.state unit) p.change ≡ true) }
@@ -135,9 +165,46 @@ impl Engine {
             return Ok(());
         };
         let firing = Firing { unit, act: Act::Go };
-        if self.fire(net, bounds, firing, planned, now)? {
-            self.marks.rouse(net, &self.feeds, unit, planned.moves)?;
+        self.fire(net, bounds, firing, u64::from(unit), planned, now, true)?;
+        if !asks || self.state.head(net, pins.first).is_some() {
+            self.again.push(unit)?;
         }
+        Ok(())
+    }
+
+    /// Whether a unit that has one place has fired in the cycle.
+    #[inline(always)]
+    fn has_gone(&self, net: &Checked, unit: u32) -> bool
+        requires told { AreTold net.now self.now.used self.now.made self.now.fired.items }
+        requires numbers { AreNumbered net.now self.now.used.base.items
+            (length self.now.used.last.items) }
+        requires within { unit < length net.now.units }
+        requires goes { goes (kind_of net.now unit) ≡ true }
+        ensures used { result ≡ true
+            → IsUnused self.now.fired.items (firing unit acts.Go) → ⊥ }
+        ensures unused { result ≡ false
+            → IsUnused self.now.fired.items (firing unit acts.Go) }
+    {
+        self.is_used(net, Firing { unit, act: Act::Go }, u64::from(unit))
+    }
+
+    /// Notes that a unit, whose one place has fired, is to be looked at again in the next cycle. It stands apart so that what tries a
+    /// place that has not fired stays small.
+    ///
+    /// # Errors
+    ///
+    /// [`Memory`] where memory is wanting.
+    #[inline(never)]
+    fn wait(&mut self, net: &Checked, bounds: Bounds, unit: u32, now: u64) -> Result<(), Broken>
+        requires ready { IsReady net.now bounds self.old }
+        requires goes { goes (kind_of net.now unit) ≡ true }
+        requires used { IsUnused self.old.fired.items (firing unit acts.Go) → ⊥ }
+        ensures { IsTurnMade net.now bounds now unit 0 1 self.old self.new result }
+    {
+        let _ = net.net();
+        let _ = bounds;
+        let _ = now;
+        self.again.push(unit)?;
         Ok(())
     }
 
@@ -162,8 +229,11 @@ impl Engine {
         requires pins { pins ≡ pins_of unit net.now.chans }
         ensures { IsTurnMade net.now bounds now unit 0 1 self.old self.new result }
     {
+        if self.has_gone(net, unit) {
+            return self.wait(net, bounds, unit, now);
+        }
         let plan = self.state.plan_const_at(net, unit, value, pins);
-        self.go(net, bounds, unit, pins, plan, now)
+        self.go(net, bounds, unit, pins, plan, now, true)
     }
 
     /// Tries the place of an operation on one pattern.
@@ -187,8 +257,11 @@ impl Engine {
         requires pins { pins ≡ pins_of unit net.now.chans }
         ensures { IsTurnMade net.now bounds now unit 0 1 self.old self.new result }
     {
+        if self.has_gone(net, unit) {
+            return self.wait(net, bounds, unit, now);
+        }
         let plan = self.state.plan_op1_at(net, unit, op, pins);
-        self.go(net, bounds, unit, pins, plan, now)
+        self.go(net, bounds, unit, pins, plan, now, true)
     }
 
     /// Tries the place of an operation on two patterns.
@@ -212,8 +285,11 @@ impl Engine {
         requires pins { pins ≡ pins_of unit net.now.chans }
         ensures { IsTurnMade net.now bounds now unit 0 1 self.old self.new result }
     {
+        if self.has_gone(net, unit) {
+            return self.wait(net, bounds, unit, now);
+        }
         let plan = self.state.plan_op2_at(net, unit, op, pins);
-        self.go(net, bounds, unit, pins, plan, now)
+        self.go(net, bounds, unit, pins, plan, now, true)
     }
 
     /// Tries the place of a select.
@@ -236,8 +312,11 @@ impl Engine {
         requires pins { pins ≡ pins_of unit net.now.chans }
         ensures { IsTurnMade net.now bounds now unit 0 1 self.old self.new result }
     {
+        if self.has_gone(net, unit) {
+            return self.wait(net, bounds, unit, now);
+        }
         let plan = self.state.plan_select_at(net, unit, pins);
-        self.go(net, bounds, unit, pins, plan, now)
+        self.go(net, bounds, unit, pins, plan, now, true)
     }
 
     /// Tries the place of a mux.
@@ -261,8 +340,11 @@ impl Engine {
         requires pins { pins ≡ pins_of unit net.now.chans }
         ensures { IsTurnMade net.now bounds now unit 0 1 self.old self.new result }
     {
+        if self.has_gone(net, unit) {
+            return self.wait(net, bounds, unit, now);
+        }
         let plan = self.state.plan_mux_at(net, unit, ins, pins);
-        self.go(net, bounds, unit, pins, plan, now)
+        self.go(net, bounds, unit, pins, plan, now, true)
     }
 
     /// Tries the place of a branch.
@@ -285,8 +367,11 @@ impl Engine {
         requires pins { pins ≡ pins_of unit net.now.chans }
         ensures { IsTurnMade net.now bounds now unit 0 1 self.old self.new result }
     {
+        if self.has_gone(net, unit) {
+            return self.wait(net, bounds, unit, now);
+        }
         let plan = self.state.plan_branch_at(net, unit, pins);
-        self.go(net, bounds, unit, pins, plan, now)
+        self.go(net, bounds, unit, pins, plan, now, true)
     }
 
     /// Tries the place of a sink.
@@ -309,8 +394,11 @@ impl Engine {
         requires pins { pins ≡ pins_of unit net.now.chans }
         ensures { IsTurnMade net.now bounds now unit 0 1 self.old self.new result }
     {
+        if self.has_gone(net, unit) {
+            return self.wait(net, bounds, unit, now);
+        }
         let plan = self.state.plan_sink_at(net, unit, pins);
-        self.go(net, bounds, unit, pins, plan, now)
+        self.go(net, bounds, unit, pins, plan, now, true)
     }
 
     /// Tries the place of a read.
@@ -334,8 +422,11 @@ impl Engine {
         requires pins { pins ≡ pins_of unit net.now.chans }
         ensures { IsTurnMade net.now bounds now unit 0 1 self.old self.new result }
     {
+        if self.has_gone(net, unit) {
+            return self.wait(net, bounds, unit, now);
+        }
         let plan = self.state.plan_read_at(net, unit, array, pins);
-        self.go(net, bounds, unit, pins, plan, now)
+        self.go(net, bounds, unit, pins, plan, now, true)
     }
 
     /// Tries the place of a unit that fires once in a run: an entry, a parameter or the exit.
@@ -356,13 +447,15 @@ impl Engine {
         requires ready { IsReady net.now bounds self.old }
         requires within { unit < length net.now.units }
         requires kind { kind.now ≡ kind_of net.now unit }
-        requires plain { is_lsq kind.now ≡ false }
-        requires straight { is_fork kind.now ≡ false }
+        requires goes { goes kind.now ≡ true }
         requires pins { pins ≡ pins_of unit net.now.chans }
         ensures { IsTurnMade net.now bounds now unit 0 1 self.old self.new result }
     {
+        if self.has_gone(net, unit) {
+            return self.wait(net, bounds, unit, now);
+        }
         let plan = self.state.plan_go_at(net, unit, kind, pins);
-        self.go(net, bounds, unit, pins, plan, now)
+        self.go(net, bounds, unit, pins, plan, now, false)
     }
 
     /// What the sending of a fork to an output does that may be made in the cycle, where the head of the fork is ripe; `None` where it
@@ -406,6 +499,8 @@ impl Engine {
 
     /// Tries the sending of a fork, whose head is ripe, to an output, and marks the units of which it may let one fire in the cycle.
     /// It tells whether the head was taken, after which no place of the fork is left to be tried: it is marked where it has another.
+    /// Where the output has fired in the cycle, the fork is to be looked at again in the next. `base` is the number before those of
+    /// its outputs.
     ///
     /// # Errors
     ///
@@ -418,6 +513,7 @@ impl Engine {
         unit: u32,
         outs: u32,
         out: u32,
+        base: u64,
         pins: Pins,
         chan: u32,
         now: u64,
@@ -425,13 +521,19 @@ impl Engine {
         requires ready { IsReady net.now bounds self.old }
         requires within { unit < length net.now.units }
         requires fork { IsForkOf outs (kind_of net.now unit) }
+        requires out { out < outs }
+        requires base { base ≡ get_or self.old.used.base.items unit 0 }
         requires pins { pins ≡ pins_of unit net.now.chans }
         requires there { chan ≡ out_of unit out net.now.chans }
         requires ripe { RipeAt net.now now (dates_of self.old.state) pins.first }
         ensures ready { OnOk result (IsReady net.now bounds self.new) }
         ensures less { OnOk result (to_visit bounds self.new ≤ to_visit bounds self.old) }
+        ensures base { OnOk result (self.new.used.base ≡ self.old.used.base) }
         ensures kept { IfOk result (λ took. took ≡ false
             → RipeAt net.now now (dates_of self.new.state) pins.first) }
+        ensures told { IfOk result (λ took. took ≡ false → (first : EngineValue)
+            → HasSentOrTold net.now first self.old unit out
+            → HasSentOrTold net.now first self.new unit (out + 1)) }
         ensures tried { (past : Past) (start : Dated) (marks : MarksValue)
             → IsTurn net.now past bounds now start marks self.old unit 2 out
             → MatchResult result
@@ -439,30 +541,58 @@ impl Engine {
             (IsBroken net.now past.inputs bounds) }
     {
         let _ = net.net();
-        let Some(planned) = self.may_send(net, unit, outs, out, pins, chan, now) else {
-            return Ok(false);
-        };
         let firing = Firing {
             unit,
             act: Act::Send(out),
         };
-        if !self.fire(net, bounds, firing, planned, now)? {
+        let at = base + 1 + u64::from(out);
+        if self.is_used(net, firing, at) {
+            self.again.push(unit)?;
             return Ok(false);
         }
-        match planned.moves.taken {
-            Taken::None => {
-                self.marks.mark_put(net, planned.moves.laid)?;
-                Ok(false)
-            }
-            _ => {
-                self.marks
-                    .rouse_fork(net, &self.state, &self.feeds, unit, planned.moves)?;
-                Ok(true)
-            }
+        let Some(planned) = self.may_send(net, unit, outs, out, pins, chan, now) else {
+            return Ok(false);
+        };
+        let taken = planned.moves.taken;
+        let full = takes(taken) && self.state.is_full(net, pins.first);
+        self.fire(net, bounds, firing, at, planned, now, true)?;
+        if takes(taken) {
+            self.rouse_fork(net, unit, pins, full)?;
         }
+        Ok(takes(taken))
     }
 
-    /// Tries the sendings of a fork, where its head is ripe.
+    /// Marks a fork that took its head, where it has another, and the control merge that puts on the channel from which it took, where
+    /// that was full.
+    ///
+    /// # Errors
+    ///
+    /// [`Memory`] where memory is wanting.
+    #[inline(always)]
+    fn rouse_fork(&mut self, net: &Checked, unit: u32, pins: Pins, full: bool) -> Result<(), Memory>
+        requires of { IsOf net.now self.old.state }
+        requires fork { is_fork (kind_of net.now unit) ≡ true }
+        requires pins { pins ≡ pins_of unit net.now.chans }
+        ensures rest { OnOk result (self.new ≡ with_marks self.old self.new.marks) }
+        ensures kept { OnOk result (KeepsMarks self.old.marks self.new.marks) }
+        ensures own { OnOk result ((IsStarved net.now (state_of self.old.state) unit → ⊥)
+            → unit < length self.old.marks.marked.items → IsMarked self.new.marks unit) }
+        ensures merge { OnOk result (full ≡ true → IsMergeMarked net.now
+            (length self.old.marks.marked.items) self.new.marks pins.first) }
+        ensures few { OnOk result
+            (length self.new.marks.list.items ≤ length self.old.marks.list.items + 2) }
+    {
+        if self.state.head(net, pins.first).is_some() {
+            self.marks.mark(unit)?;
+        }
+        if full {
+            self.marks.mark_merge(net, pins.first)?;
+        }
+        Ok(())
+    }
+
+    /// Tries the sendings of a fork, where its head is ripe. Where it sent, or an output has fired in the cycle, and its head was not
+    /// taken, it is to be looked at again in the next.
     ///
     /// # Errors
     ///
@@ -485,41 +615,145 @@ impl Engine {
         if !has_ripe_head(&self.state, net, pins.first, now) {
             return Ok(());
         }
+        let before = self.fired.len();
+        let base = self.used.base(unit);
         let chans = net.outs_of(unit);
         for out in 0..outs {
             let chan = listed(net, chans, out);
-            if self.send(net, bounds, unit, outs, out, pins, chan, now)? {
+            if self.send(net, bounds, unit, outs, out, base, pins, chan, now)? {
                 return Ok(());
             }
+        }
+        if self.fired.len() > before {
+            self.again.push(unit)?;
         }
         Ok(())
     }
 
-    /// Tries the places of a control merge, where a token lies on the channel that is noted for control.
+    /// What a control merge does that takes from its input, into which the channel that is noted for control goes, and may fire in the
+    /// cycle; `None` where it may not.
+    #[inline(always)]
+    fn may_from(
+        &self,
+        net: &Checked,
+        unit: u32,
+        ins: u32,
+        input: u32,
+        pins: Pins,
+        now: u64,
+    ) -> Option<Planned>
+        requires engine { IsEngine net.now self.now }
+        requires long { length self.now.freed.marked.items ≡ length net.now.chans }
+        requires within { unit < length net.now.units }
+        requires kind { kind_of net.now unit ≡ units.Cmerge ins }
+        requires input { input < ins }
+        requires into { self.now.control ≡ into unit input net.now.chans }
+        requires pins { pins ≡ pins_of unit net.now.chans }
+        ensures planned { IfSome result
+            (IsPlanned net.now self.now (firing unit (acts.From input))) }
+        ensures may { (start : Dated) → IsBegun net.now now start self.now → MatchOption result
+            (May net.now now start (dated_of self.now) (firing unit (acts.From input)) → ⊥)
+            (λ p. May net.now now start (dated_of self.now) (firing unit (acts.From input))) }
+    {
+        let chan = self.control;
+        let plan = self.state.plan_from_at(net, unit, ins, input, chan)?;
+        let planned = Planned {
+            plan,
+            moves: moves_from(pins, chan, &plan),
+        };
+        let firing = Firing {
+            unit,
+            act: Act::From(input),
+        };
+        if self.allows(net, firing, &planned, now) {
+            Some(planned)
+        } else {
+            None
+        }
+    }
+
+    /// Tries the place of a control merge into which the channel that is noted for control goes, where that has a ripe token. Where the
+    /// merge did not fire, or another control token is there, it is to be looked at again in the next cycle.
     ///
     /// # Errors
     ///
     /// As [`Engine::fire`].
-    #[inline(always)]
     fn froms(
         &mut self,
         net: &Checked,
         bounds: Bounds,
         unit: u32,
-        kind: &Unit,
+        ins: u32,
+        pins: Pins,
         now: u64,
     ) -> Result<(), Broken>
         requires ready { IsReady net.now bounds self.old }
         requires within { unit < length net.now.units }
-        requires kind { kind.now ≡ kind_of net.now unit }
-        requires merge { is_merge kind.now ≡ true }
+        requires kind { kind_of net.now unit ≡ units.Cmerge ins }
+        requires pins { pins ≡ pins_of unit net.now.chans }
         ensures { IsTurnMade net.now bounds now unit 1 2 self.old self.new result }
     {
         let _ = net.net();
-        if self.state.head(net, self.control).is_none() {
+        let chan = self.control;
+        let Some(input) = input_of(net, chan, unit, ins) else {
+            return Ok(());
+        };
+        if !has_ripe_head(&self.state, net, chan, now) {
             return Ok(());
         }
-        self.steps::<Froms>(net, bounds, unit, kind, Act::From(0), now)
+        if self.fires_from(net, bounds, unit, ins, input, pins, now)?
+            && self.state.head(net, self.control).is_none()
+        {
+            return Ok(());
+        }
+        self.again.push(unit)?;
+        Ok(())
+    }
+
+    /// Tries the place of a control merge into which the channel that is noted for control goes, and tells whether it fired.
+    ///
+    /// # Errors
+    ///
+    /// As [`Engine::fire`].
+    #[inline(always)]
+    fn fires_from(
+        &mut self,
+        net: &Checked,
+        bounds: Bounds,
+        unit: u32,
+        ins: u32,
+        input: u32,
+        pins: Pins,
+        now: u64,
+    ) -> Result<bool, Broken>
+        requires ready { IsReady net.now bounds self.old }
+        requires within { unit < length net.now.units }
+        requires kind { kind_of net.now unit ≡ units.Cmerge ins }
+        requires input { input < ins }
+        requires into { self.old.control ≡ into unit input net.now.chans }
+        requires pins { pins ≡ pins_of unit net.now.chans }
+        ensures ready { OnOk result (IsReady net.now bounds self.new) }
+        ensures less { OnOk result (to_visit bounds self.new ≤ to_visit bounds self.old) }
+        ensures tried { (past : Past) (start : Dated) (marks : MarksValue)
+            → IsTurn net.now past bounds now start marks self.old unit 1 0
+            → MatchResult result
+            (λ did. IsTurn net.now past bounds now start marks self.new unit 2 0)
+            (IsBroken net.now past.inputs bounds) }
+    {
+        let _ = net.net();
+        let firing = Firing {
+            unit,
+            act: Act::From(input),
+        };
+        let at = self.used.number(firing);
+        if self.is_used(net, firing, at) {
+            return Ok(false);
+        }
+        let Some(planned) = self.may_from(net, unit, ins, input, pins, now) else {
+            return Ok(false);
+        };
+        self.fire(net, bounds, firing, at, planned, now, true)?;
+        Ok(true)
     }
 
     /// Tries the places of a unit whose mark was taken, where it is no queue.
@@ -561,7 +795,7 @@ impl Engine {
             Unit::Param(_) => self.go_once(net, bounds, unit, kind, pins, now),
             Unit::Exit => self.go_once(net, bounds, unit, kind, pins, now),
             Unit::Fork { outs, .. } => { self.sends(net, bounds, unit, *outs, pins, now) }
-            Unit::Cmerge { .. } => self.froms(net, bounds, unit, kind, now),
+            Unit::Cmerge { ins } => self.froms(net, bounds, unit, *ins, pins, now),
             Unit::Lsq { .. } => Ok(()),
         }
     }

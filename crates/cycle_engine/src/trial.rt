@@ -1,28 +1,31 @@
 //! One firing is tried.
 
-ghost use Rattle.std.specs.Prelude.{◌≡◌, ◌↔◌, ◌+◌, ◌<◌, ◌^◌, ◌∷◌, ◌++◌, [], Some, is_some, true, false, IsTrue, IfSome, IfOk, OnOk, MatchOption, length, get_or};
+ghost use Rattle.std.specs.Prelude.{◌≡◌, ◌↔◌, ◌+◌, ◌<◌, ◌≤◌, ◌^◌, ◌∷◌, ◌++◌, [], Some, true, false, IsTrue, IfSome, IfOk, OnOk, MatchOption, length, get_or};
 ghost use Rattle.el_base.specs.Limits.{max_depth};
-ghost use Rattle.net_types.specs.Nets.{firing, kind_of};
+ghost use Rattle.net_types.specs.Nets.{kind_of};
 ghost use Rattle.net_types.specs.declared.firing.Act.TheVariants as acts;
 ghost use Rattle.net_core.specs.Plans.{apart, admits, chans_of, moves_of};
 ghost use Rattle.net_core.specs.States.{IsOf, IsPlanOf, CountsWithin, CountsRise, cell_at, state_of};
 ghost use Rattle.net_replay.specs.Finishes.{IsLogged};
-ghost use Rattle.cycle_engine.specs.Cycles.{Dated, May, IsUnused, place_of, after_in};
+ghost use Rattle.cycle_engine.specs.Cycles.{Dated, May, IsUnused, after_in};
 ghost use Rattle.cycle_engine.specs.private.Trials.{dated_of, HadRoom, IsPlanned, HasRoomNow, HadDepth, Allowed, IsBegun, IsEngine};
 ghost use Rattle.net_core.specs.Uses.{is_fork};
-ghost use Rattle.cycle_engine.specs.private.Goings.{Past, IsReady, InCycle, MayFollow, IsTried, IsBroken, IsMore, after_where};
-ghost use Rattle.cycle_engine.specs.private.Marking.{IsFreed, IsNoted};
+ghost use Rattle.cycle_engine.specs.private.Goings.{Past, IsReady, InCycle, MayFollow, IsMade, IsTried, IsBroken, IsGrown, IsMore, all_made};
+ghost use Rattle.cycle_engine.specs.private.Marking.{AreFeeds, IsFreed, IsMarkedWhere, IsNoted};
 ghost use Rattle.cycle_engine.specs.private.Control.{control_after};
-ghost use Rattle.cycle_engine.specs.private.Used.{AreTold, IsPlaceIn, IsUnusedFrom};
+ghost use Rattle.cycle_engine.specs.private.Used.{AreNumbered, AreTold, HasPlace, IsStamped, place_number};
 ghost use Rattle.std.specs.Prelude.{MatchResult};
 
 use crate::broken::Broken;
-use crate::control::control_after;
-use crate::dates::are_ripe;
+use crate::control::note_control;
+use crate::dates::{are_ripe, delay_of};
 use crate::engine::{Bounds, Engine};
+use crate::feeds::Feeds;
+use crate::marks::Marks;
+use crate::notes::Notes;
 use el_base::Log;
 use net_check::Checked;
-use net_core::{Laid, Moves, Plan, moves_of};
+use net_core::{Laid, Moves, Plan, State, moves_of};
 use net_types::{Act, Firing, List, Memory, Unit};
 
 /// What a firing does, and the tokens that it moves.
@@ -94,28 +97,6 @@ fn had_room_for(begun: &[u32], net: &Checked, unit: u32, group: u32) -> bool
     }
 }
 
-/// The firing by whose place it is known whether it has fired: all executions of a queue have one place.
-#[inline(always)]
-fn place(firing: Firing) -> Firing
-    ensures { result ≡ place_of firing }
-{
-    match firing.act {
-        Act::Exec(_) => Firing {
-            unit: firing.unit,
-            act: Act::Exec(0),
-        },
-        _ => firing,
-    }
-}
-
-/// Whether two firings are at one place.
-#[inline(always)]
-fn same_place(first: Firing, second: Firing) -> bool
-    ensures { IsTrue result ↔ (place_of first ≡ place_of second) }
-{
-    place(first) == place(second)
-}
-
 /// Adds a firing to the log where it is kept.
 #[inline(always)]
 fn note(log: &mut Log<Firing>, keep: bool, firing: Firing)
@@ -127,49 +108,60 @@ fn note(log: &mut Log<Firing>, keep: bool, firing: Firing)
     }
 }
 
-impl Engine {
-    /// Whether a firing of the cycle, from a number on, is at the place of a firing.
-    #[inline(never)]
-    fn is_from(&self, first: usize, firing: Firing) -> bool
-        ensures used { result ≡ true → IsUnused self.now.fired.items firing → ⊥ }
-        ensures unused { result ≡ false → IsUnusedFrom self.now.fired.items firing first }
-    {
-        let fired = self.fired.as_slice();
-        for at in first..fired.len() {
-            if same_place(fired[at], firing) {
-                return true;
-            }
-        }
-        false
+/// Notes when a token ripens that was put in the cycle `now`, or marks the unit into which it was put without delay, where `rouses`
+/// is true.
+///
+/// # Errors
+///
+/// [`Memory`] where memory is wanting.
+#[inline(always)]
+fn tell(
+    marks: &mut Marks,
+    notes: &mut Notes,
+    feeds: &Feeds,
+    net: &Checked,
+    state: &State,
+    laid: Option<Laid>,
+    now: u64,
+    rouses: bool,
+) -> Result<(), Memory>
+    requires of { IsOf net.now state.now }
+    requires feeds { AreFeeds net.now feeds.now }
+    requires cells { length notes.old.coming.items ≡ 1024 }
+    requires long { length marks.old.marked.items ≡ length net.now.units }
+    requires within { IfSome laid (λ w. w.chan < length net.now.chans) }
+    ensures notes { OnOk result (IsNoted net.now laid now notes.old notes.new) }
+    ensures marks { OnOk result
+        (IsMarkedWhere rouses net.now (state_of state.now) laid marks.old marks.new) }
+    ensures few { OnOk result
+        (length marks.new.list.items ≤ length marks.old.list.items + 1) }
+{
+    let Some(laid) = laid else {
+        return Ok(());
+    };
+    if delay_of(net, laid.chan) > 0 {
+        notes.note(net, Some(laid), now)?;
+    } else if rouses {
+        marks.mark_fed(net, feeds, state, laid.chan)?;
     }
+    Ok(())
+}
 
-    /// Whether the place of a firing has fired in the cycle. It costs one step where it has not, and where the firing that is
-    /// told as the last at the place is at the place.
+impl Engine {
+    /// Whether the place of a firing, whose number is told, has fired in the cycle.
     #[inline(always)]
-    fn is_used(&self, firing: Firing, place: Option<usize>) -> bool
-        requires told { AreTold self.now.used self.now.made self.now.fired.items }
-        requires within { firing.unit < length self.now.used.last.items }
-        requires place { IsPlaceIn self.now.used firing place }
+    pub(crate) fn is_used(&self, net: &Checked, firing: Firing, at: u64) -> bool
+        requires told { AreTold net.now self.now.used self.now.made self.now.fired.items }
+        requires numbers { AreNumbered net.now self.now.used.base.items
+            (length self.now.used.last.items) }
+        requires place { HasPlace net.now firing }
+        requires at { at ≡ place_number self.now.used.base.items firing }
         ensures used { result ≡ true → IsUnused self.now.fired.items firing → ⊥ }
         ensures unused { result ≡ false → IsUnused self.now.fired.items firing }
     {
-        if self.used.has_not_fired(firing, place, self.made) {
-            return false;
-        }
-        self.is_listed(firing.unit, firing.act)
-    }
-
-    /// Whether the place of a firing, by its unit and its act, is among the places of the cycle's firings: that of the firing which
-    /// is told as the last there is looked at first. It stands apart, and takes the parts of the firing, so that what asks first
-    /// needs no memory for it.
-    #[inline(never)]
-    fn is_listed(&self, unit: u32, act: Act) -> bool
-        requires within { unit < length self.now.used.last.items }
-        ensures used { result ≡ true → IsUnused self.now.fired.items (firing unit act) → ⊥ }
-        ensures unused { result ≡ false → IsUnused self.now.fired.items (firing unit act) }
-    {
-        let firing = Firing { unit, act };
-        self.is_from(self.used.told(firing, self.made), firing) || self.is_from(0, firing)
+        let _ = net;
+        let _ = firing;
+        self.used.has_fired(at, self.made)
     }
 
     /// Whether there is room for the token that a firing puts, and was where the cycle began.
@@ -234,7 +226,8 @@ impl Engine {
         }
     }
 
-    /// Makes a planned firing in the cycle.
+    /// Makes a planned firing in the cycle, whose place has this number. Where `rouses` is true it marks the unit into which the
+    /// firing puts without delay, unless the unit wants a token beside.
     ///
     /// # Errors
     ///
@@ -244,10 +237,11 @@ impl Engine {
         &mut self,
         net: &Checked,
         firing: Firing,
-        place: Option<usize>,
+        at: u64,
         planned: Planned,
         keep: bool,
         now: u64,
+        rouses: bool,
     ) -> Result<(), Memory>
         requires engine { IsEngine net.now self.old }
         requires planned { IsPlanned net.now self.old firing planned }
@@ -255,12 +249,11 @@ impl Engine {
         requires log { keep ≡ true → 0 < self.old.log.room }
         requires cells { length self.old.notes.coming.items ≡ 1024 }
         requires few { self.old.made + length self.old.fired.items < 2 ^ 63 }
-        requires told { AreTold self.old.used self.old.made self.old.fired.items }
-        requires place { IsPlaceIn self.old.used firing place }
-        ensures told { OnOk result
-            (AreTold self.new.used self.new.made self.new.fired.items) }
-        ensures places { OnOk result
-            (length self.new.used.last.items ≡ length self.old.used.last.items) }
+        requires feeds { AreFeeds net.now self.old.feeds }
+        requires long { length self.old.marks.marked.items ≡ length net.now.units }
+        requires within { at < length self.old.used.last.items }
+        ensures stamped { OnOk result (IsStamped at
+            (self.old.made + length self.old.fired.items) self.old.used self.new.used) }
         ensures engine { OnOk result (IsEngine net.now self.new) }
         ensures after { OnOk result
             (dated_of self.new ≡ after_in net.now now (dated_of self.old) firing) }
@@ -270,7 +263,11 @@ impl Engine {
             (self.new.fired.items ≡ self.old.fired.items ++ firing ∷ []) }
         ensures begun { OnOk result (self.new.begun ≡ self.old.begun) }
         ensures made { OnOk result (self.new.made ≡ self.old.made) }
-        ensures marks { OnOk result (self.new.marks ≡ self.old.marks) }
+        ensures again { OnOk result (self.new.again ≡ self.old.again) }
+        ensures marks { OnOk result (IsMarkedWhere rouses net.now
+            (state_of self.new.state) planned.moves.laid self.old.marks self.new.marks) }
+        ensures list { OnOk result
+            (length self.new.marks.list.items ≤ length self.old.marks.list.items + 1) }
         ensures feeds { OnOk result (self.new.feeds ≡ self.old.feeds) }
         ensures notes { OnOk result
             (IsNoted net.now planned.moves.laid now self.old.notes self.new.notes) }
@@ -280,63 +277,80 @@ impl Engine {
             ≡ control_after net.now planned.moves.laid self.old.control) }
         ensures log { OnOk result (IsLogged keep (firing ∷ []) self.old.log self.new.log) }
     {
-        let count = self.made + self.fired.len() as u64;
-        self.used.note(firing, place, self.made, count);
-        self.fired.push(firing)?;
         let moves = planned.moves;
+        let count = self.made + self.fired.len() as u64;
         self.freed.note(&self.state, net, moves.taken, now)?;
-        self.control = control_after(net, moves.laid, self.control);
-        self.notes.note(net, moves.laid, now)?;
         self.state.make_dated(net, firing, planned.plan, moves, now);
+        self.used.stamp(at, count);
+        self.fired.push(firing)?;
+        note_control(&mut self.control, net, moves.laid);
         note(&mut self.log, keep, firing);
-        Ok(())
+        tell(
+            &mut self.marks,
+            &mut self.notes,
+            &self.feeds,
+            net,
+            &self.state,
+            moves.laid,
+            now,
+            rouses,
+        )
     }
 
-    /// Makes a firing that may be made in the cycle, where its place has not fired, and tells whether it did.
+    /// Makes a firing that may be made in the cycle, whose place has not fired and has this number. It marks as it is told.
     ///
     /// # Errors
     ///
-    /// `Limit` where it is to be made and as many firings as the limit allows are made. `Memory` where memory is wanting.
+    /// `Limit` where as many firings as the limit allows are made. `Memory` where memory is wanting.
     #[inline(always)]
     pub(crate) fn fire(
         &mut self,
         net: &Checked,
         bounds: Bounds,
         firing: Firing,
+        at: u64,
         planned: Planned,
         now: u64,
-    ) -> Result<bool, Broken>
+        rouses: bool,
+    ) -> Result<(), Broken>
         requires ready { IsReady net.now bounds self.old }
         requires planned { IsPlanned net.now self.old firing planned }
         requires may { (start : Dated) → IsBegun net.now now start self.old
             → May net.now now start (dated_of self.old) firing }
+        requires unused { IsUnused self.old.fired.items firing }
+        requires place { HasPlace net.now firing }
+        requires at { at ≡ place_number self.old.used.base.items firing }
         ensures ready { OnOk result (IsReady net.now bounds self.new) }
-        ensures more { IfOk result (λ did. IsMore self.old self.new did) }
-        ensures after { IfOk result (λ did. dated_of self.new
-            ≡ after_where did net.now now (dated_of self.old) firing) }
-        ensures marks { OnOk result (self.new.marks ≡ self.old.marks) }
-        ensures feeds { OnOk result (self.new.feeds ≡ self.old.feeds) }
+        ensures more { OnOk result (all_made self.new ≡ all_made self.old + 1) }
+        ensures after { OnOk result
+            (dated_of self.new ≡ after_in net.now now (dated_of self.old) firing) }
+        ensures fired { OnOk result
+            (self.new.fired.items ≡ self.old.fired.items ++ firing ∷ []) }
+        ensures base { OnOk result (self.new.used.base ≡ self.old.used.base) }
+        ensures again { OnOk result (self.new.again ≡ self.old.again) }
+        ensures marks { OnOk result (IsMarkedWhere rouses net.now
+            (state_of self.new.state) planned.moves.laid self.old.marks self.new.marks) }
+        ensures list { OnOk result
+            (length self.new.marks.list.items ≤ length self.old.marks.list.items + 1) }
+        ensures control { OnOk result (self.new.control
+            ≡ control_after net.now planned.moves.laid self.old.control) }
         ensures tried { (past : Past) (start : Dated)
             → InCycle net.now past bounds now start self.old
             → MayFollow net.now self.old firing
             → MatchResult result
-            (λ did. IsTried net.now past bounds now start self.old self.new firing did)
+            (λ _. IsMade net.now past bounds now start self.old self.new firing)
             (IsBroken net.now past.inputs bounds) }
     {
         let _ = net.net();
-        let place = self.used.place(firing);
-        if self.is_used(firing, place) {
-            return Ok(false);
-        }
         if self.made + self.fired.len() as u64 == bounds.limit {
             return Err(Broken::Limit);
         }
-        self.make(net, firing, place, planned, bounds.keep, now)?;
-        Ok(true)
+        self.make(net, firing, at, planned, bounds.keep, now, rouses)?;
+        Ok(())
     }
 
-    /// Makes a firing of a unit that is no fork, by its plan, where it may be made in the cycle and its place has not fired, and
-    /// gives what it does where it was made.
+    /// Makes a firing of a queue, by its plan, where it may be made in the cycle and its place has not fired, and tells whether it
+    /// did. It marks no unit.
     ///
     /// # Errors
     ///
@@ -349,32 +363,34 @@ impl Engine {
         firing: Firing,
         plan: Option<Plan>,
         now: u64,
-    ) -> Result<Option<Planned>, Broken>
+    ) -> Result<bool, Broken>
         requires ready { IsReady net.now bounds self.old }
+        requires place { HasPlace net.now firing }
         requires straight { is_fork (kind_of net.now firing.unit) ≡ false }
         requires apart { IfSome plan (λ p. apart p.takes ≡ true) }
         requires admits { IfSome plan
             (λ p. admits (cell_at self.old.state firing.unit) p.change ≡ true) }
         requires effect { IsPlanOf net.now self.old.state firing plan }
         ensures ready { OnOk result (IsReady net.now bounds self.new) }
-        ensures more { IfOk result (λ did. IsMore self.old self.new (is_some did)) }
+        ensures more { IfOk result (λ did. IsMore self.old self.new did) }
+        ensures grown { OnOk result (IsGrown self.old self.new) }
+        ensures again { OnOk result (self.new.again ≡ self.old.again) }
         ensures marks { OnOk result (self.new.marks ≡ self.old.marks) }
-        ensures feeds { OnOk result (self.new.feeds ≡ self.old.feeds) }
-        ensures planned { IfOk result (λ did. IfSome did (IsPlanned net.now self.old firing)) }
         ensures tried { (past : Past) (start : Dated)
             → InCycle net.now past bounds now start self.old
             → MayFollow net.now self.old firing
             → MatchResult result
-            (λ did. IsTried net.now past bounds now start self.old self.new firing (is_some did))
+            (λ did. IsTried net.now past bounds now start self.old self.new firing did)
             (IsBroken net.now past.inputs bounds) }
     {
         let Some(planned) = self.may(net, firing, plan, now) else {
-            return Ok(None);
+            return Ok(false);
         };
-        if self.fire(net, bounds, firing, planned, now)? {
-            Ok(Some(planned))
-        } else {
-            Ok(None)
+        let at = self.used.number(firing);
+        if self.is_used(net, firing, at) {
+            return Ok(false);
         }
+        self.fire(net, bounds, firing, at, planned, now, false)?;
+        Ok(true)
     }
 }

@@ -5,11 +5,11 @@ ghost use Rattle.net_types.specs.Order.{act_rank};
 ghost use Rattle.net_types.specs.Nets.{kind_of};
 ghost use Rattle.net_check.specs.Ends.{is_lsq};
 ghost use Rattle.net_core.specs.States.{state_of};
-ghost use Rattle.net_core.specs.Uses.{is_fork};
 ghost use Rattle.cycle_engine.specs.Cycles.{Dated};
 ghost use Rattle.cycle_engine.specs.declared.marks.Marks.{Marks as MarksValue};
-ghost use Rattle.cycle_engine.specs.private.Goings.{Past, IsReady, IsBroken, IsBegunIn, to_visit};
+ghost use Rattle.cycle_engine.specs.private.Goings.{Past, IsReady, IsBroken, IsBegunIn, IsGrown};
 ghost use Rattle.cycle_engine.specs.private.Places.{IsTurn, IsNextAct, IsSettled, IsServed, IsFull};
+ghost use Rattle.cycle_engine.specs.private.Used.{HasPlace};
 
 use crate::broken::Broken;
 use crate::engine::{Bounds, Engine};
@@ -19,8 +19,6 @@ use net_types::{Act, Firing, Unit};
 
 /// Names for copies of [`Engine::steps`], one for each kind of acts: they have no part in what it does, but in a copy that is
 /// called with one kind alone the compiler decides most tests.
-pub(crate) struct Froms;
-
 pub(crate) struct Allocs;
 
 pub(crate) struct Addrs;
@@ -36,7 +34,7 @@ pub(crate) struct Retires;
 pub(crate) struct Ends;
 
 impl Engine {
-    /// Tries a place of a unit that is no fork, and marks the units of which its firing may let one fire in the cycle.
+    /// Tries a place of a queue.
     ///
     /// # Errors
     ///
@@ -50,13 +48,14 @@ impl Engine {
         now: u64,
     ) -> Result<(), Broken>
         requires ready { IsReady net.now bounds self.old }
-        requires within { firing.unit < length net.now.units }
+        requires place { HasPlace net.now firing }
         requires kind { kind.now ≡ kind_of net.now firing.unit }
+        requires queue { is_lsq kind.now ≡ true }
         requires goes { act_rank firing.act ≢ 0 }
         requires sends { act_rank firing.act ≢ 2 }
-        requires straight { is_fork (kind_of net.now firing.unit) ≡ false }
         ensures ready { OnOk result (IsReady net.now bounds self.new) }
-        ensures less { OnOk result (to_visit bounds self.new ≤ to_visit bounds self.old) }
+        ensures grown { OnOk result (IsGrown self.old self.new) }
+        ensures again { OnOk result (self.new.again ≡ self.old.again) }
         ensures tried { (past : Past) (start : Dated) (marks : MarksValue) (rank number : ℕ)
             → IsTurn net.now past bounds now start marks self.old firing.unit rank number
             → IsNextAct net.now (state_of self.old.state) firing rank number
@@ -66,23 +65,16 @@ impl Engine {
     {
         let _ = net.net();
         let plan = self.state.plan_act_at(net, firing, kind);
-        let Some(planned) = self.attempt(net, bounds, firing, plan, now)? else {
-            return Ok(());
-        };
-        if !is_queue_kind(kind) {
-            self.marks
-                .rouse(net, &self.feeds, firing.unit, planned.moves)?;
-        }
+        self.attempt(net, bounds, firing, plan, now)?;
         Ok(())
     }
 
-    /// Tries all places for one kind of acts of a unit that is no fork but those at which its queue allows no act, and those for the
-    /// control token to which the channel that is noted for it does not lead, or on which it has no token.
+    /// Tries all places for one kind of acts of a queue but those at which it allows no act, and those for the control token to which the channel that is noted for it does not lead, or on which it has no token.
     ///
     /// # Errors
     ///
     /// As [`Engine::attempt`].
-    pub(crate) fn steps<K>(
+    fn steps<K>(
         &mut self,
         net: &Checked,
         bounds: Bounds,
@@ -94,12 +86,13 @@ impl Engine {
         requires ready { IsReady net.now bounds self.old }
         requires within { unit < length net.now.units }
         requires kind { kind.now ≡ kind_of net.now unit }
+        requires queue { is_lsq kind.now ≡ true }
         requires goes { act_rank act ≢ 0 }
         requires sends { act_rank act ≢ 2 }
         requires executes { act_rank act ≢ 6 }
-        requires straight { is_fork (kind_of net.now unit) ≡ false }
         ensures ready { OnOk result (IsReady net.now bounds self.new) }
-        ensures less { OnOk result (to_visit bounds self.new ≤ to_visit bounds self.old) }
+        ensures grown { OnOk result (IsGrown self.old self.new) }
+        ensures again { OnOk result (self.new.again ≡ self.old.again) }
         ensures tried { (past : Past) (start : Dated) (marks : MarksValue)
             → IsTurn net.now past bounds now start marks self.old unit (act_rank act) 0
             → MatchResult result
@@ -136,6 +129,8 @@ impl Engine {
         requires kind { kind.now ≡ kind_of net.now unit }
         requires queue { is_lsq kind.now ≡ true }
         ensures ready { OnOk result (IsReady net.now bounds self.new) }
+        ensures grown { OnOk result (IsGrown self.old self.new) }
+        ensures again { OnOk result (self.new.again ≡ self.old.again) }
         ensures tried { (past : Past) (start : Dated) (marks : MarksValue)
             → IsTurn net.now past bounds now start marks self.old unit 6 0
             → MatchResult result
@@ -178,11 +173,13 @@ impl Engine {
         Ok(())
     }
 
-    /// Tries the places of a queue, in the order of its acts.
+    /// Tries the places of a queue, in the order of its acts. It stands apart so that what gives units that are no queues their turns
+    /// stays small.
     ///
     /// # Errors
     ///
     /// As [`Engine::attempt`].
+    #[inline(never)]
     fn run_queue(
         &mut self,
         net: &Checked,
@@ -196,6 +193,8 @@ impl Engine {
         requires kind { kind.now ≡ kind_of net.now unit }
         requires queue { is_lsq kind.now ≡ true }
         ensures ready { OnOk result (IsReady net.now bounds self.new) }
+        ensures grown { OnOk result (IsGrown self.old self.new) }
+        ensures again { OnOk result (self.new.again ≡ self.old.again) }
         ensures tried { (past : Past) (start : Dated) (marks : MarksValue)
             → IsTurn net.now past bounds now start marks self.old unit 3 0
             → MatchResult result
@@ -212,7 +211,8 @@ impl Engine {
         Ok(())
     }
 
-    /// Gives the next queue that is to have a turn its turn, where it is marked, and takes its mark.
+    /// Gives the next queue that is to have a turn its turn, where it is marked, and takes its mark. Where it
+    /// fired it is looked at again in the next cycle.
     ///
     /// # Errors
     ///
@@ -235,7 +235,11 @@ impl Engine {
         }
         let kind = &units[unit as usize];
         if is_queue_kind(kind) {
+            let before = self.fired.len();
             self.run_queue(net, bounds, unit, kind, now)?;
+            if self.fired.len() > before {
+                self.again.push(unit)?;
+            }
         }
         Ok(())
     }

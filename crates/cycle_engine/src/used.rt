@@ -1,23 +1,18 @@
 //! Which places have fired in a cycle.
 
-ghost use Rattle.std.specs.Prelude.{◌≡◌, ◌<◌, ◌≤◌, ◌^◌, true, IfOk, length};
-ghost use Rattle.cycle_engine.specs.private.Used.{IsPlaceIn, IsTold, IsUntold, own_number, place_number};
+ghost use Rattle.std.specs.Prelude.{◌≡◌, ◌↔◌, ◌+◌, ◌*◌, ◌<◌, ◌≤◌, ◌^◌, ℕ, IfOk, IsTrue, get_or, length};
+ghost use Rattle.cycle_engine.specs.private.Used.{AreNumbered, HasNumbersBelow, IsStamped, own_number, place_number};
 
 use net_check::Checked;
 use net_types::{Act, Firing, Memory, Unit};
 use std::alloc::Global;
 
 /// When each place has fired last, by the number of the place.
-///
-/// What is told of the places that have fired in the cycle is right whatever numbers the places have: where a number is met
-/// twice in a cycle, nothing is told any more. By the numbers that [`Used::new`] gives it is never met twice.
 pub(crate) struct Used {
-    /// From where on the places of each unit have their numbers, but its place 0, which has the unit's.
-    pub base: Vec<u32>,
+    /// From where on the places of each unit have their numbers, but one of each unit that is no fork, which has the unit's.
+    pub base: Vec<u64>,
     /// Of each place how many firings there were with its last one; 0 before its first.
     pub last: Vec<u64>,
-    /// Whether a number was met twice in a cycle.
-    pub mixed: bool,
 }
 
 // By hand, so that to let go of one is a call.
@@ -26,22 +21,27 @@ impl Drop for Used {
         let Used {
             base: _base,
             last: _last,
-            mixed: _mixed,
         } = self;
     }
 }
 
 /// How many numbers the places of a queue take.
-fn queue_places(groups: usize, ports: usize) -> u32 {
-    let most = groups.max(ports).saturating_mul(4).saturating_add(3);
-    u32::try_from(most).unwrap_or(u32::MAX)
+fn queue_places(groups: usize, ports: usize) -> u128
+    ensures groups { 4 * groups + 3 ≤ result }
+    ensures ports { 4 * ports + 3 ≤ result }
+    ensures small { result < 2 ^ 67 }
+{
+    4 * (groups.max(ports) as u128) + 3
 }
 
 /// How many numbers the places of a unit take.
-fn places(unit: &Unit) -> u32 {
+fn places(unit: &Unit) -> u128
+    ensures below { HasNumbersBelow unit.now result }
+    ensures small { result < 2 ^ 67 }
+{
     match unit {
-        Unit::Fork { outs, .. } => *outs,
-        Unit::Cmerge { ins } => *ins,
+        Unit::Fork { outs, .. } => u128::from(*outs) + 1,
+        Unit::Cmerge { ins } => u128::from(*ins),
         Unit::Lsq { groups, ports, .. } => {
             queue_places(groups.as_slice().len(), ports.as_slice().len())
         }
@@ -58,7 +58,7 @@ fn own_number(act: Act) -> u64
     match act {
         Act::Go => 0,
         Act::From(input) => u64::from(input),
-        Act::Send(out) => u64::from(out),
+        Act::Send(out) => u64::from(out) + 1,
         Act::Exec(_) => 0,
         Act::Retire => 1,
         Act::End => 2,
@@ -76,89 +76,71 @@ impl Used {
     ///
     /// [`Memory`] where memory is wanting.
     pub(crate) fn new(alloc: Global, net: &Checked) -> Result<Used, Memory>
-        ensures { IfOk result (λ u. length net.now.units ≤ length u.last.items) }
+        ensures numbered { IfOk result
+            (λ u. AreNumbered net.now u.base.items (length u.last.items)) }
+        ensures none { IfOk result (λ u. (x : ℕ) → get_or u.last.items x 0 ≡ 0) }
     {
         let units = net.net().units.as_slice();
         let mut base = Vec::new(alloc);
-        let mut count = units.len() as u32;
+        let mut count = units.len() as u128;
         for unit in units {
-            base.push(count)?;
-            count = count.saturating_add(places(unit));
+            let Ok(from) = u64::try_from(count) else {
+                return Err(Memory);
+            };
+            base.push(from)?;
+            count += places(unit);
         }
+        let Ok(count) = usize::try_from(count) else {
+            return Err(Memory);
+        };
         Ok(Used {
             base,
-            last: vec![in alloc; 0; count as usize]?,
-            mixed: false,
+            last: vec![in alloc; 0; count]?,
         })
+    }
+
+    /// From where on the places of a unit have their numbers.
+    #[inline(always)]
+    pub(crate) fn base(&self, unit: u32) -> u64
+        ensures { result ≡ get_or self.now.base.items unit 0 }
+    {
+        let at = unit as usize;
+        if at < self.base.len() {
+            self.base[at]
+        } else {
+            0
+        }
     }
 
     /// The number of a firing's place.
     #[inline(always)]
-    fn number(&self, firing: Firing) -> u64
+    pub(crate) fn number(&self, firing: Firing) -> u64
+        requires { place_number self.now.base.items firing < length self.now.last.items }
         ensures { result ≡ place_number self.now.base.items firing }
     {
         let own = own_number(firing.act);
         if own == 0 {
             return u64::from(firing.unit);
         }
-        let at = firing.unit as usize;
-        let base = if at < self.base.len() {
-            self.base[at]
-        } else {
-            0
-        };
-        u64::from(base) + own
+        self.base(firing.unit) + own
     }
 
-    /// The number of a firing's place, where the table has it.
+    /// Whether the place of a number has fired after so many firings.
     #[inline(always)]
-    pub(crate) fn place(&self, firing: Firing) -> Option<usize>
-        requires { firing.unit < length self.now.last.items }
-        ensures { IsPlaceIn self.now firing result }
+    pub(crate) fn has_fired(&self, at: u64, earlier: u64) -> bool
+        requires { at < length self.now.last.items }
+        ensures { IsTrue result ↔ (earlier < get_or self.now.last.items at 0) }
     {
-        if own_number(firing.act) == 0 {
-            return Some(firing.unit as usize);
-        }
-        let at = self.number(firing) as usize;
-        if at < self.last.len() { Some(at) } else { None }
+        self.last[at as usize] > earlier
     }
 
-    /// Whether the table tells that a firing's place, of this number, has not fired after so many firings.
+    /// Notes that the place of a number fires after so many firings.
     #[inline(always)]
-    pub(crate) fn has_not_fired(&self, firing: Firing, place: Option<usize>, earlier: u64) -> bool
-        requires { IsPlaceIn self.now firing place }
-        ensures { result ≡ true → IsUntold self.now earlier firing }
-    {
-        let _ = firing;
-        match place {
-            None => false,
-            Some(at) => !self.mixed && self.last[at] <= earlier,
-        }
-    }
-
-    /// How many firings came between so many and the one that is told as the last of a firing's place.
-    pub(crate) fn told(&self, firing: Firing, earlier: u64) -> usize
-        requires { firing.unit < length self.now.last.items }
-    {
-        match self.place(firing) {
-            None => 0,
-            Some(at) => self.last[at].saturating_sub(earlier).saturating_sub(1) as usize,
-        }
-    }
-
-    /// Notes that a firing's place, of this number, fires after so many firings, of which so many were made in earlier cycles.
-    #[inline(always)]
-    pub(crate) fn note(&mut self, firing: Firing, place: Option<usize>, earlier: u64, count: u64)
-        requires place { IsPlaceIn self.old firing place }
+    pub(crate) fn stamp(&mut self, at: u64, count: u64)
+        requires within { at < length self.old.last.items }
         requires few { count < 2 ^ 63 }
-        ensures { IsTold firing earlier count self.old self.new }
+        ensures { IsStamped at count self.old self.new }
     {
-        let _ = firing;
-        if let Some(at) = place {
-            if self.last[at] > earlier {
-                self.mixed = true;
-            }
-            self.last[at] = count + 1;
-        }
+        self.last[at as usize] = count + 1;
     }
 }

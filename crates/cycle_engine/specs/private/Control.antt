@@ -68,3 +68,7 @@ end_from (Some p) end from = cond (p == end) (Some from) None
 -- a token at a control place of these is on the channel that is noted
 abbrev pub HasControl : Net → State → ℕ → Type 0
 HasControl net s noted = (u p v : ℕ) → p < control_places_in (kind_of net u) → head_at net s u p ≡ Some v → into u p net.chans ≡ noted
+
+-- a channel goes into none of so many places of the unit u
+abbrev pub GoesIntoNone : Net → ℕ → ℕ → ℕ → Type 0
+GoesIntoNone net d u ins = (p : ℕ) → p < ins → into u p net.chans < length net.chans → into u p net.chans ≡ d → ⊥

@@ -5,7 +5,8 @@ use Rattle.el_base.specs.Limits.{max_depth, max_firings}
 use Rattle.net_types.specs.declared.net.Net.{Net}
 use Rattle.net_types.specs.declared.firing.Firing.{Firing}
 use Rattle.net_types.specs.declared.firing.Inputs.{Inputs}
-use Rattle.net_types.specs.Nets.{kind_of, chan_at}
+use Rattle.net_types.specs.declared.firing.Act.{Act}
+use Rattle.net_types.specs.Nets.{kind_of, chan_at, firing}
 use Rattle.net_check.specs.Ends.{is_lsq}
 use Rattle.net_core.specs.States.{state_of, dates_of, CountsWithin}
 use Rattle.net_replay.specs.declared.fault.RunFault.{RunFault}
@@ -14,14 +15,17 @@ use Rattle.cycle_engine.specs.declared.broken.Broken.{Broken}
 use Rattle.cycle_engine.specs.declared.broken.Broken.TheVariants as broken
 use Rattle.cycle_engine.specs.declared.engine.Engine.{Engine}
 use Rattle.cycle_engine.specs.declared.engine.Bounds.{Bounds}
+use Rattle.cycle_engine.specs.declared.marks.Marks.{Marks}
+use Rattle.cycle_engine.specs.private.Stacks.{Stacked}
 use Rattle.lsq_core.specs.Laws.{phase}
 use Rattle.cycle_engine.specs.Cycles.{Dated, dated_opening, May, IsOldest, IsUnused, Makes, Once, InOrder, Cycles, after_in}
 use Rattle.cycle_engine.specs.Bounds.{firing_count}
 use Rattle.cycle_engine.specs.Cuts.{joined, IsCut}
 use Rattle.cycle_engine.specs.private.Trials.{dated_of, IsBegun, IsEngine}
 use Rattle.cycle_engine.specs.private.Control.{HasControl}
-use Rattle.cycle_engine.specs.private.Used.{AreTold}
-use Rattle.cycle_engine.specs.private.Marking.{Holds, HasUnit, IsMarked, IsStarved, IsListed, AreFeeds, AreListed, cell, entries_at}
+use Rattle.cycle_engine.specs.private.Used.{AreNumbered, AreTold}
+use Rattle.cycle_engine.specs.Rousing.{Could}
+use Rattle.cycle_engine.specs.private.Marking.{Holds, HasUnit, IsMarked, IsStarved, IsLacking, IsListed, AreFeeds, AreListed, cell, entries_at}
 
 -- how many firings are made in all
 abbrev pub all_made : Engine → ℕ
@@ -39,8 +43,8 @@ pub record IsReady (net : Net) (b : Bounds) (e : Engine) : Type 0 where
   pub marked : length e.marks.marked.items ≡ length net.units
   pub listed : IsListed net e.marks
   pub cells : length e.notes.coming.items ≡ 1024
-  pub told : AreTold e.used e.made e.fired.items
-  pub places : length net.units ≤ length e.used.last.items
+  pub told : AreTold net e.used e.made e.fired.items
+  pub places : AreNumbered net e.used.base.items (length e.used.last.items)
   pub feeds : AreFeeds net e.feeds
 
 -- what the loop over marked units counts down: each firing adds five numbers to the list at most
@@ -82,16 +86,17 @@ pub record HasFreed (net : Net) (e : Engine) (u : ℕ) : Type 0 where
   pub source : (chan_at net chan).from.unit ≡ u
   pub fed : IsStarved net (state_of e.state) u → ⊥
 
--- a token ripens in the cycle c on a channel into a unit
+-- a token ripens in the cycle c on a channel into a unit that wants no token beside it
 pub record HasRipening (net : Net) (c : ℕ) (e : Engine) (u : ℕ) : Type 0 where
   pub chan : ℕ
   pub coming : Holds chan (cell e.notes (c % 1024))
   pub within : chan < length net.chans
   pub target : (chan_at net chan).to.unit ≡ u
+  pub fed : IsLacking net (state_of e.state) chan → ⊥
 
 -- the unit is to be marked as the cycle c begins
 abbrev pub IsStirred : Net → ℕ → Engine → ℕ → Type 0
-IsStirred net c e u = IsMarked e.marks u ⊎ ((HasUnit u e.fired.items × (IsStarved net (state_of e.state) u → ⊥)) ⊎ (HasFreed net e u ⊎ HasRipening net c e u))
+IsStirred net c e u = IsMarked e.marks u ⊎ ((Holds u e.again.items × (IsStarved net (state_of e.state) u → ⊥)) ⊎ (HasFreed net e u ⊎ HasRipening net c e u))
 
 -- the engine after c cycles
 pub record HasDone (net : Net) (past : Past) (b : Bounds) (c : ℕ) (e : Engine) : Type 0 where
@@ -100,7 +105,7 @@ pub record HasDone (net : Net) (past : Past) (b : Bounds) (c : ℕ) (e : Engine)
   pub made : all_made e ≡ firing_count past.cycles
   pub log : e.log.items ≡ cond b.keep (joined past.cycles) []
   pub listed : AreListed e.freed
-  pub entries : (u : ℕ) → is_lsq (kind_of net u) ≡ true → (get_or e.begun.items u 0 ≡ entries_at (state_of e.state) u) ⊎ HasUnit u e.fired.items
+  pub entries : (u : ℕ) → is_lsq (kind_of net u) ≡ true → (get_or e.begun.items u 0 ≡ entries_at (state_of e.state) u) ⊎ Holds u e.again.items
   pub coming : AreComing net c e
   pub control : HasControl net (state_of e.state) e.control
   -- a unit that is not to be marked may not fire
@@ -114,11 +119,28 @@ AllPlain net fs = AllByRecursion (λ g. (is_lsq (kind_of net g.unit) ≡ false) 
 abbrev pub IsWatching : Net → ℕ → Dated → Engine → Type 0
 IsWatching net c start e = (g : Firing) → IsUnused e.fired.items g → May net c start (dated_of e) g → IsMarked e.marks g.unit
 
+-- the unit is marked, or is to be looked at again in the next cycle
+abbrev pub IsNotedUnit : Engine → ℕ → Type 0
+IsNotedUnit e u = IsMarked e.marks u ⊎ Holds u e.again.items
+
+-- a unit that has fired and might fire again in the next cycle is marked, or is to be looked at again then
+abbrev pub IsKept : Net → ℕ → Dated → Engine → Type 0
+IsKept net c start e = (g : Firing) → HasUnit g.unit e.fired.items → Could net c start (dated_of e) g → IsNotedUnit e g.unit
+
+-- so it is of each unit but u
+abbrev pub IsKeptBut : Net → ℕ → Dated → Engine → ℕ → Type 0
+IsKeptBut net c start e u = (g : Firing) → HasUnit g.unit e.fired.items → Could net c start (dated_of e) g → (g.unit ≡ u) ⊎ IsNotedUnit e g.unit
+
+-- and of u
+abbrev pub IsKeptOf : Net → ℕ → Dated → Engine → ℕ → Type 0
+IsKeptOf net c start e u = (a : Act) → HasUnit u e.fired.items → Could net c start (dated_of e) (firing u a) → IsNotedUnit e u
+
 -- the engine in a cycle in which no queue has fired
 pub record IsBegunIn (net : Net) (past : Past) (b : Bounds) (c : ℕ) (start : Dated) (e : Engine) : Type 0 where
   pub going : InCycle net past b c start e
   pub plain : AllPlain net e.fired.items
   pub watching : IsWatching net c start e
+  pub kept : IsKept net c start e
 
 -- what a fault says of a run that is broken off in a cycle
 abbrev pub IsBroken : Net → Inputs → Bounds → Broken → Type 0
@@ -129,6 +151,18 @@ IsBroken net inputs b broken.Memory = Unit {0}
 abbrev pub fault_of : ℕ → Broken → RunFault
 fault_of limit broken.Limit = fault.Limit limit
 fault_of limit broken.Memory = fault.Memory
+
+-- the engine with other marks
+abbrev pub with_marks : Engine → Marks → Engine
+with_marks e m = record { state = e.state; begun = e.begun; fired = e.fired; used = e.used; made = e.made; log = e.log; marks = m; notes = e.notes; feeds = e.feeds; freed = e.freed; again = e.again; control = e.control }
+
+-- the engine with other units that are to be looked at again in the next cycle
+abbrev pub with_again : Engine → Stacked ℕ → Engine
+with_again e s = record { state = e.state; begun = e.begun; fired = e.fired; used = e.used; made = e.made; log = e.log; marks = e.marks; notes = e.notes; feeds = e.feeds; freed = e.freed; again = s; control = e.control }
+
+-- something was fired, or nothing was
+abbrev pub IsGrown : Engine → Engine → Type 0
+IsGrown old new = (length old.fired.items < length new.fired.items) ⊎ (new.fired.items ≡ old.fired.items)
 
 -- ---- one firing
 
@@ -152,10 +186,6 @@ pub record IsPassed (net : Net) (c : ℕ) (start : Dated) (old new : Engine) (f 
 abbrev pub IsTried : Net → Past → Bounds → ℕ → Dated → Engine → Engine → Firing → Bool → Type 0
 IsTried net past b c start old new f true = IsMade net past b c start old new f
 IsTried net past b c start old new f false = IsPassed net c start old new f
-
--- after a firing in the cycle c, where it was made
-abbrev pub after_where : Bool → Net → ℕ → Dated → Firing → Dated
-after_where did net c s f = cond did (after_in net c s f) s
 
 -- how many firings were made: at least one where it is so, and none is undone
 pub record IsMore (old new : Engine) (did : Bool) : Type 0 where

@@ -1,5 +1,5 @@
 -- Private: only contracts of this crate cite it. Marks at the units that may fire, and what is noted for the next cycle.
-use Rattle.std.specs.Prelude.{◌≡◌, ◌≢◌, ◌⊎◌, ℕ, ◌+◌, ◌-◌, ◌<◌, ◌≤◌, ◌++◌, ◌∷◌, ◌%◌, nat_lt, cond, set, Bool, true, false, Option, Some, None, List, [], map, reverse, length, get_or, IfSome, IsSomeAnd, MatchOption}
+use Rattle.std.specs.Prelude.{◌≡◌, ◌≢◌, ◌⊎◌, ℕ, zero, suc, ◌+◌, ◌-◌, ◌<◌, ◌≤◌, ◌++◌, ◌∷◌, ◌%◌, nat_lt, cond, set, Bool, true, false, Option, Some, None, List, [], map, reverse, length, get_or, IfSome, IsSomeAnd, MatchOption}
 use Rattle.std.specs.List.{AllByRecursion}
 use Rattle.std.specs.List.Sorted.{IsPermutation, IsNonDecreasing}
 use Rattle.net_types.specs.declared.net.Net.{Net}
@@ -111,32 +111,90 @@ pub record AreFirsts (net : Net) (firsts : List (Option ℕ)) : Type 0 where
   pub long : length firsts ≡ length net.units
   pub each : (u : ℕ) → u < length net.units → get_or firsts u None ≡ asked net u
 
--- no unit into which a control merge puts is left out
-abbrev pub AreMerged : Net → List Bool → Type 0
-AreMerged net merged = (d : ℕ) → d < length net.chans → is_merge (kind_of net (chan_at net d).from.unit) ≡ true → get_or merged (chan_at net d).to.unit true ≡ true
+-- the next place of a select in turn
+abbrev pub in_turn : ℕ → ℕ
+in_turn zero = 1
+in_turn (suc zero) = 2
+in_turn (suc (suc p)) = 0
+
+-- the other of two places
+abbrev pub beside : ℕ → ℕ
+beside zero = 1
+beside (suc p) = 0
+
+-- which way a mux puts through is told at its place 0
+abbrev pub told_at : ℕ → Option ℕ
+told_at zero = None
+told_at (suc p) = Some 0
+
+-- beside a place of a unit another one without whose token the unit does not fire, where it has one; that of the last of a row of such
+-- places is the first, so what comes last of their tokens finds the others there
+abbrev pub partner_place : Kind → ℕ → Option ℕ
+partner_place Entry p = None
+partner_place (Param j) p = None
+partner_place (Const w n) p = None
+partner_place (Op1 op) p = None
+partner_place (Op2 op) p = Some (beside p)
+partner_place (Select w) p = Some (in_turn p)
+partner_place (Fork w outs) p = None
+partner_place (Mux w ins) p = told_at p
+partner_place (Cmerge ins) p = None
+partner_place (Branch w) p = Some (beside p)
+partner_place (Sink w) p = None
+partner_place (Read a) p = None
+partner_place (Lsq a d ps gs f) p = None
+partner_place Exit p = None
+
+-- the channel into a place of a unit, and the number of all channels for none
+abbrev pub into_where : Net → ℕ → Option ℕ → ℕ
+into_where net u None = length net.chans
+into_where net u (Some p) = into u p net.chans
+
+-- the channel into the place beside that into which a channel goes
+abbrev pub partner : Net → ℕ → ℕ
+partner net d = into_where net (chan_at net d).to.unit (partner_place (kind_of net (chan_at net d).to.unit) (chan_at net d).to.place)
+
+-- the unit into which a channel goes wants a token beside it, and so may not fire
+abbrev pub IsLacking : Net → State → ℕ → Type 0
+IsLacking net s d = IsSomeAnd (partner_place (kind_of net (chan_at net d).to.unit) (chan_at net d).to.place) (λ p. head_at net s (chan_at net d).to.unit p ≡ None)
+
+-- for each channel is told the one beside it
+pub record ArePartners (net : Net) (partners : List ℕ) : Type 0 where
+  pub long : length partners ≡ length net.chans
+  pub each : (d : ℕ) → d < length net.chans → get_or partners d (length net.chans) ≡ partner net d
 
 pub record AreFeeds (net : Net) (f : Feeds) : Type 0 where
   pub firsts : AreFirsts net f.firsts.items
-  pub merged : AreMerged net f.merged.items
-
--- channels go into the unit, as far as they are channels of the net
-abbrev pub AreInto : Net → ℕ → List ℕ → Type 0
-AreInto net u ds = AllByRecursion (λ d. d < length net.chans → (chan_at net d).to.unit ≡ u) ds
+  pub partners : ArePartners net f.partners.items
 
 -- the unit that puts on a channel is marked, where it is a control merge
 abbrev pub IsMergeMarked : Net → ℕ → Marks → ℕ → Type 0
 IsMergeMarked net n m d = d < length net.chans → is_merge (kind_of net (chan_at net d).from.unit) ≡ true → (chan_at net d).from.unit < n → IsMarked m (chan_at net d).from.unit
 
--- the unit into which a token was put without delay is marked
-abbrev pub IsPutMarked : Net → Option Laid → ℕ → Marks → Type 0
-IsPutMarked net laid n m = IfSome laid (λ w. (chan_at net w.chan).delay ≡ 0 → IsTargetMarked net n m w.chan)
+-- the unit into which a channel goes is marked, where it wants no token beside it
+abbrev pub IsFedMarked : Net → State → ℕ → Marks → ℕ → Type 0
+IsFedMarked net s n m d = (IsLacking net s d → ⊥) → IsTargetMarked net n m d
 
--- after a firing of the unit u that moved these tokens, which led to the state s, marked are a fork that took its head and has another,
--- the control merges that put on the channels from which was taken, and the unit into which was put without delay
-pub record IsRoused (net : Net) (s : State) (u : ℕ) (m : Moves) (n : ℕ) (marks : Marks) : Type 0 where
-  pub own : is_fork (kind_of net u) ≡ true → chans_of m.taken ≢ [] → (IsStarved net s u → ⊥) → u < n → IsMarked marks u
-  pub merges : AllByRecursion (IsMergeMarked net n marks) (chans_of m.taken)
-  pub target : IsPutMarked net m.laid n marks
+-- so is the unit into which a token was put without delay
+abbrev pub IsPutMarked : Net → State → Option Laid → ℕ → Marks → Type 0
+IsPutMarked net s laid n m = IfSome laid (λ w. (chan_at net w.chan).delay ≡ 0 → IsFedMarked net s n m w.chan)
+
+-- after a firing that put this and led to the state s, the unit into which it put is marked, or no mark was changed
+abbrev pub IsMarkedWhere : Bool → Net → State → Option Laid → Marks → Marks → Type 0
+IsMarkedWhere true net s laid old new = KeepsMarks old new × IsPutMarked net s laid (length old.marked.items) new
+IsMarkedWhere false net s laid old new = new ≡ old
+
+-- the control merge that puts on a channel is marked, where the channel was full in the state s
+abbrev pub IsFullMarked : Net → State → ℕ → Marks → ℕ → Type 0
+IsFullMarked net s n m d = (chan_at net d).slots ≤ length (tokens_at s d) → IsMergeMarked net n m d
+
+-- after a firing of the unit u that moved these tokens and led from the state s to the state t, marked is the unit into which was put
+-- without delay; after one of a fork that took its head also the fork, where it has another, and the control merge that puts on the
+-- channel from which it took, where that was full
+pub record IsRoused (net : Net) (s t : State) (u : ℕ) (m : Moves) (n : ℕ) (marks : Marks) : Type 0 where
+  pub own : is_fork (kind_of net u) ≡ true → chans_of m.taken ≢ [] → (IsStarved net t u → ⊥) → u < n → IsMarked marks u
+  pub merges : is_fork (kind_of net u) ≡ true → AllByRecursion (IsFullMarked net s n marks) (chans_of m.taken)
+  pub target : IsPutMarked net t m.laid n marks
 
 -- there was nothing to take
 pub record IsEmptied (old new : Marks) : Type 0 where

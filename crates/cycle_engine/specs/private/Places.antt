@@ -30,12 +30,13 @@ use Rattle.cycle_engine.specs.declared.engine.Engine.{Engine}
 use Rattle.cycle_engine.specs.declared.engine.Bounds.{Bounds}
 use Rattle.cycle_engine.specs.declared.marks.Marks.{Marks}
 use Rattle.lsq_core.specs.Laws.{act_place}
+use Rattle.cycle_engine.specs.Rousing.{Could}
 use Rattle.cycle_engine.specs.Cycles.{Dated, May, IsOldest, IsRipe, IsUnused}
 use Rattle.cycle_engine.specs.private.Trials.{dated_of}
-use Rattle.cycle_engine.specs.private.Marking.{IsMarked}
+use Rattle.cycle_engine.specs.private.Marking.{Holds, HasUnit, IsMarked}
 use Rattle.cycle_engine.specs.private.Control.{HasControl, groups_in, noted_place}
 use Rattle.cycle_engine.specs.declared.broken.Broken.{Broken}
-use Rattle.cycle_engine.specs.private.Goings.{Past, IsBroken, IsReady, to_visit, InCycle, HasDone, AllPlain, IsWatching, all_made}
+use Rattle.cycle_engine.specs.private.Goings.{Past, IsBroken, IsReady, to_visit, InCycle, HasDone, AllPlain, IsWatching, IsKept, IsKeptBut, IsKeptOf, all_made}
 
 -- ---- the acts of a unit
 
@@ -237,12 +238,17 @@ abbrev pub AllocsOnce : Net → ℕ → List Firing → Dated → Type 0
 AllocsOnce net c fs s = (u a b n d : ℕ) (ps : List Port) (gs : List (List ℕ)) (fw : Bool) → kind_of net u ≡ Lsq n d ps gs fw → (IsUnused fs (firing u (Alloc a)) → ⊥) → IsUnused fs (firing u (Alloc b)) → b < length gs
     → IsRipe net c s (into u b net.chans) → ⊥
 
+-- the queues that have fired in the cycle are to be looked at again in the next, but those that are told
+abbrev pub QueuesKept : Net → Engine → (ℕ → Type 0) → Type 0
+QueuesKept net e But = (v : ℕ) → is_lsq (kind_of net v) ≡ true → HasUnit v e.fired.items → But v ⊎ Holds v e.again.items
+
 -- in the turn of the queue u, whose acts so far are of no rank above r; marked queues but u have not fired, and marks are as they were
 pub record IsQueueTurn (net : Net) (c : ℕ) (marks : Marks) (e : Engine) (u r : ℕ) : Type 0 where
   pub allocs : AllocsOnce net c e.fired.items (dated_of e)
   pub behind : AllByRecursion (λ g. g.unit ≡ u → act_rank g.act ≤ r) e.fired.items
   pub fresh : AllByRecursion (λ g. is_lsq (kind_of net g.unit) ≡ true → (g.unit ≡ u) ⊎ (IsMarked marks g.unit → ⊥)) e.fired.items
   pub same : e.marks ≡ marks
+  pub again : QueuesKept net e (λ v. v ≡ u)
 
 abbrev pub IsTurnOf : Bool → Net → ℕ → Marks → Engine → ℕ → ℕ → Type 0
 IsTurnOf true net c marks e u r = IsQueueTurn net c marks e u r
@@ -252,30 +258,44 @@ IsTurnOf false net c marks e u r = AllPlain net e.fired.items
 pub record IsTurn (net : Net) (past : Past) (b : Bounds) (c : ℕ) (start : Dated) (marks : Marks) (e : Engine) (u r n : ℕ) : Type 0 where
   pub going : InCycle net past b c start e
   pub watched : IsWatched net c start e u r n
+  pub kept : IsKeptBut net c start e u
   pub of : IsTurnOf (is_lsq (kind_of net u)) net c marks e u r
+
+-- the turn of the unit u, which is no queue, has ended: its acts up to those of the rank s were tried
+pub record IsTurnEnded (net : Net) (past : Past) (b : Bounds) (c : ℕ) (start : Dated) (marks : Marks) (e : Engine) (u s : ℕ) : Type 0 where
+  pub turn : IsTurn net past b c start marks e u s 0
+  pub own : IsKeptOf net c start e u
 
 -- the acts of the unit u from those of the rank r on to those of the rank s were tried, or the cycle was broken off
 pub record IsTurnMade {T : Type 0} (net : Net) (b : Bounds) (c u r s : ℕ) (old new : Engine) (done : Result T Broken) : Type 0 where
   pub ready : OnOk done (IsReady net b new)
   pub less : OnOk done (to_visit b new ≤ to_visit b old)
-  pub tried : (past : Past) (start : Dated) (marks : Marks) → IsTurn net past b c start marks old u r 0 → MatchResult done (λ _. IsTurn net past b c start marks new u s 0) (IsBroken net past.inputs b)
+  pub tried : (past : Past) (start : Dated) (marks : Marks) → IsTurn net past b c start marks old u r 0 → MatchResult done (λ _. IsTurnEnded net past b c start marks new u s) (IsBroken net past.inputs b)
 
 -- the sending of a fork to an output was tried; where it took the head, no act of the fork is left
 abbrev pub IsSent : Net → Past → Bounds → ℕ → Dated → Marks → Engine → ℕ → ℕ → Bool → Type 0
-IsSent net past b c start marks e u out true = IsTurn net past b c start marks e u 3 0
+IsSent net past b c start marks e u out true = IsTurnEnded net past b c start marks e u 3
 IsSent net past b c start marks e u out false = IsTurn net past b c start marks e u 2 (out + 1)
+
+-- since the engine was old something was fired, or nothing was and of the fork's outputs before n those that have fired in the cycle are
+-- told by the fork's being to be looked at again
+pub record HasSentOrTold (net : Net) (old e : Engine) (u n : ℕ) : Type 0 where
+  pub fired : length old.fired.items ≤ length e.fired.items
+  pub told : (length old.fired.items < length e.fired.items) ⊎ ((e.fired.items ≡ old.fired.items) × ((j : ℕ) → j < n → (IsUnused e.fired.items (firing u (Send j)) → ⊥) → Holds u e.again.items))
 
 -- the mark of the unit u was taken where it is no queue
 pub record IsOpenTurn (net : Net) (past : Past) (b : Bounds) (c : ℕ) (start : Dated) (e : Engine) (u : ℕ) : Type 0 where
   pub going : InCycle net past b c start e
   pub plain : AllPlain net e.fired.items
   pub watched : (g : Firing) → IsUnused e.fired.items g → May net c start (dated_of e) g → IsMarked e.marks g.unit ⊎ ((g.unit ≡ u) × (is_lsq (kind_of net g.unit) ≡ false))
+  pub kept : IsKeptBut net c start e u
 
 -- no unit that is no queue may fire, and queues have not fired
 pub record IsSettled (net : Net) (past : Past) (b : Bounds) (c : ℕ) (start : Dated) (e : Engine) : Type 0 where
   pub going : InCycle net past b c start e
   pub plain : AllPlain net e.fired.items
   pub watching : IsWatching net c start e
+  pub kept : IsKept net c start e
   pub list : e.marks.list.items ≡ []
 
 -- ---- queues
@@ -285,6 +305,8 @@ pub record IsServed (net : Net) (past : Past) (b : Bounds) (c : ℕ) (start : Da
   pub going : InCycle net past b c start e
   pub allocs : AllocsOnce net c e.fired.items (dated_of e)
   pub watching : IsWatching net c start e
+  pub kept : IsKept net c start e
+  pub again : QueuesKept net e (λ v. ⊥)
   pub list : e.marks.list.items ≡ []
   pub fresh : AllByRecursion (λ g. is_lsq (kind_of net g.unit) ≡ true → IsMarked e.marks g.unit → ⊥) e.fired.items
   pub left : n + length e.marks.queues.items ≡ count
@@ -293,6 +315,8 @@ pub record IsServed (net : Net) (past : Past) (b : Bounds) (c : ℕ) (start : Da
 pub record IsFull (net : Net) (past : Past) (b : Bounds) (c : ℕ) (start : Dated) (e : Engine) : Type 0 where
   pub going : InCycle net past b c start e
   pub full : (f : Firing) → IsUnused e.fired.items f → May net c start (dated_of e) f → ⊥
+  pub kept : (g : Firing) → HasUnit g.unit e.fired.items → Could net c start (dated_of e) g → Holds g.unit e.again.items
+  pub again : QueuesKept net e (λ v. ⊥)
 
 -- ---- whole cycles
 

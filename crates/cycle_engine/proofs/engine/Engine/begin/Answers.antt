@@ -1,4 +1,4 @@
-use Rattle.std.proofs.Common.{◌≡◌, ◌+◌, ◌∙◌, List, subst, sym, refl, length, arith}
+use Rattle.std.proofs.Common.{◌≡◌, ◌+◌, ◌<◌, ◌∙◌, List, subst, sym, refl, length, arith}
 use Rattle.net_types.specs.declared.firing.Firing.{Firing}
 use Rattle.net_core.specs.States.{state_of}
 use Rattle.cycle_engine.specs.declared.engine.Engine.{Engine}
@@ -16,38 +16,40 @@ returns-clause-ready c =
     let e : Engine = record {
       state = c.args.self.now.state;
       begun = c.settle.new.begun;
-      fired = c.clear-3.new.self;
+      fired = c.clear-4.new.self;
       used = c.args.self.now.used;
       made = c.args.self.now.made + c.len.result;
       log = c.args.self.now.log;
       marks = c.mark_targets.new.self;
-      notes = c.clear-2.new.self;
+      notes = c.clear-3.new.self;
       feeds = c.args.self.now.feeds;
-      freed = c.clear.new.self;
+      freed = c.clear-2.new.self;
+      again = c.clear.new.self;
       control = c.args.self.now.control;
     } in
     let net = c.args.net.now in
     let made : c.args.self.now.made + c.len.result ≡ all_made c.args.self.now = omega (arith, c.len.ensures) in
     begun_ready c.args.net.now c.args.bounds c.args.self.now e c.requires
     (record { state = c.requires.engine.state; dated = c.requires.engine.dated })
-    refl made c.clear-3.ensures refl (c.clear.ensures.long ∙ c.requires.chans) c.in_ok-settle.ensures.long
+    refl made c.clear-4.ensures refl (c.clear-2.ensures.long ∙ c.requires.chans) c.in_ok-settle.ensures.long
     (c.in_ok-mark_targets.ensures.kept.long ∙ (c.in_ok-mark_sources.ensures.kept.long ∙ (c.in_ok-settle.ensures.kept.long ∙ c.requires.marked)))
     (c.in_ok-mark_targets.ensures.kept.listed net (c.in_ok-mark_sources.ensures.kept.listed net (c.in_ok-settle.ensures.kept.listed net c.requires.listed)))
-    (cleared_long c.args.self.now.notes c.clear-2.new.self _ c.clear-2.ensures ∙ c.requires.cells) refl refl
+    (cleared_long c.args.self.now.notes c.clear-3.new.self _ c.clear-3.ensures ∙ c.requires.cells) refl refl
 
 pub returns-clause-going : goal.returns-clause-going
 returns-clause-going c past done =
     let e : Engine = record {
       state = c.args.self.now.state;
       begun = c.settle.new.begun;
-      fired = c.clear-3.new.self;
+      fired = c.clear-4.new.self;
       used = c.args.self.now.used;
       made = c.args.self.now.made + c.len.result;
       log = c.args.self.now.log;
       marks = c.mark_targets.new.self;
-      notes = c.clear-2.new.self;
+      notes = c.clear-3.new.self;
       feeds = c.args.self.now.feeds;
-      freed = c.clear.new.self;
+      freed = c.clear-2.new.self;
+      again = c.clear.new.self;
       control = c.args.self.now.control;
     } in
     let made : c.args.self.now.made + c.len.result ≡ all_made c.args.self.now = omega (arith, c.len.ensures) in
@@ -58,15 +60,16 @@ returns-clause-going c past done =
     record {
       going = begun_going c.args.net.now past c.args.bounds c.args.now c.args.self.now e done
           (record {
-            chans = begun_followed c.args.net.now c.args.now c.args.self.now e refl (c.clear.ensures.none done.listed) done.coming;
-            queues = λ u l. c.in_ok-settle.ensures.noted u l (or_as (HasUnit u) (sym c.as_slice-fired.ensures) (done.entries u l));
+            chans = begun_followed c.args.net.now c.args.now c.args.self.now e refl (c.clear-2.ensures.none done.listed) done.coming;
+            queues = λ u l. c.in_ok-settle.ensures.noted u l (or_as (Holds u) (sym c.as_slice.ensures) (done.entries u l));
           })
-          refl c.clear-3.ensures made refl (none_listed c.clear.new.self (c.clear.ensures.none done.listed))
-          (begun_coming c.args.net.now c.args.now c.args.self.now e (delay_most c.args.net.now c.net.ensures.checked) refl c.clear-2.ensures done.coming) done.control;
-      plain = subst P (sym c.clear-3.ensures) tt;
+          refl c.clear-4.ensures made refl (none_listed c.clear-2.new.self (c.clear-2.ensures.none done.listed))
+          (begun_coming c.args.net.now c.args.now c.args.self.now e (delay_most c.args.net.now c.net.ensures.checked) refl c.clear-3.ensures done.coming) done.control;
+      plain = subst P (sym c.clear-4.ensures) tt;
       watching = begun_watching c.args.net.now past c.args.bounds c.args.now 0 c.args.self.now e c.net.ensures.checked c.requires done refl
           (stirred_marked c.args.net.now c.args.now c.args.self.now c.settle.new.marks c.mark_sources.new.self c.mark_targets.new.self (length c.args.self.now.marks.marked.items) (sym c.requires.marked)
-          k1.kept k2.kept k3.kept (λ u h f l. c.in_ok-settle.ensures.marked u (subst (HasUnit u) (sym c.as_slice-fired.ensures) h) f l)
+          k1.kept k2.kept k3.kept (λ u h f l. c.in_ok-settle.ensures.marked u (subst (Holds u) (sym c.as_slice.ensures) h) f l)
           (λ d h. source_as c.args.net.now (state_of c.args.self.now.state) _ _ c.mark_sources.new.self d k1.long (c.in_ok-mark_sources.ensures.marked d (subst (Holds d) (sym c.as_slice-freed.ensures.value) h)))
-          (λ d h. target_as c.args.net.now _ _ c.mark_targets.new.self d (k2.long ∙ k1.long) (c.in_ok-mark_targets.ensures.marked d (subst (Holds d) (sym c.ripening.ensures) h))));
+          (λ d h f. target_as c.args.net.now _ _ c.mark_targets.new.self d (k2.long ∙ k1.long) (c.in_ok-mark_targets.ensures.marked d (subst (Holds d) (sym c.ripening-ripening.ensures) h) f)));
+      kept = λ g h k. (let z = subst (HasUnit g.unit) c.clear-4.ensures h in let w : z.at < 0 = z.within in absurd (omega arith));
     }

@@ -1,17 +1,18 @@
-use Rattle.std.proofs.Common.{◌+◌, arith}
+use Rattle.std.proofs.Common.{◌≡◌}
 use Rattle.cycle_engine.specs.declared.engine.Engine.{Engine}
-use Rattle.cycle_engine.proofs.MakeLemmas.{moves_within, laid_within, dates_made, made_is, made_engine}
-use Rattle.cycle_engine.proofs.UsedLemmas.{told_more}
+use Rattle.cycle_engine.specs.Cycles.{after_in}
+use Rattle.cycle_engine.specs.private.Trials.{dated_of, IsEngine}
+use Rattle.cycle_engine.proofs.MakeLemmas.{moves_within, laid_within, dates_made, made_is, made_engine, on_ok}
 use Rattle.cycle_engine.proofs.engine.Engine.make.Goals as goal
 
-pub note-requires-2-clause-within : goal.note-requires-2-clause-within
-note-requires-2-clause-within c = moves_within c.args.net.now c.args.self.now c.args.firing c.args.planned.plan c.args.planned.moves c.requires.planned.moves c.requires.engine c.requires.planned.effect
+pub note-requires-clause-within : goal.note-requires-clause-within
+note-requires-clause-within c = moves_within c.args.net.now c.args.self.now c.args.firing c.args.planned.plan c.args.planned.moves c.requires.planned.moves c.requires.engine c.requires.planned.effect
 
-pub control_after-self-requires : goal.control_after-self-requires
-control_after-self-requires c = laid_within c.args.net.now c.args.self.now c.args.firing c.args.planned.plan c.args.planned.moves c.requires.planned.moves c.requires.planned.room
+pub note_control-requires : goal.note_control-requires
+note_control-requires c = laid_within c.args.net.now c.args.self.now c.args.firing c.args.planned.plan c.args.planned.moves c.requires.planned.moves c.requires.planned.room
 
-pub note-requires-3-clause-within : goal.note-requires-3-clause-within
-note-requires-3-clause-within c = laid_within c.args.net.now c.args.self.now c.args.firing c.args.planned.plan c.args.planned.moves c.requires.planned.moves c.requires.planned.room
+pub tell-requires-clause-within : goal.tell-requires-clause-within
+tell-requires-clause-within c = laid_within c.args.net.now c.args.self.now c.args.firing c.args.planned.plan c.args.planned.moves c.requires.planned.moves c.requires.planned.room
 
 pub returns-clause-after : goal.returns-clause-after
 returns-clause-after c =
@@ -19,18 +20,19 @@ returns-clause-after c =
       state = c.make_dated.new.self;
       begun = c.args.self.now.begun;
       fired = c.push.new.self;
-      used = c.note.new.self;
+      used = c.stamp.new.self;
       made = c.args.self.now.made;
-      log = c.note-4.new.log;
-      marks = c.args.self.now.marks;
-      notes = c.note-3.new.self;
+      log = c.note-2.new.log;
+      marks = c.tell.new.marks;
+      notes = c.tell.new.notes;
       feeds = c.args.self.now.feeds;
-      freed = c.note-2.new.self;
-      control = c.control_after-self.result;
+      freed = c.note.new.self;
+      again = c.args.self.now.again;
+      control = c.note_control.new.noted;
     } in
-    made_is c.args.net.now c.args.now c.args.self.now new c.args.firing c.args.planned.plan c.requires.planned.effect c.make_dated.ensures.state
+    on_ok c.tell.result (dated_of new ≡ after_in c.args.net.now c.args.now (dated_of c.args.self.now) c.args.firing) (made_is c.args.net.now c.args.now c.args.self.now new c.args.firing c.args.planned.plan c.requires.planned.effect c.make_dated.ensures.state
     (dates_made c.args.net.now c.args.now c.args.self.now c.args.firing c.args.planned.plan c.args.planned.moves c.make_dated.new.self.tokens.dates c.requires.engine c.requires.planned.effect c.requires.planned.apart
-    c.requires.planned.moves c.make_dated.ensures.dates)
+    c.requires.planned.moves c.make_dated.ensures.dates))
 
 pub returns-clause-engine : goal.returns-clause-engine
 returns-clause-engine c =
@@ -38,27 +40,16 @@ returns-clause-engine c =
       state = c.make_dated.new.self;
       begun = c.args.self.now.begun;
       fired = c.push.new.self;
-      used = c.note.new.self;
+      used = c.stamp.new.self;
       made = c.args.self.now.made;
-      log = c.note-4.new.log;
-      marks = c.args.self.now.marks;
-      notes = c.note-3.new.self;
+      log = c.note-2.new.log;
+      marks = c.tell.new.marks;
+      notes = c.tell.new.notes;
       feeds = c.args.self.now.feeds;
-      freed = c.note-2.new.self;
-      control = c.control_after-self.result;
+      freed = c.note.new.self;
+      again = c.args.self.now.again;
+      control = c.note_control.new.noted;
     } in
-    made_engine c.args.net.now c.args.now c.args.self.now new c.args.firing c.args.planned.plan c.requires.engine c.requires.planned.effect (returns-clause-after c) c.make_dated.ensures.of
-
-pub returns-clause-told : goal.returns-clause-told
-returns-clause-told c =
-    told_more c.args.self.now.fired.items c.push.new.self.items c.args.firing c.args.self.now.made (c.args.self.now.made + c.len.result) c.args.self.now.used c.note.new.self
-    (omega (arith, c.len.ensures)) c.in_ok-push.ensures c.note.ensures c.requires.told
-
-pub returns-clause-counts : goal.returns-clause-counts
-returns-clause-counts c = c.make_dated.ensures.counts
-
-pub returns-clause-fired : goal.returns-clause-fired
-returns-clause-fired c = c.in_ok-push.ensures
-
-pub returns-clause-log : goal.returns-clause-log
-returns-clause-log c = c.note-4.ensures
+    on_ok c.tell.result (IsEngine c.args.net.now new) (made_engine c.args.net.now c.args.now c.args.self.now new c.args.firing c.args.planned.plan c.requires.engine c.requires.planned.effect (made_is c.args.net.now c.args.now c.args.self.now new c.args.firing c.args.planned.plan c.requires.planned.effect c.make_dated.ensures.state
+    (dates_made c.args.net.now c.args.now c.args.self.now c.args.firing c.args.planned.plan c.args.planned.moves c.make_dated.new.self.tokens.dates c.requires.engine c.requires.planned.effect c.requires.planned.apart
+    c.requires.planned.moves c.make_dated.ensures.dates)) c.make_dated.ensures.of)

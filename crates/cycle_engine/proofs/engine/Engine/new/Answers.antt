@@ -20,6 +20,7 @@ returns-clause-ready c =
       notes = c.in_ok-notes.notes;
       feeds = c.in_ok-feeds.feeds;
       freed = c.in_ok-freed.freed;
+      again = c.new-8.result;
       control = 0;
     } in
     let chans : c.as_slice-chans.result.now ≡ c.args.net.now.chans = c.as_slice-chans.ensures ∙ ap (λ (n : Net). n.chans) c.net.ensures.net in
@@ -29,7 +30,7 @@ returns-clause-ready c =
     c.requires.few refl c.new-7.ensures c.in_ok-state.ensures.counts (c.in_ok-log.ensures.room ∙ c.log_room.ensures)
     (ap (λ (xs : List Bool). length xs) c.in_ok-freed.ensures.marked ∙ (length-replicate _ _ ∙ ap (λ (xs : List Chan). length xs) chans))
     (ap (λ (xs : List ℕ). length xs) c.in_ok-begun.ensures ∙ (length-replicate _ _ ∙ ap (λ (xs : List Kind). length xs) units))
-    c.in_ok-marks.ensures.long c.in_ok-marks.ensures.listed c.in_ok-notes.ensures c.in_ok-used.ensures c.in_ok-feeds.ensures
+    c.in_ok-marks.ensures.long c.in_ok-marks.ensures.listed c.in_ok-notes.ensures c.in_ok-used.ensures.numbered c.in_ok-used.ensures.none c.in_ok-feeds.ensures
 
 pub returns-clause-done : goal.returns-clause-done
 returns-clause-done c =
@@ -44,6 +45,7 @@ returns-clause-done c =
       notes = c.in_ok-notes.notes;
       feeds = c.in_ok-feeds.feeds;
       freed = c.in_ok-freed.freed;
+      again = c.new-8.result;
       control = 0;
     } in
     let chans : c.as_slice-chans.result.now ≡ c.args.net.now.chans = c.as_slice-chans.ensures ∙ ap (λ (n : Net). n.chans) c.net.ensures.net in

@@ -1,3 +1,4 @@
+use Rattle.cycle_engine.proofs.ServeLemmas.{grown_on}
 use Rattle.cycle_engine.proofs.TurnLemmas.{exit_broken}
 use Rattle.cycle_engine.proofs.engine.Engine.run_queue.Goals as goal
 
@@ -55,3 +56,12 @@ returns-clause-tried c past start marks t =
     let t5 = c.in_ok-steps-4.ensures.tried past start marks t4 in
     let t6 = c.in_ok-steps-5.ensures.tried past start marks t5 in
     c.in_ok-steps-6.ensures.tried past start marks t6
+
+pub returns-clause-grown : goal.returns-clause-grown
+returns-clause-grown c =
+    let g2 = grown_on c.args.self.now c.steps.new.self c.steps-2.new.self c.in_ok-steps.ensures.grown c.in_ok-steps-2.ensures.grown in
+    let g3 = grown_on c.args.self.now c.steps-2.new.self c.steps-3.new.self g2 c.in_ok-steps-3.ensures.grown in
+    let g4 = grown_on c.args.self.now c.steps-3.new.self c.execute.new.self g3 c.in_ok-execute.ensures.grown in
+    let g5 = grown_on c.args.self.now c.execute.new.self c.steps-4.new.self g4 c.in_ok-steps-4.ensures.grown in
+    let g6 = grown_on c.args.self.now c.steps-4.new.self c.steps-5.new.self g5 c.in_ok-steps-5.ensures.grown in
+    grown_on c.args.self.now c.steps-5.new.self c.steps-6.new.self g6 c.in_ok-steps-6.ensures.grown

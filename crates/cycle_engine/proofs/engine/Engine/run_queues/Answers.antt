@@ -1,6 +1,7 @@
 use Rattle.std.proofs.Common.{◌∙◌, ap, length, arith}
 use Rattle.cycle_engine.proofs.MarkLemmas.{reordered_listed}
-use Rattle.cycle_engine.proofs.TurnLemmas.{ready_marks, served_first, served_full, exit_broken}
+use Rattle.cycle_engine.proofs.ServeLemmas.{served_first, served_full}
+use Rattle.cycle_engine.proofs.TurnLemmas.{ready_marks, exit_broken}
 use Rattle.cycle_engine.proofs.engine.Engine.run_queues.Goals as goal
 
 pub loop-init : goal.loop-init

@@ -1,7 +1,8 @@
 use Rattle.std.proofs.Common.{◌∙◌, ap, length}
 use Rattle.cycle_engine.proofs.MarkLemmas.{emptied_listed, taken_none, taken_some, no_kind}
 use Rattle.cycle_engine.proofs.UnitTurnLemmas.{unit_past}
-use Rattle.cycle_engine.proofs.TurnLemmas.{with_marks, ready_marks, taken_open, begun_settled, exit_broken}
+use Rattle.cycle_engine.proofs.TurnLemmas.{ready_marks, taken_open, begun_settled, exit_broken}
+use Rattle.cycle_engine.specs.private.Goings.{with_marks}
 use Rattle.cycle_engine.proofs.engine.Engine.run_units.Goals as goal
 
 pub returns-clause-settled : goal.returns-clause-settled

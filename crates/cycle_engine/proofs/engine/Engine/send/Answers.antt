@@ -1,83 +1,105 @@
-use Rattle.std.proofs.Common.{◌≡◌, ◌∙◌, Bool, sym, ap, subst, rules}
+use Rattle.std.proofs.Common.{◌≡◌, ◌∙◌, ℕ, ◌+◌, Bool, true, false, length, refl, sym, ap, subst, arith}
+use Rattle.net_check.specs.declared.pins.Pins.{Pins}
+use Rattle.net_core.specs.States.{state_of, dates_of}
 use Rattle.net_core.specs.Uses.{is_fork}
 use Rattle.net_types.specs.declared.firing.Act.TheVariants.{Send}
-use Rattle.net_types.specs.Nets.{firing}
-use Rattle.cycle_engine.specs.Cycles.{Dated}
-use Rattle.cycle_engine.specs.private.Goings.{after_where}
-use Rattle.cycle_engine.specs.private.Trials.{dated_of, RipeAt}
-use Rattle.cycle_engine.proofs.MakeLemmas.{laid_within}
-use Rattle.cycle_engine.proofs.GoLemmas.{moves_into}
-use Rattle.cycle_engine.proofs.SendLemmas.{ripe_still, send_follows, send_left, send_passed, send_put, send_took}
+use Rattle.net_types.specs.Nets.{into, firing}
+use Rattle.cycle_engine.specs.declared.engine.Engine.{Engine}
+use Rattle.cycle_engine.specs.private.Goings.{IsReady}
+use Rattle.cycle_engine.specs.private.Marking.{IsFullMarked}
+use Rattle.cycle_engine.specs.private.Places.{HasSentOrTold, IsSent}
+use Rattle.cycle_engine.specs.private.Trials.{RipeAt}
+use Rattle.cycle_engine.proofs.SendLemmas.{ripe_still, send_follows, send_left, send_used, send_put, send_took, send_number, told_used, told_unused, told_sent, none_of, took_none}
 use Rattle.cycle_engine.proofs.TurnLemmas.{ready_marks, exit_broken}
+use Rattle.cycle_engine.proofs.engine.Engine.send.Goals.{then-takes-2+in_ok-rouse_fork, else-takes-2, then-takes, else-takes}
 use Rattle.cycle_engine.proofs.engine.Engine.send.Goals as goal
+
+pub overflow_add-at : goal.overflow_add-at
+overflow_add-at c =
+    let z = send_number c.args.net.now c.args.self.now.used.base.items (length c.args.self.now.used.last.items) c.args.unit c.args.outs c.args.out c.requires.within c.requires.fork c.requires.out c.requires.ready.places in
+    let y = c.requires.base in
+    let k = c.args.self.now.used.last.ok.0 in
+    let n = c.args.self.now.used.last.small in
+    omega arith
+
+pub overflow_add-at-2 : goal.overflow_add-at-2
+overflow_add-at-2 c =
+    let z = send_number c.args.net.now c.args.self.now.used.base.items (length c.args.self.now.used.last.items) c.args.unit c.args.outs c.args.out c.requires.within c.requires.fork c.requires.out c.requires.ready.places in
+    let y = c.requires.base in
+    let k = c.args.self.now.used.last.ok.0 in
+    let n = c.args.self.now.used.last.small in
+    let f = c.from.ensures in
+    omega arith
+
+pub returns-then-is_used-clause-told : goal.returns-then-is_used-clause-told
+returns-then-is_used-clause-told c z first h = told_used c.args.net.now first c.args.self.now c.push.new.self c.args.unit c.args.out c.in_ok-push.ensures h
+
+pub returns-then-is_used-clause-tried : goal.returns-then-is_used-clause-tried
+returns-then-is_used-clause-tried c past start marks t =
+    send_used c.args.net.now past c.args.bounds c.args.now start marks c.args.self.now c.args.unit c.args.out t c.push.new.self c.in_ok-push.ensures (c.if-is_used.ensures.used refl)
+
+pub returns-in_default-clause-told : goal.returns-in_default-clause-told
+returns-in_default-clause-told c z first h = told_unused c.args.net.now first c.args.self.now c.args.unit c.args.out (c.if-is_used.ensures.unused refl) h
 
 pub returns-in_default-clause-tried : goal.returns-in_default-clause-tried
 returns-in_default-clause-tried c past start marks t =
-    send_left c.args.net.now past c.args.bounds c.args.now start marks c.args.self.now c.args.unit c.args.out t (c.in_default.ensures.may start t.going.began)
+    send_left c.args.net.now past c.args.bounds c.args.now start marks c.args.self.now c.args.unit c.args.out t (λ un m. c.in_default.ensures.may start t.going.began m)
 
 pub returns-in_err-fire-clause-tried : goal.returns-in_err-fire-clause-tried
 returns-in_err-fire-clause-tried c past start marks t =
-    exit_broken _ _ c.from_residual.result c.in_err-fire.field-0.0 c.from_residual.ensures.1
+    exit_broken _ _ c.from_residual-in_err-fire.result c.in_err-fire.field-0.0 c.from_residual-in_err-fire.ensures.1
     (c.in_err-fire.ensures.tried past start t.going (send_follows c.args.net.now past c.args.bounds c.args.now start marks c.args.self.now c.args.unit c.args.out t))
 
-pub returns-then-not-branch-clause-kept : goal.returns-then-not-branch-clause-kept
-returns-then-not-branch-clause-kept c k =
-    let A : Bool → Type 0 = λ b. dated_of c.fire.new.self ≡ after_where b c.args.net.now c.args.now (dated_of c.args.self.now) (firing c.args.unit (Send c.args.out)) in
-    let R : Dated → Type 0 = λ s. RipeAt c.args.net.now c.args.now s.dates c.args.pins.first in
-    subst R (sym (subst A c.if-not-branch.true c.in_ok-fire.ensures.after)) c.requires.ripe
+-- a send that took nothing left the engine as the firing did
+pub returns-clause-ready : goal.returns-clause-ready
+returns-clause-ready c = elim c.if-takes-2.branch [
+  | then-takes-2+in_ok-rouse_fork w ↦
+      let ready = c.in_ok-fire.ensures.ready in
+      let kept = w.in_ok-rouse_fork.ensures.kept in
+      let P : Engine → Type 0 = IsReady c.args.net.now c.args.bounds in
+      subst P (sym (w.self-is ∙ w.in_ok-rouse_fork.ensures.rest)) (ready_marks c.args.net.now c.args.bounds c.fire.new.self w.rouse_fork.new.self.marks ready (kept.long ∙ ready.marked) (kept.listed c.args.net.now ready.listed))
+  | else-takes-2 w ↦ let P : Engine → Type 0 = IsReady c.args.net.now c.args.bounds in subst P (sym w.self-is) c.in_ok-fire.ensures.ready
+]
 
-pub returns-then-not-branch-clause-tried : goal.returns-then-not-branch-clause-tried
-returns-then-not-branch-clause-tried c past start marks t =
-    send_passed c.args.net.now past c.args.bounds c.args.now start marks c.args.self.now c.args.unit c.args.out t c.fire.new.self c.in_ok-fire.field-0
-    (c.in_ok-fire.ensures.tried past start t.going (send_follows c.args.net.now past c.args.bounds c.args.now start marks c.args.self.now c.args.unit c.args.out t))
-    c.if-not-branch.true
+pub returns-clause-kept : goal.returns-clause-kept
+returns-clause-kept c z = elim c.if-takes-2.branch [
+  | then-takes-2+in_ok-rouse_fork w ↦ absurd (w.if-takes-2.ensures.0 refl (none_of c.takes-3.result _ z c.takes-3.ensures))
+  | else-takes-2 w ↦
+      let R : Engine → Type 0 = λ e. RipeAt c.args.net.now c.args.now (dates_of e.state) c.args.pins.first in
+      subst R (sym w.self-is) (ripe_still c.args.net.now c.args.now c.args.self.now c.fire.new.self c.args.unit c.args.out c.args.pins.first c.in-Some.planned c.requires.ready.engine c.in-Some.ensures.planned
+      (none_of c.takes-3.result _ z c.takes-3.ensures) c.in_ok-fire.ensures.after c.requires.ripe)
+]
 
-pub mark_put-requires-clause-within : goal.mark_put-requires-clause-within
-mark_put-requires-clause-within c =
-    laid_within c.args.net.now c.args.self.now (firing c.args.unit (Send c.args.out)) c.in-Some.planned.plan c.in-Some.planned.moves c.in-Some.ensures.planned.moves c.in-Some.ensures.planned.room
+pub returns-clause-told : goal.returns-clause-told
+returns-clause-told c z first h = elim c.if-takes-2.branch [
+  | then-takes-2+in_ok-rouse_fork w ↦ absurd (w.if-takes-2.ensures.0 refl (none_of c.takes-3.result _ z c.takes-3.ensures))
+  | else-takes-2 w ↦
+      let P : Engine → Type 0 = λ e. HasSentOrTold c.args.net.now first e c.args.unit (c.args.out + 1) in
+      subst P (sym w.self-is) (told_sent c.args.net.now first c.args.self.now c.fire.new.self (firing c.args.unit (Send c.args.out)) c.args.unit c.args.out c.in_ok-fire.ensures.fired h)
+]
 
-pub returns-in_ok-mark_put-in-None-clause-ready : goal.returns-in_ok-mark_put-in-None-clause-ready
-returns-in_ok-mark_put-in-None-clause-ready c =
-    let ready = c.in_ok-fire.ensures.ready in
-    let kept = c.in_ok-mark_put-in-None.ensures.kept in
-    ready_marks c.args.net.now c.args.bounds c.fire.new.self c.mark_put.new.self ready (kept.long ∙ ready.marked) (kept.listed c.args.net.now ready.listed)
-
-pub returns-in_ok-mark_put-in-None-clause-kept : goal.returns-in_ok-mark_put-in-None-clause-kept
-returns-in_ok-mark_put-in-None-clause-kept c k =
-    let A : Bool → Type 0 = λ b. dated_of c.fire.new.self ≡ after_where b c.args.net.now c.args.now (dated_of c.args.self.now) (firing c.args.unit (Send c.args.out)) in
-    ripe_still c.args.net.now c.args.now c.args.self.now c.fire.new.self c.args.unit c.args.out c.args.pins.first c.in-Some.planned c.requires.ready.engine c.in-Some.ensures.planned c.in-None.is
-    (subst A c.if-not-branch.false c.in_ok-fire.ensures.after) c.requires.ripe
-
-pub returns-in_ok-mark_put-in-None-clause-tried : goal.returns-in_ok-mark_put-in-None-clause-tried
-returns-in_ok-mark_put-in-None-clause-tried c past start marks t =
-    send_put c.args.net.now past c.args.bounds c.args.now start marks c.args.self.now c.args.unit c.args.out t c.fire.new.self c.in_ok-fire.field-0
-    (c.in_ok-fire.ensures.tried past start t.going (send_follows c.args.net.now past c.args.bounds c.args.now start marks c.args.self.now c.args.unit c.args.out t))
-    c.if-not-branch.false c.in-Some.planned c.in-Some.ensures.planned c.net.ensures.checked c.requires.ready (ap is_fork c.requires.fork.shape) c.in_ok-fire.ensures.marks
-    c.mark_put.new.self c.in_ok-mark_put-in-None.ensures.kept c.in-None.is c.in_ok-mark_put-in-None.ensures.marked
-
-pub rouse_fork-requires : goal.rouse_fork-requires
-rouse_fork-requires c =
-    let ready = c.in_ok-fire.ensures.ready in
-    let planned = c.in-Some.ensures.planned in
-    record {
-      of = ready.engine.state;
-      feeds = ready.feeds;
-      into = moves_into c.args.net.now c.args.unit c.in-Some.planned.plan c.in-Some.planned.moves planned.moves;
-      within = laid_within c.args.net.now c.args.self.now (firing c.args.unit (Send c.args.out)) c.in-Some.planned.plan c.in-Some.planned.moves planned.moves planned.room;
-      long = ready.marked;
-    }
-
-pub returns-in_ok-rouse_fork-in_default-taken : goal.returns-in_ok-rouse_fork-in_default-taken
-returns-in_ok-rouse_fork-in_default-taken c =
-    let ready = c.in_ok-fire.ensures.ready in
-    let kept = c.in_ok-rouse_fork-in_default-taken.ensures.kept in
-    record {
-      ready = ready_marks c.args.net.now c.args.bounds c.fire.new.self c.rouse_fork.new.self ready (kept.long ∙ ready.marked) (kept.listed c.args.net.now ready.listed);
-      less = search rules;
-      kept = search rules;
-      tried = λ past start marks t.
-          send_took c.args.net.now past c.args.bounds c.args.now start marks c.args.self.now c.args.unit c.args.out t c.fire.new.self c.in_ok-fire.field-0
-          (c.in_ok-fire.ensures.tried past start t.going (send_follows c.args.net.now past c.args.bounds c.args.now start marks c.args.self.now c.args.unit c.args.out t))
-          c.if-not-branch.false c.in-Some.planned c.in-Some.ensures.planned c.net.ensures.checked c.requires.ready (ap is_fork c.requires.fork.shape) c.in_ok-fire.ensures.marks
-          c.rouse_fork.new.self kept c.requires.within c.in_default-taken.not-None c.in_ok-rouse_fork-in_default-taken.ensures.roused;
-    }
+pub returns-clause-tried : goal.returns-clause-tried
+returns-clause-tried c past start marks t =
+    let made = c.in_ok-fire.ensures.tried past start t.going (send_follows c.args.net.now past c.args.bounds c.args.now start marks c.args.self.now c.args.unit c.args.out t) in
+    let fork = ap is_fork c.requires.fork.shape in
+    let S : Engine → Bool → Type 0 = λ e. IsSent c.args.net.now past c.args.bounds c.args.now start marks e c.args.unit c.args.out in
+    elim c.if-takes-2.branch [
+      | then-takes-2+in_ok-rouse_fork w ↦
+          let some = w.if-takes-2.ensures.0 refl in
+          let first : c.args.pins.first ≡ into c.args.unit 0 c.args.net.now.chans = ap (λ (q : Pins). q.first) c.requires.pins in
+          let F : ℕ → Type 0 = IsFullMarked c.args.net.now (state_of c.args.self.now.state) (length c.fire.new.self.marks.marked.items) w.rouse_fork.new.self.marks in
+          let full : F c.args.pins.first = elim c.if-takes.branch [
+            | then-takes v ↦ λ l. w.in_ok-rouse_fork.ensures.merge (v.full-is ∙ v.is_full-full.ensures.1 l)
+            | else-takes v ↦ absurd (some (none_of c.takes.result _ v.if-takes.false c.takes.ensures))
+          ] in
+          let ended = send_took c.args.net.now past c.args.bounds c.args.now start marks c.args.self.now c.args.unit c.args.out t c.fire.new.self made c.in-Some.planned c.in-Some.ensures.planned c.net.ensures.checked c.requires.ready fork
+          c.in_ok-fire.ensures.again c.in_ok-fire.ensures.marks w.rouse_fork.new.self.marks w.in_ok-rouse_fork.ensures.kept c.requires.within w.in_ok-rouse_fork.ensures.own (subst F first full) in
+          let Q : Engine → Type 0 = λ e. S e true in
+          subst (S c.if-takes-2.self) (sym (c.takes-3.ensures.1 some)) (subst Q (sym (w.self-is ∙ w.in_ok-rouse_fork.ensures.rest)) ended)
+      | else-takes-2 w ↦
+          let none = none_of c.takes-2.result _ w.if-takes-2.false c.takes-2.ensures in
+          let left = send_put c.args.net.now past c.args.bounds c.args.now start marks c.args.self.now c.args.unit c.args.out t c.fire.new.self made c.in-Some.planned c.in-Some.ensures.planned c.net.ensures.checked c.requires.ready fork
+          c.in_ok-fire.ensures.again c.in_ok-fire.ensures.marks none in
+          let Q : Engine → Type 0 = λ e. S e false in
+          subst (S c.if-takes-2.self) (sym (took_none c.takes-3.result _ none c.takes-3.ensures)) (subst Q (sym w.self-is) left)
+    ]

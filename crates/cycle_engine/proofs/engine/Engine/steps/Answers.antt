@@ -1,4 +1,4 @@
-use Rattle.std.proofs.Common.{◌+◌, arith}
+use Rattle.std.proofs.Common.{◌+◌, ◌∙◌, inr, refl, arith}
 use Rattle.net_types.specs.Order.{act_rank}
 use Rattle.cycle_engine.specs.declared.marks.Marks.{Marks}
 use Rattle.cycle_engine.specs.Cycles.{Dated}
@@ -7,6 +7,7 @@ use Rattle.cycle_engine.specs.private.Places.{IsTurn}
 use Rattle.net_core.specs.States.{state_of}
 use Rattle.cycle_engine.proofs.TurnLemmas.{turn_on, exit_broken}
 use Rattle.cycle_engine.proofs.StepLemmas.{next_numbered, turn_next}
+use Rattle.cycle_engine.proofs.ServeLemmas.{grown_on}
 use Rattle.cycle_engine.proofs.PlaceLemmas.{numbers_below}
 use Rattle.cycle_engine.proofs.ControlLemmas.{keeps_control}
 use Rattle.cycle_engine.proofs.engine.Engine.steps.Goals as goal
@@ -14,7 +15,8 @@ use Rattle.cycle_engine.proofs.engine.Engine.steps.Goals as goal
 pub loop-number-init : goal.loop-number-init
 loop-number-init g c = record {
   ready = c.requires.ready;
-  less = omega arith;
+  grown = inr refl;
+  again = refl;
   within = c.next_number-number.ensures.within;
   tried = λ past start marks t. turn_next c.args.net.now past c.args.bounds c.args.now start marks c.args.self.now c.args.unit c.args.act 0 c.next_number-number.result
       (c.next_number-number.ensures.next (keeps_control c.args.net.now past c.args.bounds c.args.now start c.args.self.now c.net.ensures.checked t.going)) t;
@@ -23,7 +25,8 @@ loop-number-init g c = record {
 pub loop-number-preserved : goal.loop-number-preserved
 loop-number-preserved g c = record {
   ready = c.in_ok-step.ensures.ready;
-  less = (let a = c.loop-number.invariant.less in let b = c.in_ok-step.ensures.less in omega arith);
+  grown = grown_on c.args.self.now c.loop-number.self c.step.new.self c.loop-number.invariant.grown c.in_ok-step.ensures.grown;
+  again = c.in_ok-step.ensures.again ∙ c.loop-number.invariant.again;
   within = c.next_number-number-in-loop-number.ensures.within;
   tried = λ past start marks t. next past start marks
       (c.in_ok-step.ensures.tried past start marks (act_rank c.args.act) c.loop-number.number (c.loop-number.invariant.tried past start marks t)
