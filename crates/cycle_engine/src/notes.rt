@@ -105,12 +105,12 @@ impl Notes {
         Ok(())
     }
 
-    /// Notes when the token ripens that a firing in the cycle `now` puts. It stands apart so that what puts without delay stays small.
+    /// Notes when the token ripens that a firing in the cycle `now` puts.
     ///
     /// # Errors
     ///
     /// [`Memory`] where memory is wanting.
-    #[inline(never)]
+    #[inline(always)]
     pub(crate) fn note(&mut self, net: &Checked, laid: Option<Laid>, now: u64) -> Result<(), Memory>
         requires cells { length self.old.coming.items ≡ 1024 }
         requires within { IfSome laid (λ w. w.chan < length net.now.chans) }
