@@ -497,10 +497,9 @@ impl Engine {
         }
     }
 
-    /// Tries the sending of a fork, whose head is ripe, to an output, and marks the units of which it may let one fire in the cycle.
-    /// It tells whether the head was taken, after which no place of the fork is left to be tried: it is marked where it has another.
-    /// Where the output has fired in the cycle, the fork is to be looked at again in the next. `base` is the number before those of
-    /// its outputs.
+    /// Tries the sending of a fork, whose head is ripe, to an output, and tells whether it took the head: then no place of the fork is
+    /// left to be tried, and it is marked where it has another head. Where the output has fired in the cycle, the fork is to be looked
+    /// at again in the next. `base` is the number before those of its outputs.
     ///
     /// # Errors
     ///
@@ -562,8 +561,7 @@ impl Engine {
         Ok(takes(taken))
     }
 
-    /// Marks a fork that took its head, where it has another, and the control merge that puts on the channel from which it took, where
-    /// that was full.
+    /// Marks a fork that took its head, where it has another, and the control merge that feeds it, where its channel was full.
     ///
     /// # Errors
     ///
@@ -591,8 +589,7 @@ impl Engine {
         Ok(())
     }
 
-    /// Tries the sendings of a fork, where its head is ripe. Where it sent, or an output has fired in the cycle, and its head was not
-    /// taken, it is to be looked at again in the next.
+    /// Tries the sendings of a fork with a ripe head. Where the head stays, and an output has fired, it is looked at again in the next.
     ///
     /// # Errors
     ///
