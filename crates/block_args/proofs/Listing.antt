@@ -6,7 +6,7 @@ use Rattle.std.specs.declared.alloc.Global.{Global}
 use Rattle.std.specs.List.{Contains, AllByRecursion}
 use Rattle.std.proofs.lemmas.Bool.{cases_eq, cases_lt}
 use Rattle.std.proofs.lemmas.Option.{same_Some, slice_get_within}
-use Rattle.std.proofs.lemmas.List.{get_or-replicate, get_or_past, length-replicate, at_drop_more}
+use Rattle.std.proofs.lemmas.List.{get_or_past, at_drop_more}
 use Rattle.std.proofs.lemmas.List.Elements.{Contains-append_left, Contains-push, Contains-push_cases}
 use Rattle.ir.specs.declared.cfg.CfgBlock.{CfgBlock}
 use Rattle.ir.specs.declared.cfg.Write.{Write}
@@ -18,6 +18,7 @@ use Rattle.block_args.specs.Walks.{read_vars, written_vars, target_blocks, put_a
 use Rattle.block_args.specs.Indexes.{IsIndexOf, AreLiveAt, AreLiveFrom, ArePushed, with_found, ListsBelow}
 use Rattle.block_args.proofs.Lives.{live_below}
 use Rattle.block_args.proofs.Named.{target}
+use Rattle.block_args.proofs.Walking.{none_set}
 
 -- ---- some variables more
 
@@ -316,12 +317,6 @@ marked_cases marks (c ∷ bs) b h = elim (marked_cases (set marks c true) bs b h
     | inl same ↦ inr (0, omega arith, sym same)
     | inr other ↦ inl (sym (get_or-set_other marks c b true false other) ∙ old)
   ]
-]
-
-none_set : (n b : ℕ) → get_or (replicate n false) b false ≡ true → ⊥
-none_set n b h = elim (cases_lt b n) [
-  | inl lt ↦ let e = get_or-replicate n b false false lt in cc
-  | inr ge ↦ let e = get_or_past (replicate n false) b false (omega (arith, length-replicate n false)) in cc
 ]
 
 -- a variable is written where it is among the variables of the writes

@@ -170,7 +170,7 @@ pub record IsWalked (before : List (List ℕ)) (closed : List Bool) (starts : Li
   pub started : (b : ℕ) → Contains starts b → get_or w.seen b true ≡ true
   pub done : (c b : ℕ) → get_or w.seen c false ≡ true → Contains (listed_at before c) b → Passed closed w.seen b ⊎ Contains w.ahead c
 
-none_set : (n b : ℕ) → get_or (replicate n false) b false ≡ true → ⊥
+pub none_set : (n b : ℕ) → get_or (replicate n false) b false ≡ true → ⊥
 none_set n b h = elim (cases_lt b n) [
   | inl lt ↦ let e = get_or-replicate n b false false lt in cc
   | inr ge ↦ let e = get_or_past (replicate n false) b false (omega (arith, length-replicate n false)) in cc

@@ -35,6 +35,10 @@ pub fn print_results_of(
 }
 
 /// Appends a line of a name and the numbers of patterns.
+///
+/// # Errors
+///
+/// [`Memory`] where memory is wanting; the text may hold a part of the line then.
 pub fn put_numbers_line(
     text: &mut Vec<u8>,
     name: &[u8],

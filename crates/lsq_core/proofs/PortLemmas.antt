@@ -8,7 +8,7 @@ use Rattle.lsq_core.specs.declared.entry.PortAct.TheVariants as port
 use Rattle.lsq_core.specs.Acts.{is_done, wants_addr, wants_data, wants_reply}
 use Rattle.lsq_core.specs.Views.{InPorts, entry_at}
 use Rattle.lsq_core.specs.Wants.{asks, allows_at, nearer, IsFirst, HasNone, HasNoPort, IsNextPort}
-use Rattle.lsq_core.proofs.EntryLemmas.{and_inv}
+use Rattle.lsq_core.proofs.EntryLemmas.{and_inv, and_true}
 use Rattle.lsq_core.proofs.PlaceLemmas.{find_first, find_none}
 
 either : (b : Bool) → (b ≡ true) ⊎ (b ≡ false)
@@ -154,10 +154,6 @@ pub record HasPort (act : PortAct) (items : List Entry) (p : ℕ) : Type 0 where
   pub within : at < length items
   pub port : port_at items at ≡ p
   pub serves : serves act items at ≡ true
-
-and_true : (a b : Bool) → a ≡ true → b ≡ true → a && b ≡ true
-and_true true b g h = h
-and_true false b g h = g
 
 port_of : (act : PortAct) (items : List Entry) (p : ℕ) → allows_at act items p ≡ true → HasPort act items p
 port_of act items p h =

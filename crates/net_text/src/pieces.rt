@@ -7,6 +7,10 @@ use el_base::put_u64;
 use net_types::{List, Memory, Place, Port};
 
 /// Appends bytes.
+///
+/// # Errors
+///
+/// [`Memory`] where memory is wanting.
 pub fn put_bytes(text: &mut Vec<u8>, bytes: &[u8]) -> Result<(), Memory>
     ensures ok { OnOk result (text.new.items ≡ text.old.items ++ bytes.now) }
 {
@@ -22,6 +26,10 @@ pub(crate) fn put_u32(text: &mut Vec<u8>, number: u32) -> Result<(), Memory>
 }
 
 /// Appends a line: its first words, and numbers.
+///
+/// # Errors
+///
+/// [`Memory`] where memory is wanting; the text may hold a part of the line then.
 pub fn put_line(text: &mut Vec<u8>, words: &[u8], numbers: &[u64]) -> Result<(), Memory>
     ensures ok { OnOk result
         (text.new.items ≡ text.old.items ++ line (words.now ∷ map decimal numbers.now)) }
@@ -32,6 +40,10 @@ pub fn put_line(text: &mut Vec<u8>, words: &[u8], numbers: &[u64]) -> Result<(),
 }
 
 /// Appends numbers, each after a space.
+///
+/// # Errors
+///
+/// [`Memory`] where memory is wanting; the text may hold a part of them then.
 pub fn put_numbers(text: &mut Vec<u8>, numbers: &[u64]) -> Result<(), Memory>
     ensures ok { OnOk result
         (text.new.items ≡ text.old.items ++ flat_map (λ n. 32 ∷ decimal n) numbers.now) }
