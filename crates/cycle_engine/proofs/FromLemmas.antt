@@ -41,12 +41,13 @@ use Rattle.cycle_engine.specs.private.Trials.{dated_of, RipeAt, IsPlanned}
 use Rattle.cycle_engine.specs.private.Goings.{with_again, Past, IsReady, InCycle, MayFollow, IsMade}
 use Rattle.cycle_engine.specs.private.Marking.{Holds, IsMarked, IsMarkedWhere, IsPutMarked, IsRoused}
 use Rattle.cycle_engine.specs.private.Places.{IsOpen, IsNextAct, IsTurn, IsTurnEnded, taken_first, moves_to}
+use Rattle.cycle_engine.proofs.MarkLemmas.{holds_last}
 use Rattle.cycle_engine.proofs.ControlLemmas.{control_held}
 use Rattle.cycle_engine.proofs.NoteLemmas.{effect_in}
 use Rattle.cycle_engine.proofs.OwnLemmas.{own_rouses}
 use Rattle.cycle_engine.proofs.RousingLemmas.{slots_within}
 use Rattle.cycle_engine.proofs.SendLemmas.{could_effect, laid_out, unit_on, quiet_ended}
-use Rattle.cycle_engine.proofs.TurnLemmas.{going_regular, turn_to, turn_on, turn_follows, turn_passed, unit_made, turn_again, pushed_holds, pushed_last}
+use Rattle.cycle_engine.proofs.TurnLemmas.{going_regular, turn_to, turn_on, turn_follows, turn_passed, unit_made, turn_again, pushed_holds}
 
 -- ---- what a control merge plans
 
@@ -238,5 +239,5 @@ pub from_again : (net : Net) (past : Past) (b : Bounds) (c : ℕ) (start : Dated
     → IsTurnEnded net past b c start marks (with_again e s) u 2
 from_again net past b c start marks e s u is t = record {
   turn = turn_again net past b c start marks e s u 2 0 (λ v h. subst (Holds v) (sym is) (pushed_holds e.again.items u v h)) t;
-  own = λ a h k. inr (subst (Holds u) (sym is) (pushed_last e.again.items u));
+  own = λ a h k. inr (subst (Holds u) (sym is) (holds_last e.again.items u));
 }

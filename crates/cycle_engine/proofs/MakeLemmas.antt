@@ -32,7 +32,7 @@ use Rattle.cycle_engine.specs.private.Goings.{Past, IsReady, InCycle, MayFollow,
 use Rattle.cycle_engine.specs.private.Control.{HasControl, control_after}
 use Rattle.cycle_engine.specs.private.Used.{AreNumbered, AreTold, HasPlace, IsStamped, place_number}
 use Rattle.cycle_engine.specs.private.Marking.{IsListed, IsMarkedWhere, IsNoted, IsFreed, AreFeeds}
-use Rattle.cycle_engine.proofs.NoteLemmas.{after_is, coming_after}
+use Rattle.cycle_engine.proofs.NoteLemmas.{after_is, cells_kept, coming_after}
 use Rattle.cycle_engine.proofs.FollowLemmas.{followed_after}
 use Rattle.cycle_engine.proofs.RousingLemmas.{slots_within}
 use Rattle.cycle_engine.proofs.BeforeLemmas.{after_of}
@@ -187,7 +187,7 @@ made_ready net b c old new f m rouses ready less engine rise place stamped marke
       queues = ap (λ (v : _). length v.items) one.begun ∙ ready.queues;
       marked = w.0 ∙ ready.marked;
       listed = w.1 ready.listed;
-      cells = one.notes.cells ∙ ready.cells;
+      cells = cells_kept net old.notes new.notes one.notes.cells ready.cells;
       told = made_told net old new f place ready.places stamped one.made one.fired ready.told;
       places = numbered_stamped net (place_number old.used.base.items f) (all_made old) old.used new.used ready.places stamped;
       feeds = subst Q (sym feeds) ready.feeds;

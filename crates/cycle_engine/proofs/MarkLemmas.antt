@@ -1,21 +1,17 @@
 -- Marks, and lists of units that are marked.
-use Rattle.std.proofs.Common.{◌≡◌, ◌≢◌, ℕ, suc, zero, ◌<◌, ◌≤◌, ◌⊎◌, inl, inr, Bool, true, false, Option, Some, None, MatchOption, Bor, List, [], ◌∷◌, ◌++◌, length, get_or, set, refl, sym, ap, subst, ◌∙◌, arith, length-append, length-set, get_or-set_same, get_or-set_other}
+use Rattle.std.proofs.Common.{◌≡◌, ◌≢◌, ℕ, suc, zero, ◌<◌, ◌≤◌, ◌⊎◌, inl, inr, Bool, true, false, List, [], ◌∷◌, ◌++◌, length, get_or, set, refl, sym, ap, subst, ◌∙◌, arith, length-append, length-set, get_or-set_same, get_or-set_other}
 use Rattle.std.proofs.lemmas.Bool.{cases_eq, cases_lt}
 use Rattle.std.specs.List.Sorted.{IsPermutation}
 use Rattle.std.proofs.lemmas.List.{get_or_append_left, get_or_default}
 use Rattle.std.proofs.lemmas.List.Elements.{at_from_Contains}
 use Rattle.std.proofs.lemmas.List.Sorted.{Contains-permutation}
 use Rattle.net_types.specs.declared.net.Net.{Net}
-use Rattle.net_types.specs.declared.net.Port.{Port}
-use Rattle.net_types.specs.declared.net.Unit.{Unit as Kind}
-use Rattle.net_types.specs.declared.net.Unit.TheVariants.{Lsq}
 use Rattle.net_types.specs.Nets.{kind_of, chan_at}
 use Rattle.net_check.specs.Ends.{is_lsq}
 use Rattle.net_core.specs.Fire.{State}
 use Rattle.net_core.proofs.ActLemmas.{kind_within}
 use Rattle.cycle_engine.specs.declared.marks.Marks.{Marks}
-use Rattle.cycle_engine.specs.declared.marks.Turn.{Turn}
-use Rattle.cycle_engine.specs.private.Marking.{Holds, IsMarked, IsListed, KeepsMarks, IsSourceMarked, IsTargetMarked, IsFedMarked, IsTaken, IsTurnKind, IsEmptied, IsReordered}
+use Rattle.cycle_engine.specs.private.Marking.{Holds, IsMarked, IsListed, KeepsMarks, IsSourceMarked, IsTargetMarked, IsFedMarked, IsAwaited, AreWithin, IsTaken, IsPutOff, IsEmptied, IsReordered}
 
 -- ---- lists
 
@@ -63,8 +59,18 @@ keeps_then a b c h k = record { long = k.long ∙ h.long; kept = λ u m. k.kept 
 
 -- a unit is marked and added to the list
 pub keeps_marked : (old new : Marks) (u : ℕ) → u < length old.marked.items → new.marked.items ≡ set old.marked.items u true → new.list.items ≡ old.list.items ++ u ∷ [] → new.queues ≡ old.queues → KeepsMarks old new
-keeps_marked old new u l e f g = record { long = ap length e ∙ length-set old.marked.items u true; kept = kept; listed = listed }
+keeps_marked old new u l e f g = record { long = long; kept = kept; listed = λ net h. record { within = within h.within; each = listed net h.each } }
   where
+    long : length new.marked.items ≡ length old.marked.items
+    long = ap length e ∙ length-set old.marked.items u true
+
+    within : AreWithin old → AreWithin new
+    within h v k = by (holds_snoc old.list.items u v (subst (Holds v) f k))
+      where
+        by : Holds v old.list.items ⊎ (v ≡ u) → v < length new.marked.items
+        by (inl j) = let w = h v j in omega (arith, long)
+        by (inr z) = let z' : v ≡ u = z in omega (arith, long)
+
     is : (v : ℕ) → get_or new.marked.items v false ≡ get_or (set old.marked.items u true) v false
     is v = ap (λ xs. get_or xs v false) e
 
@@ -75,17 +81,17 @@ keeps_marked old new u l e f g = record { long = ap length e ∙ length-set old.
         by (inl z) = is v ∙ (ap (λ k. get_or (set old.marked.items u true) k false) z ∙ get_or-set_same old.marked.items u true false l)
         by (inr n) = is v ∙ (get_or-set_other old.marked.items u v true false n ∙ h)
 
-    listed : (net : Net) → IsListed net old → IsListed net new
+    listed : (net : Net) → ((v : ℕ) → IsMarked old v → IsAwaited net old v) → (v : ℕ) → IsMarked new v → IsAwaited net new v
     listed net h v m = by (cases_eq v u)
       where
         P : List ℕ → Type 0
         P xs = Holds v xs
 
-        was : Holds v old.list.items ⊎ ((is_lsq (kind_of net v) ≡ true) × Holds v old.queues.items) → Holds v new.list.items ⊎ ((is_lsq (kind_of net v) ≡ true) × Holds v new.queues.items)
+        was : IsAwaited net old v → IsAwaited net new v
         was (inl k) = inl (subst P (sym f) (holds_more old.list.items (u ∷ []) v k))
         was (inr k) = inr (k.0, subst P (ap (λ (x : _). x.items) (sym g)) k.1)
 
-        by : (v ≡ u) ⊎ (v ≢ u) → Holds v new.list.items ⊎ ((is_lsq (kind_of net v) ≡ true) × Holds v new.queues.items)
+        by : (v ≡ u) ⊎ (v ≢ u) → IsAwaited net new v
         by (inl z) = inl (subst P (sym f) (subst (λ k. Holds k (old.list.items ++ u ∷ [])) (sym z) (holds_last old.list.items u)))
         by (inr n) = was (h v (sym (is v ∙ get_or-set_other old.marked.items u v true false n) ∙ m))
 
@@ -112,8 +118,7 @@ pub still_marked : (old new : Marks) (u v : ℕ) → new.marked.items ≡ set ol
 still_marked old new u v e n h = ap (λ xs. get_or xs v false) e ∙ (get_or-set_other old.marked.items u v false false n ∙ h)
 
 -- in the list or among the queues that are to have turns, where their lists hold what they held, or another unit
-held : (net : Net) (old new : Marks) (v : ℕ) → (Holds v old.list.items → Holds v new.list.items) → (Holds v old.queues.items → Holds v new.queues.items) → Holds v old.list.items ⊎ ((is_lsq (kind_of net v) ≡ true) × Holds v old.queues.items)
-    → Holds v new.list.items ⊎ ((is_lsq (kind_of net v) ≡ true) × Holds v new.queues.items)
+held : (net : Net) (old new : Marks) (v : ℕ) → (Holds v old.list.items → Holds v new.list.items) → (Holds v old.queues.items → Holds v new.queues.items) → IsAwaited net old v → IsAwaited net new v
 held net old new v f g (inl k) = inl (f k)
 held net old new v f g (inr k) = inr (k.0, g k.1)
 
@@ -125,36 +130,57 @@ held_left xs ys u v l n h = by (holds_snoc ys u v (subst (Holds v) l h))
     by (inl k) = k
     by (inr z) = absurd (n z)
 
--- what is told apart from all queues is none
-pub other_kind : (k : Kind) → ((a d : ℕ) (ps : List Port) (gs : List (List ℕ)) (fw : Bool) → k ≡ Lsq a d ps gs fw → ⊥) → is_lsq k ≡ false
-other_kind (Lsq a d ps gs fw) n = absurd (n a d ps gs fw refl)
-other_kind k n = refl
-
--- the next number of the list was taken, and its mark
-pub taken_marked : (net : Net) (old new : Marks) (u : ℕ) → old.list.items ≡ new.list.items ++ u ∷ [] → new.queues ≡ old.queues → new.marked.items ≡ set old.marked.items u false → is_lsq (kind_of net u) ≡ false → IsTaken net old new u
-taken_marked net old new u l g e q = record {
-  long = ap length e ∙ length-set old.marked.items u false;
-  listed = λ h v m. (let w = unmarked old new u v e m in held net old new v (held_left old.list.items new.list.items u v l w.0) (subst (Holds v) (ap (λ (x : _). x.items) (sym g))) (h v w.1));
+-- the next unit of the list was taken, and its mark
+pub taken_marked : (old new : Marks) (u : ℕ) → AreWithin old → old.list.items ≡ new.list.items ++ u ∷ [] → new.queues ≡ old.queues → new.marked.items ≡ set old.marked.items u false → IsTaken old new u
+taken_marked old new u below l g e = record {
+  within = below u (subst (Holds u) (sym l) (holds_last new.list.items u));
+  long = long;
+  listed = λ net h. record {
+    within = λ v k. (let w = h.within v (subst (Holds v) (sym l) (holds_more new.list.items (u ∷ []) v k)) in omega (arith, long));
+    each = λ v m. (let w = unmarked old new u v e m in held net old new v (held_left old.list.items new.list.items u v l w.0) (subst (Holds v) (ap (λ (x : _). x.items) (sym g))) (h.each v w.1));
+  };
   left = λ v m. at v m (cases_eq v u);
   fewer = (let a = ap (λ (xs : List ℕ). length xs) l in let n = length-append new.list.items (u ∷ []) in omega arith);
 }
   where
-    at : (v : ℕ) → IsMarked old v → (v ≡ u) ⊎ (v ≢ u) → IsMarked new v ⊎ ((v ≡ u) × (is_lsq (kind_of net v) ≡ false))
-    at v m (inl z) = inr (z, ap (λ x. is_lsq (kind_of net x)) z ∙ q)
+    long : length new.marked.items ≡ length old.marked.items
+    long = ap length e ∙ length-set old.marked.items u false
+
+    at : (v : ℕ) → IsMarked old v → (v ≡ u) ⊎ (v ≢ u) → IsMarked new v ⊎ (v ≡ u)
+    at v m (inl z) = inr z
     at v m (inr n) = inl (still_marked old new u v e n m)
 
--- a queue was taken from the list, keeps its mark, and is to have a turn
-pub taken_queue : (net : Net) (old new : Marks) (u : ℕ) → old.list.items ≡ new.list.items ++ u ∷ [] → new.queues.items ≡ old.queues.items ++ u ∷ [] → new.marked.items ≡ old.marked.items → is_lsq (kind_of net u) ≡ true → IsTaken net old new u
-taken_queue net old new u l g e q = record {
-  long = ap length e;
-  listed = λ h v m. by v (cases_eq v u) (h v (ap (λ xs. get_or xs v false) (sym e) ∙ m));
-  left = λ v m. inl (ap (λ xs. get_or xs v false) e ∙ m);
-  fewer = (let a = ap (λ (xs : List ℕ). length xs) l in let n = length-append new.list.items (u ∷ []) in omega arith);
-}
-  where
-    by : (v : ℕ) → (v ≡ u) ⊎ (v ≢ u) → Holds v old.list.items ⊎ ((is_lsq (kind_of net v) ≡ true) × Holds v old.queues.items) → Holds v new.list.items ⊎ ((is_lsq (kind_of net v) ≡ true) × Holds v new.queues.items)
-    by v (inl z) h = (let P : ℕ → Type 0 = λ x. (is_lsq (kind_of net x) ≡ true) × Holds x new.queues.items in inr (subst P (sym z) (q, subst (Holds u) (sym g) (holds_last old.queues.items u))))
-    by v (inr n) h = held net old new v (held_left old.list.items new.list.items u v l n) (λ k. subst (Holds v) (sym g) (holds_more old.queues.items (u ∷ []) v k)) h
+-- a queue is marked again, and is to have a turn
+module _ (old new : Marks) (u : ℕ) (off : IsPutOff old new u) where
+  pub put_off_long : length new.marked.items ≡ length old.marked.items
+  put_off_long = ap length off.marked ∙ length-set old.marked.items u true
+
+  is : (v : ℕ) → get_or new.marked.items v false ≡ get_or (set old.marked.items u true) v false
+  is v = ap (λ xs. get_or xs v false) off.marked
+
+  pub put_off_own : u < length old.marked.items → IsMarked new u
+  put_off_own l = is u ∙ get_or-set_same old.marked.items u true false l
+
+  pub put_off_kept : (v : ℕ) → u < length old.marked.items → IsMarked old v → IsMarked new v
+  put_off_kept v l m = by (cases_eq v u)
+    where
+      by : (v ≡ u) ⊎ (v ≢ u) → IsMarked new v
+      by (inl z) = subst (IsMarked new) (sym z) (put_off_own l)
+      by (inr n) = is v ∙ (get_or-set_other old.marked.items u v true false n ∙ m)
+
+  pub put_off_listed : (net : Net) → is_lsq (kind_of net u) ≡ true → IsListed net old → IsListed net new
+  put_off_listed net q h = record {
+    within = λ v k. (let w = h.within v (subst (Holds v) (ap (λ (x : _). x.items) off.list) k) in omega (arith, put_off_long));
+    each = λ v m. at v m (cases_eq v u);
+  }
+    where
+      at : (v : ℕ) → IsMarked new v → (v ≡ u) ⊎ (v ≢ u) → IsAwaited net new v
+      at v m (inl z) =
+          let P : ℕ → Type 0 = λ x. (is_lsq (kind_of net x) ≡ true) × Holds x new.queues.items in
+          inr (subst P (sym z) (q, subst (Holds u) (sym off.queues) (holds_last old.queues.items u)))
+      at v m (inr n) =
+          held net old new v (subst (Holds v) (ap (λ (x : _). x.items) (sym off.list))) (λ k. subst (Holds v) (sym off.queues) (holds_more old.queues.items (u ∷ []) v k))
+          (h.each v (sym (is v ∙ get_or-set_other old.marked.items u v true false n) ∙ m))
 
 -- ---- the queues that are to have turns
 
@@ -164,20 +190,23 @@ holds_reordered xs ys x p h =
     record { at = w.0; within = w.1; is = w.2 0 }
 
 pub reordered_listed : (net : Net) (old new : Marks) → IsReordered old new → IsListed net old → IsListed net new
-reordered_listed net old new r h v m =
-    held net old new v (subst (Holds v) (ap (λ (x : _). x.items) (sym r.list))) (holds_reordered old.queues.items new.queues.items v r.queues) (h v (ap (λ (x : _). get_or x.items v false) (sym r.marked) ∙ m))
+reordered_listed net old new r h = record {
+  within = λ v k. (let w = h.within v (subst (Holds v) (ap (λ (x : _). x.items) r.list) k) in let n = ap (λ (x : _). length x.items) r.marked in omega (arith, n));
+  each = λ v m. held net old new v (subst (Holds v) (ap (λ (x : _). x.items) (sym r.list))) (holds_reordered old.queues.items new.queues.items v r.queues) (h.each v (ap (λ (x : _). get_or x.items v false) (sym r.marked) ∙ m));
+}
 
 -- the last was taken, and its mark
 pub turned_listed : (net : Net) (old new : Marks) (u : ℕ) → old.queues.items ≡ new.queues.items ++ u ∷ [] → new.list ≡ old.list → new.marked.items ≡ set old.marked.items u false → IsListed net old → IsListed net new
-turned_listed net old new u l g e h v m =
-    let w = unmarked old new u v e m in
-    held net old new v (subst (Holds v) (ap (λ (x : _). x.items) (sym g))) (held_left old.queues.items new.queues.items u v l w.0) (h v w.1)
+turned_listed net old new u l g e h = record {
+  within = λ v k. (let w = h.within v (subst (Holds v) (ap (λ (x : _). x.items) g) k) in let n = ap length e ∙ length-set old.marked.items u false in omega (arith, n));
+  each = λ v m. (let w = unmarked old new u v e m in held net old new v (subst (Holds v) (ap (λ (x : _). x.items) (sym g))) (held_left old.queues.items new.queues.items u v l w.0) (h.each v w.1));
+}
 
 -- a marked unit is a queue that is to have a turn, where the list is empty
 pub marked_queue : (net : Net) (m : Marks) (u : ℕ) → IsListed net m → m.list.items ≡ [] → IsMarked m u → (is_lsq (kind_of net u) ≡ true) × Holds u m.queues.items
-marked_queue net m u listed none k = by (listed u k)
+marked_queue net m u listed none k = by (listed.each u k)
   where
-    by : Holds u m.list.items ⊎ ((is_lsq (kind_of net u) ≡ true) × Holds u m.queues.items) → (is_lsq (kind_of net u) ≡ true) × Holds u m.queues.items
+    by : IsAwaited net m u → (is_lsq (kind_of net u) ≡ true) × Holds u m.queues.items
     by (inl h) = absurd (none_held m.list.items u none h)
     by (inr h) = h
 
@@ -206,17 +235,7 @@ or_as P e (inl x) = inl x
 or_as P e (inr p) = inr (subst P e p)
 
 pub emptied_listed : (net : Net) (old new : Marks) → IsEmptied old new → IsListed net old → IsListed net new
-emptied_listed net old new e h u m =
-    held net old new u (λ k. absurd (none_held old.list.items u e.before k)) (subst (Holds u) (ap (λ (v : _). v.items) (sym e.queues))) (h u (ap (λ (v : _). get_or v.items u false) (sym e.same) ∙ m))
-
--- what was taken, where a unit was or none was
-pub taken_none : (net : Net) (old new : Marks) (o : Option Turn) → o ≡ None → MatchOption o (IsEmptied old new) (λ t. IsTaken net old new t.unit × IsTurnKind net t) → IsEmptied old new
-taken_none net old new None e h = h
-taken_none net old new (Some t) e h = cc
-
-pub taken_some : (net : Net) (old new : Marks) (o : Option Turn) (t : Turn) → o ≡ Some t → MatchOption o (IsEmptied old new) (λ t. IsTaken net old new t.unit × IsTurnKind net t) → IsTaken net old new t.unit × IsTurnKind net t
-taken_some net old new o t e h = let P : Option Turn → Type 0 = λ x. MatchOption x (IsEmptied old new) (λ y. IsTaken net old new y.unit × IsTurnKind net y) in subst P e h
-
--- where no kind is told, the number is past the units
-pub no_kind : (net : Net) (t : Turn) → t.kind ≡ None → IsTurnKind net t → length net.units ≤ t.unit
-no_kind net t e h = let P : Option (Bor Kind) → Type 0 = λ o. MatchOption o (length net.units ≤ t.unit) (λ k. (t.unit < length net.units) × (k.now ≡ kind_of net t.unit)) in subst P e h
+emptied_listed net old new e h = record {
+  within = λ u k. absurd (none_held new.list.items u e.none k);
+  each = λ u m. held net old new u (λ k. absurd (none_held old.list.items u e.before k)) (subst (Holds u) (ap (λ (v : _). v.items) (sym e.queues))) (h.each u (ap (λ (v : _). get_or v.items u false) (sym e.same) ∙ m));
+}

@@ -2,7 +2,6 @@
 use Rattle.std.proofs.Common.{◌≡◌, ◌≢◌, ℕ, suc, zero, ◌+◌, ◌%◌, ◌<◌, ◌≤◌, ◌⊎◌, inl, inr, Bool, true, false, Option, Some, None, List, [], ◌∷◌, length, get_or, set, refl, sym, ap, subst, ◌∙◌, arith, IsSomeAnd, get_or-set_other}
 use Rattle.std.specs.List.{AllByRecursion}
 use Rattle.std.proofs.lemmas.Bool.{cases_lt, cases_eq}
-use Rattle.el_base.specs.Limits.{max_delay}
 use Rattle.net_types.specs.declared.net.Net.{Net}
 use Rattle.net_types.specs.declared.net.Unit.{Unit as Kind}
 use Rattle.net_types.specs.declared.net.Unit.TheVariants.{Lsq}
@@ -20,10 +19,11 @@ use Rattle.cycle_engine.specs.declared.engine.Bounds.{Bounds}
 use Rattle.cycle_engine.specs.declared.marks.Marks.{Marks}
 use Rattle.cycle_engine.specs.Cycles.{Dated, IsRipe, HasDepth, May, Makes, IsUnused, after_by, after_in}
 use Rattle.cycle_engine.specs.private.Trials.{dated_of, IsOldFull, IsFollowed, IsEngine}
-use Rattle.cycle_engine.specs.private.Marking.{Holds, HasUnit, no_firing, IsMarked, IsStarved, IsSourceMarked, IsFedMarked, cell, cells_of, entries_at}
+use Rattle.cycle_engine.specs.private.Marking.{Holds, HasUnit, no_firing, IsMarked, IsStarved, IsSourceMarked, IsFedMarked, HasCells, coming_in, cells_of, entries_at}
 use Rattle.cycle_engine.specs.private.Goings.{Past, IsReady, HasDone, IsStirred, IsWatching, AreComing}
 use Rattle.cycle_engine.specs.private.Places.{IsFull}
 use Rattle.cycle_engine.specs.Rousing.{Could}
+use Rattle.cycle_engine.proofs.NoteLemmas.{apart_rests, cleared_long}
 use Rattle.cycle_engine.proofs.BeforeLemmas.{some_within, after_of, may_could}
 use Rattle.cycle_engine.proofs.RousingLemmas.{slots_within, next_could}
 use Rattle.cycle_engine.proofs.DateLemmas.{each_as, effect_there}
@@ -139,12 +139,12 @@ module _ (net : Net) (past : Past) (b : Bounds) (c : ℕ) (start : Dated) (e : E
           within : into g.unit p net.chans < length net.chans
           within = (let w = some_within (dates_of e.state) (into g.unit p net.chans) (λ x. x + (chan_at net (into g.unit p net.chans)).delay ≤ suc c) r in let k = eng.dated.lists in omega arith)
 
-          at : (x : ℕ) → x + (chan_at net (into g.unit p net.chans)).delay ≤ suc c → (x < c + 1) × (c + 1 ≤ x + (chan_at net (into g.unit p net.chans)).delay → Holds (into g.unit p net.chans) (cell e.notes ((x + (chan_at net (into g.unit p net.chans)).delay) % 1024)))
+          at : (x : ℕ) → x + (chan_at net (into g.unit p net.chans)).delay ≤ suc c → (x < c + 1) × (c + 1 ≤ x + (chan_at net (into g.unit p net.chans)).delay → Holds (into g.unit p net.chans) (coming_in e.notes (x + (chan_at net (into g.unit p net.chans)).delay)))
               → (x + (chan_at net (into g.unit p net.chans)).delay ≤ c) ⊎ (c < x + (chan_at net (into g.unit p net.chans)).delay) → x + (chan_at net (into g.unit p net.chans)).delay ≤ c
           at x l k (inl m) = m
           at x l k (inr m) =
               let z : x + (chan_at net (into g.unit p net.chans)).delay ≡ c + 1 = omega arith in
-              let P : ℕ → Type 0 = λ n. Holds (into g.unit p net.chans) (cell e.notes (n % 1024)) in
+              let P : ℕ → Type 0 = λ n. Holds (into g.unit p net.chans) (coming_in e.notes n) in
               absurd (quiet (inr (inr (inr (record {
                 chan = into g.unit p net.chans;
                 coming = subst P z (k.1 (omega arith));
@@ -161,7 +161,7 @@ module _ (net : Net) (past : Past) (b : Bounds) (c : ℕ) (start : Dated) (e : E
               swap (inr l) = inl l
 
           by : (ds : List ℕ) → get_or (dates_of e.state) (into g.unit p net.chans) [] ≡ ds
-              → AllByRecursion (λ x. (x < c + 1) × (c + 1 ≤ x + (chan_at net (into g.unit p net.chans)).delay → Holds (into g.unit p net.chans) (cell e.notes ((x + (chan_at net (into g.unit p net.chans)).delay) % 1024)))) ds
+              → AllByRecursion (λ x. (x < c + 1) × (c + 1 ≤ x + (chan_at net (into g.unit p net.chans)).delay → Holds (into g.unit p net.chans) (coming_in e.notes (x + (chan_at net (into g.unit p net.chans)).delay)))) ds
               → IsSomeAnd (first ds) (λ date. date + (chan_at net (into g.unit p net.chans)).delay ≤ suc c) → IsSomeAnd (first ds) (λ date. date + (chan_at net (into g.unit p net.chans)).delay ≤ c)
           by [] i k h = absurd h
           by (x ∷ ds) i k h = at x h k.0 (or (x + (chan_at net (into g.unit p net.chans)).delay) c)
@@ -203,7 +203,7 @@ begun_watching net past b c n old new checked ready done same marked g un m = by
 pub stirred_marked : (net : Net) (c : ℕ) (old : Engine) (m1 m2 m3 : Marks) (n : ℕ) → length net.units ≡ n → ((u : ℕ) → IsMarked old.marks u → IsMarked m1 u) → ((u : ℕ) → IsMarked m1 u → IsMarked m2 u) → ((u : ℕ) → IsMarked m2 u → IsMarked m3 u)
     → ((u : ℕ) → Holds u old.again.items → (IsStarved net (state_of old.state) u → ⊥) → u < n → IsMarked m1 u)
     → ((d : ℕ) → Holds d old.freed.list.items → IsSourceMarked net (state_of old.state) n m2 d)
-    → ((d : ℕ) → Holds d (cell old.notes (c % 1024)) → IsFedMarked net (state_of old.state) n m3 d)
+    → ((d : ℕ) → Holds d (coming_in old.notes c) → IsFedMarked net (state_of old.state) n m3 d)
     → (u : ℕ) → u < length net.units → IsStirred net c old u → IsMarked m3 u
 stirred_marked net c old m1 m2 m3 n e a1 a2 a3 again freed ripened u l (inl k) = a3 u (a2 u (a1 u k))
 stirred_marked net c old m1 m2 m3 n e a1 a2 a3 again freed ripened u l (inr (inl h)) = a3 u (a2 u (again u h.0 h.1 (omega arith)))
@@ -229,24 +229,28 @@ begun_followed net c old new same none coming d = record {
     older : AllByRecursion (λ x. x < c) (get_or (dates_of new.state) d [])
     older =
         let P : Dated → Type 0 = λ s. AllByRecursion (λ x. x < c) (get_or s.dates d []) in
-        subst P (sym same) (each_as (λ x. (x < c) × (c ≤ x + (chan_at net d).delay → Holds d (cell old.notes ((x + (chan_at net d).delay) % 1024)))) (λ x. x < c) (λ x k. k.0) (get_or (dates_of old.state) d []) (coming d))
+        subst P (sym same) (each_as (λ x. (x < c) × (c ≤ x + (chan_at net d).delay → Holds d (coming_in old.notes (x + (chan_at net d).delay)))) (λ x. x < c) (λ x k. k.0) (get_or (dates_of old.state) d []) (coming d))
 
     by : (length (tokens_at (state_of old.state) d) < (chan_at net d).slots) ⊎ ((chan_at net d).slots ≤ length (tokens_at (state_of old.state) d))
         → (length (tokens_at (state_of old.state) d) < (chan_at net d).slots) ⊎ IsOldFull net c new d
     by (inl l) = inl l
     by (inr l) = inr (omega (arith, tokens), older)
 
-apart_cells : (x c delay : ℕ) → delay ≤ max_delay → x < c → c + 1 ≤ x + delay → (x + delay) % 1024 ≢ c % 1024
-apart_cells x c delay m l k e = omega arith
-
 -- the cell of the cycle that begins is emptied
-pub begun_coming : (net : Net) (c : ℕ) (old new : Engine) → ((d : ℕ) → (chan_at net d).delay ≤ max_delay) → (dates_of new.state) ≡ (dates_of old.state) → cells_of new.notes ≡ set (cells_of old.notes) (c % 1024) [] → AreComing net c old → AreComing net (c + 1) new
-begun_coming net c old new most same cells h d =
-    let P : List (List ℕ) → Type 0 = λ xs. AllByRecursion (λ x. (x < c + 1) × (c + 1 ≤ x + (chan_at net d).delay → Holds d (cell new.notes ((x + (chan_at net d).delay) % 1024)))) (get_or xs d []) in
-    subst P (sym same) (each_as (λ x. (x < c) × (c ≤ x + (chan_at net d).delay → Holds d (cell old.notes ((x + (chan_at net d).delay) % 1024)))) (λ x. (x < c + 1) × (c + 1 ≤ x + (chan_at net d).delay → Holds d (cell new.notes ((x + (chan_at net d).delay) % 1024))))
+pub begun_coming : (net : Net) (c : ℕ) (old new : Engine) → HasCells net old.notes → (dates_of new.state) ≡ (dates_of old.state) → cells_of new.notes ≡ set (cells_of old.notes) (c % length (cells_of old.notes)) [] → AreComing net c old → AreComing net (c + 1) new
+begun_coming net c old new has same cells h d =
+    let P : List (List ℕ) → Type 0 = λ xs. AllByRecursion (λ x. (x < c + 1) × (c + 1 ≤ x + (chan_at net d).delay → Holds d (coming_in new.notes (x + (chan_at net d).delay)))) (get_or xs d []) in
+    subst P (sym same) (each_as (λ x. (x < c) × (c ≤ x + (chan_at net d).delay → Holds d (coming_in old.notes (x + (chan_at net d).delay)))) (λ x. (x < c + 1) × (c + 1 ≤ x + (chan_at net d).delay → Holds d (coming_in new.notes (x + (chan_at net d).delay))))
     (λ x k. (omega (arith, k.0), λ l. at x k.0 l (k.1 (omega arith)))) (get_or (dates_of old.state) d []) (h d))
   where
-    at : (x : ℕ) → x < c → c + 1 ≤ x + (chan_at net d).delay → Holds d (cell old.notes ((x + (chan_at net d).delay) % 1024)) → Holds d (cell new.notes ((x + (chan_at net d).delay) % 1024))
+    n : ℕ
+    n = length (cells_of old.notes)
+
+    at : (x : ℕ) → x < c → c + 1 ≤ x + (chan_at net d).delay → Holds d (coming_in old.notes (x + (chan_at net d).delay)) → Holds d (coming_in new.notes (x + (chan_at net d).delay))
     at x l k q =
+        let t : ℕ = x + (chan_at net d).delay in
+        let m = has.more d in
         let P : List ℕ → Type 0 = Holds d in
-        subst P (sym (ap (λ xs. get_or xs ((x + (chan_at net d).delay) % 1024) []) cells ∙ get_or-set_other (cells_of old.notes) (c % 1024) ((x + (chan_at net d).delay) % 1024) [] [] (apart_cells x c (chan_at net d).delay (most d) l k))) q
+        let Q : ℕ → Type 0 = λ j. Holds d (get_or (cells_of new.notes) (t % j) []) in
+        subst Q (sym (cleared_long old.notes new.notes (c % n) cells))
+        (subst P (sym (ap (λ xs. get_or xs (t % n) []) cells ∙ get_or-set_other (cells_of old.notes) (c % n) (t % n) [] [] (apart_rests c t n (omega arith) (omega arith)))) q)

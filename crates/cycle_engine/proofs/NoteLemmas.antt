@@ -1,8 +1,12 @@
 -- What is noted of a firing, and what is known from it.
-use Rattle.std.proofs.Common.{◌≡◌, ◌≢◌, ℕ, suc, zero, ◌+◌, ◌-◌, ◌%◌, ◌<◌, ◌≤◌, ◌⊎◌, ◌==◌, ◌||◌, inl, inr, nat_lt, Bool, true, false, cond, Option, Some, None, List, [], ◌∷◌, ◌++◌, length, map, get_or, set, refl, sym, ap, subst, ◌∙◌, arith, IfSome, length-set, get_or-set_same, get_or-set_other, eqb-true}
+use Rattle.std.proofs.Common.{◌≡◌, ◌≢◌, ℕ, suc, zero, ◌+◌, ◌-◌, ◌*◌, ◌/◌, ◌%◌, ◌<◌, ◌≤◌, ◌⊎◌, ◌==◌, ◌||◌, inl, inr, nat_lt, Bool, true, false, cond, Option, Some, None, List, [], ◌∷◌, ◌++◌, length, map, get_or, set, refl, sym, ap, subst, ◌∙◌, arith, IfSome, bit_and, length-set, get_or-set_same, get_or-set_other, eqb-true}
+use Rattle.std.proofs.Common.{mod-eq_of_lt, div-add-mod'}
+use native.Mathlib.Nat.{add-mod_left, mul-add-mod_self_right}
 use Rattle.std.specs.List.{AllByRecursion}
-use Rattle.std.proofs.lemmas.Bool.{cases_eq, cases_lt, lt-ltb}
-use Rattle.std.proofs.lemmas.List.{get_or_past, length-map}
+use Rattle.std.specs.Int.{IsPowerOfTwo}
+use Rattle.std.proofs.lemmas.Bool.{cases_eq, cases_lt, lt-ltb, le-ltb}
+use Rattle.std.proofs.lemmas.Nat.{and_mask, mod_below, pow_pos}
+use Rattle.std.proofs.lemmas.List.{get_or_past}
 use Rattle.net_types.specs.declared.net.Net.{Net}
 use Rattle.net_types.specs.declared.firing.Firing.{Firing}
 use Rattle.net_types.specs.Nets.{into, kind_of, chan_at}
@@ -18,57 +22,93 @@ use Rattle.cycle_engine.specs.declared.engine.Engine.{Engine}
 use Rattle.cycle_engine.specs.declared.notes.Notes.{Notes}
 use Rattle.cycle_engine.specs.Cycles.{Dated, dated, after_by, after_in}
 use Rattle.cycle_engine.specs.private.Trials.{dated_of, IsEngine}
-use Rattle.cycle_engine.specs.private.Marking.{Holds, cell, lists_of, cells_of, cells_with, IsNoted}
+use Rattle.cycle_engine.specs.private.Marking.{Holds, AreCells, HasCells, around, cell, coming_in, lists_of, cells_of, cells_with, IsNoted}
 use Rattle.cycle_engine.specs.private.Stacks.{Stacked}
 use Rattle.cycle_engine.specs.private.Goings.{AreComing}
 use Rattle.cycle_engine.proofs.BeforeLemmas.{after_of, dated_put}
 use Rattle.cycle_engine.proofs.DateLemmas.{each_as, each_taken, each_added}
 use Rattle.cycle_engine.proofs.MarkLemmas.{holds_last, holds_more}
 
+-- ---- numbers of cells
+
+pub power_some : (n : ℕ) → IsPowerOfTwo n → 0 < n
+power_some n p = subst (λ m. 0 < m) (sym p.1) (pow_pos p.0)
+
+pub masked : (x n : ℕ) → IsPowerOfTwo n → bit_and x (n - 1) ≡ x % n
+masked x n p = subst (λ m. bit_and x (m - 1) ≡ x % m) (sym p.1) (and_mask x p.0)
+
+-- numbers that are less than a round apart have other rests
+pub apart_rests : (c t n : ℕ) → c < t → t < c + n → t % n ≢ c % n
+apart_rests c t n l m e = by (cases_lt (c % n + (t - c)) n)
+  where
+    some : 0 < n
+    some = omega arith
+
+    below : c % n < n
+    below = mod_below c n some
+
+    parts : c / n * n + c % n ≡ c
+    parts = div-add-mod' c n
+
+    rest : t % n ≡ (c % n + (t - c)) % n
+    rest = ap (λ x. x % n) (let z : t ≡ c / n * n + (c % n + (t - c)) = omega (arith, parts) in z) ∙ mul-add-mod_self_right (c / n) n (c % n + (t - c))
+
+    by : (c % n + (t - c) < n) ⊎ (n ≤ c % n + (t - c)) → ⊥
+    by (inl k) = let z : (c % n + (t - c)) % n ≡ c % n + (t - c) = mod-eq_of_lt k in absurd (omega (arith, rest, z, e))
+    by (inr k) =
+        let y : ℕ = c % n + (t - c) - n in
+        let x : (c % n + (t - c)) % n ≡ y % n = ap (λ z. z % n) (let z : c % n + (t - c) ≡ n + y = omega (arith, k) in z) ∙ add-mod_left n y in
+        let z : y % n ≡ y = mod-eq_of_lt (let w : y < n = omega (arith, below, k) in w) in
+        absurd (omega (arith, rest, x, z, e, below, k))
+
 -- ---- notes
+
+-- the cell for the cycle in which a token ripens that is put on the channel d in the cycle c
+abbrev ripe_cell : Net → ℕ → ℕ → List (List ℕ) → ℕ
+ripe_cell net d c xs = (c + (chan_at net d).delay) % length xs
+
+-- the channel d more in the cell i
+abbrev with_one : List (List ℕ) → ℕ → ℕ → List (List ℕ)
+with_one xs i d = set xs i (get_or xs i [] ++ d ∷ [])
 
 long_with : (net : Net) (d c : ℕ) (xs : List (List ℕ)) → length (cells_with net d c xs) ≡ length xs
 long_with net d c xs = by (nat_lt 0 (chan_at net d).delay)
   where
-    by : (b : Bool) → length (cond b (set xs ((c + (chan_at net d).delay) % 1024) (get_or xs ((c + (chan_at net d).delay) % 1024) [] ++ d ∷ [])) xs) ≡ length xs
-    by true = length-set xs ((c + (chan_at net d).delay) % 1024) (get_or xs ((c + (chan_at net d).delay) % 1024) [] ++ d ∷ [])
+    by : (b : Bool) → length (cond b (with_one xs (ripe_cell net d c xs) d) xs) ≡ length xs
+    by true = length-set xs (ripe_cell net d c xs) (get_or xs (ripe_cell net d c xs) [] ++ d ∷ [])
     by false = refl
 
-kept_with : (net : Net) (d c k x : ℕ) (xs : List (List ℕ)) → length xs ≡ 1024 → Holds x (get_or xs k []) → Holds x (get_or (cells_with net d c xs) k [])
-kept_with net d c k x xs long h = by (nat_lt 0 (chan_at net d).delay)
+kept_one : (d i k x : ℕ) (xs : List (List ℕ)) → i < length xs → Holds x (get_or xs k []) → Holds x (get_or (with_one xs i d) k [])
+kept_one d i k x xs l h = at (cases_eq k i)
   where
-    i : ℕ
-    i = (c + (chan_at net d).delay) % 1024
+    P : List ℕ → Type 0
+    P ys = Holds x ys
 
-    l : (c + (chan_at net d).delay) % 1024 < length xs
-    l = omega arith
+    at : (k ≡ i) ⊎ (k ≢ i) → Holds x (get_or (with_one xs i d) k [])
+    at (inr n) = subst P (sym (get_or-set_other xs i k (get_or xs i [] ++ d ∷ []) [] n)) h
+    at (inl e) =
+        let Q : ℕ → Type 0 = λ z. Holds x (get_or (with_one xs i d) z []) in
+        let R : ℕ → Type 0 = λ z. Holds x (get_or xs z []) in
+        subst Q (sym e) (subst P (sym (get_or-set_same xs i (get_or xs i [] ++ d ∷ []) [] l)) (holds_more (get_or xs i []) (d ∷ []) x (subst R e h)))
 
-    by : (b : Bool) → Holds x (get_or (cond b (set xs ((c + (chan_at net d).delay) % 1024) (get_or xs ((c + (chan_at net d).delay) % 1024) [] ++ d ∷ [])) xs) k [])
+kept_with : (net : Net) (d c k x : ℕ) (xs : List (List ℕ)) → 0 < length xs → Holds x (get_or xs k []) → Holds x (get_or (cells_with net d c xs) k [])
+kept_with net d c k x xs some h = by (nat_lt 0 (chan_at net d).delay)
+  where
+    by : (b : Bool) → Holds x (get_or (cond b (with_one xs (ripe_cell net d c xs) d) xs) k [])
+    by true = kept_one d (ripe_cell net d c xs) k x xs (mod_below (c + (chan_at net d).delay) (length xs) some) h
     by false = h
-    by true = at (cases_eq k ((c + (chan_at net d).delay) % 1024))
-      where
-        P : List ℕ → Type 0
-        P ys = Holds x ys
 
-        at : (k ≡ (c + (chan_at net d).delay) % 1024) ⊎ (k ≢ (c + (chan_at net d).delay) % 1024) → Holds x (get_or (set xs ((c + (chan_at net d).delay) % 1024) (get_or xs ((c + (chan_at net d).delay) % 1024) [] ++ d ∷ [])) k [])
-        at (inr n) = subst P (sym (get_or-set_other xs ((c + (chan_at net d).delay) % 1024) k (get_or xs ((c + (chan_at net d).delay) % 1024) [] ++ d ∷ []) [] n)) h
-        at (inl e) =
-            let q = get_or-set_same xs ((c + (chan_at net d).delay) % 1024) (get_or xs ((c + (chan_at net d).delay) % 1024) [] ++ d ∷ []) [] l in
-            let Q : ℕ → Type 0 = λ z. Holds x (get_or (set xs ((c + (chan_at net d).delay) % 1024) (get_or xs ((c + (chan_at net d).delay) % 1024) [] ++ d ∷ [])) z []) in
-            let R : ℕ → Type 0 = λ z. Holds x (get_or xs z []) in
-            subst Q (sym e) (subst P (sym q) (holds_more (get_or xs ((c + (chan_at net d).delay) % 1024) []) (d ∷ []) x (subst R e h)))
-
-comes_with : (net : Net) (d c : ℕ) (xs : List (List ℕ)) → length xs ≡ 1024 → 0 < (chan_at net d).delay → Holds d (get_or (cells_with net d c xs) ((c + (chan_at net d).delay) % 1024) [])
-comes_with net d c xs long p = by (nat_lt 0 (chan_at net d).delay) refl
+comes_with : (net : Net) (d c : ℕ) (xs : List (List ℕ)) → 0 < length xs → 0 < (chan_at net d).delay → Holds d (get_or (cells_with net d c xs) (ripe_cell net d c xs) [])
+comes_with net d c xs some p = by (nat_lt 0 (chan_at net d).delay) refl
   where
-    l : (c + (chan_at net d).delay) % 1024 < length xs
-    l = omega arith
-
     P : List ℕ → Type 0
     P ys = Holds d ys
 
-    by : (b : Bool) → nat_lt 0 (chan_at net d).delay ≡ b → Holds d (get_or (cond b (set xs ((c + (chan_at net d).delay) % 1024) (get_or xs ((c + (chan_at net d).delay) % 1024) [] ++ d ∷ [])) xs) ((c + (chan_at net d).delay) % 1024) [])
-    by true e = subst P (sym (get_or-set_same xs ((c + (chan_at net d).delay) % 1024) (get_or xs ((c + (chan_at net d).delay) % 1024) [] ++ d ∷ []) [] l)) (holds_last (get_or xs ((c + (chan_at net d).delay) % 1024) []) d)
+    i : ℕ
+    i = ripe_cell net d c xs
+
+    by : (b : Bool) → nat_lt 0 (chan_at net d).delay ≡ b → Holds d (get_or (cond b (with_one xs (ripe_cell net d c xs) d) xs) (ripe_cell net d c xs) [])
+    by true e = subst P (sym (get_or-set_same xs i (get_or xs i [] ++ d ∷ []) [] (mod_below (c + (chan_at net d).delay) (length xs) some))) (holds_last (get_or xs i []) d)
     by false e = let z : true ≡ false = sym (lt-ltb 0 (chan_at net d).delay p) ∙ e in cc
 
 -- the list of a cell
@@ -78,31 +118,48 @@ list_at (x ∷ xs) zero v l e = ap (λ (y : Stacked ℕ). y.items) e
 list_at (x ∷ xs) (suc i) v l e = list_at xs i v (omega arith) e
 
 -- where each cell from one on is empty, so many in all, each is
-pub none_noted : (n : Notes) (first : ℕ) → length n.coming.items ≡ 1024 → first < 1024 → ((a : ℕ) → a < 1024 → cell n ((first + a) % 1024) ≡ []) → (k : ℕ) → cell n k ≡ []
-none_noted n first long l empty k = by (cases_lt k 1024)
+pub none_noted : (n : Notes) (first : ℕ) → first < length (cells_of n) → ((a : ℕ) → a < length (cells_of n) → cell n (around first a (length (cells_of n))) ≡ []) → (k : ℕ) → cell n k ≡ []
+none_noted n first l empty k = by (cases_lt k (length (cells_of n)))
   where
-    by : (k < 1024) ⊎ (1024 ≤ k) → cell n k ≡ []
-    by (inl w) =
-        let w' : k < 1024 = w in
-        let a : ℕ = (k + (1024 - first)) % 1024 in
-        let e : (first + (k + (1024 - first)) % 1024) % 1024 ≡ k = omega arith in
-        let P : ℕ → Type 0 = λ i. cell n i ≡ [] in
-        subst P e (empty ((k + (1024 - first)) % 1024) (omega arith))
-    by (inr w) = let w' : 1024 ≤ k = w in let e = length-map n.coming.items (λ (v : Stacked ℕ). v.items) in get_or_past (cells_of n) k [] (omega arith)
+    count : ℕ
+    count = length (cells_of n)
+
+    P : ℕ → Type 0
+    P i = cell n i ≡ []
+
+    -- where the cell k comes after the first, or before it
+    at : k < count → (k < first) ⊎ (first ≤ k) → cell n k ≡ []
+    at w (inr f) =
+        let e : around first (k - first) count ≡ k = ap (λ b. cond b (first + (k - first)) (k - first - (count - first))) (lt-ltb (k - first) (count - first) (omega arith)) ∙ omega arith in
+        subst P e (empty (k - first) (omega arith))
+    at w (inl f) =
+        let a : ℕ = k + (count - first) in
+        let e : around first a count ≡ k = ap (λ b. cond b (first + a) (a - (count - first))) (le-ltb a (count - first) (omega arith)) ∙ omega arith in
+        subst P e (empty a (omega arith))
+
+    by : (k < count) ⊎ (count ≤ k) → cell n k ≡ []
+    by (inl w) = at w (cases_lt k first)
+    by (inr w) = get_or_past (cells_of n) k [] w
 
 -- a firing that puts a token on a channel
-pub noted_some : (net : Net) (laid : Option Laid) (w : Laid) (c : ℕ) (old new : Notes) → laid ≡ Some w → length old.coming.items ≡ 1024 → cells_of new ≡ cells_with net w.chan c (cells_of old) → IsNoted net laid c old new
-noted_some net laid w c old new s long k = record {
-  cells = sym (length-map new.coming.items _) ∙ (ap (λ (xs : List (List ℕ)). length xs) k ∙ (long_with net w.chan c (cells_of old) ∙ length-map old.coming.items _));
-  kept = λ x d h. (let P : List (List ℕ) → Type 0 = λ xs. Holds d (get_or xs x []) in subst P (sym k) (kept_with net w.chan c x d (cells_of old) cells_long h));
-  comes = (let P : Option Laid → Type 0 = λ o. IfSome o (λ w. 0 < (chan_at net w.chan).delay → Holds w.chan (cell new ((c + (chan_at net w.chan).delay) % 1024))) in subst P (sym s) comes);
+pub noted_some : (net : Net) (laid : Option Laid) (w : Laid) (c : ℕ) (old new : Notes) → laid ≡ Some w → AreCells old → cells_of new ≡ cells_with net w.chan c (cells_of old) → IsNoted net laid c old new
+noted_some net laid w c old new s power k = record {
+  cells = ap length k ∙ long;
+  kept = λ t d h. noted t d (kept_with net w.chan c (t % length (cells_of old)) d (cells_of old) some h);
+  comes = (let P : Option Laid → Type 0 = λ o. IfSome o (λ w. 0 < (chan_at net w.chan).delay → Holds w.chan (coming_in new (c + (chan_at net w.chan).delay))) in subst P (sym s) (λ p. noted (c + (chan_at net w.chan).delay) w.chan (comes_with net w.chan c (cells_of old) some p)));
 }
   where
-    cells_long : length (cells_of old) ≡ 1024
-    cells_long = length-map old.coming.items _ ∙ long
+    some : 0 < length (cells_of old)
+    some = power_some (length (cells_of old)) power
 
-    comes : 0 < (chan_at net w.chan).delay → Holds w.chan (cell new ((c + (chan_at net w.chan).delay) % 1024))
-    comes p = (let P : List (List ℕ) → Type 0 = λ xs. Holds w.chan (get_or xs ((c + (chan_at net w.chan).delay) % 1024) []) in subst P (sym k) (comes_with net w.chan c (cells_of old) cells_long p))
+    long : length (cells_with net w.chan c (cells_of old)) ≡ length (cells_of old)
+    long = long_with net w.chan c (cells_of old)
+
+    noted : (t d : ℕ) → Holds d (get_or (cells_with net w.chan c (cells_of old)) (t % length (cells_of old)) []) → Holds d (coming_in new t)
+    noted t d h =
+        let P : List (List ℕ) → Type 0 = λ xs. Holds d (get_or xs (t % length xs) []) in
+        let Q : ℕ → Type 0 = λ n. Holds d (get_or (cells_with net w.chan c (cells_of old)) (t % n) []) in
+        subst P (sym k) (subst Q (sym long) h)
 
 -- ---- after a firing
 
@@ -136,35 +193,40 @@ pub coming_after : (net : Net) (c : ℕ) (e e' : Engine) (f : Firing) (p : Plan)
 coming_after net c e e' f p eng r n h d = at (cases_lt d (length (dates_of e.state)))
   where
     Q : ℕ → Type 0
-    Q x = (x < c + 1) × (c + 1 ≤ x + (chan_at net d).delay → Holds d (cell e'.notes ((x + (chan_at net d).delay) % 1024)))
+    Q x = (x < c + 1) × (c + 1 ≤ x + (chan_at net d).delay → Holds d (coming_in e'.notes (x + (chan_at net d).delay)))
 
     same : get_or (dates_of e'.state) d [] ≡ get_or (after_of net c (dated_of e) f.unit (effect_in net e f p)).dates d []
     same = ap (λ (s : Dated). get_or s.dates d []) r
 
-    old : AllByRecursion (λ x. (x < c + 1) × (c + 1 ≤ x + (chan_at net d).delay → Holds d (cell e'.notes ((x + (chan_at net d).delay) % 1024)))) (get_or (dates_of e.state) d [])
-    old = each_as (λ x. (x < c + 1) × (c + 1 ≤ x + (chan_at net d).delay → Holds d (cell e.notes ((x + (chan_at net d).delay) % 1024)))) (λ x. (x < c + 1) × (c + 1 ≤ x + (chan_at net d).delay → Holds d (cell e'.notes ((x + (chan_at net d).delay) % 1024))))
-        (λ x k. (k.0, λ l. n.kept ((x + (chan_at net d).delay) % 1024) d (k.1 l))) (get_or (dates_of e.state) d []) (h d)
+    old : AllByRecursion (λ x. (x < c + 1) × (c + 1 ≤ x + (chan_at net d).delay → Holds d (coming_in e'.notes (x + (chan_at net d).delay)))) (get_or (dates_of e.state) d [])
+    old = each_as (λ x. (x < c + 1) × (c + 1 ≤ x + (chan_at net d).delay → Holds d (coming_in e.notes (x + (chan_at net d).delay)))) (λ x. (x < c + 1) × (c + 1 ≤ x + (chan_at net d).delay → Holds d (coming_in e'.notes (x + (chan_at net d).delay))))
+        (λ x k. (k.0, λ l. n.kept (x + (chan_at net d).delay) d (k.1 l))) (get_or (dates_of e.state) d []) (h d)
 
-    here : (x : ℕ) → puts_on net f.unit (dated c p.put) d ≡ Some x → (x < c + 1) × (c + 1 ≤ x + (chan_at net d).delay → Holds d (cell e'.notes ((x + (chan_at net d).delay) % 1024)))
+    here : (x : ℕ) → puts_on net f.unit (dated c p.put) d ≡ Some x → (x < c + 1) × (c + 1 ≤ x + (chan_at net d).delay → Holds d (coming_in e'.notes (x + (chan_at net d).delay)))
     here x q =
         let w = dated_put net f.unit c d x p.put q in
         let z : x ≡ c = w.0 in
-        let R : ℕ → Type 0 = λ y. 0 < (chan_at net y).delay → Holds y (cell e'.notes ((c + (chan_at net y).delay) % 1024)) in
-        let k : 0 < (chan_at net d).delay → Holds d (cell e'.notes ((c + (chan_at net d).delay) % 1024)) = laid_held net f.unit d p.put R w.1 n.comes in
-        let S : ℕ → Type 0 = λ y. (y < c + 1) × (c + 1 ≤ y + (chan_at net d).delay → Holds d (cell e'.notes ((y + (chan_at net d).delay) % 1024))) in
+        let R : ℕ → Type 0 = λ y. 0 < (chan_at net y).delay → Holds y (coming_in e'.notes (c + (chan_at net y).delay)) in
+        let k : 0 < (chan_at net d).delay → Holds d (coming_in e'.notes (c + (chan_at net d).delay)) = laid_held net f.unit d p.put R w.1 n.comes in
+        let S : ℕ → Type 0 = λ y. (y < c + 1) × (c + 1 ≤ y + (chan_at net d).delay → Holds d (coming_in e'.notes (y + (chan_at net d).delay))) in
         subst S (sym z) (omega arith, λ l. k (omega arith))
 
-    at : (d < length (dates_of e.state)) ⊎ (length (dates_of e.state) ≤ d) → AllByRecursion (λ x. (x < c + 1) × (c + 1 ≤ x + (chan_at net d).delay → Holds d (cell e'.notes ((x + (chan_at net d).delay) % 1024)))) (get_or (dates_of e'.state) d [])
+    at : (d < length (dates_of e.state)) ⊎ (length (dates_of e.state) ≤ d) → AllByRecursion (λ x. (x < c + 1) × (c + 1 ≤ x + (chan_at net d).delay → Holds d (coming_in e'.notes (x + (chan_at net d).delay)))) (get_or (dates_of e'.state) d [])
     at (inl l) =
-        let P : List ℕ → Type 0 = AllByRecursion (λ x. (x < c + 1) × (c + 1 ≤ x + (chan_at net d).delay → Holds d (cell e'.notes ((x + (chan_at net d).delay) % 1024)))) in
+        let P : List ℕ → Type 0 = AllByRecursion (λ x. (x < c + 1) × (c + 1 ≤ x + (chan_at net d).delay → Holds d (coming_in e'.notes (x + (chan_at net d).delay)))) in
         let ed = get-changed (moved net f.unit (record (effect_in net e f p) { put = dated c p.put })) 0 (dates_of e.state) d d (omega arith) l in
-        subst P (sym (same ∙ ed)) (each_added (λ x. (x < c + 1) × (c + 1 ≤ x + (chan_at net d).delay → Holds d (cell e'.notes ((x + (chan_at net d).delay) % 1024)))) (puts_on net f.unit (dated c p.put) d) (taken (takes_from net f.unit (effect_in net e f p) d) (get_or (dates_of e.state) d []))
-        (each_taken (λ x. (x < c + 1) × (c + 1 ≤ x + (chan_at net d).delay → Holds d (cell e'.notes ((x + (chan_at net d).delay) % 1024)))) (takes_from net f.unit (effect_in net e f p) d) (get_or (dates_of e.state) d []) old) here)
+        subst P (sym (same ∙ ed)) (each_added (λ x. (x < c + 1) × (c + 1 ≤ x + (chan_at net d).delay → Holds d (coming_in e'.notes (x + (chan_at net d).delay)))) (puts_on net f.unit (dated c p.put) d) (taken (takes_from net f.unit (effect_in net e f p) d) (get_or (dates_of e.state) d []))
+        (each_taken (λ x. (x < c + 1) × (c + 1 ≤ x + (chan_at net d).delay → Holds d (coming_in e'.notes (x + (chan_at net d).delay)))) (takes_from net f.unit (effect_in net e f p) d) (get_or (dates_of e.state) d []) old) here)
     at (inr l) =
-        let P : List ℕ → Type 0 = AllByRecursion (λ x. (x < c + 1) × (c + 1 ≤ x + (chan_at net d).delay → Holds d (cell e'.notes ((x + (chan_at net d).delay) % 1024)))) in
+        let P : List ℕ → Type 0 = AllByRecursion (λ x. (x < c + 1) × (c + 1 ≤ x + (chan_at net d).delay → Holds d (coming_in e'.notes (x + (chan_at net d).delay)))) in
         let m = length-changed (moved net f.unit (record (effect_in net e f p) { put = dated c p.put })) 0 (dates_of e.state) in
         let l' : length (dates_of e.state) ≤ d = l in
         subst P (sym (same ∙ get_or_past (after_of net c (dated_of e) f.unit (effect_in net e f p)).dates d [] (omega arith))) tt
 
-pub cleared_long : (old new : Notes) (i : ℕ) → cells_of new ≡ set (cells_of old) i [] → length new.coming.items ≡ length old.coming.items
-cleared_long old new i e = sym (length-map new.coming.items _) ∙ (ap (λ (xs : List (List ℕ)). length xs) e ∙ (length-set (cells_of old) i [] ∙ length-map old.coming.items _))
+-- a cell is emptied
+pub cleared_long : (old new : Notes) (i : ℕ) → cells_of new ≡ set (cells_of old) i [] → length (cells_of new) ≡ length (cells_of old)
+cleared_long old new i e = ap length e ∙ length-set (cells_of old) i []
+
+-- there are as many cells as before
+pub cells_kept : (net : Net) (old new : Notes) → length (cells_of new) ≡ length (cells_of old) → HasCells net old → HasCells net new
+cells_kept net old new e h = record { power = subst IsPowerOfTwo (sym e) h.power; more = λ d. (let m = h.more d in omega (arith, e)) }

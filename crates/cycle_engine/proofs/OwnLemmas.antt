@@ -40,34 +40,26 @@ is_goer (Lsq a d ps gs f) = false
 is_goer Exit = true
 
 -- the kinds that only go
-go_on : (a : Act) (r : Row) (h : ℕ → Option ℕ) (e : Effect) → effect_of (on_go a r) h ≡ Some e → a ≡ Go
-go_on Go r h e q = refl
-go_on (From j) r h e q = cc
-go_on (Send j) r h e q = cc
-go_on (Alloc g) r h e q = cc
-go_on (Addr p) r h e q = cc
-go_on (Data p) r h e q = cc
-go_on (Exec x) r h e q = cc
-go_on (Reply p) r h e q = cc
-go_on Retire r h e q = cc
-go_on End r h e q = cc
+pub on_go_is : (a : Act) (r : Row) (h : ℕ → Option ℕ) (e : Effect) → effect_of (on_go a r) h ≡ Some e → a ≡ Go
+on_go_is Go r h e q = refl
+on_go_is _ r h e q = cc
 
 pub goes_only : (k : Kind) (a : Act) (o : Own) (xs : List ℕ) (ss : Setting) (h : ℕ → Option ℕ) (e : Effect) → is_goer k ≡ true → effect_of (row k a o xs ss) h ≡ Some e → a ≡ Go
 unfolding row
 goes_only (Fork w outs) a o xs ss h e g q = cc
 goes_only (Cmerge ins) a o xs ss h e g q = cc
 goes_only (Lsq n d ps gs fw) a o xs ss h e g q = cc
-goes_only Entry a o xs ss h e g q = go_on a _ h e q
-goes_only (Param j) a o xs ss h e g q = go_on a _ h e q
-goes_only (Const w n) a o xs ss h e g q = go_on a _ h e q
-goes_only (Op1 op) a o xs ss h e g q = go_on a _ h e q
-goes_only (Op2 op) a o xs ss h e g q = go_on a _ h e q
-goes_only (Select w) a o xs ss h e g q = go_on a _ h e q
-goes_only (Mux w n) a o xs ss h e g q = go_on a _ h e q
-goes_only (Branch w) a o xs ss h e g q = go_on a _ h e q
-goes_only (Sink w) a o xs ss h e g q = go_on a _ h e q
-goes_only (Read n) a o xs ss h e g q = go_on a _ h e q
-goes_only Exit a o xs ss h e g q = go_on a _ h e q
+goes_only Entry a o xs ss h e g q = on_go_is a _ h e q
+goes_only (Param j) a o xs ss h e g q = on_go_is a _ h e q
+goes_only (Const w n) a o xs ss h e g q = on_go_is a _ h e q
+goes_only (Op1 op) a o xs ss h e g q = on_go_is a _ h e q
+goes_only (Op2 op) a o xs ss h e g q = on_go_is a _ h e q
+goes_only (Select w) a o xs ss h e g q = on_go_is a _ h e q
+goes_only (Mux w n) a o xs ss h e g q = on_go_is a _ h e q
+goes_only (Branch w) a o xs ss h e g q = on_go_is a _ h e q
+goes_only (Sink w) a o xs ss h e g q = on_go_is a _ h e q
+goes_only (Read n) a o xs ss h e g q = on_go_is a _ h e q
+goes_only Exit a o xs ss h e g q = on_go_is a _ h e q
 
 -- merges
 abbrev merge_eff : ℕ → Own → List ℕ → Effect

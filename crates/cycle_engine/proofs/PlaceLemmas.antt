@@ -27,7 +27,7 @@ use Rattle.cycle_engine.specs.private.Places.{HasView, HasNoneFrom, IsNextNumber
 use Rattle.cycle_engine.specs.private.Control.{groups_in, noted_place, place_from, end_from}
 use Rattle.cycle_engine.specs.private.Marking.{asks_first, IsStarved}
 use Rattle.net_core.proofs.PlanUses.{fork_act}
-use Rattle.cycle_engine.proofs.QueueTurnLemmas.{on_go_is}
+use Rattle.cycle_engine.proofs.OwnLemmas.{on_go_is}
 
 -- ---- numbers of acts
 

@@ -21,7 +21,7 @@ use Rattle.lsq_core.proofs.JoinLemmas.{acts_join, stays_consistent}
 use Rattle.lsq_core.proofs.StayLemmas.{stays_refused}
 use Rattle.lsq_core.proofs.EntryLemmas.{length-first_changed}
 use Rattle.net_core.specs.declared.plan.Put.{Put}
-use Rattle.net_core.specs.Fire.{State, Own, Row, Take, Fires, Setting, Effect, effect_of, with_head, idle, row, go_row, on_go, queue_fires, gate, when, put_at, put_out, setting, at_array, head_at, tokens_at, first, effect, has_room, enabled, moved, applied, puts_on, takes_from, among, added, taken}
+use Rattle.net_core.specs.Fire.{State, Own, Take, Fires, Setting, Effect, effect_of, with_head, idle, row, go_row, queue_fires, gate, when, put_at, put_out, setting, at_array, head_at, tokens_at, first, effect, has_room, enabled, moved, applied, puts_on, takes_from, among, added, taken}
 use Rattle.net_core.specs.Uses.{used_by, then_used, used}
 use Rattle.net_core.proofs.Premises.{Steers, QueueLaws}
 use Rattle.net_core.proofs.CheckedLemmas.{premises_of}
@@ -39,6 +39,7 @@ use Rattle.cycle_engine.specs.Cycles.{Dated, IsRipe, HasDepth, May, Makes, place
 use Rattle.cycle_engine.specs.Rousing.{Could, GoesTo, ComesFrom}
 use Rattle.cycle_engine.specs.private.Marking.{is_merge}
 use Rattle.cycle_engine.specs.private.Places.{AllocsOnce}
+use Rattle.cycle_engine.proofs.OwnLemmas.{on_go_is}
 use Rattle.cycle_engine.proofs.UsedLemmas.{unused_last, unused_before}
 use Rattle.cycle_engine.proofs.BeforeLemmas.{after_of, IsLate, before, may_could, kept_free}
 use Rattle.cycle_engine.proofs.RousingLemmas.{slots_within, room_before, rouses, late_or}
@@ -75,10 +76,6 @@ abbrev pub act_at : Kind → ℕ → Act
 act_at (Fork w outs) p = Send p
 act_at (Lsq a d ps gs fw) p = queue_at (length gs) p
 act_at _ p = Go
-
-pub on_go_is : (a : Act) (r : Row) (h : ℕ → Option ℕ) (e : Effect) → effect_of (on_go a r) h ≡ Some e → a ≡ Go
-on_go_is Go r h e q = refl
-on_go_is _ r h e q = cc
 
 at_group : (n p g : ℕ) → g < n → g ≡ p → Alloc g ≡ queue_at n p
 at_group n p g l e = by (nat_lt p n) refl
@@ -758,16 +755,4 @@ queue_rouses net c start fs s u a g checked good ks k m once q n un order may =
 
     kinds : (y : Kind) → kind_of net u ≡ y → is_lsq (kind_of net u) ≡ true → May net c start s g
     kinds (Lsq x d ps gs fw) ku q = lsq x d ps gs fw ku
-    kinds Entry ku q = let z : false ≡ true = sym (ap is_lsq ku) ∙ q in cc
-    kinds (Param j) ku q = let z : false ≡ true = sym (ap is_lsq ku) ∙ q in cc
-    kinds (Const x y) ku q = let z : false ≡ true = sym (ap is_lsq ku) ∙ q in cc
-    kinds (Op1 x) ku q = let z : false ≡ true = sym (ap is_lsq ku) ∙ q in cc
-    kinds (Op2 x) ku q = let z : false ≡ true = sym (ap is_lsq ku) ∙ q in cc
-    kinds (Select x) ku q = let z : false ≡ true = sym (ap is_lsq ku) ∙ q in cc
-    kinds (Fork x y) ku q = let z : false ≡ true = sym (ap is_lsq ku) ∙ q in cc
-    kinds (Mux x y) ku q = let z : false ≡ true = sym (ap is_lsq ku) ∙ q in cc
-    kinds (Cmerge x) ku q = let z : false ≡ true = sym (ap is_lsq ku) ∙ q in cc
-    kinds (Branch x) ku q = let z : false ≡ true = sym (ap is_lsq ku) ∙ q in cc
-    kinds (Sink x) ku q = let z : false ≡ true = sym (ap is_lsq ku) ∙ q in cc
-    kinds (Read x) ku q = let z : false ≡ true = sym (ap is_lsq ku) ∙ q in cc
-    kinds Exit ku q = let z : false ≡ true = sym (ap is_lsq ku) ∙ q in cc
+    kinds y ku q = let z : is_lsq y ≡ true = sym (ap is_lsq ku) ∙ q in cc

@@ -23,7 +23,7 @@ use Rattle.cycle_engine.specs.Cycles.{Dated, dated_opening, Cycle, Cycles, AreDa
 use Rattle.cycle_engine.specs.Bounds.{firing_count, EndsFiring}
 use Rattle.cycle_engine.specs.Cuts.{joined}
 use Rattle.cycle_engine.specs.Timings.{IsTimed, HasFewCycles, IsTimingFault}
-use Rattle.cycle_engine.specs.private.Marking.{Holds, cell}
+use Rattle.cycle_engine.specs.private.Marking.{Holds, cells_of, coming_in}
 use Rattle.cycle_engine.specs.private.Trials.{dated_of, IsEngine}
 use Rattle.cycle_engine.specs.private.Goings.{Past, IsReady, AreComing, HasNoneComing, HasDone, IsBroken, fault_of, all_made}
 use Rattle.cycle_engine.specs.private.Places.{IsFull, IsCycled, kept_before, trimmed, HasRun}
@@ -207,11 +207,11 @@ late_ripe net inputs fss t checked y l =
 
 -- all tokens are ripe in the cycle c where none is noted that is to ripen later
 spent_ripe : (net : Net) (c : ℕ) (e : Engine) → AreComing net (c + 1) e → HasNoneComing e → AllRipe net c (dated_of e)
-spent_ripe net c e coming none d = each_as (λ x. (x < c + 1) × (c + 1 ≤ x + (chan_at net d).delay → Holds d (cell e.notes ((x + (chan_at net d).delay) % 1024)))) (λ x. x + (chan_at net d).delay ≤ c) (λ x k. at x k.1 (cases_lt c (x + (chan_at net d).delay))) (get_or (dates_of e.state) d []) (coming d)
+spent_ripe net c e coming none d = each_as (λ x. (x < c + 1) × (c + 1 ≤ x + (chan_at net d).delay → Holds d (coming_in e.notes (x + (chan_at net d).delay)))) (λ x. x + (chan_at net d).delay ≤ c) (λ x k. at x k.1 (cases_lt c (x + (chan_at net d).delay))) (get_or (dates_of e.state) d []) (coming d)
   where
-    at : (x : ℕ) → (c + 1 ≤ x + (chan_at net d).delay → Holds d (cell e.notes ((x + (chan_at net d).delay) % 1024))) → (c < x + (chan_at net d).delay) ⊎ (x + (chan_at net d).delay ≤ c) → x + (chan_at net d).delay ≤ c
+    at : (x : ℕ) → (c + 1 ≤ x + (chan_at net d).delay → Holds d (coming_in e.notes (x + (chan_at net d).delay))) → (c < x + (chan_at net d).delay) ⊎ (x + (chan_at net d).delay ≤ c) → x + (chan_at net d).delay ≤ c
     at x k (inr l) = l
-    at x k (inl l) = let P : List ℕ → Type 0 = Holds d in let h : Holds d [] = subst P (none ((x + (chan_at net d).delay) % 1024)) (k (let l' : c < x + (chan_at net d).delay = l in omega arith)) in let w : h.at < 0 = h.within in absurd (omega arith)
+    at x k (inl l) = let P : List ℕ → Type 0 = Holds d in let h : Holds d [] = subst P (none ((x + (chan_at net d).delay) % length (cells_of e.notes))) (k (let l' : c < x + (chan_at net d).delay = l in omega arith)) in let w : h.at < 0 = h.within in absurd (omega arith)
 
 -- ---- numbers
 

@@ -1,5 +1,5 @@
 -- Sends of forks: what they plan and move, when they may be made, and their turns.
-use Rattle.std.proofs.lemmas.Bool.{cases_lt, false≢true}
+use Rattle.std.proofs.lemmas.Bool.{cases_eq, cases_lt, false≢true}
 use Rattle.std.proofs.Common.{ne_eqb, IsTrue, ◌↔◌, ◌≡◌, ℕ, zero, suc, ◌++◌, length-append, ◌<◌, ◌≤◌, ◌+◌, ◌⊎◌, inl, inr, Bool, true, false, cond, Option, Some, None, List, [], ◌∷◌, length, map, get_or, set, refl, sym, ap, subst, ◌∙◌, arith, IsSomeAnd, ◌≢◌}
 use Rattle.std.proofs.lemmas.List.{get_or_past}
 use Rattle.std.specs.List.{list_all, AllByRecursion}
@@ -13,7 +13,9 @@ use Rattle.net_core.specs.declared.plan.Laid.{Laid}
 use Rattle.net_types.specs.Nets.{into, out_of, kind_of, chan_at, firing}
 use Rattle.net_types.specs.Order.{act_rank, act_number}
 use Rattle.net_check.specs.declared.pins.Pins.{Pins}
+use Rattle.net_types.specs.Tables.{InSpots, spot, spots, outs as places_out}
 use Rattle.net_check.specs.Checks.{IsChecked}
+use Rattle.net_check.specs.Controls.{passes_control}
 use Rattle.net_check.specs.Ends.{is_lsq}
 use Rattle.net_check.specs.Pins.{pins_of}
 use Rattle.net_core.specs.Fire.{State, Effect, idle, effect, enabled, first, has_room, head_at, put_at, among}
@@ -42,12 +44,13 @@ use Rattle.cycle_engine.specs.private.Places.{HasSentOrTold, IsOpen, IsNextAct, 
 use Rattle.cycle_engine.specs.Rousing.{Could}
 use Rattle.cycle_engine.specs.private.Stacks.{Stacked}
 use Rattle.cycle_engine.specs.private.Used.{Fits, IsSendBelow, HasPlace, AreNumbered}
+use Rattle.cycle_engine.proofs.MarkLemmas.{holds_last, keeps_then}
 use Rattle.cycle_engine.proofs.BeforeLemmas.{may_could}
 use Rattle.cycle_engine.proofs.DateLemmas.{effect_there}
 use Rattle.cycle_engine.proofs.NoteLemmas.{after_is, effect_in}
 use Rattle.cycle_engine.proofs.PlaceLemmas.{numbers_below, starved_none}
 use Rattle.cycle_engine.proofs.SwapLemmas.{ripe_kept}
-use Rattle.cycle_engine.proofs.TurnLemmas.{all_at, none_taken, turn_on, turn_follows, turn_passed, unit_made, turn_again, pushed_holds, pushed_last}
+use Rattle.cycle_engine.proofs.TurnLemmas.{all_at, none_taken, turn_on, turn_follows, turn_passed, unit_made, turn_again, pushed_holds}
 use Rattle.cycle_engine.proofs.UnitTurnLemmas.{made_marks}
 use Rattle.cycle_engine.proofs.UsedLemmas.{may_of, may_parts, effect_place, send_place}
 
@@ -57,6 +60,35 @@ fork_kind _ e = cc
 
 fork_plain : (k : Kind) → is_fork k ≡ true → is_lsq k ≡ false
 fork_plain k e = ap is_lsq (fork_kind k e).2
+
+-- ---- the outputs of a fork
+
+-- a place of a row is one of the table
+in_row : (p w n q : ℕ) (c : Bool) → p ≤ q → q < p + n → InSpots (spots p w c n) q w c
+in_row p w zero q c l m = absurd (omega arith)
+in_row p w (suc n) q c l m = by (cases_eq q p) (in_row (suc p) w n q c)
+  where
+    by : (q ≡ p) ⊎ (q ≢ p) → (suc p ≤ q → q < suc p + n → InSpots (spots (suc p) w c n) q w c) → InSpots (spots p w c (suc n)) q w c
+    by (inl e) rest = inl (ap (λ x. spot x w c) (sym e))
+    by (inr k) rest = inr (rest (omega arith) (omega arith))
+
+-- each has a channel
+pub fork_out : (net : Net) (u outs out : ℕ) → IsChecked net → u < length net.units → IsForkOf outs (kind_of net u) → out < outs → out_of u out net.chans < length net.chans
+fork_out net u zero out checked l f k = absurd (omega arith)
+fork_out net u (suc n) zero checked l f k =
+    let P : Kind → Type 0 = λ kind. InSpots (places_out net (passes_control net u) kind) 0 f.width (passes_control net u) in
+    checked.once.out_of_each u 0 f.width (passes_control net u) l (subst P (sym f.shape) (inl refl))
+fork_out net u (suc n) (suc p) checked l f k =
+    let P : Kind → Type 0 = λ kind. InSpots (places_out net (passes_control net u) kind) (suc p) f.width false in
+    checked.once.out_of_each u (suc p) f.width false l (subst P (sym f.shape) (inr (in_row 1 f.width n (suc p) false (omega arith) (omega arith))))
+
+-- and so it is in the list that tells them
+pub out_listed : (xs : List ℕ) (n p : ℕ) → get_or xs p n < n → p < length xs
+out_listed xs n p l = by (cases_lt p (length xs))
+  where
+    by : (p < length xs) ⊎ (length xs ≤ p) → p < length xs
+    by (inl k) = k
+    by (inr k) = let e = get_or_past xs p n k in absurd (omega (arith, e, l))
 
 -- ---- what a send plans
 
@@ -289,7 +321,7 @@ module _ (net : Net) (past : Past) (b : Bounds) (c : ℕ) (start : Dated) (marks
   pub sends_again : (n : ℕ) (s : Stacked ℕ) → outputs_in (kind_of net u) ≤ n → s.items ≡ e.again.items ++ u ∷ [] → IsTurn net past b c start marks e u 2 n → IsTurnEnded net past b c start marks (with_again e s) u 3
   sends_again n s most is t = record {
     turn = turn_again net past b c start marks e s u 3 0 (λ v h. subst (Holds v) (sym is) (pushed_holds e.again.items u v h)) (sends_done n most t);
-    own = λ a h k. inr (subst (Holds u) (sym is) (pushed_last e.again.items u));
+    own = λ a h k. inr (subst (Holds u) (sym is) (holds_last e.again.items u));
   }
 
 -- ---- what is told of outputs that have fired
@@ -344,7 +376,7 @@ told_used net first e s u n is told = record { fired = told.fired; told = by tol
     by : (length first.fired.items < length e.fired.items) ⊎ ((e.fired.items ≡ first.fired.items) × ((j : ℕ) → j < n → (IsUnused e.fired.items (firing u (Send j)) → ⊥) → Holds u e.again.items))
         → (length first.fired.items < length e.fired.items) ⊎ ((e.fired.items ≡ first.fired.items) × ((j : ℕ) → j < n + 1 → (IsUnused e.fired.items (firing u (Send j)) → ⊥) → Holds u s.items))
     by (inl l) = inl l
-    by (inr k) = inr (k.0, λ j l h. subst (Holds u) (sym is) (pushed_last e.again.items u))
+    by (inr k) = inr (k.0, λ j l h. subst (Holds u) (sym is) (holds_last e.again.items u))
 
 -- one that has not need not be
 pub told_unused : (net : Net) (first e : Engine) (u n : ℕ) → IsUnused e.fired.items (firing u (Send n)) → HasSentOrTold net first e u n → HasSentOrTold net first e u (n + 1)
@@ -375,9 +407,6 @@ told_sent net first old new f u n is told =
 pub put_still : (net : Net) (s : State) (o : Option Laid) (n : ℕ) (old new : Marks) → KeepsMarks old new → IsPutMarked net s o n old → IsPutMarked net s o n new
 put_still net s None n old new kept h = tt
 put_still net s (Some w) n old new kept h = λ z k d l. kept.kept (chan_at net w.chan).to.unit (h z k d l)
-
-pub keeps_both : (a b c : Marks) → KeepsMarks a b → KeepsMarks b c → KeepsMarks a c
-keeps_both a b c k h = record { long = h.long ∙ k.long; kept = λ u m. h.kept u (k.kept u m); listed = λ net l. h.listed net (k.listed net l) }
 
 -- the units that a send may let fire, where it took nothing
 roused_put : (net : Net) (s t : State) (u : ℕ) (m : Moves) (n : ℕ) (marks : Marks) → chans_of m.taken ≡ [] → IsPutMarked net t m.laid n marks → IsRoused net s t u m n marks
@@ -436,4 +465,4 @@ module _ (net : Net) (past : Past) (b : Bounds) (c : ℕ) (start : Dated) (marks
         let mine : (IsStarved net (state_of mid.state) u → ⊥) → IsMarked m u = λ fed. own fed (omega arith) in
         let roused = roused_took net (state_of old.state) (state_of mid.state) u p.moves (length old.marks.marked.items) mid.marks m (took_first net old.state u out p.plan p.moves fork planned.effect planned.moves) kept put.1 (λ fed l. mine fed) (subst F n merge) in
         fed_ended net past b c start marks (with_marks mid m) u (fork_plain (kind_of net u) fork) 2 (out + 1) 3 mine
-        (send_made (with_marks mid m) (made_marks net past b c start old mid (firing u (Send out)) m made) again (keeps_both old.marks mid.marks m put.0 kept) roused)
+        (send_made (with_marks mid m) (made_marks net past b c start old mid (firing u (Send out)) m made) again (keeps_then old.marks mid.marks m put.0 kept) roused)

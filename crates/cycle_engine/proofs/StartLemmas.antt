@@ -1,5 +1,5 @@
 -- The engine at the opening state, and as a cycle begins.
-use Rattle.std.proofs.Common.{◌≡◌, ℕ, suc, zero, ◌+◌, ◌*◌, ◌%◌, ◌<◌, ◌≤◌, inl, replicate, Bool, true, false, cond, Some, None, List, [], ◌∷◌, ◌++◌, length, map, get_or, refl, sym, ap, subst, ◌∙◌, arith}
+use Rattle.std.proofs.Common.{◌≡◌, ℕ, suc, zero, ◌+◌, ◌*◌, ◌<◌, ◌≤◌, inl, replicate, Bool, true, false, cond, Some, None, List, [], ◌∷◌, ◌++◌, length, map, get_or, refl, sym, ap, subst, ◌∙◌, arith}
 use Rattle.std.proofs.lemmas.List.{append-nil}
 use Rattle.std.specs.List.{AllByRecursion}
 use Rattle.el_base.specs.Limits.{max_depth, max_firings}
@@ -23,7 +23,7 @@ use Rattle.cycle_engine.specs.declared.used.Used.{Used}
 use Rattle.cycle_engine.specs.Cycles.{Dated, dated_opening, May, AreDated, Makes, Once, InOrder}
 use Rattle.cycle_engine.specs.Cuts.{joined}
 use Rattle.cycle_engine.specs.private.Trials.{dated_of, IsBegun, IsEngine}
-use Rattle.cycle_engine.specs.private.Marking.{Holds, IsMarked, IsListed, AreFeeds, AreListed, cell, entries_at}
+use Rattle.cycle_engine.specs.private.Marking.{Holds, IsMarked, IsListed, AreFeeds, AreListed, HasCells, coming_in, entries_at}
 use Rattle.cycle_engine.specs.private.Control.{HasControl}
 use Rattle.cycle_engine.specs.private.Used.{AreNumbered, AreTold}
 use Rattle.cycle_engine.specs.private.Goings.{Past, IsReady, InCycle, HasDone, AreComing, all_made}
@@ -46,7 +46,7 @@ opened_as net inputs e a d = λ i. record { state = sym a i; dates = sym d i }
 
 pub opened_ready : (net : Net) (inputs : Inputs) (b : Bounds) (e : Engine) → IsOf net e.state → dated_opening net inputs ≡ dated_of e → b.limit ≤ max_firings
     → e.made ≡ 0 → e.fired.items ≡ [] → CountsWithin 0 (state_of e.state) → e.log.room ≡ cond b.keep b.limit 0 → length e.freed.marked.items ≡ length net.chans → length e.begun.items ≡ length net.units
-    → length e.marks.marked.items ≡ length net.units → IsListed net e.marks → length e.notes.coming.items ≡ 1024 → AreNumbered net e.used.base.items (length e.used.last.items) → ((x : ℕ) → get_or e.used.last.items x 0 ≡ 0) → AreFeeds net e.feeds → IsReady net b e
+    → length e.marks.marked.items ≡ length net.units → IsListed net e.marks → HasCells net e.notes → AreNumbered net e.used.base.items (length e.used.last.items) → ((x : ℕ) → get_or e.used.last.items x 0 ≡ 0) → AreFeeds net e.feeds → IsReady net b e
 opened_ready net inputs b e of same few made fired counts room chans queues marked listed cells places none feeds =
     let z : all_made e ≡ 0 = (let l = ap (λ (fs : List Firing). length fs) fired in omega arith) in
     let k : all_made e * max_depth ≡ 0 = ap (λ n. n * max_depth) z in
@@ -112,7 +112,7 @@ opened_done net inputs b e same made fired log checked chans queues marked = rec
   log = log ∙ sym (none b.keep);
   listed = none_listed e.freed (λ d. ap (λ (xs : List Bool). get_or xs d false) chans ∙ each_one false (length net.chans) d);
   entries = λ u l. inl (ap (λ xs. get_or xs u 0) queues ∙ (each_one 0 (length net.units) u ∙ (sym (items_none net.units u) ∙ ap (λ (s : Dated). entries_at s.state u) same)));
-  coming = λ d. (let P : List ℕ → Type 0 = AllByRecursion (λ x. (x < 0) × (0 ≤ x + (chan_at net d).delay → Holds d (cell e.notes ((x + (chan_at net d).delay) % 1024)))) in subst P (sym (ap (λ (s : Dated). get_or s.dates d []) (sym same) ∙ lists_none net.chans d)) tt);
+  coming = λ d. (let P : List ℕ → Type 0 = AllByRecursion (λ x. (x < 0) × (0 ≤ x + (chan_at net d).delay → Holds d (coming_in e.notes (x + (chan_at net d).delay)))) in subst P (sym (ap (λ (s : Dated). get_or s.dates d []) (sym same) ∙ lists_none net.chans d)) tt);
   control = λ u g v l h. absurd (starved u g v h);
   next = λ g m stirred. stirred (inl (marked g.unit (within g m)));
 }
@@ -131,7 +131,7 @@ opened_done net inputs b e same made fired log checked chans queues marked = rec
 
 pub begun_ready : (net : Net) (b : Bounds) (old new : Engine) → IsReady net b old → IsEngine net new → state_of new.state ≡ state_of old.state → new.made ≡ all_made old → new.fired.items ≡ [] → new.log ≡ old.log
     → length new.freed.marked.items ≡ length net.chans → length new.begun.items ≡ length net.units
-    → length new.marks.marked.items ≡ length net.units → IsListed net new.marks → length new.notes.coming.items ≡ 1024 → new.used ≡ old.used → new.feeds ≡ old.feeds → IsReady net b new
+    → length new.marks.marked.items ≡ length net.units → IsListed net new.marks → HasCells net new.notes → new.used ≡ old.used → new.feeds ≡ old.feeds → IsReady net b new
 begun_ready net b old new r eng same made fired log chans queues marked listed cells used feeds =
     let z : all_made new ≡ all_made old = (let l = ap (λ (fs : List Firing). length fs) fired in omega arith) in
     let k : all_made new * max_depth ≡ all_made old * max_depth = ap (λ n. n * max_depth) z in

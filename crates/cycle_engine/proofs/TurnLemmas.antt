@@ -35,7 +35,7 @@ use Rattle.lsq_core.specs.Laws.{act_place, phase}
 use Rattle.cycle_engine.specs.Cycles.{Dated, dated_opening, IsRipe, HasDepth, May, Makes, place_of, IsUnused, Cycles, after_in, after_by, AreDated}
 use Rattle.cycle_engine.specs.Rousing.{Could, GoesTo, ComesFrom, Stirs}
 use Rattle.cycle_engine.specs.private.Trials.{dated_of, IsEngine, IsFollowed}
-use Rattle.cycle_engine.specs.private.Marking.{Holds, HasUnit, no_firing, IsMarked, IsListed, KeepsMarks, IsRoused, IsTaken, IsEmptied, HasTurn, IsFullMarked, IsPutMarked, is_merge}
+use Rattle.cycle_engine.specs.private.Marking.{Holds, HasUnit, no_firing, IsMarked, IsListed, KeepsMarks, IsRoused, IsTaken, IsPutOff, IsEmptied, HasTurn, IsFullMarked, IsPutMarked, is_merge}
 use Rattle.cycle_engine.specs.private.Stacks.{Stacked}
 use Rattle.net_core.specs.Uses.{is_fork}
 use Rattle.cycle_engine.specs.private.Goings.{Past, IsReady, InCycle, MayFollow, IsMade, AllPlain, IsNotedUnit, IsKeptBut, IsBegunIn, with_marks, with_again}
@@ -47,7 +47,7 @@ use Rattle.cycle_engine.proofs.OwnLemmas.{own_rouses}
 use Rattle.cycle_engine.proofs.DateLemmas.{AllBy, each_as, makes_dates, some_effect, effect_there}
 use Rattle.cycle_engine.proofs.MakeLemmas.{all_snoc, takes_within}
 use Rattle.cycle_engine.proofs.StartLemmas.{opening_are}
-use Rattle.cycle_engine.proofs.MarkLemmas.{holds_last, holds_more}
+use Rattle.cycle_engine.proofs.MarkLemmas.{holds_more, put_off_kept, put_off_own}
 use Rattle.cycle_engine.proofs.NoteLemmas.{effect_in, taken_all}
 use Rattle.cycle_engine.proofs.PlaceLemmas.{same_act, exec_is, place_rank, place_fixed, first_rank, fires_within, starved_quiet}
 use Rattle.cycle_engine.proofs.UsedLemmas.{unused_last, unused_before}
@@ -178,9 +178,6 @@ has_before fs f v ne h = by (cases_lt h.at (length fs)) (cases_eq h.at (length f
 
 pub pushed_holds : (xs : List ℕ) (x v : ℕ) → Holds v xs → Holds v (xs ++ x ∷ [])
 pushed_holds xs x v h = holds_more xs (x ∷ []) v h
-
-pub pushed_last : (xs : List ℕ) (x : ℕ) → Holds x (xs ++ x ∷ [])
-pushed_last xs x = holds_last xs x
 
 -- a unit stays marked or to be looked at again
 noted_kept : (old new : Engine) (v : ℕ) → (IsMarked old.marks v → IsMarked new.marks v) → (Holds v old.again.items → Holds v new.again.items) → IsNotedUnit old v → IsNotedUnit new v
@@ -526,19 +523,7 @@ module _ (net : Net) (past : Past) (b : Bounds) (c : ℕ) (start : Dated) (marks
                 let P : Dated → Type 0 = λ s. AllocsOnce net c (old.fired.items ++ f ∷ []) s in
                 let Q : List Firing → Type 0 = λ fs. AllocsOnce net c fs (dated_of new) in
                 subst Q (sym made.fired) (subst P (sym e) a)
-            kinds Entry ku q = let z : false ≡ true = sym (ap is_lsq ku) ∙ q in cc
-            kinds (Param j) ku q = let z : false ≡ true = sym (ap is_lsq ku) ∙ q in cc
-            kinds (Const x y) ku q = let z : false ≡ true = sym (ap is_lsq ku) ∙ q in cc
-            kinds (Op1 x) ku q = let z : false ≡ true = sym (ap is_lsq ku) ∙ q in cc
-            kinds (Op2 x) ku q = let z : false ≡ true = sym (ap is_lsq ku) ∙ q in cc
-            kinds (Select x) ku q = let z : false ≡ true = sym (ap is_lsq ku) ∙ q in cc
-            kinds (Fork x y) ku q = let z : false ≡ true = sym (ap is_lsq ku) ∙ q in cc
-            kinds (Mux x y) ku q = let z : false ≡ true = sym (ap is_lsq ku) ∙ q in cc
-            kinds (Cmerge x) ku q = let z : false ≡ true = sym (ap is_lsq ku) ∙ q in cc
-            kinds (Branch x) ku q = let z : false ≡ true = sym (ap is_lsq ku) ∙ q in cc
-            kinds (Sink x) ku q = let z : false ≡ true = sym (ap is_lsq ku) ∙ q in cc
-            kinds (Read x) ku q = let z : false ≡ true = sym (ap is_lsq ku) ∙ q in cc
-            kinds Exit ku q = let z : false ≡ true = sym (ap is_lsq ku) ∙ q in cc
+            kinds y ku q = let z : is_lsq y ≡ true = sym (ap is_lsq ku) ∙ q in cc
 
         behind : AllByRecursion (λ g. g.unit ≡ f.unit → act_rank g.act ≤ r) new.fired.items
         behind = (let P : List Firing → Type 0 = AllByRecursion (λ g. g.unit ≡ f.unit → act_rank g.act ≤ r) in
@@ -652,19 +637,6 @@ turn_on net past b c start marks e u r n t below = record { going = t.going; wat
 
 -- ---- a unit that is no queue
 
-pub open_queue : (net : Net) (past : Past) (b : Bounds) (c : ℕ) (start : Dated) (e : Engine) (u : ℕ) → is_lsq (kind_of net u) ≡ true → IsOpenTurn net past b c start e u → IsBegunIn net past b c start e
-open_queue net past b c start e u l t = record { going = t.going; plain = t.plain; watching = λ g un m. at g (t.watched g un m); kept = λ g h k. noted g h (t.kept g h k) }
-  where
-    noted : (g : Firing) → HasUnit g.unit e.fired.items → (g.unit ≡ u) ⊎ IsNotedUnit e g.unit → IsNotedUnit e g.unit
-    noted g h (inr k) = k
-    noted g h (inl k) =
-        let p = (all_at (λ x. (is_lsq (kind_of net x.unit) ≡ false) × (phase x.act ≡ 0)) e.fired.items h.at h.within t.plain).0 in
-        let z : true ≡ false = sym l ∙ (ap (λ x. is_lsq (kind_of net x)) (sym k ∙ sym h.is) ∙ p) in cc
-
-    at : (g : Firing) → IsMarked e.marks g.unit ⊎ ((g.unit ≡ u) × (is_lsq (kind_of net g.unit) ≡ false)) → IsMarked e.marks g.unit
-    at g (inl k) = k
-    at g (inr k) = let z : true ≡ false = sym l ∙ (ap (λ x. is_lsq (kind_of net x)) (sym k.0) ∙ k.1) in cc
-
 pub open_unit : (net : Net) (past : Past) (b : Bounds) (c : ℕ) (start : Dated) (e : Engine) (u : ℕ) (kind : Act) → is_lsq (kind_of net u) ≡ false → kind ≡ first_of (kind_of net u) → IsOpenTurn net past b c start e u
     → IsTurn net past b c start e.marks e u (act_rank kind) 0
 open_unit net past b c start e u kind l is t = record { going = t.going; watched = λ g un m. at g m (t.watched g un m); kept = t.kept; of = (let P : Bool → Type 0 = λ q. IsTurnOf q net c e.marks e u (act_rank kind) in subst P (sym l) t.plain) }
@@ -672,12 +644,12 @@ open_unit net past b c start e u kind l is t = record { going = t.going; watched
     N : Act → ℕ → Type 0
     N a v = enabled net (state_of e.state) (firing v a)
 
-    at : (g : Firing) → May net c start (dated_of e) g → IsMarked e.marks g.unit ⊎ ((g.unit ≡ u) × (is_lsq (kind_of net g.unit) ≡ false)) → IsMarked e.marks g.unit ⊎ ((g.unit ≡ u) × IsOpen (act_rank kind) 0 g.act)
+    at : (g : Firing) → May net c start (dated_of e) g → IsMarked e.marks g.unit ⊎ (g.unit ≡ u) → IsMarked e.marks g.unit ⊎ ((g.unit ≡ u) × IsOpen (act_rank kind) 0 g.act)
     at g m (inl k) = inl k
     at g m (inr k) =
-        let r = first_rank net (state_of e.state) u g.act l (subst (N g.act) k.0 m.turn) in
+        let r = first_rank net (state_of e.state) u g.act l (subst (N g.act) k m.turn) in
         let q = ap act_rank is in
-        inr (k.0, inr (omega arith, omega arith))
+        inr (k, inr (omega arith, omega arith))
 
 pub unit_done : (net : Net) (past : Past) (b : Bounds) (c : ℕ) (start : Dated) (marks : Marks) (e : Engine) (u : ℕ) (kind : Act) → is_lsq (kind_of net u) ≡ false → kind ≡ first_of (kind_of net u) → IsTurnEnded net past b c start marks e u (act_rank kind + 1)
     → IsBegunIn net past b c start e
@@ -709,8 +681,9 @@ unit_done net past b c start marks e u kind l is t = record {
         by (inl o) z = omega arith
         by (inr o) z = let y = o.0 in omega arith
 
-pub going_marks : (net : Net) (past : Past) (b : Bounds) (c : ℕ) (start : Dated) (e : Engine) (m : Marks) → InCycle net past b c start e → InCycle net past b c start (with_marks e m)
-going_marks net past b c start e m g = record {
+-- other units are marked, and others are to be looked at again
+going_beside : (net : Net) (past : Past) (b : Bounds) (c : ℕ) (start : Dated) (e : Engine) (m : Marks) (s : Stacked ℕ) → InCycle net past b c start e → InCycle net past b c start (with_again (with_marks e m) s)
+going_beside net past b c start e m s g = record {
   began = record { chans = λ d. followed d (g.began.chans d); queues = g.began.queues };
   done = g.done;
   number = g.number;
@@ -724,11 +697,11 @@ going_marks net past b c start e m g = record {
   control = g.control;
 }
   where
-    followed : (d : ℕ) → IsFollowed net c start e d → IsFollowed net c start (with_marks e m) d
+    followed : (d : ℕ) → IsFollowed net c start e d → IsFollowed net c start (with_again (with_marks e m) s) d
     followed d k = record { marked = k.marked; clear = k.clear; newest = k.newest }
 
-pub ready_marks : (net : Net) (b : Bounds) (e : Engine) (m : Marks) → IsReady net b e → length m.marked.items ≡ length net.units → IsListed net m → IsReady net b (with_marks e m)
-ready_marks net b e m r long listed = record {
+ready_beside : (net : Net) (b : Bounds) (e : Engine) (m : Marks) (s : Stacked ℕ) → IsReady net b e → length m.marked.items ≡ length net.units → IsListed net m → IsReady net b (with_again (with_marks e m) s)
+ready_beside net b e m s r long listed = record {
   engine = record { state = r.engine.state; dated = r.engine.dated };
   few = r.few;
   within = r.within;
@@ -744,24 +717,17 @@ ready_marks net b e m r long listed = record {
   feeds = r.feeds;
 }
 
--- other units are to be looked at again
-going_again : (net : Net) (past : Past) (b : Bounds) (c : ℕ) (start : Dated) (e : Engine) (s : Stacked ℕ) → InCycle net past b c start e → InCycle net past b c start (with_again e s)
-going_again net past b c start e s g = record {
-  began = record { chans = λ d. followed d (g.began.chans d); queues = g.began.queues };
-  done = g.done;
-  number = g.number;
-  makes = g.makes;
-  once = g.once;
-  order = g.order;
-  made = g.made;
-  log = g.log;
-  listed = g.listed;
-  coming = g.coming;
-  control = g.control;
-}
-  where
-    followed : (d : ℕ) → IsFollowed net c start e d → IsFollowed net c start (with_again e s) d
-    followed d k = record { marked = k.marked; clear = k.clear; newest = k.newest }
+pub going_marks : (net : Net) (past : Past) (b : Bounds) (c : ℕ) (start : Dated) (e : Engine) (m : Marks) → InCycle net past b c start e → InCycle net past b c start (with_marks e m)
+going_marks net past b c start e m g = going_beside net past b c start e m e.again g
+
+pub ready_marks : (net : Net) (b : Bounds) (e : Engine) (m : Marks) → IsReady net b e → length m.marked.items ≡ length net.units → IsListed net m → IsReady net b (with_marks e m)
+ready_marks net b e m r long listed = ready_beside net b e m e.again r long listed
+
+pub going_again : (net : Net) (past : Past) (b : Bounds) (c : ℕ) (start : Dated) (e : Engine) (s : Stacked ℕ) → InCycle net past b c start e → InCycle net past b c start (with_again e s)
+going_again net past b c start e s g = going_beside net past b c start e e.marks s g
+
+pub ready_again : (net : Net) (b : Bounds) (e : Engine) (s : Stacked ℕ) → IsReady net b e → IsReady net b (with_again e s)
+ready_again net b e s r = ready_beside net b e e.marks s r r.marked r.listed
 
 pub turn_again : (net : Net) (past : Past) (b : Bounds) (c : ℕ) (start : Dated) (marks : Marks) (e : Engine) (s : Stacked ℕ) (u r n : ℕ) → ((v : ℕ) → Holds v e.again.items → Holds v s.items)
     → IsTurn net past b c start marks e u r n → IsTurn net past b c start marks (with_again e s) u r n
@@ -784,41 +750,34 @@ turn_again net past b c start marks e s u r n more t = record {
     of true o = record { allocs = o.allocs; behind = o.behind; fresh = o.fresh; same = o.same; again = λ v q h. told v (o.again v q h) }
     of false o = o
 
-pub ready_again : (net : Net) (b : Bounds) (e : Engine) (s : Stacked ℕ) → IsReady net b e → IsReady net b (with_again e s)
-ready_again net b e s r = record {
-  engine = record { state = r.engine.state; dated = r.engine.dated };
-  few = r.few;
-  within = r.within;
-  counts = r.counts;
-  room = r.room;
-  chans = r.chans;
-  queues = r.queues;
-  marked = r.marked;
-  listed = r.listed;
-  cells = r.cells;
-  told = r.told;
-  places = r.places;
-  feeds = r.feeds;
-}
-
 -- so where the mark of a queue was taken
 pub ready_turn : (net : Net) (b : Bounds) (e : Engine) (m : Marks) (u : ℕ) → HasTurn e.marks m u → IsReady net b e → IsReady net b (with_marks e m)
 ready_turn net b e m u t r = ready_marks net b e m r (ap (λ (xs : List Bool). length xs) t.marked ∙ (length-set e.marks.marked.items u false ∙ r.marked)) (t.listed net r.listed)
 
 -- a unit was taken from the list
-pub taken_open : (net : Net) (past : Past) (b : Bounds) (c : ℕ) (start : Dated) (e : Engine) (m : Marks) (u : ℕ) → IsTaken net e.marks m u → IsBegunIn net past b c start e → IsOpenTurn net past b c start (with_marks e m) u
-taken_open net past b c start e m u k t = record { going = going_marks net past b c start e m t.going; plain = t.plain; watched = λ g un x. at g (k.left g.unit (t.watching g un x)); kept = λ g h x. noted g.unit (t.kept g h x) }
+pub taken_open : (net : Net) (past : Past) (b : Bounds) (c : ℕ) (start : Dated) (e : Engine) (m : Marks) (u : ℕ) → IsTaken e.marks m u → IsBegunIn net past b c start e → IsOpenTurn net past b c start (with_marks e m) u
+taken_open net past b c start e m u k t = record { going = going_marks net past b c start e m t.going; plain = t.plain; watched = λ g un x. k.left g.unit (t.watching g un x); kept = λ g h x. noted g.unit (t.kept g h x) }
   where
-    left : (v : ℕ) → IsMarked m v ⊎ ((v ≡ u) × (is_lsq (kind_of net v) ≡ false)) → (v ≡ u) ⊎ IsNotedUnit (with_marks e m) v
+    left : (v : ℕ) → IsMarked m v ⊎ (v ≡ u) → (v ≡ u) ⊎ IsNotedUnit (with_marks e m) v
     left v (inl x) = inr (inl x)
-    left v (inr x) = inl x.0
+    left v (inr x) = inl x
 
     noted : (v : ℕ) → IsNotedUnit e v → (v ≡ u) ⊎ IsNotedUnit (with_marks e m) v
     noted v (inl x) = left v (k.left v x)
     noted v (inr x) = inr (inr x)
 
-    at : (g : Firing) → IsMarked m g.unit ⊎ ((g.unit ≡ u) × (is_lsq (kind_of net g.unit) ≡ false)) → IsMarked m g.unit ⊎ ((g.unit ≡ u) × (is_lsq (kind_of net g.unit) ≡ false))
-    at g x = x
+-- a queue whose mark was taken is put off
+pub open_put_off : (net : Net) (past : Past) (b : Bounds) (c : ℕ) (start : Dated) (e : Engine) (u : ℕ) (m : Marks) → IsPutOff e.marks m u → u < length e.marks.marked.items → IsOpenTurn net past b c start e u → IsBegunIn net past b c start (with_marks e m)
+open_put_off net past b c start e u m off l t = record { going = going_marks net past b c start e m t.going; plain = t.plain; watching = λ g un x. at g (t.watched g un x); kept = λ g h k. noted g (t.kept g h k) }
+  where
+    at : (g : Firing) → IsMarked e.marks g.unit ⊎ (g.unit ≡ u) → IsMarked m g.unit
+    at g (inl k) = put_off_kept e.marks m u off g.unit l k
+    at g (inr z) = subst (IsMarked m) (sym z) (put_off_own e.marks m u off l)
+
+    noted : (g : Firing) → (g.unit ≡ u) ⊎ IsNotedUnit e g.unit → IsNotedUnit (with_marks e m) g.unit
+    noted g (inl z) = inl (at g (inr z))
+    noted g (inr (inl k)) = inl (at g (inl k))
+    noted g (inr (inr k)) = inr k
 
 pub begun_settled : (net : Net) (past : Past) (b : Bounds) (c : ℕ) (start : Dated) (e : Engine) (m : Marks) → IsEmptied e.marks m → IsBegunIn net past b c start e → IsSettled net past b c start (with_marks e m)
 begun_settled net past b c start e m k t = record {

@@ -1,5 +1,5 @@
 -- Turns of units that are no queues: what a try of the act of a unit that has one told, and whole turns.
-use Rattle.std.proofs.Common.{◌≡◌, ◌≢◌, ◌∙◌, ℕ, ◌+◌, ◌<◌, ◌≤◌, ◌⊎◌, inl, inr, true, false, List, [], ◌∷◌, ◌++◌, length, get_or, refl, sym, ap, subst, arith, Result, MatchResult, Ok, Err}
+use Rattle.std.proofs.Common.{◌≡◌, ◌≢◌, ◌∙◌, ℕ, ◌+◌, ◌<◌, inr, true, false, List, [], ◌∷◌, ◌++◌, length, get_or, refl, sym, ap, subst, Result, MatchResult, Ok, Err}
 use Rattle.std.specs.List.{AllByRecursion}
 use Rattle.net_types.specs.declared.net.Net.{Net}
 use Rattle.net_types.specs.declared.net.Unit.{Unit as Kind}
@@ -22,14 +22,15 @@ use Rattle.cycle_engine.specs.declared.trial.Planned.{Planned}
 use Rattle.cycle_engine.specs.Cycles.{Dated, May, Makes, IsUnused, AreDated, place_of, after_in, after_by}
 use Rattle.cycle_engine.specs.private.Stacks.{Stacked}
 use Rattle.cycle_engine.specs.private.Used.{goes}
-use Rattle.cycle_engine.specs.private.Goings.{with_marks, with_again, Past, InCycle, IsReady, IsMade, IsNotedUnit, IsBegunIn, IsBroken}
-use Rattle.cycle_engine.specs.private.Marking.{Holds, HasUnit, no_firing, IsMarked, IsStarved, IsMarkedWhere, IsRoused}
+use Rattle.cycle_engine.specs.private.Goings.{with_marks, with_again, Past, InCycle, IsReady, IsMade, IsBegunIn, IsBroken}
+use Rattle.cycle_engine.specs.private.Marking.{Holds, HasUnit, no_firing, IsStarved, IsMarkedWhere, IsRoused}
 use Rattle.cycle_engine.specs.private.Places.{IsNextAct, IsTurn, IsTurnEnded, IsTurnMade, IsOpenTurn, first_of}
 use Rattle.cycle_engine.specs.private.Trials.{IsPlanned, dated_of}
+use Rattle.cycle_engine.proofs.MarkLemmas.{holds_last}
 use Rattle.cycle_engine.proofs.PlaceLemmas.{fires_within, first_rank, go_is, starved_none}
 use Rattle.cycle_engine.proofs.BeforeLemmas.{after_of}
 use Rattle.cycle_engine.proofs.DateLemmas.{dated_after, effect_there, some_effect}
-use Rattle.cycle_engine.proofs.TurnLemmas.{all_at, pushed_holds, pushed_last, turn_passed, turn_again, unit_made, turn_on, going_marks, open_unit, unit_done, going_dated, going_dated_now}
+use Rattle.cycle_engine.proofs.TurnLemmas.{all_at, pushed_holds, turn_passed, turn_again, unit_made, turn_on, going_marks, open_unit, unit_done, going_dated}
 use Rattle.cycle_engine.specs.declared.broken.Broken.{Broken}
 use Rattle.cycle_engine.proofs.GoLemmas.{roused_by, goes_plain, go_next, go_below}
 
@@ -100,7 +101,7 @@ module _ (net : Net) (past : Past) (b : Bounds) (c : ℕ) (start : Dated) (marks
   pub go_again : (new : Engine) (u : ℕ) (s : Stacked ℕ) → s.items ≡ new.again.items ++ u ∷ [] → IsTurn net past b c start marks new u 1 0 → IsTurnEnded net past b c start marks (with_again new s) u 1
   go_again new u s pushed t = record {
     turn = turn_again net past b c start marks new s u 1 0 (λ v h. (let P : List ℕ → Type 0 = Holds v in subst P (sym pushed) (pushed_holds new.again.items u v h))) t;
-    own = λ a h k. inr (let P : List ℕ → Type 0 = Holds u in subst P (sym pushed) (pushed_last new.again.items u));
+    own = λ a h k. inr (let P : List ℕ → Type 0 = Holds u in subst P (sym pushed) (holds_last new.again.items u));
   }
 
   -- its place has fired
@@ -126,20 +127,3 @@ module _ (net : Net) (past : Past) (b : Bounds) (c : ℕ) (start : Dated) (old :
   pub turn_begun : (new : Engine) (k : Kind) {T : Type 0} (r : Result T Broken) → k ≡ kind_of net u → is_lsq k ≡ false → IsOpenTurn net past b c start old u → IsTurnMade net b c u (act_rank (first_of k)) (act_rank (first_of k) + 1) old new r
       → MatchResult r (λ _. IsBegunIn net past b c start new) (IsBroken net past.inputs b)
   turn_begun new k {T} r is l t made = unit_turn new (first_of k) T r (IsBroken net past.inputs b) (ap is_lsq (sym is) ∙ l) (ap first_of is) t (made.tried past start old.marks)
-
-  -- past the units none fires
-  pub unit_past : IsChecked net → length net.units ≤ u → IsOpenTurn net past b c start old u → IsBegunIn net past b c start old
-  unit_past checked most t = record { going = t.going; plain = t.plain; watching = λ g un m. at g m (t.watched g un m); kept = λ g h k. noted g h (t.kept g h k) }
-    where
-      noted : (g : Firing) → HasUnit g.unit old.fired.items → (g.unit ≡ u) ⊎ IsNotedUnit old g.unit → IsNotedUnit old g.unit
-      noted g h (inr k) = k
-      noted g h (inl e) =
-          let l = fired_within net past b c start old g.unit checked t.going h in
-          absurd (omega arith)
-
-      at : (g : Firing) → May net c start (dated_of old) g → IsMarked old.marks g.unit ⊎ ((g.unit ≡ u) × (is_lsq (kind_of net g.unit) ≡ false)) → IsMarked old.marks g.unit
-      at g m (inl k) = k
-      at g m (inr k) =
-          let l = fires_within net (state_of old.state) g checked (going_dated_now net past b c start old t.going).chans m.turn in
-          let e = k.0 in
-          absurd (omega arith)

@@ -126,7 +126,7 @@ impl Engine {
         let units = net.net().units.as_slice();
         let used = Used::new(alloc, net)?;
         let marks = Marks::new(alloc, net)?;
-        let notes = Notes::new(alloc)?;
+        let notes = Notes::new(alloc, net)?;
         let state = State::new(alloc, net, inputs)?;
         let begun = zeros(alloc, units.len())?;
         let feeds = Feeds::new(alloc, net)?;
@@ -195,12 +195,13 @@ impl Engine {
         )?;
         let freed = self.freed.list.as_slice();
         self.marks.mark_sources(net, &self.state, freed)?;
-        let ripening = self.notes.ripening(now);
+        let place = self.notes.place(now);
+        let ripening = self.notes.at(place);
         self.marks
             .mark_targets(net, &self.feeds, &self.state, ripening)?;
         self.again.clear();
         self.freed.clear();
-        self.notes.clear(now);
+        self.notes.clear(place);
         self.made += self.fired.len() as u64;
         self.fired.clear();
         Ok(())

@@ -8,6 +8,7 @@ mod control;
 mod dates;
 mod engine;
 mod feeds;
+mod forks;
 mod freed;
 mod laws;
 mod marks;

@@ -2,7 +2,7 @@
 
 ghost use Rattle.std.specs.Prelude.{◌≡◌, ℕ, ◌+◌, ◌<◌, ◌≤◌, true, false, IfOk, OnOk, MatchOption, length, get_or, set};
 ghost use Rattle.net_core.specs.States.{IsOf, state_of};
-ghost use Rattle.cycle_engine.specs.private.Marking.{Holds, IsMarked, IsListed, IsStarved, KeepsMarks, IsSourceMarked, IsMergeMarked, IsTargetMarked, IsFedMarked, AreFeeds, IsTaken, IsTurnKind, IsEmptied, IsReordered, HasNoTurn, HasTurn};
+ghost use Rattle.cycle_engine.specs.private.Marking.{Holds, IsMarked, IsListed, IsStarved, KeepsMarks, IsSourceMarked, IsMergeMarked, IsTargetMarked, IsFedMarked, AreFeeds, AreWithin, IsTaken, IsPutOff, IsEmptied, IsReordered, HasNoTurn, HasTurn};
 
 use crate::feeds::Feeds;
 use crate::places::{is_merge, is_starved};
@@ -31,13 +31,6 @@ impl Drop for Marks {
             queues: _queues,
         } = self;
     }
-}
-
-/// A unit that was taken from the list, and its kind; none of a number past the units.
-#[derive(Clone, Copy)]
-pub(crate) struct Turn<'a> {
-    pub unit: u32,
-    pub kind: Option<&'a Unit>,
 }
 
 impl Marks {
@@ -126,33 +119,30 @@ impl Marks {
         }
     }
 
-    /// Takes the next unit from the list, and its mark where it is no queue; a queue is put among those that are to have turns.
+    /// Takes the next unit from the list, and its mark.
+    #[inline(always)]
+    pub(crate) fn take(&mut self) -> Option<u32>
+        requires { AreWithin self.old }
+        ensures { MatchOption result (IsEmptied self.old self.new) (IsTaken self.old self.new) }
+    {
+        let unit = self.list.pop()?;
+        self.marked[unit as usize] = false;
+        Some(unit)
+    }
+
+    /// Marks a queue of the net, which is to have its turn after all units that are no queues.
     ///
     /// # Errors
     ///
     /// [`Memory`] where memory is wanting.
-    #[inline(always)]
-    pub(crate) fn take<'a>(&mut self, net: &'a Checked) -> Result<Option<Turn<'a>>, Memory>
-        requires { length self.old.marked.items ≡ length net.now.units }
-        ensures { IfOk result (λ turn. MatchOption turn (IsEmptied self.old self.new)
-            (λ t. IsTaken net.now self.old self.new t.unit × IsTurnKind net.now t)) }
+    #[inline(never)]
+    pub(crate) fn put_off(&mut self, unit: u32) -> Result<(), Memory>
+        requires { unit < length self.old.marked.items }
+        ensures { OnOk result (IsPutOff self.old self.new unit) }
     {
-        let Some(unit) = self.list.pop() else {
-            return Ok(None);
-        };
-        let units = net.net().units.as_slice();
-        if unit as usize >= units.len() {
-            return Ok(Some(Turn { unit, kind: None }));
-        }
-        let kind = &units[unit as usize];
-        match kind {
-            Unit::Lsq { .. } => self.queues.push(unit)?,
-            _ => self.marked[unit as usize] = false,
-        }
-        Ok(Some(Turn {
-            unit,
-            kind: Some(kind),
-        }))
+        self.queues.push(unit)?;
+        self.marked[unit as usize] = true;
+        Ok(())
     }
 
     /// Puts the queues that are to have turns into the order in which they are taken, the least unit first.

@@ -1,7 +1,9 @@
 //! When tokens ripen.
 
-ghost use Rattle.std.specs.Prelude.{◌≡◌, ◌<◌, ◌++◌, ◌∷◌, ◌%◌, ℕ, None, [], IfOk, IfSome, OnOk, get_or, length, set};
-ghost use Rattle.cycle_engine.specs.private.Marking.{IsNoted, cell, cells_of, cells_with, lists_of};
+ghost use Rattle.std.specs.Prelude.{◌≡◌, ◌<◌, ◌≤◌, ◌^◌, ◌++◌, ◌∷◌, ◌%◌, ℕ, None, [], IfOk, IfSome, OnOk, get_or, length, set};
+ghost use Rattle.net_types.specs.Nets.{chan_at};
+ghost use Rattle.std.specs.Int.{IsPowerOfTwo};
+ghost use Rattle.cycle_engine.specs.private.Marking.{AreCells, HasCells, IsNoted, around, cell, cells_of, cells_with, coming_in, lists_of};
 
 use crate::dates::delay_of;
 use crate::stack::Stack;
@@ -9,28 +11,44 @@ use net_check::Checked;
 use net_core::Laid;
 use net_types::Memory;
 use std::alloc::Global;
-use std::mem;
 
-/// How many cycles have a list of their own: more than the greatest delay.
-const CELLS: u64 = 1024;
-
-/// How many lists leave their rooms to others when they are emptied.
-const ROOMS: u64 = 16;
-
-/// Rooms that no list uses.
-#[derive(Drop)]
-struct Rooms {
-    /// Empty lists, of which the first so many have room.
-    lists: Vec<Stack<u32>>,
-    free: usize,
-}
+/// How many items there may be room for in a list that has none, so that lists of many items one after another take no more memory
+/// than those of the cycles to come need.
+const KEPT_ROOM: usize = 1024;
 
 /// Channels of which tokens ripen in cycles to come.
 #[derive(Drop)]
 pub(crate) struct Notes {
-    /// For each cycle to come, by its number's rest modulo [`CELLS`], the channels of which a token ripens then.
+    /// For each cycle to come, by its number's rest modulo how many lists there are, the channels of which a token ripens then. There
+    /// are more lists than the greatest delay has cycles, and as many as a power of two.
     pub coming: Vec<Stack<u32>>,
-    rooms: Rooms,
+}
+
+/// The greatest delay of a channel in cycles; 0 of none.
+fn greatest_delay(net: &Checked) -> u64
+    ensures most { (d : ℕ) → (chan_at net.now d).delay ≤ result }
+    ensures small { result < 2 ^ 32 }
+{
+    let mut most = 0;
+    for chan in net.net().chans.as_slice() {
+        most = u64::from(chan.delay).max(most);
+    }
+    most
+}
+
+/// The place that comes so far after another one in a ring.
+fn around(first: usize, ahead: usize, count: usize) -> usize
+    requires first { first < count }
+    requires ahead { ahead < count }
+    ensures place { result ≡ around first ahead count }
+    ensures within { result < count }
+{
+    let room = count - first;
+    if ahead < room {
+        first + ahead
+    } else {
+        ahead - room
+    }
 }
 
 impl Notes {
@@ -39,46 +57,55 @@ impl Notes {
     /// # Errors
     ///
     /// [`Memory`] where memory is wanting.
-    pub(crate) fn new(alloc: Global) -> Result<Notes, Memory>
-        ensures { IfOk result (λ n. length n.coming.items ≡ 1024) }
+    pub(crate) fn new(alloc: Global, net: &Checked) -> Result<Notes, Memory>
+        ensures { IfOk result (λ n. HasCells net.now n) }
     {
-        let mut lists = Vec::new(alloc);
-        for _ in 0..ROOMS {
-            lists.push(Stack::new(alloc, 0))?;
-        }
+        let count = (greatest_delay(net) + 1).next_power_of_two();
         Ok(Notes {
-            coming: empty_lists(alloc)?,
-            rooms: Rooms { lists, free: 0 },
+            coming: empty_lists(alloc, count)?,
         })
     }
 
-    /// The channels of which a token ripens in a cycle.
-    pub(crate) fn ripening(&self, now: u64) -> &[u32]
-        requires { length self.now.coming.items ≡ 1024 }
-        ensures { result.now ≡ cell self.now (now % 1024) }
+    /// The place of the list for a cycle.
+    #[inline(always)]
+    pub(crate) fn place(&self, cycle: u64) -> usize
+        requires { AreCells self.now }
+        ensures place { result ≡ cycle % length (cells_of self.now) }
+        ensures within { result < length self.now.coming.items }
     {
-        self.coming[(now % CELLS) as usize].as_slice()
+        (cycle & (self.coming.len() as u64 - 1)) as usize
+    }
+
+    /// The channels in the list of a place.
+    pub(crate) fn at(&self, place: usize) -> &[u32]
+        requires { place < length self.now.coming.items }
+        ensures { result.now ≡ cell self.now place }
+    {
+        self.coming[place].as_slice()
     }
 
     /// The first cycle from `now` on in which a noted token ripens; `None` where none is noted.
     pub(crate) fn next(&self, now: u64) -> Option<u64>
-        requires { length self.now.coming.items ≡ 1024 }
+        requires { AreCells self.now }
         ensures { result ≡ None → (k : ℕ) → cell self.now k ≡ [] }
     {
-        for ahead in 0..CELLS {
-            if self.coming[((now % CELLS + ahead) % CELLS) as usize].len() > 0 {
-                return Some(now.saturating_add(ahead));
+        let first = self.place(now);
+        let count = self.coming.len();
+        for ahead in 0..count {
+            let place = around(first, ahead, count);
+            if self.coming[place].len() > 0 {
+                return Some(now.saturating_add(ahead as u64));
             }
         }
         None
     }
 
-    /// Forgets which tokens ripen in a cycle.
-    pub(crate) fn clear(&mut self, now: u64)
-        requires { length self.old.coming.items ≡ 1024 }
-        ensures { cells_of self.new ≡ set (cells_of self.old) (now % 1024) [] }
+    /// Empties the list of a place.
+    pub(crate) fn clear(&mut self, place: usize)
+        requires { place < length self.old.coming.items }
+        ensures { cells_of self.new ≡ set (cells_of self.old) place [] }
     {
-        clear_at(&mut self.coming, &mut self.rooms, (now % CELLS) as usize);
+        clear_at(&mut self.coming, place);
     }
 
     /// Notes when the token ripens that is put on a channel in the cycle `now`.
@@ -88,19 +115,15 @@ impl Notes {
     /// [`Memory`] where memory is wanting.
     #[inline(always)]
     fn note_put(&mut self, net: &Checked, chan: u32, now: u64) -> Result<(), Memory>
-        requires cells { length self.old.coming.items ≡ 1024 }
+        requires cells { AreCells self.old }
         requires within { chan < length net.now.chans }
         ensures { OnOk result
             (cells_of self.new ≡ cells_with net.now chan now (cells_of self.old)) }
     {
         let delay = delay_of(net, chan);
         if delay > 0 {
-            note_at(
-                &mut self.coming,
-                &mut self.rooms,
-                ((now % CELLS + delay) % CELLS) as usize,
-                chan,
-            )?;
+            let place = self.place(self.place(now) as u64 + delay);
+            note_at(&mut self.coming, place, chan)?;
         }
         Ok(())
     }
@@ -112,7 +135,7 @@ impl Notes {
     /// [`Memory`] where memory is wanting.
     #[inline(always)]
     pub(crate) fn note(&mut self, net: &Checked, laid: Option<Laid>, now: u64) -> Result<(), Memory>
-        requires cells { length self.old.coming.items ≡ 1024 }
+        requires cells { AreCells self.old }
         requires within { IfSome laid (λ w. w.chan < length net.now.chans) }
         ensures { OnOk result (IsNoted net.now laid now self.old self.new) }
     {
@@ -126,16 +149,17 @@ impl Notes {
     }
 }
 
-/// An empty list for each cell.
+/// So many empty lists.
 ///
 /// # Errors
 ///
 /// [`Memory`] where memory is wanting.
-fn empty_lists(alloc: Global) -> Result<Vec<Stack<u32>>, Memory>
-    ensures { IfOk result (λ lists. length lists.items ≡ 1024) }
+fn empty_lists(alloc: Global, count: u64) -> Result<Vec<Stack<u32>>, Memory>
+    requires { count ≤ 2 ^ 32 }
+    ensures { IfOk result (λ lists. length lists.items ≡ count) }
 {
-    let mut lists = Vec::with_capacity(alloc, CELLS as usize)?;
-    for _ in 0..CELLS {
+    let mut lists = Vec::with_capacity(alloc, count as usize)?;
+    for _ in 0..count {
         lists.push(Stack::new(alloc, 0))?;
     }
     Ok(lists)
@@ -147,74 +171,20 @@ fn empty_lists(alloc: Global) -> Result<Vec<Stack<u32>>, Memory>
 ///
 /// [`Memory`] where memory is wanting.
 #[inline(always)]
-fn note_at(
-    cells: &mut Vec<Stack<u32>>,
-    rooms: &mut Rooms,
-    at: usize,
-    chan: u32,
-) -> Result<(), Memory>
+fn note_at(cells: &mut Vec<Stack<u32>>, at: usize, chan: u32) -> Result<(), Memory>
     requires { at < length cells.old.items }
     ensures { OnOk result (lists_of cells.new.items
         ≡ set (lists_of cells.old.items) at (get_or (lists_of cells.old.items) at [] ++ chan ∷ [])) }
 {
-    add(&mut cells[at], rooms, chan)?;
+    cells[at].push(chan)?;
     Ok(())
 }
 
-/// Adds a channel to a list, which takes a room where it has none.
-///
-/// # Errors
-///
-/// [`Memory`] where memory is wanting.
+/// Empties the list of a cell.
 #[inline(always)]
-fn add(list: &mut Stack<u32>, rooms: &mut Rooms, chan: u32) -> Result<(), Memory>
-    ensures { OnOk result (list.new.items ≡ list.old.items ++ chan ∷ []) }
-{
-    if !list.has_room() {
-        rooms.give(list);
-    }
-    list.push(chan)?;
-    Ok(())
-}
-
-/// Empties the list of a cell, whose room others may take then.
-fn clear_at(cells: &mut Vec<Stack<u32>>, rooms: &mut Rooms, at: usize)
+fn clear_at(cells: &mut Vec<Stack<u32>>, at: usize)
     requires { at < length cells.old.items }
     ensures { lists_of cells.new.items ≡ set (lists_of cells.old.items) at [] }
 {
-    rooms.take(&mut cells[at]);
-}
-
-impl Rooms {
-    /// Gives an empty list a room, where one is free.
-    #[inline(never)]
-    fn give(&mut self, list: &mut Stack<u32>)
-        ensures { list.new.items ≡ list.old.items }
-    {
-        if list.len() == 0 && self.free > 0 && self.free <= self.lists.len() {
-            self.free -= 1;
-            change_room(list, &mut self.lists[self.free]);
-        }
-    }
-
-    /// Empties a list and takes its room, where it has one and another can be kept.
-    #[inline(always)]
-    fn take(&mut self, list: &mut Stack<u32>)
-        ensures { list.new.items ≡ [] }
-    {
-        list.clear();
-        if list.has_room() && self.free < self.lists.len() {
-            change_room(list, &mut self.lists[self.free]);
-            self.free += 1;
-        }
-    }
-}
-
-/// Empties two lists, and gives each the room of the other.
-fn change_room(list: &mut Stack<u32>, other: &mut Stack<u32>)
-    ensures { list.new.items ≡ [] }
-{
-    list.clear();
-    other.clear();
-    mem::swap(list, other);
+    cells[at].clear_to(KEPT_ROOM);
 }

@@ -5,6 +5,7 @@ ghost use Rattle.el_base.specs.Limits.{max_delay, max_firings};
 ghost use Rattle.net_types.specs.Inputs.{InputsFit};
 ghost use Rattle.cycle_engine.specs.Timings.{IsTimed, HasFewCycles, IsTimingFault};
 ghost use Rattle.cycle_engine.specs.private.Goings.{Past, IsReady, HasDone, IsBroken, HasNoneComing};
+ghost use Rattle.cycle_engine.specs.private.Marking.{AreCells};
 ghost use Rattle.cycle_engine.specs.private.Places.{IsCycled};
 
 use crate::broken::Broken;
@@ -96,21 +97,19 @@ impl Engine {
     /// Whether there may be a firing in a cycle to come, after so many of which those from `last` on have none: whether the
     /// last has one, or a token is to ripen, and not all tokens were there long enough for each delay.
     fn goes_on(&self, fired: bool, cycle: u64, last: u64, awaited: &mut u64) -> bool
-        requires { length self.now.notes.coming.items ≡ 1024 }
+        requires cells { AreCells self.now.notes }
+        requires last { fired ≡ true → last ≡ cycle }
         ensures near { result ≡ true → cycle ≤ last + max_delay }
         ensures spent { result ≡ false → (max_delay < cycle - last)
             ⊎ ((fired ≡ false) × HasNoneComing self.now) }
     {
-        if cycle.saturating_sub(last) > u64::from(MAX_DELAY) {
-            return false;
-        }
-        fired || self.awaits(cycle, awaited)
+        fired || cycle.saturating_sub(last) <= u64::from(MAX_DELAY) && self.awaits(cycle, awaited)
     }
 
     /// Whether a token is noted that ripens in the cycle `now` or later. The next such cycle is kept in `awaited`: before it no
     /// search is needed.
     fn awaits(&self, now: u64, awaited: &mut u64) -> bool
-        requires { length self.now.notes.coming.items ≡ 1024 }
+        requires { AreCells self.now.notes }
         ensures { result ≡ false → HasNoneComing self.now }
     {
         if now <= *awaited {

@@ -48,12 +48,6 @@ impl<T: Copy> Stack<T> {
         self.len
     }
 
-    /// Whether there is room that needs no memory, used or not. No clause rests on it.
-    #[inline(always)]
-    pub(crate) fn has_room(&self) -> bool {
-        self.room.len() > 0
-    }
-
     /// Puts an item on the top.
     ///
     /// # Errors
@@ -94,10 +88,22 @@ impl<T: Copy> Stack<T> {
     }
 
     /// Takes all away.
+    #[inline(always)]
     pub(crate) fn clear(&mut self)
         ensures { self.new.items ≡ [] }
     {
         self.len = 0;
+    }
+
+    /// Takes all away, and gives the room back where it is for more than so many items.
+    #[inline(always)]
+    pub(crate) fn clear_to(&mut self, most: usize)
+        ensures { self.new.items ≡ [] }
+    {
+        self.clear();
+        if self.room.len() > most {
+            let_go(&mut self.room);
+        }
     }
 }
 
@@ -113,4 +119,13 @@ fn grow<T: Copy>(room: &mut Vec<T>, fill: T) -> Result<(), Memory>
 {
     room.push(fill)?;
     Ok(())
+}
+
+/// Gives room back. It stands apart as [`grow`] does.
+#[inline(never)]
+fn let_go<T: Copy>(room: &mut Vec<T>)
+    ensures { room.new.items ≡ [] }
+{
+    room.truncate(0);
+    room.shrink_to_fit();
 }

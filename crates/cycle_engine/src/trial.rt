@@ -11,7 +11,7 @@ ghost use Rattle.cycle_engine.specs.Cycles.{Dated, May, IsUnused, after_in};
 ghost use Rattle.cycle_engine.specs.private.Trials.{dated_of, HadRoom, IsPlanned, HasRoomNow, HadDepth, Allowed, IsBegun, IsEngine};
 ghost use Rattle.net_core.specs.Uses.{is_fork};
 ghost use Rattle.cycle_engine.specs.private.Goings.{Past, IsReady, InCycle, MayFollow, IsMade, IsTried, IsBroken, IsGrown, IsMore, all_made};
-ghost use Rattle.cycle_engine.specs.private.Marking.{AreFeeds, IsFreed, IsMarkedWhere, IsNoted};
+ghost use Rattle.cycle_engine.specs.private.Marking.{AreCells, AreFeeds, IsFreed, IsMarkedWhere, IsNoted};
 ghost use Rattle.cycle_engine.specs.private.Control.{control_after};
 ghost use Rattle.cycle_engine.specs.private.Used.{AreNumbered, AreTold, HasPlace, IsStamped, place_number};
 ghost use Rattle.std.specs.Prelude.{MatchResult};
@@ -127,7 +127,7 @@ fn tell(
 ) -> Result<(), Memory>
     requires of { IsOf net.now state.now }
     requires feeds { AreFeeds net.now feeds.now }
-    requires cells { length notes.old.coming.items ≡ 1024 }
+    requires cells { AreCells notes.old }
     requires long { length marks.old.marked.items ≡ length net.now.units }
     requires within { IfSome laid (λ w. w.chan < length net.now.chans) }
     ensures notes { OnOk result (IsNoted net.now laid now notes.old notes.new) }
@@ -247,7 +247,7 @@ impl Engine {
         requires planned { IsPlanned net.now self.old firing planned }
         requires counts { CountsWithin (2 ^ 62) (state_of self.old.state) }
         requires log { keep ≡ true → 0 < self.old.log.room }
-        requires cells { length self.old.notes.coming.items ≡ 1024 }
+        requires cells { AreCells self.old.notes }
         requires few { self.old.made + length self.old.fired.items < 2 ^ 63 }
         requires feeds { AreFeeds net.now self.old.feeds }
         requires long { length self.old.marks.marked.items ≡ length net.now.units }

@@ -163,12 +163,9 @@ impl Engine {
             (λ _. IsSettled net.now past bounds now start self.new)
             (IsBroken net.now past.inputs bounds) }
     {
-        let _ = net.net();
-        'units: while let Some(turn) = self.marks.take(net)? {
-            match turn.kind {
-                None => {}
-                Some(kind) => self.run_unit(net, bounds, turn.unit, kind, now)?,
-            }
+        let units = net.net().units.as_slice();
+        'units: while let Some(unit) = self.marks.take() {
+            self.run_unit(net, bounds, unit, &units[unit as usize], now)?;
         }
         Ok(())
     }

@@ -1,5 +1,5 @@
 -- Private: only contracts of this crate cite it. The engine in the middle of a cycle, and between two.
-use Rattle.std.specs.Prelude.{◌≡◌, ◌⊎◌, ℕ, ◌+◌, ◌-◌, ◌*◌, ◌%◌, ◌<◌, ◌≤◌, Bool, true, false, cond, List, [], ◌∷◌, ◌++◌, length, get_or}
+use Rattle.std.specs.Prelude.{◌≡◌, ◌⊎◌, ℕ, ◌+◌, ◌-◌, ◌*◌, ◌<◌, ◌≤◌, Bool, true, false, cond, List, [], ◌∷◌, ◌++◌, length, get_or}
 use Rattle.std.specs.List.{AllByRecursion}
 use Rattle.el_base.specs.Limits.{max_depth, max_firings}
 use Rattle.net_types.specs.declared.net.Net.{Net}
@@ -25,7 +25,7 @@ use Rattle.cycle_engine.specs.private.Trials.{dated_of, IsBegun, IsEngine}
 use Rattle.cycle_engine.specs.private.Control.{HasControl}
 use Rattle.cycle_engine.specs.private.Used.{AreNumbered, AreTold}
 use Rattle.cycle_engine.specs.Rousing.{Could}
-use Rattle.cycle_engine.specs.private.Marking.{Holds, HasUnit, IsMarked, IsStarved, IsLacking, IsListed, AreFeeds, AreListed, cell, entries_at}
+use Rattle.cycle_engine.specs.private.Marking.{Holds, HasUnit, IsMarked, IsStarved, IsLacking, IsListed, AreFeeds, AreListed, HasCells, cell, coming_in, entries_at}
 
 -- how many firings are made in all
 abbrev pub all_made : Engine → ℕ
@@ -42,7 +42,7 @@ pub record IsReady (net : Net) (b : Bounds) (e : Engine) : Type 0 where
   pub queues : length e.begun.items ≡ length net.units
   pub marked : length e.marks.marked.items ≡ length net.units
   pub listed : IsListed net e.marks
-  pub cells : length e.notes.coming.items ≡ 1024
+  pub cells : HasCells net e.notes
   pub told : AreTold net e.used e.made e.fired.items
   pub places : AreNumbered net e.used.base.items (length e.used.last.items)
   pub feeds : AreFeeds net e.feeds
@@ -58,7 +58,7 @@ pub record Past : Type 0 where
 
 -- each token was put before the cycle c, and is noted where it ripens from that cycle on
 abbrev pub AreComing : Net → ℕ → Engine → Type 0
-AreComing net c e = (d : ℕ) → AllByRecursion (λ x. (x < c) × (c ≤ x + (chan_at net d).delay → Holds d (cell e.notes ((x + (chan_at net d).delay) % 1024)))) (get_or (dates_of e.state) d [])
+AreComing net c e = (d : ℕ) → AllByRecursion (λ x. (x < c) × (c ≤ x + (chan_at net d).delay → Holds d (coming_in e.notes (x + (chan_at net d).delay)))) (get_or (dates_of e.state) d [])
 
 -- no token is noted that is to ripen
 abbrev pub HasNoneComing : Engine → Type 0
@@ -89,7 +89,7 @@ pub record HasFreed (net : Net) (e : Engine) (u : ℕ) : Type 0 where
 -- a token ripens in the cycle c on a channel into a unit that wants no token beside it
 pub record HasRipening (net : Net) (c : ℕ) (e : Engine) (u : ℕ) : Type 0 where
   pub chan : ℕ
-  pub coming : Holds chan (cell e.notes (c % 1024))
+  pub coming : Holds chan (coming_in e.notes c)
   pub within : chan < length net.chans
   pub target : (chan_at net chan).to.unit ≡ u
   pub fed : IsLacking net (state_of e.state) chan → ⊥

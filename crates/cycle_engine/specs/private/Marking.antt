@@ -1,5 +1,6 @@
 -- Private: only contracts of this crate cite it. Marks at the units that may fire, and what is noted for the next cycle.
-use Rattle.std.specs.Prelude.{◌≡◌, ◌≢◌, ◌⊎◌, ℕ, zero, suc, ◌+◌, ◌-◌, ◌<◌, ◌≤◌, ◌++◌, ◌∷◌, ◌%◌, nat_lt, cond, set, Bool, true, false, Option, Some, None, List, [], map, reverse, length, get_or, IfSome, IsSomeAnd, MatchOption}
+use Rattle.std.specs.Prelude.{◌≡◌, ◌≢◌, ◌⊎◌, ℕ, zero, suc, ◌+◌, ◌-◌, ◌<◌, ◌≤◌, ◌++◌, ◌∷◌, ◌%◌, nat_lt, cond, set, Bool, true, false, Option, Some, None, List, [], map, reverse, length, get_or, IfSome, IsSomeAnd}
+use Rattle.std.specs.Int.{IsPowerOfTwo}
 use Rattle.std.specs.List.{AllByRecursion}
 use Rattle.std.specs.List.Sorted.{IsPermutation, IsNonDecreasing}
 use Rattle.net_types.specs.declared.net.Net.{Net}
@@ -17,7 +18,6 @@ use Rattle.net_core.specs.declared.state.State.{State as Stored}
 use Rattle.net_core.specs.States.{state_of, dates_of}
 use Rattle.net_core.specs.Plans.{chans_of}
 use Rattle.cycle_engine.specs.declared.marks.Marks.{Marks}
-use Rattle.cycle_engine.specs.declared.marks.Turn.{Turn}
 use Rattle.cycle_engine.specs.declared.notes.Notes.{Notes}
 use Rattle.cycle_engine.specs.declared.feeds.Feeds.{Feeds}
 use Rattle.cycle_engine.specs.declared.freed.Freed.{Freed}
@@ -47,9 +47,18 @@ pub record HasUnit (u : ℕ) (fs : List Firing) : Type 0 where
 abbrev pub IsMarked : Marks → ℕ → Type 0
 IsMarked m u = get_or m.marked.items u false ≡ true
 
--- a marked unit is in the list, or is among the queues that are to have turns
-abbrev pub IsListed : Net → Marks → Type 0
-IsListed net m = (u : ℕ) → IsMarked m u → Holds u m.list.items ⊎ ((is_lsq (kind_of net u) ≡ true) × Holds u m.queues.items)
+-- the list is of units that have a mark or may have one
+abbrev pub AreWithin : Marks → Type 0
+AreWithin m = (u : ℕ) → Holds u m.list.items → u < length m.marked.items
+
+-- the unit is in the list, or is a queue that is to have a turn
+abbrev pub IsAwaited : Net → Marks → ℕ → Type 0
+IsAwaited net m u = Holds u m.list.items ⊎ ((is_lsq (kind_of net u) ≡ true) × Holds u m.queues.items)
+
+-- so it is of each marked unit
+pub record IsListed (net : Net) (m : Marks) : Type 0 where
+  pub within : AreWithin m
+  pub each : (u : ℕ) → IsMarked m u → IsAwaited net m u
 
 -- no mark is taken away
 pub record KeepsMarks (old new : Marks) : Type 0 where
@@ -203,16 +212,19 @@ pub record IsEmptied (old new : Marks) : Type 0 where
   pub before : old.list.items ≡ []
   pub none : new.list.items ≡ []
 
--- a mark was taken, and so was the next number of the list
-pub record IsTaken (net : Net) (old new : Marks) (u : ℕ) : Type 0 where
+-- the next unit of the list was taken, and its mark
+pub record IsTaken (old new : Marks) (u : ℕ) : Type 0 where
+  pub within : u < length old.marked.items
   pub long : length new.marked.items ≡ length old.marked.items
-  pub listed : IsListed net old → IsListed net new
-  pub left : (v : ℕ) → IsMarked old v → IsMarked new v ⊎ ((v ≡ u) × (is_lsq (kind_of net v) ≡ false))
+  pub listed : (net : Net) → IsListed net old → IsListed net new
+  pub left : (v : ℕ) → IsMarked old v → IsMarked new v ⊎ (v ≡ u)
   pub fewer : length new.list.items + 1 ≡ length old.list.items
 
--- the kind is that of the unit, and none is told past the units
-abbrev pub IsTurnKind : Net → Turn → Type 0
-IsTurnKind net t = MatchOption t.kind (length net.units ≤ t.unit) (λ k. (t.unit < length net.units) × (k.now ≡ kind_of net t.unit))
+-- a queue is marked, and is to have a turn
+pub record IsPutOff (old new : Marks) (u : ℕ) : Type 0 where
+  pub marked : new.marked.items ≡ set old.marked.items u true
+  pub list : new.list ≡ old.list
+  pub queues : new.queues.items ≡ old.queues.items ++ u ∷ []
 
 -- the queues that are to have turns stand in another order, the greatest first
 pub record IsReordered (old new : Marks) : Type 0 where
@@ -252,16 +264,33 @@ cells_of n = lists_of n.coming.items
 abbrev pub cell : Notes → ℕ → List ℕ
 cell n k = get_or (cells_of n) k []
 
+-- there are as many cells as a power of two
+abbrev pub AreCells : Notes → Type 0
+AreCells n = IsPowerOfTwo (length (cells_of n))
+
+-- and more than any delay of the net has cycles
+pub record HasCells (net : Net) (n : Notes) : Type 0 where
+  pub power : AreCells n
+  pub more : (d : ℕ) → (chan_at net d).delay < length (cells_of n)
+
+-- the place that comes so far after another one in a ring of so many
+abbrev pub around : ℕ → ℕ → ℕ → ℕ
+around first ahead count = cond (nat_lt ahead (count - first)) (first + ahead) (ahead - (count - first))
+
+-- the channels that are noted for a cycle
+abbrev pub coming_in : Notes → ℕ → List ℕ
+coming_in n c = cell n (c % length (cells_of n))
+
 -- a channel is noted where the token that is put on it in the cycle c ripens later
 abbrev pub cells_with : Net → ℕ → ℕ → List (List ℕ) → List (List ℕ)
 cells_with net d c cells = cond (nat_lt 0 (chan_at net d).delay)
-    (set cells ((c + (chan_at net d).delay) % 1024) (get_or cells ((c + (chan_at net d).delay) % 1024) [] ++ d ∷ [])) cells
+    (set cells ((c + (chan_at net d).delay) % length cells) (get_or cells ((c + (chan_at net d).delay) % length cells) [] ++ d ∷ [])) cells
 
 -- the channel on which a token was put in the cycle c is noted for the cycle in which the token ripens
 pub record IsNoted (net : Net) (laid : Option Laid) (c : ℕ) (old new : Notes) : Type 0 where
-  pub cells : length new.coming.items ≡ length old.coming.items
-  pub kept : (k d : ℕ) → Holds d (cell old k) → Holds d (cell new k)
-  pub comes : IfSome laid (λ w. 0 < (chan_at net w.chan).delay → Holds w.chan (cell new ((c + (chan_at net w.chan).delay) % 1024)))
+  pub cells : length (cells_of new) ≡ length (cells_of old)
+  pub kept : (t d : ℕ) → Holds d (coming_in old t) → Holds d (coming_in new t)
+  pub comes : IfSome laid (λ w. 0 < (chan_at net w.chan).delay → Holds w.chan (coming_in new (c + (chan_at net w.chan).delay)))
 
 -- ---- channels from which tokens were taken when they were full
 

@@ -283,11 +283,11 @@ pub record HasSentOrTold (net : Net) (old e : Engine) (u n : ℕ) : Type 0 where
   pub fired : length old.fired.items ≤ length e.fired.items
   pub told : (length old.fired.items < length e.fired.items) ⊎ ((e.fired.items ≡ old.fired.items) × ((j : ℕ) → j < n → (IsUnused e.fired.items (firing u (Send j)) → ⊥) → Holds u e.again.items))
 
--- the mark of the unit u was taken where it is no queue
+-- the mark of the unit u was taken
 pub record IsOpenTurn (net : Net) (past : Past) (b : Bounds) (c : ℕ) (start : Dated) (e : Engine) (u : ℕ) : Type 0 where
   pub going : InCycle net past b c start e
   pub plain : AllPlain net e.fired.items
-  pub watched : (g : Firing) → IsUnused e.fired.items g → May net c start (dated_of e) g → IsMarked e.marks g.unit ⊎ ((g.unit ≡ u) × (is_lsq (kind_of net g.unit) ≡ false))
+  pub watched : (g : Firing) → IsUnused e.fired.items g → May net c start (dated_of e) g → IsMarked e.marks g.unit ⊎ (g.unit ≡ u)
   pub kept : IsKeptBut net c start e u
 
 -- no unit that is no queue may fire, and queues have not fired

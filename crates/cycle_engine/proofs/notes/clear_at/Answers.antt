@@ -6,4 +6,4 @@ use Rattle.cycle_engine.specs.private.Marking.{lists_of}
 use Rattle.cycle_engine.proofs.notes.clear_at.Goals as goal
 
 pub returns : goal.returns
-returns c = map-set (λ (v : Stacked ℕ). v.items) c.args.cells.now.items c.args.at c.take.new.list ∙ ap (set (lists_of c.args.cells.now.items) c.args.at) c.take.ensures
+returns c = map-set (λ (v : Stacked ℕ). v.items) c.args.cells.now.items c.args.at c.clear_to.new.self ∙ ap (set (lists_of c.args.cells.now.items) c.args.at) c.clear_to.ensures

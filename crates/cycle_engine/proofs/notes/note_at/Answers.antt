@@ -8,5 +8,5 @@ use Rattle.cycle_engine.proofs.notes.note_at.Goals as goal
 pub returns : goal.returns
 returns c =
     let at : c.index_mut.result.now ≡ get_or c.args.cells.now.items c.args.at c.index_mut.result.now = get_or_read c.args.cells.now.items _ _ c.requires c.index_mut.ensures.value c.index_mut.result.now in
-    map-set (λ (v : Stacked ℕ). v.items) c.args.cells.now.items c.args.at c.add.new.list ∙ ap (set (lists_of c.args.cells.now.items) c.args.at)
-    (c.in_ok-add.ensures ∙ ap (λ (xs : List ℕ). xs ++ c.args.chan ∷ []) (list_at c.args.cells.now.items c.args.at c.index_mut.result.now c.requires at))
+    map-set (λ (v : Stacked ℕ). v.items) c.args.cells.now.items c.args.at c.push.new.self ∙ ap (set (lists_of c.args.cells.now.items) c.args.at)
+    (c.in_ok-push.ensures ∙ ap (λ (xs : List ℕ). xs ++ c.args.chan ∷ []) (list_at c.args.cells.now.items c.args.at c.index_mut.result.now c.requires at))

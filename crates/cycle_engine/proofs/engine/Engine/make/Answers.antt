@@ -14,42 +14,31 @@ note_control-requires c = laid_within c.args.net.now c.args.self.now c.args.firi
 pub tell-requires-clause-within : goal.tell-requires-clause-within
 tell-requires-clause-within c = laid_within c.args.net.now c.args.self.now c.args.firing c.args.planned.plan c.args.planned.moves c.requires.planned.moves c.requires.planned.room
 
+-- the engine after the firing
+abbrev made : goal.After-tell → Engine
+made c = record {
+  state = c.make_dated.new.self;
+  begun = c.args.self.now.begun;
+  fired = c.push.new.self;
+  used = c.stamp.new.self;
+  made = c.args.self.now.made;
+  log = c.note-2.new.log;
+  marks = c.tell.new.marks;
+  notes = c.tell.new.notes;
+  feeds = c.args.self.now.feeds;
+  freed = c.note.new.self;
+  again = c.args.self.now.again;
+  control = c.note_control.new.noted;
+}
+
 pub returns-clause-after : goal.returns-clause-after
 returns-clause-after c =
-    let new : Engine = record {
-      state = c.make_dated.new.self;
-      begun = c.args.self.now.begun;
-      fired = c.push.new.self;
-      used = c.stamp.new.self;
-      made = c.args.self.now.made;
-      log = c.note-2.new.log;
-      marks = c.tell.new.marks;
-      notes = c.tell.new.notes;
-      feeds = c.args.self.now.feeds;
-      freed = c.note.new.self;
-      again = c.args.self.now.again;
-      control = c.note_control.new.noted;
-    } in
-    on_ok c.tell.result (dated_of new ≡ after_in c.args.net.now c.args.now (dated_of c.args.self.now) c.args.firing) (made_is c.args.net.now c.args.now c.args.self.now new c.args.firing c.args.planned.plan c.requires.planned.effect c.make_dated.ensures.state
+    on_ok c.tell.result (dated_of (made c) ≡ after_in c.args.net.now c.args.now (dated_of c.args.self.now) c.args.firing) (made_is c.args.net.now c.args.now c.args.self.now (made c) c.args.firing c.args.planned.plan c.requires.planned.effect c.make_dated.ensures.state
     (dates_made c.args.net.now c.args.now c.args.self.now c.args.firing c.args.planned.plan c.args.planned.moves c.make_dated.new.self.tokens.dates c.requires.engine c.requires.planned.effect c.requires.planned.apart
     c.requires.planned.moves c.make_dated.ensures.dates))
 
 pub returns-clause-engine : goal.returns-clause-engine
 returns-clause-engine c =
-    let new : Engine = record {
-      state = c.make_dated.new.self;
-      begun = c.args.self.now.begun;
-      fired = c.push.new.self;
-      used = c.stamp.new.self;
-      made = c.args.self.now.made;
-      log = c.note-2.new.log;
-      marks = c.tell.new.marks;
-      notes = c.tell.new.notes;
-      feeds = c.args.self.now.feeds;
-      freed = c.note.new.self;
-      again = c.args.self.now.again;
-      control = c.note_control.new.noted;
-    } in
-    on_ok c.tell.result (IsEngine c.args.net.now new) (made_engine c.args.net.now c.args.now c.args.self.now new c.args.firing c.args.planned.plan c.requires.engine c.requires.planned.effect (made_is c.args.net.now c.args.now c.args.self.now new c.args.firing c.args.planned.plan c.requires.planned.effect c.make_dated.ensures.state
+    on_ok c.tell.result (IsEngine c.args.net.now (made c)) (made_engine c.args.net.now c.args.now c.args.self.now (made c) c.args.firing c.args.planned.plan c.requires.engine c.requires.planned.effect (made_is c.args.net.now c.args.now c.args.self.now (made c) c.args.firing c.args.planned.plan c.requires.planned.effect c.make_dated.ensures.state
     (dates_made c.args.net.now c.args.now c.args.self.now c.args.firing c.args.planned.plan c.args.planned.moves c.make_dated.new.self.tokens.dates c.requires.engine c.requires.planned.effect c.requires.planned.apart
     c.requires.planned.moves c.make_dated.ensures.dates)) c.make_dated.ensures.of)

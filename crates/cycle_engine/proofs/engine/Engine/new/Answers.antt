@@ -7,26 +7,29 @@ use Rattle.cycle_engine.specs.declared.engine.Engine.{Engine}
 use Rattle.cycle_engine.proofs.StartLemmas.{opened_as, opened_ready, opened_done}
 use Rattle.cycle_engine.proofs.engine.Engine.new.Goals as goal
 
+-- the engine that is made
+abbrev opened : goal.After-new-8 → Engine
+opened c = record {
+  state = c.in_ok-state.state;
+  begun = c.in_ok-begun.begun;
+  fired = c.new-7.result;
+  used = c.in_ok-used.used;
+  made = 0;
+  log = c.in_ok-log.log;
+  marks = c.in_ok-marks.marks;
+  notes = c.in_ok-notes.notes;
+  feeds = c.in_ok-feeds.feeds;
+  freed = c.in_ok-freed.freed;
+  again = c.new-8.result;
+  control = 0;
+}
+
 pub returns-clause-ready : goal.returns-clause-ready
 returns-clause-ready c =
-    let e : Engine = record {
-      state = c.in_ok-state.state;
-      begun = c.in_ok-begun.begun;
-      fired = c.new-7.result;
-      used = c.in_ok-used.used;
-      made = 0;
-      log = c.in_ok-log.log;
-      marks = c.in_ok-marks.marks;
-      notes = c.in_ok-notes.notes;
-      feeds = c.in_ok-feeds.feeds;
-      freed = c.in_ok-freed.freed;
-      again = c.new-8.result;
-      control = 0;
-    } in
     let chans : c.as_slice-chans.result.now ≡ c.args.net.now.chans = c.as_slice-chans.ensures ∙ ap (λ (n : Net). n.chans) c.net.ensures.net in
     let units : c.as_slice-units.result.now ≡ c.args.net.now.units = c.as_slice-units.ensures ∙ ap (λ (n : Net). n.units) c.net-2.ensures.net in
-    opened_ready c.args.net.now c.args.inputs.now c.args.bounds e c.in_ok-state.ensures.of
-    (opened_as c.args.net.now c.args.inputs.now e c.in_ok-state.ensures.state c.in_ok-state.ensures.dates)
+    opened_ready c.args.net.now c.args.inputs.now c.args.bounds (opened c) c.in_ok-state.ensures.of
+    (opened_as c.args.net.now c.args.inputs.now (opened c) c.in_ok-state.ensures.state c.in_ok-state.ensures.dates)
     c.requires.few refl c.new-7.ensures c.in_ok-state.ensures.counts (c.in_ok-log.ensures.room ∙ c.log_room.ensures)
     (ap (λ (xs : List Bool). length xs) c.in_ok-freed.ensures.marked ∙ (length-replicate _ _ ∙ ap (λ (xs : List Chan). length xs) chans))
     (ap (λ (xs : List ℕ). length xs) c.in_ok-begun.ensures ∙ (length-replicate _ _ ∙ ap (λ (xs : List Kind). length xs) units))
@@ -34,24 +37,10 @@ returns-clause-ready c =
 
 pub returns-clause-done : goal.returns-clause-done
 returns-clause-done c =
-    let e : Engine = record {
-      state = c.in_ok-state.state;
-      begun = c.in_ok-begun.begun;
-      fired = c.new-7.result;
-      used = c.in_ok-used.used;
-      made = 0;
-      log = c.in_ok-log.log;
-      marks = c.in_ok-marks.marks;
-      notes = c.in_ok-notes.notes;
-      feeds = c.in_ok-feeds.feeds;
-      freed = c.in_ok-freed.freed;
-      again = c.new-8.result;
-      control = 0;
-    } in
     let chans : c.as_slice-chans.result.now ≡ c.args.net.now.chans = c.as_slice-chans.ensures ∙ ap (λ (n : Net). n.chans) c.net.ensures.net in
     let units : c.as_slice-units.result.now ≡ c.args.net.now.units = c.as_slice-units.ensures ∙ ap (λ (n : Net). n.units) c.net-2.ensures.net in
-    opened_done c.args.net.now c.args.inputs.now c.args.bounds e
-    (opened_as c.args.net.now c.args.inputs.now e c.in_ok-state.ensures.state c.in_ok-state.ensures.dates)
+    opened_done c.args.net.now c.args.inputs.now c.args.bounds (opened c)
+    (opened_as c.args.net.now c.args.inputs.now (opened c) c.in_ok-state.ensures.state c.in_ok-state.ensures.dates)
     refl c.new-7.ensures c.in_ok-log.ensures.items c.net.ensures.checked
     (c.in_ok-freed.ensures.marked ∙ ap (λ (xs : List Chan). replicate (length xs) false) chans) (c.in_ok-begun.ensures ∙ ap (λ (xs : List Kind). replicate (length xs) 0) units)
     c.in_ok-marks.ensures.all

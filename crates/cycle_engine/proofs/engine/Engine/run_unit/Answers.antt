@@ -1,6 +1,7 @@
-use Rattle.std.proofs.Common.{◌∙◌, ap, refl, sym}
+use Rattle.std.proofs.Common.{◌∙◌, ap, refl, sym, arith}
 use Rattle.net_check.specs.Ends.{is_lsq}
-use Rattle.cycle_engine.proofs.TurnLemmas.{open_queue}
+use Rattle.cycle_engine.proofs.MarkLemmas.{put_off_listed, put_off_long}
+use Rattle.cycle_engine.proofs.TurnLemmas.{open_put_off, ready_marks}
 use Rattle.cycle_engine.proofs.UnitTurnLemmas.{turn_begun}
 use Rattle.cycle_engine.proofs.engine.Engine.run_unit.Goals as goal
 
@@ -56,5 +57,12 @@ pub returns-in-Cmerge-clause-tried : goal.returns-in-Cmerge-clause-tried
 returns-in-Cmerge-clause-tried c past start t =
     turn_begun c.args.net.now past c.args.bounds c.args.now start c.args.self.now c.args.unit c.froms.new.self _ c.froms.result (sym c.in-Cmerge.is ∙ c.requires.kind) refl t c.froms.ensures
 
-pub returns-in-Lsq-clause-tried : goal.returns-in-Lsq-clause-tried
-returns-in-Lsq-clause-tried c past start t = open_queue c.args.net.now past c.args.bounds c.args.now start c.args.self.now c.args.unit (ap is_lsq (sym c.requires.kind ∙ c.in-Lsq.is)) t
+pub returns-in_ok-put_off-in-Lsq-clause-ready : goal.returns-in_ok-put_off-in-Lsq-clause-ready
+returns-in_ok-put_off-in-Lsq-clause-ready c =
+    let off = c.in_ok-put_off-in-Lsq.ensures in
+    ready_marks c.args.net.now c.args.bounds c.args.self.now c.put_off.new.self c.requires.ready (put_off_long c.args.self.now.marks c.put_off.new.self c.args.unit off ∙ c.requires.ready.marked)
+    (put_off_listed c.args.self.now.marks c.put_off.new.self c.args.unit off c.args.net.now (ap is_lsq (sym c.requires.kind ∙ c.in-Lsq.is)) c.requires.ready.listed)
+
+pub returns-in_ok-put_off-in-Lsq-clause-tried : goal.returns-in_ok-put_off-in-Lsq-clause-tried
+returns-in_ok-put_off-in-Lsq-clause-tried c past start t =
+    open_put_off c.args.net.now past c.args.bounds c.args.now start c.args.self.now c.args.unit c.put_off.new.self c.in_ok-put_off-in-Lsq.ensures (let l = c.requires.ready.marked in let w = c.requires.within in omega arith) t

@@ -1,12 +1,13 @@
 use Rattle.std.proofs.Common.{◌∙◌, ◌≤◌, Bool, inr, length, get_or, sym, ap, subst, arith, rules}
 use Rattle.std.proofs.lemmas.Bool.{false≢true}
+use Rattle.std.proofs.lemmas.List.{get_or_default}
 use Rattle.net_check.specs.declared.pins.Pins.{Pins}
 use Rattle.net_core.specs.States.{dates_of}
 use Rattle.net_core.specs.Uses.{is_fork}
 use Rattle.net_types.specs.Nets.{kind_of}
 use Rattle.cycle_engine.specs.private.Places.{IsSent, outputs_in}
 use Rattle.cycle_engine.specs.private.Trials.{RipeAt}
-use Rattle.cycle_engine.proofs.SendLemmas.{unripe_ended, sends_done, sends_again, sent_told}
+use Rattle.cycle_engine.proofs.SendLemmas.{fork_out, out_listed, unripe_ended, sends_done, sends_again, sent_told}
 use Rattle.cycle_engine.proofs.TurnLemmas.{exit_broken, ready_again}
 use Rattle.cycle_engine.proofs.engine.Engine.sends.Goals as goal
 
@@ -19,6 +20,18 @@ returns-then-not-has_ripe_head c =
       tried = λ past start marks t. unripe_ended c.args.net.now past c.args.bounds c.args.now start marks c.args.self.now c.args.unit (ap is_fork c.requires.fork.shape)
           (λ r. false≢true (sym c.if-not-has_ripe_head.true ∙ c.has_ripe_head.ensures.1 (subst R (sym c.requires.pins) r))) t;
     }
+
+-- each output has a channel, and the list tells it
+pub bounds-chans-out : goal.bounds-chans-out
+bounds-chans-out c =
+    let within = fork_out c.args.net.now c.args.unit c.args.outs c.loop-out.out c.net.ensures.checked c.requires.within c.requires.fork c.loop-out-test.true in
+    out_listed c.outs_of-chans.result.now (length c.args.net.now.chans) c.loop-out.out (let e = c.outs_of-chans.ensures c.loop-out.out in omega (arith, within, e))
+
+pub send-requires-clause-there : goal.send-requires-clause-there
+send-requires-clause-there c =
+    let within = fork_out c.args.net.now c.args.unit c.args.outs c.loop-out.out c.net.ensures.checked c.requires.within c.requires.fork c.loop-out-test.true in
+    let e = c.outs_of-chans.ensures c.loop-out.out in
+    get_or_default c.outs_of-chans.result.now c.loop-out.out 0 (length c.args.net.now.chans) (out_listed c.outs_of-chans.result.now (length c.args.net.now.chans) c.loop-out.out (omega (arith, within, e))) ∙ e
 
 pub returns-in_err-send : goal.returns-in_err-send
 returns-in_err-send c = record {

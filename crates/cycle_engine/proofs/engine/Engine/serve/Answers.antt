@@ -3,9 +3,9 @@ use Rattle.net_types.specs.declared.net.Net.{Net}
 use Rattle.net_types.specs.declared.firing.Firing.{Firing}
 use Rattle.cycle_engine.specs.private.Goings.{with_again}
 use Rattle.cycle_engine.specs.private.Marking.{Holds, HasUnit}
-use Rattle.cycle_engine.proofs.MarkLemmas.{marked_queue, queue_within}
+use Rattle.cycle_engine.proofs.MarkLemmas.{marked_queue, queue_within, holds_last}
 use Rattle.cycle_engine.proofs.ServeLemmas.{served_left, served_turn, fresh_queue, not_grown, turn_served}
-use Rattle.cycle_engine.proofs.TurnLemmas.{ready_marks, ready_turn, turn_again, pushed_holds, pushed_last, exit_broken}
+use Rattle.cycle_engine.proofs.TurnLemmas.{ready_marks, ready_turn, turn_again, pushed_holds, exit_broken}
 use Rattle.cycle_engine.proofs.engine.Engine.serve.Goals as goal
 
 pub returns-in_default-clause-ready : goal.returns-in_default-clause-ready
@@ -41,7 +41,7 @@ returns-in_ok-push-clause-served c past start count n s l =
     (turn_again c.args.net.now past c.args.bounds c.args.now start c.take_queue.new.self c.run_queue.new.self c.push.new.self c.in-Some.unit 10 0
     (λ v h. subst (P v) (sym c.in_ok-push.ensures) (pushed_holds c.run_queue.new.self.again.items c.in-Some.unit v h))
     (c.in_ok-run_queue.ensures.tried past start c.take_queue.new.self (served_turn c.args.net.now past c.args.bounds c.args.now start c.args.self.now c.take_queue.new.self count n c.in-Some.unit c.in-Some.ensures c.requires.listed s)))
-    (λ h. subst (P c.in-Some.unit) (sym c.in_ok-push.ensures) (pushed_last c.run_queue.new.self.again.items c.in-Some.unit))
+    (λ h. subst (P c.in-Some.unit) (sym c.in_ok-push.ensures) (holds_last c.run_queue.new.self.again.items c.in-Some.unit))
 
 pub returns-else-len-before-clause-served : goal.returns-else-len-before-clause-served
 returns-else-len-before-clause-served c past start count n s l =

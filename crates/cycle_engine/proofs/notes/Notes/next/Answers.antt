@@ -1,7 +1,8 @@
-use Rattle.std.proofs.Common.{◌≡◌, ◌⊎◌, inl, inr, ℕ, ◌+◌, ◌%◌, ◌<◌, ◌≤◌, [], length, sym, ◌∙◌, subst, arith}
+use Rattle.std.proofs.Common.{◌≡◌, ◌⊎◌, inl, inr, ℕ, ◌<◌, ◌≤◌, [], length, sym, ap, ◌∙◌, subst, arith}
 use Rattle.std.proofs.lemmas.Bool.{cases_lt}
-use Rattle.std.proofs.lemmas.List.{nil_from_length}
-use Rattle.cycle_engine.specs.private.Marking.{cell}
+use Rattle.std.proofs.lemmas.List.{length-map, nil_from_length}
+use Rattle.cycle_engine.specs.private.Stacks.{Stacked}
+use Rattle.cycle_engine.specs.private.Marking.{around, cell, cells_of}
 use Rattle.cycle_engine.proofs.NoteLemmas.{list_at, none_noted}
 use Rattle.cycle_engine.proofs.notes.Notes.next.Goals as goal
 
@@ -11,16 +12,22 @@ loop-ahead-init c a l = absurd (omega arith)
 pub loop-ahead-preserved : goal.loop-ahead-preserved
 loop-ahead-preserved c a l = by (cases_lt a c.loop-ahead.ahead)
   where
-    within : (c.args.now % 1024 + c.loop-ahead.ahead) % 1024 < length c.args.self.now.coming.items
-    within = (let r = c.requires in omega arith)
+    count : length (cells_of c.args.self.now) ≡ c.len-count.result
+    count = length-map c.args.self.now.coming.items _ ∙ omega (arith, c.len-count.ensures)
 
-    here : cell c.args.self.now ((c.args.now % 1024 + c.loop-ahead.ahead) % 1024) ≡ []
-    here = sym (list_at c.args.self.now.coming.items ((c.args.now % 1024 + c.loop-ahead.ahead) % 1024) c.index.result.now within c.index.ensures)
+    here : cell c.args.self.now c.around-place.result ≡ []
+    here = sym (list_at c.args.self.now.coming.items c.around-place.result c.index.result.now (let w = c.around-place.ensures.within in omega (arith, c.len-count.ensures)) c.index.ensures)
         ∙ nil_from_length c.index.result.now.items (let e = c.len.ensures in let f = c.if-len-gt0.false in omega arith)
 
-    by : (a < c.loop-ahead.ahead) ⊎ (c.loop-ahead.ahead ≤ a) → cell c.args.self.now ((c.args.now % 1024 + a) % 1024) ≡ []
+    by : (a < c.loop-ahead.ahead) ⊎ (c.loop-ahead.ahead ≤ a) → cell c.args.self.now (around c.place-first.result a (length (cells_of c.args.self.now))) ≡ []
     by (inl k) = c.loop-ahead.invariant a k
-    by (inr k) = (let k' : c.loop-ahead.ahead ≤ a = k in let e : c.loop-ahead.ahead ≡ a = omega arith in let P : ℕ → Type 0 = λ n. cell c.args.self.now ((c.args.now % 1024 + n) % 1024) ≡ [] in subst P e here)
+    by (inr k) =
+        let k' : c.loop-ahead.ahead ≤ a = k in
+        let e : c.loop-ahead.ahead ≡ a = omega arith in
+        let P : ℕ → Type 0 = λ n. cell c.args.self.now n ≡ [] in
+        subst P (c.around-place.ensures.place ∙ ap (λ n. around c.place-first.result n c.len-count.result) e ∙ ap (around c.place-first.result a) (sym count)) here
 
 pub returns : goal.returns
-returns c none = none_noted c.args.self.now (c.args.now % 1024) c.requires (omega arith) (λ a l. c.loop-ahead.invariant a (let n = c.loop-ahead-test.false in omega arith))
+returns c none =
+    let e = length-map c.args.self.now.coming.items (λ (v : Stacked ℕ). v.items) in
+    none_noted c.args.self.now c.place-first.result (omega (arith, c.place-first.ensures.within, e)) (λ a l. c.loop-ahead.invariant a (let n = c.loop-ahead-test.false in omega (arith, e, c.len-count.ensures)))

@@ -1,6 +1,6 @@
 use Rattle.std.proofs.Common.{◌≡◌, length, arith, rules}
 use Rattle.cycle_engine.proofs.SendLemmas.{past_unripe}
-use Rattle.cycle_engine.proofs.straight.has_ripe_head.Goals as goal
+use Rattle.cycle_engine.proofs.forks.has_ripe_head.Goals as goal
 
 pub returns-else-chan-as_slice : goal.returns-else-chan-as_slice
 returns-else-chan-as_slice c =
