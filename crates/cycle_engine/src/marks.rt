@@ -47,7 +47,7 @@ impl Marks {
         let count = net.net().units.as_slice().len();
         let mut marks = Marks {
             marked: vec![in alloc; false; count]?,
-            list: Stack::new(alloc, 0),
+            list: Stack::with_room(alloc, 0, count)?,
             queues: Vec::new(alloc),
         };
         for at in 0..count {

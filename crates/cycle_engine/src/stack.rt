@@ -1,6 +1,6 @@
 //! Stacks that keep their room.
 
-ghost use Rattle.std.specs.Prelude.{◌≡◌, ◌≤◌, [], ◌∷◌, ◌++◌, length, OnOk, MatchOption};
+ghost use Rattle.std.specs.Prelude.{◌≡◌, ◌≤◌, [], ◌∷◌, ◌++◌, length, IfOk, OnOk, MatchOption};
 
 use net_types::Memory;
 use std::alloc::Global;
@@ -38,6 +38,21 @@ impl<T: Copy> Stack<T> {
             len: 0,
             fill,
         }
+    }
+
+    /// A stack without items that has room for so many.
+    ///
+    /// # Errors
+    ///
+    /// [`Memory`] where memory is wanting.
+    pub(crate) fn with_room(alloc: Global, fill: T, count: usize) -> Result<Stack<T>, Memory>
+        ensures { IfOk result (λ s. s.items ≡ []) }
+    {
+        Ok(Stack {
+            room: vec![in alloc; fill; count]?,
+            len: 0,
+            fill,
+        })
     }
 
     /// How many items there are.
