@@ -27,7 +27,8 @@
 #   loops, beside plain sweeps over the units, and runs by cycles on a countdown of 13 units and on the histogram's
 #   net, alone and among up to a million idle units, and on forks of up to 65,536 outputs, beside the plain runner; and runs
 #   by one, two, four and 64 workers beside runs by cycles, with the most memory of each.
-#   At last it counts instructions of some calls and compares them with docs/TIMES.md, where valgrind is there.
+#   It tells what a firing by cycles takes on five nets, in instructions where valgrind is there, and in nanoseconds. At last it
+#   counts instructions of some calls and compares them with docs/TIMES.md, where valgrind is there.
 #   With BEFORE=PROGRAM another build of benches is timed beside this one. BENCH_ACTS, BENCH_SIZE and the like give other sizes.
 # instructions: that count alone.
 # stack: reads long and deep kernel texts, and compiles and runs long chains of operators, with a stack of 1 MiB, and helpers
@@ -141,6 +142,7 @@ bench: build
 	@sh tools/bench_ref.sh crates/benches/out/benches $(BENCH_ROUNDS)
 	@sh tools/bench_core.sh crates/benches/out/benches examples/histogram/net.txt $(BENCH_FIRINGS)
 	@sh tools/bench_cycles.sh crates/benches/out/benches examples/histogram/net.txt $(BENCH_TURNS)
+	@tools/bench_firings.py crates/benches/out/benches $(PROGRAM)
 	@tools/bench_workers.py $(PROGRAM)
 	@python3 tools/instructions.py
 
