@@ -6,6 +6,7 @@ pub mod WorkedLemmas
 pub mod OwnLemmas
 pub mod JoinLemmas
 pub mod PlaceLemmas
+mod QuietLemmas
 mod QueueTurnLemmas
 mod TurnLemmas
 mod ServeLemmas

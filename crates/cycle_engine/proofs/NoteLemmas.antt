@@ -1,7 +1,7 @@
 -- What is noted of a firing, and what is known from it.
 use Rattle.std.proofs.Common.{◌≡◌, ◌≢◌, ℕ, suc, zero, ◌+◌, ◌-◌, ◌*◌, ◌/◌, ◌%◌, ◌<◌, ◌≤◌, ◌⊎◌, ◌==◌, ◌||◌, inl, inr, nat_lt, Bool, true, false, cond, Option, Some, None, List, [], ◌∷◌, ◌++◌, length, map, get_or, set, refl, sym, ap, subst, ◌∙◌, arith, IfSome, bit_and, length-set, get_or-set_same, get_or-set_other, eqb-true}
 use Rattle.std.proofs.Common.{mod-eq_of_lt, div-add-mod'}
-use native.Mathlib.Nat.{add-mod_left, mul-add-mod_self_right}
+use native.Mathlib.Nat.{add-mod_left, mod-add-mod, mul-add-mod_self_right}
 use Rattle.std.specs.List.{AllByRecursion}
 use Rattle.std.specs.Int.{IsPowerOfTwo}
 use Rattle.std.proofs.lemmas.Bool.{cases_eq, cases_lt, lt-ltb, le-ltb}
@@ -116,6 +116,34 @@ pub list_at : (xs : List (Stacked ℕ)) (i : ℕ) (v : Stacked ℕ) → i < leng
 list_at [] i v l e = absurd (omega arith)
 list_at (x ∷ xs) zero v l e = ap (λ (y : Stacked ℕ). y.items) e
 list_at (x ∷ xs) (suc i) v l e = list_at xs i v (omega arith) e
+
+-- the place for a cycle so far ahead
+around_is : (c a n : ℕ) → a < n → around (c % n) a n ≡ (c + a) % n
+around_is c a n l = by (cases_lt a (n - c % n))
+  where
+    below : c % n < n
+    below = mod_below c n (omega arith)
+
+    rest : (c % n + a) % n ≡ (c + a) % n
+    rest = mod-add-mod c n a
+
+    by : (a < n - c % n) ⊎ (n - c % n ≤ a) → around (c % n) a n ≡ (c + a) % n
+    by (inl k) =
+        let z : (c % n + a) % n ≡ c % n + a = mod-eq_of_lt (let w : c % n + a < n = omega (arith, k, below) in w) in
+        ap (λ b. cond b (c % n + a) (a - (n - c % n))) (lt-ltb a (n - c % n) k) ∙ (sym z ∙ rest)
+    by (inr k) =
+        let y : ℕ = a - (n - c % n) in
+        let x : c % n + a ≡ n + y = omega (arith, k, below) in
+        let z : y % n ≡ y = mod-eq_of_lt (let w : y < n = omega (arith, l) in w) in
+        ap (λ b. cond b (c % n + a) (a - (n - c % n))) (le-ltb a (n - c % n) k) ∙ (sym z ∙ (sym (add-mod_left n y) ∙ (ap (λ v. v % n) (sym x) ∙ rest)))
+
+-- where the cells are empty up to one so far ahead, none is noted for the cycles up to then
+pub none_before : (n : Notes) (now ahead : ℕ) → ahead ≤ length (cells_of n) → ((a : ℕ) → a < ahead → cell n (around (now % length (cells_of n)) a (length (cells_of n))) ≡ []) → (k : ℕ) → now ≤ k → k < now + ahead → coming_in n k ≡ []
+none_before n now ahead most empty k l m =
+    let a : ℕ = k - now in
+    let e : now + a ≡ k = omega (arith, l) in
+    let P : ℕ → Type 0 = λ i. cell n i ≡ [] in
+    subst P (around_is now a (length (cells_of n)) (omega (arith, most, l, m)) ∙ ap (λ v. v % length (cells_of n)) e) (empty a (omega (arith, l, m)))
 
 -- where each cell from one on is empty, so many in all, each is
 pub none_noted : (n : Notes) (first : ℕ) → first < length (cells_of n) → ((a : ℕ) → a < length (cells_of n) → cell n (around first a (length (cells_of n))) ≡ []) → (k : ℕ) → cell n k ≡ []

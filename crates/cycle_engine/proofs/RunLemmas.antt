@@ -95,7 +95,7 @@ trimmed_some (gs ∷ fss) f fs = ap (kept_before gs) (trimmed_some fss f fs) ∙
     by [] (x ∷ xs) = refl
     by (y ∷ ys) xs = refl
 
-trimmed_none : (fss : List (List Firing)) → trimmed (fss ++ [] ∷ []) ≡ trimmed fss
+pub trimmed_none : (fss : List (List Firing)) → trimmed (fss ++ [] ∷ []) ≡ trimmed fss
 trimmed_none [] = refl
 trimmed_none (gs ∷ fss) = ap (kept_before gs) (trimmed_none fss)
 

@@ -1,6 +1,6 @@
 //! When tokens ripen.
 
-ghost use Rattle.std.specs.Prelude.{◌≡◌, ◌<◌, ◌≤◌, ◌^◌, ◌++◌, ◌∷◌, ◌%◌, ℕ, None, [], IfOk, IfSome, OnOk, get_or, length, set};
+ghost use Rattle.std.specs.Prelude.{◌≡◌, ◌<◌, ◌≤◌, ◌^◌, ◌++◌, ◌∷◌, ◌%◌, ℕ, [], IfOk, IfSome, OnOk, MatchOption, get_or, length, set};
 ghost use Rattle.net_types.specs.Nets.{chan_at};
 ghost use Rattle.std.specs.Int.{IsPowerOfTwo};
 ghost use Rattle.cycle_engine.specs.private.Marking.{AreCells, HasCells, IsNoted, around, cell, cells_of, cells_with, coming_in, lists_of};
@@ -87,7 +87,8 @@ impl Notes {
     /// The first cycle from `now` on in which a noted token ripens; `None` where none is noted.
     pub(crate) fn next(&self, now: u64) -> Option<u64>
         requires { AreCells self.now }
-        ensures { result ≡ None → (k : ℕ) → cell self.now k ≡ [] }
+        ensures { MatchOption result ((k : ℕ) → cell self.now k ≡ [])
+            (λ t. now ≤ t × ((k : ℕ) → now ≤ k → k < t → coming_in self.now k ≡ [])) }
     {
         let first = self.place(now);
         let count = self.coming.len();

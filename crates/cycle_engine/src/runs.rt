@@ -1,10 +1,10 @@
 //! Whole runs by cycles.
 
-ghost use Rattle.std.specs.Prelude.{◌≡◌, ◌⊎◌, ◌+◌, ◌-◌, ◌≤◌, ◌<◌, true, false, length, cond, IfOk, OnOk, MatchResult};
+ghost use Rattle.std.specs.Prelude.{◌≡◌, ◌⊎◌, ◌+◌, ◌-◌, ◌^◌, ◌≤◌, ◌<◌, true, false, length, cond, IfOk, OnOk, MatchResult};
 ghost use Rattle.el_base.specs.Limits.{max_delay, max_firings};
 ghost use Rattle.net_types.specs.Inputs.{InputsFit};
 ghost use Rattle.cycle_engine.specs.Timings.{IsTimed, HasFewCycles, IsTimingFault};
-ghost use Rattle.cycle_engine.specs.private.Goings.{Past, IsReady, HasDone, IsBroken, HasNoneComing};
+ghost use Rattle.cycle_engine.specs.private.Goings.{Past, IsReady, HasDone, IsBroken, IsNextCycle, IsQuiet, HasNoneComing};
 ghost use Rattle.cycle_engine.specs.private.Marking.{AreCells};
 ghost use Rattle.cycle_engine.specs.private.Places.{IsCycled};
 
@@ -63,6 +63,7 @@ pub fn run_cycles(
         cycle += 1;
         last = last_of(fired, cycle, last);
         going = engine.goes_on(fired, cycle, last, &mut awaited);
+        cycle = engine.next_cycle(fired, cycle, last);
     }
     Ok(engine.timed(last))
 }
@@ -121,6 +122,33 @@ impl Engine {
                 *awaited = next;
                 true
             }
+        }
+    }
+
+    /// Whether nothing can happen in the next cycle but what tokens do that ripen.
+    fn is_quiet(&self) -> bool
+        ensures { result ≡ true → IsQuiet self.now }
+    {
+        self.fired.len() == 0
+            && self.again.len() == 0
+            && self.freed.list.len() == 0
+            && self.marks.list.len() == 0
+            && self.marks.queues.len() == 0
+    }
+
+    /// The next cycle in which something may happen, after so many of which those from `last` on have no firing: those between
+    /// have none.
+    fn next_cycle(&self, fired: bool, cycle: u64, last: u64) -> u64
+        requires cells { AreCells self.now.notes }
+        requires few { last < 2 ^ 63 }
+        ensures { IsNextCycle self.now cycle last result }
+    {
+        if fired || !self.is_quiet() {
+            return cycle;
+        }
+        match self.notes.next(cycle) {
+            None => cycle,
+            Some(next) => next.min(last + u64::from(MAX_DELAY)).max(cycle),
         }
     }
 

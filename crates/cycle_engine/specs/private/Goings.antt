@@ -1,7 +1,7 @@
 -- Private: only contracts of this crate cite it. The engine in the middle of a cycle, and between two.
 use Rattle.std.specs.Prelude.{◌≡◌, ◌⊎◌, ℕ, ◌+◌, ◌-◌, ◌*◌, ◌<◌, ◌≤◌, Bool, true, false, cond, List, [], ◌∷◌, ◌++◌, length, get_or}
 use Rattle.std.specs.List.{AllByRecursion}
-use Rattle.el_base.specs.Limits.{max_depth, max_firings}
+use Rattle.el_base.specs.Limits.{max_delay, max_depth, max_firings}
 use Rattle.net_types.specs.declared.net.Net.{Net}
 use Rattle.net_types.specs.declared.firing.Firing.{Firing}
 use Rattle.net_types.specs.declared.firing.Inputs.{Inputs}
@@ -110,6 +110,19 @@ pub record HasDone (net : Net) (past : Past) (b : Bounds) (c : ℕ) (e : Engine)
   pub control : HasControl net (state_of e.state) e.control
   -- a unit that is not to be marked may not fire
   pub next : (g : Firing) → May net c (dated_of e) (dated_of e) g → (IsStirred net c e g.unit → ⊥) → ⊥
+
+-- nothing was fired in the last cycle, and no unit is to be looked at in the next but for tokens that ripen
+pub record IsQuiet (e : Engine) : Type 0 where
+  pub fired : e.fired.items ≡ []
+  pub again : e.again.items ≡ []
+  pub freed : e.freed.list.items ≡ []
+  pub list : e.marks.list.items ≡ []
+  pub queues : e.marks.queues.items ≡ []
+
+-- after c cycles the cycle t is the next in which something may happen; last is the number of those up to the last with a firing
+pub record IsNextCycle (e : Engine) (c last t : ℕ) : Type 0 where
+  pub on : c ≤ t
+  pub none : (t ≡ c) ⊎ (IsQuiet e × ((t ≤ last + max_delay) × ((k : ℕ) → c ≤ k → k < t → coming_in e.notes k ≡ [])))
 
 -- the firings are of units that are no queues
 abbrev pub AllPlain : Net → List Firing → Type 0

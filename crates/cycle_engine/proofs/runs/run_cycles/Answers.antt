@@ -1,4 +1,4 @@
-use Rattle.std.proofs.Common.{◌≡◌, ◌⊎◌, ℕ, ◌+◌, ◌-◌, ◌<◌, ◌≤◌, Bool, true, false, cond, sym, subst}
+use Rattle.std.proofs.Common.{◌≡◌, ◌⊎◌, ℕ, ◌+◌, ◌-◌, ◌<◌, ◌≤◌, Bool, true, false, cond, lt_of_le_of_lt, sym, subst}
 use Rattle.el_base.specs.Limits.{max_delay}
 use Rattle.net_types.specs.declared.net.Net.{Net}
 use Rattle.net_types.specs.declared.firing.Inputs.{Inputs}
@@ -9,6 +9,7 @@ use Rattle.cycle_engine.specs.declared.runs.Timed.{Timed}
 use Rattle.cycle_engine.specs.Timings.{IsTimed, IsTimingFault}
 use Rattle.cycle_engine.specs.private.Goings.{all_made, HasNoneComing}
 use Rattle.cycle_engine.specs.private.Places.{HasRun}
+use Rattle.cycle_engine.proofs.QuietLemmas.{run_passed, less_passed}
 use Rattle.cycle_engine.proofs.RunLemmas.{to_do, run_first, run_step, run_less, run_timed, timed_few, broken_timing}
 use Rattle.cycle_engine.proofs.runs.run_cycles.Goals as goal
 
@@ -34,10 +35,11 @@ cycles-preserved c =
     let b : Bounds = record { limit = c.args.limit; keep = c.args.keep } in
     let run = run_at c.args.net.now c.args.inputs.now b c.cycles.engine c.cycles.cycle c.cycles.last c.cycles.going true c.cycles-test.true c.cycles.invariant in
     let P : ℕ → Type 0 = λ n. HasRun c.args.net.now c.args.inputs.now (record { limit = c.args.limit; keep = c.args.keep }) c.run_cycle.new.self (c.cycles.cycle + 1) n c.goes_on-going.result in
-    subst P (sym c.last_of-last.ensures)
+    run_passed c.args.net.now c.args.inputs.now b c.run_cycle.new.self (c.cycles.cycle + 1) c.last_of-last.result c.next_cycle-cycle.result c.goes_on-going.result c.next_cycle-cycle.ensures
+    (subst P (sym c.last_of-last.ensures)
     (run_step c.args.net.now c.args.inputs.now b c.cycles.engine c.run_cycle.new.self c.cycles.cycle c.cycles.last c.in-Ok.fired c.goes_on-going.result c.net.ensures.checked run c.in-Ok.ensures.ready
     (c.in-Ok.ensures.cycled (record { inputs = c.args.inputs.now; cycles = run.cycles }) run.done) (λ g. subst (λ n. c.cycles.cycle + 1 ≤ n + max_delay) c.last_of-last.ensures (c.goes_on-going.ensures.near g))
-    (λ g. subst (λ n. (max_delay < c.cycles.cycle + 1 - n) ⊎ ((c.in-Ok.fired ≡ false) × HasNoneComing c.run_cycle.new.self)) c.last_of-last.ensures (c.goes_on-going.ensures.spent g)))
+    (λ g. subst (λ n. (max_delay < c.cycles.cycle + 1 - n) ⊎ ((c.in-Ok.fired ≡ false) × HasNoneComing c.run_cycle.new.self)) c.last_of-last.ensures (c.goes_on-going.ensures.spent g))))
 
 pub cycles-smaller : goal.cycles-smaller
 cycles-smaller c =
@@ -45,10 +47,12 @@ cycles-smaller c =
     let run = run_at c.args.net.now c.args.inputs.now b c.cycles.engine c.cycles.cycle c.cycles.last c.cycles.going true c.cycles-test.true c.cycles.invariant in
     let P : ℕ → Type 0 = λ n. to_do c.args.limit (all_made c.run_cycle.new.self) (c.cycles.cycle + 1) n c.goes_on-going.result < to_do c.args.limit (all_made c.cycles.engine) c.cycles.cycle c.cycles.last c.cycles.going in
     let Q : Bool → Type 0 = λ g. to_do c.args.limit (all_made c.run_cycle.new.self) (c.cycles.cycle + 1) (cond c.in-Ok.fired (c.cycles.cycle + 1) c.cycles.last) c.goes_on-going.result < to_do c.args.limit (all_made c.cycles.engine) c.cycles.cycle c.cycles.last g in
-    subst P (sym c.last_of-last.ensures) (subst Q (sym c.cycles-test.true)
+    let less = subst P (sym c.last_of-last.ensures) (subst Q (sym c.cycles-test.true)
     (run_less c.args.net.now c.args.inputs.now b c.cycles.engine c.run_cycle.new.self c.cycles.cycle c.cycles.last c.in-Ok.fired c.goes_on-going.result c.net.ensures.checked run c.in-Ok.ensures.ready
     (c.in-Ok.ensures.cycled (record { inputs = c.args.inputs.now; cycles = run.cycles }) run.done) (λ g. subst (λ n. c.cycles.cycle + 1 ≤ n + max_delay) c.last_of-last.ensures (c.goes_on-going.ensures.near g))
-    (λ g. subst (λ n. (max_delay < c.cycles.cycle + 1 - n) ⊎ ((c.in-Ok.fired ≡ false) × HasNoneComing c.run_cycle.new.self)) c.last_of-last.ensures (c.goes_on-going.ensures.spent g))))
+    (λ g. subst (λ n. (max_delay < c.cycles.cycle + 1 - n) ⊎ ((c.in-Ok.fired ≡ false) × HasNoneComing c.run_cycle.new.self)) c.last_of-last.ensures (c.goes_on-going.ensures.spent g)))) in
+    let more = less_passed c.args.limit (all_made c.run_cycle.new.self) (c.cycles.cycle + 1) c.last_of-last.result c.next_cycle-cycle.result c.goes_on-going.result c.next_cycle-cycle.ensures.on in
+    lt_of_le_of_lt more less
 
 pub returns-clause-timed : goal.returns-clause-timed
 returns-clause-timed c =

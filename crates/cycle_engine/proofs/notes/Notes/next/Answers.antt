@@ -3,7 +3,7 @@ use Rattle.std.proofs.lemmas.Bool.{cases_lt}
 use Rattle.std.proofs.lemmas.List.{length-map, nil_from_length}
 use Rattle.cycle_engine.specs.private.Stacks.{Stacked}
 use Rattle.cycle_engine.specs.private.Marking.{around, cell, cells_of}
-use Rattle.cycle_engine.proofs.NoteLemmas.{list_at, none_noted}
+use Rattle.cycle_engine.proofs.NoteLemmas.{list_at, none_before, none_noted}
 use Rattle.cycle_engine.proofs.notes.Notes.next.Goals as goal
 
 pub loop-ahead-init : goal.loop-ahead-init
@@ -27,7 +27,16 @@ loop-ahead-preserved c a l = by (cases_lt a c.loop-ahead.ahead)
         let P : ℕ → Type 0 = λ n. cell c.args.self.now n ≡ [] in
         subst P (c.around-place.ensures.place ∙ ap (λ n. around c.place-first.result n c.len-count.result) e ∙ ap (around c.place-first.result a) (sym count)) here
 
+pub returns-then-len-gt0 : goal.returns-then-len-gt0
+returns-then-len-gt0 c =
+    let e = length-map c.args.self.now.coming.items (λ (v : Stacked ℕ). v.items) in
+    let P : ℕ → ℕ → Type 0 = λ a f. cell c.args.self.now (around f a (length (cells_of c.args.self.now))) ≡ [] in (
+      omega (arith, c.saturating_add.ensures),
+      λ k l m. none_before c.args.self.now c.args.now c.loop-ahead.ahead (omega (arith, e, c.len-count.ensures, c.loop-ahead-test.true))
+          (λ a q. subst (P a) c.place-first.ensures.place (c.loop-ahead.invariant a q)) k l (omega (arith, m, c.saturating_add.ensures)),
+    )
+
 pub returns : goal.returns
-returns c none =
+returns c =
     let e = length-map c.args.self.now.coming.items (λ (v : Stacked ℕ). v.items) in
     none_noted c.args.self.now c.place-first.result (omega (arith, c.place-first.ensures.within, e)) (λ a l. c.loop-ahead.invariant a (let n = c.loop-ahead-test.false in omega (arith, e, c.len-count.ensures)))
