@@ -16,7 +16,8 @@
 # wrong: tries the wrong bodies that the gate leaves out (crates/*/wrong), of one crate with CRATE=NAME.
 # crews: with the program that make build left, runs 150 drawn nets and those of examples/ by cycles, by 1, 2, 3, 7 and 64
 #   workers and by a schedule of three workers, and compares. SEED=N draws others; PROGRAM=other tries another program.
-# documents: checks README.md and docs/: names that stand nowhere, long sentences, and cells of tables that hold too much.
+# documents: checks README.md and docs/: names that stand nowhere, long sentences, cells of tables that hold too much, and numbers
+#   that tools/map.py counts (tools/map.py counted --write puts these right).
 # help: these lines.
 # memory: lists the places that answer want of memory where no allocation has failed, and compares them with docs/PROVED.md.
 # bench: times the proved programs: compiling kernels of 1,024 nodes, and how many firings and cycles four kernels take;
@@ -121,6 +122,7 @@ crews:
 documents:
 	@python3 tools/map.py names
 	@python3 tools/map.py sentences
+	@python3 tools/map.py counted
 
 help:
 	@sed -n 's/^# \{0,1\}//p' Makefile | sed '/^The sizes of the benches/,$$d'

@@ -8,6 +8,7 @@
   tools/map.py words                 words of specs/ that have two definitions: in a crate, or in it and one below it
   tools/map.py like NAME             the files that name a variant, a field or another word, by crate, with how often
   tools/map.py proofs CRATE          the proof files of a crate, with what their first line says
+  tools/map.py counted [--write]     numbers of README.md and docs/ that are counted here, and differ; --write puts them right
   tools/map.py names                 backticked names of README.md and docs/ that stand nowhere in the repository
   tools/map.py sentences             sentences of more than 60 words and cells of tables of more than 400 characters in
                                      README.md and docs/, and README.md where it has 900 words or more
@@ -26,7 +27,8 @@ def count(paths):
     return sum(len(path.read_text().splitlines()) for path in paths)
 
 
-def sizes():
+def size_rows():
+    """A row of a table for each crate, in the order of crates.txt."""
     for line in (CRATES.parent / "crates.txt").read_text().splitlines():
         if line.startswith("#") or ":" not in line:
             continue
@@ -35,7 +37,11 @@ def sizes():
         edits = sum(len(list(crate.glob(f"{folder}/*.edit"))) for folder in ("must-fail", "wrong"))
         parts = [count(crate.glob(f"{part}/**/*.{kind}")) for part, kind in
                  (("src", "rt"), ("specs", "antt"), ("proofs", "antt"))]
-        print(f"| `{name}` | {parts[0]:,} | {parts[1]:,} | {parts[2]:,} | {edits} |")
+        yield f"| `{name}` | {parts[0]:,} | {parts[1]:,} | {parts[2]:,} | {edits} |"
+
+
+def sizes():
+    print("\n".join(size_rows()))
 
 
 def reached(text, ghost):
@@ -156,7 +162,8 @@ def declared(text):
             yield at, name
 
 
-def definitions(sources):
+def rests_on(sources):
+    """The definition files that these files rest on, each after those that it stands on, and the types and traits with their lines."""
     order, types = [], {}
 
     def visit_type(file, name):
@@ -193,6 +200,11 @@ def definitions(sources):
             signatures = re.sub(r"^(?:pub )?use [^;]+;", "", text, flags=re.M)
             for found in cited(source, signatures):
                 visit_type(*found)
+    return order, types
+
+
+def definitions(sources):
+    order, types = rests_on(sources)
     print("| Definitions | Lines |\n|---|---|")
     for file in order:
         print(f"| `{file.relative_to(CRATES)}` | {count([file])} |")
@@ -294,10 +306,63 @@ def sentences():
     sys.exit(1 if found else 0)
 
 
+def number_in(text, pattern, values, file):
+    """The text with the values, in turn, in place of what the groups of a pattern find; the pattern stands in it."""
+    found = list(re.finditer(pattern, text))
+    if not found:
+        sys.exit(f"{file.name}: nothing like {pattern}")
+    for match in reversed(found):
+        for group in reversed(range(1, len(values) + 1)):
+            text = text[:match.start(group)] + values[group - 1] + text[match.end(group):]
+    return text
+
+
+def counted_documents():
+    """Each document that has counted numbers, with its text as it has to be."""
+    def weight(source):
+        order, types = rests_on([CRATES / source])
+        return [str(len(order)), f"{count(order):,}", str(len(types)), f"{sum(types.values()):,}"]
+
+    readme, map_page, proved = TOP / "README.md", TOP / "docs" / "ARCHITECTURE.md", TOP / "docs" / "PROVED.md"
+    host = [f"{count([CRATES / 'el_io' / 'src' / 'host.rt']):,}"]
+    edge = r"`el_io/src/host\.rt` \(([\d,]+) lines\)"
+    text = number_in(readme.read_text(), edge, host, readme)
+    text = number_in(text, r"(\d+) definition files, ([\d,]+) lines", weight("elastic_top/src/call.rt")[:2], readme)
+    text = number_in(text, r"The short way is `Good`: (\d+) files, ([\d,]+) lines", weight("kernel_compile/specs/Goods.antt")[:2], readme)
+    yield readme, text
+    text = map_page.read_text()
+    head = "| Crate | Code | Definitions | Proofs | Wrong bodies |\n|---|---|---|---|---|\n"
+    before, _, after = text.partition(head)
+    text = before + head + "".join(f"{row}\n" for row in size_rows()) + after[after.index("\n\n") + 1:]
+    for source in re.findall(r"^\| [^|]* \| `([\w/.]+)`(?: of [^|]*)? \| \d+, [\d,]+ \|", text, re.M):
+        row = r"\| `" + re.escape(source) + r"` \| (\d+), ([\d,]+) \| (\d+), ([\d,]+) \|"
+        text = number_in(text, row, weight(source), map_page)
+    yield map_page, text
+    edits = [str(len(list(CRATES.glob("*/must-fail/*.edit"))))]
+    text = number_in(number_in(proved.read_text(), edge, host, proved), r"the gate tries the (\d+) of `must-fail/`", edits, proved)
+    yield proved, text
+
+
+def counted(is_written):
+    """Compares the counted numbers of the documents, and puts them right where that is asked for."""
+    differ = 0
+    for file, text in counted_documents():
+        old = file.read_text()
+        for was, now in zip(old.splitlines(), text.splitlines()):
+            if was != now:
+                print(f"{file.relative_to(TOP)}: {was.strip()[:150]}\n    counted: {now.strip()[:150]}")
+        differ += old != text
+        if is_written:
+            file.write_text(text)
+    sys.exit(1 if differ and not is_written else 0)
+
+
 if __name__ == "__main__":
     given = sys.argv[1:]
     plain = {"sizes": sizes, "words": words, "names": names, "sentences": sentences}
-    if len(given) == 1 and given[0] in plain:
+    if given[:1] == ["counted"] and given[1:] in ([], ["--write"]):
+        counted(len(given) == 2)
+    elif len(given) == 1 and given[0] in plain:
         plain[given[0]]()
     elif len(given) > 1 and given[0] == "definitions":
         definitions(given[1:])

@@ -5,7 +5,7 @@ use el_base::Op2;
 use net_types::Unit;
 
 /// How many cycles a token waits on a channel, by the class of the unit that puts it, and the slots of each channel.
-#[derive(Clone, Copy, Debug, PartialEq, Eq)]
+#[derive(Clone, Copy, PartialEq, Eq)]
 pub struct Timing {
     pub logic: u32,
     pub mul: u32,
@@ -21,7 +21,7 @@ pub struct Timing {
 }
 
 /// The units that take time, by what they do.
-#[derive(Clone, Copy, Debug, PartialEq, Eq)]
+#[derive(Clone, Copy, PartialEq, Eq)]
 pub enum Class {
     /// All operations that are no multiplications and no divisions, and selects.
     Logic,

@@ -7,7 +7,7 @@ ghost use Rattle.c_ast.specs.declared.key.Key.{Key};
 
 /// A word that cannot be a name: the keywords of C99 (ISO/IEC 9899:1999 6.4.1), then the integer
 /// types of exact width (ISO/IEC 9899:1999 7.18.1.1).
-#[derive(Clone, Copy, Debug, PartialEq, Eq)]
+#[derive(Clone, Copy, PartialEq, Eq)]
 pub enum Key {
     Auto,
     Break,

@@ -4,14 +4,14 @@ use crate::mark::Mark;
 use el_base::{Name, Span, Ty};
 
 /// A token of a kernel text, with its place.
-#[derive(Debug, Drop)]
+#[derive(Drop)]
 pub struct Token {
     pub word: Word,
     pub span: Span,
 }
 
 /// What a token is.
-#[derive(Debug, Drop)]
+#[derive(Drop)]
 pub enum Word {
     /// A name that is not reserved.
     Name(Name),

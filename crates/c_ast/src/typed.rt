@@ -158,7 +158,7 @@ pub struct TypedTarget {
 }
 
 /// A variable or an array, by its number.
-#[derive(Clone, Copy, Debug, PartialEq, Eq)]
+#[derive(Clone, Copy, PartialEq, Eq)]
 pub enum Object {
     Var(u32),
     Array(u32),

@@ -7,7 +7,7 @@ ghost use Rattle.c_lex.specs.Cursors.{IsAt, cursor_after};
 use el_base::Span;
 
 /// A place in a text: the bytes before it, and its line and column, from 1.
-#[derive(Clone, Copy, Debug)]
+#[derive(Clone, Copy)]
 pub struct Cursor {
     pub offset: u32,
     pub line: u32,

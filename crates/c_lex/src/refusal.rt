@@ -7,7 +7,7 @@ use std::error::Error;
 use std::fmt;
 
 /// A rule that a text can break.
-#[derive(Clone, Copy, Debug, PartialEq, Eq)]
+#[derive(Clone, Copy, PartialEq, Eq)]
 pub enum Rule {
     Byte,
     Comment,
@@ -18,7 +18,7 @@ pub enum Rule {
 }
 
 /// A broken rule with its place.
-#[derive(Clone, Copy, Debug, PartialEq, Eq)]
+#[derive(Clone, Copy, PartialEq, Eq)]
 pub struct Broken {
     pub rule: Rule,
     pub at: Span,

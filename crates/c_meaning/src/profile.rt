@@ -1,5 +1,5 @@
 /// What a signed result out of range is (ISO/IEC 9899:1999 6.5p5).
-#[derive(Clone, Copy, Debug, PartialEq, Eq)]
+#[derive(Clone, Copy, PartialEq, Eq)]
 pub enum Profile {
     /// Undefined, as in C.
     Plain,

@@ -79,7 +79,7 @@ impl From<Memory> for ParseRefusal {
 }
 
 /// Where the tokens stop to be a kernel text; [`ParseRefusal`] without what is known only of all of them.
-#[derive(Debug, Drop)]
+#[derive(Drop)]
 pub enum Stop {
     Unexpected { span: Span },
     EndOfText,

@@ -10,7 +10,7 @@ use el_base::{MAX_FIRINGS, MAX_SLOTS, MAX_WORKERS};
 pub const MAX_UNITS_IN_A_ROW: u64 = 1_000;
 
 /// An option.
-#[derive(Clone, Copy, Debug, PartialEq, Eq)]
+#[derive(Clone, Copy, PartialEq, Eq)]
 pub enum Choice {
     Delay,
     Slots,
@@ -27,7 +27,7 @@ pub enum Choice {
 }
 
 /// What the value of an option is.
-#[derive(Clone, Copy, Debug, PartialEq, Eq)]
+#[derive(Clone, Copy, PartialEq, Eq)]
 pub enum ValueKind {
     /// There is none.
     Flag,
@@ -38,7 +38,7 @@ pub enum ValueKind {
 }
 
 /// A class of units that have a delay.
-#[derive(Clone, Copy, Debug, PartialEq, Eq)]
+#[derive(Clone, Copy, PartialEq, Eq)]
 pub enum Class {
     Logic,
     Mul,
@@ -82,7 +82,7 @@ impl Class {
 }
 
 /// The delay of a class, in cycles.
-#[derive(Clone, Copy, Debug, PartialEq, Eq)]
+#[derive(Clone, Copy, PartialEq, Eq)]
 pub struct ClassDelay {
     pub class: Class,
     pub cycles: u64,

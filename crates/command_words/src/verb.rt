@@ -6,7 +6,7 @@ ghost use Rattle.command_words.specs.declared.verb.Verb.{Verb};
 use el_base::{MAX_INPUTS_BYTES, MAX_KERNEL_BYTES, MAX_NETLIST_BYTES, MAX_SCHEDULE_BYTES};
 
 /// A command.
-#[derive(Clone, Copy, Debug, PartialEq, Eq)]
+#[derive(Clone, Copy, PartialEq, Eq)]
 pub enum Verb {
     Compile,
     Go,
@@ -20,7 +20,7 @@ pub enum Verb {
 }
 
 /// What a plain word of a command is.
-#[derive(Clone, Copy, Debug, PartialEq, Eq)]
+#[derive(Clone, Copy, PartialEq, Eq)]
 pub enum PlainKind {
     /// The name of a file, and how many bytes it has at most.
     File(u64),

@@ -7,7 +7,7 @@ use net_replay::RunFault;
 use net_types::Memory;
 
 /// Why a cycle is broken off. It is smaller than a fault of a run, so that it is handed up without memory.
-#[derive(Clone, Copy, Debug)]
+#[derive(Clone, Copy)]
 pub(crate) enum Broken {
     /// As many firings as the limit allows are made, and one more may be made in the cycle.
     Limit,

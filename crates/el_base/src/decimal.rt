@@ -9,7 +9,7 @@ use std::marker::Model;
 const MOST_DIGITS: usize = 20;
 
 /// A number in decimal, with no leading zeros, which contracts see as its bytes. Takes no memory.
-#[derive(Debug, Drop)]
+#[derive(Drop)]
 pub struct Decimal {
     bytes: [u8; MOST_DIGITS],
     start: usize,

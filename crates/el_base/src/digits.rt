@@ -38,7 +38,7 @@ pub fn put_i64(text: &mut Vec<u8>, n: i64) -> Result<(), Memory>
 const CAP: u128 = 1 << 100;
 
 /// A decimal number that was read from a text.
-#[derive(Clone, Copy, Debug, PartialEq, Eq)]
+#[derive(Clone, Copy, PartialEq, Eq)]
 pub struct Number {
     /// The number, or 2^100 with its sign where its magnitude is not below 2^100.
     pub value: i128,

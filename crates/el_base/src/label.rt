@@ -2,7 +2,7 @@
 use std::fmt;
 
 /// What is printed of a refusal: its number, a space and its word, as `1 BadByte`; `want of memory` where it has no number.
-#[derive(Clone, Copy, Debug)]
+#[derive(Clone, Copy)]
 pub struct Label {
     pub number: Option<u32>,
     pub word: &'static str,

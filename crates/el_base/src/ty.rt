@@ -87,7 +87,7 @@ impl Ty {
 }
 
 /// A scalar parameter of a kernel or circuit.
-#[derive(Debug, Drop)]
+#[derive(Drop)]
 pub struct Scalar {
     pub name: Name,
     pub ty: Ty,
@@ -110,7 +110,7 @@ impl Scalar {
 }
 
 /// An array parameter: its elements' type and their number.
-#[derive(Debug, Drop)]
+#[derive(Drop)]
 pub struct Array {
     pub name: Name,
     pub ty: Ty,

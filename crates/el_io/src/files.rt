@@ -7,7 +7,7 @@ ghost use Rattle.el_io.specs.declared.files.FileFail.TheVariants as fail;
 use el_base::Memory;
 
 /// How a read ended.
-#[derive(Clone, Copy, Debug, PartialEq, Eq)]
+#[derive(Clone, Copy, PartialEq, Eq)]
 pub enum Got {
     /// All that the name holds was read.
     Whole,
@@ -16,7 +16,7 @@ pub enum Got {
 }
 
 /// Why a read gave nothing.
-#[derive(Clone, Copy, Debug, PartialEq, Eq)]
+#[derive(Clone, Copy, PartialEq, Eq)]
 pub enum FileFail {
     /// There is no such file, or it could not be read.
     Failed,

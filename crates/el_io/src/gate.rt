@@ -12,7 +12,7 @@ pub trait Gate {
 }
 
 /// The gate that always answers true.
-#[derive(Clone, Copy, Debug)]
+#[derive(Clone, Copy)]
 pub struct Open;
 
 impl Gate for Open {

@@ -4,7 +4,7 @@ ghost use Rattle.std.specs.Io.KnownBytes.{append_known};
 ghost use Rattle.el_io.specs.Outside.{Rose, IsTaken, IsCut};
 
 /// Why no byte was taken.
-#[derive(Clone, Copy, Debug, PartialEq, Eq)]
+#[derive(Clone, Copy, PartialEq, Eq)]
 pub enum SinkFail {
     Failed,
 }

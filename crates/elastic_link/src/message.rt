@@ -5,14 +5,14 @@ ghost use Rattle.elastic_link.specs.Credits.{IsStamp, IsCredit};
 use rtrb::Protocol;
 
 /// A value with the stamp of the firing that put it.
-#[derive(Clone, Copy, Debug, PartialEq, Eq)]
+#[derive(Clone, Copy, PartialEq, Eq)]
 pub struct Token {
     pub value: u64,
     pub stamp: u64,
 }
 
 /// So many credits, one or more, with the stamp of the last firing that they stand for.
-#[derive(Clone, Copy, Debug, PartialEq, Eq)]
+#[derive(Clone, Copy, PartialEq, Eq)]
 pub struct Credit {
     pub count: u64,
     pub stamp: u64,

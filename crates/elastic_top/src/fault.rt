@@ -12,14 +12,14 @@ use net_front::NetlistRefusal;
 use net_runs::{ResumeRefusal, RunRefusal};
 
 /// The words that name the files of a kernel and of its inputs.
-#[derive(Clone, Copy, Debug)]
+#[derive(Clone, Copy)]
 pub struct KernelFiles<'a> {
     pub kernel: &'a str,
     pub inputs: &'a str,
 }
 
 /// The words that name the files of the inputs of a run and, where it has one, of its schedule.
-#[derive(Clone, Copy, Debug)]
+#[derive(Clone, Copy)]
 pub struct RunFiles<'a> {
     pub inputs: &'a str,
     pub schedule: Option<&'a str>,
@@ -27,7 +27,6 @@ pub struct RunFiles<'a> {
 
 /// Why a command has no text for the contents of its files: the kind of work that has none, with the words that name the
 /// files, and its own refusal.
-#[derive(Debug)]
 pub enum Refusal<'a> {
     /// The reading of a kernel.
     Kernel(&'a str, KernelRefusal),
@@ -162,7 +161,6 @@ fn resume_code(refused: &ResumeRefusal) -> u8
 }
 
 /// Why a call printed nothing, or not all; a file is named by its word.
-#[derive(Debug)]
 pub enum Fault<'a> {
     /// The words are no command.
     Usage,

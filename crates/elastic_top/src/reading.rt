@@ -12,7 +12,7 @@ use el_io::{FileFail, Files, Got};
 use std::alloc::Global;
 
 /// A file to be read: the word that names it, and its greatest length in bytes.
-#[derive(Clone, Copy, Debug)]
+#[derive(Clone, Copy)]
 pub struct File<'a> {
     pub name: &'a str,
     pub limit: u64,

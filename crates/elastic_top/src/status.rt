@@ -1,7 +1,7 @@
 /// How a call ended: 0 done, 1 usage, 2 read fault, 3 write fault, 4 kernel refused, 5 net refused, 6 inputs refused,
 /// 7 schedule refused, 8 limit, 9 stuck, 10 stray, 11 want of memory, 12 file too long, 13 undefined, 14 out of turns,
 /// 15 snapshot refused.
-#[derive(Clone, Copy, Debug, PartialEq, Eq)]
+#[derive(Clone, Copy, PartialEq, Eq)]
 pub struct Status {
     pub code: u8,
 }

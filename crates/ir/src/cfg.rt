@@ -6,7 +6,6 @@ use std::marker::Model;
 
 /// A block over variables: it reads variables first, then makes its steps, then its writes in order, and then jumps.
 /// Its values are numbered, reads first, then steps.
-#[derive(Debug)]
 pub struct CfgBlock {
     pub reads: List<u32>,
     pub steps: List<Instr>,
@@ -27,14 +26,14 @@ impl Drop for CfgBlock {
 }
 
 /// A variable gets a value of the block.
-#[derive(Clone, Copy, Debug, PartialEq, Eq)]
+#[derive(Clone, Copy, PartialEq, Eq)]
 pub struct Write {
     pub var: u32,
     pub value: u32,
 }
 
 /// Where a block leads: the targets are numbers of blocks.
-#[derive(Clone, Copy, Debug, PartialEq, Eq)]
+#[derive(Clone, Copy, PartialEq, Eq)]
 pub enum CfgJump {
     Go(u32),
     Two { cond: u32, yes: u32, no: u32 },
@@ -44,7 +43,7 @@ pub enum CfgJump {
 /// A graph over variables: `vars` are their widths, and the first ones are the scalars, in order.
 ///
 /// Contracts see the record of its fields, and learn that it is well formed from [`Cfg::look`].
-#[derive(Debug, Drop)]
+#[derive(Drop)]
 pub struct Cfg {
     pub name: Name,
     pub scalars: List<Scalar>,

@@ -5,7 +5,7 @@ use el_base::{Array, List, Name, Scalar, Ty};
 use std::marker::Model;
 
 /// A block: its arguments' widths, its steps, and where it leads. Values are numbered, arguments first.
-#[derive(Debug, Drop)]
+#[derive(Drop)]
 pub struct Block {
     pub args: List<u32>,
     pub steps: List<Instr>,
@@ -13,7 +13,7 @@ pub struct Block {
 }
 
 /// Where a block leads.
-#[derive(Debug, Drop)]
+#[derive(Drop)]
 pub enum Jump {
     Go(To),
     /// To `yes` where the condition is not 0, else to `no`.
@@ -22,7 +22,7 @@ pub enum Jump {
 }
 
 /// A block with the values that are handed to its arguments.
-#[derive(Debug, Drop)]
+#[derive(Drop)]
 pub struct To {
     pub block: u32,
     pub with: List<u32>,
@@ -31,7 +31,6 @@ pub struct To {
 /// A block graph. Block 0 has the scalars as its arguments.
 ///
 /// Contracts see the record of its fields, and learn that it is well formed from [`Ir::look`].
-#[derive(Debug)]
 pub struct Ir {
     pub name: Name,
     pub scalars: List<Scalar>,

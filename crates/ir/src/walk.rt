@@ -12,7 +12,7 @@ use el_base::{List, Memory};
 use std::alloc::Global;
 
 /// What a walk along a graph met.
-#[derive(Debug, Drop)]
+#[derive(Drop)]
 pub struct Walk {
     /// The arrays after the last visit.
     pub arrays: List<List<u64>>,
@@ -26,7 +26,7 @@ pub struct Walk {
 }
 
 /// How a walk ended.
-#[derive(Clone, Copy, Debug, PartialEq, Eq)]
+#[derive(Clone, Copy, PartialEq, Eq)]
 pub enum Ending {
     /// The last visit returned.
     Returned(Option<u64>),

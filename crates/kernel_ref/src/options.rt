@@ -4,7 +4,7 @@ use c_meaning::Profile;
 pub const DEFAULT_TURNS: u64 = 8_000_000;
 
 /// What a run is asked for.
-#[derive(Clone, Copy, Debug, PartialEq, Eq)]
+#[derive(Clone, Copy, PartialEq, Eq)]
 pub struct InterpretOptions {
     /// What a signed result out of range is.
     pub profile: Profile,

@@ -1,7 +1,7 @@
 use buffer_place::Timing;
 
 /// What a circuit is asked for.
-#[derive(Clone, Copy, Debug, PartialEq, Eq)]
+#[derive(Clone, Copy, PartialEq, Eq)]
 pub struct CircuitOptions {
     /// The slots of its channels, and the cycles that a token waits on them.
     pub timing: Timing,

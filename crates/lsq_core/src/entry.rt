@@ -10,7 +10,7 @@ ghost use Rattle.lsq_core.specs.declared.entry.Entry.{Entry as EntryValue};
 ///
 /// Entries are numbered in order of allocation by `serial`; an entry is older than another where its number is
 /// lower. `store` tells whether its port is a store port. A load that is `done` has read `value`.
-#[derive(Clone, Copy, Debug)]
+#[derive(Clone, Copy)]
 pub struct Entry {
     pub serial: u64,
     pub port: u32,

@@ -4,7 +4,7 @@ use crate::entry::Entry;
 use net_types::List;
 
 /// The next serial number of a queue and its entries, oldest first.
-#[derive(Debug, Drop)]
+#[derive(Drop)]
 pub struct QueuePart {
     pub next: u64,
     pub entries: List<Entry>,

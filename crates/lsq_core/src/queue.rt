@@ -7,7 +7,7 @@ ghost use Rattle.lsq_core.specs.Views.{QueueView, InOrder, InPorts, allows, give
 use net_types::Act;
 
 /// What an act gives: the value that it puts, and whether its address lies past the array.
-#[derive(Clone, Copy, Debug)]
+#[derive(Clone, Copy)]
 pub struct Outcome {
     pub put: Option<u64>,
     pub stray: bool,

@@ -9,7 +9,7 @@ use net_types::{Memory, Net};
 use std::alloc::Global;
 
 /// The channels at the first places of a unit; the number of all channels at a place that has none.
-#[derive(Clone, Copy, Debug)]
+#[derive(Clone, Copy)]
 pub struct Pins {
     /// Into its input place 0.
     pub first: u32,

@@ -13,7 +13,7 @@ use net_types::{Chan, List, Memory, Net};
 use std::alloc::Global;
 
 /// Other slots and another delay, in cycles, for the channel of this number.
-#[derive(Clone, Copy, Debug, PartialEq, Eq)]
+#[derive(Clone, Copy, PartialEq, Eq)]
 pub struct Change {
     pub chan: u32,
     pub slots: u32,

@@ -12,7 +12,7 @@ use std::alloc::Global;
 use std::marker::Model;
 
 /// A token behind the oldest, with its date.
-#[derive(Clone, Copy, Debug)]
+#[derive(Clone, Copy)]
 struct Follower {
     value: u64,
     date: u64,

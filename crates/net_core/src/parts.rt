@@ -22,7 +22,6 @@ use std::alloc::Global;
 /// fork the numbers of the outputs that its head was sent on, ascending; `fired` tells of each entry, parameter and exit
 /// whether it has; `queues` has the entries of each queue. These three go by unit, and are empty or `false` of other units.
 /// `value` is the result that the exit took. `strays` go by array.
-#[derive(Debug)]
 pub struct Parts {
     pub given: Inputs,
     pub tokens: List<List<u64>>,

@@ -31,14 +31,14 @@ pub trait Heads {
 }
 
 /// A token that a firing puts.
-#[derive(Clone, Copy, Debug)]
+#[derive(Clone, Copy)]
 pub struct Put {
     pub place: u64,
     pub value: u64,
 }
 
 /// The places that a firing takes from.
-#[derive(Clone, Copy, Debug)]
+#[derive(Clone, Copy)]
 pub enum Takes {
     None,
     One(u64),
@@ -47,7 +47,7 @@ pub enum Takes {
 }
 
 /// The channels from which a firing takes.
-#[derive(Clone, Copy, Debug)]
+#[derive(Clone, Copy)]
 pub enum Taken {
     None,
     One(u32),
@@ -56,21 +56,21 @@ pub enum Taken {
 }
 
 /// A token that a firing puts on a channel.
-#[derive(Clone, Copy, Debug)]
+#[derive(Clone, Copy)]
 pub struct Laid {
     pub chan: u32,
     pub value: u64,
 }
 
 /// The tokens that a firing moves, by their channels.
-#[derive(Clone, Copy, Debug)]
+#[derive(Clone, Copy)]
 pub struct Moves {
     pub taken: Taken,
     pub laid: Option<Laid>,
 }
 
 /// What a firing does to the unit's own state.
-#[derive(Clone, Copy, Debug)]
+#[derive(Clone, Copy)]
 pub enum Change {
     Keep,
     Fire,
@@ -82,7 +82,7 @@ pub enum Change {
 }
 
 /// What a firing does.
-#[derive(Clone, Copy, Debug)]
+#[derive(Clone, Copy)]
 pub struct Plan {
     pub takes: Takes,
     pub put: Option<Put>,

@@ -11,7 +11,7 @@ use std::alloc::Global;
 use std::marker::Model;
 
 /// One bit per output of a fork. A bit is set where it has the value `mark`, so that all are cleared in one step.
-#[derive(Debug, Drop)]
+#[derive(Drop)]
 pub struct Sent {
     bits: Vec<bool>,
     mark: bool,

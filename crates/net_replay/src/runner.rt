@@ -11,7 +11,7 @@ use net_core::State;
 use net_types::Firing;
 
 /// How a run of firings ended.
-#[derive(Clone, Copy, Debug, PartialEq, Eq)]
+#[derive(Clone, Copy, PartialEq, Eq)]
 pub enum Ended {
     /// No firing is enabled, after so many in all.
     Rest { made: u64 },

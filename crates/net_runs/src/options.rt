@@ -2,7 +2,7 @@
 pub const DEFAULT_FIRINGS: u64 = 8_000_000;
 
 /// What a run is asked for.
-#[derive(Clone, Copy, Debug, PartialEq, Eq)]
+#[derive(Clone, Copy, PartialEq, Eq)]
 pub struct RunOptions {
     /// How many firings it may make.
     pub limit: u64,

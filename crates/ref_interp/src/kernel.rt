@@ -23,7 +23,7 @@ use net_types::Inputs;
 use std::alloc::Global;
 
 /// What the run of a kernel comes to.
-#[derive(Debug, Drop)]
+#[derive(Drop)]
 pub enum Outcome {
     /// It ends in so many turns, with the patterns of its arrays and of its result.
     Ends {

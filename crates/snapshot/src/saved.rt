@@ -1,7 +1,7 @@
 use net_core::Parts;
 
 /// A state as plain data, with the number of firings that led to it.
-#[derive(Debug, Drop)]
+#[derive(Drop)]
 pub struct Saved {
     pub made: u64,
     pub parts: Parts,
