@@ -42,7 +42,7 @@ pub enum LexRefusal {
     #[error("a directive that is not accepted")]
     Directive(Span),
     /// A name that is defined again with another spelling of its number.
-    #[error("a name is defined again with another number")]
+    #[error("a name is defined again with another spelling of its number")]
     Redefined(Span),
     /// Memory ran out.
     #[error("out of memory")]
