@@ -10,10 +10,10 @@ use thiserror::Error;
 pub enum InlineRefusal {
     /// The kernel without calls has so many syntax nodes, or 2^64 - 1 where it has more: too many. The place is the
     /// kernel's name.
-    #[error("15 Grown")]
+    #[error("the kernel without calls has {nodes} syntax nodes, more than the limit")]
     Grown { span: Span, nodes: u64 },
     /// Memory ran out.
-    #[error("want of memory")]
+    #[error("out of memory")]
     Memory,
 }
 

@@ -1,6 +1,5 @@
 -- What each answer of the lexer says of the bytes.
 use Rattle.std.specs.Prelude.{◌≡◌, ◌≢◌, ◌⊎◌, ℕ, List, drop, codes, Option, Some, None, Result, Ok, Err}
-use Rattle.el_base.specs.Labels.{printed}
 use Rattle.el_base.specs.declared.span.Span.{Span}
 use Rattle.c_ast.specs.Tokens.{Fault, bad_byte, open_comment, bad_number, wide_number, bad_directive, redefined, End, whole, broken, comment_end, Reads, Tokens, Refused}
 use Rattle.c_ast.specs.declared.token.Token.{Token}
@@ -39,10 +38,6 @@ refusal_span (refusal.WideNumber s) = Some s
 refusal_span (refusal.Directive s) = Some s
 refusal_span (refusal.Redefined s) = Some s
 refusal_span refusal.Memory = None
-
--- what is printed of it: the number, a space (32) and the word
-abbrev pub refusal_text : LexRefusal → List ℕ
-refusal_text r = printed (refusal_number r) (refusal_word r)
 
 -- the refusal of a broken rule at its place
 abbrev pub refusal_of : Fault → Span → LexRefusal

@@ -2,9 +2,8 @@
 ghost use Rattle.std.specs.Prelude.{◌≡◌};
 ghost use Rattle.c_lex.specs.Refusals.{refusal_number, refusal_word, refusal_span, refusal_by};
 
-use el_base::{Label, Memory, Span};
-use std::error::Error;
-use std::fmt;
+use el_base::{Memory, Span};
+use thiserror::Error;
 
 /// A rule that a text can break.
 #[derive(Clone, Copy, PartialEq, Eq)]
@@ -25,21 +24,28 @@ pub struct Broken {
 }
 
 /// Why a text has no tokens, with the first place from the left at which a rule is broken.
-#[derive(Clone, Copy, Debug, PartialEq, Eq)]
+#[derive(Clone, Copy, Debug, PartialEq, Eq, Error)]
 pub enum LexRefusal {
     /// A byte that may stand outside comments at no token; also a backslash directly before a line's end in a comment.
+    #[error("a byte that no token may have here")]
     BadByte(Span),
     /// `/*` that no `*/` follows.
+    #[error("a comment that is not closed")]
     OpenComment(Span),
     /// A number that is no integer constant.
+    #[error("a number that is no integer constant")]
     BadNumber(Span),
     /// An integer constant that none of its types holds.
+    #[error("an integer constant that no type holds")]
     WideNumber(Span),
     /// A `#` that begins no accepted directive.
+    #[error("a directive that is not accepted")]
     Directive(Span),
     /// A name that is defined again with another spelling of its number.
+    #[error("a name is defined again with another spelling of its number")]
     Redefined(Span),
     /// Memory ran out.
+    #[error("out of memory")]
     Memory,
 }
 
@@ -103,24 +109,6 @@ impl LexRefusal {
         }
     }
 }
-
-/// The number and the word, as `1 BadByte`.
-impl fmt::Display for LexRefusal {
-    ghost use Rattle.std.specs.Prelude.{Some};
-    ghost use Rattle.c_lex.specs.Refusals.{refusal_text};
-
-    ghost output = { λ refusal. Some (refusal_text refusal) };
-
-    fn fmt<W: fmt::Write>(&self, f: &mut fmt::Formatter<W>) -> fmt::Result {
-        let label = Label {
-            number: self.number(),
-            word: self.word(),
-        };
-        write!(f, "{label}")
-    }
-}
-
-impl Error for LexRefusal {}
 
 impl From<Memory> for LexRefusal {
     ghost use Rattle.c_lex.specs.declared.refusal.LexRefusal.TheVariants as refusal;

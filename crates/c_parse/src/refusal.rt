@@ -9,19 +9,19 @@ use thiserror::Error;
 #[derive(Debug, Drop, Error)]
 pub enum ParseRefusal {
     /// A token that no kernel text has there.
-    #[error("10 Unexpected")]
+    #[error("expected another token here")]
     Unexpected { span: Span },
     /// The tokens end too early; the place is the one after them.
-    #[error("11 EndOfText")]
+    #[error("the text ends where more tokens are expected")]
     EndOfText { span: Span },
     /// A construct nests too deep; the place is its first token.
-    #[error("12 TooDeep")]
+    #[error("constructs are nested too deep")]
     TooDeep { span: Span },
     /// The kernel has too many syntax nodes; the place is its name.
-    #[error("13 TooLarge")]
+    #[error("the kernel has {nodes} syntax nodes, more than the limit")]
     TooLarge { span: Span, nodes: u64 },
     /// Memory ran out.
-    #[error("want of memory")]
+    #[error("out of memory")]
     Memory,
 }
 

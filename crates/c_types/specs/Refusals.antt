@@ -1,6 +1,5 @@
 -- Each typing rule's number and word, and what a refusal tells of its rule and its place; want of memory has neither.
 use Rattle.std.specs.Prelude.{ℕ, List, Option, Some, None, codes}
-use Rattle.el_base.specs.Labels.{printed}
 use Rattle.el_base.specs.declared.span.Span.{Span}
 use Rattle.c_types.specs.declared.fault.Rule.{Rule}
 use Rattle.c_types.specs.declared.fault.Rule.TheVariants as rule
@@ -37,6 +36,3 @@ word_of refusal.Memory = codes "Memory"
 abbrev pub span_of : TypeRefusal → Option Span
 span_of (refusal.Broken f) = Some f.span
 span_of refusal.Memory = None
-
-abbrev pub refusal_text : TypeRefusal → List ℕ
-refusal_text r = printed (number_of r) (word_of r)

@@ -3,35 +3,45 @@ ghost use Rattle.std.specs.Prelude.{◌≡◌, Some, None};
 ghost use Rattle.c_types.specs.Places.{earlier, is_before, first_bytes};
 ghost use Rattle.c_types.specs.Refusals.{rule_number, rule_word, number_of, word_of, span_of};
 
-use el_base::{Label, Memory, Span};
-use std::error::Error;
-use std::fmt;
+use el_base::{Memory, Span};
+use thiserror::Error;
 
 /// A rule on names, arrays, returns, loops and calls.
-#[derive(Clone, Copy, Debug, PartialEq, Eq)]
+#[derive(Clone, Copy, Debug, PartialEq, Eq, Error)]
 pub enum Rule {
     /// A name is used where it is not declared.
+    #[error("a name is used where it is not declared")]
     Undeclared,
     /// A name is declared twice in one scope.
+    #[error("a name is declared twice in one scope")]
     Redeclared,
     /// A scalar has indices.
+    #[error("a scalar has indices")]
     NotArray,
     /// An array has no index, or a helper is not called.
+    #[error("an array has no index, or a helper is not called")]
     NotScalar,
     /// An array has another number of indices than dimensions, or more dimensions than an array
     /// may have.
+    #[error("an array has another number of indices than dimensions, or too many dimensions")]
     Dimensions,
     /// A dimension is 0, or the arrays so far have more elements together than a kernel may.
+    #[error("a dimension is 0, or the arrays have too many elements")]
     Length,
     /// A value is returned where there is no result, or none where there is one.
+    #[error("a value is returned where there is no result, or none where there is one")]
     ReturnKind,
     /// `break` or `continue` stands outside of a loop.
+    #[error("`break` or `continue` stands outside of a loop")]
     OutsideLoop,
     /// A variable or an array is called.
+    #[error("a variable or an array is called")]
     NotHelper,
     /// A call stands where it is not evaluated exactly once for each time that its statement is.
+    #[error("a call stands where it may not be evaluated exactly once")]
     CallPlace,
     /// A helper is called with another number of arguments than it has parameters.
+    #[error("a call has another number of arguments than the helper has parameters")]
     Arguments,
 }
 
@@ -79,11 +89,13 @@ pub struct Fault {
 }
 
 /// Why a tree has no typed tree, or a program no typed program.
-#[derive(Clone, Copy, Debug, PartialEq, Eq)]
+#[derive(Clone, Copy, Debug, PartialEq, Eq, Error)]
 pub enum TypeRefusal {
     /// The rule that is broken first, with its place.
+    #[error("{rule}", rule = .0.rule)]
     Broken(Fault),
     /// Memory is wanting.
+    #[error("out of memory")]
     Memory,
 }
 
@@ -118,24 +130,6 @@ impl TypeRefusal {
         }
     }
 }
-
-/// The number and the word, as `20 Undeclared`.
-impl fmt::Display for TypeRefusal {
-    ghost use Rattle.std.specs.Prelude.{Some};
-    ghost use Rattle.c_types.specs.Refusals.{refusal_text};
-
-    ghost output = { λ refusal. Some (refusal_text refusal) };
-
-    fn fmt<W: fmt::Write>(&self, f: &mut fmt::Formatter<W>) -> fmt::Result {
-        let label = Label {
-            number: self.number(),
-            word: self.word(),
-        };
-        write!(f, "{label}")
-    }
-}
-
-impl Error for TypeRefusal {}
 
 impl From<Memory> for TypeRefusal {
     ghost use Rattle.c_types.specs.declared.fault.TypeRefusal.TheVariants as refusal;

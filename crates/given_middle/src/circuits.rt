@@ -3,7 +3,7 @@ use crate::graphs::read_graph;
 use crate::kernels::graph_of;
 use anyhow::{Context, Result, bail, ensure};
 use circuit_build::build;
-use el_base::MAX_INPUTS_BYTES;
+use el_base::{Label, MAX_INPUTS_BYTES};
 use el_io::Open;
 use ir::{Groups, Ir};
 use lsq_groups::groups;
@@ -130,7 +130,7 @@ fn put_counts(graph: &Ir, net: &Net, out: &mut Output) -> Result<()> {
 fn put_broken(broken: &NetRefusal, out: &mut Output) -> Result<()> {
     let at = broken.at().context("want of memory")?;
     out.word("no circuit: ");
-    out.show(broken);
+    put_cause(broken.number(), broken.word(), out);
     match at {
         At::Unit(unit) => {
             out.word(" unit ");
@@ -192,5 +192,10 @@ fn put_refused(refused: &RunRefusal, out: &mut Output) -> Result<()> {
 /// Writes a status, and the number and the word of a refusal.
 fn put_status(status: &str, refused: &RunRefusal, out: &mut Output) {
     out.word(status);
-    out.show(refused);
+    put_cause(refused.number(), refused.word(), out);
+}
+
+/// Writes a number and a word behind each other, as in the lines of the program.
+fn put_cause(number: Option<u32>, word: &'static str, out: &mut Output) {
+    out.show(&Label { number, word });
 }

@@ -5,7 +5,7 @@ ghost use Rattle.net_core.specs.States.{CountsWithin, IsOf, state_of};
 
 use anyhow::{Context, Result, bail};
 use cycle_engine::run_cycles;
-use el_base::{Array, Log, MAX_SCHEDULE_BYTES, number};
+use el_base::{Array, Label, Log, MAX_SCHEDULE_BYTES, number};
 use inputs_text::InputRefusal;
 use lsq_core::Queue;
 use net_check::Checked;
@@ -32,12 +32,17 @@ enum Told {
 /// Writes the line or the name of a refusal after its number and its word.
 pub fn put_refusal(refusal: &InputRefusal, out: &mut Output) {
     out.word("6 ");
-    out.show(refusal);
+    put_cause(refusal.number(), refusal.word(), out);
     put_line(refusal.line(), out);
     if let Some(name) = refusal.name() {
         out.word(" ");
         out.bytes(name.as_slice());
     }
+}
+
+/// Writes a number and a word behind each other, as in the lines of the program.
+pub fn put_cause(number: Option<u32>, word: &'static str, out: &mut Output) {
+    out.show(&Label { number, word });
 }
 
 /// Writes the number of a line behind a space, where there is one.
@@ -104,7 +109,7 @@ pub fn put_replay(
         Ok(firings) => put_replayed(alloc, net, inputs, firings.as_slice(), out),
         Err(refusal) => {
             out.word("7 ");
-            out.show(&refusal);
+            put_cause(refusal.number(), refusal.word(), out);
             put_line(refusal.line(), out);
             Ok(())
         }
@@ -219,7 +224,7 @@ fn put_fault(net: &Checked, fault: RunFault, out: &mut Output) -> Result<()> {
 /// Writes a status and a fault.
 fn put_status(status: &str, fault: RunFault, out: &mut Output) {
     out.word(status);
-    out.show(&fault);
+    put_cause(fault.number(), fault.word(), out);
 }
 
 /// Writes the arrays, the result and the number of firings of a run, a line each.

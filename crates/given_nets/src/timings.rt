@@ -6,6 +6,7 @@ ghost use Rattle.net_check.specs.Retimed.{NameChannels};
 ghost use Rattle.buffer_place.specs.Timings.{IsTiming};
 
 use crate::nets::net_of;
+use crate::runs::put_cause;
 use anyhow::{Result, bail, ensure};
 use buffer_place::{Timing, place};
 use el_base::{MAX_DELAY, MAX_SLOTS, MAX_SUM_OF_SLOTS};
@@ -71,7 +72,7 @@ fn put_refusal(refusal: &NetRefusal, out: &mut Output) -> Result<()> {
     let Some(at) = refusal.at() else {
         bail!("want of memory");
     };
-    out.show(refusal);
+    put_cause(refusal.number(), refusal.word(), out);
     match at {
         At::Unit(unit) => {
             out.word(" unit ");

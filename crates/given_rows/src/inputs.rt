@@ -1,6 +1,7 @@
 //! What reading the inputs of a net answers, and how what was read is printed.
 ghost use Rattle.net_types.specs.Inputs.{InputsFit};
 
+use crate::refusals::put_cause;
 use anyhow::{Context, Result, bail, ensure};
 use el_base::{MAX_INPUTS_BYTES, MAX_NETLIST_BYTES, number};
 use inputs_text::{InputRefusal, print_results_of, read_inputs};
@@ -82,10 +83,7 @@ fn put_scalars(scalars: &[Scalar], patterns: &[u64], out: &mut Output) {
 
 /// Writes a refusal and its line, or the name that it names.
 fn put_refusal(refusal: &InputRefusal, out: &mut Output) -> Result<()> {
-    if refusal.number().is_none() {
-        bail!("memory ran out");
-    }
-    out.show(refusal);
+    put_cause(refusal.number(), refusal.word(), out)?;
     out.word(" ");
     if let Some(line) = refusal.line() {
         out.number(line);

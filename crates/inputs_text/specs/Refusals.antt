@@ -1,7 +1,6 @@
 -- What each answer of the reader says of the bytes.
 use Rattle.std.specs.Prelude.{◌≡◌, ◌≢◌, ◌⊎◌, ℕ, ◌+◌, List, ◌∷◌, ◌++◌, length, codes, find, is_none, Option, Some, None, Result, Ok, Err}
 use Rattle.std.specs.Str.Lines.{lines}
-use Rattle.el_base.specs.Labels.{printed}
 use Rattle.el_base.specs.declared.ty.Array.{Array}
 use Rattle.el_base.specs.declared.ty.Scalar.{Scalar}
 use Rattle.net_types.specs.declared.firing.Inputs.{Inputs}
@@ -52,10 +51,6 @@ refusal_name (refusal.Missing name) = Some name
 refusal_name (refusal.Count n) = None
 refusal_name (refusal.Range n) = None
 refusal_name refusal.Memory = None
-
--- what is printed of it
-abbrev pub refusal_text : InputRefusal → List ℕ
-refusal_text r = printed (refusal_number r) (refusal_word r)
 
 -- the refusal of a line, by its number, that breaks a rule
 abbrev pub refusal_by : Rule → ℕ → InputRefusal

@@ -1,26 +1,32 @@
 ghost use Rattle.std.specs.Prelude.{◌≡◌, option_map};
 ghost use Rattle.inputs_text.specs.Refusals.{refusal_by, refusal_number, refusal_word, refusal_line, refusal_name};
 
-use el_base::{Label, Memory, Name};
-use std::error::Error;
-use std::fmt;
+use el_base::{Memory, Name};
+use thiserror::Error;
 
 /// Why bytes are no text of inputs.
-#[derive(Debug, Drop)]
+#[derive(Debug, Drop, Error)]
 pub enum InputRefusal {
     /// The line of this number, from 1, has not the form `NAME = n n ..`.
+    #[error("line {number} is not of the form `NAME = n n ..`")]
     Line { number: u32 },
     /// No scalar or array has the name of this line.
+    #[error("line {number} names no input")]
     Unknown { number: u32 },
     /// An earlier line has the name of this one.
+    #[error("line {number} has the name of an earlier line")]
     Twice { number: u32 },
     /// No line has this name.
+    #[error("no line has the name of an input")]
     Missing { name: Name },
     /// This line has more numbers or fewer than its name asks for.
+    #[error("line {number} has another number of values than its name asks for")]
     Count { number: u32 },
     /// A number of this line is outside the type of its name.
+    #[error("a value of line {number} is outside the type of its name")]
     Range { number: u32 },
     /// Memory ran out.
+    #[error("out of memory")]
     Memory,
 }
 
@@ -84,24 +90,6 @@ impl InputRefusal {
         }
     }
 }
-
-/// The number and the word, as `50 Line`.
-impl fmt::Display for InputRefusal {
-    ghost use Rattle.std.specs.Prelude.{Some};
-    ghost use Rattle.inputs_text.specs.Refusals.{refusal_text};
-
-    ghost output = { λ refusal. Some (refusal_text refusal) };
-
-    fn fmt<W: fmt::Write>(&self, f: &mut fmt::Formatter<W>) -> fmt::Result {
-        let label = Label {
-            number: self.number(),
-            word: self.word(),
-        };
-        write!(f, "{label}")
-    }
-}
-
-impl Error for InputRefusal {}
 
 impl From<Memory> for InputRefusal {
     ghost use Rattle.inputs_text.specs.declared.refusal.InputRefusal.TheVariants as refusal;

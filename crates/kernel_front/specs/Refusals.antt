@@ -1,6 +1,5 @@
 -- The number, the word and the place by which refusals of kernels are printed, each by the table of the lexer, of the parser, of the type checker or of the maker of trees without calls.
 use Rattle.std.specs.Prelude.{ℕ, List, Option, None, codes}
-use Rattle.el_base.specs.Labels.{printed}
 use Rattle.el_base.specs.declared.span.Span.{Span}
 use Rattle.c_lex.specs.Refusals as lexer
 use Rattle.c_lex.specs.declared.refusal.LexRefusal.{LexRefusal}
@@ -39,10 +38,6 @@ refusal_span (refusal.Parse e) = parser.refusal_span e
 refusal_span (refusal.Types e) = checker.span_of e
 refusal_span (refusal.Inline e) = inliner.refusal_span e
 refusal_span refusal.Memory = None
-
--- what is printed: the number, a space (32) and the word
-abbrev pub refusal_text : KernelRefusal → List ℕ
-refusal_text r = printed (refusal_number r) (refusal_word r)
 
 -- ---- the refusal of a kernel whose text, tokens, program or tree without calls are refused so; want of memory is the same everywhere
 

@@ -6,23 +6,27 @@ use c_inline::InlineRefusal;
 use c_lex::LexRefusal;
 use c_parse::ParseRefusal;
 use c_types::TypeRefusal;
-use el_base::{Label, Memory, Span};
-use std::error::Error;
-use std::fmt;
+use el_base::{Memory, Span};
+use thiserror::Error;
 
 /// Why the bytes of a kernel have no typed tree: what the first of lexer, parser, type checker and
 /// inliner to refuse it says. Want of memory is [`KernelRefusal::Memory`] whichever of them wanted it.
-#[derive(Debug, Drop)]
+#[derive(Debug, Drop, Error)]
 pub enum KernelRefusal {
     /// The text has no tokens.
+    #[error(transparent)]
     Lex(LexRefusal),
     /// Its tokens have no program.
+    #[error(transparent)]
     Parse(ParseRefusal),
     /// Its program has no typed program.
+    #[error(transparent)]
     Types(TypeRefusal),
     /// Its typed program has no tree without calls that is small enough.
+    #[error(transparent)]
     Inline(InlineRefusal),
     /// Memory ran out.
+    #[error("out of memory")]
     Memory,
 }
 
@@ -67,24 +71,6 @@ impl KernelRefusal {
         }
     }
 }
-
-/// The number and the word, as `10 Unexpected`.
-impl fmt::Display for KernelRefusal {
-    ghost use Rattle.std.specs.Prelude.{Some};
-    ghost use Rattle.kernel_front.specs.Refusals.{refusal_text};
-
-    ghost output = { λ refusal. Some (refusal_text refusal) };
-
-    fn fmt<W: fmt::Write>(&self, f: &mut fmt::Formatter<W>) -> fmt::Result {
-        let label = Label {
-            number: self.number(),
-            word: self.word(),
-        };
-        write!(f, "{label}")
-    }
-}
-
-impl Error for KernelRefusal {}
 
 impl From<Memory> for KernelRefusal {
     ghost use Rattle.kernel_front.specs.declared.refusal.KernelRefusal.TheVariants as refusal;

@@ -26,3 +26,4 @@ pub mod LawLemmas
 pub mod TimeLemmas
 pub mod ChangeLemmas
 pub mod PinLemmas
+pub mod CountLemmas

@@ -1,7 +1,6 @@
 -- Refusals of nets: the first rule that a net breaks, and a refusal's number, word and place.
 use Rattle.std.specs.Prelude.{◌≡◌, ℕ, ◌+◌, ◌==◌, cond, Option, Some, None, List, ◌∷◌, ◌++◌, codes}
 use Rattle.std.specs.List.{All}
-use Rattle.el_base.specs.Labels.{printed}
 use Rattle.net_types.specs.declared.net.Net.{Net}
 use Rattle.net_check.specs.declared.refusal.At.{At}
 use Rattle.net_check.specs.declared.refusal.NetRefusal.{NetRefusal}
@@ -48,10 +47,6 @@ rule_word n =
 abbrev pub refusal_word : NetRefusal → List ℕ
 refusal_word (Rule number x) = rule_word number
 refusal_word Memory = codes "Memory"
-
--- what is printed of a refusal: its number, a space (32) and its word
-abbrev pub refusal_text : NetRefusal → List ℕ
-refusal_text r = printed (refusal_number r) (refusal_word r)
 
 -- what the rule names
 abbrev pub refusal_at : NetRefusal → Option At

@@ -3,10 +3,8 @@ ghost use Rattle.std.specs.Prelude.{◌≡◌, ◌+◌, ◌^◌, ◌<◌};
 ghost use Rattle.net_check.specs.Refusals.{refusal_number, refusal_word, refusal_at, rule_word};
 ghost use Rattle.net_check.specs.private.Rules.{rule_number};
 
-use el_base::Label;
 use net_types::Memory;
-use std::error::Error;
-use std::fmt;
+use thiserror::Error;
 
 /// What a broken rule names: a unit or a channel, by its number, or the net as a whole.
 #[derive(Clone, Copy, Debug, PartialEq, Eq)]
@@ -17,11 +15,13 @@ pub enum At {
 }
 
 /// Why a net is refused.
-#[derive(Clone, Copy, Debug, PartialEq, Eq)]
+#[derive(Clone, Copy, Debug, PartialEq, Eq, Error)]
 pub enum NetRefusal {
     /// The first broken rule, by its number from 30 for C1 to 37 for C8, and what it names.
+    #[error("the net breaks rule {word}", word = rule_word(*.rule))]
     Rule { rule: u32, at: At },
     /// Memory ran out.
+    #[error("out of memory")]
     Memory,
 }
 
@@ -56,24 +56,6 @@ impl NetRefusal {
         }
     }
 }
-
-/// The number and the word, as `33 C4`.
-impl fmt::Display for NetRefusal {
-    ghost use Rattle.std.specs.Prelude.{Some};
-    ghost use Rattle.net_check.specs.Refusals.{refusal_text};
-
-    ghost output = { λ refusal. Some (refusal_text refusal) };
-
-    fn fmt<W: fmt::Write>(&self, f: &mut fmt::Formatter<W>) -> fmt::Result {
-        let label = Label {
-            number: self.number(),
-            word: self.word(),
-        };
-        write!(f, "{label}")
-    }
-}
-
-impl Error for NetRefusal {}
 
 impl From<Memory> for NetRefusal {
     ghost use Rattle.net_check.specs.declared.refusal.NetRefusal.TheVariants as refusal;

@@ -1,4 +1,3 @@
-pub mod CountLemmas
 pub mod PathLemmas
 pub mod FollowLemmas
 pub mod WayLemmas

@@ -1,6 +1,5 @@
 -- How faults of runs are printed.
 use Rattle.std.specs.Prelude.{ℕ, List, codes, Option, Some, None}
-use Rattle.el_base.specs.Labels.{printed}
 use Rattle.net_replay.specs.declared.fault.ReplayFault.{ReplayFault}
 use Rattle.net_replay.specs.declared.fault.ReplayFault.TheVariants as replays
 use Rattle.net_replay.specs.declared.fault.RunFault.{RunFault}
@@ -46,10 +45,3 @@ array_of (runs.Limit n) = None
 array_of runs.Stuck = None
 array_of (runs.Stray a) = Some a
 array_of runs.Memory = None
-
--- what is printed of a fault: the number, a space (32) and the word
-abbrev pub replay_text : ReplayFault → List ℕ
-replay_text f = printed (replay_number f) (replay_word f)
-
-abbrev pub run_text : RunFault → List ℕ
-run_text f = printed (run_number f) (run_word f)

@@ -1,7 +1,6 @@
 -- What each answer of the reader of schedules says of the bytes.
 use Rattle.std.specs.Prelude.{◌≡◌, ◌≢◌, ◌⊎◌, ℕ, ◌+◌, ◌<◌, List, ◌++◌, length, codes, Option, Some, None, Result, Ok, Err}
 use Rattle.std.specs.List.{All}
-use Rattle.el_base.specs.Labels.{printed}
 use Rattle.net_types.specs.declared.firing.Firing.{Firing}
 use Rattle.net_replay.specs.declared.schedule_refusal.ScheduleRefusal.{ScheduleRefusal}
 use Rattle.net_replay.specs.declared.schedule_refusal.ScheduleRefusal.TheVariants.{Line, Memory}
@@ -19,10 +18,6 @@ refusal_word Memory = codes "Memory"
 abbrev pub refusal_line : ScheduleRefusal → Option ℕ
 refusal_line (Line n) = Some n
 refusal_line Memory = None
-
--- what is printed of a refusal: the number, a space (32) and the word
-abbrev pub refusal_text : ScheduleRefusal → List ℕ
-refusal_text r = printed (refusal_number r) (refusal_word r)
 
 -- the lines before that number, from 1, are firings', and what follows is not empty and begins with no firing's line;
 -- so the line of that number spells no firing, or has no line feed

@@ -1,30 +1,34 @@
 ghost use Rattle.std.specs.Prelude.{◌≡◌};
 ghost use Rattle.net_replay.specs.Faults.{array_of, index_of, limit_of, replay_number, replay_word, run_number, run_word};
 
-use el_base::Label;
 use net_types::Memory;
-use std::error::Error;
-use std::fmt;
+use thiserror::Error;
 
 /// Why a list of firings has no run.
-#[derive(Clone, Copy, Debug, PartialEq, Eq)]
+#[derive(Clone, Copy, Debug, PartialEq, Eq, Error)]
 pub enum ReplayFault {
     /// The firings before the one of this number, from 0, are enabled in turn, and that one is not enabled after them.
+    #[error("firing {index}, counted from 0, is not enabled after those before it")]
     NotEnabled { index: u64 },
     /// Memory ran out.
+    #[error("out of memory")]
     Memory,
 }
 
 /// What is wrong with a run.
-#[derive(Clone, Copy, Debug, PartialEq, Eq)]
+#[derive(Clone, Copy, Debug, PartialEq, Eq, Error)]
 pub enum RunFault {
     /// As many firings as the limit allows are made, and one is enabled.
+    #[error("a firing is enabled after {limit} firings, as many as the limit allows")]
     Limit { limit: u64 },
     /// No firing is enabled, and the exit has not fired.
+    #[error("no firing is enabled, and the exit has not fired")]
     Stuck,
     /// The exit has fired, and an address lay past this array, the first such in header order.
+    #[error("an address lay past array {array} of the header, counted from 0")]
     Stray { array: u32 },
     /// Memory ran out.
+    #[error("out of memory")]
     Memory,
 }
 
@@ -106,24 +110,6 @@ impl RunFault {
     }
 }
 
-/// The number and the word, as `61 NotEnabled`.
-impl fmt::Display for ReplayFault {
-    ghost use Rattle.std.specs.Prelude.{Some};
-    ghost use Rattle.net_replay.specs.Faults.{replay_text};
-
-    ghost output = { λ fault. Some (replay_text fault) };
-
-    fn fmt<W: fmt::Write>(&self, f: &mut fmt::Formatter<W>) -> fmt::Result {
-        let label = Label {
-            number: self.number(),
-            word: self.word(),
-        };
-        write!(f, "{label}")
-    }
-}
-
-impl Error for ReplayFault {}
-
 impl From<Memory> for ReplayFault {
     ghost use Rattle.net_replay.specs.declared.fault.ReplayFault.TheVariants as fault;
 
@@ -133,24 +119,6 @@ impl From<Memory> for ReplayFault {
         ReplayFault::Memory
     }
 }
-
-/// The number and the word, as `71 Stuck`.
-impl fmt::Display for RunFault {
-    ghost use Rattle.std.specs.Prelude.{Some};
-    ghost use Rattle.net_replay.specs.Faults.{run_text};
-
-    ghost output = { λ fault. Some (run_text fault) };
-
-    fn fmt<W: fmt::Write>(&self, f: &mut fmt::Formatter<W>) -> fmt::Result {
-        let label = Label {
-            number: self.number(),
-            word: self.word(),
-        };
-        write!(f, "{label}")
-    }
-}
-
-impl Error for RunFault {}
 
 impl From<Memory> for RunFault {
     ghost use Rattle.net_replay.specs.declared.fault.RunFault.TheVariants as fault;

@@ -1,17 +1,17 @@
 ghost use Rattle.std.specs.Prelude.{◌≡◌};
 ghost use Rattle.net_replay.specs.Readings.{refusal_line, refusal_number, refusal_word};
 
-use el_base::Label;
 use net_types::Memory;
-use std::error::Error;
-use std::fmt;
+use thiserror::Error;
 
 /// Why bytes are no schedule.
-#[derive(Clone, Copy, Debug, PartialEq, Eq)]
+#[derive(Clone, Copy, Debug, PartialEq, Eq, Error)]
 pub enum ScheduleRefusal {
     /// The line of this number, from 1, is the first that spells no firing.
+    #[error("line {number} of the schedule is not of the form of a firing")]
     Line { number: u32 },
     /// Memory ran out.
+    #[error("out of memory")]
     Memory,
 }
 
@@ -46,24 +46,6 @@ impl ScheduleRefusal {
         }
     }
 }
-
-/// The number and the word, as `60 Line`.
-impl fmt::Display for ScheduleRefusal {
-    ghost use Rattle.std.specs.Prelude.{Some};
-    ghost use Rattle.net_replay.specs.Readings.{refusal_text};
-
-    ghost output = { λ refusal. Some (refusal_text refusal) };
-
-    fn fmt<W: fmt::Write>(&self, f: &mut fmt::Formatter<W>) -> fmt::Result {
-        let label = Label {
-            number: self.number(),
-            word: self.word(),
-        };
-        write!(f, "{label}")
-    }
-}
-
-impl Error for ScheduleRefusal {}
 
 impl From<Memory> for ScheduleRefusal {
     ghost use Rattle.net_replay.specs.declared.schedule_refusal.ScheduleRefusal.TheVariants as refusal;

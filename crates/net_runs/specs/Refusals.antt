@@ -1,6 +1,5 @@
 -- The number and the word by which refusals of runs are printed: those of the reader of inputs, of the reader of schedules, of replays and of runs.
 use Rattle.std.specs.Prelude.{ℕ, List, codes, Option, None}
-use Rattle.el_base.specs.Labels.{printed}
 use Rattle.inputs_text.specs.Refusals.{refusal_number as input_number, refusal_word as input_word}
 use Rattle.net_replay.specs.Readings.{refusal_number as schedule_number, refusal_word as schedule_word}
 use Rattle.net_replay.specs.Faults.{replay_number, replay_word, run_number, run_word}
@@ -27,7 +26,3 @@ run_refusal_word (refusal.Limit n) = run_word (runs.Limit n)
 run_refusal_word refusal.Stuck = run_word runs.Stuck
 run_refusal_word (refusal.Stray array name) = run_word (runs.Stray array)
 run_refusal_word refusal.Memory = codes "Memory"
-
--- what is printed: the number, a space (32) and the word
-abbrev pub run_refusal_text : RunRefusal → List ℕ
-run_refusal_text r = printed (run_refusal_number r) (run_refusal_word r)

@@ -1,6 +1,5 @@
 -- The number and the word by which refusals to go on from a saved state are printed: those of the reader of snapshots and of runs.
 use Rattle.std.specs.Prelude.{ℕ, List, codes, Option, None}
-use Rattle.el_base.specs.Labels.{printed}
 use Rattle.snapshot.specs.Refusals.{refusal_number as snapshot_number, refusal_word as snapshot_word}
 use Rattle.net_replay.specs.Faults.{run_number, run_word}
 use Rattle.net_replay.specs.declared.fault.RunFault.TheVariants as runs
@@ -21,7 +20,3 @@ resume_refusal_word (refusal.Limit n) = run_word (runs.Limit n)
 resume_refusal_word refusal.Stuck = run_word runs.Stuck
 resume_refusal_word (refusal.Stray array name) = run_word (runs.Stray array)
 resume_refusal_word refusal.Memory = codes "Memory"
-
--- what is printed: the number, a space (32) and the word
-abbrev pub resume_refusal_text : ResumeRefusal → List ℕ
-resume_refusal_text r = printed (resume_refusal_number r) (resume_refusal_word r)

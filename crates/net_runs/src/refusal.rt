@@ -1,28 +1,34 @@
 ghost use Rattle.std.specs.Prelude.{◌≡◌};
 ghost use Rattle.net_runs.specs.Refusals.{run_refusal_number, run_refusal_word};
 
-use el_base::{Label, Memory, Name};
+use el_base::{Memory, Name};
 use inputs_text::InputRefusal;
 use net_replay::{ReplayFault, RunFault, ScheduleRefusal};
-use std::error::Error;
-use std::fmt;
+use thiserror::Error;
 
 /// Why a run of a checked net has no text.
-#[derive(Debug, Drop)]
+#[derive(Debug, Drop, Error)]
 pub enum RunRefusal {
     /// The bytes are no text of inputs of the net.
+    #[error(transparent)]
     Inputs(InputRefusal),
     /// The bytes are no schedule.
+    #[error(transparent)]
     Schedule(ScheduleRefusal),
     /// The firing of this number, from 0, is not enabled after those before it.
+    #[error("firing {index}, counted from 0, is not enabled after those before it")]
     NotEnabled { index: u64 },
     /// There are runs of more firings than this limit.
+    #[error("there are runs of more than {limit} firings")]
     Limit { limit: u64 },
     /// At rest the exit has not fired.
+    #[error("no firing is enabled, and the exit has not fired")]
     Stuck,
     /// At rest the exit has fired, and an address lay past this array, the first such of the header, of this name.
+    #[error("an address lay past array {array} of the header, counted from 0")]
     Stray { array: u32, name: Name },
     /// Memory ran out.
+    #[error("out of memory")]
     Memory,
 }
 
@@ -58,24 +64,6 @@ impl RunRefusal {
         }
     }
 }
-
-/// The number and the word, as `70 Limit`.
-impl fmt::Display for RunRefusal {
-    ghost use Rattle.std.specs.Prelude.{Some};
-    ghost use Rattle.net_runs.specs.Refusals.{run_refusal_text};
-
-    ghost output = { λ refusal. Some (run_refusal_text refusal) };
-
-    fn fmt<W: fmt::Write>(&self, f: &mut fmt::Formatter<W>) -> fmt::Result {
-        let label = Label {
-            number: self.number(),
-            word: self.word(),
-        };
-        write!(f, "{label}")
-    }
-}
-
-impl Error for RunRefusal {}
 
 impl From<Memory> for RunRefusal {
     ghost use Rattle.net_runs.specs.declared.refusal.RunRefusal.TheVariants as refusal;

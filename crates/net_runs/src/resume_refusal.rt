@@ -1,24 +1,28 @@
 ghost use Rattle.std.specs.Prelude.{◌≡◌};
 ghost use Rattle.net_runs.specs.ResumeRefusals.{resume_refusal_number, resume_refusal_word};
 
-use el_base::{Label, Memory, Name};
+use el_base::{Memory, Name};
 use net_replay::RunFault;
 use snapshot::SnapRefusal;
-use std::error::Error;
-use std::fmt;
+use thiserror::Error;
 
 /// Why what a saved state of a checked net comes to has no text.
-#[derive(Debug, Drop)]
+#[derive(Debug, Drop, Error)]
 pub enum ResumeRefusal {
     /// The bytes are no text of a state of the net that may be saved.
+    #[error(transparent)]
     Snapshot(SnapRefusal),
     /// More firings than this limit were made, or as many lead on to a state in which one is enabled.
+    #[error("the saved state leads to more than {limit} firings")]
     Limit { limit: u64 },
     /// At rest the exit has not fired.
+    #[error("no firing is enabled, and the exit has not fired")]
     Stuck,
     /// At rest the exit has fired, and an address lay past this array, the first such of the header, of this name.
+    #[error("an address lay past array {array} of the header, counted from 0")]
     Stray { array: u32, name: Name },
     /// Memory ran out.
+    #[error("out of memory")]
     Memory,
 }
 
@@ -49,24 +53,6 @@ impl ResumeRefusal {
         }
     }
 }
-
-/// The number and the word, as `70 Limit`.
-impl fmt::Display for ResumeRefusal {
-    ghost use Rattle.std.specs.Prelude.{Some};
-    ghost use Rattle.net_runs.specs.ResumeRefusals.{resume_refusal_text};
-
-    ghost output = { λ refusal. Some (resume_refusal_text refusal) };
-
-    fn fmt<W: fmt::Write>(&self, f: &mut fmt::Formatter<W>) -> fmt::Result {
-        let label = Label {
-            number: self.number(),
-            word: self.word(),
-        };
-        write!(f, "{label}")
-    }
-}
-
-impl Error for ResumeRefusal {}
 
 impl From<Memory> for ResumeRefusal {
     ghost use Rattle.net_runs.specs.declared.resume_refusal.ResumeRefusal.TheVariants as refusal;

@@ -1,7 +1,6 @@
 -- What each answer of the reader says of the bytes.
 use Rattle.std.specs.Prelude.{◌≡◌, ◌≢◌, ◌⊎◌, ℕ, ◌+◌, ◌<◌, List, [], ◌∷◌, ◌++◌, length, codes, Option, Some, None, Result, Ok, Err}
 use Rattle.std.specs.List.{All}
-use Rattle.el_base.specs.Labels.{printed}
 use Rattle.net_types.specs.declared.net.Net.{Net}
 use Rattle.net_text.specs.declared.refusal.TextRefusal.{TextRefusal}
 use Rattle.net_text.specs.declared.refusal.TextRefusal.TheVariants as refusal
@@ -30,10 +29,6 @@ refusal_line (refusal.Line n) = Some n
 refusal_line refusal.Ends = None
 refusal_line refusal.Version = None
 refusal_line refusal.Memory = None
-
--- what is printed of a refusal: the number, a space (32) and the word
-abbrev pub refusal_text : TextRefusal → List ℕ
-refusal_text r = printed (refusal_number r) (refusal_word r)
 
 -- lines begin the text of some net in some version; a text's first line names its version
 pub record Begins (ls : List (List ℕ)) : Type 0 where

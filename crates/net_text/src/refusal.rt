@@ -1,21 +1,23 @@
 ghost use Rattle.std.specs.Prelude.{◌≡◌};
 ghost use Rattle.net_text.specs.Refusals.{refusal_number, refusal_word, refusal_line};
 
-use el_base::Label;
 use net_types::Memory;
-use std::error::Error;
-use std::fmt;
+use thiserror::Error;
 
 /// Why bytes are not the text of a net.
-#[derive(Clone, Copy, Debug, PartialEq, Eq)]
+#[derive(Clone, Copy, Debug, PartialEq, Eq, Error)]
 pub enum TextRefusal {
     /// The complete line of this number, from 1, is the first that may not stand where it stands, or is after `end`.
+    #[error("line {number} may not stand here in the text of a net")]
     Line { number: u32 },
     /// The text ends before the complete line `end`.
+    #[error("the text of the net ends before the line `end`")]
     Ends,
     /// The first line names a version other than 1 and 2.
+    #[error("the first line names a version that is not known")]
     Version,
     /// Memory ran out.
+    #[error("out of memory")]
     Memory,
 }
 
@@ -54,24 +56,6 @@ impl TextRefusal {
         }
     }
 }
-
-/// The number and the word, as `40 Line`.
-impl fmt::Display for TextRefusal {
-    ghost use Rattle.std.specs.Prelude.{Some};
-    ghost use Rattle.net_text.specs.Refusals.{refusal_text};
-
-    ghost output = { λ refusal. Some (refusal_text refusal) };
-
-    fn fmt<W: fmt::Write>(&self, f: &mut fmt::Formatter<W>) -> fmt::Result {
-        let label = Label {
-            number: self.number(),
-            word: self.word(),
-        };
-        write!(f, "{label}")
-    }
-}
-
-impl Error for TextRefusal {}
 
 impl From<Memory> for TextRefusal {
     ghost use Rattle.net_text.specs.declared.refusal.TextRefusal.TheVariants as refusal;

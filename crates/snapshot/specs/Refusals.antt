@@ -1,7 +1,6 @@
 -- What each answer of the reader says of the bytes.
 use Rattle.std.specs.Prelude.{◌≡◌, ◌≢◌, ◌⊎◌, ℕ, ◌+◌, ◌<◌, ◌≤◌, List, [], ◌∷◌, ◌++◌, length, codes, Option, Some, None, Result, Ok, Err}
 use Rattle.std.specs.List.{All}
-use Rattle.el_base.specs.Labels.{printed}
 use Rattle.el_base.specs.Limits.{max_firings}
 use Rattle.net_types.specs.declared.net.Net.{Net}
 use Rattle.net_text.specs.Bodies.{Complete, text_of}
@@ -26,10 +25,6 @@ abbrev pub refusal_line : SnapRefusal → Option ℕ
 refusal_line (refusal.Line n) = Some n
 refusal_line refusal.Ends = None
 refusal_line refusal.Memory = None
-
--- what is printed of a refusal: the number, a space (32) and the word
-abbrev pub refusal_text : SnapRefusal → List ℕ
-refusal_text r = printed (refusal_number r) (refusal_word r)
 
 -- what may be saved of a net
 pub record MaySave (net : Net) (s : Saved) : Type 0 where

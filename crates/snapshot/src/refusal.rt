@@ -1,18 +1,20 @@
 ghost use Rattle.std.specs.Prelude.{◌≡◌};
 ghost use Rattle.snapshot.specs.Refusals.{refusal_number, refusal_word, refusal_line};
 
-use el_base::{Label, Memory};
-use std::error::Error;
-use std::fmt;
+use el_base::Memory;
+use thiserror::Error;
 
 /// Why bytes are not the text of a state of a net.
-#[derive(Clone, Copy, Debug, PartialEq, Eq)]
+#[derive(Clone, Copy, Debug, PartialEq, Eq, Error)]
 pub enum SnapRefusal {
     /// The complete line of this number, from 1, is the first that may not stand after the lines before it, or is after `end`.
+    #[error("line {number} may not stand here in the text of a saved state")]
     Line { number: u32 },
     /// The text ends before the complete line `end`.
+    #[error("the text of the saved state ends before the line `end`")]
     Ends,
     /// Memory ran out.
+    #[error("out of memory")]
     Memory,
 }
 
@@ -49,24 +51,6 @@ impl SnapRefusal {
         }
     }
 }
-
-/// The number and the word, as `90 Line`.
-impl fmt::Display for SnapRefusal {
-    ghost use Rattle.std.specs.Prelude.{Some};
-    ghost use Rattle.snapshot.specs.Refusals.{refusal_text};
-
-    ghost output = { λ refusal. Some (refusal_text refusal) };
-
-    fn fmt<W: fmt::Write>(&self, f: &mut fmt::Formatter<W>) -> fmt::Result {
-        let label = Label {
-            number: self.number(),
-            word: self.word(),
-        };
-        write!(f, "{label}")
-    }
-}
-
-impl Error for SnapRefusal {}
 
 impl From<Memory> for SnapRefusal {
     ghost use Rattle.snapshot.specs.declared.refusal.SnapRefusal.TheVariants as refusal;

@@ -1,6 +1,6 @@
 use Rattle.std.proofs.Common.{◌<◌, ◌∙◌, ap, length, arith}
 use Rattle.net_types.specs.declared.net.Net.{Net}
-use Rattle.net_replay.proofs.CountLemmas.{few_arrays}
+use Rattle.net_check.proofs.CountLemmas.{few_arrays}
 use Rattle.net_replay.proofs.judging.first_stray.Goals as goal
 
 pub overflow_cast-array : goal.overflow_cast-array

@@ -1,7 +1,7 @@
 use Rattle.std.proofs.Common.{◌≡◌, ◌<◌, ◌+◌, ◌∷◌, [], ◌∙◌, ap, length, get_or, length-append, arith}
 use Rattle.net_types.specs.declared.net.Net.{Net}
 use Rattle.net_core.specs.States.{elements_at, state_of}
-use Rattle.net_replay.proofs.CountLemmas.{few_arrays}
+use Rattle.net_check.proofs.CountLemmas.{few_arrays}
 use Rattle.net_runs.proofs.ElementLemmas.{one_more}
 use Rattle.net_runs.proofs.results.elements_of.Goals as goal
 
