@@ -1,10 +1,12 @@
-# demo: the main job in about a minute on a fresh machine, without the proofs.
-# go: compiles your own kernel to a circuit and runs it on your inputs, without the proofs: make go KERNEL=my.c INPUTS=my.txt
-# compile: the circuit of your own kernel alone, without the proofs: make compile KERNEL=my.c
-# ref: your own kernel and inputs, run as C, without the proofs: make ref KERNEL=my.c INPUTS=my.txt
-#   After a refusal go, compile, ref and run say in words why, and what to write instead (tools/explain.py). The unproved
-#   program makes tens of thousands of firings a second (the proved one some millions); SECONDS, 600 by default, is the time it has.
-# run: a netlist and inputs of your own, without the proofs: make run NETLIST=my.net INPUTS=my.txt
+# try: makes the program before its proofs, in 2 to 4 minutes, where none is there for the sources as they are: .try/elastic.
+#   The next five targets take the program that make build left for these sources, else that of make try, which they make first.
+#   They say where it is not the proved one, and after a refusal in words why, and what to write instead (tools/explain.py).
+# demo: the main job, on the example of README.md.
+# go: compiles your own kernel to a circuit and runs it on your inputs: make go KERNEL=my.c INPUTS=my.txt
+# compile: the circuit of your own kernel alone: make compile KERNEL=my.c
+# ref: your own kernel and inputs, run as C: make ref KERNEL=my.c INPUTS=my.txt
+# run: a netlist and inputs of your own: make run NETLIST=my.net INPUTS=my.txt
+# install: copies that program, the manual page and the completions below ~/.local; PREFIX=FOLDER is another place.
 # build: proves the program and all below it, and leaves it as crates/elastic/out/elastic. From nothing this takes
 #   most of the gate's time (docs/PROVED.md); what an earlier run proved on this machine is not proved again.
 # examples: builds the program, runs the kernels of examples/ by it, by go and by ref, compares with their results, and tells
@@ -20,7 +22,9 @@
 #   that tools/map.py counts (tools/map.py counted --write puts these right).
 # help: these lines.
 # memory: lists the places that answer want of memory where no allocation has failed, and compares them with docs/PROVED.md.
-# bench: times the proved programs: compiling kernels of 1,024 nodes, and how many firings and cycles four kernels take;
+# bench: times parts of the compiler and of runs, by the program benches, which tools/benches.py makes before its proofs in 2 to 4
+#   minutes, and compares with what is kept; PROVED=1 proves it, and the program, first. It is no part of the gate. It times
+#   compiling kernels of 1,024 nodes, and how many firings and cycles four kernels take;
 #   reading texts of 65,536 bytes, a million acts on queues of depths 16, 128 and 1,024, buffer placement on nets of up to
 #   a million channels, reading and printing inputs of 2^20 elements, live variables and block arguments of 32,768 blocks
 #   and 1,000 variables, circuits of block graphs of sizes up to a million, the plain interpreter on a loop of 120 million
@@ -31,14 +35,14 @@
 #   It tells what a firing by cycles takes on five nets, in instructions where valgrind is there, and in nanoseconds. At last it
 #   counts instructions of some calls and compares them with docs/TIMES.md, where valgrind is there.
 #   With BEFORE=PROGRAM another build of benches is timed beside this one. BENCH_ACTS, BENCH_SIZE and the like give other sizes.
-# instructions: that count alone.
+# instructions: that count alone, of the same programs.
 # stack: reads long and deep kernel texts, and compiles and runs long chains of operators, with a stack of 1 MiB, and helpers
 #   that nest deepest with one of 4 MiB.
 # saves: saves a run of a million firings at each tenth and goes on from it by the proved program, and times large states.
 # load: runs the proved program on files at each limit and past it, on nets of a million units and on 2^20 elements.
 # fail-alloc: makes each allocation of some calls fail in turn (tools/failing/calls.tsv), and tells how many there are.
 
-.PHONY: demo go compile ref run build examples clients test wrong crews documents help memory bench instructions stack saves load fail-alloc
+.PHONY: try demo go compile ref run install build examples clients test wrong crews documents help memory bench instructions stack saves load fail-alloc
 
 KERNEL = examples/hist/kernel.c
 NETLIST = examples/net/net.txt
@@ -46,8 +50,10 @@ NETLIST = examples/net/net.txt
 OWN_KERNEL = $(filter-out file default,$(origin KERNEL))
 OWN_NETLIST = $(filter-out file default,$(origin NETLIST))
 INPUTS = $(if $(OWN_KERNEL),,examples/hist/inputs.txt)
-SECONDS = 600
+PREFIX = ~/.local
 PROGRAM = crates/elastic/out/elastic
+PROVED =
+BENCHES = .try/benches$(if $(PROVED),_proved)
 BEFORE =
 CRATE =
 SEED = 1
@@ -62,42 +68,41 @@ BENCH_ROUNDS = 20000000
 BENCH_FIRINGS = 20000000
 BENCH_TURNS = 300000
 
-UNPROVED = 'This build is not the proved one: it runs the program before its proofs.'
-
-# Runs the unproved program: tools/unproved.sh COMMAND FILE.. -- OPTION.. explains an error line after a refusal.
-TRIED = sh tools/unproved.sh --seconds $(SECONDS)
+# The program, made where it is not there; runs it, and explains an error line after a refusal: COMMAND FILE.. -- OPTION..
+ELASTIC = $$(python3 tools/program.py try)
+RUN = python3 tools/program.py run
 
 # Refuses a target whose file is not named.
 NAMED = test -n $(2) || { echo 'elastic: $@ takes $(1)=FILE' >&2; exit 1; }
 
+try:
+	@python3 tools/program.py try
+
 demo:
-	@echo $(UNPROVED)
-	@echo 'elastic go examples/hist/kernel.c examples/hist/inputs.txt --count --cycles prints:'
-	@cd crates/elastic && rt try --data k=../../examples/hist/kernel.c --data i=../../examples/hist/inputs.txt -- go k i --count --cycles
+	@echo 'elastic go examples/hist/kernel.c examples/hist/inputs.txt --count --cycles prints:' >&2
+	@$(RUN) go examples/hist/kernel.c examples/hist/inputs.txt -- --count --cycles
 
 go:
 	@$(call NAMED,INPUTS,"$(INPUTS)")
-	@echo $(UNPROVED)
-	@$(TRIED) go "$(KERNEL)" "$(INPUTS)" -- --count --cycles
+	@$(RUN) go "$(KERNEL)" "$(INPUTS)" -- --count --cycles
 
 compile:
-	@echo $(UNPROVED)
-	@$(TRIED) compile "$(KERNEL)" --
+	@$(RUN) compile "$(KERNEL)"
 
 ref:
 	@$(call NAMED,INPUTS,"$(INPUTS)")
-	@echo $(UNPROVED)
-	@$(TRIED) ref "$(KERNEL)" "$(INPUTS)" -- --count
+	@$(RUN) ref "$(KERNEL)" "$(INPUTS)" -- --count
 
 run: INPUTS = $(if $(OWN_NETLIST),,examples/net/inputs.txt)
 run:
 	@$(call NAMED,INPUTS,"$(INPUTS)")
-	@echo $(UNPROVED)
-	@$(TRIED) run "$(NETLIST)" "$(INPUTS)" -- --count --cycles
+	@$(RUN) run "$(NETLIST)" "$(INPUTS)" -- --count --cycles
 
 build:
-	cd crates/elastic && rt run -- go ../../examples/sum/kernel.c ../../examples/sum/inputs.txt
-	@echo 'The proved program is crates/elastic/out/elastic.'
+	@python3 tools/program.py build
+
+install:
+	@python3 tools/program.py install "$(PREFIX)"
 
 examples: build
 	@sh tools/examples.sh crates/elastic/out/elastic
@@ -130,25 +135,24 @@ help:
 memory:
 	@python3 tools/memories.py
 
-bench: build
-	@cd crates/benches && rt run -- compile ../../examples/fir/kernel.c 1
-	@sh tools/bench_compile.sh crates/benches/out/benches crates/elastic/out/elastic
-	@cd crates/benches && rt run -- front ../../examples/sum/kernel.c 1
-	@sh tools/bench_front.sh crates/benches/out/benches $(BEFORE)
-	@cd crates/benches && rt run -- queue $(BENCH_ACTS)
-	@cd crates/benches && rt run -- place $(BENCH_SIZE)
-	@sh tools/bench_inputs.sh crates/benches/out/benches
-	@cd crates/benches && rt run -- args $(BENCH_BLOCKS) $(BENCH_VARIABLES)
-	@cd crates/benches && rt run -- merge $(BENCH_BLOCKS)
-	@cd crates/benches && rt run -- build $(BENCH_SIZE)
-	@sh tools/bench_ref.sh crates/benches/out/benches $(BENCH_ROUNDS)
-	@sh tools/bench_core.sh crates/benches/out/benches examples/histogram/net.txt $(BENCH_FIRINGS)
-	@sh tools/bench_cycles.sh crates/benches/out/benches examples/histogram/net.txt $(BENCH_TURNS)
-	@tools/bench_firings.py crates/benches/out/benches $(PROGRAM)
-	@tools/bench_workers.py $(PROGRAM)
-	@python3 tools/instructions.py
+bench: $(if $(PROVED),build)
+	@tools/benches.py check
+	@sh tools/bench_compile.sh $(BENCHES) $(ELASTIC)
+	@sh tools/bench_front.sh $(BENCHES) $(BEFORE)
+	@$(BENCHES) queue $(BENCH_ACTS)
+	@$(BENCHES) place $(BENCH_SIZE)
+	@sh tools/bench_inputs.sh $(BENCHES)
+	@$(BENCHES) args $(BENCH_BLOCKS) $(BENCH_VARIABLES)
+	@$(BENCHES) merge $(BENCH_BLOCKS)
+	@$(BENCHES) build $(BENCH_SIZE)
+	@sh tools/bench_ref.sh $(BENCHES) $(BENCH_ROUNDS)
+	@sh tools/bench_core.sh $(BENCHES) examples/histogram/net.txt $(BENCH_FIRINGS)
+	@sh tools/bench_cycles.sh $(BENCHES) examples/histogram/net.txt $(BENCH_TURNS)
+	@tools/bench_firings.py $(BENCHES) $(ELASTIC)
+	@tools/bench_workers.py $(ELASTIC)
+	@python3 tools/instructions.py $(BENCHES) $(ELASTIC)
 
-instructions:
+instructions: $(if $(PROVED),build)
 	@python3 tools/instructions.py
 
 stack:

@@ -1,5 +1,5 @@
 #!/bin/sh
-# Times the compiler, by the proved program benches: kernels of about 1,024 nodes of four shapes, each the least of 10
+# Times the compiler, by the program benches (tools/benches.py makes it): kernels of about 1,024 nodes of four shapes, each the least of 10
 # times; beside it `cc -O0 -c` on the first of them, where cc is there. Then, by the program elastic, a table of four
 # examples: nodes, turns, units, channels, firings, cycles, and firings for each node and turn.
 set -eu

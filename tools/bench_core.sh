@@ -1,6 +1,6 @@
 #!/bin/sh
 # Times the core on the netlist of a histogram, examples/histogram: 20 million firings, or as many as the third word says, by
-# the plain runner, and as many by plain sweeps over the units, by the proved program benches; then as many by the plain
+# the plain runner, and as many by plain sweeps over the units, by the program benches; then as many by the plain
 # runner, and some by sweeps, where the loop stands among 1,000 and 10,000 idle ones. With GNU time it tells the most memory of
 # each process too. On a machine with other work, times are longer.
 set -eu

@@ -1,5 +1,5 @@
 #!/bin/sh
-# Times runs by cycles beside the plain runner, by the proved program benches: on a countdown of 13 units,
+# Times runs by cycles beside the plain runner, by the program benches: on a countdown of 13 units,
 # examples/countdown, with 300,000 turns or as many as the third word says; on the netlist of a histogram, examples/histogram,
 # with 32,768 turns; on that where the loop stands among 1,000, 10,000 and 500,000 idle ones of two units; and on a fork of
 # 16,384 and of 65,536 outputs into sinks, which all fire in one cycle; and on a queue of 25,000 and of 100,000 ports, each in a

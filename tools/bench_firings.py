@@ -3,7 +3,7 @@
 of `run_cycles` alone, its opening included, without reading and compiling; a run of `benches cycles` opens twice more, and these
 are counted too. It prints the table of docs/TIMES.md, which has the same numbers on every machine, and the times beside.
 
-usage: tools/bench_firings.py [BENCHES [PROGRAM]]   (the proved programs that `make bench` leaves, where none are named)"""
+usage: tools/bench_firings.py [BENCHES PROGRAM]   (those of tools/benches.py and of tools/program.py, where none are named)"""
 import pathlib
 import re
 import shutil
@@ -12,6 +12,8 @@ import sys
 import tempfile
 
 import bench_workers
+import benches
+import program
 
 TOP = pathlib.Path(__file__).resolve().parent.parent
 COUNTED = "--toggle-collect=cycle_engine::runs::run_cycles*"
@@ -31,7 +33,7 @@ def example(name):
     return (folder / "kernel.c").read_text(), (folder / "inputs.txt").read_text()
 
 
-def nets(folder, program):
+def nets(folder, elastic):
     """What each net is, and its files."""
     kernels = {
         "`hist`, arrays of 1,024 elements, 1,024 turns": histogram(),
@@ -42,39 +44,40 @@ def nets(folder, program):
     for number, (what, (kernel, inputs)) in enumerate(kernels.items()):
         (folder / f"{number}.c").write_text(kernel)
         (folder / f"{number}.in").write_text(inputs)
-        net = subprocess.run([program, "compile", f"{number}.c"], cwd=folder, capture_output=True, check=True).stdout
+        net = subprocess.run([elastic, "compile", f"{number}.c"], cwd=folder, capture_output=True, check=True).stdout
         (folder / f"{number}.net").write_bytes(net)
         yield what, [f"{number}.net", f"{number}.in"]
     (folder / "countdown.in").write_text("n = 2000\n")
     yield "`examples/countdown`, 2,000 turns", [str(TOP / "examples/countdown/net.txt"), "countdown.in"]
 
 
-def timed(benches, files, folder):
+def timed(made, files, folder):
     """How many firings the run by cycles has, and the nanoseconds of each."""
-    told = subprocess.run([benches, "cycles", *files], cwd=folder, capture_output=True, check=True, text=True).stdout
+    told = subprocess.run([made, "cycles", *files], cwd=folder, capture_output=True, check=True, text=True).stdout
     found = re.search(r"^cycles: (\d+) firings, ([\d.]+) ns each", told, re.MULTILINE)
     return int(found[1]), float(found[2])
 
 
-def counted(benches, files, folder):
+def counted(made, files, folder):
     """The instructions of the runs by cycles; None where they are not to be had."""
     if not shutil.which("valgrind"):
         return None
-    words = ["valgrind", "--tool=callgrind", "--callgrind-out-file=/dev/null", COUNTED, benches, "cycles", *files]
+    words = ["valgrind", "--tool=callgrind", "--callgrind-out-file=/dev/null", COUNTED, made, "cycles", *files]
     told = subprocess.run(words, cwd=folder, capture_output=True, text=True)
     found = re.search(r"Collected : (\d+)", told.stderr)
     return int(found[1]) if found and told.returncode == 0 else None
 
 
 def main():
-    named = [str(pathlib.Path(word).resolve()) for word in sys.argv[1:]]
-    benches, program = (*named, *(str(TOP / "crates" / name / "out" / name) for name in ("benches", "elastic")[len(named):]))
+    if len(sys.argv) not in (1, 3):
+        sys.exit(__doc__)
+    made, elastic = [pathlib.Path(word).resolve() for word in sys.argv[1:]] or (benches.benches(), program.chosen())
     print("| Net | Firings | Instructions | A firing | Nanoseconds |\n|---|---|---|---|---|")
     with tempfile.TemporaryDirectory() as name:
         folder = pathlib.Path(name)
-        for what, files in nets(folder, program):
-            firings, nanoseconds = timed(benches, files, folder)
-            count = counted(benches, files, folder)
+        for what, files in nets(folder, elastic):
+            firings, nanoseconds = timed(made, files, folder)
+            count = counted(made, files, folder)
             cells = [f"{count:,}", f"{count / firings:.0f}"] if count else ["not counted", "not counted"]
             print(f"| {what} | {firings:,} | {' | '.join(cells)} | {nanoseconds:.0f} |", flush=True)
 

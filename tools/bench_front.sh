@@ -1,5 +1,5 @@
 #!/bin/sh
-# Times lexing, and lexing with parsing, on texts of 65,536 bytes: milliseconds of the proved program benches, each
+# Times lexing, and lexing with parsing, on texts of 65,536 bytes: milliseconds of the program benches, each
 # the least of 40 runs in one process. A second program is timed beside the first, as one built before a change.
 set -eu
 folder=$(mktemp -d)

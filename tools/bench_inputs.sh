@@ -1,6 +1,6 @@
 #!/bin/sh
 # Times reading the inputs of one array of 2^20 elements of int32_t, and printing them: milliseconds and megabytes a second
-# of the proved program benches, the least of 10 runs in one process; beside it `wc -w` on the same file.
+# of the program benches, the least of 10 runs in one process; beside it `wc -w` on the same file.
 set -eu
 program=$1
 folder=$(mktemp -d)

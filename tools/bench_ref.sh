@@ -1,6 +1,6 @@
 #!/bin/sh
 # Times the plain interpreter on a loop of three statements, 20 million rounds and 120,000,006 turns, or so many rounds as the
-# second word says: millions of turns a second of the proved program benches, and its time; beside it the same kernel run
+# second word says: millions of turns a second of the program benches, and its time; beside it the same kernel run
 # natively, by `cc -O0`. Both print the result. On a machine with other work the user time is what tells.
 set -eu
 program=$1

@@ -1,11 +1,11 @@
 #!/usr/bin/env python3
-"""Counts the instructions of some calls of the proved programs by `valgrind --tool=callgrind`, which counts alike on every
-machine, and how often one of them writes, and compares them with the tables of docs/TIMES.md under the heading
-"Instructions". A call that takes more than a tenth more than the table says is an alarm, and then this fails. A body that
-only costs time breaks no clause and changes no row: this is what notices it. Writes are counted beside the instructions,
-since most of what they cost is spent in the system.
+"""Counts the instructions of some calls by `valgrind --tool=callgrind`, which counts alike on every machine, and how often one of
+them writes, and compares them with the tables of docs/TIMES.md under the heading "Instructions". A call that takes more than a
+tenth more than the table says is an alarm, and then this fails. A body that only costs time breaks no clause and changes no row:
+this is what notices it. Writes are counted beside the instructions, since most of what they cost is spent in the system.
 
-usage: tools/instructions.py   (at the top of the repository, after `make build` and the programs of `make bench`)"""
+usage: tools/instructions.py [BENCHES PROGRAM]   (at the top of the repository; those of tools/benches.py and of
+                                                  tools/program.py, where none are named)"""
 import pathlib
 import re
 import shutil
@@ -13,14 +13,13 @@ import subprocess
 import sys
 import tempfile
 
+import benches
+import program
+
 HEADING = "## Instructions"
 ELEMENTS = 65_536
 IDLE_LOOPS = 10_000
 PRINTING = f"printing {ELEMENTS:,} elements"
-
-
-def program(name):
-    return str(pathlib.Path("crates", name, "out", name).resolve())
 
 
 def with_idle_loops(net, loops):
@@ -47,8 +46,8 @@ def histogram_inputs(net, turns):
     return f"n = {turns}\nx = {values}\nh = {' '.join('0' * lengths['h'])}\n"
 
 
-def calls(folder):
-    """What each call tries, and its words."""
+def calls(folder, made, elastic):
+    """What each call of the programs benches and elastic tries, and its words."""
     histogram, loop = (pathlib.Path("examples", name, "net.txt").read_text() for name in ("histogram", "countdown"))
     files = {
         "copy.c": f"void f(int32_t a[{ELEMENTS}]) {{ }}\n",
@@ -64,12 +63,12 @@ def calls(folder):
         pathlib.Path(folder, name).write_text(text)
     net, countdown = (str(pathlib.Path("examples", name, "net.txt").resolve()) for name in ("histogram", "countdown"))
     return {
-        PRINTING: [program("elastic"), "ref", "copy.c", "elements"],
-        "placing buffers on some 20,000 channels": [program("benches"), "place", "20000"],
-        f"a histogram among {IDLE_LOOPS:,} idle loops, by cycles": [program("benches"), "cycles", "idle.net", "idle"],
-        "a countdown from 20,000, by cycles": [program("benches"), "cycles", countdown, "count"],
-        "a countdown from 6,000 with delays of 100, by cycles": [program("benches"), "cycles", "slow.net", "slow"],
-        "a histogram by the plain runner": [program("benches"), "core", net, "histogram", "28672", "1"],
+        PRINTING: [elastic, "ref", "copy.c", "elements"],
+        "placing buffers on some 20,000 channels": [made, "place", "20000"],
+        f"a histogram among {IDLE_LOOPS:,} idle loops, by cycles": [made, "cycles", "idle.net", "idle"],
+        "a countdown from 20,000, by cycles": [made, "cycles", countdown, "count"],
+        "a countdown from 6,000 with delays of 100, by cycles": [made, "cycles", "slow.net", "slow"],
+        "a histogram by the plain runner": [made, "core", net, "histogram", "28672", "1"],
     }
 
 
@@ -78,7 +77,7 @@ def instructions(words, folder):
     ran = subprocess.run(["valgrind", "--tool=callgrind", "--callgrind-out-file=/dev/null", *words], cwd=folder, capture_output=True, text=True)
     counted = re.search(r"Collected : (\d+)", ran.stderr)
     if ran.returncode or not counted:
-        sys.exit(f"{' '.join(words)} ended with {ran.returncode}:\n{ran.stderr}")
+        sys.exit(f"{' '.join(map(str, words))} ended with {ran.returncode}:\n{ran.stderr}")
     return int(counted.group(1))
 
 
@@ -86,30 +85,40 @@ def writes(words, folder):
     """How often the call writes to its output."""
     ran = subprocess.run(["valgrind", "--tool=none", "--trace-syscalls=yes", *words], cwd=folder, stdout=subprocess.DEVNULL, stderr=subprocess.PIPE, text=True)
     if ran.returncode:
-        sys.exit(f"{' '.join(words)} ended with {ran.returncode}")
+        sys.exit(f"{' '.join(map(str, words))} ended with {ran.returncode}")
     return ran.stderr.count("sys_write ( 1,")
 
 
 def told():
-    """The numbers of docs/TIMES.md, by call."""
+    """The numbers of docs/TIMES.md, by call, of proved programs and of those before their proofs."""
     section = pathlib.Path("docs/TIMES.md").read_text().partition(HEADING + "\n")[2].partition("\n## ")[0]
-    return {call: int(count.replace(",", "")) for call, count in re.findall(r"^\| (.+?) \| ([\d,]+) \|$", section, re.MULTILINE)}
+    rows = re.findall(r"^\| (.+?) \| ([\d,]+) \| ([\d,]+) \|$", section, re.MULTILINE)
+    return {call: [int(count.replace(",", "")) for count in counts] for call, *counts in rows}
+
+
+def is_unproved(made):
+    """Whether a program was made before its proofs."""
+    return made.parent == program.TRY and not made.name.endswith("_proved")
 
 
 def main():
+    if len(sys.argv) not in (1, 3):
+        sys.exit(__doc__)
     if not shutil.which("valgrind"):
         print("instructions are counted by valgrind, which is not here")
         return
+    named = [pathlib.Path(word).resolve() for word in sys.argv[1:]]
+    made, elastic = named or (benches.benches(), program.chosen())
     before, alarms = told(), []
     with tempfile.TemporaryDirectory() as folder:
-        tried = calls(folder)
+        tried = calls(folder, made, elastic)
         counts = [(call, instructions, words) for call, words in tried.items()]
         counts.append((f"{PRINTING}, writes", writes, tried[PRINTING]))
         print("| Call | Instructions |\n|---|---|")
         for call, counting, words in counts:
             count = counting(words, folder)
             print(f"| {call} | {count:,} |", flush=True)
-            if 10 * count > 11 * before.get(call, 0):
+            if 10 * count > 11 * before.get(call, [0, 0])[is_unproved(words[0])]:
                 alarms.append(call)
     if alarms:
         sys.exit(f"more than a tenth more than docs/TIMES.md says: {'; '.join(alarms)}")

@@ -229,7 +229,7 @@ def like(name):
     lower = re.sub(r"(?<=[a-z0-9])(?=[A-Z])", "_", name).lower()
     pattern = re.compile(rf"\b{name}\b|(?:\b|_){lower}(?:\b|_)")
     found = collections.defaultdict(list)
-    for file in tracked(".rt", ".antt", ".edit", ".py", ".sh"):
+    for file in tracked(".rt", ".antt", ".rt.txt", ".antt.txt", ".edit", ".py", ".sh"):
         times = len(pattern.findall(file.read_text(errors="replace")))
         if times:
             parts = file.relative_to(TOP).parts
