@@ -13,7 +13,7 @@ use Rattle.command_words.specs.declared.command.Chosen.{Chosen}
 use Rattle.command_words.specs.Tables.{Text, plain_of, verb_word, kind_of}
 use Rattle.command_words.specs.Values.{IsNumber, AreDelays}
 use Rattle.command_words.specs.Items.{Item, AreWritten, given}
-use Rattle.command_words.specs.Commands.{ArePlain, Asked, IsSeed, IsValue, IsFlag, AreChosen, ItemsSpell, Command}
+use Rattle.command_words.specs.Commands.{ArePlain, AreWords, Asked, IsSeed, IsValue, IsFlag, AreChosen, ItemsSpell, Command}
 use Rattle.command_words.proofs.Fronts.{written_once}
 use Rattle.command_words.proofs.DelayLemmas.{delays_once}
 
@@ -113,11 +113,17 @@ pub record IsReadOf (verb : Verb) (is : List Item) (c : Asked) : Type 0 where
 pub read_of : (ws rest : List Text) (w : Text) (verb : Verb) (is : List Item) (c : Asked) → ws ≡ w ∷ rest → ((v : Verb) → verb_word v ≡ w → v ≡ verb)
     → AreWritten verb is rest → Command ws c → IsReadOf verb is c
 read_of ws rest w verb is c split one written command =
+    let first : ws ≡ verb_word c.verb ∷ command.written.rest = command.written.first in
     let word : verb_word c.verb ≡ w = cc in
-    let after : command.rest ≡ rest = cc in
+    let after : command.written.rest ≡ rest = cc in
     let same : c.verb ≡ verb = one c.verb word in
-    let own : AreWritten verb command.items rest = subst (λ v. AreWritten v command.items rest) same (subst (AreWritten c.verb command.items) after command.written) in
+    let own : AreWritten verb command.items rest = subst (λ v. AreWritten v command.items rest) same (subst (AreWritten c.verb command.items) after command.written.after) in
     record { same = same; spelled = subst (λ items. ItemsSpell items c) (written_once verb command.items is rest own written) command.spelled }
+
+-- a command that the words spell is one of the items that they are
+pub spelled_by : (ws : List Text) (verb : Verb) (is : List Item) (c : Asked) → AreWords verb is ws → Command ws c → IsReadOf verb is c
+spelled_by ws verb is c words command =
+    read_of ws words.rest (verb_word verb) verb is c words.first (λ v e. one_verb v verb e) words.after command
 
 same_asked : (c d : Asked) → c.verb ≡ d.verb → c.plain ≡ d.plain → c.chosen ≡ d.chosen → c ≡ d
 same_asked c d verb plain chosen =
@@ -125,7 +131,7 @@ same_asked c d verb plain chosen =
 
 pub command_once : (ws : List Text) (c d : Asked) → Command ws c → Command ws d → c ≡ d
 command_once ws c d x y =
-    let read = read_of ws y.rest (verb_word d.verb) d.verb y.items c y.first (λ v e. one_verb v d.verb e) y.written x in
+    let read = spelled_by ws d.verb y.items c y.written x in
     let plain : c.plain ≡ d.plain = sym read.spelled.words ∙ y.spelled.words in
     let seed : c.chosen.seed ≡ d.chosen.seed =
     one_seed c.verb d.verb c.plain d.plain c.chosen.seed d.chosen.seed read.same plain read.spelled.seed y.spelled.seed in

@@ -1,4 +1,5 @@
 pub mod CommandLemmas
+pub mod ConfirmLemmas
 pub mod DelayLemmas
 pub mod Fronts
 pub mod ItemLemmas

@@ -1,6 +1,6 @@
 -- What one word adds to the items.
 use Rattle.std.proofs.Common.{◌≡◌, ◌≢◌, ℕ, suc, ◌+◌, ◌<◌, List, [], ◌∷◌, ◌++◌, map, length, take, drop, get_or, ◌-◌, refl, sym, ◌∙◌, ap, ap₂, subst, arith, append_assoc, append-nil, add-one, inl, inr, ◌⊎◌, ◌≤◌}
-use Rattle.std.specs.Prelude.{Bool, true, false, IsTrue, string_bytes}
+use Rattle.std.specs.Prelude.{false, IsTrue, string_bytes}
 use Rattle.std.specs.declared.string.String.{String}
 use Rattle.std.specs.declared.alloc.Global.{Global}
 use Rattle.std.proofs.Math.Seq.{drop-cons, take-length}
@@ -14,9 +14,9 @@ use Rattle.command_words.specs.declared.items.State.{State}
 use Rattle.command_words.specs.declared.items.State.TheVariants as state
 use Rattle.command_words.specs.Tables.{Text, choice_word, kind_of, is_own}
 use Rattle.command_words.specs.Items.{Item, plain, option, IsPlain, end_word, Begins, word, alone, apart, joined, AreWritten, done, more, ended}
-use Rattle.command_words.specs.Steps.{IsUnknown, TakesFirst, GoOn, HasRest, Moves, Reads}
+use Rattle.command_words.specs.Steps.{IsUnknown, HasRest, Moves, Reads}
 use Rattle.command_words.specs.Commands.{texts}
-use Rattle.command_words.proofs.Fronts.{Front, at, nothing, kind, single, has, ends, free, kind-plain, kind-word, kind-joined, single_front, has_front, begins_once, ends_options, use_front, value_front}
+use Rattle.command_words.proofs.Fronts.{at, nothing, kind, single, has, ends, free, kind-plain, kind-word, kind-joined, single_front, has_front, begins_once, ends_options, use_front, value_front}
 
 plain_not_end : (w : Text) → IsPlain w → w ≡ end_word → ⊥
 plain_not_end w p e = let f : free ≡ ends = sym (kind-plain w p) ∙ ap kind e in cc

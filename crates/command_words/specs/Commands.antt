@@ -1,5 +1,5 @@
 -- What the words of a command line spell.
-use Rattle.std.specs.Prelude.{◌≡◌, ◌≤◌, ◌<◌, ◌^◌, ℕ, Bool, true, false, List, [], ◌∷◌, map, length, get_or, Option, Some, None, IsTrue, string_bytes}
+use Rattle.std.specs.Prelude.{◌≡◌, ◌+◌, ◌≤◌, ◌<◌, ◌^◌, ℕ, Bool, true, false, List, [], ◌∷◌, map, length, get_or, Option, Some, None, string_bytes}
 use Rattle.std.specs.Borrow.{Bor}
 use Rattle.std.specs.declared.string.String.{String}
 use Rattle.std.specs.declared.alloc.Global.{Global}
@@ -10,7 +10,7 @@ use Rattle.command_words.specs.declared.verb.PlainKind.TheVariants.{File, Seed}
 use Rattle.command_words.specs.declared.choice.Choice.TheVariants.{Delay, Slots, Depth, Workers, Limit, Turns, At, Count, Cycles, Log, Forward, Wrap}
 use Rattle.command_words.specs.declared.command.Chosen.{Chosen}
 use Rattle.command_words.specs.declared.command.Command.{Command as Read}
-use Rattle.command_words.specs.Tables.{Text, is_built, verb_word, plain_of, kind_of}
+use Rattle.command_words.specs.Tables.{Text, verb_word, plain_of, choices_of, kind_of}
 use Rattle.command_words.specs.Values.{IsNumeral, IsNumber, AreDelays}
 use Rattle.command_words.specs.Items.{Item, AreWritten, plain_words, given}
 
@@ -90,11 +90,18 @@ pub record ItemsSpell (items : List Item) (c : Asked) : Type 0 where
   pub chosen : AreChosen items c.chosen
   pub together : GoTogether c.chosen
 
+-- at most one item for each plain word and each option of the command
+abbrev pub AreFew : {I : Type 0} → Verb → List I → Type 0
+AreFew verb items = length items ≤ length (plain_of verb) + length (choices_of verb)
+
+-- the words are the word of the command and then these items of it
+pub record AreWords (verb : Verb) (items : List Item) (words : List Text) : Type 0 where
+  pub rest : List Text
+  pub first : words ≡ verb_word verb ∷ rest
+  pub after : AreWritten verb items rest
+
 -- the whole list of words spells the command
 pub record Command (words : List Text) (c : Asked) : Type 0 where
-  pub built : IsTrue (is_built c.verb)
-  pub rest : List Text
-  pub first : words ≡ verb_word c.verb ∷ rest
   pub items : List Item
-  pub written : AreWritten c.verb items rest
+  pub written : AreWords c.verb items words
   pub spelled : ItemsSpell items c

@@ -1,5 +1,5 @@
--- The commands and options by name: their words, what their plain words are, which options each has, and which are built.
-use Rattle.std.specs.Prelude.{ℕ, Bool, true, false, ◌&&◌, List, [], ◌∷◌, codes}
+-- The commands and options by name: their words, what their plain words are, and which options each has.
+use Rattle.std.specs.Prelude.{ℕ, Bool, List, [], ◌∷◌, codes}
 use Rattle.std.specs.List.{list_any}
 use Rattle.std.specs.Str.{bytes_eq}
 use Rattle.el_base.specs.Limits.{max_kernel_bytes, max_inputs_bytes, max_netlist_bytes, max_schedule_bytes, max_slots, max_workers, max_firings}
@@ -17,30 +17,6 @@ use Rattle.command_words.specs.declared.choice.Class.TheVariants as class
 
 abbrev pub Text : Type 0
 Text = List ℕ
-
--- ---- what is built: the commands, and the options of each. The words of all others are no command.
-
-abbrev pub is_built : Verb → Bool
-is_built Compile = true
-is_built Go = true
-is_built Run = true
-is_built Replay = true
-is_built Bench = true
-is_built Upgrade = true
-is_built Ref = true
-is_built Save = true
-is_built Resume = true
-
-abbrev pub built_choices : Verb → List Choice
-built_choices Compile = Delay ∷ Slots ∷ Depth ∷ Forward ∷ Wrap ∷ []
-built_choices Go = Delay ∷ Slots ∷ Depth ∷ Workers ∷ Limit ∷ Count ∷ Cycles ∷ Forward ∷ Wrap ∷ []
-built_choices Run = Workers ∷ Limit ∷ Count ∷ Cycles ∷ Log ∷ []
-built_choices Replay = []
-built_choices Bench = []
-built_choices Upgrade = []
-built_choices Ref = Wrap ∷ Turns ∷ Count ∷ []
-built_choices Save = At ∷ []
-built_choices Resume = Limit ∷ Count ∷ []
 
 -- ---- all commands
 
@@ -148,6 +124,6 @@ is_choice o p = bytes_eq (choice_word o) (choice_word p)
 abbrev pub is_in : Choice → List Choice → Bool
 is_in o os = list_any (λ p. is_choice o p) os
 
--- an option of the command that is built
+-- an option of the command
 abbrev pub is_own : Verb → Choice → Bool
-is_own verb o = is_in o (choices_of verb) && is_in o (built_choices verb)
+is_own verb o = is_in o (choices_of verb)

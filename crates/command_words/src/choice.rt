@@ -1,7 +1,7 @@
 //! The options.
 ghost use Rattle.std.specs.Prelude.{◌≡◌, ℕ, List, ◌++◌, ◌∷◌, Some, IfSome, IsNone};
 ghost use Rattle.command_words.specs.declared.choice.Choice.{Choice};
-ghost use Rattle.command_words.specs.Tables.{choice_word, kind_of, choices_of, built_choices, is_in, is_own, class_word, least_delay};
+ghost use Rattle.command_words.specs.Tables.{choice_word, kind_of, choices_of, is_in, is_own, class_word, least_delay};
 
 use crate::verb::Verb;
 use el_base::{MAX_FIRINGS, MAX_SLOTS, MAX_WORKERS};
@@ -141,11 +141,11 @@ impl Choice {
         }
     }
 
-    /// Whether it is an option of the command that is built.
+    /// Whether it is an option of the command.
     pub fn is_own(self, verb: Verb) -> bool
         ensures { result ≡ is_own verb self }
     {
-        self.is_in(choices(verb)) && self.is_in(built_choices(verb))
+        self.is_in(choices(verb))
     }
 
     fn is_in(self, choices: &[Choice]) -> bool
@@ -187,43 +187,6 @@ pub fn choices(verb: Verb) -> &'static [Choice]
         ],
         Verb::Replay | Verb::Bench | Verb::Upgrade => &[],
         Verb::Ref => &[Choice::Wrap, Choice::Turns, Choice::Count],
-        Verb::Save => &[Choice::At],
-        Verb::Resume => &[Choice::Limit, Choice::Count],
-    }
-}
-
-/// Those of its options that are built.
-pub fn built_choices(verb: Verb) -> &'static [Choice]
-    ensures { result.now ≡ built_choices verb }
-{
-    match verb {
-        Verb::Compile => &[
-            Choice::Delay,
-            Choice::Slots,
-            Choice::Depth,
-            Choice::Forward,
-            Choice::Wrap,
-        ],
-        Verb::Go => &[
-            Choice::Delay,
-            Choice::Slots,
-            Choice::Depth,
-            Choice::Workers,
-            Choice::Limit,
-            Choice::Count,
-            Choice::Cycles,
-            Choice::Forward,
-            Choice::Wrap,
-        ],
-        Verb::Run => &[
-            Choice::Workers,
-            Choice::Limit,
-            Choice::Count,
-            Choice::Cycles,
-            Choice::Log,
-        ],
-        Verb::Ref => &[Choice::Wrap, Choice::Turns, Choice::Count],
-        Verb::Replay | Verb::Bench | Verb::Upgrade => &[],
         Verb::Save => &[Choice::At],
         Verb::Resume => &[Choice::Limit, Choice::Count],
     }

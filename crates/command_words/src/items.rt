@@ -188,7 +188,8 @@ fn sort(word: &str) -> WordSort<'_>
     WordSort::Unknown
 }
 
-fn is_plain(word: &str) -> bool
+/// Whether a word is plain before `--`.
+pub(crate) fn is_plain(word: &str) -> bool
     ensures plain { IsTrue result → IsPlain word.now }
     ensures others { IsPlain word.now → IsTrue result }
 {

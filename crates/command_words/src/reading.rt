@@ -9,6 +9,7 @@ ghost use Rattle.command_words.specs.declared.choice.ClassDelay.{ClassDelay};
 ghost use Rattle.command_words.specs.Values.{AreDelays};
 ghost use Rattle.command_words.specs.Steps.{with_delay};
 
+use crate::candidate::read_by_clap;
 use crate::choice::Choice;
 use crate::command::{Chosen, Command};
 use crate::items::{Written, item_at, read_items};
@@ -18,7 +19,23 @@ use el_base::{MAX_SHARED_FIRINGS, Memory};
 use std::alloc::Global;
 
 /// Reads the whole list of words as a command; `None` exactly where they spell none.
+/// `clap` reads them, and where they confirm what it reads, that is answered.
 pub fn read_words<'a>(alloc: Global, words: &'a [String]) -> Result<Option<Command<'a>>, Memory>
+    ensures some { IfOk result (λ r. IfSome r (λ c.
+        commands.Command (texts words.entry.now) (asked c))) }
+    ensures none { IfOk result (λ r. IsNone r → (c : Asked)
+        → commands.Command (texts words.entry.now) c → ⊥) }
+{
+    if let Some(candidate) = read_by_clap(alloc, words)? {
+        if candidate.is_confirmed(words) {
+            return candidate.command(alloc);
+        }
+    }
+    read_by_definition(alloc, words)
+}
+
+// Reads the words one by one, for those that `clap` reads otherwise.
+fn read_by_definition<'a>(alloc: Global, words: &'a [String]) -> Result<Option<Command<'a>>, Memory>
     ensures some { IfOk result (λ r. IfSome r (λ c.
         commands.Command (texts words.entry.now) (asked c))) }
     ensures none { IfOk result (λ r. IsNone r → (c : Asked)
@@ -30,17 +47,14 @@ pub fn read_words<'a>(alloc: Global, words: &'a [String]) -> Result<Option<Comma
     let Some(verb) = Verb::of_word(first.as_str()) else {
         return Ok(None);
     };
-    if !verb.is_built() {
-        return Ok(None);
-    }
     let Some(items) = read_items(alloc, verb, rest)? else {
         return Ok(None);
     };
     command_of(alloc, verb, items.as_slice())
 }
 
-// The command that the items after its word spell.
-fn command_of<'a>(
+/// The command that the items after its word spell.
+pub(crate) fn command_of<'a>(
     alloc: Global,
     verb: Verb,
     items: &[Written<'a>],

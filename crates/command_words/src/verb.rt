@@ -1,6 +1,6 @@
 //! The commands.
 ghost use Rattle.std.specs.Prelude.{◌≡◌, Some, IfSome, IsNone};
-ghost use Rattle.command_words.specs.Tables.{is_built, verb_word, plain_of};
+ghost use Rattle.command_words.specs.Tables.{verb_word, plain_of};
 ghost use Rattle.command_words.specs.declared.verb.Verb.{Verb};
 
 use el_base::{MAX_INPUTS_BYTES, MAX_KERNEL_BYTES, MAX_NETLIST_BYTES, MAX_SCHEDULE_BYTES};
@@ -52,17 +52,6 @@ pub const VERBS: [Verb; 9] = [
 ];
 
 impl Verb {
-    /// Whether the command is built; the words of another are no command.
-    pub fn is_built(self) -> bool
-        ensures { result ≡ is_built self }
-    {
-        match self {
-            Verb::Compile | Verb::Go | Verb::Run | Verb::Replay => true,
-            Verb::Bench | Verb::Upgrade | Verb::Ref => true,
-            Verb::Save | Verb::Resume => true,
-        }
-    }
-
     /// The word of the command.
     pub fn word(self) -> &'static str
         ensures { result.now ≡ verb_word self }

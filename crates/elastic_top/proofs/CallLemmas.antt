@@ -1,10 +1,10 @@
 -- From the fault of a call to its status, its cause and its line.
 use Rattle.std.proofs.Common.{◌≡◌, ◌≢◌, ◌≤◌, ◌<◌, ℕ, zero, suc, List, [], ◌∷◌, get_or, length, refl, sym, ◌∙◌, ap, subst, arith, Contains}
-use Rattle.std.specs.Prelude.{Err, IsTrue}
+use Rattle.std.specs.Prelude.{Err}
 use Rattle.el_io.specs.Outside.{Told, IsHeld, IsWhole, MayPass, MayHold}
 use Rattle.command_words.specs.declared.verb.Verb.{Verb}
 use Rattle.command_words.specs.declared.verb.Verb.TheVariants.{Compile, Go, Run, Replay, Bench, Upgrade, Ref, Save, Resume}
-use Rattle.command_words.specs.Tables.{Text, is_built, plain_of}
+use Rattle.command_words.specs.Tables.{Text, plain_of}
 use Rattle.command_words.specs.Commands.{Asked}
 use Rattle.elastic_top.specs.Files.{Wanted, files_of, wanted}
 use Rattle.elastic_top.specs.Reading.{AreHeld, IsReached}
@@ -34,22 +34,22 @@ not_done Memory = λ e. absurd (omega (arith, e))
 not_done (TooLong x) = λ e. absurd (omega (arith, e))
 not_done (Refused r) = (judged r).some
 
--- those of the outside, but for files, stand in the list of each command that is built
+-- those of the outside, but for files, stand in the list of each command
 pub record HasOutside (list : List ℕ) : Type 0 where
   pub done : Contains list 0
   pub unwritten : Contains list 3
   pub memory : Contains list 11
 
-pub outside : (v : Verb) → IsTrue (is_built v) → HasOutside (statuses_of v)
-outside Compile b = record { done = (0, omega arith, refl); unwritten = (2, omega arith, refl); memory = (4, omega arith, refl) }
-outside Go b = record { done = (0, omega arith, refl); unwritten = (2, omega arith, refl); memory = (7, omega arith, refl) }
-outside Run b = record { done = (0, omega arith, refl); unwritten = (2, omega arith, refl); memory = (8, omega arith, refl) }
-outside Replay b = record { done = (0, omega arith, refl); unwritten = (2, omega arith, refl); memory = (8, omega arith, refl) }
-outside Bench b = record { done = (0, omega arith, refl); unwritten = (1, omega arith, refl); memory = (2, omega arith, refl) }
-outside Upgrade b = record { done = (0, omega arith, refl); unwritten = (2, omega arith, refl); memory = (4, omega arith, refl) }
-outside Ref b = record { done = (0, omega arith, refl); unwritten = (2, omega arith, refl); memory = (5, omega arith, refl) }
-outside Save b = record { done = (0, omega arith, refl); unwritten = (2, omega arith, refl); memory = (5, omega arith, refl) }
-outside Resume b = record { done = (0, omega arith, refl); unwritten = (2, omega arith, refl); memory = (7, omega arith, refl) }
+pub outside : (v : Verb) → HasOutside (statuses_of v)
+outside Compile = record { done = (0, omega arith, refl); unwritten = (2, omega arith, refl); memory = (4, omega arith, refl) }
+outside Go = record { done = (0, omega arith, refl); unwritten = (2, omega arith, refl); memory = (7, omega arith, refl) }
+outside Run = record { done = (0, omega arith, refl); unwritten = (2, omega arith, refl); memory = (8, omega arith, refl) }
+outside Replay = record { done = (0, omega arith, refl); unwritten = (2, omega arith, refl); memory = (8, omega arith, refl) }
+outside Bench = record { done = (0, omega arith, refl); unwritten = (1, omega arith, refl); memory = (2, omega arith, refl) }
+outside Upgrade = record { done = (0, omega arith, refl); unwritten = (2, omega arith, refl); memory = (4, omega arith, refl) }
+outside Ref = record { done = (0, omega arith, refl); unwritten = (2, omega arith, refl); memory = (5, omega arith, refl) }
+outside Save = record { done = (0, omega arith, refl); unwritten = (2, omega arith, refl); memory = (5, omega arith, refl) }
+outside Resume = record { done = (0, omega arith, refl); unwritten = (2, omega arith, refl); memory = (7, omega arith, refl) }
 
 -- those of files stand in the list of each that names a file
 record HasFiles (list : List ℕ) : Type 0 where
@@ -64,26 +64,26 @@ no_files (w ∷ plain) = refl
 no_place : (holds : Text → Told) (files : List Wanted) (file : Wanted) → files ≡ [] → IsReached holds files file → ⊥
 no_place holds files file e is = absurd (omega (arith, is.within, ap length e))
 
-reads : (holds : Text → Told) (v : Verb) (plain : List Text) (file : Wanted) → IsTrue (is_built v) → IsReached holds (wanted (plain_of v) plain) file
+reads : (holds : Text → Told) (v : Verb) (plain : List Text) (file : Wanted) → IsReached holds (wanted (plain_of v) plain) file
     → HasFiles (statuses_of v)
-reads holds Compile plain file b is = record { unread = (1, omega arith, refl); long = (5, omega arith, refl) }
-reads holds Go plain file b is = record { unread = (1, omega arith, refl); long = (8, omega arith, refl) }
-reads holds Run plain file b is = record { unread = (1, omega arith, refl); long = (9, omega arith, refl) }
-reads holds Replay plain file b is = record { unread = (1, omega arith, refl); long = (9, omega arith, refl) }
-reads holds Bench plain file b is = absurd (no_place holds (wanted (plain_of Bench) plain) file (no_files plain) is)
-reads holds Upgrade plain file b is = record { unread = (1, omega arith, refl); long = (5, omega arith, refl) }
-reads holds Ref plain file b is = record { unread = (1, omega arith, refl); long = (6, omega arith, refl) }
-reads holds Save plain file b is = record { unread = (1, omega arith, refl); long = (6, omega arith, refl) }
-reads holds Resume plain file b is = record { unread = (1, omega arith, refl); long = (8, omega arith, refl) }
+reads holds Compile plain file is = record { unread = (1, omega arith, refl); long = (5, omega arith, refl) }
+reads holds Go plain file is = record { unread = (1, omega arith, refl); long = (8, omega arith, refl) }
+reads holds Run plain file is = record { unread = (1, omega arith, refl); long = (9, omega arith, refl) }
+reads holds Replay plain file is = record { unread = (1, omega arith, refl); long = (9, omega arith, refl) }
+reads holds Bench plain file is = absurd (no_place holds (wanted (plain_of Bench) plain) file (no_files plain) is)
+reads holds Upgrade plain file is = record { unread = (1, omega arith, refl); long = (5, omega arith, refl) }
+reads holds Ref plain file is = record { unread = (1, omega arith, refl); long = (6, omega arith, refl) }
+reads holds Save plain file is = record { unread = (1, omega arith, refl); long = (6, omega arith, refl) }
+reads holds Resume plain file is = record { unread = (1, omega arith, refl); long = (8, omega arith, refl) }
 
 module _ (holds : Text → Told) (steady : Type 0) (long : ℕ) (Cut : Text → Type 0) where
-  pub status_of : (c : Asked) (f : Fault) → IsTrue (is_built c.verb) → IsCauseOf holds steady long Cut c f → Contains (statuses_of c.verb) (fault_code f)
-  status_of c Usage b is = absurd is
-  status_of c (Read x) b is = (reads holds c.verb c.plain is.file b is.reached).unread
-  status_of c Write b is = (outside c.verb b).unwritten
-  status_of c Memory b is = (outside c.verb b).memory
-  status_of c (TooLong x) b is = (reads holds c.verb c.plain is.file b is.reached).long
-  status_of c (Refused r) b is = own c.verb c.plain c.chosen is.contents r is.answer.1
+  pub status_of : (c : Asked) (f : Fault) → IsCauseOf holds steady long Cut c f → Contains (statuses_of c.verb) (fault_code f)
+  status_of c Usage is = absurd is
+  status_of c (Read x) is = (reads holds c.verb c.plain is.file is.reached).unread
+  status_of c Write is = (outside c.verb).unwritten
+  status_of c Memory is = (outside c.verb).memory
+  status_of c (TooLong x) is = (reads holds c.verb c.plain is.file is.reached).long
+  status_of c (Refused r) is = own c.verb c.plain c.chosen is.contents r is.answer.1
 
   pub spelled_of : (c : Asked) (f : Fault) → IsCauseOf holds steady long Cut c f → fault_code f ≢ 1
   spelled_of c Usage is = absurd is

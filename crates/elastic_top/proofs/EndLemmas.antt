@@ -24,7 +24,7 @@ pub wanting_ends : {F O E : Type 0} (words : List Text) (code : ℕ)
 wanting_ends words code f files o out e err err' is told = record {
   usage = λ not c spells. absurd (omega (arith, is, not));
   no_command = λ none. subst (Contains (1 ∷ 11 ∷ [])) (sym is) (1, omega arith, refl);
-  statuses = λ c spells. subst (Contains (statuses_of c.verb)) (sym is) (outside c.verb spells.built).memory;
+  statuses = λ c spells. subst (Contains (statuses_of c.verb)) (sym is) (outside c.verb).memory;
   codes = subst (Contains statuses) (sym is) (11, omega arith, refl);
   unread_files = λ not. refl;
   read = λ not. absurd (omega (arith, is, not));

@@ -1,6 +1,6 @@
 //! What each command answers, without an outside.
-ghost use Rattle.std.specs.Prelude.{◌≡◌, IsTrue, length, Ok, Err, IfOk, IfErr};
-ghost use Rattle.command_words.specs.Tables.{is_built, plain_of};
+ghost use Rattle.std.specs.Prelude.{◌≡◌, length, Ok, Err, IfOk, IfErr};
+ghost use Rattle.command_words.specs.Tables.{plain_of};
 ghost use Rattle.command_words.specs.Commands.{IsSeed, asked, word_texts};
 ghost use Rattle.elastic_top.specs.Answers.{IsSaid};
 ghost use Rattle.elastic_top.specs.Files.{limits_of, AreWithin};
@@ -29,7 +29,6 @@ pub fn answer<'a, R: Threads + Sync, G: Gate + Sync>(
     contents: &[Vec<u8>],
     gate: &G,
 ) -> Result<Vec<u8>, Refusal<'a>>
-    requires built { IsTrue (is_built command.now.verb) }
     requires plain { length command.now.plain.items ≡ length (plain_of command.now.verb) }
     requires seed { IsSeed (plain_of command.now.verb) (word_texts command.now.plain.items)
         command.now.chosen.seed }

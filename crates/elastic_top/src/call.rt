@@ -1,8 +1,8 @@
 //! The outside, once for every command.
-ghost use Rattle.std.specs.Prelude.{◌≡◌, ◌≢◌, ◌<◌, ℕ, List, length, map, Contains, ◌∷◌, [], IsTrue, OnOk, IfErr};
+ghost use Rattle.std.specs.Prelude.{◌≡◌, ◌≢◌, ◌<◌, ℕ, List, length, map, Contains, ◌∷◌, [], OnOk, IfErr};
 ghost use Rattle.std.specs.Io.KnownBytes.{append_known};
 ghost use Rattle.el_io.specs.Outside.{Rose, IsCut};
-ghost use Rattle.command_words.specs.Tables.{is_built, plain_of};
+ghost use Rattle.command_words.specs.Tables.{plain_of};
 ghost use Rattle.command_words.specs.Commands as commands;
 ghost use Rattle.command_words.specs.Commands.{IsSeed, texts, asked, word_texts, Asked};
 ghost use Rattle.elastic_top.specs.Files.{files_of as wanted_of};
@@ -118,7 +118,6 @@ fn run_command<'a, R: Threads + Sync, F: Files, O: Sink, G: Gate + Sync>(
     out: &mut O,
     gate: &G,
 ) -> Result<(), Fault<'a>>
-    requires built { IsTrue (is_built command.now.verb) }
     requires plain { length command.now.plain.items ≡ length (plain_of command.now.verb) }
     requires seed { IsSeed (plain_of command.now.verb) (word_texts command.now.plain.items)
         command.now.chosen.seed }
@@ -151,7 +150,6 @@ fn run_files<'a, R: Threads + Sync, F: Files, O: Sink, G: Gate + Sync>(
     out: &mut O,
     gate: &G,
 ) -> Result<(), Fault<'a>>
-    requires built { IsTrue (is_built command.now.verb) }
     requires plain { length command.now.plain.items ≡ length (plain_of command.now.verb) }
     requires seed { IsSeed (plain_of command.now.verb) (word_texts command.now.plain.items)
         command.now.chosen.seed }

@@ -1,7 +1,6 @@
-//! Lists of words: what they spell, read by the definition, and whether `clap`, a second reader, takes them otherwise.
-use crate::second::ordered;
+//! Lists of words: what they spell, and whether `clap` alone takes them otherwise.
 use anyhow::{Result, bail};
-use command_words::{Chosen, Command, read_words};
+use command_words::{Candidate, Chosen, Command, read_by_clap, read_words};
 use el_base::Memory;
 use row_fields::Output;
 use std::alloc::Global;
@@ -16,21 +15,33 @@ pub fn put_list(alloc: Global, line: &str, out: &mut Output) -> Result<()> {
 fn words_of(alloc: Global, line: &str) -> Result<Vec<String>> {
     let mut words = Vec::new(alloc);
     for word in line.split('\t').skip(1) {
-        push_word(alloc, &mut words, word)?;
+        words.push(String::from_str(alloc, word)?)?;
     }
     Ok(words)
 }
 
-/// Adds a word.
-pub fn push_word(alloc: Global, words: &mut Vec<String>, word: &str) -> Result<()> {
-    words.push(String::from_str(alloc, word)?)?;
+/// Writes what words spell; where `clap` alone takes them otherwise, what they spell by it; and where it reads what they do
+/// not confirm, that.
+fn put_words(alloc: Global, words: &[String], out: &mut Output) -> Result<()> {
+    let spelled = given(read_words(alloc, words))?;
+    let candidate = given(read_by_clap(alloc, words))?;
+    let by_clap = by_clap(alloc, &candidate)?;
+    put_both(alloc, &spelled, &by_clap, out)?;
+    if candidate.is_some_and(|candidate| !candidate.is_confirmed(words)) {
+        out.word(" and not confirmed");
+    }
     Ok(())
 }
 
-/// Writes what words spell, and where `clap` takes them otherwise, what they spell by it.
-fn put_words(alloc: Global, words: &[String], out: &mut Output) -> Result<()> {
-    let first = told(alloc, words)?;
-    let second = told_by_clap(alloc, words)?;
+/// Writes what words spell, and what they spell by `clap` alone where that is something else.
+fn put_both(
+    alloc: Global,
+    spelled: &Option<Command<'_>>,
+    by_clap: &Option<Command<'_>>,
+    out: &mut Output,
+) -> Result<()> {
+    let first = told(alloc, spelled)?;
+    let second = told(alloc, by_clap)?;
     out.bytes(first.as_slice());
     if first != second {
         out.word(" and otherwise by clap: ");
@@ -39,28 +50,30 @@ fn put_words(alloc: Global, words: &[String], out: &mut Output) -> Result<()> {
     Ok(())
 }
 
-/// What words spell that `clap` orders, as text.
-fn told_by_clap(alloc: Global, words: &[String]) -> Result<Vec<u8>> {
-    match ordered(alloc, words)? {
-        Some(ordered) => told(alloc, ordered.as_slice()),
-        None => told(alloc, &[]),
+/// The command of what `clap` reads.
+fn by_clap<'a>(alloc: Global, candidate: &Option<Candidate<'a>>) -> Result<Option<Command<'a>>> {
+    match candidate {
+        Some(candidate) => given(candidate.command(alloc)),
+        None => Ok(None),
     }
 }
 
-/// What words spell, as text: `usage` where they spell nothing, as no words do.
-fn told(alloc: Global, words: &[String]) -> Result<Vec<u8>> {
-    let mut out = Output::new(alloc);
-    put_told(alloc, words, &mut out)?;
-    Ok(out.finish()?)
-}
-
-fn put_told(alloc: Global, words: &[String], out: &mut Output) -> Result<()> {
-    match read_words(alloc, words) {
-        Ok(Some(command)) => put_command(&command, out),
-        Ok(None) => out.word("usage"),
+/// What there was memory for.
+fn given<T: Drop>(answer: Result<T, Memory>) -> Result<T> {
+    match answer {
+        Ok(value) => Ok(value),
         Err(Memory) => bail!("want of memory"),
     }
-    Ok(())
+}
+
+/// A command as text; `usage` where there is none.
+fn told(alloc: Global, command: &Option<Command<'_>>) -> Result<Vec<u8>> {
+    let mut out = Output::new(alloc);
+    match command {
+        Some(command) => put_command(command, &mut out),
+        None => out.word("usage"),
+    }
+    Ok(out.finish()?)
 }
 
 fn put_command(command: &Command<'_>, out: &mut Output) {

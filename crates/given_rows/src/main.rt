@@ -14,7 +14,6 @@ mod queues;
 mod refusals;
 mod repeats;
 mod rows;
-mod second;
 mod trees;
 mod words;
 

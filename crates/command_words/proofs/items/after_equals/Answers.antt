@@ -1,4 +1,4 @@
-use Rattle.std.proofs.Common.{◌≡◌, ◌≢◌, ◌∷◌, ℕ, List, Option, Some, None, lit<}
+use Rattle.std.proofs.Common.{Option, Some, None, lit<}
 use Rattle.std.specs.Prelude.{MatchOption, IsNone}
 use Rattle.std.proofs.lemmas.Str.Pattern.{strip_prefix_char}
 use Rattle.command_words.proofs.items.after_equals.Goals as goal

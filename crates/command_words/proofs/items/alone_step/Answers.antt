@@ -1,8 +1,7 @@
-use Rattle.std.proofs.Common.{rules, ◌≡◌, ◌≢◌, sym, ◌∙◌, IsTrue, true, false}
+use Rattle.std.proofs.Common.{rules, ◌≢◌, sym, ◌∙◌, IsTrue}
 use Rattle.std.proofs.lemmas.Bool.{false≢true}
 use Rattle.command_words.specs.Tables.{kind_of, is_own}
-use Rattle.command_words.specs.declared.choice.ValueKind.{ValueKind}
-use Rattle.command_words.specs.declared.choice.ValueKind.TheVariants.{Flag, Number, Delays}
+use Rattle.command_words.specs.declared.choice.ValueKind.TheVariants.{Flag}
 use Rattle.command_words.proofs.Moves.{moves_flag, moves_waits, foreign_word}
 use Rattle.command_words.proofs.items.alone_step.Goals as goal
 

@@ -1,6 +1,6 @@
-use Rattle.std.proofs.Common.{rules, ◌≡◌, ◌++◌, ◌∷◌, [], ◌+◌, drop, sym, ◌∙◌, subst, refl, ap}
+use Rattle.std.proofs.Common.{◌∷◌, ◌+◌, drop, sym, ◌∙◌, subst, refl, ap}
 use Rattle.std.proofs.lemmas.Bool.{false≢true}
-use Rattle.command_words.specs.Items.{AreWritten, done, items_of}
+use Rattle.command_words.specs.Items.{items_of}
 use Rattle.command_words.specs.Steps.{GoOn, Reads}
 use Rattle.command_words.specs.Commands.{texts}
 use Rattle.command_words.proofs.Moves.{reads_more, words_at, reads_end, no_words_left}

@@ -1,4 +1,4 @@
-use Rattle.std.proofs.Common.{◌≡◌, ℕ, ◌<◌, [], length, get_or}
+use Rattle.std.proofs.Common.{ℕ, ◌<◌, [], get_or}
 use Rattle.command_words.specs.declared.verb.PlainKind.TheVariants.{Seed}
 use Rattle.command_words.specs.Commands.{IsPlainWord, word_texts}
 use Rattle.command_words.proofs.reading.are_plain.Given as goal

@@ -1,4 +1,4 @@
-use Rattle.std.proofs.Common.{◌≡◌, ◌++◌, ◌∷◌, [], sym, ◌∙◌, ap}
+use Rattle.std.proofs.Common.{◌++◌, ◌∷◌, [], sym, ◌∙◌, ap}
 use Rattle.command_words.specs.Items.{item_of, plain_words}
 use Rattle.command_words.proofs.ItemLemmas.{plain_more}
 use Rattle.command_words.proofs.reading.plain_of.Goals as goal

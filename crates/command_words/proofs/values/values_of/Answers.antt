@@ -1,4 +1,4 @@
-use Rattle.std.proofs.Common.{◌≡◌, ◌++◌, ◌∷◌, [], take, sym, subst}
+use Rattle.std.proofs.Common.{take, sym, subst}
 use Rattle.command_words.specs.Items.{given, items_of}
 use Rattle.command_words.specs.Steps.{IsGiven}
 use Rattle.command_words.proofs.ItemLemmas.{given_more}

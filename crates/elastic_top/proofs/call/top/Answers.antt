@@ -30,13 +30,13 @@ pub returns-in-Ok-None-clause-complete : goal.returns-in-Ok-None-clause-complete
 returns-in-Ok-None-clause-complete g c = λ d spelled sound quiet. absurd (c.in-Ok-None.ensures.none (ap is_some c.in-Ok-None.field-0-is) d spelled)
 
 pub returns-in-Err-clause-statuses : goal.returns-in-Err-clause-statuses
-returns-in-Err-clause-statuses g c = λ d spelled. (outside d.verb spelled.built).memory
+returns-in-Err-clause-statuses g c = λ d spelled. (outside d.verb).memory
 
 pub returns-in-Err-clause-codes : goal.returns-in-Err-clause-codes
 returns-in-Err-clause-codes g c = (11, omega arith, refl)
 
 pub returns-in-Ok-clause-statuses : goal.returns-in-Ok-clause-statuses
-returns-in-Ok-clause-statuses g c = λ d spelled. (outside d.verb spelled.built).done
+returns-in-Ok-clause-statuses g c = λ d spelled. (outside d.verb).done
 
 pub returns-clause-codes : goal.returns-clause-codes
 returns-clause-codes g c = rw c.code.ensures (any_status c.in-Err-run_command.fault)
@@ -65,7 +65,7 @@ returns-clause-statuses g c = λ d spelled.
     (subst (λ x. Contains (statuses_of x.verb) (fault_code c.in-Err-run_command.fault)) same
     (status_of (g.F.Files.holds c.args.files.now) (g.F.Files.steady c.args.files.now) (g.F.Files.long c.run_command.new.files)
     (IsCut (g.O.Sink.written c.args.out.now) (g.O.Sink.written c.run_command.new.out))
-    (asked c.in-Ok-Some.command) c.in-Err-run_command.fault spells.built c.in-Err-run_command.ensures.fault))
+    (asked c.in-Ok-Some.command) c.in-Err-run_command.fault c.in-Err-run_command.ensures.fault))
 
 pub returns-clause-unread : goal.returns-clause-unread
 returns-clause-unread g c = λ is d spelled.
