@@ -1,9 +1,10 @@
--- Delays by a depth: what stays without a delay leads to greater numbers, and to levels within the depth.
-use Rattle.std.proofs.Common.{◌≡◌, inl, inr, ℕ, ◌+◌, ◌<◌, ◌≤◌, ◌==◌, ◌&&◌, Bool, true, false, cond, List, [], ◌∷◌, length, get_or, map, refl, sym, ap, subst, ◌∙◌, arith}
-use Rattle.std.specs.Prelude.{nat_lt, nat_le}
-use Rattle.std.proofs.lemmas.Bool.{eq-eqb, eqb-true, eqb-false, lt-ltb, ltb-true, le-leb, leb-true}
+-- Delays by a depth: what stays without a delay rises in an order of the units, and leads to levels within the depth.
+use Rattle.std.proofs.Common.{◌≡◌, inl, inr, ℕ, ◌+◌, ◌<◌, ◌≤◌, ◌==◌, Bool, true, false, cond, List, [], ◌∷◌, length, get_or, map, refl, sym, ap, subst, ◌∙◌, arith}
+use Rattle.std.specs.Prelude.{nat_le}
+use Rattle.std.proofs.lemmas.Bool.{eq-eqb, eqb-true, eqb-false, le-leb, leb-true}
 use Rattle.std.proofs.lemmas.List.{length-map, get_or-map}
-use Rattle.el_base.specs.Limits.{max_delay}
+use Rattle.el_base.specs.declared.operation.Op1.{Op1}
+use Rattle.el_base.specs.declared.operation.Op1.TheVariants as op1
 use Rattle.net_types.specs.declared.net.Chan.{Chan}
 use Rattle.net_types.specs.declared.net.Net.{Net}
 use Rattle.net_types.specs.declared.net.Unit.{Unit as Kind}
@@ -12,9 +13,9 @@ use Rattle.net_types.specs.Nets.{nowhere, kind_of, chan_at}
 use Rattle.net_check.specs.Cycles.{IsInstant, Leads, IsClosedWalk}
 use Rattle.net_check.specs.Retimed.{untimed, SamePlain}
 use Rattle.buffer_place.specs.declared.timing.Timing.{Timing}
-use Rattle.buffer_place.specs.Timings.{IsTiming, source_delay}
-use Rattle.buffer_place.specs.Chains.{weight, walk_weight, AreLevels, stays_instant, depth_delay}
-use Rattle.buffer_place.proofs.TimedLemmas.{source_within}
+use Rattle.buffer_place.specs.Timings.{source_delay}
+use Rattle.buffer_place.specs.Chains.{op1_weight, weight, walk_weight, AreLevels, is_low, depth_delay}
+use Rattle.buffer_place.specs.Placing.{IsFeedback, IsRising, AreLevelDelays}
 
 -- ---- one channel
 
@@ -22,41 +23,21 @@ module _ (t : Timing) (depth : ℕ) (level : ℕ → ℕ) (net : Net) where
   abbrev entered : Chan → ℕ
   entered c = level c.from.unit + weight (kind_of net c.to.unit)
 
-  -- the channel has no delay
+  -- the channel is low, and its class has no delay
   pub record GoesThrough (c : Chan) : Type 0 where
     pub class : source_delay t net c ≡ 0
-    pub rises : c.from.unit < c.to.unit
     pub few : entered c ≤ depth
 
   pub goes_through : (c : Chan) → depth_delay t depth level net c ≡ 0 → GoesThrough c
-  goes_through c = by (source_delay t net c == 0) (nat_lt c.from.unit c.to.unit) (nat_le (entered c) depth) refl refl refl
+  goes_through c = by (source_delay t net c == 0) (nat_le (entered c) depth) refl refl
     where
-      by : (a b d : Bool) → (source_delay t net c == 0) ≡ a → nat_lt c.from.unit c.to.unit ≡ b → nat_le (entered c) depth ≡ d
-          → cond a (cond (b && d) 0 1) (source_delay t net c) ≡ 0 → GoesThrough c
-      by true true true e f g z = record { class = eqb-true _ _ e; rises = ltb-true _ _ f; few = leb-true _ _ g }
-      by true true false e f g z = absurd (omega arith)
-      by true false d e f g z = absurd (omega arith)
-      by false b d e f g z = absurd (eqb-false _ _ e z)
+      by : (a d : Bool) → (source_delay t net c == 0) ≡ a → nat_le (entered c) depth ≡ d → cond a (cond d 0 1) (source_delay t net c) ≡ 0 → GoesThrough c
+      by true true e g z = record { class = eqb-true _ _ e; few = leb-true _ _ g }
+      by true false e g z = absurd (omega arith)
+      by false d e g z = absurd (eqb-false _ _ e z)
 
   pub no_delay : (c : Chan) → GoesThrough c → depth_delay t depth level net c ≡ 0
-  no_delay c h =
-      ap (λ b. cond b (cond (stays_instant depth level net c) 0 1) (source_delay t net c)) (eq-eqb _ _ h.class)
-      ∙ ap (λ b. cond (b && nat_le (entered c) depth) 0 1) (lt-ltb _ _ h.rises) ∙ ap (λ b. cond b 0 1) (le-leb _ _ h.few)
-
-  pub depth_some : (c : Chan) → 0 < source_delay t net c → 0 < depth_delay t depth level net c
-  depth_some c l = by (source_delay t net c == 0) refl
-    where
-      by : (a : Bool) → (source_delay t net c == 0) ≡ a → 0 < cond a (cond (stays_instant depth level net c) 0 1) (source_delay t net c)
-      by true e = let z = eqb-true _ _ e in absurd (omega arith)
-      by false e = l
-
-  pub depth_within : IsTiming t → (c : Chan) → depth_delay t depth level net c ≤ max_delay
-  depth_within h c = by (source_delay t net c == 0) (stays_instant depth level net c)
-    where
-      by : (a b : Bool) → cond a (cond b 0 1) (source_delay t net c) ≤ max_delay
-      by true true = omega arith
-      by true false = omega arith
-      by false b = source_within t net c h
+  no_delay c h = ap (λ b. cond b (cond (is_low depth level net c) 0 1) (source_delay t net c)) (eq-eqb _ _ h.class) ∙ ap (λ b. cond b 0 1) (le-leb _ _ h.few)
 
 -- ---- nets
 
@@ -76,11 +57,11 @@ module _ (old new : Net) (same : SamePlain old new) where
   ends_same c l =
       sym (get_or-map untimed new.chans c nowhere nowhere (omega (arith, many_same))) ∙ ap (λ (n : Net). get_or n.chans c nowhere) same ∙ get_or-map untimed old.chans c nowhere nowhere l
 
-module _ (t : Timing) (depth : ℕ) (level : ℕ → ℕ) (old new : Net) (same : SamePlain old new)
-    (each : (c : ℕ) → c < length old.chans → (chan_at new c).delay ≡ depth_delay t depth level old (chan_at old c)) where
+module _ (t : Timing) (depth : ℕ) (level : ℕ → ℕ) (old new : Net) (same : SamePlain old new) (delays : AreLevelDelays t depth level old new) where
   -- the channel c has no delay and goes from the unit v to the unit u
   pub record Crosses (v u c : ℕ) : Type 0 where
     pub within : c < length old.chans
+    pub free : IsFeedback t old c → ⊥
     pub through : GoesThrough t depth level old (chan_at old c)
     pub source : (chan_at old c).from.unit ≡ v
     pub target : (chan_at old c).to.unit ≡ u
@@ -89,9 +70,11 @@ module _ (t : Timing) (depth : ℕ) (level : ℕ → ℕ) (old new : Net) (same 
   crosses v u c i =
       let l : c < length old.chans = omega (arith, many_same old new same, i.within) in
       let e = ends_same old new same c l in
+      let free : IsFeedback t old c → ⊥ = λ f. (let one = delays.feedback c f in let none = i.delay in absurd (omega arith)) in
       record {
         within = l;
-        through = goes_through t depth level old (chan_at old c) (sym (each c l) ∙ i.delay);
+        free = free;
+        through = goes_through t depth level old (chan_at old c) (sym (delays.other c l free) ∙ i.delay);
         source = sym (ap (λ (x : Chan). x.from.unit) e) ∙ i.source;
         target = sym (ap (λ (x : Chan). x.to.unit) e) ∙ i.target;
       }
@@ -101,13 +84,10 @@ module _ (t : Timing) (depth : ℕ) (level : ℕ → ℕ) (old new : Net) (same 
       let e = ends_same old new same c h.within in
       record {
         within = omega (arith, many_same old new same, h.within);
-        delay = each c h.within ∙ no_delay t depth level old (chan_at old c) h.through;
+        delay = delays.other c h.within h.free ∙ no_delay t depth level old (chan_at old c) h.through;
         source = ap (λ (x : Chan). x.from.unit) e ∙ h.source;
         target = ap (λ (x : Chan). x.to.unit) e ∙ h.target;
       }
-
-  pub goes_up : (v u c : ℕ) → IsInstant new v u c → v < u
-  goes_up v u c i = let h = crosses v u c i in omega (arith, h.through.rises, h.source, h.target)
 
   pub enters_low : (v u c : ℕ) → IsInstant new v u c → level v + weight (kind_of old u) ≤ depth
   enters_low v u c i =
@@ -116,15 +96,22 @@ module _ (t : Timing) (depth : ℕ) (level : ℕ → ℕ) (old new : Net) (same 
 
   -- ---- cycles
 
-  rise : (v u : ℕ) (cs : List ℕ) → Leads new v cs u → v + length cs ≤ u
-  rise v u [] l = omega arith
-  rise v u (c ∷ cs) l =
-      let a = goes_up v (chan_at new c).to.unit c l.0 in
-      let b = rise (chan_at new c).to.unit u cs l.1 in
-      omega arith
+  module _ (order : ℕ → ℕ) (rising : IsRising t old order) where
+    pub goes_up : (v u c : ℕ) → IsInstant new v u c → order v < order u
+    goes_up v u c i =
+        let h = crosses v u c i in
+        let r = rising c (record { within = h.within; class = h.through.class; ahead = h.free }) in
+        omega (arith, ap order h.source, ap order h.target)
 
-  pub no_cycle : (cs : List ℕ) → IsClosedWalk new cs → ⊥
-  no_cycle cs w = let a = rise w.unit w.unit cs w.leads in let b = w.some in absurd (omega arith)
+    rise : (v u : ℕ) (cs : List ℕ) → Leads new v cs u → order v + length cs ≤ order u
+    rise v u [] l = omega (arith, ap order l)
+    rise v u (c ∷ cs) l =
+        let a = goes_up v (chan_at new c).to.unit c l.0 in
+        let b = rise (chan_at new c).to.unit u cs l.1 in
+        omega arith
+
+    pub no_cycle : (cs : List ℕ) → IsClosedWalk new cs → ⊥
+    no_cycle cs w = let a = rise w.unit w.unit cs w.leads in let b = w.some in absurd (omega arith)
 
   -- ---- walks
 
@@ -137,11 +124,37 @@ module _ (t : Timing) (depth : ℕ) (level : ℕ → ℕ) (old new : Net) (same 
         let b = walk_grows (chan_at new c).to.unit u cs l.1 in
         omega arith
 
+    light1 : (op : Op1) → op1_weight op ≤ 1
+    light1 op1.Neg32 = omega arith
+    light1 op1.Neg64 = omega arith
+    light1 op1.Not32 = omega arith
+    light1 op1.Not64 = omega arith
+    light1 op1.Zero32 = omega arith
+    light1 op1.Zero64 = omega arith
+    light1 op1.S8to16 = omega arith
+    light1 op1.S8to32 = omega arith
+    light1 op1.S8to64 = omega arith
+    light1 op1.S16to32 = omega arith
+    light1 op1.S16to64 = omega arith
+    light1 op1.S32to64 = omega arith
+    light1 op1.U8to16 = omega arith
+    light1 op1.U8to32 = omega arith
+    light1 op1.U8to64 = omega arith
+    light1 op1.U16to32 = omega arith
+    light1 op1.U16to64 = omega arith
+    light1 op1.U32to64 = omega arith
+    light1 op1.Cut16to8 = omega arith
+    light1 op1.Cut32to8 = omega arith
+    light1 op1.Cut32to16 = omega arith
+    light1 op1.Cut64to8 = omega arith
+    light1 op1.Cut64to16 = omega arith
+    light1 op1.Cut64to32 = omega arith
+
     light : (k : Kind) → weight k ≤ 1
     light kind.Entry = omega arith
     light (kind.Param j) = omega arith
     light (kind.Const w n) = omega arith
-    light (kind.Op1 op) = omega arith
+    light (kind.Op1 op) = light1 op
     light (kind.Op2 op) = omega arith
     light (kind.Select w) = omega arith
     light (kind.Fork w n) = omega arith

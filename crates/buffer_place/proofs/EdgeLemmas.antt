@@ -1,18 +1,22 @@
 -- Channels whose classes have delay 0 as edges between units, and walks along them.
-use Rattle.std.proofs.Common.{◌≡◌, ◌≢◌, ℕ, zero, suc, ◌<◌, ◌==◌, Bool, true, false, cond, List, [], ◌∷◌, get_or, length, map, refl, sym, ap, subst, ◌∙◌, arith}
-use Rattle.std.specs.Prelude.{filter}
-use Rattle.std.proofs.lemmas.Bool.{eq-eqb, eqb-true}
+use Rattle.std.proofs.Common.{◌≡◌, ◌≢◌, ◌⊎◌, inl, inr, ℕ, zero, suc, ◌<◌, ◌≤◌, ◌==◌, ◌&&◌, Bool, true, false, cond, List, [], ◌∷◌, get_or, length, map, refl, sym, ap, subst, ◌∙◌, arith}
+use Rattle.std.specs.Prelude.{filter, nat_lt, not, ◌||◌}
+use Rattle.std.proofs.lemmas.Bool.{eq-eqb, eqb-true, le-ltb, ltb-true, ltb-false}
 use Rattle.std.proofs.lemmas.List.{length-map}
 use Rattle.net_types.specs.declared.net.Chan.{Chan}
 use Rattle.net_types.specs.declared.net.Net.{Net}
 use Rattle.net_types.specs.Nets.{nowhere, chan_at}
 use Rattle.net_check.specs.Checks.{EndsWithin}
 use Rattle.net_check.specs.Cycles.{IsInstant, Leads}
-use Rattle.graph_parts.specs.Graph.{Edge, Walk, Reaches}
+use Rattle.graph_parts.specs.Graph.{Edge, InRow, Walk, Reaches, AreRows}
+use Rattle.graph_parts.specs.Topological.{IsAcyclic, AreNodes}
 use Rattle.buffer_place.specs.declared.timing.Timing.{Timing}
 use Rattle.buffer_place.specs.Timings.{source_delay}
-use Rattle.buffer_place.specs.Placing.{classed, LiesOnCycle}
-use Rattle.buffer_place.specs.Edges.{instant, sources, targets, AreUnitParts, is_joined}
+use Rattle.buffer_place.specs.Placing.{classed, LiesOnCycle, IsFeedback, MayStay}
+use Rattle.buffer_place.specs.Edges.{instant, sources, targets, AreUnitParts, is_joined, is_ahead, staying}
+
+no_true : false ≡ true → ⊥
+no_true e = cc
 
 -- ---- items of lists
 
@@ -181,6 +185,133 @@ module _ (t : Timing) (net : Net) where
           leads = (subst (λ x. IsInstant (classed t net) v x c) e i, subst (λ x. Leads (classed t net) x w.0 v) e w.1);
         },
       )
+
+-- ---- channels that may stay, and rows of their sources
+
+module _ (t : Timing) (net : Net) (marks : List ℕ) (parts : AreUnitParts t net marks) (ends : EndsWithin net) where
+  abbrev stays : Chan → Bool
+  stays c = (source_delay t net c == 0) && is_ahead marks c
+
+  -- the channel leads from the unit v to the unit u, its class has no delay, and it is ahead
+  pub record Stays (v u : ℕ) : Type 0 where
+    pub chan : ℕ
+    pub within : chan < length net.chans
+    pub class : source_delay t net (chan_at net chan) ≡ 0
+    pub ahead : is_ahead marks (chan_at net chan) ≡ true
+    pub source : (chan_at net chan).from.unit ≡ v
+    pub target : (chan_at net chan).to.unit ≡ u
+
+  both : (a b : Bool) → a && b ≡ true → (a ≡ true) × (b ≡ true)
+  both true b e = (refl, e)
+  both false b e = absurd (let z : false ≡ true = e in no_true z)
+
+  either : (a b : Bool) → a || not b ≡ true → (a ≡ true) ⊎ (b ≡ true → ⊥)
+  either true b e = inl refl
+  either false true e = absurd (no_true e)
+  either false false e = inr (λ z. no_true z)
+
+  neither : (a b : Bool) → a || not b ≡ false → (a ≡ false) × (b ≡ true)
+  neither true b e = absurd (no_true (sym e))
+  neither false true e = (refl, refl)
+  neither false false e = absurd (no_true (sym e))
+
+  module _ (rows : List (List ℕ)) (are_rows : AreRows (length net.units) (targets (staying t net marks net.chans)) (sources (staying t net marks net.chans)) rows) where
+    pub stays_of : (u v : ℕ) → InRow rows u v → Stays v u
+    stays_of u v r =
+        let e = are_rows.sound u v r in
+        let k = kept_from stays net.chans e.0 (let l = e.1 in omega (arith, length-map (staying t net marks net.chans) (λ (c : Chan). c.to.unit))) in
+        let x : chan_at net k.found.place ≡ get_or (staying t net marks net.chans) e.0 nowhere = k.found.here in
+        let p = both (source_delay t net (get_or (staying t net marks net.chans) e.0 nowhere) == 0) (is_ahead marks (get_or (staying t net marks net.chans) e.0 nowhere)) k.passes in
+        record {
+          chan = k.found.place;
+          within = k.found.within;
+          class = ap (source_delay t net) x ∙ eqb-true _ _ p.0;
+          ahead = ap (is_ahead marks) x ∙ p.1;
+          source = ap (λ (c : Chan). c.from.unit) x ∙ sym (from_at (staying t net marks net.chans) e.0) ∙ e.3;
+          target = ap (λ (c : Chan). c.to.unit) x ∙ sym (to_at (staying t net marks net.chans) e.0) ∙ e.2;
+        }
+
+    pub row_of : (u v : ℕ) → Stays v u → InRow rows u v
+    row_of u v s =
+        let x = chan_at net s.chan in
+        let h : stays x ≡ true = ap (λ b. b && is_ahead marks x) (eq-eqb _ _ s.class) ∙ s.ahead in
+        let k = kept_at stays net.chans s.chan s.within h in
+        let l = k.within in
+        are_rows.whole u v (
+          k.place,
+          omega (arith, length-map (staying t net marks net.chans) (λ (c : Chan). c.to.unit)),
+          to_at (staying t net marks net.chans) k.place ∙ ap (λ (c : Chan). c.to.unit) k.here ∙ s.target,
+          from_at (staying t net marks net.chans) k.place ∙ ap (λ (c : Chan). c.from.unit) k.here ∙ s.source,
+        )
+
+    goes : (u v : ℕ) → InRow rows u v → Goes t net v u
+    goes u v r =
+        let s = stays_of u v r in
+        subst (λ x. Goes t net x u) s.source (subst (Goes t net (chan_at net s.chan).from.unit) s.target (edge_of t net _ _ s.chan (is_instant_of t net s.chan s.within s.class)))
+
+    one_more : (Goes : ℕ → ℕ → Type 0) (x v w : ℕ) (ws : List ℕ) → Walk Goes x ws v → Goes v w → Reaches Goes x w
+    one_more Goes x v w [] k g = let P : ℕ → Type 0 = λ y. Goes y w in (w ∷ [], (subst P (sym k) g, refl))
+    one_more Goes x v w (y ∷ ws) k g = let r = one_more Goes y v w ws k.1 g in (y ∷ r.0, (k.0, r.1))
+
+    -- a walk along rows goes back along channels
+    back : (x y : ℕ) (ws : List ℕ) → Walk (InRow rows) x ws y → Reaches (Goes t net) y x
+    back x y [] k = let P : ℕ → Type 0 = λ z. Reaches (Goes t net) z x in subst P k ([], refl)
+    back x y (w ∷ ws) k = let r = back w y ws k.1 in one_more (Goes t net) y w x r.0 r.1 (goes x w k.0)
+
+    -- along a row of which the unit comes back, numbers fall
+    falls : (x y : ℕ) → InRow rows x y → Reaches (InRow rows) y x → y < x
+    falls x y r back_again =
+        let s = stays_of x y r in
+        let there : Reaches (Goes t net) y x = (x ∷ [], (goes x y r, refl)) in
+        let here : Reaches (Goes t net) x y = back y x back_again.0 back_again.1 in
+        let n : get_or marks y 0 ≢ 0 = parts.all y (subst (λ x. x < length net.units) s.source (ends.from s.chan s.within)) in
+        let m : get_or marks x 0 ≡ get_or marks y 0 = parts.parted.whole y x n (there, here) in
+        let j : is_joined marks (chan_at net s.chan) ≡ true = eq-eqb _ _ (ap (λ x. get_or marks x 0) s.source ∙ sym m ∙ sym (ap (λ x. get_or marks x 0) s.target)) in
+        elim (either (nat_lt (chan_at net s.chan).from.unit (chan_at net s.chan).to.unit) (is_joined marks (chan_at net s.chan)) s.ahead) [
+          | inl a ↦ omega (arith, ltb-true _ _ a, s.source, s.target)
+          | inr a ↦ absurd (a j)
+        ]
+
+    then_reaches : (x y z : ℕ) (ws : List ℕ) → Walk (InRow rows) x ws y → Reaches (InRow rows) y z → Reaches (InRow rows) x z
+    then_reaches x y z [] k r = let P : ℕ → Type 0 = λ w. Reaches (InRow rows) w z in subst P (sym k) r
+    then_reaches x y z (w ∷ ws) k r = let q = then_reaches w y z ws k.1 r in (w ∷ q.0, (k.0, q.1))
+
+    descends : (x u : ℕ) (ws : List ℕ) → Walk (InRow rows) x ws u → Reaches (InRow rows) u x → u ≤ x
+    descends x u [] k r = omega (arith, k)
+    descends x u (w ∷ ws) k r =
+        let l = falls x w k.0 (then_reaches w u x ws k.1 r) in
+        let m = descends w u ws k.1 (one_more (InRow rows) u x w r.0 r.1 k.0) in
+        omega arith
+
+    pub rows_acyclic : IsAcyclic (InRow rows)
+    rows_acyclic u v r again =
+        let l = falls u v r again in
+        let m = descends v u again.0 again.1 (v ∷ [], (r, refl)) in
+        omega arith
+
+    pub rows_named : AreNodes rows
+    rows_named u v r = let n = are_rows.named u v r in omega (arith, are_rows.size)
+
+  -- ---- feedback
+
+  pub feedback_joined : (c : ℕ) → IsFeedback t net c → (source_delay t net (chan_at net c) ≡ 0) × ((c < length net.chans) × (is_ahead marks (chan_at net c) ≡ false))
+  feedback_joined c f =
+      let r = goes_round t net marks parts ends c f.on_cycle in
+      let l : nat_lt (chan_at net c).from.unit (chan_at net c).to.unit ≡ false = le-ltb _ _ f.falls in
+      (r.delay, (r.within, ap (λ b. b || not (is_joined marks (chan_at net c))) l ∙ ap (λ b. not b) r.joined))
+
+  pub ahead_of : (c : ℕ) → MayStay t net c → is_ahead marks (chan_at net c) ≡ true
+  ahead_of c s = by (is_ahead marks (chan_at net c)) refl
+    where
+      by : (b : Bool) → is_ahead marks (chan_at net c) ≡ b → b ≡ true
+      by true e = refl
+      by false e =
+          let n = neither (nat_lt (chan_at net c).from.unit (chan_at net c).to.unit) (is_joined marks (chan_at net c)) e in
+          let on = lies_on t net marks parts ends c (record { within = s.within; delay = s.class; joined = n.1 }) in
+          absurd (s.ahead (record { on_cycle = on; falls = ltb-false _ _ n.0 }))
+
+  pub may_stay : (c : ℕ) → c < length net.chans → source_delay t net (chan_at net c) ≡ 0 → is_ahead marks (chan_at net c) ≡ true → MayStay t net c
+  may_stay c l z a = record { within = l; class = z; ahead = λ f. no_true (sym (feedback_joined c f).1.1 ∙ a) }
 
 -- the units of edges are units of the net
 pub sources_within : (n : ℕ) (p : Chan → Bool) (cs : List Chan) (e : ℕ) → ((c : ℕ) → c < length cs → (get_or cs c nowhere).from.unit < n) → e < length (sources (filter p cs)) → get_or (sources (filter p cs)) e 0 < n

@@ -1,6 +1,6 @@
 -- By a timing a net is placed in one way.
-use Rattle.std.proofs.Common.{◌≡◌, ◌⊎◌, ℕ, zero, suc, ◌+◌, ◌*◌, ◌<◌, ◌≤◌, ◌==◌, ◌&&◌, cond, length, inl, inr, sym, ap, subst, ◌∙◌, arith}
-use Rattle.std.specs.Prelude.{nat_lt, nat_le, Option, Some, None}
+use Rattle.std.proofs.Common.{◌≡◌, ◌⊎◌, ℕ, zero, suc, ◌+◌, ◌*◌, ◌<◌, ◌≤◌, ◌==◌, cond, length, inl, inr, sym, ap, subst, ◌∙◌, arith}
+use Rattle.std.specs.Prelude.{nat_le, Option, Some, None}
 use Rattle.std.proofs.lemmas.Bool.{cases_eq, cases_lt}
 use Rattle.std.proofs.lemmas.List.{ext_get_or}
 use Rattle.std.proofs.Math.Nat.{mul-le-mul}
@@ -11,8 +11,8 @@ use Rattle.net_types.specs.Nets.{nowhere, kind_of, chan_at}
 use Rattle.net_check.specs.Retimed.{untimed, plain, SamePlain}
 use Rattle.buffer_place.specs.declared.timing.Timing.{Timing}
 use Rattle.buffer_place.specs.Timings.{source_delay}
-use Rattle.buffer_place.specs.Chains.{weight, AreDepthDelays}
-use Rattle.buffer_place.specs.Placing.{classed, LiesOnCycle, AreMostSlots, AreUsualDelays, AreDelays, IsPlaced, PlacementsAreOne}
+use Rattle.buffer_place.specs.Chains.{weight}
+use Rattle.buffer_place.specs.Placing.{classed, LiesOnCycle, IsFeedback, MayStay, AreMostSlots, AreUsualDelays, AreDepthDelays, AreDelays, IsPlaced, PlacementsAreOne}
 use Rattle.buffer_place.proofs.DepthLemmas.{GoesThrough, weights_same, many_same, ends_same, crosses, is_instant}
 
 -- ---- slots
@@ -51,35 +51,39 @@ usual_one t old m n a b c l = elim (cases_eq (chan_at m c).delay (chan_at n c).d
 module _ (t : Timing) (depth : ℕ) (old : Net) where
   -- where the levels of all units before one are the same, so is its level
   level_le : (m n : Net) → SamePlain old m → SamePlain old n → (a : AreDepthDelays t depth old m) (b : AreDepthDelays t depth old n)
-      → (u : ℕ) → ((v : ℕ) → v < u → a.level v ≡ b.level v) → a.level u ≤ b.level u
+      → (u : ℕ) → ((c : ℕ) → MayStay t old c → (chan_at old c).to.unit ≡ u → a.level (chan_at old c).from.unit ≡ b.level (chan_at old c).from.unit) → a.level u ≤ b.level u
   level_le m n sm sn a b u before = elim (a.levels.least u) [
     | inl e ↦ omega (arith, e, b.levels.own u, weights_same old m sm u, weights_same old n sn u)
     | inr o ↦ (
-        let h = crosses t depth a.level old m sm a.each o.source u o.chan o.instant in
+        let h = crosses t depth a.level old m sm a.delays o.source u o.chan o.instant in
         let x = chan_at old o.chan in
-        let r : x.from.unit < u = omega (arith, h.through.rises, h.target) in
-        let e : a.level x.from.unit ≡ b.level x.from.unit = before x.from.unit r in
-        let g : GoesThrough t depth b.level old x = record { class = h.through.class; rises = h.through.rises; few = omega (arith, e, h.through.few) } in
-        let i = is_instant t depth b.level old n sn b.each o.source u o.chan (record { within = h.within; through = g; source = h.source; target = h.target }) in
+        let e : a.level x.from.unit ≡ b.level x.from.unit = before o.chan (record { within = h.within; class = h.through.class; ahead = h.free }) h.target in
+        let g : GoesThrough t depth b.level old x = record { class = h.through.class; few = omega (arith, e, h.through.few) } in
+        let i = is_instant t depth b.level old n sn b.delays o.source u o.chan (record { within = h.within; free = h.free; through = g; source = h.source; target = h.target }) in
         let f : a.level o.source ≡ b.level o.source = subst (λ k. a.level k ≡ b.level k) h.source e in
         omega (arith, o.is, f, b.levels.over o.source u o.chan i, weights_same old m sm u, weights_same old n sn u))
   ]
 
   module _ (m n : Net) (sm : SamePlain old m) (sn : SamePlain old n) (a : AreDepthDelays t depth old m) (b : AreDepthDelays t depth old n) where
-    levels_before : (k u : ℕ) → u < k → a.level u ≡ b.level u
+    levels_before : (k u : ℕ) → a.order u < k → a.level u ≡ b.level u
     levels_before zero u l = absurd (omega arith)
     levels_before (suc k) u l =
-        let before : (v : ℕ) → v < u → a.level v ≡ b.level v = λ v w. levels_before k v (omega arith) in
+        let before : (c : ℕ) → MayStay t old c → (chan_at old c).to.unit ≡ u → a.level (chan_at old c).from.unit ≡ b.level (chan_at old c).from.unit =
+        λ c s e. levels_before k (chan_at old c).from.unit (let r = a.rising c s in omega (arith, ap a.order e)) in
         let p = level_le m n sm sn a b u before in
-        let q = level_le n m sn sm b a u (λ v w. sym (before v w)) in
+        let q = level_le n m sn sm b a u (λ c s e. sym (before c s e)) in
         omega arith
 
     depth_one : (c : ℕ) → c < length old.chans → (chan_at m c).delay ≡ (chan_at n c).delay
-    depth_one c l =
-        let x = chan_at old c in
-        let e : a.level x.from.unit ≡ b.level x.from.unit = levels_before (suc x.from.unit) x.from.unit (omega arith) in
-        let P : ℕ → ℕ = λ y. cond (source_delay t old x == 0) (cond (nat_lt x.from.unit x.to.unit && nat_le (y + weight (kind_of old x.to.unit)) depth) 0 1) (source_delay t old x) in
-        a.each c l ∙ ap P e ∙ sym (b.each c l)
+    depth_one c l = elim (cases_eq (chan_at m c).delay (chan_at n c).delay) [
+      | inl e ↦ e
+      | inr other ↦ absurd (
+          let x = chan_at old c in
+          let ahead : IsFeedback t old c → ⊥ = λ f. other (a.delays.feedback c f ∙ sym (b.delays.feedback c f)) in
+          let e : a.level x.from.unit ≡ b.level x.from.unit = levels_before (suc (a.order x.from.unit)) x.from.unit (omega arith) in
+          let P : ℕ → ℕ = λ y. cond (source_delay t old x == 0) (cond (nat_le (y + weight (kind_of old x.to.unit)) depth) 0 1) (source_delay t old x) in
+          other (a.delays.other c l ahead ∙ ap P e ∙ sym (b.delays.other c l ahead)))
+    ]
 
 -- ---- nets
 

@@ -17,14 +17,14 @@ use Rattle.buffer_place.specs.declared.timing.Timing.{Timing}
 use Rattle.buffer_place.specs.declared.cuts.Cuts.{Cuts}
 use Rattle.buffer_place.specs.declared.cuts.Cuts.TheVariants.{Cycles, Chains}
 use Rattle.buffer_place.specs.Timings.{IsTiming, source_delay}
-use Rattle.buffer_place.specs.Chains.{weight, ComesOver, AreLevels, AreDepthDelays, depth_delay}
-use Rattle.buffer_place.specs.Placing.{classed, LiesOnCycle, AreMostSlots, AreUsualDelays, AreDelays, IsPlaced}
-use Rattle.buffer_place.specs.Edges.{instant, sources, targets, AreUnitParts, is_joined, marked_delay}
-use Rattle.buffer_place.specs.Cuts.{AreUnitLevels, AreCutsFor, cut_delay, level_at}
-use Rattle.buffer_place.proofs.EdgeLemmas.{goes_round, lies_on, given_at, Goes, is_instant_of, edge_of, instant_of, within_of, instant_delay, instant_source, instant_target}
-use Rattle.buffer_place.proofs.LevelLemmas.{AreRowLevels, unit_row_levels, each_levelled}
+use Rattle.buffer_place.specs.Chains.{weight, ComesOver, AreLevels, is_low, depth_delay}
+use Rattle.buffer_place.specs.Placing.{classed, LiesOnCycle, IsRising, AreMostSlots, AreUsualDelays, AreLevelDelays, AreDepthDelays, AreDelays, IsPlaced}
+use Rattle.buffer_place.specs.Edges.{AreUnitParts, is_joined, is_ahead, marked_delay}
+use Rattle.buffer_place.specs.Cuts.{AreUnitLevels, AreCutsFor, chain_delay, cut_delay, level_at}
+use Rattle.buffer_place.proofs.EdgeLemmas.{goes_round, lies_on, given_at, Stays, stays_of, row_of, feedback_joined, ahead_of, may_stay}
+use Rattle.buffer_place.proofs.LevelLemmas.{AreRowLevels, unit_row_levels, each_levelled, place_of, place_rises}
 use Rattle.buffer_place.proofs.TimedLemmas.{source_within, after, at_after, same_after, slots_each, sized_after, delayed_each}
-use Rattle.buffer_place.proofs.DepthLemmas.{GoesThrough, Crosses, crosses, is_instant, goes_up, enters_low, depth_some, depth_within, no_cycle}
+use Rattle.buffer_place.proofs.DepthLemmas.{GoesThrough, Crosses, crosses, is_instant, enters_low, no_cycle}
 
 -- ---- where channels on cycles get a delay
 
@@ -107,73 +107,104 @@ module _ (t : Timing) (net : Net) (marks : List ℕ) (slots : ℕ) where
 
 -- ---- where channels get a delay by a depth
 
-module _ (t : Timing) (depth : ℕ) (net : Net) (levels : List ℕ) (slots : ℕ) where
+module _ (t : Timing) (depth : ℕ) (net : Net) (marks levels : List ℕ) where
   abbrev level : ℕ → ℕ
   level = level_at levels
 
+  chain_some : (c : Chan) → 0 < source_delay t net c → 0 < chain_delay t depth marks level net c
+  chain_some c l = by (source_delay t net c == 0) refl
+    where
+      by : (a : Bool) → (source_delay t net c == 0) ≡ a → 0 < cond a (cond (is_ahead marks c && is_low depth level net c) 0 1) (source_delay t net c)
+      by true e = let z = eqb-true _ _ e in absurd (omega arith)
+      by false e = l
+
+  chain_within : IsTiming t → (c : Chan) → chain_delay t depth marks level net c ≤ max_delay
+  chain_within h c = by (source_delay t net c == 0) (is_ahead marks c && is_low depth level net c)
+    where
+      by : (a b : Bool) → cond a (cond b 0 1) (source_delay t net c) ≤ max_delay
+      by true true = omega arith
+      by true false = omega arith
+      by false b = source_within t net c h
+
+module _ (t : Timing) (depth : ℕ) (net : Net) (marks levels : List ℕ) (slots : ℕ) (parts : AreUnitParts t net marks) (a : AreUnitLevels t depth net marks levels) (ends : EndsWithin net) where
   abbrev cut : Net
-  cut = after t net (depth_delay t depth level net) slots
+  cut = after t net (chain_delay t depth marks (level_at levels) net) slots
 
   abbrev same_cut : SamePlain net cut
-  same_cut = same_after t net (depth_delay t depth level net) slots
+  same_cut = same_after t net (chain_delay t depth marks (level_at levels) net) slots
 
-  cut_at : (c : ℕ) → c < length net.chans → (chan_at cut c).delay ≡ depth_delay t depth level net (chan_at net c)
-  cut_at c l = ap (λ (x : Chan). x.delay) (at_after t net (depth_delay t depth level net) slots c l)
+  cut_at : (c : ℕ) → c < length net.chans → (chan_at cut c).delay ≡ chain_delay t depth marks (level_at levels) net (chan_at net c)
+  cut_at c l = ap (λ (x : Chan). x.delay) (at_after t net (chain_delay t depth marks (level_at levels) net) slots c l)
+
+  behind_delay : (c : Chan) → source_delay t net c ≡ 0 → is_ahead marks c ≡ false → chain_delay t depth marks (level_at levels) net c ≡ 1
+  behind_delay c z f =
+      ap (λ b. cond b (cond (is_ahead marks c && is_low depth (level_at levels) net c) 0 1) (source_delay t net c)) (eq-eqb _ _ z)
+      ∙ ap (λ b. cond (b && is_low depth (level_at levels) net c) 0 1) f
+
+  ahead_delay : (c : Chan) → (source_delay t net c ≡ 0 → is_ahead marks c ≡ true) → chain_delay t depth marks (level_at levels) net c ≡ depth_delay t depth (level_at levels) net c
+  ahead_delay c f = by (source_delay t net c == 0) refl
+    where
+      by : (b : Bool) → (source_delay t net c == 0) ≡ b
+          → cond b (cond (is_ahead marks c && is_low depth (level_at levels) net c) 0 1) (source_delay t net c) ≡ cond b (cond (is_low depth (level_at levels) net c) 0 1) (source_delay t net c)
+      by true e = ap (λ b. cond (b && is_low depth (level_at levels) net c) 0 1) (f (eqb-true _ _ e))
+      by false e = refl
+
+  level_delays : AreLevelDelays t depth (level_at levels) net cut
+  level_delays = record {
+    feedback = λ c f. (let j = feedback_joined t net marks parts ends c f in cut_at c j.1.0 ∙ behind_delay (chan_at net c) j.0 j.1.1);
+    other = λ c l away. cut_at c l ∙ ahead_delay (chan_at net c) (λ z. ahead_of t net marks parts ends c (record { within = l; class = z; ahead = away }));
+  }
+
+  found : AreRowLevels depth net a.rows levels
+  found = unit_row_levels t depth net marks levels a
+
+  many : length levels ≡ length net.units
+  many = each_levelled t depth net marks levels a
+
+  over_cut : (v u c : ℕ) → IsInstant cut v u c → level_at levels v + weight (kind_of cut u) ≤ level_at levels u
+  over_cut v u c i =
+      let h = crosses t depth (level_at levels) net cut same_cut level_delays v u c i in
+      let l : u < length levels = omega (arith, many, ends.to c h.within, h.target) in
+      let ahead = ahead_of t net marks parts ends c (record { within = h.within; class = h.through.class; ahead = h.free }) in
+      let s : Stays t net marks parts ends v u = record { chan = c; within = h.within; class = h.through.class; ahead = ahead; source = h.source; target = h.target } in
+      (found.each u l).over v (row_of t net marks parts ends a.rows a.are_rows u v s) (enters_low t depth (level_at levels) net cut same_cut level_delays v u c i)
+
+  comes_over : (v u : ℕ) → InRow a.rows u v → level_at levels v + weight (kind_of net u) ≤ depth → level_at levels u ≡ level_at levels v + weight (kind_of net u) → ComesOver cut (level_at levels) u
+  comes_over v u r few is =
+      let s = stays_of t net marks parts ends a.rows a.are_rows u v r in
+      let x = chan_at net s.chan in
+      let m = may_stay t net marks parts ends s.chan s.within s.class s.ahead in
+      let low : level_at levels x.from.unit + weight (kind_of net x.to.unit) ≤ depth =
+      subst (λ y. level_at levels x.from.unit + weight (kind_of net y) ≤ depth) (sym s.target) (subst (λ y. level_at levels y + weight (kind_of net u) ≤ depth) (sym s.source) few) in
+      let through : GoesThrough t depth (level_at levels) net x = record { class = s.class; few = low } in
+      let h : Crosses t depth (level_at levels) net cut same_cut level_delays v u s.chan = record { within = s.within; free = m.ahead; through = through; source = s.source; target = s.target } in
+      record { source = v; chan = s.chan; instant = is_instant t depth (level_at levels) net cut same_cut level_delays v u s.chan h; is = is }
+
+  no_unit : (u : ℕ) → length levels ≤ u → (level_at levels u ≡ 0) × (weight (kind_of net u) ≡ 0)
+  no_unit u l = (get_or_past levels u 0 l, ap weight (get_or_past net.units u (Sink 0) (omega (arith, many))))
+
+  cut_levels : AreLevels cut (level_at levels)
+  cut_levels = record {
+    own = λ u. elim (cases_lt u (length levels)) [ inl l ↦ (found.each u l).own | inr l ↦ omega (arith, (no_unit u l).1) ];
+    over = over_cut;
+    least = λ u. elim (cases_lt u (length levels)) [
+      | inl l ↦ elim (found.each u l).least [ inl e ↦ inl e | inr g ↦ inr (comes_over g.source u g.named g.few g.is) ]
+      | inr l ↦ inl ((no_unit u l).0 ∙ sym (no_unit u l).1)
+    ];
+  }
+
+  rising : IsRising t net (place_of a.order)
+  rising c m =
+      let x = chan_at net c in
+      let s : Stays t net marks parts ends x.from.unit x.to.unit = record { chan = c; within = m.within; class = m.class; ahead = ahead_of t net marks parts ends c m; source = refl; target = refl } in
+      let l : x.to.unit < length a.rows = omega (arith, ends.to c m.within, a.are_rows.size) in
+      place_rises a.rows a.order x.to.unit x.from.unit a.topological l (row_of t net marks parts ends a.rows a.are_rows x.to.unit x.from.unit s)
+
+  depth_delays : AreDepthDelays t depth net cut
+  depth_delays = record { order = place_of a.order; rising = rising; level = level_at levels; levels = cut_levels; delays = level_delays }
 
   cuts_no_cycle : (cs : List ℕ) → IsClosedWalk cut cs → ⊥
-  cuts_no_cycle = no_cycle t depth level net cut same_cut cut_at
-
-  module _ (a : AreUnitLevels t depth net levels) (ends : EndsWithin net) where
-    found : AreRowLevels depth net a.rows levels
-    found = unit_row_levels t depth net levels a
-
-    many : length levels ≡ length net.units
-    many = each_levelled t depth net levels a
-
-    lists_long : length (sources (instant t net net.chans)) ≡ length (targets (instant t net net.chans))
-    lists_long = length-map (instant t net net.chans) (λ (c : Chan). c.from.unit) ∙ sym (length-map (instant t net net.chans) (λ (c : Chan). c.to.unit))
-
-    -- a channel without a delay stands in a row
-    row_of : (v u c : ℕ) → Crosses t depth level net cut same_cut cut_at v u c → InRow a.rows u v
-    row_of v u c h =
-        let g : Goes t net v u = subst (λ x. Goes t net x u) h.source (subst (Goes t net (chan_at net c).from.unit) h.target (edge_of t net _ _ c (is_instant_of t net c h.within h.through.class))) in
-        a.are_rows.whole u v (g.0, (subst (λ n. g.0 < n) lists_long g.1), g.3, g.2)
-
-    over_cut : (v u c : ℕ) → IsInstant cut v u c → level v + weight (kind_of cut u) ≤ level u
-    over_cut v u c i =
-        let h = crosses t depth level net cut same_cut cut_at v u c i in
-        let l : u < length levels = omega (arith, many, ends.to c h.within, h.target) in
-        (found.each u l).over v (row_of v u c h) (goes_up t depth level net cut same_cut cut_at v u c i) (enters_low t depth level net cut same_cut cut_at v u c i)
-
-    comes_over : (v u : ℕ) → InRow a.rows u v → v < u → level v + weight (kind_of net u) ≤ depth → level u ≡ level v + weight (kind_of net u) → ComesOver cut level u
-    comes_over v u r b few is =
-        let e = a.are_rows.sound u v r in
-        let g : Goes t net v u = (e.0, (subst (λ n. e.0 < n) (sym lists_long) e.1), e.3, e.2) in
-        let i = instant_of t net v u g in
-        let s = instant_source t net v u i.0 i.1 in
-        let d = instant_target t net v u i.0 i.1 in
-        let x = chan_at net i.0 in
-        let low : level x.from.unit + weight (kind_of net x.to.unit) ≤ depth =
-        subst (λ y. level x.from.unit + weight (kind_of net y) ≤ depth) (sym d) (subst (λ y. level y + weight (kind_of net u) ≤ depth) (sym s) few) in
-        let through : GoesThrough t depth level net x = record { class = instant_delay t net v u i.0 i.1; rises = omega (arith, s, d, b); few = low } in
-        let h : Crosses t depth level net cut same_cut cut_at v u i.0 = record { within = within_of t net v u i.0 i.1; through = through; source = s; target = d } in
-        record { source = v; chan = i.0; instant = is_instant t depth level net cut same_cut cut_at v u i.0 h; is = is }
-
-    no_unit : (u : ℕ) → length levels ≤ u → (level u ≡ 0) × (weight (kind_of net u) ≡ 0)
-    no_unit u l = (get_or_past levels u 0 l, ap weight (get_or_past net.units u (Sink 0) (omega (arith, many))))
-
-    cut_levels : AreLevels cut level
-    cut_levels = record {
-      own = λ u. elim (cases_lt u (length levels)) [ inl l ↦ (found.each u l).own | inr l ↦ omega (arith, (no_unit u l).1) ];
-      over = over_cut;
-      least = λ u. elim (cases_lt u (length levels)) [
-        | inl l ↦ elim (found.each u l).least [ inl e ↦ inl e | inr g ↦ inr (comes_over g.source u g.named g.before g.few g.is) ]
-        | inr l ↦ inl ((no_unit u l).0 ∙ sym (no_unit u l).1)
-      ];
-    }
-
-    depth_delays : AreDepthDelays t depth net cut
-    depth_delays = record { level = level; levels = cut_levels; each = cut_at }
+  cuts_no_cycle = no_cycle t depth (level_at levels) net cut same_cut level_delays (place_of a.order) rising
 
 -- ---- both
 
@@ -183,25 +214,26 @@ module _ (t : Timing) (net : Net) (slots : ℕ) where
 
   delays : (d : Option ℕ) (cuts : Cuts) → AreCutsFor t d net cuts → EndsWithin net → AreDelays t d net (placed_net cuts)
   delays None (Cycles marks) a ends = usual_delays t net marks.items slots a ends
-  delays None (Chains depth levels) a ends = absurd a
+  delays None (Chains depth marks levels) a ends = absurd a
   delays (Some d) (Cycles marks) a ends = absurd a
-  delays (Some d) (Chains depth levels) a ends =
-      subst (λ x. AreDepthDelays t x net (placed_net (Chains depth levels))) a.0
-      (depth_delays t depth net levels.items slots (subst (λ x. AreUnitLevels t x net levels.items) (sym a.0) a.1) ends)
+  delays (Some d) (Chains depth marks levels) a ends =
+      subst (λ x. AreDepthDelays t x net (placed_net (Chains depth marks levels))) a.0
+      (depth_delays t depth net marks.items levels.items slots a.1.0 (subst (λ x. AreUnitLevels t x net marks.items levels.items) (sym a.0) a.1.1) ends)
 
   cut_within : IsTiming t → (cuts : Cuts) (c : Chan) → cut_delay t net cuts c ≤ max_delay
   cut_within h (Cycles marks) c = marked_within t net marks.items slots h c
-  cut_within h (Chains depth levels) c = depth_within t depth (level_at levels.items) net h c
+  cut_within h (Chains depth marks levels) c = chain_within t depth net marks.items levels.items h c
 
   cut_some : (cuts : Cuts) (c : Chan) → 0 < source_delay t net c → 0 < cut_delay t net cuts c
   cut_some (Cycles marks) c l = marked_some t net marks.items slots c l
-  cut_some (Chains depth levels) c l = depth_some t depth (level_at levels.items) net c l
+  cut_some (Chains depth marks levels) c l = chain_some t depth net marks.items levels.items c l
 
   no_cycles : (d : Option ℕ) (cuts : Cuts) → AreCutsFor t d net cuts → EndsWithin net → (cs : List ℕ) → IsClosedWalk (placed_net cuts) cs → ⊥
   no_cycles None (Cycles marks) a ends cs w = no_round t net marks.items slots a ends cs w
-  no_cycles None (Chains depth levels) a ends cs w = absurd a
+  no_cycles None (Chains depth marks levels) a ends cs w = absurd a
   no_cycles (Some d) (Cycles marks) a ends cs w = absurd a
-  no_cycles (Some d) (Chains depth levels) a ends cs w = cuts_no_cycle t depth net levels.items slots cs w
+  no_cycles (Some d) (Chains depth marks levels) a ends cs w =
+      cuts_no_cycle t depth net marks.items levels.items slots a.1.0 (subst (λ x. AreUnitLevels t x net marks.items levels.items) (sym a.0) a.1.1) ends cs w
 
   module _ (cuts : Cuts) (a : AreCutsFor t t.depth net cuts) (ends : EndsWithin net) where
     pub placed : AreMostSlots t.slots (length net.chans) slots → IsPlaced t net (placed_net cuts)

@@ -1,6 +1,8 @@
 -- Chains of units without a register between them: the weights of walks along channels of delay 0, the levels of units, and
 -- the delays that keep them low.
-use Rattle.std.specs.Prelude.{◌≡◌, ◌⊎◌, ℕ, ◌+◌, ◌≤◌, ◌<◌, ◌==◌, ◌&&◌, nat_lt, nat_le, Bool, cond, List, [], ◌∷◌, length}
+use Rattle.std.specs.Prelude.{◌≡◌, ◌⊎◌, ℕ, ◌+◌, ◌≤◌, ◌==◌, nat_le, Bool, cond, List, [], ◌∷◌}
+use Rattle.el_base.specs.declared.operation.Op1.{Op1}
+use Rattle.el_base.specs.declared.operation.Op1.TheVariants as op1
 use Rattle.net_types.specs.declared.net.Chan.{Chan}
 use Rattle.net_types.specs.declared.net.Net.{Net}
 use Rattle.net_types.specs.declared.net.Unit.{Unit as Kind}
@@ -10,12 +12,40 @@ use Rattle.net_check.specs.Cycles.{IsInstant}
 use Rattle.buffer_place.specs.declared.timing.Timing.{Timing}
 use Rattle.buffer_place.specs.Timings.{source_delay}
 
--- 1 for a unit that works on tokens or chooses among them; 0 for one that is wires alone, as a fork, and for the ends of the net
+-- 1 for an operation that computes, 0 for one that converts widths, which is wires
+abbrev pub op1_weight : Op1 → ℕ
+op1_weight op1.Neg32 = 1
+op1_weight op1.Neg64 = 1
+op1_weight op1.Not32 = 1
+op1_weight op1.Not64 = 1
+op1_weight op1.Zero32 = 1
+op1_weight op1.Zero64 = 1
+op1_weight op1.S8to16 = 0
+op1_weight op1.S8to32 = 0
+op1_weight op1.S8to64 = 0
+op1_weight op1.S16to32 = 0
+op1_weight op1.S16to64 = 0
+op1_weight op1.S32to64 = 0
+op1_weight op1.U8to16 = 0
+op1_weight op1.U8to32 = 0
+op1_weight op1.U8to64 = 0
+op1_weight op1.U16to32 = 0
+op1_weight op1.U16to64 = 0
+op1_weight op1.U32to64 = 0
+op1_weight op1.Cut16to8 = 0
+op1_weight op1.Cut32to8 = 0
+op1_weight op1.Cut32to16 = 0
+op1_weight op1.Cut64to8 = 0
+op1_weight op1.Cut64to16 = 0
+op1_weight op1.Cut64to32 = 0
+
+-- 1 for a unit that works on tokens or chooses among them; 0 for one that is wires alone, as a fork or a conversion of widths, and for the ends of
+-- the net
 abbrev pub weight : Kind → ℕ
 weight kind.Entry = 0
 weight (kind.Param j) = 0
 weight (kind.Const w n) = 0
-weight (kind.Op1 op) = 1
+weight (kind.Op1 op) = op1_weight op
 weight (kind.Op2 op) = 1
 weight (kind.Select w) = 1
 weight (kind.Fork w n) = 0
@@ -46,17 +76,10 @@ pub record AreLevels (net : Net) (level : ℕ → ℕ) : Type 0 where
   pub over : (v u c : ℕ) → IsInstant net v u c → level v + weight (kind_of net u) ≤ level u
   pub least : (u : ℕ) → (level u ≡ weight (kind_of net u)) ⊎ ComesOver net level u
 
--- the channel, where its class has no delay, stays without one: it leads to a unit of a greater number, and the level of the unit that it leaves and the weight of the unit that it
--- enters are together at most the depth
-abbrev pub stays_instant : ℕ → (ℕ → ℕ) → Net → Chan → Bool
-stays_instant depth level net c = nat_lt c.from.unit c.to.unit && nat_le (level c.from.unit + weight (kind_of net c.to.unit)) depth
+-- the level of the unit that the channel leaves and the weight of the unit that it enters are together at most the depth
+abbrev pub is_low : ℕ → (ℕ → ℕ) → Net → Chan → Bool
+is_low depth level net c = nat_le (level c.from.unit + weight (kind_of net c.to.unit)) depth
 
--- the delay of the class; where that is 0 and the channel does not stay without one, 1
+-- the delay of the class; where that is 0 and the channel is not low, 1
 abbrev pub depth_delay : Timing → ℕ → (ℕ → ℕ) → Net → Chan → ℕ
-depth_delay t depth level net c = cond (source_delay t net c == 0) (cond (stays_instant depth level net c) 0 1) (source_delay t net c)
-
--- the delays of a net by a depth, from the levels that they give
-pub record AreDepthDelays (t : Timing) (depth : ℕ) (old new : Net) : Type 0 where
-  pub level : ℕ → ℕ
-  pub levels : AreLevels new level
-  pub each : (c : ℕ) → c < length old.chans → (chan_at new c).delay ≡ depth_delay t depth level old (chan_at old c)
+depth_delay t depth level net c = cond (source_delay t net c == 0) (cond (is_low depth level net c) 0 1) (source_delay t net c)

@@ -9,7 +9,7 @@ use Rattle.net_check.specs.Cycles.{Leads, IsClosedWalk}
 use Rattle.net_check.specs.Retimed.{SamePlain}
 use Rattle.buffer_place.specs.declared.timing.Timing.{Timing}
 use Rattle.buffer_place.specs.Timings.{IsTiming, source_delay}
-use Rattle.buffer_place.specs.Chains.{AreDepthDelays, walk_weight}
+use Rattle.buffer_place.specs.Chains.{walk_weight, AreLevels, depth_delay}
 
 -- the net with the delays of the classes alone
 abbrev pub classed : Timing → Net → Net
@@ -30,6 +30,35 @@ pub record AreMostSlots (wanted n slots : ℕ) : Type 0 where
 pub record AreUsualDelays (t : Timing) (old new : Net) : Type 0 where
   pub on_cycle : (c : ℕ) → LiesOnCycle (classed t old) c → (chan_at new c).delay ≡ 1
   pub off_cycle : (c : ℕ) → c < length old.chans → (LiesOnCycle (classed t old) c → ⊥) → (chan_at new c).delay ≡ source_delay t old (chan_at old c)
+
+-- a cycle of channels whose classes have delay 0 goes through the channel, and it does not lead to a unit of a greater number
+pub record IsFeedback (t : Timing) (net : Net) (c : ℕ) : Type 0 where
+  pub on_cycle : LiesOnCycle (classed t net) c
+  pub falls : (chan_at net c).to.unit ≤ (chan_at net c).from.unit
+
+-- the class of the channel has no delay, and it is no feedback
+pub record MayStay (t : Timing) (net : Net) (c : ℕ) : Type 0 where
+  pub within : c < length net.chans
+  pub class : source_delay t net (chan_at net c) ≡ 0
+  pub ahead : IsFeedback t net c → ⊥
+
+-- an order of the units in which each channel that may stay without delay leads to a later unit
+abbrev pub IsRising : Timing → Net → (ℕ → ℕ) → Type 0
+IsRising t net order = (c : ℕ) → MayStay t net c → order (chan_at net c).from.unit < order (chan_at net c).to.unit
+
+-- delays by the levels of units: a feedback has delay 1; any other channel the delay of its class, or where that is 0 and it
+-- is not low, 1
+pub record AreLevelDelays (t : Timing) (depth : ℕ) (level : ℕ → ℕ) (old new : Net) : Type 0 where
+  pub feedback : (c : ℕ) → IsFeedback t old c → (chan_at new c).delay ≡ 1
+  pub other : (c : ℕ) → c < length old.chans → (IsFeedback t old c → ⊥) → (chan_at new c).delay ≡ depth_delay t depth level old (chan_at old c)
+
+-- the delays of a net by a depth, from the levels that they give
+pub record AreDepthDelays (t : Timing) (depth : ℕ) (old new : Net) : Type 0 where
+  pub order : ℕ → ℕ
+  pub rising : IsRising t old order
+  pub level : ℕ → ℕ
+  pub levels : AreLevels new level
+  pub delays : AreLevelDelays t depth level old new
 
 abbrev pub AreDelays : Timing → Option ℕ → Net → Net → Type 0
 AreDelays t None old new = AreUsualDelays t old new

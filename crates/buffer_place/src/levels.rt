@@ -1,59 +1,80 @@
-ghost use Rattle.std.specs.Prelude.{◌≡◌, [], ◌<◌, ◌≤◌, ◌^◌, IfOk, OnOk, slice_get};
+ghost use Rattle.std.specs.Prelude.{◌≡◌, ℕ, [], ◌<◌, ◌≤◌, ◌^◌, IfOk, OnOk, length, replicate, slice_get, slice_index};
 ghost use Rattle.net_types.specs.Numbered.{AreNumbered};
 ghost use Rattle.net_types.specs.Nets.{kind_of};
 ghost use Rattle.net_check.specs.Checks.{EndsWithin};
-ghost use Rattle.buffer_place.specs.Chains.{weight};
-ghost use Rattle.buffer_place.specs.Cuts.{AreSourceRows, AreUnitLevels, levels_with, next_level, raised, raised_by};
+ghost use Rattle.buffer_place.specs.Chains.{op1_weight, weight};
+ghost use Rattle.buffer_place.specs.Cuts.{AreSourceRows, AreUnitLevels, level_of, levels_by, raised, raised_by};
+ghost use Rattle.buffer_place.specs.Edges.{AreUnitParts};
 
-use crate::edges::instant_edges;
+use crate::edges::staying_edges;
 use crate::timing::Timing;
-use graph_parts::rows;
+use el_base::Op1;
+use graph_parts::{rows, topological_order};
 use net_types::{List, Memory, Net, Unit};
 use std::alloc::Global;
 
-/// The level of each unit, in one walk over the units and the channels into them: the greatest weight of a walk to it over
-/// channels that get no delay.
+/// The level of each unit: the greatest weight of a walk to it over channels that get no delay. The units are taken in an order
+/// in which the channels that may stay without delay lead from earlier units to later ones.
 pub(crate) fn unit_levels(
     alloc: Global,
     net: &Net,
     timing: Timing,
+    marks: &[usize],
     depth: u32,
 ) -> Result<Vec<u32>, Memory>
     requires numbered { AreNumbered net.now }
     requires within { EndsWithin net.now }
-    ensures { IfOk result (λ levels. AreUnitLevels timing depth net.now levels.items) }
+    requires parts { AreUnitParts timing net.now marks.now }
+    ensures { IfOk result (λ levels.
+        AreUnitLevels timing depth net.now marks.now levels.items) }
 {
-    let rows = source_rows(alloc, net, timing)?;
-    levels_of(alloc, net, rows.as_slice(), depth)
+    let rows = source_rows(alloc, net, timing, marks)?;
+    let order = topological_order(alloc, rows.as_slice())?;
+    levels_by(alloc, net, rows.as_slice(), order.as_slice(), depth)
 }
 
-/// For each unit the units that the channels into it leave, over those whose classes have delay 0.
-fn source_rows(alloc: Global, net: &Net, timing: Timing) -> Result<Vec<List<usize>>, Memory>
+/// For each unit the units that the channels into it leave, over those that may stay without delay.
+fn source_rows(
+    alloc: Global,
+    net: &Net,
+    timing: Timing,
+    marks: &[usize],
+) -> Result<Vec<List<usize>>, Memory>
     requires numbered { AreNumbered net.now }
     requires within { EndsWithin net.now }
-    ensures { IfOk result (λ rows. AreSourceRows timing net.now rows.items) }
+    requires each { length marks.now ≡ length net.now.units }
+    ensures { IfOk result (λ rows. AreSourceRows timing net.now marks.now rows.items) }
 {
-    let edges = instant_edges(alloc, net, timing)?;
+    let edges = staying_edges(alloc, net, timing, marks)?;
     let units = net.units.as_slice().len();
     rows(alloc, units, edges.to.as_slice(), edges.from.as_slice())
 }
 
-fn levels_of(alloc: Global, net: &Net, rows: &[List<usize>], depth: u32) -> Result<Vec<u32>, Memory>
-    ensures { IfOk result (λ levels. levels.items ≡ levels_with depth net.now rows.now []) }
+/// The levels of units, found one after the other in the order.
+fn levels_by(
+    alloc: Global,
+    net: &Net,
+    rows: &[List<usize>],
+    order: &[usize],
+    depth: u32,
+) -> Result<Vec<u32>, Memory>
+    requires { (i : ℕ) → i < length order.now → slice_index order.now i < length rows.now }
+    ensures { IfOk result (λ levels. levels.items ≡
+        levels_by depth net.now rows.now order.now (replicate (length rows.now) 0)) }
 {
-    let mut levels = Vec::new(alloc);
-    for row in rows {
-        let level = next_level(net, levels.as_slice(), row.as_slice(), depth);
-        levels.push(level)?;
+    let mut levels = vec![in alloc; 0u32; rows.len()]?;
+    for unit in order {
+        let row = rows[*unit].as_slice();
+        levels[*unit] = level_of(net, levels.as_slice(), *unit, row, depth);
     }
     Ok(levels)
 }
 
-/// The level of the unit that follows those of the levels, from the units that channels into it leave.
-fn next_level(net: &Net, levels: &[u32], sources: &[usize], depth: u32) -> u32
-    ensures { result ≡ next_level depth net.now levels.now sources.now }
+/// The level of a unit, from the units that channels into it leave.
+fn level_of(net: &Net, levels: &[u32], unit: usize, sources: &[usize], depth: u32) -> u32
+    ensures { result ≡ level_of depth net.now levels.now unit sources.now }
 {
-    let weight = weight_at(net, levels.len());
+    let weight = weight_at(net, unit);
     raised(weight, levels, sources, depth)
 }
 
@@ -92,13 +113,14 @@ pub(crate) fn weight_at(net: &Net, unit: usize) -> u32
     }
 }
 
-/// 1 for a unit that works on tokens or chooses among them; 0 for one that is wires alone, and for the ends of the net.
+/// 1 for a unit that works on tokens or chooses among them; 0 for one that is wires alone, as a conversion of widths, and for the
+/// ends of the net.
 fn weight(unit: &Unit) -> u32
     ensures { result ≡ weight unit.now }
 {
     match unit {
-        Unit::Op1(_)
-        | Unit::Op2(_)
+        Unit::Op1(op) => op1_weight(*op),
+        Unit::Op2(_)
         | Unit::Select { .. }
         | Unit::Mux { .. }
         | Unit::Cmerge { .. }
@@ -111,5 +133,32 @@ fn weight(unit: &Unit) -> u32
         | Unit::Fork { .. }
         | Unit::Sink { .. }
         | Unit::Exit => 0,
+    }
+}
+
+/// 1 for an operation that computes, 0 for one that converts widths.
+fn op1_weight(op: Op1) -> u32
+    ensures { result ≡ op1_weight op }
+{
+    match op {
+        Op1::Neg32 | Op1::Neg64 | Op1::Not32 | Op1::Not64 | Op1::Zero32 | Op1::Zero64 => 1,
+        Op1::S8to16
+        | Op1::S8to32
+        | Op1::S8to64
+        | Op1::S16to32
+        | Op1::S16to64
+        | Op1::S32to64
+        | Op1::U8to16
+        | Op1::U8to32
+        | Op1::U8to64
+        | Op1::U16to32
+        | Op1::U16to64
+        | Op1::U32to64
+        | Op1::Cut16to8
+        | Op1::Cut32to8
+        | Op1::Cut32to16
+        | Op1::Cut64to8
+        | Op1::Cut64to16
+        | Op1::Cut64to32 => 0,
     }
 }

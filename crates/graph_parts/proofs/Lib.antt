@@ -1,3 +1,4 @@
 pub mod SearchLemmas
 pub mod RowLemmas
 pub mod PartLemmas
+pub mod TopologicalLemmas

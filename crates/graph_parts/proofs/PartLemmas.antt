@@ -1,8 +1,6 @@
 -- Parts.
-use Rattle.std.proofs.Common.{◌≡◌, ◌≢◌, ◌⊎◌, inl, inr, ℕ, ◌+◌, ◌<◌, ◌≤◌, ◌==◌, Bool, true, false, cond, List, [], ◌∷◌, length, get_or, set, refl, sym, ap, subst, ◌∙◌, arith, ◌↔◌, length-set, length-append, get_or-set_same, get_or-set_other, ◌++◌}
-use Rattle.std.proofs.lemmas.Bool.{cases_eq, cases_lt, eqb-true, eqb-false, eq-eqb}
-use Rattle.std.proofs.lemmas.List.{get_or_append_left}
-use Rattle.std.proofs.Math.Seq.{get_or-append_seam}
+use Rattle.std.proofs.Common.{◌≡◌, ◌≢◌, ◌⊎◌, inl, inr, ℕ, ◌+◌, ◌<◌, ◌≤◌, ◌==◌, Bool, true, false, cond, List, [], ◌∷◌, length, get_or, set, refl, sym, ap, subst, ◌∙◌, arith, length-set, get_or-set_same, get_or-set_other}
+use Rattle.std.proofs.lemmas.Bool.{cases_eq, eqb-true, eqb-false}
 use Rattle.std.proofs.lemmas.Grind.{get_or_default_zero}
 use Rattle.graph_parts.specs.Graph.{InRow, Walk, Reaches, Edge, AreRows, AreTurned}
 use Rattle.graph_parts.specs.Search.{mark, IsMoved, IsSearched}
