@@ -4,16 +4,19 @@
     elastic go my.c my.txt 2> error.txt || tools/explain.py < error.txt
     tools/explain.py my.c:3:12: 10 Unexpected
     tools/explain.py --file kernels/my.c --file my.txt < error.txt
+    tools/explain.py --all my.c
 
 The error line is given as words or on the standard input, among other lines too. The files that it speaks of are looked for by the
 name in the line; those named by --file are looked for by their last names, too. A text of inputs is explained better with the
-kernel or the netlist that it is for. `make go`, `make ref`, `make compile` and `make run` call this after a refusal."""
+kernel or the netlist that it is for. With --all a kernel is read by this tool itself, and every refusal is told at once: it goes on
+behind each as if it were mended. `make go`, `make ref`, `make compile` and `make run` call this after a refusal."""
 import argparse
 import os
 import re
 import sys
 
 from explaining import kernels, texts
+from explaining.refusals import refusals
 from explaining.source import Source, shown
 from explaining.undefined import possible
 
@@ -102,14 +105,18 @@ def answer(parts, files):
     return of_text(number, parts, files) if 30 <= number < 70 or number >= 90 else of_run(number, parts, files)
 
 
+def width_at(source, at, line, column):
+    """The width of the token at a place; 1 where none begins there."""
+    return len(source.tokens[at].text) if at < len(source.tokens) and source.tokens[at].start == source.offset(line, column) else 1
+
+
 def at_place(number, parts, files):
     """Of a line with a place in a kernel."""
     source, line, column = files.source(parts["file"]), int(parts["line"]), int(parts["column"])
     if not source:
         return [], f"The file {parts['file']} is not here, so its line is not looked at.", "name it by `--file`."
     at = source.at(line, column)
-    width = len(source.tokens[at].text) if at < len(source.tokens) and source.tokens[at].start == source.offset(line, column) else 1
-    place = shown(source, line, column, width)
+    place = shown(source, line, column, width_at(source, at, line, column))
     if number != 80:
         return place, *kernels.cause(source, number, line, column)
     found = possible(source, line, column)
@@ -172,11 +179,35 @@ def of_run(number, parts, files):
     }[number]
 
 
+def all_of(path):
+    """The lines that explain every refusal of a kernel; those with the same words are told once, with all their places."""
+    source = Files([path]).source(path)
+    if source is None:
+        sys.exit(f"explain.py: cannot read {path}")
+    told = {}
+    for number, line, column in refusals(source):
+        told.setdefault((number, *kernels.cause(source, number, line, column)), []).append((line, column))
+    lines = []
+    for (number, cause, remedy), places in told.items():
+        line, column = places[0]
+        at = source.at(line, column)
+        lines += [f"{path}:{line}:{column}: {number} {WORDS[number]}", *shown(source, line, column, width_at(source, at, line, column))]
+        also = ", ".join(f"{line}:{column}" for line, column in places[1:9]) + " .." * (len(places) > 9)
+        lines += [f"     also at {also}"] * (len(places) > 1) + [f"why:     {cause}", f"instead: {remedy}", ""]
+    count = sum(map(len, told.values()))
+    return lines + [f"{count} refusal{'s' * (count != 1)}" + ("; tools/mend.py does what is mechanical of it" if count else
+                                                            ", but for those of sizes (12, 13, 15)")]
+
+
 def main():
     words = argparse.ArgumentParser(description=__doc__, formatter_class=argparse.RawDescriptionHelpFormatter)
     words.add_argument("--file", action="append", default=[], metavar="PATH", help="a file that the line may speak of")
     words.add_argument("line", nargs="*", metavar="LINE", help="the error line; without it the standard input is read")
+    words.add_argument("--all", metavar="KERNEL", help="tell every refusal of a kernel at once")
     given = words.parse_intermixed_args()
+    if given.all:
+        print("\n".join(all_of(given.all)))
+        return
     text = " ".join(given.line) if given.line else sys.stdin.buffer.read().decode("utf-8", "replace")
     line, parts = found_in(text)
     if line is None:

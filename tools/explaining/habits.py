@@ -4,7 +4,9 @@ Each habit looks at a spot, the refused token among its neighbours, and answers 
 that answers counts."""
 import re
 
+from explaining import steps
 from explaining.source import FIXED, KEYWORDS, QUALIFIERS, TYPE_WORDS, value_of
+from explaining.tables import initial, spelled_constant
 
 SPELLED = {
     "char": "int8_t", "signed char": "int8_t", "unsigned char": "uint8_t", "short": "int16_t", "unsigned short": "uint16_t",
@@ -12,8 +14,13 @@ SPELLED = {
     "uint": "uint32_t", "u8": "uint8_t", "u16": "uint16_t", "u32": "uint32_t", "u64": "uint64_t", "i8": "int8_t", "i16": "int16_t",
     "i32": "int32_t", "i64": "int64_t", "s8": "int8_t", "s16": "int16_t", "s32": "int32_t", "s64": "int64_t", "byte": "uint8_t",
     "uchar": "uint8_t", "ushort": "uint16_t", "ulong": "uint64_t", "ssize_t": "int64_t", "ptrdiff_t": "int64_t",
-    "uint_fast8_t": "uint8_t", "uint_fast32_t": "uint32_t", "int_fast32_t": "int32_t", "uint_least8_t": "uint8_t",
+    **{f"{sign}int_least{bits}_t": f"{sign}int{bits}_t" for sign in ("", "u") for bits in (8, 16, 32, 64)},
+    # As the C library of 64-bit Linux has them.
+    **{f"{sign}int_fast{bits}_t": f"{sign}int{8 if bits == 8 else 64}_t" for sign in ("", "u") for bits in (8, 16, 32, 64)},
+    "intmax_t": "int64_t", "uintmax_t": "uint64_t", "intptr_t": "int64_t", "uintptr_t": "uint64_t",
 }
+BOOL = ("write `uint8_t`, and give it 0 or 1 alone, as `bool` keeps no other value: `bool b = x & 256;` is `uint8_t b = (x & 256) != 0;`, "
+        "and so wherever what is assigned, returned or handed over is no comparison; 1 for `true`, 0 for `false`.")
 INLINE = {
     ("abs", 1): "{0} < 0 ? -{0} : {0}", ("labs", 1): "{0} < 0 ? -{0} : {0}", ("min", 2): "{0} < {1} ? {0} : {1}",
     ("max", 2): "{0} > {1} ? {0} : {1}",
@@ -33,7 +40,7 @@ class Spot:
     def __init__(self, source, at):
         self.source, self.at, self.tokens = source, at, source.tokens
         self.token = self.tokens[at]
-        self.rest = source.text[self.token.start:]
+        self.rest, self.bare = source.text[self.token.start:], source.blanked[self.token.start:]
         depths = {"{": 0, "(": 0, "[": 0}
         self.opened = []
         for number, token in enumerate(self.tokens[:at]):
@@ -99,21 +106,47 @@ def table_or_global(spot):
         return None
     words, name, lengths, value = found.groups()
     kind, lengths = spelled(words.split()) or " ".join(words.split()), "".join(lengths.split())
-    numbers = re.findall(r"-?\w+", (value or "").replace("{", " "))
     if lengths:
-        lengths = f"[{len(numbers)}]" if lengths == "[]" else lengths
-        given = " ".join(numbers) or "0 0 .."
-        return (f"`{name}` is a table of its own, and a kernel has no arrays but its parameters.",
-                f"make it a parameter, `{kind} {name}{lengths}`, and give its elements in the inputs: `{name} = {given}`.")
+        return (f"`{name}` is a table of its own, and a kernel has no arrays but its parameters.", table(spot, kind, name, lengths, value))
     if "const" in rest[:found.end(1)].split() and value and value_of(value, spot.source.defines) is not None:
+        number = spelled_constant(value_of(value, spot.source.defines), kind)
         return (f"`{name}` is a constant with a type, and kernels have no `const`.",
-                f"write `#define {name} {value_of(value, spot.source.defines)}` above the kernel." if
-                value_of(value, spot.source.defines) >= 0 else f"write `{value.strip()}` where `{name}` stands.")
+                f"write `#define {name} {number}` above the kernel." if not number.startswith("(") else
+                f"write `{number}` where `{name}` stands.")
     if spot.braces:
         return None
     return (f"`{name}` is a variable outside of the kernel: a text is functions alone.",
             f"declare it in the kernel, or make it a parameter, `{kind} {name}`; what is to last from run to run is an array "
             f"parameter of one element, `{kind} {name}[1]`.")
+
+
+def table(spot, kind, name, lengths, value):
+    """What to write in place of an array with these lengths and this list of values, or none."""
+    lengths, numbers = initial(lengths, value, spot.source.defines)
+    if numbers:
+        shown = " ".join(map(str, numbers[:256])) + " .." * (len(numbers) > 256)
+    else:
+        shown = "0 0 .."
+    said = f"make it a parameter, `{kind} {name}{lengths}`, and give its elements in the inputs: `{name} = {shown}`"
+    helpers = readers(spot.source, name)
+    if helpers:
+        said += (f". The helper `{helpers[0]}` reads it, and helpers take scalars alone: write out in the kernel what it does, or hand the "
+                 f"element over, as `{helpers[0]}({name}[i])`")
+    const = re.search(rf"\bconst\b[^;{{}}()]*\b{name}\s*\[", spot.source.blanked)
+    if numbers and spot.braces > 1 and not const:
+        said += f". In a loop it has these values anew at each turn: assign them there, `{name}[0] = {numbers[0]};` and so on"
+    return said + "."
+
+
+def readers(source, name):
+    """The helpers in whose bodies a name stands."""
+    found = []
+    for head in re.finditer(r"\bstatic\s+(?:\w+\s+)+?(\w+)\s*\(([^)]*)\)\s*\{", source.blanked):
+        at = next((number for number, token in enumerate(source.tokens) if token.start == head.end() - 1), None)
+        if at is not None and not re.search(rf"\b{name}\b", head.group(2)):
+            inner = source.tokens[at:source.partner(at)]
+            found += [head.group(1)] if any(token.text == name for token in inner) else []
+    return found
 
 
 def qualifier(spot):
@@ -142,7 +175,7 @@ def helper(spot):
     if spot.text(0) == "void" and not spot.braces and not spot.in_parameters:
         return "A helper has a result: what it does is the value that it returns.", f"give `{name}` a type, and assign its value where it is called; a kernel does what else is to be done."
     if spot.text(0) == "[" and spot.in_parameters:
-        return f"`{spot.text(-1)}` is an array, and helpers take scalars by value.", "hand over the elements that it needs, `int32_t a, int32_t b`; what is done to an array, the kernel does."
+        return f"`{spot.text(-1)}` is an array, and helpers take scalars by value.", "hand over the elements that it needs, `int32_t a, int32_t b`, or write out in the kernel what it does: an array is read and changed there alone."
     if spot.braces and spot.text(0) == "return":
         return "A helper has one `return`, as its last statement, and this one stands inside another.", "make a variable for the result, assign it here, and return it at the end."
     if spot.braces and "return" in spot.body() and spot.body()[-1] == ";":
@@ -169,7 +202,9 @@ def type_word(spot):
     kind = spelled(words)
     if not kind:
         return None
-    note = " (`int8_t` if negative numbers are meant to be in it)" if kind == "uint8_t" and "_Bool" not in words else ""
+    if "_Bool" in words:
+        return "`_Bool` is no type of a kernel.", BOOL
+    note = " (`int8_t` if negative numbers are meant to be in it)" if kind == "uint8_t" else ""
     note = " (`uint8_t` for bytes without a sign)" if words == ["char"] else note
     return (f"`{' '.join(words)}` is no type of a kernel: types are those with their width in the name, `int` and `unsigned`.",
             f"write `{kind}`{note}.")
@@ -182,8 +217,15 @@ def unknown_type(spot):
         name = spot.text(0)
     elif spot.is_name(0) and spot.is_name(-1) and spot.text(-2) in ("", ";", "{", "}", "(", ","):
         name = spot.text(-1)
+    elif spot.text(-1) == ")" and spot.is_name(-2) and spot.text(-3) == "(" and not spot.is_name(-4) and (
+            spot.is_name(0) or spot.text(0) == "(" or spot.token.kind == "number"):
+        name = spot.text(-2)
+        if name == "bool":
+            return "`(bool)` is no cast of a kernel.", "write `(..) != 0` for `(bool)(..)`."
     else:
         return None
+    if name == "bool":
+        return "`bool` is no type of a kernel.", BOOL
     kind = SPELLED.get(name)
     return (f"`{name}` is no type of a kernel." if kind else f"`{name}` is read as a type, and kernels have no types of their own.",
             f"write `{kind}`." if kind
@@ -194,24 +236,45 @@ def aggregate(spot):
     """`enum`, `struct`, `union`, `typedef`."""
     word = spot.text(0)
     if word == "enum":
-        found = re.match(r"enum\s*\w*\s*\{([^}]*)\}", spot.rest)
-        names, last, lines = found.group(1).split(",") if found else [], -1, []
+        found = re.match(r"enum\s*\w*\s*\{([^}]*)\}", spot.bare)
+        names, last, lines, known = found.group(1).split(",") if found else [], -1, [], {}
         for it in (name.strip() for name in names if name.strip()):
             name, _, value = it.partition("=")
-            last = value_of(value, spot.source.defines) if value.strip() else (last or 0) + 1
-            lines.append(f"`#define {name.strip()} {last}`")
+            last = value_of(value, {**spot.source.defines, **known}) if value.strip() else None if last is None else last + 1
+            known[name.strip()] = str(last)
+            lines.append(f"`#define {name.strip()} {last}`" if last is None or last >= 0 else f"`({last})` for `{name.strip()}`")
+        kind = "int" if any(value.startswith("-") for value in known.values()) else "unsigned"
         return ("`enum` is not in the language: numbers get names by `#define`.",
-                f"write {', '.join(lines[:6]) + (' ..' * (len(lines) > 6))}, each on a line of its own above the kernel, and `int` "
-                "for its variables." if lines else "write `int`, and a `#define NAME number` for each name.")
+                f"write {', '.join(lines)}, each on a line of its own above the kernel, and `{kind}` for its variables, which is the type "
+                "that gcc gives them." if lines and "None" not in known.values() else
+                "write a `#define NAME number` for each name, and `unsigned` for its variables (`int` where a constant is negative).")
     if word in ("struct", "union"):
         return (f"`{word}` is not in the language: a kernel has numbers and arrays of them.",
                 "make each field a variable, or a parameter of its own; of an array of structures one array for each field.")
-    if word == "typedef":
-        found = re.match(r"typedef\s+([\w\s]+?)\s+(\w+)\s*;", spot.rest)
-        kind = found and (spelled(found.group(1).split()) or found.group(1))
-        return ("`typedef` is not in the language: kernels have no types of their own.",
-                f"write `{kind}` wherever `{found.group(2)}` stands." if found else "write the type itself.")
-    return None
+    return type_definition(spot) if word == "typedef" else None
+
+
+def type_definition(spot):
+    """`typedef` of a scalar, a structure, an enumeration, an array or a pointer."""
+    why = "`typedef` is not in the language: kernels have no types of their own."
+    if spot.text(1) == "enum":
+        inner = aggregate(Spot(spot.source, spot.at + 1))
+        return why, inner[1]
+    if spot.text(1) in ("struct", "union"):
+        return why, ("there are no structures either: make each member a variable, or a parameter, of its own, as `p_x` for `p.x`; of an "
+                     "array of structures one array for each member.")
+    found = re.match(r"typedef\s+([\w\s]+?)\s*(\*?)\s*\b(\w+)\s*((?:\[[^\]]*\]\s*)*);", spot.bare)
+    if not found:
+        return why, "write out what it stands for at each place."
+    words, star, name, lengths = found.groups()
+    kind = spelled(words.split()) or " ".join(words.split())
+    if star:
+        return why, f"a `{name}` is a pointer, and a kernel has none: write an array with its length, `{kind} a[100]`, for `{name} a`."
+    if lengths:
+        return why, f"write `{kind} a{''.join(lengths.split())}` for `{name} a`."
+    if words.split() in (["bool"], ["_Bool"]):
+        return why, f"of each `{name}`: {BOOL}"
+    return why, f"write `{kind}` wherever `{name}` stands."
 
 
 def jump(spot):
@@ -223,7 +286,11 @@ def jump(spot):
         what = what if re.fullmatch(r"\w+(\[[^\[\]]*\])?", what) else "x"
         say = "" if what != "x" or word != "switch" else ", with `x` for what is switched on"
         return (f"`{word}` is not in the language.",
-                f"write `if ({what} == 0) {{ .. }} else if ({what} == 1) {{ .. }} else {{ .. }}`{say}.")
+                f"write `{choices(spot, what) if word == 'switch' else f'if ({what} == 0) {{ .. }} else if ({what} == 1) {{ .. }} else {{ .. }}'}`"
+                f"{say}; a case without `break` goes on into the next one, whose statements it has too.")
+    if word == ":" and spot.is_name(-1) and spot.text(1) in ("for", "while", "do") and not re.search(
+            rf"\bgoto\s+{spot.text(-1)}\b", spot.source.blanked):
+        return ("A label is not in the language, nor is a name for a loop.", f"delete `{spot.text(-1)}:`; nothing goes there.")
     if word == "goto" or word == ":" and spot.is_name(-1) and spot.text(-2) in (";", "{", "}", ")"):
         return (f"{'`goto`' if word == 'goto' else 'A label'} is not in the language.",
                 "leave loops by `break` and `continue`, and the kernel by `return`; a flag leaves two loops at once.")
@@ -231,6 +298,28 @@ def jump(spot):
         return ("This `else` has no `if` directly before it: more than one statement without braces, or a `;` too many.",
                 "put the statements between `if (..)` and `else` into braces, without a `;` behind them.")
     return None
+
+
+def choices(spot, what):
+    """The chain of `if` for a `switch` whose cases are plain."""
+    opens = spot.source.partner(spot.at + 1) + 1
+    if opens >= len(spot.tokens) or spot.tokens[opens].text != "{":
+        return f"if ({what} == 0) {{ .. }} else {{ .. }}"
+    groups, labels, at, closes = [], [], opens + 1, spot.source.partner(opens)
+    while at < closes:
+        text = spot.tokens[at].text
+        if text in ("case", "default"):
+            end = next((number for number in range(at, closes) if spot.tokens[number].text == ":"), closes)
+            labels.append(spot.source.between(at + 1, end))
+            at = end + 1
+            if at < closes and spot.tokens[at].text not in ("case", "default"):
+                groups.append(labels)
+                labels = []
+        else:
+            at = spot.source.partner(at) + 1 if text in ("{", "(", "[") else at + 1
+    chosen = [" || ".join(f"{what} == {it}" for it in labels) for labels in groups if "" not in labels]
+    chain = " else ".join(f"if ({it}) {{ .. }}" for it in chosen[:4]) + " .." * (len(chosen) > 4)
+    return chain + (" else { .. }" if any("" in labels for labels in groups) else "")
 
 
 def missing_semicolon(spot):
@@ -255,12 +344,64 @@ def missing_semicolon(spot):
             f"write `{ends};`.")
 
 
+def missing_bracket(spot):
+    """A `)` or `]` that is missing before this token, or one too many."""
+    opener = spot.opener()
+    if opener is None or not spot.braces and not spot.in_parameters or not spot.at:
+        return extra_bracket(spot) if spot.text(0) in (")", "]") else None
+    opened, before = spot.tokens[opener], spot.tokens[spot.at - 1]
+    ends = before.kind in ("name", "number") and before.text not in KEYWORDS or before.text in (")", "]")
+    starts = spot.text(0) in STATEMENT_WORDS | {"{", "}", "else"} or spot.text(0) == ";" and spot.tokens[opener - 1].text != "for" \
+        or opened.text == "[" and spot.text(0) in ASSIGNING | {";", ")"} or opened.text == "(" and spot.text(0) == "]"
+    if opened.text not in ("(", "[") or not (ends and starts):
+        return extra_bracket(spot) if spot.text(0) in (")", "]") and ends else None
+    closes = {"(": ")", "[": "]"}[opened.text]
+    return (f"The `{opened.text}` of line {opened.line}, column {opened.column} is not closed before this `{spot.text(0)}`.",
+            f"write `{spot.source.between(opener - (spot.tokens[opener - 1].kind == 'name'), spot.at)}{closes}`, or put the `{closes}` "
+            "where it belongs.")
+
+
+def extra_bracket(spot):
+    """A closing bracket that nothing opens."""
+    opener = spot.opener()
+    opens = {")": "(", "]": "["}[spot.text(0)]
+    if opener is not None and spot.tokens[opener].text == opens:
+        return None
+    return f"This `{spot.text(0)}` closes nothing: there is one too many on this line, or a `{opens}` too few.", "take it away, or open it."
+
+
+def size(spot):
+    """What to write for a `sizeof`."""
+    closes = spot.source.partner(spot.at + 1) if spot.text(1) == "(" else spot.at + 1
+    whole = spot.source.between(spot.at, closes + 1)
+    inner = spot.source.between(spot.at + 2, closes) if spot.text(1) == "(" else spot.text(1)
+    unsigned = ", as an unsigned number of 64 bits, which `sizeof` gives"
+    kind = spelled(inner.split())
+    if kind:
+        return f"write `{int(re.search(r'[0-9]+', kind).group()) // 8}ul` for `{whole}`{unsigned}."
+    name = re.match(r"[A-Za-z_]\w*", inner)
+    found = name and re.search(rf"((?:[A-Za-z_]\w*\s+)+)(\*?)\s*{name.group()}\s*((?:\[[^\]]*\]\s*)*)([;,=)])", spot.source.blanked)
+    kind = found and spelled([word for word in found.group(1).split() if word not in QUALIFIERS])
+    if not kind:
+        return "write the number of bytes with `ul` behind it: a type has its width by 8 of them."
+    bits = int(re.search(r"[0-9]+", kind).group())
+    sizes, indices = re.findall(r"\[([^\]]*)\]", found.group(3)), inner.count("[")
+    is_parameter = found.group(4) in (")", ",") and "(" in spot.source.blanked[:found.end()].rsplit(";", 1)[-1].rsplit("}", 1)[-1]
+    if not indices and (found.group(2) or sizes) and is_parameter:
+        return (f"in C `{whole}` is 8, the size of a pointer, since `{inner}` is a parameter: write `8ul` where that is meant, and the "
+                f"number of elements, `{sizes[0] if sizes and sizes[0] else '..'}`, where that is meant.")
+    count = 1
+    for length in sizes[indices:]:
+        count *= value_of(length, spot.source.defines) or 0
+    if not count:
+        return "write the number of bytes with `ul` behind it: a type has its width by 8 of them."
+    return f"write `{count * bits // 8}ul` for `{whole}`{unsigned}."
+
+
 def call(spot):
     """A call of a function."""
     if spot.text(0) == "sizeof" or spot.text(0) == "(" and spot.text(-1) == "sizeof":
-        return ("`sizeof` is not in the language.",
-                "write the number: bytes of a type are its width by 8, and elements are what the brackets say; a `#define` "
-                "gives it a name.")
+        return "`sizeof` is not in the language.", size(spot if spot.text(0) == "sizeof" else Spot(spot.source, spot.at - 1))
     if spot.text(0) != "(" or not spot.is_name(-1) or not spot.braces:
         return None
     name, closes = spot.text(-1), spot.source.partner(spot.at)
@@ -276,24 +417,56 @@ def call(spot):
             f"assign it, `x = {whole};`, or leave it away: a helper changes nothing but its own variables.")
 
 
+def is_value(token):
+    """Whether a token may be the last of a value."""
+    return token.kind in ("name", "number") and token.text not in KEYWORDS or token.text in (")", "]")
+
+
+def walks(spot, name):
+    """Whether a pointer is moved somewhere in the text."""
+    return bool(re.search(rf"(?<![\w.>])(?:\+\+|--)\s*{name}\b(?!\s*\[)|\b{name}\s*(?:\+\+|--|[-+]?=(?!=))", spot.source.blanked))
+
+
+def walking(spot, name):
+    """What to write in place of a pointer that moves."""
+    return (f"keep where it points to in an index, `int32_t {name}_at = 0;`: `{name}[{name}_at]` is `*{name}`, `{name}[{name}_at + i]` is "
+            f"`{name}[i]`, and `{name}_at++;`, a statement of its own, is `{name}++`.")
+
+
 def pointer(spot):
     """Pointers, addresses and members."""
     if spot.text(0) == "*" and (spot.text(-1) in TYPE_WORDS or spot.is_name(-1)
                                 and (spot.in_parameters or spot.text(-2) in ("{", ";", "}"))):
         name = spot.text(1) if spot.is_name(1) else spot.text(2) if spot.text(1) in QUALIFIERS else "a"
         kind = spelled([spot.text(-1)]) or spot.text(-1)
+        if spot.in_parameters and walks(spot, name):
+            return (f"`*{name}` is a pointer that moves, and a kernel has none.",
+                    f"make it an array with its length, `{kind} {name}[100]`; {walking(spot, name)}")
         if spot.in_parameters:
             return (f"`*{name}` is a pointer, and a kernel has none.",
                     f"make it an array with its length, `{kind} {name}[100]`, and use `{name}[i]`; one value that comes back is "
                     f"`{kind} {name}[1]`, used as `{name}[0]`.")
         return f"`*{name}` is a pointer, and a kernel has none.", "keep the index in an `int32_t` and write `array[index]`."
+    summed = re.match(r"\*\s*\(\s*(\w+)\s*([+-])\s*([^()]*(?:\([^()]*\)[^()]*)*)\)", spot.bare)
+    if summed and not is_value(spot.tokens[spot.at - 1]):
+        name, mark, by = summed.groups()
+        return (f"`{' '.join(summed.group().split())}` is an element by its address, and a kernel has no pointers.",
+                f"write `{name}[{'-' if mark == '-' else ''}{by.strip() if mark == '+' or re.fullmatch(chr(92) + 'w+', by.strip()) else '(' + by.strip() + ')'}]`"
+                + (f", or `{name}[{name}_at {mark} ({by.strip()})]` where `{name}` itself moves." if walks(spot, name) else "."))
+    if spot.text(0) == "*" and spot.text(1) == "(" and not is_value(spot.tokens[spot.at - 1]):
+        return ("This is what an address points to, and a kernel has no pointers.",
+                "write the array and its index, `a[i]`.")
+    if spot.text(0) in ("++", "--") or spot.text(0) in ASSIGNING:
+        return None
     if spot.text(0) in ("*", "&") and spot.is_name(1) and not (spot.is_name(-1) or spot.text(-1) in (")", "]")):
         name = spot.text(1)
+        if spot.text(0) == "*" and walks(spot, name):
+            return (f"`*{name}` is what a pointer points to, and `{name}` moves: a kernel has no pointers.", walking(spot, name))
         return ((f"`*{name}` is what a pointer points to, and a kernel has no pointers.",
                  f"write `{name}[0]`, with `{name}` an array.")
                 if spot.text(0) == "*" else
                 (f"`&{name}` is an address, and a kernel has no pointers.", f"name the element itself, `{name}[i]`."))
-    if spot.text(0) == "->":
+    if spot.text(0) == "->" or spot.text(-1) == "->":
         return "`->` names a member of a structure, and kernels have none.", "make each member a variable or an array of its own."
     return None
 
@@ -301,10 +474,15 @@ def pointer(spot):
 def brackets(spot):
     """Lengths of arrays: none, a sum, a variable; local arrays."""
     if spot.token.text == "[" and spot.is_name(-1) and not spot.in_parameters:
-        name = spot.text(-1)
+        name, start = spot.text(-1), spot.at - 1
+        found = re.match(r"\w+\s*((?:\[[^\]]*\]\s*)+)(?:=\s*(\{.*?\}))?\s*[;,]", spot.source.blanked[spot.tokens[start].start:], re.S)
+        while start and spot.tokens[start - 1].text not in (";", "{", "}", "("):
+            start -= 1
+        kind = spelled([token.text for token in spot.tokens[start:spot.at - 1] if token.text in TYPE_WORDS or token.kind == "name"
+                        and token.text not in QUALIFIERS][:3]) or "int32_t"
         return ((f"`{name}` is an array in the body, and the arrays of a kernel are its parameters." if spot.braces else
                  f"`{name}` is an array outside of the kernel, and the arrays of a kernel are its parameters."),
-                f"make `{name}` a parameter with the same length, and give its first elements in the inputs: `{name} = 0 0 ..`.")
+                table(spot, kind, name, "".join((found.group(1) if found else "[..]").split()), found and found.group(2)))
     if not spot.in_parameters or spot.opener() is None or spot.tokens[spot.opener()].text != "[":
         return None
     opens, closes = spot.opener(), spot.source.partner(spot.opener())
@@ -325,33 +503,44 @@ def brackets(spot):
             "scalar beside it.")
 
 
+def two_variables(spot):
+    """What to write for the comma in the head of a `for`."""
+    opener = spot.opener()
+    body = steps.Walk(spot.source)
+    leaves = steps.has_continue(body, spot.source.partner(opener) + 1)
+    parts = spot.source.between(opener + 1, spot.at).count(";")
+    if parts == 0:
+        return "write the assignments before the loop, each a statement of its own, and leave this part of `for` empty."
+    if parts == 1:
+        return "write `&&` or `||` where both are meant: of `a, b` C tests `b` alone."
+    return ("write what stands behind the comma as the last statement of the body"
+            + (", and before each `continue` of this loop too." if leaves else "."))
+
+
 def step_or_assignment(spot):
     """Steps and assignments inside expressions, comma expressions, expressions as statements, braces as values."""
     word, opener = spot.text(0), spot.opener()
     inside = opener is not None and spot.tokens[opener].text in ("[", "(")
-    if word in ("++", "--"):
-        name = spot.text(-1) if spot.is_name(-1) else spot.text(1)
-        sign, what = word[0], "before" if spot.is_name(1) and not spot.is_name(-1) else "after"
-        return (f"`{word}` is a statement here, and no part of an expression.",
-                f"write `{name} = {name} {sign} 1;` as a statement of its own {what} this one, and `{name}` here.")
-    if word in ASSIGNING and inside and spot.tokens[opener - 1].text in ("if", "while"):
-        return ("`=` assigns, and an assignment is a statement and no condition.",
-                "write `==` to compare; else assign in a statement before.")
+    if word in ("++", "--") or word in ASSIGNING and spot.braces:
+        said = steps.advice(spot) if spot.braces else None
+        if word in ASSIGNING and inside and spot.tokens[opener - 1].text in ("if", "while"):
+            compared = f"{spot.source.between(opener + 1, spot.at)} == {spot.source.between(spot.at + 1, spot.source.partner(opener))}"
+            return ("`=` assigns, and an assignment is a statement and no condition.",
+                    f"write `{compared}` to compare" + (f"; where it is to assign, write {said}." if said else "; else assign in a statement."))
+        why = "An assignment" if word in ASSIGNING else f"`{word}`"
+        return (f"{why} is a statement, and no part of an expression." if word in ASSIGNING else
+                f"{why} is a statement here, and no part of an expression.",
+                f"write {said}." if said else "make it a statement of its own, where C has it come.")
     if word == "," and spot.braces:
         in_for = inside and spot.tokens[opener - 1].text == "for"
         if inside and spot.tokens[opener].text == "[":
             name, inner = spot.tokens[opener - 1].text, " ".join(it.text for it in spot.tokens[opener + 1:spot.at])
             return ("Each dimension of an array has brackets of its own.", f"write `{name}[{inner}][..]`.")
         return ("The comma does not join expressions in a kernel.",
-                "the three parts of `for` are parted by `;`. Where it has two variables, write the second one's start as a "
-                "statement "
-                "before the loop, and its step as the last one of the body." if in_for
+                two_variables(spot) if in_for
                 else "write two statements, with a `;` between.")
     if word in ("<", "<=", ">", ">=", "!=", "==") and inside and spot.tokens[opener - 1].text == "for":
         return "The three parts of `for` are parted by `;`.", "write `for (int32_t i = 0; i < n; i++)`."
-    if word in ASSIGNING and spot.braces:
-        return ("An assignment is a statement, and no part of an expression.",
-                f"write two statements: first what is right of the first `=`, as `{spot.text(-1)} = ..;`, and then the other.")
     if word == "{" and spot.text(-1) == "=":
         return ("A list in braces is the value of an array, and arrays are parameters.",
                 "make the array a parameter, and give its elements in the inputs.")
@@ -378,6 +567,10 @@ def outside(spot):
             return "This `}` closes nothing.", "take it away, or look for a `{` that is missing above."
         if spot.text(0) == "static":
             return "A helper stands before the kernel, and this one behind it.", "move it up."
+        before = next((token.text for token, after in zip(spot.tokens[spot.heads[-2]:], spot.tokens[spot.heads[-2] + 1:])
+                       if after.text == "("), "") if len(spot.heads) > 1 else ""
+        if before and re.search(rf"\b{before}\s*\(", spot.source.blanked[spot.token.start:]):
+            return (f"`{before}` is called below, so it is a helper, and was read as the kernel.", f"write `static` before `{before}`.")
         return ("A text is one kernel, and nothing follows its `}`.",
                 "keep one kernel a file. A function that it calls stands before it, and begins with `static`.")
     if spot.text(0) == ";" and spot.text(-1) == ")" and not spot.braces:
@@ -404,7 +597,7 @@ def any_other(spot):
             f"look at this token and the one before it; {GUIDE}, has the language, and docs/FORMATS.md, section 12, its grammar.")
 
 
-HABITS = (missing_semicolon, helper, table_or_global, qualifier, aggregate, type_word, jump, pointer, brackets, call, unknown_type,
+HABITS = (missing_semicolon, missing_bracket, helper, table_or_global, qualifier, aggregate, type_word, jump, pointer, brackets, call, unknown_type,
           step_or_assignment, outside, any_other)
 
 

@@ -2,7 +2,7 @@
 import difflib
 import re
 
-from explaining.habits import INLINE, unexpected
+from explaining.habits import BOOL, INLINE, Spot, unexpected
 from explaining.source import FIXED, KEYWORDS, NUMBER, value_of
 
 LIMITS = {f"INT{bits}_MAX": str(2 ** (bits - 1) - 1) for bits in (8, 16, 32, 64)}
@@ -52,8 +52,7 @@ def directive(source, line, column):
     if word == "include":
         name = rest.strip("<>\" ")
         if name == "stdbool.h":
-            return ("`stdbool.h` is not read, and `bool` is no type of a kernel.",
-                    "leave the line away; write `uint8_t` for `bool`, 1 for `true` and 0 for `false`.")
+            return "`stdbool.h` is not read, and `bool` is no type of a kernel.", f"leave the line away; {BOOL}"
         return (f"`{name}` is not read: a kernel is one file, and only `#include <stdint.h>` stands in it.",
                 "leave the line away, and write what is used of it into the kernel." if rest.startswith('"') else
                 "leave the line away; its functions and names are not in the language.")
@@ -73,7 +72,8 @@ def define(source, text, rest):
     if macro:
         return (f"`{macro.group(1)}` is a macro with parameters, and `#define` gives a name a number.",
                 f"write it out where it is used: `{macro.group(1)}({macro.group(2)})` is `{macro.group(3).strip()}` with its "
-                f"arguments.")
+                "arguments. The C compiler does that for the whole file: `grep -v stdint.h my.c | cc -E -P - > out.c`. `tools/mend.py` "
+                "does it too, and keeps the names of numbers.")
     name, _, value = rest.partition(" ")
     value = value.strip()
     if name in KEYWORDS or name in FIXED:
@@ -161,6 +161,9 @@ def undeclared(source, at):
         return (f"`{name}` is declared on line {earlier[-1].line}, in a block or a `for` that is over here.",
                 "declare it before that block, and assign to it inside.")
     later = next((it for it in declarations(source, name) if it.start > token.start), None)
+    spot = Spot(source, at)
+    if spot.in_helper and later is not None and spot.braces:
+        return of_the_kernel(source, spot, name, later)
     if later:
         return f"`{name}` is declared only later, on line {later.line}.", "move its declaration up."
     known = {it.text for before, it in zip(source.tokens, source.tokens[1:])
@@ -169,6 +172,17 @@ def undeclared(source, at):
     hint = f" `{close[0]}` is, if that is meant." if close else ""
     define = f", or write `#define {name} ..`" if name.isupper() else ""
     return (f"`{name}` is declared nowhere.{hint}", f"declare it, `int32_t {name} = 0;`, or make it a parameter{define}.")
+
+
+def of_the_kernel(source, spot, name, later):
+    """A helper that names a parameter of the kernel."""
+    called = next((text for text, after in zip(spot.body(), spot.body()[1:]) if after == "("), "f")
+    if dimensions(source, name):
+        return (f"`{name}` is an array of the kernel (line {later.line}), and a helper has its own parameters alone, which are scalars.",
+                f"there are two ways. Hand the element over: a parameter `int32_t element` in place of `{name}[..]`, and "
+                f"`{called}({name}[..])` in the kernel. Or write out in the kernel what `{called}` does.")
+    return (f"`{name}` is a variable of the kernel (line {later.line}), and a helper has its own parameters alone.",
+            f"hand it over: give `{called}` one parameter more, and `{name}` as its argument.")
 
 
 def uncalled(source, at):

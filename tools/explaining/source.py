@@ -12,6 +12,8 @@ TYPE_WORDS = FIXED | {"int", "signed", "unsigned", "char", "short", "long", "flo
 QUALIFIERS = {"static", "const", "volatile", "register", "restrict", "inline", "extern", "auto"}
 NUMBER = r"(?:0[xX][0-9a-fA-F]+|[0-9]+)[uUlL]*"
 
+BLANK = r"[ \t\v\f\r]*"
+
 TOKEN = re.compile(
     r"(?P<space>[ \t\r\n\v\f]+|/\*.*?(?:\*/|\Z)|//[^\n]*)|(?P<name>[A-Za-z_]\w*)|(?P<number>[0-9][\w.]*)"
     r"|(?P<string>\"(?:\\.|[^\"\\\n])*\"?|'(?:\\.|[^'\\\n])*'?)"
@@ -34,8 +36,9 @@ class Source:
     def __init__(self, data):
         self.text = data.decode("latin-1")
         self.starts = [0] + [found.end() for found in re.finditer("\n", self.text)]
-        self.defines = dict(re.findall(rf"^[ \t]*#[ \t]*define[ \t]+(\w+)[ \t]+({NUMBER})[ \t\r]*$", self.text, re.M))
-        self.tokens = list(self._read(re.sub(r"(?m)^[ \t]*#.*$", lambda it: " " * len(it.group()), self.text)))
+        self.blanked, self.open_comment = _without_comments(self.text)
+        self.defines = dict(re.findall(rf"^{BLANK}#{BLANK}define{BLANK}(\w+){BLANK}({NUMBER}){BLANK}$", self.blanked, re.M))
+        self.tokens = list(self._read(re.sub(rf"(?m)^{BLANK}#(?:.*\\\r?\n)*.*$", _blank, self.blanked)))
 
     def _read(self, text):
         for found in TOKEN.finditer(text):
@@ -61,10 +64,14 @@ class Source:
         return next((at for at, token in enumerate(self.tokens) if token.start >= start), len(self.tokens))
 
     def partner(self, at):
-        """The number of the mark that closes the bracket of this number; the number of tokens where none does."""
+        """The number of the mark that closes the bracket of this number; the number of tokens where none does. A `(` or `[` that is
+        not closed before a brace or a `;` ends there."""
         pairs, depth = {"(": ")", "[": "]", "{": "}"}, 0
         opens, closes = self.tokens[at].text, pairs[self.tokens[at].text]
+        ends = set() if opens == "{" else {"{", "}"} if at and self.tokens[at - 1].text == "for" else {"{", "}", ";"}
         for number in range(at, len(self.tokens)):
+            if self.tokens[number].text in ends and self.tokens[number - 1].text not in ("=", ",", "(", "{"):
+                return number - 1
             depth += (self.tokens[number].text == opens) - (self.tokens[number].text == closes)
             if not depth:
                 return number
@@ -94,6 +101,42 @@ def shown(source, line, column, width=1):
 def readable(part):
     """Bytes of a text as characters."""
     return part.encode("latin-1").decode("utf-8", "replace")
+
+
+def _without_comments(text):
+    """The text with each comment as blanks, and the place of a comment that is never ended, or None."""
+    opened = []
+
+    def blank(found):
+        part = found.group()
+        if part.startswith("/*") and (len(part) < 4 or not part.endswith("*/")):
+            opened.append(found.start())
+        line = text[text.rfind("\n", 0, found.start()) + 1:found.start()].lstrip()
+        if line.startswith("#"):  # a comment's line ends end no directive
+            return " " * len(part) if part.startswith("/*") else _blank(found) if part.startswith("/") else part
+        return _blank(found) if part.startswith("/") else part
+    form = r"\"(?:\\.|[^\"\\\n])*\"?|'(?:\\.|[^'\\\n])*'?|/\*.*?(?:\*/|\Z)|//[^\n]*"
+    return re.sub(form, blank, text, flags=re.S), next(iter(opened), None)
+
+
+def _blank(found):
+    """Blanks for what was found, line ends being kept."""
+    return re.sub(r"[^\n]", " ", found.group())
+
+
+def constant_type(text):
+    """The type of an integer constant as C99 has it; None where it is none, False where no type holds it."""
+    form = re.fullmatch(r"(0[xX][0-9a-fA-F]+|0[0-7]*|[1-9][0-9]*)([uU]?(?:ll|LL|[lL])?|(?:ll|LL|[lL])[uU])", text)
+    if not form:
+        return None
+    digits, suffix = form.group(1), form.group(2).lower()
+    value = int(digits, 8 if re.fullmatch("0[0-7]+", digits) else 0)
+    for bits in (64,) if "l" in suffix else (32, 64):
+        if "u" not in suffix and value < 2 ** (bits - 1):
+            return f"int{bits}_t"
+        if ("u" in suffix or digits.startswith("0")) and value < 2 ** bits:
+            return f"uint{bits}_t"
+    return False
 
 
 def value_of(text, defines):

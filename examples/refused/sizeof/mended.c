@@ -1,8 +1,7 @@
 #include <stdint.h>
-#define LENGTH 8
-int32_t sum(int32_t x[LENGTH]) {
-  int32_t total = 0;
-  for (int i = 0; i < LENGTH; i++)
-    total += x[i];
-  return total;
+int32_t first_bit(uint16_t word) {
+  int32_t at = 0;
+  while (at < 8 * 2ul && !(word >> at & 1))
+    at++;
+  return at;
 }
