@@ -8,3 +8,4 @@ pub mod MissingLemmas
 pub mod WholeLemmas
 pub mod OnlyLemmas
 pub mod ResultLemmas
+pub mod ElementLemmas

@@ -4,4 +4,5 @@ pub mod Readings
 pub mod Refusals
 pub mod Rules
 pub mod Results
+pub mod StateResults
 pub mod Texts

@@ -1,5 +1,6 @@
-ghost use Rattle.std.specs.Prelude.{◌≡◌, ◌++◌, OnOk, IfOk};
-ghost use Rattle.inputs_text.specs.Results.{AreResults, ResultText, numbers_line, spaced, written};
+ghost use Rattle.std.specs.Prelude.{◌≡◌, ◌++◌, length, OnOk, IfOk};
+ghost use Rattle.inputs_text.specs.Results.{AreResults, ResultText, array_lines, return_line};
+ghost use Rattle.inputs_text.specs.Results.{numbers_line, spaced, written};
 
 use el_base::{Array, List, Memory, Ty, number, put_i64, put_u64};
 use std::alloc::Global;
@@ -20,18 +21,39 @@ pub fn print_results_of(
     ensures { IfOk result (λ text. ResultText arrays.now ret values.now value text.items) }
 {
     let mut text = Vec::new(alloc);
-    for (i, array) in arrays.iter().enumerate() {
-        put_numbers_line(
-            &mut text,
-            array.name.as_slice(),
-            array.ty,
-            values[i].as_slice(),
-        )?;
-    }
-    if let (Some(ty), Some(value)) = (ret, value) {
-        put_numbers_line(&mut text, b"return", ty, &[value])?;
-    }
+    put_arrays(&mut text, arrays, values)?;
+    put_return(&mut text, ret, value)?;
     Ok(text)
+}
+
+/// Appends a line for each array, in order, whatever the patterns.
+pub(crate) fn put_arrays(
+    text: &mut Vec<u8>,
+    arrays: &[Array],
+    values: &[List<u64>],
+) -> Result<(), Memory>
+    requires { length values.now ≡ length arrays.now }
+    ensures { OnOk result
+        (text.new.items ≡ text.old.items ++ array_lines arrays.now values.now) }
+{
+    for (i, array) in arrays.iter().enumerate() {
+        put_numbers_line(text, array.name.as_slice(), array.ty, values[i].as_slice())?;
+    }
+    Ok(())
+}
+
+/// Appends the line of the result, where there is one.
+pub(crate) fn put_return(
+    text: &mut Vec<u8>,
+    ret: Option<Ty>,
+    value: Option<u64>,
+) -> Result<(), Memory>
+    ensures { OnOk result (text.new.items ≡ text.old.items ++ return_line ret value) }
+{
+    match (ret, value) {
+        (Some(ty), Some(value)) => put_numbers_line(text, b"return", ty, &[value]),
+        (None, _) | (Some(_), None) => Ok(()),
+    }
 }
 
 /// Appends a line of a name and the numbers of patterns.

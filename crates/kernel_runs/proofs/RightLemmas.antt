@@ -29,7 +29,8 @@ use Rattle.net_runs.specs.declared.options.RunOptions.{RunOptions}
 use Rattle.net_runs.specs.declared.refusal.RunRefusal.{RunRefusal}
 use Rattle.net_runs.specs.declared.refusal.RunRefusal.TheVariants as run
 use Rattle.net_runs.specs.Given.{Bytes, Gives, On}
-use Rattle.net_runs.specs.Results.{AreElementsIn, IsTextOf, count_line, cycles_line, log_lines}
+use Rattle.inputs_text.specs.StateResults.{AreElementsIn, IsTextOf}
+use Rattle.net_runs.specs.Results.{count_line, cycles_line, log_lines}
 use Rattle.net_runs.specs.Runs.{Runs, Sticks}
 use Rattle.net_runs.proofs.OneRuns.{exit_kind}
 use Rattle.kernel_runs.specs.Goes.{GivesNumbers, IsFront, IsRight, GoesTo}

@@ -3,7 +3,6 @@ pub mod ReplayLemmas
 pub mod LawLemmas
 pub mod OneRuns
 pub mod ToldLemmas
-pub mod ElementLemmas
 pub mod SaveLemmas
 pub mod ResumeLemmas
 pub mod ShowLemmas

@@ -24,7 +24,8 @@ use Rattle.net_runs.specs.declared.options.RunOptions.{RunOptions}
 use Rattle.net_runs.specs.declared.refusal.RunRefusal.{RunRefusal}
 use Rattle.net_runs.specs.declared.refusal.RunRefusal.TheVariants as run
 use Rattle.net_runs.specs.Given.{Bytes, Gives, IsNoInputs}
-use Rattle.net_runs.specs.Results.{IsTextOf, AreResultsOf, IsStrayIn, count_line, cycles_line, log_lines}
+use Rattle.inputs_text.specs.StateResults.{IsTextOf}
+use Rattle.net_runs.specs.Results.{AreResultsOf, IsStrayIn, count_line, cycles_line, log_lines}
 use Rattle.net_runs.specs.Runs.{RestsWithin, Runs}
 use Rattle.net_runs.specs.Laws.{AsksForNoCycles, with_workers, RunsAreOne, RefusedRunsAreOne, RunTextsAreOne}
 use Rattle.net_runs.proofs.LawLemmas.{given_not_refused}

@@ -20,7 +20,7 @@ use Rattle.net_runs.specs.declared.options.RunOptions.{RunOptions}
 use Rattle.net_runs.specs.declared.refusal.RunRefusal.{RunRefusal}
 use Rattle.net_runs.specs.declared.refusal.RunRefusal.TheVariants as refusal
 use Rattle.net_runs.specs.Given.{Bytes, Gives}
-use Rattle.net_runs.specs.Results.{IsTextOf, IsStrayIn}
+use Rattle.net_runs.specs.Results.{IsStrayIn}
 use Rattle.net_runs.specs.Runs.{Runs}
 use Rattle.net_runs.specs.Replays.{By, GoesOnWith, Replays, RestsSo}
 use Rattle.net_runs.specs.Laws.{ToldSchedulesReplay}

@@ -1,31 +1,17 @@
 -- The text of the results of a state at rest.
-use Rattle.std.specs.Prelude.{◌≡◌, ◌<◌, ℕ, List, [], ◌∷◌, ◌++◌, Bool, true, false, Option, length, get_or, map, codes, decimal}
+use Rattle.std.specs.Prelude.{◌≡◌, ℕ, List, [], ◌∷◌, ◌++◌, Bool, true, false, get_or, map, codes, decimal}
 use Rattle.std.specs.List.{All}
 use Rattle.el_base.specs.declared.ty.Array.{Array}
 use Rattle.net_types.specs.declared.net.Net.{Net}
 use Rattle.net_types.specs.declared.firing.Firing.{Firing}
 use Rattle.net_core.specs.Fire.{State}
 use Rattle.net_core.specs.Runs.{HasExited}
-use Rattle.net_core.specs.States.{elements_at, TookAtExit}
-use Rattle.inputs_text.specs.Results.{ResultText}
+use Rattle.inputs_text.specs.StateResults.{IsTextOf}
 use Rattle.net_replay.specs.Judgements.{HasNoStrays, IsFirstStray}
 use Rattle.net_replay.specs.Schedules.{FiringFits, schedule_text}
 use Rattle.net_runs.specs.declared.options.RunOptions.{RunOptions}
 use Rattle.net_runs.specs.declared.refusal.RunRefusal.{RunRefusal}
 use Rattle.net_runs.specs.declared.refusal.RunRefusal.TheVariants as refusal
-
--- the elements of each array of the header, as they are in the state
-pub record AreElementsIn (net : Net) (s : State) (values : List (List ℕ)) : Type 0 where
-  pub count : length values ≡ length net.arrays
-  pub each : (a : ℕ) → a < length net.arrays → get_or values a [] ≡ elements_at s a
-
--- the text of the elements and of what the exit took
-pub record IsTextOf (net : Net) (s : State) (text : List ℕ) : Type 0 where
-  pub value : Option ℕ
-  pub took : TookAtExit net s value
-  pub values : List (List ℕ)
-  pub elements : AreElementsIn net s values
-  pub whole : ResultText net.arrays net.result values value text
 
 -- the exit has fired, no address lay past its array, and that is the text of the elements and of the result
 pub record AreResultsOf (net : Net) (s : State) (text : List ℕ) : Type 0 where

@@ -7,7 +7,6 @@
 mod given;
 mod laws;
 mod options;
-mod printing;
 mod refusal;
 mod replays;
 mod results;

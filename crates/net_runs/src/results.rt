@@ -3,17 +3,17 @@ ghost use Rattle.std.specs.Prelude.{◌≡◌, ◌++◌, ◌<◌, All, length, t
 ghost use Rattle.net_core.specs.Runs.{AtRest};
 ghost use Rattle.net_core.specs.States.{IsOf, state_of};
 ghost use Rattle.net_replay.specs.Schedules.{FiringFits};
-ghost use Rattle.net_runs.specs.Results.{AreElementsIn, AreResultsOf, IsRestFault, IsRunText, IsStrayFault, IsTextOf};
+ghost use Rattle.net_runs.specs.Results.{AreResultsOf, IsRestFault, IsRunText, IsStrayFault};
 ghost use Rattle.net_runs.specs.Results.{count_line, cycles_line, log_lines};
 
 use crate::options::RunOptions;
-use crate::printing::{put_arrays, put_return};
 use crate::refusal::RunRefusal;
 use el_base::put_u64;
+use inputs_text::print_results;
 use net_check::Checked;
 use net_core::State;
 use net_replay::{RunFault, judge, print_schedule};
-use net_types::{Firing, List, Memory};
+use net_types::{Firing, Memory};
 use std::alloc::Global;
 
 /// The results of a run at rest, and where they are asked for the numbers of its firings and of its cycles and the firings.
@@ -85,7 +85,7 @@ pub(crate) fn results_of(alloc: Global, net: &Checked, state: &State) -> Result<
     ensures err { IfErr result (IsRestFault net.now (state_of state.now)) }
 {
     match judge(net, state) {
-        Ok(()) => match text_of(alloc, net, state) {
+        Ok(()) => match print_results(alloc, net, state) {
             Ok(text) => Ok(text),
             Err(Memory) => Err(RunRefusal::Memory),
         },
@@ -94,41 +94,6 @@ pub(crate) fn results_of(alloc: Global, net: &Checked, state: &State) -> Result<
         Err(RunFault::Limit { .. }) => unreachable!(),
         Err(RunFault::Memory) => unreachable!(),
     }
-}
-
-/// The text of the elements of all arrays and of what the exit took.
-fn text_of(alloc: Global, net: &Checked, state: &State) -> Result<Vec<u8>, Memory>
-    requires { IsOf net.now state.now }
-    ensures { IfOk result (λ text. IsTextOf net.now (state_of state.now) text.items) }
-{
-    let values = elements_of(alloc, net, state)?;
-    let mut text = Vec::new(alloc);
-    put_arrays(&mut text, net.net().arrays.as_slice(), values.as_slice())?;
-    put_return(&mut text, net.net().result, state.value())?;
-    Ok(text)
-}
-
-/// The elements of each array of the header.
-fn elements_of(alloc: Global, net: &Checked, state: &State) -> Result<List<List<u64>>, Memory>
-    requires { IsOf net.now state.now }
-    ensures { IfOk result (AreElementsIn net.now (state_of state.now)) }
-{
-    let mut values = List::new(alloc);
-    for at in 0..net.net().arrays.as_slice().len() {
-        let array = at as u32;
-        values.push(list_of(alloc, state.arrays(net, array))?)?;
-    }
-    Ok(values)
-}
-
-fn list_of(alloc: Global, elements: &[u64]) -> Result<List<u64>, Memory>
-    ensures { IfOk result (λ list. list ≡ elements.now) }
-{
-    let mut list = List::new(alloc);
-    for element in elements {
-        list.push(*element)?;
-    }
-    Ok(list)
 }
 
 /// The refusal by the name of an array.

@@ -2,8 +2,8 @@ use Rattle.std.proofs.Common.{◌≡◌, ◌<◌, ◌+◌, ◌∷◌, [], ◌∙
 use Rattle.net_types.specs.declared.net.Net.{Net}
 use Rattle.net_core.specs.States.{elements_at, state_of}
 use Rattle.net_check.proofs.CountLemmas.{few_arrays}
-use Rattle.net_runs.proofs.ElementLemmas.{one_more}
-use Rattle.net_runs.proofs.results.elements_of.Goals as goal
+use Rattle.inputs_text.proofs.ElementLemmas.{one_more}
+use Rattle.inputs_text.proofs.state_results.elements_of.Goals as goal
 
 pub overflow_cast-array : goal.overflow_cast-array
 overflow_cast-array c =

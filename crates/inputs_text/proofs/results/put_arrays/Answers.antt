@@ -1,7 +1,7 @@
 use Rattle.std.proofs.Common.{◌++◌, ◌+◌, ◌<◌, length, drop, sym, ap, ◌∙◌, append_assoc, arith}
 use Rattle.inputs_text.specs.Results.{array_lines, numbers_line}
 use Rattle.inputs_text.proofs.ResultLemmas.{lines_from}
-use Rattle.net_runs.proofs.printing.put_arrays.Goals as goal
+use Rattle.inputs_text.proofs.results.put_arrays.Goals as goal
 
 pub loop-i-preserved : goal.loop-i-preserved
 loop-i-preserved c =

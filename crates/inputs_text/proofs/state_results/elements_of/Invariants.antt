@@ -1,6 +1,6 @@
 use Rattle.std.proofs.Common.{◌≡◌, ◌<◌, ℕ, [], length, get_or}
 use Rattle.net_core.specs.States.{elements_at, state_of}
-use Rattle.net_runs.proofs.results.elements_of.Given as goal
+use Rattle.inputs_text.proofs.state_results.elements_of.Given as goal
 
 abbrev pub invariant-loop-at : goal.invariant-loop-at
 invariant-loop-at l = record {

@@ -1,6 +1,0 @@
-use Rattle.std.proofs.Common.{◌≡◌, ◌++◌, drop}
-use Rattle.inputs_text.specs.Results.{array_lines}
-use Rattle.inputs_text.proofs.results.print_results_of.Given as goal
-
-abbrev pub invariant-loop-i : goal.invariant-loop-i
-invariant-loop-i l = l.text.items ++ array_lines (drop l.i l.arrays) (drop l.i l.values) ≡ array_lines l.arrays l.values
