@@ -10,6 +10,7 @@ pub mod Locals
 pub mod Sights
 pub mod Looks
 pub mod Mays
+pub mod Exits
 pub mod Fires
 pub mod Keeping
 pub mod Settling

@@ -24,7 +24,7 @@ pub record IsCrewOf (net : Net) (inputs : Inputs) (count limit : ℕ) (t : Table
   pub count_is : length ws ≡ count
   pub shares : (j : ℕ) (d : Worker) → j < count → log_share (slice_index_or ws j d) ≡ share_of limit count j
 
--- where the gate is open: the worker has logged its exit, or its log is full or has no stamp left, or its inner units rest in the state
+-- where the gate is open: the worker's log has a firing of the exit, or is full or has no stamp left, or its inner units rest in the state
 -- after the merged log
 abbrev pub HasEnded : Tables → State → Worker → Type 0
 HasEnded t s w = HasLoggedExit t w ⊎ (IsFull w ⊎ IsRested (net_of t) (owner_in t) (number_of w) s)
