@@ -4,6 +4,7 @@ pub mod Steps
 pub mod Merging
 pub mod Opening
 pub mod Logs
+pub mod Ascending
 pub mod Gathering
 pub mod More
 pub mod Locals
