@@ -105,6 +105,7 @@ fn cycles() {
 fn workers() {
     net_worker::merged_logs_run();
     net_worker::workers_agree();
+    net_worker::merged_ascends();
     net_worker::merged_merges();
     net_worker::rest_is_shared();
     net_worker::workers_gather();

@@ -33,9 +33,9 @@ pub enum Asked<'a> {
     Alone {
         limit: u64,
     },
-    /// Whether so many workers meet.
+    /// Whether workers meet, and each log has at least its number of entries: these numbers, with spaces between.
     Meetings {
-        count: u32,
+        least: &'a str,
     },
 }
 
@@ -94,7 +94,10 @@ fn put_on_inputs<R: Threads + Sync>(
             put_crew(alloc, net, inputs, count, limit, turns.as_slice(), out)
         }
         Asked::Alone { limit } => put_alone(alloc, net, inputs, limit, out),
-        Asked::Meetings { count } => put_meetings(rt, alloc, net, inputs, count, out),
+        Asked::Meetings { least } => {
+            let least = turns_of(alloc, least)?;
+            put_meetings(rt, alloc, net, inputs, least.as_slice(), out)
+        }
     }
 }
 

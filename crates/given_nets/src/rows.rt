@@ -26,7 +26,7 @@ pub enum Rows {
     Sweeps,
     /// A net and inputs, and a limit for one worker alone.
     Alone,
-    /// A net and inputs, and how many workers meet.
+    /// A net and inputs, and how many entries each worker that meets logs at least, with spaces between these numbers.
     Meetings,
 }
 
@@ -104,9 +104,7 @@ impl Rows {
             (Rows::Alone, [limit]) => Ok(Asked::Alone {
                 limit: limit.parse()?,
             }),
-            (Rows::Meetings, [count]) => Ok(Asked::Meetings {
-                count: count.parse()?,
-            }),
+            (Rows::Meetings, [least]) => Ok(Asked::Meetings { least: *least }),
             (rows, _) => bail!("a line of {rows:?} of other fields"),
         }
     }

@@ -1,10 +1,14 @@
 -- Ends that were asked, and what that leaves of a worker.
-use Rattle.std.proofs.Common.{◌≡◌, ℕ, ◌+◌, ◌≤◌, Bool, true, false, Option, Some, None, IsSome, List, [], ◌∷◌, ◌++◌, length, get_or, refl, ap, ◌∙◌, sym, subst, arith, append-nil, append_assoc}
+use Rattle.std.proofs.Common.{◌≡◌, ℕ, suc, ◌+◌, ◌^◌, ◌≤◌, max, Bool, true, false, Option, Some, None, IsSome, List, [], ◌∷◌, ◌++◌, length, get_or, refl, ap, ◌∙◌, sym, subst, arith, append-nil, append_assoc}
 use mathlib.Core.List.{IsPrefix}
 use Rattle.elastic_link.specs.declared.put_end.PutEnd.{PutEnd}
 use Rattle.elastic_link.specs.declared.take_end.TakeEnd.{TakeEnd}
-use Rattle.elastic_link.specs.Ends.{SamePutEnd, SameTakeEnd}
+use Rattle.elastic_link.specs.declared.message.Credit.{Credit}
+use Rattle.elastic_link.specs.Credits.{newest_stamp}
+use Rattle.elastic_link.specs.Ends.{SamePutEnd, SameTakeEnd, messages_received, no_slot_count}
 use Rattle.net_worker.specs.Asking.{PutAsked, TakeAsked, PutsAsked, TakesAsked, IsAsked}
+use Rattle.net_worker.specs.Ends.{IsUnspent}
+use Rattle.net_worker.specs.Ends as ends
 use Rattle.net_worker.specs.Fires.{PutStep, TakeStep}
 use Rattle.net_worker.specs.Keeps.{IsKept}
 use Rattle.net_worker.specs.Workers.{IsMadeOf, IsWhole, put_end, take_end, held_by}
@@ -43,9 +47,25 @@ same_take_trans p q r h k = record {
   slots = k.slots ∙ h.slots;
 }
 
+newest_grows : (ms ns : List Credit) → newest_stamp ms ≤ newest_stamp (ms ++ ns)
+newest_grows [] ns = omega arith
+newest_grows (m ∷ ms) ns = (let r = newest_grows ms ns in omega arith)
+
+newest_later : (ms ns : List Credit) → IsPrefix ms ns → newest_stamp ms ≤ newest_stamp ns
+newest_later ms ns (rest, is) = subst (λ l. newest_stamp ms ≤ newest_stamp l) is (newest_grows ms rest)
+
+unspent_then : (p q r : PutEnd) → no_slot_count p ≤ no_slot_count q → IsPrefix (messages_received q) (messages_received r) → no_slot_count q ≤ no_slot_count r → IsUnspent p q → IsUnspent q r → IsUnspent p r
+unspent_then p q r a b c h (ends.spent z) = ends.spent z
+unspent_then p q r a b c h (ends.slotless z) = ends.slotless (omega arith)
+unspent_then p q r a b c h (ends.stampless z) = ends.stampless z
+unspent_then p q r a b c (ends.as_before y) (ends.as_before z) = ends.as_before (z ∙ y)
+unspent_then p q r a b c (ends.spent y) (ends.as_before z) = ends.spent (z ∙ y)
+unspent_then p q r a b c (ends.slotless y) (ends.as_before z) = ends.slotless (omega arith)
+unspent_then p q r a b c (ends.stampless y) (ends.as_before z) = ends.stampless (let n = newest_later (messages_received q) (messages_received r) b in omega arith)
+
 pub put_asked_self : (o : Option PutEnd) → PutAsked o o
 put_asked_self None = tt
-put_asked_self (Some p) = record { same = same_put p; received = prefix_self _; put = refl; slots_shown = omega arith; messages_shown = omega arith }
+put_asked_self (Some p) = record { same = same_put p; received = prefix_self _; put = refl; slots_shown = omega arith; messages_shown = omega arith; hand = ends.as_before refl }
 
 pub put_asked_trans : (o q r : Option PutEnd) → PutAsked o q → PutAsked q r → PutAsked o r
 put_asked_trans None None r h k = k
@@ -58,6 +78,7 @@ put_asked_trans (Some p) (Some q) (Some r) h k = record {
   put = k.put ∙ h.put;
   slots_shown = omega (arith, h.slots_shown, k.slots_shown);
   messages_shown = omega (arith, h.messages_shown, k.messages_shown);
+  hand = unspent_then p q r h.slots_shown k.received k.slots_shown h.hand k.hand;
 }
 
 pub take_asked_self : (o : Option TakeEnd) → TakeAsked o o

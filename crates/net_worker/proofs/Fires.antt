@@ -1,5 +1,5 @@
 -- A firing that a worker made.
-use Rattle.std.proofs.Common.{◌≡◌, ◌≢◌, ◌⊎◌, inl, inr, ℕ, ◌+◌, ◌*◌, ◌<◌, ◌≤◌, max, Bool, true, false, cond, nat_lt, Option, Some, None, IsSome, List, [], ◌∷◌, ◌++◌, length, get_or, map, refl, ap, ◌∙◌, sym, subst, arith, append-nil, append_assoc}
+use Rattle.std.proofs.Common.{◌≡◌, ◌≢◌, ◌⊎◌, ◌↔◌, inl, inr, ℕ, ◌+◌, ◌*◌, ◌<◌, ◌≤◌, max, Bool, true, false, cond, nat_lt, Option, Some, None, IsSome, List, [], ◌∷◌, ◌++◌, length, get_or, map, refl, ap, ◌∙◌, sym, subst, arith, append-nil, append_assoc}
 use Rattle.std.specs.List.{All, Contains}
 use mathlib.Core.Path.{fun_ext}
 use mathlib.Core.List.{IsPrefix}
@@ -16,6 +16,7 @@ use Rattle.elastic_link.specs.Ends.{messages_received, slots_of, tokens_taken, t
 use Rattle.net_types.specs.declared.firing.Firing.{Firing}
 use Rattle.net_types.specs.Nets.{chan_at}
 use Rattle.net_core.specs.Fire.{Effect, effect, takes_from, puts_on, taken, added, tokens_at}
+use Rattle.net_core.specs.Runs.{HasExited}
 use Rattle.net_core.specs.States.{CountsWithin, state_of}
 use Rattle.net_worker.specs.Stamped.{Stamped, stamps_at, after_by, after_at}
 use Rattle.net_worker.specs.Plays.{putter, taker}
@@ -24,7 +25,7 @@ use Rattle.net_worker.specs.Local.{values, stamps_of, credits_below, IsLocal, fe
 use Rattle.net_worker.specs.Locally.{token_put, Repays, OneFiring}
 use Rattle.net_worker.specs.Steps.{last_stamp}
 use Rattle.net_worker.specs.Fires.{PutStep, TakesIf, TakeStep, IsFired, MadeFires}
-use Rattle.net_worker.specs.Workers.{owner_in, IsInto, IsOutOf, IsWhole, IsMadeOf, Sees, shown, take_end, put_end, held_by, handed_by, put_by, received_by, repaid_by}
+use Rattle.net_worker.specs.Workers.{owner_in, IsInto, IsOutOf, IsWhole, HasExitAmong, IsMadeOf, Sees, shown, take_end, put_end, held_by, handed_by, put_by, received_by, repaid_by}
 use Rattle.net_worker.specs.declared.entry.Entry.{Entry}
 use Rattle.net_worker.specs.declared.tables.Tables.{Tables}
 use Rattle.net_worker.specs.declared.worker.Worker.{Worker}
@@ -34,6 +35,7 @@ use Rattle.net_worker.proofs.Opening.{fed_stamps_long}
 use Rattle.net_worker.proofs.Locals.{local_fires, plays_stamps}
 use Rattle.net_worker.proofs.Sights.{sees_fires}
 use Rattle.net_worker.proofs.Mays.{worker_may, after_measures}
+use Rattle.net_worker.proofs.Exits.{exit_more}
 
 last_snoc : (k : ℕ) (es : List Entry) (e : Entry) → last_stamp k (es ++ e ∷ []) ≡ e.stamp
 last_snoc k [] e = refl
@@ -190,6 +192,7 @@ module _ (t : Tables) (a b : Worker) (f : Firing) (x : Effect) (n : ℕ) (m : Is
     after = after;
     local = subst (λ k. IsLocal t.net t.inputs owner k (shown b after)) (sym o.number) (local_fires t.net t.inputs owner j (shown a m.after) (shown b after) e x m.local one);
     sees = subst (λ k. Sees t.net owner k (state_of b.state) after.state) (sym o.number) (subst (λ (s : Stamped). Sees t.net owner j (state_of b.state) s.state) (sym is_by) sight.sees);
+    exit = subst (λ es. HasExited t.net (state_of b.state) ↔ HasExitAmong t.net es) (sym o.items) (exit_more t.net a.state m.of (state_of b.state) f x n a.log.items o.may.does o.state.own m.exit);
     held = λ c i. held_tokens c (subst (λ k. IsInto t k c) o.number i);
     held_stamps = λ c i. held_stamps c (subst (λ k. IsInto t k c) o.number i);
     puts_out = λ c q is. (let p = put_before n (puts_on t.net f.unit x.put c) (put_end a c) q (subst (PutStep n (puts_on t.net f.unit x.put c) (put_end a c)) is (o.puts c)) in let k = m.puts_out c p.end p.is in (subst (λ i. IsOutOf t i c) (sym o.number) k.0, p.slots ∙ k.1));

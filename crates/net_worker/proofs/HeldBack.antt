@@ -5,7 +5,8 @@ use Rattle.elastic_link.specs.declared.message.Token.{Token}
 use Rattle.elastic_link.specs.declared.put_end.PutEnd.{PutEnd}
 use Rattle.elastic_link.specs.declared.take_end.TakeEnd.{TakeEnd}
 use Rattle.elastic_link.specs.Held.{tokens_of}
-use Rattle.elastic_link.specs.Ends.{token_held}
+use Rattle.elastic_link.specs.Credits.{newest_stamp}
+use Rattle.elastic_link.specs.Ends.{token_held, credits_in_hand, messages_received}
 use Rattle.net_types.specs.declared.net.Net.{Net}
 use Rattle.net_types.specs.declared.firing.Firing.{Firing}
 use Rattle.net_types.specs.Nets.{into, out_of, chan_at, kind_of, uses}
@@ -16,6 +17,8 @@ use Rattle.net_core.specs.States.{state_of}
 use Rattle.net_core.specs.Uses.{used}
 use Rattle.net_worker.specs.Local.{values}
 use Rattle.net_worker.specs.Asking.{PutAsked, TakeAsked, PutsAsked, TakesAsked, IsAsked}
+use Rattle.net_worker.specs.Ends.{IsUnspent}
+use Rattle.net_worker.specs.Ends as ends
 use Rattle.net_worker.specs.Glances.{NoTokenAt, HoldsNone, IsLooked, IsSeen}
 use Rattle.net_worker.specs.Going.{base_of, IsRefused, IsAllHeld}
 use Rattle.net_worker.specs.Offers.{greatest_in, held_stamp, ToldAt, ToldFor, NoCreditAt, NoSlotAt, IsNotOffered}
@@ -26,7 +29,7 @@ use Rattle.net_worker.specs.Sweeps as cause
 use Rattle.net_worker.specs.Workers.{owner_in, IsMadeOf, IsWhole, IsInto, IsOutOf, put_end, take_end, held_by}
 use Rattle.net_worker.specs.declared.tables.Tables.{Tables}
 use Rattle.net_worker.specs.declared.worker.Worker.{Worker}
-use Rattle.net_worker.proofs.Asking.{asked_trans, asked_made, puts_asked_trans, held_asked, prefix_trans, none_some}
+use Rattle.net_worker.proofs.Asking.{asked_trans, asked_made, puts_asked_trans, held_asked, prefix_self, prefix_trans, none_some}
 use Rattle.net_worker.proofs.Assembly.{room_held}
 use Rattle.net_worker.proofs.Glancing.{asked_looked, looked_same, looked_trans, same_whole}
 
@@ -59,7 +62,7 @@ no_credit_since None None q h k = absurd k
 no_credit_since None (Some o) q h k = absurd h
 no_credit_since (Some z) None q h k = absurd h
 no_credit_since (Some z) (Some o) None h k = absurd k
-no_credit_since (Some z) (Some o) (Some q) h (ms, a, b, is, rose) = (ms, prefix_trans _ _ ms h.received a, b, is, omega (arith, h.messages_shown))
+no_credit_since (Some z) (Some o) (Some q) h (none, rose) = (none, omega (arith, h.messages_shown))
 
 no_slot_since : (z o q : Option PutEnd) → PutAsked z o → NoSlotAt o q → NoSlotAt z q
 no_slot_since None None q h k = absurd k
@@ -234,12 +237,6 @@ all_held_back t a m n b checked made whole now looked seen first_asked all f min
 
 -- ---- refusals over more asking
 
-no_credit_on : (o q r : Option PutEnd) → PutAsked q r → NoCreditAt o q → NoCreditAt o r
-no_credit_on None q r h k = absurd k
-no_credit_on (Some o) None r h k = absurd k
-no_credit_on (Some o) (Some q) None h k = absurd h
-no_credit_on (Some o) (Some q) (Some r) h (ms, a, b, is, rose) = (ms, a, prefix_trans ms _ _ b h.received, (let e = ap length h.put in let g = h.same.slots in omega arith), omega (arith, h.messages_shown))
-
 no_slot_on : (o q r : Option PutEnd) → PutAsked q r → NoSlotAt o q → NoSlotAt o r
 no_slot_on None q r h k = absurd k
 no_slot_on (Some o) None r h k = absurd k
@@ -262,11 +259,42 @@ none_since None o h k = refl
 none_since (Some z) None h k = absurd h
 none_since (Some z) (Some o) h k = cc
 
-not_offered_on : (net : Net) (s : State) (u : ℕ) (put : Option Put) (above : ℕ) (os qs rs : List (Option PutEnd)) → PutsAsked qs rs → IsNotOffered net s u put above os qs → IsNotOffered net s u put above os rs
-not_offered_on net s u put above os qs rs h (refusal.no_room w is e l) = refusal.no_room w is e l
-not_offered_on net s u put above os qs rs h (refusal.no_credit w is k) = refusal.no_credit w is (no_credit_on (get_or os (out_of u w.place net.chans) None) (get_or qs (out_of u w.place net.chans) None) (get_or rs (out_of u w.place net.chans) None) (h.each (out_of u w.place net.chans)) k)
-not_offered_on net s u put above os qs rs h (refusal.no_slot w is k) = refusal.no_slot w is (no_slot_on (get_or os (out_of u w.place net.chans) None) (get_or qs (out_of u w.place net.chans) None) (get_or rs (out_of u w.place net.chans) None) (h.each (out_of u w.place net.chans)) k)
-not_offered_on net s u put above os qs rs h (refusal.late r told l) = refusal.late r (told_for_on net u put os qs rs r h told) l
+both_at : (P : Option PutEnd → Option PutEnd → Type 0) (x y o r : Option PutEnd) → x ≡ o → y ≡ r → P o r → P x y
+both_at P x y o r p q h = subst (λ z. P z y) (sym p) (subst (P o) (sym q) h)
+
+-- an end that had no credit and was asked again: it has none; or it has, and its token had no slot or no stamp
+credit_on : (net : Net) (s : State) (u : ℕ) (put : Option Put) (above : ℕ) (os rs : List (Option PutEnd)) (w : Put) → put ≡ Some w
+    → (o q r : Option PutEnd) → get_or os (out_of u w.place net.chans) None ≡ o → get_or rs (out_of u w.place net.chans) None ≡ r
+    → PutAsked o q → PutAsked q r → NoCreditAt o q → IsNotOffered net s u put above os rs
+credit_on net s u put above os rs w is None q r x y before h k = absurd k
+credit_on net s u put above os rs w is (Some o) None r x y before h k = absurd k
+credit_on net s u put above os rs w is (Some o) (Some q) None x y before h k = absurd h
+credit_on net s u put above os rs w is (Some o) (Some q) (Some r) x y before h (none, rose) = by h.hand
+  where
+    c : ℕ
+    c = out_of u w.place net.chans
+
+    still : credits_in_hand r ≡ 0 → IsNotOffered net s u put above os rs
+    still z = refusal.no_credit w is (both_at NoCreditAt (get_or os c None) (get_or rs c None) (Some o) (Some r) x y (z, omega (arith, h.messages_shown)))
+
+    told : ToldAt (Some o) (Some r) (newest_stamp (messages_received r))
+    told = (messages_received r, prefix_trans _ _ _ before.received h.received, prefix_self (messages_received r), refl)
+
+    by : IsUnspent q r → IsNotOffered net s u put above os rs
+    by (ends.as_before z) = still (z ∙ none)
+    by (ends.spent z) = still z
+    by (ends.slotless z) = refusal.no_slot w is (both_at NoSlotAt (get_or os c None) (get_or rs c None) (Some o) (Some r) x y (omega (arith, before.slots_shown)))
+    by (ends.stampless z) =
+        refusal.late (newest_stamp (messages_received r))
+        (subst (λ p. ToldFor net u p os rs (newest_stamp (messages_received r))) (sym is) (both_at (λ o r'. ToldAt o r' (newest_stamp (messages_received r))) (get_or os c None) (get_or rs c None) (Some o) (Some r) x y told))
+        (omega arith)
+
+not_offered_on : (net : Net) (s : State) (u : ℕ) (put : Option Put) (above : ℕ) (os qs rs : List (Option PutEnd)) → PutsAsked os qs → PutsAsked qs rs → IsNotOffered net s u put above os qs → IsNotOffered net s u put above os rs
+not_offered_on net s u put above os qs rs before h (refusal.no_room w is e l) = refusal.no_room w is e l
+not_offered_on net s u put above os qs rs before h (refusal.no_credit w is k) =
+    credit_on net s u put above os rs w is (get_or os (out_of u w.place net.chans) None) (get_or qs (out_of u w.place net.chans) None) (get_or rs (out_of u w.place net.chans) None) refl refl (before.each (out_of u w.place net.chans)) (h.each (out_of u w.place net.chans)) k
+not_offered_on net s u put above os qs rs before h (refusal.no_slot w is k) = refusal.no_slot w is (no_slot_on (get_or os (out_of u w.place net.chans) None) (get_or qs (out_of u w.place net.chans) None) (get_or rs (out_of u w.place net.chans) None) (h.each (out_of u w.place net.chans)) k)
+not_offered_on net s u put above os qs rs before h (refusal.late r told l) = refusal.late r (told_for_on net u put os qs rs r h told) l
 
 not_offered_since : (net : Net) (s : State) (u : ℕ) (put : Option Put) (above : ℕ) (zs os qs : List (Option PutEnd)) → PutsAsked zs os → IsNotOffered net s u put above os qs → IsNotOffered net s u put above zs qs
 not_offered_since net s u put above zs os qs h (refusal.no_room w is e l) = refusal.no_room w is (none_since (get_or zs (out_of u w.place net.chans) None) (get_or os (out_of u w.place net.chans) None) (h.each (out_of u w.place net.chans)) e) l
@@ -274,8 +302,8 @@ not_offered_since net s u put above zs os qs h (refusal.no_credit w is k) = refu
 not_offered_since net s u put above zs os qs h (refusal.no_slot w is k) = refusal.no_slot w is (no_slot_since (get_or zs (out_of u w.place net.chans) None) (get_or os (out_of u w.place net.chans) None) (get_or qs (out_of u w.place net.chans) None) (h.each (out_of u w.place net.chans)) k)
 not_offered_since net s u put above zs os qs h (refusal.late r told l) = refusal.late r (told_for_since net u put zs os qs r h told) l
 
-pub refused_on : (t : Tables) (a b c : Worker) (f : Firing) → IsAsked b c → IsRefused t a b f → IsRefused t a c f
-refused_on t a b c f h r x q = not_offered_on t.net (state_of a.state) f.unit x.put (base_of t a f) a.puts.items b.puts.items c.puts.items h.puts (r x q)
+pub refused_on : (t : Tables) (a b c : Worker) (f : Firing) → IsAsked a b → IsAsked b c → IsRefused t a b f → IsRefused t a c f
+refused_on t a b c f before h r x q = not_offered_on t.net (state_of a.state) f.unit x.put (base_of t a f) a.puts.items b.puts.items c.puts.items before.puts h.puts (r x q)
 
 pub refused_since : (t : Tables) (a b c : Worker) (f : Firing) → IsAsked a b → IsRefused t b c f → IsRefused t a c f
 refused_since t a b c f h r x q =

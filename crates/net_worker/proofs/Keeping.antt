@@ -18,6 +18,7 @@ use Rattle.net_worker.specs.Keeps.{IsKept, MadeKeeps}
 use Rattle.net_worker.specs.Workers.{owner_in, IsInto, IsOutOf, IsMadeOf, Sees, shown, take_end, put_end, held_by, handed_by, put_by, received_by, repaid_by}
 use Rattle.net_worker.specs.declared.tables.Tables.{Tables}
 use Rattle.net_worker.specs.declared.worker.Worker.{Worker}
+use Rattle.net_worker.proofs.Exits.{exit_kept}
 use Rattle.net_worker.proofs.Locals.{room_later}
 use Rattle.net_worker.proofs.Fires.{handed_kept, repaid_kept, put_before, took_before, got_more}
 
@@ -71,6 +72,7 @@ module _ (t : Tables) (a b : Worker) (m : IsMadeOf t a) (k : IsKept t a b) where
     after = m.after;
     local = subst (λ n. IsLocal t.net t.inputs owner n (shown b m.after)) (sym k.number) local_same;
     sees = subst (λ n. Sees t.net owner n (state_of b.state) m.after.state) (sym k.number) (subst (λ s. Sees t.net owner a.number (state_of s) m.after.state) (sym k.state) m.sees);
+    exit = exit_kept t.net (state_of a.state) (state_of b.state) a.log.items b.log.items (ap (λ s. (state_of s).own) k.state) (ap (λ g. g.items) k.log) m.exit;
     held = λ c i. m.held c (subst (λ n. IsInto t n c) k.number i) ∙ ap values (sym (held_kept (take_end a c) (take_end b c) (k.takes c)));
     held_stamps = λ c i. m.held_stamps c (subst (λ n. IsInto t n c) k.number i) ∙ ap stamps_of (sym (held_kept (take_end a c) (take_end b c) (k.takes c)));
     puts_out = λ c q is. (let p = put_before 0 None (put_end a c) q (subst (PutStep 0 None (put_end a c)) is (k.puts c)) in let o = m.puts_out c p.end p.is in (subst (λ i. IsOutOf t i c) (sym k.number) o.0, p.slots ∙ o.1));

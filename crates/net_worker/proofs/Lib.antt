@@ -4,12 +4,14 @@ pub mod Steps
 pub mod Merging
 pub mod Opening
 pub mod Logs
+pub mod Ascending
 pub mod Gathering
 pub mod More
 pub mod Locals
 pub mod Sights
 pub mod Looks
 pub mod Mays
+pub mod Exits
 pub mod Fires
 pub mod Keeping
 pub mod Settling

@@ -120,13 +120,13 @@ entries_set [] k e es b q = absurd (omega arith)
 entries_set (l ∷ ls) zero e es b q = let x : length l ≡ suc (length es) = ap length q in omega arith
 entries_set (l ∷ ls) (suc k) e es b q = let r = entries_set ls k e es (omega arith) q in omega arith
 
-none_left : (logs : List (List Entry)) → entries_of logs ≡ 0 → (v : ℕ) → get_or logs v [] ≡ []
+pub none_left : (logs : List (List Entry)) → entries_of logs ≡ 0 → (v : ℕ) → get_or logs v [] ≡ []
 none_left [] h v = refl
 none_left ([] ∷ ls) h zero = refl
 none_left ((e ∷ es) ∷ ls) h zero = absurd (omega arith)
 none_left (l ∷ ls) h (suc v) = none_left ls (omega arith) v
 
-rises_later : (n : ℕ) (e : Entry) (es : List Entry) → RisesFrom n (e ∷ es) → RisesFrom 0 es
+pub rises_later : (n : ℕ) (e : Entry) (es : List Entry) → RisesFrom n (e ∷ es) → RisesFrom 0 es
 rises_later n e [] r = tt
 rises_later n e (f ∷ es) r = (omega arith, r.1.1)
 

@@ -23,6 +23,7 @@ use Rattle.net_worker.specs.Looks.{IsLaid, MadeLooks}
 use Rattle.net_worker.specs.Workers.{owner_in, IsInto, IsOutOf, IsMadeOf, Sees, shown, take_end, put_end, held_by, handed_by, put_by, received_by, repaid_by}
 use Rattle.net_worker.specs.declared.tables.Tables.{Tables}
 use Rattle.net_worker.specs.declared.worker.Worker.{Worker}
+use Rattle.net_worker.proofs.Exits.{exit_kept}
 use Rattle.net_worker.proofs.Locals.{local_looks}
 
 some_inj : (x y : TakeEnd) → Some x ≡ Some y → x ≡ y
@@ -136,6 +137,7 @@ module _ (t : Tables) (a b : Worker) (c : ℕ) (e e' : TakeEnd) (x : Token) (m :
     after = on.to;
     local = subst (λ n. IsLocal t.net t.inputs owner n (shown b on.to)) (sym l.number) on.local;
     sees = subst (λ n. Sees t.net owner n (state_of b.state) on.to.state) (sym l.number) (subst (λ y. Sees t.net owner j y on.to.state) (sym l.state) sees_on);
+    exit = exit_kept t.net (state_of a.state) (state_of b.state) a.log.items b.log.items (ap (λ s. s.own) l.state) (ap (λ g. g.items) l.log) m.exit;
     held = λ d i. held_at d i (cases_eq d c);
     held_stamps = λ d i. held_stamps_at d i (cases_eq d c);
     puts_out = λ d p q. subst (λ n. IsOutOf t n d × (Rattle.elastic_link.specs.Ends.slots_of p ≡ (chan_at t.net d).slots)) (sym l.number) (m.puts_out d p (ap (λ ps. get_or ps d None) (sym l.puts) ∙ q));

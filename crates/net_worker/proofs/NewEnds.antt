@@ -19,6 +19,7 @@ use Rattle.net_worker.specs.Workers.{owner_in, IsMadeOf, IsInto, IsOutOf, Sees, 
 use Rattle.net_worker.specs.declared.entry.Entry.{Entry}
 use Rattle.net_worker.specs.declared.tables.Tables.{Tables}
 use Rattle.net_worker.specs.declared.worker.Worker.{Worker}
+use Rattle.net_worker.proofs.Exits.{exit_kept}
 
 -- two tables of which one worker was made have the same channels to others, with the same slots
 same_out : (s t : Tables) (w : Worker) (c : ℕ) → IsMadeOf s w → IsMadeOf t w → IsOutOf s w.number c → IsOutOf t w.number c
@@ -113,6 +114,7 @@ module _ (s t : Tables) (a b : Worker) (c : ℕ) (p : PutEnd) (m : IsMadeOf s a)
     after = k.after;
     local = subst (λ n. IsLocal t.net t.inputs (owner_in t) n (shown b k.after)) (sym e.number) (subst (IsLocal t.net t.inputs (owner_in t) a.number) (sym shown_same) k.local);
     sees = subst (λ n. Sees t.net (owner_in t) n (state_of b.state) k.after.state) (sym e.number) (subst (λ s. Sees t.net (owner_in t) a.number (state_of s) k.after.state) (sym e.state) k.sees);
+    exit = exit_kept t.net (state_of a.state) (state_of b.state) a.log.items b.log.items (ap (λ s. (state_of s).own) e.state) (ap (λ g. g.items) e.log) k.exit;
     held = λ d i. k.held d (subst (λ n. IsInto t n d) e.number i) ∙ ap (λ v. values (held_by (get_or v.items d None))) (sym takes);
     held_stamps = λ d i. k.held_stamps d (subst (λ n. IsInto t n d) e.number i) ∙ ap (λ v. stamps_of (held_by (get_or v.items d None))) (sym takes);
     puts_out = λ d q is. ends_out d q is (cases_eq d c);
@@ -193,6 +195,7 @@ module _ (s t : Tables) (a b : Worker) (c : ℕ) (p : TakeEnd) (m : IsMadeOf s a
     after = k.after;
     local = subst (λ n. IsLocal t.net t.inputs (owner_in t) n (shown b k.after)) (sym e.number) (subst (IsLocal t.net t.inputs (owner_in t) a.number) (sym takes_shown) k.local);
     sees = subst (λ n. Sees t.net (owner_in t) n (state_of b.state) k.after.state) (sym e.number) (subst (λ s. Sees t.net (owner_in t) a.number (state_of s) k.after.state) (sym e.state) k.sees);
+    exit = exit_kept t.net (state_of a.state) (state_of b.state) a.log.items b.log.items (ap (λ s. (state_of s).own) e.state) (ap (λ g. g.items) e.log) k.exit;
     held = λ d i. k.held d (subst (λ n. IsInto t n d) e.number i) ∙ ap values (sym (of_takes held_by (none_held p new) d));
     held_stamps = λ d i. k.held_stamps d (subst (λ n. IsInto t n d) e.number i) ∙ ap stamps_of (sym (of_takes held_by (none_held p new) d));
     puts_out = λ d q is. (let r = k.puts_out d q (ap (λ v. get_or v.items d None) (sym puts) ∙ is) in (subst (λ n. IsOutOf t n d) (sym e.number) r.0, r.1));

@@ -18,6 +18,7 @@ use Rattle.net_worker.specs.declared.entry.Entry.{Entry}
 use Rattle.net_worker.specs.declared.tables.Tables.{Tables}
 use Rattle.net_worker.specs.declared.worker.Worker.{Worker}
 use Rattle.net_core.proofs.RegularLemmas.{opening_tokens}
+use Rattle.net_worker.proofs.Exits.{exit_opening}
 use Rattle.net_worker.proofs.Opening.{fed_tokens, fed_stamps, fed_past}
 
 none_at : {X : Type 0} (n c : ℕ) → get_or {A = Option X} (replicate n None) c None ≡ None
@@ -101,6 +102,7 @@ module _ (t : Tables) (w : Worker) (b : IsBegun t w) where
     after = after;
     local = local;
     sees = sees;
+    exit = exit_opening t.net t.inputs w.state w.log.items b.of b.state b.log;
     held = λ c i. empty c ∙ ap (λ o. values (held_by o)) (sym (no_take c));
     held_stamps = λ c i. unstamped c i.0 ∙ ap (λ o. stamps_of (held_by o)) (sym (no_take c));
     puts_out = λ c p is. absurd (none_is (put_end w c) p (no_put c) is);

@@ -5,13 +5,13 @@ use Rattle.std.proofs.lemmas.Bool.{cases_lt, cases_eq}
 use Rattle.std.proofs.lemmas.List.{get_or_past}
 use Rattle.elastic_link.specs.declared.put_end.PutEnd.{PutEnd}
 use Rattle.elastic_link.specs.Credits.{newest_stamp, IsStamp}
-use Rattle.elastic_link.specs.Ends.{messages_received, SamePutEnd}
+use Rattle.elastic_link.specs.Ends.{tokens_put, messages_received, no_slot_count, no_message_count, SamePutEnd}
 use Rattle.net_types.specs.declared.net.Net.{Net}
 use Rattle.net_types.specs.Nets.{out_of, chan_at}
 use Rattle.net_core.specs.declared.plan.Put.{Put}
 use Rattle.net_core.specs.Fire.{State, tokens_at, puts_on}
 use Rattle.net_worker.specs.Asking.{AskedPut, PutAsked, PutsAsked}
-use Rattle.net_worker.specs.Ends.{IsPutAbove, IsNotPut}
+use Rattle.net_worker.specs.Ends.{IsPutAbove, IsNotPut, IsUnspent}
 use Rattle.net_worker.specs.Ends as unput
 use Rattle.net_worker.specs.Fires.{PutStep}
 use Rattle.net_worker.specs.Offers.{ToldAt, RoomAt, IsOffered, NoCreditAt, NoSlotAt, IsNotOffered}
@@ -108,11 +108,16 @@ module _ (net : Net) (s : State) (u above : ℕ) (w : Put) (ps : List (Option Pu
         each d (inl e) = subst (λ k. PutAsked (get_or ps k None) (get_or qs k None)) (sym e) (subst (λ o. PutAsked o (get_or qs c None)) (sym old) (subst (λ o. PutAsked (Some p) o) (sym new) h))
         each d (inr m) = subst (λ o. PutAsked (get_or ps d None) o) (sym (get_or-set_other ps c d (Some q) None m)) (put_asked_self (get_or ps d None))
 
+    pub asked_none : (o : Option ℕ) → SamePutEnd p q → IsPrefix (messages_received p) (messages_received q) → IfNone o (tokens_put q ≡ tokens_put p) → no_slot_count p ≤ no_slot_count q → no_message_count p ≤ no_message_count q
+        → IfNone o (IsUnspent p q) → IfNone o (PutsAsked ps qs)
+    asked_none None same received put slots messages hand = asked_end (record { same = same; received = received; put = put; slots_shown = slots; messages_shown = messages; hand = hand })
+    asked_none (Some n) same received put slots messages hand = tt
+
     pub refused_end : IsPrefix (messages_received p) (messages_received q) → IsNotPut p q above → IsNotOffered net s u (Some w) above ps qs
     refused_end h (unput.no_credit none rose) =
         refusal.no_credit w refl
         (subst (λ k. NoCreditAt (get_or ps k None) (get_or qs k None)) at (subst (λ o. NoCreditAt o (get_or qs c None)) (sym old) (subst (λ o. NoCreditAt (Some p) o) (sym new)
-        (messages_received q, h, prefix_self (messages_received q), (let r = q.room in omega arith), rose))))
+        (none, rose))))
     refused_end h (unput.no_slot rose) =
         refusal.no_slot w refl (subst (λ k. NoSlotAt (get_or ps k None) (get_or qs k None)) at (subst (λ o. NoSlotAt o (get_or qs c None)) (sym old) (subst (λ o. NoSlotAt (Some p) o) (sym new) rose)))
     refused_end h (unput.late l) = refusal.late (newest_stamp (messages_received q)) (told h) l

@@ -57,7 +57,7 @@ module _ (t : Tables) (a m b : Worker) (u : ℕ) (from act : Act) (first : IsAsk
   in_m x e = subst (λ s. enabled t.net (state_of s) (firing u x)) (sym first.state) e
 
   before : (x : Act) → enabled t.net (state_of a.state) (firing u x) → (ActLe from x → ⊥) → IsRefused t a b (firing u x)
-  before x e n = refused_on t a m b (firing u x) then (sofar x e n)
+  before x e n = refused_on t a m b (firing u x) first then (sofar x e n)
 
   here : IsRefused t a b (firing u act)
   here = refused_since t a m b (firing u act) first now

@@ -4,6 +4,7 @@ use mathlib.Core.List.{IsPrefix}
 use Rattle.elastic_link.specs.declared.put_end.PutEnd.{PutEnd}
 use Rattle.elastic_link.specs.declared.take_end.TakeEnd.{TakeEnd}
 use Rattle.elastic_link.specs.Ends.{tokens_put, messages_received, tokens_taken, token_held, messages_repaid, credits_repaid, repaid_stamp, SamePutEnd, SameTakeEnd, no_slot_count, no_message_count, no_token_count}
+use Rattle.net_worker.specs.Ends.{IsUnspent}
 use Rattle.net_worker.specs.Views.{put_end, take_end}
 use Rattle.net_worker.specs.declared.worker.Worker.{Worker}
 
@@ -13,6 +14,7 @@ pub record AskedPut (p q : PutEnd) : Type 0 where
   pub put : tokens_put q ≡ tokens_put p
   pub slots_shown : no_slot_count p ≤ no_slot_count q
   pub messages_shown : no_message_count p ≤ no_message_count q
+  pub hand : IsUnspent p q
 
 abbrev pub PutAsked : Option PutEnd → Option PutEnd → Type 0
 PutAsked None None = Unit {0}

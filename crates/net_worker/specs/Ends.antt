@@ -22,3 +22,11 @@ pub data IsNotPut (a b : PutEnd) (clock : ℕ) : Type 0 where
   no_credit : credits_in_hand b ≡ 0 → Rose (no_message_count a) (no_message_count b) → IsNotPut a b clock
   no_slot : Rose (no_slot_count a) (no_slot_count b) → IsNotPut a b clock
   late : 2 ^ 62 ≤ suc (max clock (newest_stamp (messages_received b))) → IsNotPut a b clock
+
+-- the credits in hand of an end by which no token was put: as many as before; or none; or some, but the ring showed no free slot, or no
+-- stamp is left above the newest of the messages received
+pub data IsUnspent (a b : PutEnd) : Type 0 where
+  as_before : credits_in_hand b ≡ credits_in_hand a → IsUnspent a b
+  spent : credits_in_hand b ≡ 0 → IsUnspent a b
+  slotless : Rose (no_slot_count a) (no_slot_count b) → IsUnspent a b
+  stampless : 2 ^ 62 ≤ suc (newest_stamp (messages_received b)) → IsUnspent a b

@@ -3,6 +3,7 @@ pub mod Plays
 pub mod Merge
 pub mod Local
 pub mod Merged
+pub mod Ascending
 pub mod Steps
 pub mod Locally
 pub mod Views

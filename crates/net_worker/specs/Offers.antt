@@ -6,8 +6,8 @@ use Rattle.elastic_link.specs.declared.message.Credit.{Credit}
 use Rattle.elastic_link.specs.declared.message.Token.{Token}
 use Rattle.elastic_link.specs.declared.put_end.PutEnd.{PutEnd}
 use Rattle.elastic_link.specs.declared.take_end.TakeEnd.{TakeEnd}
-use Rattle.elastic_link.specs.Credits.{newest_stamp, credits_in, IsStamp}
-use Rattle.elastic_link.specs.Ends.{tokens_put, messages_received, slots_of, no_slot_count, no_message_count}
+use Rattle.elastic_link.specs.Credits.{newest_stamp, IsStamp}
+use Rattle.elastic_link.specs.Ends.{messages_received, credits_in_hand, no_slot_count, no_message_count}
 use Rattle.net_types.specs.declared.net.Net.{Net}
 use Rattle.net_types.specs.Nets.{into, out_of, chan_at}
 use Rattle.net_core.specs.declared.plan.Put.{Put}
@@ -60,12 +60,11 @@ pub record IsOffered (net : Net) (s : State) (u : ℕ) (put : Option Put) (above
 
 -- ---- it is refused
 
--- the ring showed no message, and by the messages received until some moment there was no credit
+-- no credit is in hand now, and the ring showed no message
 abbrev pub NoCreditAt : Option PutEnd → Option PutEnd → Type 0
 NoCreditAt None q = ⊥
 NoCreditAt (Some p) None = ⊥
-NoCreditAt (Some p) (Some q) = (ms : List Credit) × IsPrefix (messages_received p) ms × IsPrefix ms (messages_received q)
-    × (length (tokens_put q) ≡ slots_of q + credits_in ms) × Rose (no_message_count p) (no_message_count q)
+NoCreditAt (Some p) (Some q) = (credits_in_hand q ≡ 0) × Rose (no_message_count p) (no_message_count q)
 
 -- the ring showed no free slot for a token
 abbrev pub NoSlotAt : Option PutEnd → Option PutEnd → Type 0

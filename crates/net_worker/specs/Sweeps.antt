@@ -81,7 +81,7 @@ waits net s f = waits_at (row (kind_of net f.unit) f.act (get_or s.own f.unit id
 abbrev pub NoToken : ℕ → Worker → Worker → Type 0
 NoToken c a b = NoTokenAt (take_end a c) (take_end b c)
 
--- the ring showed no message in the sweep, and by the messages received until some moment of it there was no credit
+-- no credit is in hand there after the sweep, and the ring showed no message in it
 abbrev pub NoCredit : ℕ → Worker → Worker → Type 0
 NoCredit c a b = NoCreditAt (put_end a c) (put_end b c)
 

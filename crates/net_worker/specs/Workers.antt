@@ -1,6 +1,6 @@
 -- A worker as the definitions see it: what holds of it, whatever the others do.
-use Rattle.std.specs.Prelude.{◌≡◌, ◌≢◌, ◌⊎◌, ℕ, ◌+◌, ◌*◌, ◌^◌, ◌<◌, ◌≤◌, false, Option, Some, None, IsSome, List, [], ◌++◌, length, get_or}
-use Rattle.std.specs.List.{All, Contains}
+use Rattle.std.specs.Prelude.{◌≡◌, ◌≢◌, ◌⊎◌, ◌↔◌, ℕ, ◌+◌, ◌*◌, ◌^◌, ◌<◌, ◌≤◌, false, Option, Some, None, IsSome, List, [], ◌++◌, length, get_or}
+use Rattle.std.specs.List.{All, Any, Contains}
 use mathlib.Core.List.{IsPrefix}
 use Rattle.el_base.specs.Limits.{max_depth}
 use Rattle.elastic_link.specs.declared.message.Token.{Token}
@@ -10,6 +10,7 @@ use Rattle.elastic_link.specs.declared.take_end.TakeEnd.{TakeEnd}
 use Rattle.elastic_link.specs.Held.{tokens_of}
 use Rattle.elastic_link.specs.Ends.{tokens_put, messages_received, slots_of, tokens_taken, token_held, messages_repaid, repaid_stamp, credits_repaid, SamePutEnd, SameTakeEnd, IsLink, IsSound}
 use Rattle.net_types.specs.declared.net.Net.{Net}
+use Rattle.net_types.specs.declared.net.Unit.TheVariants.{Exit}
 use Rattle.net_types.specs.Nets.{chan_at, kind_of, uses}
 use Rattle.net_core.specs.Fire.{State, idle, at_array, tokens_at}
 use Rattle.net_core.specs.Runs.{HasExited}
@@ -20,6 +21,7 @@ use Rattle.net_worker.specs.Plays.{putter, taker}
 use Rattle.net_worker.specs.Local.{values, stamps_of, Shown, IsLocal}
 use Rattle.net_worker.specs.Merged.{IsRested}
 use Rattle.net_worker.specs.Steps.{last_stamp}
+use Rattle.net_worker.specs.declared.entry.Entry.{Entry}
 use Rattle.net_worker.specs.declared.tables.Tables.{Tables}
 use Rattle.net_worker.specs.declared.worker.Worker.{Worker}
 
@@ -75,6 +77,14 @@ pub record Sees (net : Net) (owner : ℕ → ℕ) (j : ℕ) (s t : State) : Type
   pub out : (c : ℕ) → c < length net.chans → taker net owner c ≢ j → tokens_at s c ≡ []
   pub arrays_long : length t.arrays ≡ length s.arrays
 
+-- an entry of the list is a firing of the exit
+abbrev pub HasExitAmong : Net → List Entry → Type 0
+HasExitAmong net es = Any (λ (e : Entry). kind_of net e.firing.unit ≡ Exit) es
+
+-- an entry of the worker's log is a firing of the exit
+abbrev pub HasLoggedExit : Tables → Worker → Type 0
+HasLoggedExit t w = HasExitAmong t.net w.log.items
+
 -- the worker was made of these tables, and all that holds of it locally
 pub record IsMadeOf (t : Tables) (w : Worker) : Type 0 where
   pub of : IsOf t.net w.state
@@ -87,6 +97,8 @@ pub record IsMadeOf (t : Tables) (w : Worker) : Type 0 where
   pub after : Stamped
   pub local : IsLocal t.net t.inputs (owner_in t) w.number (shown w after)
   pub sees : Sees t.net (owner_in t) w.number (state_of w.state) after.state
+  -- in the state that the worker holds the exit has fired exactly where its log says so, whoever owns the exit
+  pub exit : HasExited t.net (state_of w.state) ↔ HasLoggedExit t w
   -- of a channel from another worker the state has the token that the end holds
   pub held : (c : ℕ) → IsInto t w.number c → tokens_at after.state c ≡ values (held_by (take_end w c))
   pub held_stamps : (c : ℕ) → IsInto t w.number c → stamps_at after c ≡ stamps_of (held_by (take_end w c))
@@ -101,16 +113,13 @@ pub record IsMadeOf (t : Tables) (w : Worker) : Type 0 where
   -- each take was repaid, with a stamp of the log
   pub repaid : (c : ℕ) (e : TakeEnd) → take_end w c ≡ Some e → (credits_repaid e ≡ length (tokens_taken e)) × (repaid_stamp e ≤ w.clock)
 
--- ---- whole, exited, full
+-- ---- whole, full
 
 -- each channel to or from another worker has its end, and the worker was not gathered
 pub record IsWhole (t : Tables) (w : Worker) : Type 0 where
   pub puts : (c : ℕ) → IsOutOf t w.number c → IsSome (put_end w c)
   pub takes : (c : ℕ) → IsInto t w.number c → IsSome (take_end w c)
   pub not_closed : w.closed ≡ false
-
-abbrev pub HasLoggedExit : Tables → Worker → Type 0
-HasLoggedExit t w = HasExited t.net (state_of w.state)
 
 abbrev pub IsFull : Worker → Type 0
 IsFull w = (w.log.room ≡ 0) ⊎ (w.clock + 1 ≡ 2 ^ 62)

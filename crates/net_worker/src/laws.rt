@@ -1,4 +1,5 @@
 //! Laws of workers, as contracts of functions that do nothing.
+ghost use Rattle.net_worker.specs.Ascending.{MergedAscends};
 ghost use Rattle.net_worker.specs.Merge.{MergedLogsRun};
 ghost use Rattle.net_worker.specs.Rests.{IdleRests};
 ghost use Rattle.net_worker.specs.Local.{WorkersAgree};
@@ -24,6 +25,12 @@ pub fn workers_agree()
 /// The merged log is a merge of the logs.
 pub fn merged_merges()
     ensures { MergedMerges }
+{}
+
+/// The merged log has the firings of all entries in ascending order of their stamps and then of their workers, and there is
+/// one list of the entries in that order.
+pub fn merged_ascends()
+    ensures { MergedAscends }
 {}
 
 /// Inner units that rest in a worker rest in each state that is alike.

@@ -9,7 +9,7 @@ use Rattle.net_types.specs.declared.net.Net.{Net}
 use Rattle.net_types.specs.declared.firing.Firing.{Firing}
 use Rattle.net_types.specs.declared.firing.Inputs.{Inputs}
 use Rattle.net_core.specs.Fire.{State, enabled, after}
-use Rattle.net_core.specs.Runs.{opening, Leads, Run, AtRest, Long, HasExited}
+use Rattle.net_core.specs.Runs.{opening, Leads, Run, AtRest, Long}
 use Rattle.net_replay.specs.declared.fault.RunFault.{RunFault}
 use Rattle.net_replay.specs.declared.fault.RunFault.TheVariants as fault
 use Rattle.net_replay.specs.Judgements.{IsFault, IsSound}
@@ -19,7 +19,7 @@ use Rattle.net_worker.specs.Given.{SameWork}
 use Rattle.net_worker.specs.Merged.{IsRested, entries_of}
 use Rattle.net_worker.specs.Plays.{putter, taker}
 use Rattle.net_worker.specs.Views.{net_of, inputs_of, owner_in, number_of, log_share, log_of, log_room, clock_of, held_state, put_end, take_end}
-use Rattle.net_worker.specs.Workers.{IsMadeOf, IsWhole, IsOutOf, IsInto, IsFull, HasLoggedExit, HasRested, SamePut, SameTake, SameWorker, AreLinkedAt}
+use Rattle.net_worker.specs.Workers.{IsMadeOf, IsWhole, IsOutOf, IsInto, IsFull, HasExitAmong, HasRested, SamePut, SameTake, SameWorker, AreLinkedAt}
 use Rattle.net_worker.proofs.Settling.{same_put, same_take, same_put_then, same_take_then, link_ends}
 use Rattle.worker_run.specs.Crews.{AreMade, AreLinked, AllWhole, AreSameWork, logs_of, merged_of, share_of}
 use Rattle.worker_run.specs.Reports.{IsCrewOf, HasEnded, IsRunFault}
@@ -159,7 +159,7 @@ entries_within net inputs count limit t ws some c m =
 -- ---- why a worker ended
 
 ended_by : (t : Tables) (s : State) (j : ℕ) (a b : Worker) → SameWork a b → number_of a ≡ j → (HasRested t a → IsRested (net_of t) (owner_in t) j s) → HasStopped t a → HasEnded t s b
-ended_by t s j a b w n rests (inl exit) = inl (subst (HasExited (net_of t)) (sym w.state) exit)
+ended_by t s j a b w n rests (inl exit) = inl (subst (HasExitAmong (net_of t)) (sym w.log) exit)
 ended_by t s j a b w n rests (inr (inl (inl full))) = inr (inl (inl (w.room ∙ full)))
 ended_by t s j a b w n rests (inr (inl (inr last))) = inr (inl (inr (ap (λ k. k + 1) w.clock ∙ last)))
 ended_by t s j a b w n rests (inr (inr rest)) = inr (inr (subst (λ i. IsRested (net_of t) (owner_in t) i s) (sym (w.number ∙ n)) (rests rest)))

@@ -1,5 +1,6 @@
 -- What a threaded run reports.
-use Rattle.std.specs.Prelude.{◌≡◌, ◌⊎◌, ℕ, ◌+◌, ◌<◌, ◌≤◌, Bool, cond, List, [], ◌++◌, length, slice_index_or}
+use Rattle.std.specs.Prelude.{◌≡◌, ◌⊎◌, ℕ, ◌+◌, ◌<◌, ◌≤◌, Bool, true, cond, List, [], ◌++◌, length, slice_index_or}
+use Rattle.std.specs.List.{All}
 use Rattle.net_types.specs.declared.net.Net.{Net}
 use Rattle.net_types.specs.declared.firing.Firing.{Firing}
 use Rattle.net_types.specs.declared.firing.Inputs.{Inputs}
@@ -12,7 +13,7 @@ use Rattle.net_replay.specs.Judgements.{IsFault, IsSound}
 use Rattle.net_worker.specs.declared.tables.Tables.{Tables}
 use Rattle.net_worker.specs.declared.worker.Worker.{Worker}
 use Rattle.net_worker.specs.Merged.{IsRested}
-use Rattle.net_worker.specs.Views.{net_of, inputs_of, unit_owners, owner_in, number_of, log_share}
+use Rattle.net_worker.specs.Views.{net_of, inputs_of, unit_owners, owner_in, number_of, log_share, is_closed}
 use Rattle.net_worker.specs.Workers.{IsFull, HasLoggedExit}
 use Rattle.worker_run.specs.Crews.{merged_of, share_of}
 
@@ -24,7 +25,7 @@ pub record IsCrewOf (net : Net) (inputs : Inputs) (count limit : ℕ) (t : Table
   pub count_is : length ws ≡ count
   pub shares : (j : ℕ) (d : Worker) → j < count → log_share (slice_index_or ws j d) ≡ share_of limit count j
 
--- where the gate is open: the worker has logged its exit, or its log is full or has no stamp left, or its inner units rest in the state
+-- where the gate is open: the worker's log has a firing of the exit, or is full or has no stamp left, or its inner units rest in the state
 -- after the merged log
 abbrev pub HasEnded : Tables → State → Worker → Type 0
 HasEnded t s w = HasLoggedExit t w ⊎ (IsFull w ⊎ IsRested (net_of t) (owner_in t) (number_of w) s)
@@ -32,6 +33,8 @@ HasEnded t s w = HasLoggedExit t w ⊎ (IsFull w ⊎ IsRested (net_of t) (owner_
 -- the merged log, and then the caller's firings, lead to the state, which is at rest, has exited and has no strays
 pub record IsReport (net : Net) (inputs : Inputs) (count limit : ℕ) (keep : Bool) (Opened : Type 0) (t : Tables) (ws : List Worker) (s : State) (firings : ℕ) (log : List Firing) : Type 0 where
   pub crew : IsCrewOf net inputs count limit t ws
+  -- each worker was gathered, and is whole no more
+  pub closed : All (λ w. is_closed w ≡ true) ws
   pub gathered : State
   pub merged_run : Run net inputs (merged_of ws) gathered
   pub rest : List Firing

@@ -9,7 +9,7 @@ pub record IsSweptFrom (t : Tables) (a b : Worker) : Type 0 where
   pub made : IsMadeOf t b
   pub same : SameWorker a b
 
--- the worker has logged its exit, or its log is full or has no stamp left, or its inner units rest
+-- the worker's log has a firing of the exit, or is full or has no stamp left, or its inner units rest
 abbrev pub HasStopped : Tables → Worker → Type 0
 HasStopped t w = HasLoggedExit t w ⊎ (IsFull w ⊎ HasRested t w)
 

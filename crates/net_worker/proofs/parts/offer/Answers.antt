@@ -3,7 +3,7 @@ use Rattle.std.proofs.lemmas.List.{get_or_past, get_or_read}
 use Rattle.elastic_link.specs.declared.put_end.PutEnd.{PutEnd}
 use Rattle.net_core.specs.States.{state_of}
 use Rattle.net_worker.specs.Offers.{IsOffered, IsNotOffered}
-use Rattle.net_worker.proofs.Offering.{end_some, end_none, inner_some, inner_none, plain_none}
+use Rattle.net_worker.proofs.Offering.{asked_none, end_some, end_none, inner_some, inner_none, plain_none}
 use Rattle.net_worker.proofs.Paying.{set_self}
 use Rattle.net_worker.proofs.parts.offer.Goals as goal
 
@@ -29,6 +29,13 @@ returns-in-Some-index_mut-clause-some c =
     rw c.in-Some.is (end_some c.args.net.now (state_of c.args.state.now) c.args.unit c.args.above c.in-Some.put c.args.puts.now.items c.out_of_place-chan.result c.out_of_place-chan.ensures
     c.in-Some-index_mut.end c.put_above.new.end (sym (get_or_read c.args.puts.now.items _ _ l c.index_mut.ensures.value None) ∙ c.in-Some-index_mut.is)
     c.put_above.result c.put_above.ensures.same c.put_above.ensures.received c.put_above.ensures.put)
+
+pub returns-in-Some-index_mut-clause-asked : goal.returns-in-Some-index_mut-clause-asked
+returns-in-Some-index_mut-clause-asked c =
+    let l : c.out_of_place-chan.result < length c.args.puts.now.items = omega arith in
+    asked_none c.args.net.now (state_of c.args.state.now) c.args.unit c.args.above c.in-Some.put c.args.puts.now.items c.out_of_place-chan.result c.out_of_place-chan.ensures
+    c.in-Some-index_mut.end c.put_above.new.end (sym (get_or_read c.args.puts.now.items _ _ l c.index_mut.ensures.value None) ∙ c.in-Some-index_mut.is)
+    c.put_above.result c.put_above.ensures.same c.put_above.ensures.received c.put_above.ensures.kept c.put_above.ensures.slots c.put_above.ensures.messages c.put_above.ensures.hand
 
 pub returns-in-Some-index_mut-clause-none : goal.returns-in-Some-index_mut-clause-none
 returns-in-Some-index_mut-clause-none c =

@@ -76,6 +76,7 @@ returns-in_ok-judge-in-Rest-clause-report g c =
     let crew_now = crew_same net inputs c.args.count c.args.limit t y x same crew in
     record {
       crew = subst (λ u. IsCrewOf net inputs c.args.count c.args.limit u x) (sym kept) crew_now;
+      closed = c.gather-made.ensures.closed;
       gathered = gathered;
       merged_run = run;
       rest = f.firings;

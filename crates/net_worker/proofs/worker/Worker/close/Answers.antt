@@ -11,6 +11,7 @@ returns-clause-made c t m = record {
   after = m.after;
   local = m.local;
   sees = m.sees;
+  exit = m.exit;
   held = m.held;
   held_stamps = m.held_stamps;
   puts_out = m.puts_out;

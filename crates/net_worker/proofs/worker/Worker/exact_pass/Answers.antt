@@ -40,7 +40,7 @@ loop-at-preserved c =
       asked = asked_trans a m b c.loop-at.invariant.asked h.asked;
       refused = λ f l mine e.
           elim (cases_lt f.unit c.loop-at.at) [
-            | inl k ↦ refused_on t a m b f h.asked (c.loop-at.invariant.refused f k mine e)
+            | inl k ↦ refused_on t a m b f c.loop-at.invariant.asked h.asked (c.loop-at.invariant.refused f k mine e)
             | inr k ↦
                 (let q : f.unit ≡ c.loop-at.at = omega arith in
                 refused_since t a m b f c.loop-at.invariant.asked
