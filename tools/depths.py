@@ -7,7 +7,7 @@ Each kernel of examples/ is run by `go` without a depth and with the depths 1, 4
 tells where the results are not those of results.txt, where the firings are not those of the run without a depth, where a walk
 along channels of delay 0 weighs more than the depth, and where all kernels together take, with depth 4, more than a third of
 the cycles that they take without; then the table: the cycles with two slots, and the weight of the heaviest walk. A walk weighs
-as many units as it goes through, without forks, sinks, constants, parameters, the entry and the exit."""
+as many units as it goes through, without forks, sinks, constants, parameters, conversions of widths, the entry and the exit."""
 import pathlib
 import subprocess
 import sys
@@ -28,10 +28,16 @@ def run(program, example, depth, slots):
     return circuit, [line for line in lines if not line.startswith("# ")], told["firings"], told["cycles"]
 
 
+def weight_of(unit):
+    """0 of a unit that is wires, as its words say: of the operations on one value those that convert widths; else 1."""
+    kind, *words = unit
+    return int(kind not in WIRES and not (kind == "op1" and "to" in words[0]))
+
+
 def heaviest(circuit):
     """The weight of the heaviest walk along channels of delay 0, which in a circuit that is checked has an end."""
     lines = [line.split() for line in circuit.splitlines()]
-    weights = [int(words[1] not in WIRES) for words in lines if words[0] == "unit"]
+    weights = [weight_of(words[1:]) for words in lines if words[0] == "unit"]
     after, waits = [[] for _ in weights], [0] * len(weights)
     for words in lines:
         if words[0] == "chan" and words[5] == "0":

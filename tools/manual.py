@@ -23,7 +23,7 @@ DELAY = Option("--delay", "LIST", None, None,
 SLOTS = Option("--slots", "N", 1, 1024, "how many tokens a channel holds; 2 where nothing is said")
 DEPTH = Option("--depth", "N", 1, 1000,
                "how many units that work or choose may stand in a row without a delay; with it a loop has a delay once, "
-               "and not on each of its channels")
+               "and not on each of its channels, and what lies on no loop has one only where a row would be longer")
 FORWARD = Option("--forward", None, None, None, "marks each queue: a load may take the data of a waiting store to the same element")
 WRAP = Option("--wrap", None, None, None,
               "a signed result of `+`, `-`, `*` and `<<` that is out of range wraps, and is not undefined; the "

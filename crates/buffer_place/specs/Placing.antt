@@ -1,15 +1,15 @@
 -- Slots and delays of the channels of a net, by a timing.
-use Rattle.std.specs.Prelude.{◌≡◌, ◌⊎◌, ℕ, ◌+◌, ◌*◌, ◌<◌, ◌≤◌, List, ◌∷◌, map, length, Option, Some, None}
+use Rattle.std.specs.Prelude.{◌≡◌, ◌⊎◌, ℕ, ◌+◌, ◌*◌, ◌<◌, ◌≤◌, List, ◌∷◌, map, length, get_or, Option, Some, None}
 use Rattle.std.specs.List.{All}
 use Rattle.el_base.specs.Limits.{max_sum_of_slots}
 use Rattle.net_types.specs.declared.net.Chan.{Chan}
 use Rattle.net_types.specs.declared.net.Net.{Net}
-use Rattle.net_types.specs.Nets.{chan_at}
+use Rattle.net_types.specs.Nets.{kind_of, chan_at}
 use Rattle.net_check.specs.Cycles.{Leads, IsClosedWalk}
 use Rattle.net_check.specs.Retimed.{SamePlain}
 use Rattle.buffer_place.specs.declared.timing.Timing.{Timing}
 use Rattle.buffer_place.specs.Timings.{IsTiming, source_delay}
-use Rattle.buffer_place.specs.Chains.{walk_weight, AreLevels, depth_delay}
+use Rattle.buffer_place.specs.Chains.{weight, walk_weight, AreLevels, depth_delay}
 
 -- the net with the delays of the classes alone
 abbrev pub classed : Timing → Net → Net
@@ -80,3 +80,23 @@ PlacementsAreOne = (t : Timing) (old m n : Net) → IsPlaced t old m → IsPlace
 abbrev pub WalksAreWithinDepth : Type 0
 WalksAreWithinDepth = (t : Timing) (depth : ℕ) (old new : Net) → IsTiming t → t.depth ≡ Some depth → IsPlaced t old new
     → (v u : ℕ) (cs : List ℕ) → Leads new v cs u → walk_weight new v cs ≤ depth
+
+-- one of the channels has a delay
+abbrev pub HasRegister : Net → List ℕ → Type 0
+HasRegister net cs = (i : ℕ) × (i < length cs) × (0 < (chan_at net (get_or cs i 0)).delay)
+
+-- where a net is placed, a channel has a delay on each cycle of channels whose classes have none
+abbrev pub CyclesHaveRegisters : Type 0
+CyclesHaveRegisters = (t : Timing) (old new : Net) → IsPlaced t old new → (cs : List ℕ) → IsClosedWalk (classed t old) cs → HasRegister new cs
+
+-- some walk along channels of delay 0 to the unit that the channel leaves weighs, with the unit that it enters, more than the depth
+pub record IsDeep (depth : ℕ) (net : Net) (c : Chan) : Type 0 where
+  pub start : ℕ
+  pub walk : List ℕ
+  pub leads : Leads net start walk c.from.unit
+  pub above : depth < walk_weight net start walk + weight (kind_of net c.to.unit)
+
+-- where a net is placed by a depth, a channel that may stay without delay has one only where a walk with it would weigh more
+abbrev pub RegistersAreNeeded : Type 0
+RegistersAreNeeded = (t : Timing) (depth : ℕ) (old new : Net) → t.depth ≡ Some depth → IsPlaced t old new
+    → (c : ℕ) → MayStay t old c → 0 < (chan_at new c).delay → IsDeep depth new (chan_at new c)

@@ -1,4 +1,4 @@
-ghost use Rattle.std.specs.Prelude.{◌≡◌, ◌==◌, ◌<◌, ◌++◌, IfOk, OnOk, length};
+ghost use Rattle.std.specs.Prelude.{◌≡◌, ◌==◌, ◌<◌, ◌++◌, ◌∷◌, [], IfOk, OnOk, length};
 ghost use Rattle.net_check.specs.Checks.{EndsWithin};
 ghost use Rattle.buffer_place.specs.Edges.{instant, is_ahead, is_joined, sources, staying, targets};
 ghost use Rattle.buffer_place.specs.Timings.{source_delay};
@@ -27,8 +27,7 @@ pub(crate) fn instant_edges(alloc: Global, net: &Net, timing: Timing) -> Result<
     };
     for chan in net.chans.as_slice() {
         if source_delay(net, timing, *chan) == 0 {
-            edges.from.push(chan.from.unit as usize)?;
-            edges.to.push(chan.to.unit as usize)?;
+            add(&mut edges, *chan)?;
         }
     }
     Ok(edges)
@@ -55,11 +54,22 @@ pub(crate) fn staying_edges(
     };
     for chan in net.chans.as_slice() {
         if source_delay(net, timing, *chan) == 0 && is_ahead(marks, *chan) {
-            edges.from.push(chan.from.unit as usize)?;
-            edges.to.push(chan.to.unit as usize)?;
+            add(&mut edges, *chan)?;
         }
     }
     Ok(edges)
+}
+
+/// Adds the units of a channel.
+fn add(edges: &mut Edges, chan: Chan) -> Result<(), Memory>
+    ensures from { OnOk result (edges.new.from.items ≡
+        edges.old.from.items ++ chan.from.unit ∷ []) }
+    ensures to { OnOk result (edges.new.to.items ≡
+        edges.old.to.items ++ chan.to.unit ∷ []) }
+{
+    edges.from.push(chan.from.unit as usize)?;
+    edges.to.push(chan.to.unit as usize)?;
+    Ok(())
 }
 
 /// Whether a channel leads to a unit of a greater number or of another mark.

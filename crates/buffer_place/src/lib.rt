@@ -8,6 +8,8 @@ mod levels;
 mod placing;
 mod timing;
 
-pub use laws::{a_net_is_placed_in_one_way, walks_are_within_depth};
+pub use laws::{
+    a_net_is_placed_in_one_way, cycles_have_registers, registers_are_needed, walks_are_within_depth,
+};
 pub use placing::place;
 pub use timing::{Class, Timing, class_of};

@@ -20,10 +20,10 @@ use std::alloc::Global;
 /// as all channels may have.
 ///
 /// Where the class has delay 0, the channel has delay 1 in these cases. By a timing without a depth: where it lies on a cycle
-/// of channels whose classes have delay 0. By a depth: where it does not lead to a unit of a greater number, or where the level
-/// of the unit that it leaves and the weight of the unit that it enters are together above the depth. The weight of a unit is 1,
-/// but 0 of forks, sinks, constants, parameters, the entry and the exit; its level is the greatest weight of a walk to it along
-/// channels of delay 0.
+/// of channels whose classes have delay 0. By a depth: where it lies on such a cycle and does not lead to a unit of a greater
+/// number, or where the level of the unit that it leaves and the weight of the unit that it enters are together above the depth.
+/// The weight of a unit is 1, but 0 of forks, sinks, constants, parameters, conversions of widths, the entry and the exit; its
+/// level is the greatest weight of a walk to it along channels of delay 0.
 ///
 /// It costs time and memory in proportion to the units and the channels.
 ///

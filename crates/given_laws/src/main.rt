@@ -155,6 +155,8 @@ fn circuits() {
     circuit_build::nets_keep_rules();
     kernel_compile::circuits_come_to_rest();
     kernel_compile::circuits_are_within_depth();
+    buffer_place::cycles_have_registers();
+    buffer_place::registers_are_needed();
 }
 
 /// Laws of calls.
