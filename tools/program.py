@@ -32,7 +32,8 @@ COPIED = {"docs/elastic.1": "share/man/man1/elastic.1",
 
 
 def tell(line):
-    print(f"elastic: {line}", file=sys.stderr, flush=True)
+    sys.stderr.write(f"elastic: {line}\n")
+    sys.stderr.flush()
 
 
 def kept(name, program):
@@ -58,20 +59,25 @@ def alone(name):
     """Waits until no other process makes this program."""
     TRY.mkdir(exist_ok=True)
     with open(TRY / f"{name}.lock", "w") as lock:
-        fcntl.flock(lock, fcntl.LOCK_EX)
+        try:
+            fcntl.flock(lock, fcntl.LOCK_EX | fcntl.LOCK_NB)
+        except BlockingIOError:
+            tell(f"another process makes {name}; this one waits for it")
+            fcntl.flock(lock, fcntl.LOCK_EX)
         yield
 
 
 def made(name, state_now, make):
     """The program of this name in .try, which is made where it is not there of the sources as they are."""
-    program = TRY / name
-    if is_there(name, program, state_now()):
+    # (NOINLINE: functions that are kept apart, to be counted)
+    program, apart = TRY / name, os.environ.get("NOINLINE", "")
+    if is_there(name, program, state_now() + apart):
         return program
     with alone(name):
-        state, began = state_now(), time.monotonic()
+        state, began = state_now() + apart, time.monotonic()
         if not is_there(name, program, state):
             make(program)
-            if state != state_now():
+            if state != state_now() + apart:
                 raise unproved_program.Failed(f"the sources of {name} changed while it was made")
             note(name, program, state)
             tell(f"{name} was made in {time.monotonic() - began:.0f} s; it stays until its sources change")
@@ -109,7 +115,8 @@ def run(command, words):
     """Runs a command of the program, and answers its status."""
     at = words.index("--") if "--" in words else len(words)
     files, options = words[:at], words[at + 1:]
-    ran = subprocess.run([chosen(), command, *files, *options], stderr=subprocess.PIPE, check=False)
+    # (behind the word `--` a name may begin with `-`)
+    ran = subprocess.run([chosen(), command, *options, "--", *files], stderr=subprocess.PIPE, check=False)
     said = ran.stderr.decode("utf-8", "replace")
     sys.stderr.write(said)
     if ran.returncode < 0:
