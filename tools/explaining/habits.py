@@ -122,6 +122,11 @@ def table_or_global(spot):
 
 def table(spot, kind, name, lengths, value):
     """What to write in place of an array with these lengths and this list of values, or none."""
+    unknown = [it for it in re.findall(r"\[([^\]]*)\]", lengths) if it and value_of(it, spot.source.defines) is None
+               and re.search(r"[a-z]", it)]
+    if unknown:
+        return (f"make it a parameter with the greatest length that it may have, as `{kind} {name}[100]` for `{name}[{unknown[0]}]`, and give "
+                f"its first elements in the inputs: `{name} = 0 0 ..`.")
     lengths, numbers = initial(lengths, value, spot.source.defines)
     if numbers:
         shown = " ".join(map(str, numbers[:256])) + " .." * (len(numbers) > 256)
@@ -291,6 +296,12 @@ def jump(spot):
     if word == ":" and spot.is_name(-1) and spot.text(1) in ("for", "while", "do") and not re.search(
             rf"\bgoto\s+{spot.text(-1)}\b", spot.source.blanked):
         return ("A label is not in the language, nor is a name for a loop.", f"delete `{spot.text(-1)}:`; nothing goes there.")
+    label = re.escape(spot.text(1) if word == "goto" else spot.text(-1))
+    ends = word in ("goto", ":") and re.search(rf"\b{label}\s*:\s*(return\b[^;]*;)\s*\}}", spot.source.blanked)
+    if ends and (word == "goto" or word == ":" and spot.is_name(-1)):
+        said = " ".join(ends.group(1).split())
+        return ("`goto` is not in the language.", f"write `{said}` in place of `goto {spot.text(1)};`.") if word == "goto" else (
+            "A label is not in the language.", f"delete `{spot.text(-1)}:`; what goes there returns itself.")
     if word == "goto" or word == ":" and spot.is_name(-1) and spot.text(-2) in (";", "{", "}", ")"):
         return (f"{'`goto`' if word == 'goto' else 'A label'} is not in the language.",
                 "leave loops by `break` and `continue`, and the kernel by `return`; a flag leaves two loops at once.")
@@ -417,9 +428,18 @@ def call(spot):
             f"assign it, `x = {whole};`, or leave it away: a helper changes nothing but its own variables.")
 
 
-def is_value(token):
-    """Whether a token may be the last of a value."""
-    return token.kind in ("name", "number") and token.text not in KEYWORDS or token.text in (")", "]")
+def is_value(spot, by=-1):
+    """Whether a token near the spot may be the last of a value; the `)` of a cast is none."""
+    token = spot.tokens[spot.at + by]
+    if token.text == ")":
+        return spot.tokens[spot.source.opening(spot.at + by) + 1].text not in TYPE_WORDS | QUALIFIERS
+    return token.kind in ("name", "number") and token.text not in KEYWORDS or token.text == "]"
+
+
+def is_structure(spot, name):
+    """Whether a name is a type of structures."""
+    return spot.text(-2) in ("struct", "union") or bool(re.search(
+        rf"\btypedef\s+(?:struct|union)\b\s*\w*\s*(?:\{{[^{{}}]*\}})?\s*{name}\s*;", spot.source.blanked))
 
 
 def walks(spot, name):
@@ -439,6 +459,15 @@ def pointer(spot):
                                 and (spot.in_parameters or spot.text(-2) in ("{", ";", "}"))):
         name = spot.text(1) if spot.is_name(1) else spot.text(2) if spot.text(1) in QUALIFIERS else "a"
         kind = spelled([spot.text(-1)]) or spot.text(-1)
+        if spot.in_parameters and is_structure(spot, spot.text(-1)):
+            return (f"`*{name}` is the address of a structure, and a kernel has neither.",
+                    f"make each member a variable or an array of its own, as `{name}_x` for `{name}->x`; a helper that changes them is written "
+                    "out in the kernel, where it is called.")
+        ends = re.search(rf"\b(\w+)\s*(!=|<=?)\s*{name}\b", spot.source.blanked)
+        if spot.in_parameters and ends and walks(spot, ends.group(1)):
+            start, mark = ends.groups()
+            return (f"`*{name}` is a pointer to the end of `{start}`, and a kernel has none.",
+                    f"make it the number of elements, `int32_t {name}`, and compare the index: `{start}_at {mark} {name}`.")
         if spot.in_parameters and walks(spot, name):
             return (f"`*{name}` is a pointer that moves, and a kernel has none.",
                     f"make it an array with its length, `{kind} {name}[100]`; {walking(spot, name)}")
@@ -448,17 +477,17 @@ def pointer(spot):
                     f"`{kind} {name}[1]`, used as `{name}[0]`.")
         return f"`*{name}` is a pointer, and a kernel has none.", "keep the index in an `int32_t` and write `array[index]`."
     summed = re.match(r"\*\s*\(\s*(\w+)\s*([+-])\s*([^()]*(?:\([^()]*\)[^()]*)*)\)", spot.bare)
-    if summed and not is_value(spot.tokens[spot.at - 1]):
+    if summed and not is_value(spot):
         name, mark, by = summed.groups()
         return (f"`{' '.join(summed.group().split())}` is an element by its address, and a kernel has no pointers.",
                 f"write `{name}[{'-' if mark == '-' else ''}{by.strip() if mark == '+' or re.fullmatch(chr(92) + 'w+', by.strip()) else '(' + by.strip() + ')'}]`"
                 + (f", or `{name}[{name}_at {mark} ({by.strip()})]` where `{name}` itself moves." if walks(spot, name) else "."))
-    if spot.text(0) == "*" and spot.text(1) == "(" and not is_value(spot.tokens[spot.at - 1]):
+    if spot.text(0) == "*" and spot.text(1) == "(" and not is_value(spot):
         return ("This is what an address points to, and a kernel has no pointers.",
                 "write the array and its index, `a[i]`.")
     if spot.text(0) in ("++", "--") or spot.text(0) in ASSIGNING:
         return None
-    if spot.text(0) in ("*", "&") and spot.is_name(1) and not (spot.is_name(-1) or spot.text(-1) in (")", "]")):
+    if spot.text(0) in ("*", "&") and spot.is_name(1) and not is_value(spot):
         name = spot.text(1)
         if spot.text(0) == "*" and walks(spot, name):
             return (f"`*{name}` is what a pointer points to, and `{name}` moves: a kernel has no pointers.", walking(spot, name))
@@ -541,6 +570,9 @@ def step_or_assignment(spot):
                 else "write two statements, with a `;` between.")
     if word in ("<", "<=", ">", ">=", "!=", "==") and inside and spot.tokens[opener - 1].text == "for":
         return "The three parts of `for` are parted by `;`.", "write `for (int32_t i = 0; i < n; i++)`."
+    if word == "{" and spot.text(-1) == "=" and is_structure(spot, spot.text(-3)):
+        return ("A list in braces gives the members of a structure their values, and kernels have none.",
+                f"give each member a variable of its own, with its value: `int32_t {spot.text(-2)}_x = ..;`.")
     if word == "{" and spot.text(-1) == "=":
         return ("A list in braces is the value of an array, and arrays are parameters.",
                 "make the array a parameter, and give its elements in the inputs.")

@@ -191,7 +191,9 @@ def uncalled(source, at):
     places = [it for it in declarations(source, name)]
     inside = [it for it in places if it.start < source.tokens[at].start]
     if inside:
-        return f"`{name}` is called inside itself: a helper's name is known behind its closing brace.", "write a loop: there is no recursion."
+        return f"`{name}` is called inside itself: a helper's name is known behind its closing brace.", ("there is no recursion: write a loop. Where the "
+            "call is the last thing that is done, it gives the parameters new values and goes on: `while (..) { .. }` around that, with "
+            "one `return` behind; else keep in an array parameter what is still to be done.")
     if places:
         return f"`{name}` stands only later, on line {places[0].line}.", "move it up: a helper stands before what calls it."
     closes = source.partner(at + 1)

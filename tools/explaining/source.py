@@ -77,8 +77,19 @@ class Source:
                 return number
         return len(self.tokens)
 
+    def opening(self, at):
+        """The number of the bracket that the mark of this number closes; 0 where none does."""
+        closes = self.tokens[at].text
+        opens, depth = {")": "(", "]": "[", "}": "{"}[closes], 0
+        for number in range(at, -1, -1):
+            depth += (self.tokens[number].text == closes) - (self.tokens[number].text == opens)
+            if not depth:
+                return number
+        return 0
+
     def between(self, first, last):
         """The text from the token of one number up to that before another, on one line."""
+        last = min(last, len(self.tokens))
         if first >= last:
             return ""
         end = self.tokens[last - 1]

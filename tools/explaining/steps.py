@@ -68,7 +68,9 @@ class Walk:
             return self.place(closes + 1 if wanted < end else end + 1, wanted)
         if text == "do":
             end = self.behind(at + 1)
-            return self.place(at + 1, wanted) if wanted < end else Place("do", end + 2, self.source.partner(end + 1), at)
+            if wanted < end:
+                return self.place(at + 1, wanted)
+            return Place("do", end + 2, self.source.partner(end + 1), at) if self.text(end + 1) == "(" else None
         if text == "else":
             return self.place(at + 1, wanted)
         if self.text(at + 1) == ":" or text == "default":
@@ -97,15 +99,17 @@ def is_operand_end(token):
     return token.kind in ("name", "number") and token.text != "return" or token.text in (")", "]")
 
 
+def ends_value(walk, at):
+    """Whether a token may be the last of a value; the `)` of a cast is none."""
+    if walk.text(at) != ")":
+        return is_operand_end(walk.tokens[at])
+    return walk.text(walk.source.opening(at) + 1) not in TYPE_WORDS
+
+
 def target_before(walk, at):
     """The first token of the name or the element that ends before a token."""
-    while walk.text(at - 1) == "]":
-        depth = 0
-        while at:
-            at -= 1
-            depth += (walk.text(at) == "]") - (walk.text(at) == "[")
-            if not depth:
-                break
+    while at and walk.text(at - 1) == "]":
+        at = walk.source.opening(at - 1)
     return at - 1
 
 
@@ -127,7 +131,7 @@ def changes(walk, first, last):
             end = at if behind else target_behind(walk, at + 1)
             name, mark = source.between(start, end), tokens[at].text
             begin, stop = tokens[start if behind else at].start, (tokens[at].start + 2 if behind else ending(tokens[end - 1]))
-            if start and tokens[start - 1].text == "*" and not is_operand_end(tokens[start - 2]) and end == start + 1 and behind:
+            if start and tokens[start - 1].text == "*" and not ends_value(walk, start - 2) and end == start + 1 and behind:
                 found.append(Change(False, f"{name}_at{mark}", tokens[start - 1].start, stop, f"{name}[{name}_at]"))
             else:
                 found.append(Change(not behind, f"{name}{mark}", begin, stop, name))
@@ -287,6 +291,8 @@ def advice(spot):
             return chained
     found = changes(walk, place.first, place.last)
     if not any(it.start <= spot.token.start < it.end for it in found):
+        return None
+    if not all(re.match(r"[A-Za-z_]", it.left) for it in found):
         return None
     if any(after.start < before.end for before, after in zip(found, found[1:])):
         return "each change as a statement of its own, from the inside to the outside"
