@@ -13,7 +13,7 @@ use Rattle.command_words.specs.declared.command.Chosen.{Chosen}
 use Rattle.command_words.specs.Tables.{Text, plain_of, verb_word, kind_of}
 use Rattle.command_words.specs.Values.{IsNumber, AreDelays}
 use Rattle.command_words.specs.Items.{Item, AreWritten, given}
-use Rattle.command_words.specs.Commands.{ArePlain, AreWords, Asked, IsSeed, IsValue, IsFlag, AreChosen, ItemsSpell, Command}
+use Rattle.command_words.specs.Commands.{ArePlain, AreWordsOf, Asked, IsSeed, IsValue, IsFlag, AreChosen, ItemsSpell, Command}
 use Rattle.command_words.proofs.Fronts.{written_once}
 use Rattle.command_words.proofs.DelayLemmas.{delays_once}
 
@@ -121,7 +121,7 @@ read_of ws rest w verb is c split one written command =
     record { same = same; spelled = subst (λ items. ItemsSpell items c) (written_once verb command.items is rest own written) command.spelled }
 
 -- a command that the words spell is one of the items that they are
-pub spelled_by : (ws : List Text) (verb : Verb) (is : List Item) (c : Asked) → AreWords verb is ws → Command ws c → IsReadOf verb is c
+pub spelled_by : (ws : List Text) (verb : Verb) (is : List Item) (c : Asked) → AreWordsOf verb is ws → Command ws c → IsReadOf verb is c
 spelled_by ws verb is c words command =
     read_of ws words.rest (verb_word verb) verb is c words.first (λ v e. one_verb v verb e) words.after command
 

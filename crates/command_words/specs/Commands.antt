@@ -95,7 +95,7 @@ abbrev pub AreFew : {I : Type 0} → Verb → List I → Type 0
 AreFew verb items = length items ≤ length (plain_of verb) + length (choices_of verb)
 
 -- the words are the word of the command and then these items of it
-pub record AreWords (verb : Verb) (items : List Item) (words : List Text) : Type 0 where
+pub record AreWordsOf (verb : Verb) (items : List Item) (words : List Text) : Type 0 where
   pub rest : List Text
   pub first : words ≡ verb_word verb ∷ rest
   pub after : AreWritten verb items rest
@@ -103,5 +103,5 @@ pub record AreWords (verb : Verb) (items : List Item) (words : List Text) : Type
 -- the whole list of words spells the command
 pub record Command (words : List Text) (c : Asked) : Type 0 where
   pub items : List Item
-  pub written : AreWords c.verb items words
+  pub written : AreWordsOf c.verb items words
   pub spelled : ItemsSpell items c

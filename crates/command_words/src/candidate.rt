@@ -2,7 +2,7 @@
 ghost use Rattle.std.specs.Prelude.{◌≡◌, ◌≤◌, ◌+◌, length, IfOk, IfSome, IsNone, IsTrue, OnOk};
 ghost use Rattle.command_words.specs.Tables.{choices_of, plain_of};
 ghost use Rattle.command_words.specs.Items.{items_of};
-ghost use Rattle.command_words.specs.Commands.{AreFew, AreWords, Asked, ItemsSpell, asked, texts};
+ghost use Rattle.command_words.specs.Commands.{AreFew, AreWordsOf, Asked, ItemsSpell, asked, texts};
 
 use crate::choice::{Choice, ValueKind, choices};
 use crate::command::Command;
@@ -25,7 +25,7 @@ pub struct Candidate<'a> {
 impl<'a> Candidate<'a> {
     /// Whether the words are the word of its command and then its items.
     pub fn is_confirmed(&self, words: &[String]) -> bool
-        ensures { IsTrue result → AreWords self.now.verb (items_of self.now.items.items)
+        ensures { IsTrue result → AreWordsOf self.now.verb (items_of self.now.items.items)
             (texts words.now) }
     {
         are_words(self.verb, self.items.as_slice(), words)

@@ -3,7 +3,7 @@ ghost use Rattle.std.specs.Prelude.{◌≡◌, ◌≢◌, ◌∷◌, ◌++◌, L
 ghost use Rattle.command_words.specs.Tables.{choice_word, is_own, kind_of};
 ghost use Rattle.command_words.specs.declared.choice.ValueKind.TheVariants.{Flag};
 ghost use Rattle.command_words.specs.Items.{AreWritten, Begins, IsPlain, item_of, items_of, option, plain};
-ghost use Rattle.command_words.specs.Commands.{AreWords, texts};
+ghost use Rattle.command_words.specs.Commands.{AreWordsOf, texts};
 
 use crate::choice::{Choice, ValueKind};
 use crate::items::{Written, is_plain, value_after};
@@ -11,7 +11,7 @@ use crate::verb::Verb;
 
 /// Whether the words are the word of the command and then these items of it.
 pub(crate) fn are_words(verb: Verb, items: &[Written<'_>], words: &[String]) -> bool
-    ensures { IsTrue result → AreWords verb (items_of items.now) (texts words.now) }
+    ensures { IsTrue result → AreWordsOf verb (items_of items.now) (texts words.now) }
 {
     match after_word(verb.word(), words) {
         Some(rest) => are_written(verb, items, rest),
