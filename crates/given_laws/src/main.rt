@@ -164,6 +164,7 @@ fn calls() {
     net_runs::told_schedules_replay();
     kernel_front::kernels_end_as_programs();
     kernel_front::places_count_lines_and_columns();
+    kernel_front::texts_without_helpers_are_cast();
     kernel_ref::ending_kernels_are_not_refused();
     kernel_runs::circuits_show_what_is_interpreted();
     elastic_top::calls_print_once();

@@ -6,3 +6,4 @@ pub mod OneAnswer
 pub mod OneFault
 pub mod Words
 pub mod TypedTexts
+pub mod WithoutHelpers

@@ -123,7 +123,7 @@ module _ (one_reading : OneReading) (one_parse : OneParse) (one_typed : TypedIsO
       ⊎_elim (λ same. same) (λ memory. absurd (h.told memory))
       (one_parse h.tokens (end_of_text bytes) r h.says q k.told (subst (λ ts. parser.SaysProgram ts (end_of_text bytes) q) tokens k.says))
 
-  same_program : (bytes : List ℕ) (a b : Program) → SpellsWithin bytes a → SpellsWithin bytes b → a ≡ b
+  pub same_program : (bytes : List ℕ) (a b : Program) → SpellsWithin bytes a → SpellsWithin bytes b → a ≡ b
   same_program bytes a b h k = ok_is a b (same_parse bytes (Ok a) (Ok b) (program_parse bytes a h) (program_parse bytes b k))
 
   same_typed : (bytes : List ℕ) (P Q : TypedProgram) → SpellsTyped bytes P → SpellsTyped bytes Q → P ≡ Q

@@ -4,7 +4,7 @@ ghost use Rattle.el_base.specs.Limits.{max_kernel_bytes};
 ghost use Rattle.c_ast.specs.Tokens.{span_at};
 ghost use Rattle.kernel_front.specs.Places.{IsPlace};
 ghost use Rattle.kernel_front.specs.Answers.{Says, IsOnly, HasOneAnswer};
-ghost use Rattle.kernel_front.specs.Laws.{KernelsEndAsPrograms, TextsThatTypeAreKernels};
+ghost use Rattle.kernel_front.specs.Laws.{AloneBecomesCast, KernelsEndAsPrograms, TextsThatTypeAreKernels, TextsWithoutHelpersAreCast};
 
 use crate::refusal::KernelRefusal;
 use c_ast::Typed;
@@ -15,7 +15,7 @@ use c_calls::laws::{
 use c_inline::{inline, inlined_nodes};
 use c_lex::{end_of, lex, texts_have_one_reading};
 use c_parse::{parse_program, programs_have_one_answer, programs_of_tokens_are_of_texts};
-use c_types::check_program;
+use c_types::{check_program, trees_are_checked_as_programs};
 use std::alloc::Global;
 
 /// A kernel that keeps all rules: its typed tree, without calls, and the number of nodes of that tree.
@@ -76,6 +76,22 @@ pub fn kernels_end_as_programs()
 {
     typed_programs_are_lawful();
     calls_are_inlined();
+    programs_of_tokens_are_of_texts();
+}
+
+/// Where a tree keeps the typing rules, the program without helpers whose kernel it is becomes the tree's typed tree. So a
+/// text of a kernel alone, within the limits, is a kernel exactly where its tree keeps the rules; the kernel is then that typed tree, with
+/// as many nodes as the tree has.
+pub fn texts_without_helpers_are_cast()
+    ensures trees { AloneBecomesCast }
+    ensures texts { TextsWithoutHelpersAreCast }
+{
+    trees_are_checked_as_programs();
+    programs_are_typed_in_one_way();
+    texts_have_one_reading();
+    programs_have_one_answer();
+    typed_programs_are_lawful();
+    inlined_is_lawful();
     programs_of_tokens_are_of_texts();
 }
 
