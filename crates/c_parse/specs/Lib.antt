@@ -1,4 +1,5 @@
 pub mod Bars
+pub mod Endings
 pub mod Parts
 pub mod Printed
 pub mod ProgramRefusals
