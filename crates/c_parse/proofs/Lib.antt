@@ -12,7 +12,6 @@ pub mod DenotedStmts
 pub mod Determined
 pub mod DeterminedPrograms
 pub mod EachToken
-pub mod Endings
 pub mod Exactness
 pub mod Exits
 pub mod Fillings

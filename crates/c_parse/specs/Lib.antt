@@ -1,5 +1,4 @@
 pub mod Bars
-pub mod Endings
 pub mod Parts
 pub mod Printed
 pub mod ProgramRefusals

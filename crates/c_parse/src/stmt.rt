@@ -8,14 +8,13 @@ ghost use Rattle.c_ast.specs.Derives.{DerivesExpr, DerivesFirst, DerivesOption, 
 ghost use Rattle.c_parse.specs.Reads.{Reads, Adds, ReadsStmt, InParens, InBraces, DerivesHead, mark_at, key_at};
 ghost use Rattle.c_parse.specs.Symbols.{Symbol, Fixed, in_group};
 ghost use Rattle.c_parse.specs.Parts.{braced_symbols, head_symbols};
-ghost use Rattle.c_parse.specs.Endings.{ReadsOther, ReadsDoEnd, do_end_symbols};
 ghost use Rattle.c_parse.specs.Verdicts.{Judges};
 ghost use Rattle.c_parse.specs.declared.bar.Bar.TheVariants as bar;
 ghost use Rattle.c_parse.specs.Bars.{IsFreeOf, BeginsBarred, JudgesBefore};
 
 use crate::cursor::{Cursor, deeper, place};
 use crate::refusal::Stop;
-use c_ast::{Boxed, Expr, Key, List, Mark, Span, Stmt, StmtKind, Token};
+use c_ast::{Boxed, Expr, Key, List, Mark, Stmt, StmtKind};
 use el_base::MAX_NESTING;
 
 /// What stands between the parentheses of a `for`.
@@ -204,38 +203,29 @@ impl<'a> Cursor<'a> {
         let word = self.key(Key::If)?;
         let depth = deeper(depth, word)?;
         let cond = self.condition(depth)?;
-        let then = self.held(depth)?;
-        let other = self.other(depth)?;
-        Ok(Stmt {
-            kind: StmtKind::If { cond, then, other },
-            at: place(from, self.rest),
-        })
-    }
-
-    // What stands behind the first statement of an `if`: an `else` and its statement, or nothing.
-    #[cycle(stmt)]
-    fn other(&mut self, depth: u32) -> Result<Option<Boxed<Stmt>>, Stop>
-        ensures derived { IfOk result (λ o. ReadsOther o self.old.rest.now self.new.rest.now) }
-        ensures judged { (n : ℕ) → n + depth ≡ max_nesting
-            → Judges (Symbol.other n ∷ []) [] self.old.rest.now self.new.rest.now result }
-    {
+        let then = self.stmt(depth)?;
+        let then = Boxed::new(self.alloc, then)?;
         if !self.is_at_else() {
-            return Ok(None);
+            return Ok(Stmt {
+                kind: StmtKind::If {
+                    cond,
+                    then,
+                    other: None,
+                },
+                at: place(from, self.rest),
+            });
         }
         self.key(Key::Else)?;
         let other = self.stmt(depth)?;
-        Ok(Some(Boxed::new(self.alloc, other)?))
-    }
-
-    // A statement, which another one holds.
-    #[cycle(stmt)]
-    fn held(&mut self, depth: u32) -> Result<Boxed<Stmt>, Stop>
-        ensures derived { IfOk result (λ s. ReadsStmt s self.old.rest.now self.new.rest.now) }
-        ensures judged { (n : ℕ) → n + depth ≡ max_nesting
-            → Judges (Symbol.statement n ∷ []) [] self.old.rest.now self.new.rest.now result }
-    {
-        let stmt = self.stmt(depth)?;
-        Ok(Boxed::new(self.alloc, stmt)?)
+        let other = Boxed::new(self.alloc, other)?;
+        Ok(Stmt {
+            kind: StmtKind::If {
+                cond,
+                then,
+                other: Some(other),
+            },
+            at: place(from, self.rest),
+        })
     }
 
     #[cycle(stmt)]
@@ -249,7 +239,8 @@ impl<'a> Cursor<'a> {
         let word = self.key(Key::While)?;
         let depth = deeper(depth, word)?;
         let cond = self.condition(depth)?;
-        let body = self.held(depth)?;
+        let body = self.stmt(depth)?;
+        let body = Boxed::new(self.alloc, body)?;
         Ok(Stmt {
             kind: StmtKind::While { cond, body },
             at: place(from, self.rest),
@@ -265,26 +256,16 @@ impl<'a> Cursor<'a> {
         let from = self.rest;
         let word = self.key(Key::Do)?;
         let depth = deeper(depth, word)?;
-        let body = self.held(depth)?;
-        let (cond, at) = self.do_end(from, depth)?;
-        Ok(Stmt {
-            kind: StmtKind::DoWhile { body, cond },
-            at,
-        })
-    }
-
-    // What stands behind the body of a `do` that begins at a place; also the place of the whole, without the semicolon.
-    fn do_end(&mut self, from: &'a [Token], depth: u32) -> Result<(Boxed<Expr>, Span), Stop>
-        ensures derived { IfOk result (λ e.
-            ReadsDoEnd e.0 e.1 from.now self.old.rest.now self.new.rest.now) }
-        ensures judged { (n : ℕ) → n + depth ≡ max_nesting
-            → Judges (do_end_symbols n) [] self.old.rest.now self.new.rest.now result }
-    {
+        let body = self.stmt(depth)?;
+        let body = Boxed::new(self.alloc, body)?;
         self.key(Key::While)?;
         let cond = self.condition(depth)?;
         let at = place(from, self.rest);
         self.mark(Mark::Semicolon)?;
-        Ok((cond, at))
+        Ok(Stmt {
+            kind: StmtKind::DoWhile { body, cond },
+            at,
+        })
     }
 
     #[cycle(stmt)]
@@ -297,7 +278,8 @@ impl<'a> Cursor<'a> {
         let word = self.key(Key::For)?;
         let depth = deeper(depth, word)?;
         let head = self.head(depth)?;
-        let body = self.held(depth)?;
+        let body = self.stmt(depth)?;
+        let body = Boxed::new(self.alloc, body)?;
         Ok(Stmt {
             kind: StmtKind::For {
                 first: head.first,
@@ -333,19 +315,18 @@ impl<'a> Cursor<'a> {
         ensures judged { (n : ℕ) → n + depth ≡ max_nesting
             → Judges (Symbol.first n ∷ []) [] self.old.rest.now self.new.rest.now result }
     {
+        let mut stmts = List::new(self.alloc);
         if self.is_at_type() {
-            let mut stmts = List::new(self.alloc);
             self.declaration(depth, &mut stmts)?;
             return Ok(stmts);
         }
         if self.is_at(Mark::Semicolon) {
             self.mark(Mark::Semicolon)?;
-            return Ok(List::new(self.alloc));
+            return Ok(stmts);
         }
         let stmt = self.simple(depth)?;
-        self.mark(Mark::Semicolon)?;
-        let mut stmts = List::new(self.alloc);
         stmts.push(stmt)?;
+        self.mark(Mark::Semicolon)?;
         Ok(stmts)
     }
 

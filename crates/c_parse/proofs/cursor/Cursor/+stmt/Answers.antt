@@ -3,11 +3,10 @@ use Rattle.c_ast.specs.declared.key.Key.TheVariants as key
 use Rattle.c_parse.specs.Symbols.{Symbol}
 use Rattle.c_parse.proofs.Rules.{if_ok}
 use Rattle.c_parse.proofs.Lengths.{declaration_shorter, stmt_shorter}
-use Rattle.c_parse.proofs.StmtRules.{reads_block, reads_no_items, reads_items_after, reads_braces, adds_item, adds_stmt, reads_while, reads_for}
+use Rattle.c_parse.proofs.StmtRules.{reads_block, reads_no_items, reads_items_after, reads_braces, adds_item, adds_stmt, reads_if, reads_if_else, reads_while, reads_do, reads_for}
 use Rattle.c_parse.proofs.Chains.{same_done, fails_then, fixed_fails, stopped, within, full, inner, room}
 use Rattle.c_parse.proofs.Exits.{untrue, key_not_refused}
-use Rattle.c_parse.proofs.JudgedStmts.{keyed_refused, block_stops, block_read, braces_refused, braces_deep, items_more, braces_stop, braces_read, declaration_item, item_stops, item_read, worded_deep, if_condition_stops, if_condition, if_then_stops, while_condition_stops, while_body_stops, while_read, do_body_stops, for_head_stops, for_body_stops, for_read}
-use Rattle.c_parse.proofs.Endings.{reads_held, else_next, reads_no_other, reads_other, other_absent, other_stops, other_read, reads_whole_if, if_other_fails, if_whole, reads_whole_do, do_end_fails, do_whole}
+use Rattle.c_parse.proofs.JudgedStmts.{keyed_refused, block_stops, block_read, braces_refused, braces_deep, items_more, braces_stop, braces_read, declaration_item, item_stops, item_read, worded_deep, if_condition_stops, if_condition, if_then_stops, if_then, if_alone, if_other_stops, if_read, while_condition_stops, while_body_stops, while_read, do_body_stops, do_body, do_condition_stops, do_condition, do_read, for_head_stops, for_body_stops, for_read}
 use Rattle.c_parse.proofs.cursor.Cursor.+stmt.Goals as goal
 
 pub stmt-returns-then-is_at : goal.stmt-returns-then-is_at
@@ -136,9 +135,6 @@ braced-returns t c = record {
   judged = λ n deep. (braces_read (suc n) _ _ _ _ c.items.self.rest.now _ (room _ _ _ deep c.in_ok-depth.ensures.one_less) c.in_ok-open.ensures.read (c.items.invariant.judged (suc n) (inner _ _ _ deep c.in_ok-depth.ensures.one_less)) c.in_ok-mark.ensures.read).holds;
 }
 
-pub braced-returns-in_err-mark-clause-derived : goal.braced-returns-in_err-mark-clause-derived
-braced-returns-in_err-mark-clause-derived t c = rw (stopped _ _ c.from_residual-in_err-mark.ensures.1) tt
-
 pub item-returns-then-is_at : goal.item-returns-then-is_at
 item-returns-then-is_at t c = record {
   added = c.semicolon.ensures.added;
@@ -167,13 +163,6 @@ item-returns t c = record {
   judged = λ n deep other. (item_read n _ _ (sym c.is_at_type.ensures ∙ c.if-is_at_type.false) other (c.in_ok-stmt.ensures.judged n deep)).holds;
 }
 
-pub item-returns-in_err-push : goal.item-returns-in_err-push
-item-returns-in_err-push t c = record {
-  added = rw (stopped _ _ c.from_residual-in_err-push.ensures.1) tt;
-  shorter = rw (stopped _ _ c.from_residual-in_err-push.ensures.1) tt;
-  judged = λ n deep other. rw (stopped _ _ c.from_residual-in_err-push.ensures.1) (λ symbols. tt);
-}
-
 pub if_stmt-returns-in_err-word : goal.if_stmt-returns-in_err-word
 if_stmt-returns-in_err-word t c = record {
   derived = rw (stopped _ _ c.from_residual.ensures.1) tt;
@@ -198,64 +187,22 @@ if_stmt-returns-in_err-then t c = record {
   judged = λ n deep next. rw (stopped _ _ c.from_residual-in_err-then.ensures.1) (if_then_stops n _ _ _ (if_condition n _ _ _ c.condition.new.self.rest.now (room _ _ _ deep c.in_ok-depth.ensures.one_less) c.in_ok-word.ensures.read (c.in_ok-cond.ensures.judged (suc n) (inner _ _ _ deep c.in_ok-depth.ensures.one_less))) (c.in_err-then.ensures.judged (suc n) (inner _ _ _ deep c.in_ok-depth.ensures.one_less))).holds;
 }
 
+pub if_stmt-returns-then-not-is_at_else : goal.if_stmt-returns-then-not-is_at_else
+if_stmt-returns-then-not-is_at_else t c = record {
+  derived = reads_if _ _ _ _ _ _ _ _ _ c.in_ok-word.ensures.read c.in_ok-cond.ensures.derived c.in_ok-then.ensures.derived c.in_ok-then-2.ensures (search rules) c.place.ensures;
+  judged = λ n deep next. (if_alone n _ _ (if_then n _ c.condition.new.self.rest.now c.stmt.new.self.rest.now (if_condition n _ _ _ c.condition.new.self.rest.now (room _ _ _ deep c.in_ok-depth.ensures.one_less) c.in_ok-word.ensures.read (c.in_ok-cond.ensures.judged (suc n) (inner _ _ _ deep c.in_ok-depth.ensures.one_less))) (c.in_ok-then.ensures.judged (suc n) (inner _ _ _ deep c.in_ok-depth.ensures.one_less))) (search rules)).holds;
+}
+
 pub if_stmt-returns-in_err-other : goal.if_stmt-returns-in_err-other
 if_stmt-returns-in_err-other t c = record {
   derived = rw (stopped _ _ c.from_residual-in_err-other.ensures.1) tt;
-  judged = λ n deep next. rw (stopped _ _ c.from_residual-in_err-other.ensures.1) (if_other_fails n _ c.condition.new.self.rest.now c.held.new.self.rest.now _ (if_condition n _ _ _ c.condition.new.self.rest.now (room _ _ _ deep c.in_ok-depth.ensures.one_less) c.in_ok-word.ensures.read (c.in_ok-cond.ensures.judged (suc n) (inner _ _ _ deep c.in_ok-depth.ensures.one_less))) (c.in_ok-then.ensures.judged (suc n) (inner _ _ _ deep c.in_ok-depth.ensures.one_less)) (c.in_err-other.ensures.judged (suc n) (inner _ _ _ deep c.in_ok-depth.ensures.one_less))).holds;
+  judged = λ n deep next. rw (stopped _ _ c.from_residual-in_err-other.ensures.1) (if_other_stops n _ _ c.stmt.new.self.rest.now _ _ (room _ _ _ deep c.in_ok-depth.ensures.one_less) (if_then n _ c.condition.new.self.rest.now c.stmt.new.self.rest.now (if_condition n _ _ _ c.condition.new.self.rest.now (room _ _ _ deep c.in_ok-depth.ensures.one_less) c.in_ok-word.ensures.read (c.in_ok-cond.ensures.judged (suc n) (inner _ _ _ deep c.in_ok-depth.ensures.one_less))) (c.in_ok-then.ensures.judged (suc n) (inner _ _ _ deep c.in_ok-depth.ensures.one_less))) c.in_ok-key.ensures.read (c.in_err-other.ensures.judged (suc n) (inner _ _ _ deep c.in_ok-depth.ensures.one_less))).holds;
 }
 
 pub if_stmt-returns : goal.if_stmt-returns
 if_stmt-returns t c = record {
-  derived = reads_whole_if _ _ _ _ _ _ _ _ _ _ c.in_ok-word.ensures.read c.in_ok-cond.ensures.derived c.in_ok-then.ensures.derived c.in_ok-other.ensures.derived c.place.ensures;
-  judged = λ n deep next. (if_whole n _ c.condition.new.self.rest.now c.held.new.self.rest.now _ (if_condition n _ _ _ c.condition.new.self.rest.now (room _ _ _ deep c.in_ok-depth.ensures.one_less) c.in_ok-word.ensures.read (c.in_ok-cond.ensures.judged (suc n) (inner _ _ _ deep c.in_ok-depth.ensures.one_less))) (c.in_ok-then.ensures.judged (suc n) (inner _ _ _ deep c.in_ok-depth.ensures.one_less)) (c.in_ok-other.ensures.judged (suc n) (inner _ _ _ deep c.in_ok-depth.ensures.one_less))).holds;
-}
-
-pub other-returns-then-not-is_at_else : goal.other-returns-then-not-is_at_else
-other-returns-then-not-is_at_else t c = record {
-  derived = reads_no_other _ (search rules);
-  judged = λ n deep. (other_absent n _ (search rules)).holds;
-}
-
-pub other-returns-in_err-key : goal.other-returns-in_err-key
-other-returns-in_err-key t c = record {
-  derived = rw (stopped _ _ c.from_residual.ensures.1) tt;
-  judged = λ n deep. rw (stopped _ _ c.from_residual.ensures.1) (key_not_refused {part = Symbol.other n ∷ []} key.Else (else_next _ (search rules)) c.in_err-key.ensures.refused).holds;
-}
-
-pub other-returns-in_err-other : goal.other-returns-in_err-other
-other-returns-in_err-other t c = record {
-  derived = rw (stopped _ _ c.from_residual-in_err-other.ensures.1) tt;
-  judged = λ n deep. rw (stopped _ _ c.from_residual-in_err-other.ensures.1) (other_stops n _ _ _ _ (within _ _ deep) c.in_ok-key.ensures.read (c.in_err-other.ensures.judged n deep)).holds;
-}
-
-pub other-returns-in_err-new : goal.other-returns-in_err-new
-other-returns-in_err-new t c = record {
-  derived = rw (stopped _ _ c.from_residual-in_err-new.ensures.1) tt;
-  judged = λ n deep. rw (stopped _ _ c.from_residual-in_err-new.ensures.1) (λ symbols. tt);
-}
-
-pub other-returns : goal.other-returns
-other-returns t c = record {
-  derived = reads_other _ _ _ _ _ _ c.in_ok-key.ensures.read c.in_ok-other.ensures.derived c.in_ok-new.ensures;
-  judged = λ n deep. (other_read n _ _ _ _ (within _ _ deep) c.in_ok-key.ensures.read (c.in_ok-other.ensures.judged n deep)).holds;
-}
-
-pub held-returns-in_err-stmt : goal.held-returns-in_err-stmt
-held-returns-in_err-stmt t c = record {
-  derived = rw (stopped _ _ c.from_residual.ensures.1) tt;
-  judged = λ n deep. rw (stopped _ _ c.from_residual.ensures.1) (c.in_err-stmt.ensures.judged n deep);
-}
-
-pub held-returns-in_err-new : goal.held-returns-in_err-new
-held-returns-in_err-new t c = record {
-  derived = rw (stopped _ _ c.from_residual-in_err-new.ensures.1) tt;
-  judged = λ n deep. rw (stopped _ _ c.from_residual-in_err-new.ensures.1) (λ symbols. tt);
-}
-
-pub held-returns : goal.held-returns
-held-returns t c = record {
-  derived = reads_held _ _ _ _ c.in_ok-stmt.ensures.derived c.in_ok-new.ensures;
-  judged = c.in_ok-stmt.ensures.judged;
+  derived = reads_if_else _ _ _ _ _ _ _ _ _ _ _ _ _ _ c.in_ok-word.ensures.read c.in_ok-cond.ensures.derived c.in_ok-then.ensures.derived c.in_ok-then-2.ensures (search rules) c.in_ok-key.ensures.read c.in_ok-other.ensures.derived c.in_ok-other-2.ensures c.place-2.ensures;
+  judged = λ n deep next. (if_read n _ _ c.stmt.new.self.rest.now _ _ (room _ _ _ deep c.in_ok-depth.ensures.one_less) (if_then n _ c.condition.new.self.rest.now c.stmt.new.self.rest.now (if_condition n _ _ _ c.condition.new.self.rest.now (room _ _ _ deep c.in_ok-depth.ensures.one_less) c.in_ok-word.ensures.read (c.in_ok-cond.ensures.judged (suc n) (inner _ _ _ deep c.in_ok-depth.ensures.one_less))) (c.in_ok-then.ensures.judged (suc n) (inner _ _ _ deep c.in_ok-depth.ensures.one_less))) c.in_ok-key.ensures.read (c.in_ok-other.ensures.judged (suc n) (inner _ _ _ deep c.in_ok-depth.ensures.one_less))).holds;
 }
 
 pub while_stmt-returns-in_err-word : goal.while_stmt-returns-in_err-word
@@ -284,7 +231,7 @@ while_stmt-returns-in_err-body t c = record {
 
 pub while_stmt-returns : goal.while_stmt-returns
 while_stmt-returns t c = record {
-  derived = reads_while _ _ _ _ _ _ _ _ _ c.in_ok-word.ensures.read c.in_ok-cond.ensures.derived c.in_ok-body.ensures.derived refl c.place.ensures;
+  derived = reads_while _ _ _ _ _ _ _ _ _ c.in_ok-word.ensures.read c.in_ok-cond.ensures.derived c.in_ok-body.ensures.derived c.in_ok-body-2.ensures c.place.ensures;
   judged = λ n deep next. (while_read n _ _ _ c.condition.new.self.rest.now _ (room _ _ _ deep c.in_ok-depth.ensures.one_less) c.in_ok-word.ensures.read (c.in_ok-cond.ensures.judged (suc n) (inner _ _ _ deep c.in_ok-depth.ensures.one_less)) (c.in_ok-body.ensures.judged (suc n) (inner _ _ _ deep c.in_ok-depth.ensures.one_less))).holds;
 }
 
@@ -306,16 +253,28 @@ do_stmt-returns-in_err-body t c = record {
   judged = λ n deep next. rw (stopped _ _ c.from_residual-in_err-body.ensures.1) (do_body_stops n _ _ _ _ (room _ _ _ deep c.in_ok-depth.ensures.one_less) c.in_ok-word.ensures.read (c.in_err-body.ensures.judged (suc n) (inner _ _ _ deep c.in_ok-depth.ensures.one_less))).holds;
 }
 
+pub do_stmt-returns-in_err-key : goal.do_stmt-returns-in_err-key
+do_stmt-returns-in_err-key t c = record {
+  derived = rw (stopped _ _ c.from_residual-in_err-key.ensures.1) tt;
+  judged = λ n deep next. rw (stopped _ _ c.from_residual-in_err-key.ensures.1) (fails_then (do_body n _ _ _ c.stmt.new.self.rest.now (room _ _ _ deep c.in_ok-depth.ensures.one_less) c.in_ok-word.ensures.read (c.in_ok-body.ensures.judged (suc n) (inner _ _ _ deep c.in_ok-depth.ensures.one_less))) (fixed_fails refl c.in_err-key.ensures.refused)).holds;
+}
+
 pub do_stmt-returns-in_err-cond : goal.do_stmt-returns-in_err-cond
 do_stmt-returns-in_err-cond t c = record {
   derived = rw (stopped _ _ c.from_residual-in_err-cond.ensures.1) tt;
-  judged = λ n deep next. rw (stopped _ _ c.from_residual-in_err-cond.ensures.1) (do_end_fails n _ _ _ c.held.new.self.rest.now _ (room _ _ _ deep c.in_ok-depth.ensures.one_less) c.in_ok-word.ensures.read (c.in_ok-body.ensures.judged (suc n) (inner _ _ _ deep c.in_ok-depth.ensures.one_less)) (c.in_err-cond.ensures.judged (suc n) (inner _ _ _ deep c.in_ok-depth.ensures.one_less))).holds;
+  judged = λ n deep next. rw (stopped _ _ c.from_residual-in_err-cond.ensures.1) (do_condition_stops n _ _ _ _ _ (room _ _ _ deep c.in_ok-depth.ensures.one_less) (do_body n _ _ _ c.stmt.new.self.rest.now (room _ _ _ deep c.in_ok-depth.ensures.one_less) c.in_ok-word.ensures.read (c.in_ok-body.ensures.judged (suc n) (inner _ _ _ deep c.in_ok-depth.ensures.one_less))) c.in_ok-key.ensures.read (c.in_err-cond.ensures.judged (suc n) (inner _ _ _ deep c.in_ok-depth.ensures.one_less))).holds;
+}
+
+pub do_stmt-returns-in_err-mark : goal.do_stmt-returns-in_err-mark
+do_stmt-returns-in_err-mark t c = record {
+  derived = rw (stopped _ _ c.from_residual-in_err-mark.ensures.1) tt;
+  judged = λ n deep next. rw (stopped _ _ c.from_residual-in_err-mark.ensures.1) (fails_then (do_condition n _ _ _ _ c.condition.new.self.rest.now (room _ _ _ deep c.in_ok-depth.ensures.one_less) (do_body n _ _ _ c.stmt.new.self.rest.now (room _ _ _ deep c.in_ok-depth.ensures.one_less) c.in_ok-word.ensures.read (c.in_ok-body.ensures.judged (suc n) (inner _ _ _ deep c.in_ok-depth.ensures.one_less))) c.in_ok-key.ensures.read (c.in_ok-cond.ensures.judged (suc n) (inner _ _ _ deep c.in_ok-depth.ensures.one_less))) (fixed_fails refl c.in_err-mark.ensures.refused)).holds;
 }
 
 pub do_stmt-returns : goal.do_stmt-returns
 do_stmt-returns t c = record {
-  derived = reads_whole_do _ _ _ _ _ _ _ _ c.in_ok-word.ensures.read c.in_ok-body.ensures.derived c.in_ok-cond.ensures.derived;
-  judged = λ n deep next. (do_whole n _ _ _ c.held.new.self.rest.now _ (room _ _ _ deep c.in_ok-depth.ensures.one_less) c.in_ok-word.ensures.read (c.in_ok-body.ensures.judged (suc n) (inner _ _ _ deep c.in_ok-depth.ensures.one_less)) (c.in_ok-cond.ensures.judged (suc n) (inner _ _ _ deep c.in_ok-depth.ensures.one_less))).holds;
+  derived = reads_do _ _ _ _ _ _ _ _ _ _ _ _ _ c.in_ok-word.ensures.read c.in_ok-body.ensures.derived c.in_ok-body-2.ensures c.in_ok-key.ensures.read c.in_ok-cond.ensures.derived c.place-at.ensures c.in_ok-mark.ensures.read;
+  judged = λ n deep next. (do_read n _ _ _ _ (room _ _ _ deep c.in_ok-depth.ensures.one_less) (do_condition n _ _ _ _ c.condition.new.self.rest.now (room _ _ _ deep c.in_ok-depth.ensures.one_less) (do_body n _ _ _ c.stmt.new.self.rest.now (room _ _ _ deep c.in_ok-depth.ensures.one_less) c.in_ok-word.ensures.read (c.in_ok-body.ensures.judged (suc n) (inner _ _ _ deep c.in_ok-depth.ensures.one_less))) c.in_ok-key.ensures.read (c.in_ok-cond.ensures.judged (suc n) (inner _ _ _ deep c.in_ok-depth.ensures.one_less))) c.in_ok-mark.ensures.read).holds;
 }
 
 pub for_stmt-returns-in_err-word : goal.for_stmt-returns-in_err-word
@@ -344,6 +303,49 @@ for_stmt-returns-in_err-body t c = record {
 
 pub for_stmt-returns : goal.for_stmt-returns
 for_stmt-returns t c = record {
-  derived = reads_for _ _ _ _ _ _ _ _ _ _ _ c.in_ok-word.ensures.read c.in_ok-head.ensures.derived c.in_ok-body.ensures.derived refl c.place.ensures;
+  derived = reads_for _ _ _ _ _ _ _ _ _ _ _ c.in_ok-word.ensures.read c.in_ok-head.ensures.derived c.in_ok-body.ensures.derived c.in_ok-body-2.ensures c.place.ensures;
   judged = λ n deep next. (for_read n _ _ _ c.head.new.self.rest.now _ (room _ _ _ deep c.in_ok-depth.ensures.one_less) c.in_ok-word.ensures.read (c.in_ok-head.ensures.judged (suc n) (inner _ _ _ deep c.in_ok-depth.ensures.one_less)) (c.in_ok-body.ensures.judged (suc n) (inner _ _ _ deep c.in_ok-depth.ensures.one_less))).holds;
+}
+
+pub braced-returns-in_err-mark-clause-derived : goal.braced-returns-in_err-mark-clause-derived
+braced-returns-in_err-mark-clause-derived t c = rw (stopped _ _ c.from_residual-in_err-mark.ensures.1) tt
+
+pub if_stmt-returns-in_err-key-clause-derived : goal.if_stmt-returns-in_err-key-clause-derived
+if_stmt-returns-in_err-key-clause-derived t c = rw (stopped _ _ c.from_residual-in_err-key.ensures.1) tt
+
+pub do_stmt-returns-in_err-body-2 : goal.do_stmt-returns-in_err-body-2
+do_stmt-returns-in_err-body-2 t c = record {
+  derived = rw (stopped _ _ c.from_residual-in_err-body-2.ensures.1) tt;
+  judged = λ n deep next. rw (stopped _ _ c.from_residual-in_err-body-2.ensures.1) (λ symbols. tt);
+}
+
+pub for_stmt-returns-in_err-body-2 : goal.for_stmt-returns-in_err-body-2
+for_stmt-returns-in_err-body-2 t c = record {
+  derived = rw (stopped _ _ c.from_residual-in_err-body-2.ensures.1) tt;
+  judged = λ n deep next. rw (stopped _ _ c.from_residual-in_err-body-2.ensures.1) (λ symbols. tt);
+}
+
+pub if_stmt-returns-in_err-other-2 : goal.if_stmt-returns-in_err-other-2
+if_stmt-returns-in_err-other-2 t c = record {
+  derived = rw (stopped _ _ c.from_residual-in_err-other-2.ensures.1) tt;
+  judged = λ n deep next. rw (stopped _ _ c.from_residual-in_err-other-2.ensures.1) (λ symbols. tt);
+}
+
+pub if_stmt-returns-in_err-then-2 : goal.if_stmt-returns-in_err-then-2
+if_stmt-returns-in_err-then-2 t c = record {
+  derived = rw (stopped _ _ c.from_residual-in_err-then-2.ensures.1) tt;
+  judged = λ n deep next. rw (stopped _ _ c.from_residual-in_err-then-2.ensures.1) (λ symbols. tt);
+}
+
+pub while_stmt-returns-in_err-body-2 : goal.while_stmt-returns-in_err-body-2
+while_stmt-returns-in_err-body-2 t c = record {
+  derived = rw (stopped _ _ c.from_residual-in_err-body-2.ensures.1) tt;
+  judged = λ n deep next. rw (stopped _ _ c.from_residual-in_err-body-2.ensures.1) (λ symbols. tt);
+}
+
+pub item-returns-in_err-push : goal.item-returns-in_err-push
+item-returns-in_err-push t c = record {
+  added = rw (stopped _ _ c.from_residual-in_err-push.ensures.1) tt;
+  shorter = rw (stopped _ _ c.from_residual-in_err-push.ensures.1) tt;
+  judged = λ n deep other. rw (stopped _ _ c.from_residual-in_err-push.ensures.1) (λ symbols. tt);
 }

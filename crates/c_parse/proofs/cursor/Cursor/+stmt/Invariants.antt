@@ -27,12 +27,6 @@ decreases-item l = 8 * l.depth + 4
 abbrev pub decreases-if_stmt : goal.decreases-if_stmt
 decreases-if_stmt l = 8 * l.depth
 
-abbrev pub decreases-other : goal.decreases-other
-decreases-other l = 8 * l.depth + 4
-
-abbrev pub decreases-held : goal.decreases-held
-decreases-held l = 8 * l.depth + 4
-
 abbrev pub decreases-while_stmt : goal.decreases-while_stmt
 decreases-while_stmt l = 8 * l.depth
 

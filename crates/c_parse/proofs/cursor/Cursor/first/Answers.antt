@@ -31,12 +31,12 @@ returns-then-is_at_type c = record {
 
 pub returns-then-is_at : goal.returns-then-is_at
 returns-then-is_at c = record {
-  derived = first_nothing _ _ _ _ c.in_ok-mark.ensures.read c.new.ensures;
+  derived = first_nothing _ _ _ _ c.in_ok-mark.ensures.read c.new-stmts.ensures;
   judged = λ n deep. (first_nothing_read n _ _ _ (omega arith) c.in_ok-mark.ensures.read).holds;
 }
 
 pub returns : goal.returns
 returns c = record {
-  derived = first_simple _ _ _ _ _ _ _ c.in_ok-stmt.ensures.derived c.in_ok-mark-2.ensures.read c.new-stmts-2.ensures c.in_ok-push.ensures.ok;
+  derived = first_simple _ _ _ _ _ _ _ c.in_ok-stmt.ensures.derived c.in_ok-mark-2.ensures.read c.new-stmts.ensures c.in_ok-push.ensures.ok;
   judged = λ n deep. (first_simple_read n _ _ c.simple.new.self.rest.now _ (omega arith) (sym c.is_at_type.ensures ∙ c.if-is_at_type.false) (untrue c.if-is_at.ensures.1) (c.in_ok-stmt.ensures.judged n deep) c.in_ok-mark-2.ensures.read).holds;
 }
