@@ -7,6 +7,8 @@
 # ref: your own kernel and inputs, run as C: make ref KERNEL=my.c INPUTS=my.txt
 # run: a netlist and inputs of your own: make run NETLIST=my.net INPUTS=my.txt
 # install: copies that program, the manual page and the completions below ~/.local; PREFIX=FOLDER is another place.
+# rows: builds each program without its proofs, two at a time, runs it as the gate does and compares what it writes with what is
+#   given: the example and the rows of data. From nothing this takes some fifteen minutes of the processor. It proves nothing.
 # build: proves the program and all below it, and leaves it as crates/elastic/out/elastic. From nothing this takes
 #   most of the gate's time (docs/PROVED.md); what an earlier run proved on this machine is not proved again.
 # examples: builds the program, runs the kernels of examples/ by it, by go and by ref, compares with their results, and tells
@@ -41,7 +43,7 @@
 # load: runs the proved program on files at each limit and past it, on nets of a million units and on 2^20 elements.
 # fail-alloc: makes each allocation of some calls fail in turn (tools/failing/calls.tsv), and tells how many there are.
 
-.PHONY: try demo go compile ref run install build examples clients test wrong crews documents help memory bench instructions stack saves load fail-alloc
+.PHONY: try demo go compile ref run install rows build examples clients test wrong crews documents help memory bench instructions stack saves load fail-alloc
 
 KERNEL = examples/hist/kernel.c
 NETLIST = examples/net/net.txt
@@ -102,6 +104,9 @@ build:
 
 install:
 	@python3 tools/program.py install "$(PREFIX)"
+
+rows:
+	@tools/try_rows.py
 
 examples: build
 	@sh tools/examples.sh crates/elastic/out/elastic
