@@ -84,14 +84,14 @@ def made(name, state_now, make):
     return program
 
 
-def state_of(crate):
+def state_of(crate, level="-O3"):
     """The state of the sources of a program without its proofs: these ask for no specs and no proofs, but for what makes it."""
-    return sources.state([crate], ("src",), [MAKER])
+    return sources.state([crate], ("src",), [MAKER]) + level
 
 
 def unproved(crate, level="-O3"):
     """The program of a crate before its proofs."""
-    return made(crate, lambda: state_of(crate), lambda out: unproved_program.make(crate, out, level=level, tell=tell))
+    return made(crate, lambda: state_of(crate, level), lambda out: unproved_program.make(crate, out, level=level, tell=tell))
 
 
 def elastic():
