@@ -12,3 +12,5 @@ pub mod SoundLemmas
 pub mod OneAnswerLemmas
 pub mod PrintedLemmas
 pub mod OneRunLemmas
+pub mod CycleLemmas
+pub mod SameResults

@@ -12,13 +12,13 @@ use Rattle.kernel_front.specs.Refusals.{refusal_number as kernel_number, refusal
 use Rattle.net_runs.specs.declared.options.RunOptions.{RunOptions}
 use Rattle.net_runs.specs.declared.refusal.RunRefusal.TheVariants as run
 use Rattle.net_runs.specs.Given.{Gives}
-use Rattle.net_runs.specs.Laws.{AsksForNoCycles, with_workers}
+use Rattle.net_runs.specs.Laws.{with_workers}
 use Rattle.kernel_runs.specs.declared.options.CircuitOptions.{CircuitOptions}
 use Rattle.kernel_runs.specs.declared.refusal.GoRefusal.{GoRefusal}
 use Rattle.kernel_runs.specs.declared.refusal.GoRefusal.TheVariants as go
 use Rattle.kernel_runs.specs.Circuits.{Compiles}
 use Rattle.kernel_runs.specs.Goes.{Goes}
-use Rattle.kernel_runs.specs.OneAnswer.{CompilesHaveOneAnswer, GoesHaveOneAnswer, OneNetIsPrinted, LimitDecides, LimitIsOfPrintedNet}
+use Rattle.kernel_runs.specs.OneAnswer.{CompilesHaveOneAnswer, OneNetIsPrinted, LimitDecides, LimitIsOfPrintedNet}
 use Rattle.kernel_runs.specs.Refusals.{go_number, go_word}
 use Rattle.command_words.specs.declared.verb.Verb.{Verb}
 use Rattle.command_words.specs.declared.verb.Verb.TheVariants.{Compile, Go}
@@ -27,10 +27,11 @@ use Rattle.command_words.specs.Tables.{Text}
 use Rattle.command_words.specs.Commands.{Asked}
 use Rattle.elastic_top.specs.Answers.{Answers, AnswersBy, IsSaid, CompilesKernel, GoesKernel, at}
 use Rattle.elastic_top.specs.Faults.{label_number, refusal_code, refusal_parts, go_code, go_parts, span_parts, input_parts}
-use Rattle.elastic_top.specs.OneAnswer.{PrintTheSame, CompilesPrintOnce, by_workers, GoesPrintOnce, with_wrap, WrapChangesNothing, CompilesFor, OneNetIsShown, answer_code, StatusEightIsLong}
+use Rattle.elastic_top.specs.OneAnswer.{PrintTheSame, CompilesPrintOnce, by_workers, TellsNoOrder, GoesPrintOnce, with_wrap, WrapChangesNothing, CompilesFor, OneNetIsShown, answer_code, StatusEightIsLong}
 use Rattle.elastic_top.specs.Options.{circuit_of, options_of, limit_or}
 use Rattle.elastic_top.specs.declared.fault.KernelFiles.{KernelFiles}
 use Rattle.elastic_top.specs.declared.fault.Refusal.{Refusal}
+use Rattle.elastic_top.proofs.CycleLemmas.{GoesTellOneThing}
 use Rattle.elastic_top.proofs.SoundLemmas.{kernel_told, go_told}
 
 -- ---- answers by the verb
@@ -100,7 +101,7 @@ same_parts f g label (go.Run (run.Stray array name)) k i = refl
 same_parts f g label (go.Run run.Memory) k i = refl
 same_parts f g label go.Memory k i = refl
 
-module _ (law : GoesHaveOneAnswer) (kernel inputs ks is : Text) (c : CircuitOptions) (o : RunOptions) (workers : Option ℕ) (plain : AsksForNoCycles o) where
+module _ (law : GoesTellOneThing) (kernel inputs ks is : Text) (c : CircuitOptions) (o : RunOptions) (workers : Option ℕ) (plain : TellsNoOrder o workers) where
   no_want : (p : RunOptions) (r : Refusal) → IsTold (Err r) → (w : GoesKernel kernel inputs c p ks is (Err r)) → ◌≢◌ {A = Result Text GoRefusal} (Err w.refused) (Err go.Memory)
   no_want p r told w e = go_told w.refused (subst (λ (x : Refusal). IsSome (label_number x)) w.is told) (ap (error_or w.refused) e)
 
@@ -117,7 +118,7 @@ module _ (law : GoesHaveOneAnswer) (kernel inputs ks is : Text) (c : CircuitOpti
             ∙ ap (λ r. go_parts b.files (printed (go_number r) (go_word r)) r) same ∙ sym (ap refusal_parts b.is),
       )
 
-pub goes_print_once : GoesHaveOneAnswer → GoesPrintOnce
+pub goes_print_once : GoesTellOneThing → GoesPrintOnce
 goes_print_once law c contents workers a b e plain x y =
     go_once law (at c.plain 0) (at c.plain 1) (at contents 0) (at contents 1) (circuit_of c.chosen) (options_of c.chosen) workers plain a b (is_told c contents a x)
     (is_told (by_workers c workers) contents b y) (by_verb Go c contents a e x) (by_verb Go (by_workers c workers) contents b e y)

@@ -21,18 +21,21 @@ use Rattle.net_replay.specs.Readings.{refusal_line as schedule_line}
 use Rattle.net_runs.specs.declared.options.RunOptions.{RunOptions}
 use Rattle.net_runs.specs.declared.refusal.RunRefusal.{RunRefusal}
 use Rattle.net_runs.specs.declared.refusal.RunRefusal.TheVariants as run
-use Rattle.net_runs.specs.Laws.{AsksForNoCycles, with_workers, RunsAreOne}
+use Rattle.cycle_engine.specs.Bounds.{CyclesAreOne}
+use Rattle.inputs_text.specs.Texts.{IsOfOneInputs}
+use Rattle.net_runs.specs.Laws.{with_workers, RunTextsAreOne}
 use Rattle.net_runs.specs.Refusals.{run_refusal_number, run_refusal_word}
 use Rattle.net_runs.specs.Runs.{Runs}
 use Rattle.command_words.specs.declared.verb.Verb.TheVariants.{Run}
 use Rattle.command_words.specs.Tables.{Text}
 use Rattle.elastic_top.specs.Answers.{NamesFile, NamesRun, OfNet, RunsNet, Wraps, at}
 use Rattle.elastic_top.specs.Faults.{label_number, refusal_code, refusal_parts, net_parts, run_code, run_parts, line_parts, input_parts, front}
-use Rattle.elastic_top.specs.OneAnswer.{PrintTheSame, RunsPrintOnce, by_workers}
+use Rattle.elastic_top.specs.OneAnswer.{PrintTheSame, RunsPrintOnce, RunsTellAsMany, TellsNoOrder, by_workers}
 use Rattle.elastic_top.specs.Options.{options_of}
 use Rattle.elastic_top.specs.declared.fault.Refusal.{Refusal}
 use Rattle.elastic_top.specs.declared.fault.Refusal.TheVariants as work
 use Rattle.elastic_top.specs.declared.fault.RunFiles.{RunFiles}
+use Rattle.elastic_top.proofs.CycleLemmas.{RunsTellOneThing, tell_as_many}
 use Rattle.elastic_top.proofs.OneAnswerLemmas.{IsTold, is_told, by_verb, error_or, is_text, text_or}
 use Rattle.elastic_top.proofs.PrintedLemmas.{same_net, no_netlist, no_text, run_told}
 
@@ -89,7 +92,7 @@ NetRefused word bytes r = Wraps work.Net (NamesFile word) (λ x. NetlistSays byt
 abbrev RunRefused : Text → Text → RunOptions → Text → Refusal → Type 0
 RunRefused inputs bytes o is r = Wraps work.Run (NamesRun inputs None) (λ x. OfNet bytes (λ net. Runs net is o (Err x))) r
 
-module _ (checks : CheckedIsNotRefused) (one : OneRefusal) (law : RunsAreOne) (word inputs ns is : Text) (o : RunOptions) (workers : Option ℕ) (plain : AsksForNoCycles o) where
+module _ (checks : CheckedIsNotRefused) (one : OneRefusal) (law : RunsTellOneThing) (word inputs ns is : Text) (o : RunOptions) (workers : Option ℕ) (plain : TellsNoOrder o workers) where
   nets_once : (r q : Refusal) → IsTold (Err r) → IsTold (Err q) → NetRefused word ns r → NetRefused word ns q → PrintTheSame (Err r) (Err q)
   nets_once r q m n a b =
       let has_a : IsSome (netlist_number a.refused) = subst (λ (x : Refusal). IsSome (label_number x)) a.is m in
@@ -128,7 +131,14 @@ module _ (checks : CheckedIsNotRefused) (one : OneRefusal) (law : RunsAreOne) (w
             ∙ ap (λ x. run_parts b.files (run_label x) x) same ∙ sym (ap refusal_parts b.is),
       )
 
-pub runs_print_once : CheckedIsNotRefused → OneRefusal → RunsAreOne → RunsPrintOnce
+pub runs_print_once : CheckedIsNotRefused → OneRefusal → RunsTellOneThing → RunsPrintOnce
 runs_print_once checks one law c contents workers a b e plain x y =
     run_once checks one law (at c.plain 0) (at c.plain 1) (at contents 0) (at contents 1) (options_of c.chosen) workers plain a b (is_told c contents a x)
     (is_told (by_workers c workers) contents b y) (by_verb Run c contents a e x) (by_verb Run (by_workers c workers) contents b e y)
+
+pub runs_tell_as_many : IsOfOneInputs → RunTextsAreOne → CyclesAreOne → RunsTellAsMany
+runs_tell_as_many one texts law c contents workers s t e counted x y =
+    let a : OfNet (at contents 0) (λ net. Runs net (at contents 1) (options_of c.chosen) (Ok s)) = by_verb Run c contents (Ok s) e x in
+    let b : OfNet (at contents 0) (λ net. Runs net (at contents 1) (with_workers (options_of c.chosen) workers) (Ok t)) = by_verb Run (by_workers c workers) contents (Ok t) e y in
+    tell_as_many one texts law b.net (at contents 1) s t (options_of c.chosen) workers b.read.checked counted
+    (subst (λ (k : Net). Runs k (at contents 1) (options_of c.chosen) (Ok s)) (same_net (at contents 0) b.net a.net b.read.read a.read.read) a.holds) b.holds

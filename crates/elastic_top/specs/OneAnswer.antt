@@ -1,11 +1,13 @@
--- That a call of `compile`, and one of `go` or `run` by however many workers, print one thing, whatever is asked of signed results, and that `compile` and `go` print one net.
-use Rattle.std.specs.Prelude.{◌≡◌, ◌⊎◌, ◌↔◌, ℕ, Bool, List, Option, Result, Ok, Err}
+-- That a call of `compile`, and one of `go` or `run` by however many workers, print one thing, whatever is asked of signed results, but for the order of firings; and that `compile` and `go` print one net.
+use Rattle.std.specs.Prelude.{◌≡◌, ◌⊎◌, ◌↔◌, ◌++◌, ℕ, Bool, true, false, List, length, Option, Some, None, Result, Ok, Err}
 use Rattle.net_types.specs.declared.net.Net.{Net}
+use Rattle.net_types.specs.declared.firing.Firing.{Firing}
 use Rattle.net_types.specs.declared.firing.Inputs.{Inputs}
 use Rattle.net_core.specs.Runs.{Long}
 use Rattle.net_text.specs.Refusals.{Says as SaysNet}
 use Rattle.net_runs.specs.Given.{Gives}
-use Rattle.net_runs.specs.Laws.{AsksForNoCycles}
+use Rattle.net_runs.specs.Results.{log_lines}
+use Rattle.net_runs.specs.declared.options.RunOptions.{RunOptions}
 use Rattle.kernel_runs.specs.OneAnswer.{IsFollowedByRun}
 use Rattle.command_words.specs.declared.verb.Verb.TheVariants.{Compile, Go, Run}
 use Rattle.command_words.specs.Tables.{Text}
@@ -32,15 +34,45 @@ CompilesPrintOnce = (c : Asked) (contents : List Text) (a b : Result Text Refusa
 abbrev pub by_workers : Asked → Option ℕ → Asked
 by_workers c workers = record c { chosen = record c.chosen { workers = workers } }
 
--- and so do all of a call of `go` that counts no cycles, with however many workers, or with none
+-- two runs by so many workers or none are made alike: both by cycles, or both by workers
+abbrev pub AreMadeAlike : Option ℕ → Option ℕ → Type 0
+AreMadeAlike None None = Unit {0}
+AreMadeAlike None (Some m) = ⊥
+AreMadeAlike (Some n) None = ⊥
+AreMadeAlike (Some n) (Some m) = Unit {0}
+
+-- where a run counts cycles, one by so many workers, or by none, is made alike; workers count none
+abbrev pub AreCountedAlike : RunOptions → Option ℕ → Type 0
+AreCountedAlike o workers = o.cycles ≡ true → AreMadeAlike o.workers workers
+
+-- besides no firings are written
+pub record TellsNoOrder (o : RunOptions) (workers : Option ℕ) : Type 0 where
+  pub log : o.log ≡ false
+  pub cycles : AreCountedAlike o workers
+
+-- and so do all of a call of `go`, with however many workers, or with none; where it counts cycles, with none both times, or with some
 abbrev pub GoesPrintOnce : Type 0
-GoesPrintOnce = (c : Asked) (contents : List Text) (workers : Option ℕ) (a b : Result Text Refusal) → c.verb ≡ Go → AsksForNoCycles (options_of c.chosen) → Answers c contents a
+GoesPrintOnce = (c : Asked) (contents : List Text) (workers : Option ℕ) (a b : Result Text Refusal) → c.verb ≡ Go → TellsNoOrder (options_of c.chosen) workers → Answers c contents a
     → Answers (by_workers c workers) contents b → PrintTheSame a b
 
--- and all of a call of `run` that counts no cycles and writes no firings
+-- and all of a call of `run` that writes no firings
 abbrev pub RunsPrintOnce : Type 0
-RunsPrintOnce = (c : Asked) (contents : List Text) (workers : Option ℕ) (a b : Result Text Refusal) → c.verb ≡ Run → AsksForNoCycles (options_of c.chosen) → Answers c contents a
+RunsPrintOnce = (c : Asked) (contents : List Text) (workers : Option ℕ) (a b : Result Text Refusal) → c.verb ≡ Run → TellsNoOrder (options_of c.chosen) workers → Answers c contents a
     → Answers (by_workers c workers) contents b → PrintTheSame a b
+
+-- two texts of a run are equal up to the firings that are written, and as many are written; which stands before which is not told
+pub record AreEqualButForOrder (log : Bool) (s t : Text) : Type 0 where
+  pub front : Text
+  pub told : List Firing
+  pub again : List Firing
+  pub first : s ≡ front ++ log_lines log told
+  pub second : t ≡ front ++ log_lines log again
+  pub many : length told ≡ length again
+
+-- and so are all texts of a call of `run` that writes firings
+abbrev pub RunsTellAsMany : Type 0
+RunsTellAsMany = (c : Asked) (contents : List Text) (workers : Option ℕ) (s t : Text) → c.verb ≡ Run → AreCountedAlike (options_of c.chosen) workers → Answers c contents (Ok s)
+    → Answers (by_workers c workers) contents (Ok t) → AreEqualButForOrder c.chosen.log s t
 
 -- ---- signed results out of range
 

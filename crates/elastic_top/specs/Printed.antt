@@ -1,5 +1,5 @@
 -- What `replay` and `run` print of the circuit that `compile` printed, and when `run`, `compile` and `go` have nothing to refuse.
-use Rattle.std.specs.Prelude.{◌≡◌, ◌⊎◌, ◌≤◌, ◌*◌, ◌+◌, ℕ, ℤ, List, Option, Ok}
+use Rattle.std.specs.Prelude.{◌≡◌, ◌⊎◌, ◌≤◌, ◌*◌, ◌+◌, ◌++◌, ℕ, ℤ, List, codes, Option, Ok}
 use Rattle.c_ast.specs.declared.tree.Program.{Program}
 use Rattle.c_ast.specs.declared.program.TypedProgram.{TypedProgram}
 use Rattle.c_ast.specs.declared.typed.Typed.{Typed}
@@ -10,11 +10,15 @@ use Rattle.c_meaning.specs.declared.profile.Profile.{Profile}
 use Rattle.c_meaning.specs.Statements.{Ends}
 use Rattle.c_meaning.specs.Stores.{Inputs as Numbers}
 use Rattle.net_types.specs.declared.net.Net.{Net}
+use Rattle.net_types.specs.declared.firing.Firing.{Firing}
 use Rattle.net_front.specs.Answers.{IsNetlist}
+use Rattle.net_runs.specs.Results.{count_line, cycles_line, log_lines}
 use Rattle.net_runs.specs.Laws.{IsSoundRun}
 use Rattle.el_base.specs.Limits.{max_nodes}
 use Rattle.kernel_front.specs.Answers.{IsKernel, SpellsTyped, SpellsWithin}
 use Rattle.kernel_front.specs.Laws.{BecomesSmall}
+use Rattle.kernel_ref.specs.Results.{turns_line}
+use Rattle.kernel_runs.specs.Circuits.{Compiles}
 use Rattle.kernel_runs.specs.Goes.{GivesNumbers, BeginsWithEnd}
 use Rattle.kernel_runs.specs.Laws.{EndsInFirings}
 use Rattle.kernel_runs.specs.Printed.{IsEndText, NamesNext}
@@ -24,7 +28,7 @@ use Rattle.command_words.specs.Tables.{Text}
 use Rattle.command_words.specs.Commands.{Asked}
 use Rattle.elastic_top.specs.Answers.{Answers, AnswersBy, at}
 use Rattle.elastic_top.specs.Laws.{RefusesNothing}
-use Rattle.elastic_top.specs.Options.{limit_or, options_of}
+use Rattle.elastic_top.specs.Options.{circuit_of, limit_or, options_of}
 
 -- ---- calls on the printed circuit of a kernel
 
@@ -69,3 +73,23 @@ TypedTextsGo = (c : Asked) (contents : List Text) (typed : TypedProgram) (k : Ty
 abbrev pub InterpretedKernelsAreRun : Type 0
 InterpretedKernelsAreRun = (c : Asked) (plain : List Text) (chosen : Chosen) (contents : List Text) (text : Text) (ended : AnswersBy Ref plain chosen contents (Ok text)) → c.verb ≡ Go
     → 256 * typed_nodes ended.kernel.typed * (ended.holds.holds.turns + 1) ≤ limit_or c.chosen.limit → RefusesNothing c contents
+
+-- ---- `ref` and `go`
+
+-- The first text is the results and, where it is asked for, the number of turns. The second is a text that a compilation of the kernel has by the same options, a
+-- line `%%`, the same results and then, where they are asked for, the numbers of firings and of cycles and the firings.
+pub record ShowOneEnd (ref go : Chosen) (contents : List Text) (told gone : Text) : Type 0 where
+  pub results : Text
+  pub turns : ℕ
+  pub interpreted : told ≡ results ++ turns_line ref.count turns
+  pub netlist : Text
+  pub compiled : Compiles (at contents 0) (circuit_of go) (Ok netlist)
+  pub made : ℕ
+  pub cycles : ℕ
+  pub firings : List Firing
+  pub ran : gone ≡ netlist ++ codes "%%\n" ++ (results ++ count_line go.count made ++ cycles_line go.cycles cycles ++ log_lines go.log firings)
+
+-- so it is of the texts that a call of `ref` and one of `go` have for the same contents of their files, each under its own profile
+abbrev pub RefAndGoShowOneEnd : Type 0
+RefAndGoShowOneEnd = (c d : Asked) (contents : List Text) (told gone : Text) → c.verb ≡ Ref → d.verb ≡ Go → Answers c contents (Ok told) → Answers d contents (Ok gone)
+    → ShowOneEnd c.chosen d.chosen contents told gone

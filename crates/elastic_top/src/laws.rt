@@ -7,11 +7,13 @@ ghost use Rattle.elastic_top.specs.OneAnswer.{
   GoesPrintOnce,
   OneNetIsShown,
   RunsPrintOnce,
+  RunsTellAsMany,
   StatusEightIsLong,
   WrapChangesNothing,
 };
 ghost use Rattle.elastic_top.specs.Printed.{
   InterpretedKernelsAreRun,
+  RefAndGoShowOneEnd,
   ReplaysShowTheEnd,
   RunsShowTheEnd,
   SoundRunsAreAnswered,
@@ -20,7 +22,12 @@ ghost use Rattle.elastic_top.specs.Printed.{
 };
 
 use c_calls::laws::programs_are_typed_in_one_way;
-use kernel_front::texts_that_type_are_kernels;
+use c_meaning::range_laws::numbers_stay_in_range;
+use cycle_engine::cycles_are_one;
+use el_base::{patterns_are_those_of_their_numbers, patterns_stand_for_numbers_in_range};
+use inputs_text::inputs_texts_have_one_reading;
+use kernel_compile::good_nets_stay_good;
+use kernel_front::{one_text_has_one_answer, texts_that_type_are_kernels};
 use kernel_runs::{
     answers_are_one, ending_kernels_run, interpreted_kernels_go, kernels_compile,
     printed_circuits_are_right,
@@ -48,14 +55,17 @@ pub fn benches_refuse_nothing()
     ensures { BenchesRefuseNothing }
 {}
 
-/// All answers of a call of `compile` for the same contents print the same, and so do all of a call of `go`, and of one of `run`,
-/// that counts no cycles and writes no firings, with any number of workers or without; `--wrap` changes none of them. The text of `go` is the text of `compile`, by the same options, a line `%%` and the
-/// text of a run of the net that is read from it; the status of `go` is 8 exactly where that net has runs of more firings
-/// than the limit on the inputs.
+/// All answers of a call of `compile` for the same contents print the same, and so do all of a call of `go`, and of one of `run`
+/// that writes no firings, with any number of workers or without; where it counts cycles, without workers each time, or with some
+/// each time. Texts of one that writes firings are the same up to these, and write as many. `--wrap` changes no answer of
+/// `compile` and `go`. The text of `go` is the text of `compile`, by the same options, a
+/// line `%%` and the text of a run of the net that is read from it; the status of `go` is 8 exactly where that net has runs of
+/// more firings than the limit on the inputs.
 pub fn calls_print_once()
     ensures compile { CompilesPrintOnce }
     ensures go { GoesPrintOnce }
     ensures run { RunsPrintOnce }
+    ensures log { RunsTellAsMany }
     ensures wrap { WrapChangesNothing }
     ensures net { OneNetIsShown }
     ensures limit { StatusEightIsLong }
@@ -63,6 +73,8 @@ pub fn calls_print_once()
     answers_are_one();
     a_net_has_one_refusal();
     workers_change_no_answer();
+    cycles_are_one();
+    inputs_texts_have_one_reading();
 }
 
 /// Where a kernel ends on the inputs, what `replay` prints of the circuit that `compile` printed for it is the text of the
@@ -117,4 +129,18 @@ pub fn interpreted_kernels_are_run()
     ensures { InterpretedKernelsAreRun }
 {
     interpreted_kernels_go();
+}
+
+/// What a call of `ref` and one of `go` print for the same contents of their files, under whichever profile, shows the same
+/// results: they begin the text of `ref`, and in that of `go` they follow the netlist that `compile` prints for the kernel and a
+/// line `%%`. After them stand only the numbers and firings that are asked for.
+pub fn ref_and_go_show_one_end()
+    ensures { RefAndGoShowOneEnd }
+{
+    one_text_has_one_answer();
+    inputs_texts_have_one_reading();
+    good_nets_stay_good();
+    numbers_stay_in_range();
+    patterns_stand_for_numbers_in_range();
+    patterns_are_those_of_their_numbers();
 }

@@ -172,6 +172,7 @@ fn calls() {
     elastic_top::sound_runs_are_answered();
     elastic_top::typed_texts_are_answered();
     elastic_top::interpreted_kernels_are_run();
+    elastic_top::ref_and_go_show_one_end();
     elastic_top::resumed_calls_print_as_runs();
     elastic_top::long_files_are_one();
     elastic_top::benches_refuse_nothing();
