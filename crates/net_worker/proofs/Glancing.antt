@@ -257,3 +257,11 @@ seen_later c a m b s l h = no_token_later (take_end a c) (take_end m c) (take_en
 
 pub seen_since : (c : ℕ) (a m b : Worker) → IsLooked a m → IsSeen c m b → IsSeen c a b
 seen_since c a m b l s h = no_token_before (take_end a c) (take_end m c) (take_end b c) (l.takes.each c) (s h)
+
+-- a channel with an end that takes comes from another worker
+pub into_end : (t : Tables) (a : Worker) → Rattle.net_worker.specs.Workers.IsMadeOf t a → (c : ℕ) → IsSome (take_end a c) → Rattle.net_worker.specs.Workers.IsInto t a.number c
+into_end t a m c some = by (take_end a c) refl some
+  where
+    by : (o : Option TakeEnd) → take_end a c ≡ o → IsSome o → Rattle.net_worker.specs.Workers.IsInto t a.number c
+    by None is h = cc
+    by (Some e) is h = (m.takes_in c e is).0

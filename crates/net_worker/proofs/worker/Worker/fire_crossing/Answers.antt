@@ -34,6 +34,12 @@ above-base-requires-clause-held c =
     (used_there (row (kind_of t.net f.unit) f.act (Rattle.std.proofs.Common.get_or (state_of a.state).own f.unit idle) (at_array (state_of a.state).arrays (uses (kind_of t.net f.unit))) (setting t.net (state_of a.state))) (head_at t.net (state_of a.state) f.unit)
     (effect_by (kind_of t.net f.unit) (own_at a.state f.unit) (array_at t.net a.state f.unit) p) does))
 
+pub make-requires-clause-room : goal.make-requires-clause-room
+make-requires-clause-room c = room_held c.args.tables.now c.args.self.now c.requires.made c.net.ensures.checked c.args.firing.unit c.requires.mine c.in_ok-plan.plan.put c.in_ok-stamp.ensures.some.room
+
+pub make-requires-clause-counts : goal.make-requires-clause-counts
+make-requires-clause-counts c = few_counts c.args.tables.now c.args.self.now c.requires.made
+
 pub take_all-requires-clause-payable : goal.take_all-requires-clause-payable
 take_all-requires-clause-payable c =
     let t = c.args.tables.now in

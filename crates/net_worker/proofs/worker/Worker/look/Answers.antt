@@ -2,8 +2,16 @@ use Rattle.std.proofs.Common.{◌≡◌, ◌<◌, ◌≤◌, ◌∙◌, ℕ, len
 use Rattle.std.proofs.lemmas.List.{get_or_default, get_or_read}
 use Rattle.net_worker.specs.Glances.{IsSeen}
 use Rattle.net_worker.specs.Workers.{IsInto}
-use Rattle.net_worker.proofs.Glancing.{looked_trans, seen_later, seen_since}
+use Rattle.net_worker.proofs.Asking.{asked_self}
+use Rattle.net_worker.proofs.Glancing.{asked_looked, looked_trans, seen_later, seen_since}
 use Rattle.net_worker.proofs.worker.Worker.look.Goals as goal
+
+pub loop-at-init : goal.loop-at-init
+loop-at-init c = record {
+  made = c.requires.made;
+  looked = asked_looked c.args.self.now c.args.self.now (asked_self c.args.self.now);
+  seen = λ k l. absurd (omega arith);
+}
 
 pub loop-at-preserved : goal.loop-at-preserved
 loop-at-preserved c =

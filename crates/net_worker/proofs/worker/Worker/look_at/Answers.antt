@@ -9,6 +9,11 @@ returns-then-held-gt0-clause-made c =
     asked_made c.args.tables.now c.args.self.now _ c.requires.made
     (record { number = refl; share = refl; log = refl; clock = refl; state = refl; outs = refl; ins = refl; closed = refl; puts = puts_asked_self c.args.self.now.puts.items; takes = c.flush_at.ensures })
 
+pub returns-then-held-gt0-clause-looked : goal.returns-then-held-gt0-clause-looked
+returns-then-held-gt0-clause-looked c =
+    asked_looked c.args.self.now _
+    (record { number = refl; share = refl; log = refl; clock = refl; state = refl; outs = refl; ins = refl; closed = refl; puts = puts_asked_self c.args.self.now.puts.items; takes = c.flush_at.ensures })
+
 pub returns-in_default-clause-made : goal.returns-in_default-clause-made
 returns-in_default-clause-made c =
     asked_made c.args.tables.now c.args.self.now _ c.requires.made

@@ -2,10 +2,10 @@ use Rattle.std.proofs.Common.{◌≡◌, ◌<◌, ◌+◌, length, arith, subst,
 use Rattle.net_core.specs.Fire.{enabled}
 use Rattle.net_core.specs.States.{state_of}
 use Rattle.net_types.specs.Nets.{firing}
-use Rattle.net_worker.proofs.Asking.{asked_trans}
+use Rattle.net_worker.proofs.Asking.{asked_self, asked_trans}
 use Rattle.net_worker.proofs.Firing.{goes_asked, later_same}
 use Rattle.net_worker.proofs.Glancing.{same_whole}
-use Rattle.net_worker.proofs.Trying.{up_to, before_next, all_quiet}
+use Rattle.net_worker.proofs.Trying.{go_least, up_to, before_next, all_quiet}
 use Rattle.net_worker.proofs.worker.Worker.try_unit.Goals as goal
 
 pub try_act-requires-clause-whole : goal.try_act-requires-clause-whole
@@ -44,6 +44,9 @@ returns-in_default-next-clause-held c = λ _.
           (c.acts_fit.ensures c.in-Some.act (subst (λ s. enabled c.args.tables.now.net (state_of s) (firing c.args.unit c.in-Some.act)) c.acts.invariant.asked.state c.in-Some.ensures.fires))
           (sym c.in_default-next.ensures) (c.acts_fit.ensures x e));
     })
+
+pub acts-init : goal.acts-init
+acts-init c = record { made = c.requires.made; asked = asked_self c.args.self.now; fits = tt; refused = λ b e n. absurd (n (go_least b)) }
 
 pub acts-preserved : goal.acts-preserved
 acts-preserved c =
