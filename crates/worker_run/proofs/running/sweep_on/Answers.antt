@@ -1,8 +1,11 @@
 use Rattle.std.proofs.Common.{◌≡◌, ◌<◌, ◌≤◌, ap, arith, inl, inr, subst}
 use Rattle.net_worker.specs.Sweeps.{SweptAs}
 use Rattle.worker_run.proofs.RestLemmas.{rests}
-use Rattle.worker_run.proofs.RunLemmas.{same_worker_then}
+use Rattle.worker_run.proofs.RunLemmas.{same_worker, same_worker_then}
 use Rattle.worker_run.proofs.running.sweep_on.Goals as goal
+
+pub loop-worker-init : goal.loop-worker-init
+loop-worker-init g c = record { made = c.requires.made; same = same_worker c.args.worker.now; idle = omega arith }
 
 pub loop-worker-preserved-in-Fired : goal.loop-worker-preserved-in-Fired
 loop-worker-preserved-in-Fired g c = record {
