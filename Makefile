@@ -10,7 +10,7 @@
 # rows: builds each program without its proofs, two at a time, runs it as the gate does and compares what it writes with what is
 #   given: the example and the rows of data. From nothing this takes some fifteen minutes of the processor. It proves nothing.
 # build: proves the program and all below it, and leaves it as crates/elastic/out/elastic. From nothing this takes
-#   most of the gate's time (docs/PROVED.md); what an earlier run proved on this machine is not proved again.
+#   most of the gate's time (docs/TIMES.md); what an earlier run proved on this machine is not proved again.
 # examples: builds the program, runs the kernels of examples/ by it, by go and by ref, compares with their results, and tells
 #   the units, channels, firings and cycles of each, and the cycles by each depth of a table, with which nothing else may change.
 # clients: with the program that make build left, tries what stands beside it: the scripts of examples/clients on every example,
@@ -23,7 +23,7 @@
 # documents: checks README.md and docs/: names that stand nowhere, long sentences, cells of tables that hold too much, and numbers
 #   that tools/map.py counts (tools/map.py counted --write puts these right).
 # help: these lines.
-# memory: lists the places that answer want of memory where no allocation has failed, and compares them with docs/PROVED.md.
+# memory: lists the places that answer want of memory where no allocation has failed, and compares them with docs/TESTED.md.
 # bench: times parts of the compiler and of runs, by the program benches, which tools/benches.py makes before its proofs in 2 to 4
 #   minutes, and compares with what is kept; PROVED=1 proves it, and the program, first. It is no part of the gate. It times
 #   compiling kernels of 1,024 nodes, and how many firings and cycles four kernels take;

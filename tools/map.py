@@ -1,10 +1,11 @@
 #!/usr/bin/env python3
 """Maps of the repository that are counted, and not written.
 
-  tools/map.py sizes                 lines of code, definitions and proofs, and wrong bodies, of each crate
+  tools/map.py sizes                 lines of code, definitions and proofs, and mutants, of each crate
   tools/map.py definitions FILE..    all that these files rest on: the definition files that a source file's contracts or a
                                      definition file reach, each after those that it stands on, with their lines, and then
                                      the Rust types and traits that these and the files cite, with where they stand
+  tools/map.py meaning [CRATE]       the definition files of a crate, or of all, with what their head comments say
   tools/map.py words                 words of specs/ that have two definitions: in a crate, or in it and one below it
   tools/map.py like NAME             the files that name a variant, a field or another word, by crate, with how often
   tools/map.py proofs CRATE          the proof files of a crate, with what their first line says
@@ -14,6 +15,7 @@
                                      README.md and docs/, and README.md where it has 900 words or more
 """
 import collections
+import itertools
 import pathlib
 import re
 import subprocess
@@ -249,6 +251,18 @@ def proofs(crate):
             print(f"| `{file.relative_to(CRATES / crate / 'proofs')}` | {len(lines)} | {first} |")
 
 
+def meaning(crates):
+    """Each definition file with the first sentence of the comment at its head."""
+    for crate in crates:
+        for file in sorted((CRATES / crate).glob("specs/**/*.antt")):
+            if file.name != "Lib.antt":
+                lines = file.read_text().splitlines()
+                comments = itertools.takewhile(lambda line: line.startswith("--"), lines)
+                head = " ".join(line[2:].strip() for line in comments)
+                said = re.split(r"(?<=[.:]) (?=[A-Z])", head)
+                print(f"{file.relative_to(CRATES)}: {' '.join(said[:2 if said[0].startswith('Private') else 1])}")
+
+
 # Names of the shell that documents may cite.
 STANDARD = {"xargs"}
 
@@ -323,7 +337,8 @@ def counted_documents():
         order, types = rests_on([CRATES / source])
         return [str(len(order)), f"{count(order):,}", str(len(types)), f"{sum(types.values()):,}"]
 
-    readme, map_page, proved = TOP / "README.md", TOP / "docs" / "ARCHITECTURE.md", TOP / "docs" / "PROVED.md"
+    readme, map_page = TOP / "README.md", TOP / "docs" / "ARCHITECTURE.md"
+    theorem, tested = TOP / "docs" / "THEOREM.md", TOP / "docs" / "TESTED.md"
     host = [f"{count([CRATES / 'el_io' / 'src' / 'host.rt']):,}"]
     edge = r"`el_io/src/host\.rt` \(([\d,]+) lines\)"
     text = number_in(readme.read_text(), edge, host, readme)
@@ -331,16 +346,17 @@ def counted_documents():
     text = number_in(text, r"The short way is `Good`: (\d+) files, ([\d,]+) lines", weight("kernel_compile/specs/Goods.antt")[:2], readme)
     yield readme, text
     text = map_page.read_text()
-    head = "| Crate | Code | Definitions | Proofs | Wrong bodies |\n|---|---|---|---|---|\n"
+    head = "| Crate | Code | Definitions | Proofs | Mutants |\n|---|---|---|---|---|\n"
     before, _, after = text.partition(head)
     text = before + head + "".join(f"{row}\n" for row in size_rows()) + after[after.index("\n\n") + 1:]
+    yield map_page, text
+    text = number_in(theorem.read_text(), edge, host, theorem)
     for source in re.findall(r"^\| [^|]* \| `([\w/.]+)`(?: of [^|]*)? \| \d+, [\d,]+ \|", text, re.M):
         row = r"\| `" + re.escape(source) + r"` \| (\d+), ([\d,]+) \| (\d+), ([\d,]+) \|"
-        text = number_in(text, row, weight(source), map_page)
-    yield map_page, text
+        text = number_in(text, row, weight(source), theorem)
+    yield theorem, text
     edits = [str(len(list(CRATES.glob("*/must-fail/*.edit"))))]
-    text = number_in(number_in(proved.read_text(), edge, host, proved), r"the gate tries the (\d+) of `must-fail/`", edits, proved)
-    yield proved, text
+    yield tested, number_in(tested.read_text(), r"the gate tries the (\d+) of `must-fail/`", edits, tested)
 
 
 def counted(is_written):
@@ -368,6 +384,10 @@ if __name__ == "__main__":
         definitions(given[1:])
     elif len(given) == 2 and given[0] == "like":
         like(given[1])
+    elif given == ["meaning"]:
+        meaning(dependencies())
+    elif len(given) == 2 and given[0] == "meaning" and (CRATES / given[1]).is_dir():
+        meaning(given[1:])
     elif len(given) == 2 and given[0] == "proofs" and (CRATES / given[1]).is_dir():
         proofs(given[1])
     else:

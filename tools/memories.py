@@ -1,6 +1,6 @@
 #!/usr/bin/env python3
 """Lists each place in crates/*/src that answers want of memory where no allocation has failed, and compares the list with the
-one under the heading of docs/PROVED.md that says so. Fails where they differ.
+one under the heading of docs/TESTED.md that says so. Fails where they differ.
 
 usage: tools/memories.py   (at the top of the repository; `make memory`)
 
@@ -67,9 +67,9 @@ def is_library(path):
 
 
 found = sorted({f"{path[len('crates/'):]}: {function}" for path in filter(is_library, glob.glob("crates/*/src/*.rt")) for function in places(path)})
-with open("docs/PROVED.md") as file:
+with open("docs/TESTED.md") as file:
     section = file.read().partition(f"## {HEADING}\n")[2].partition("\n## ")[0]
 listed = sorted(f"{path}: {function}" for path, function in re.findall(r"^- `([\w/.]+)`, `(\w+)`", section, re.MULTILINE))
 print("\n".join(found))
 if found != listed:
-    sys.exit(f"docs/PROVED.md lists others: {', '.join(listed) or 'none'}")
+    sys.exit(f"docs/TESTED.md lists others: {', '.join(listed) or 'none'}")

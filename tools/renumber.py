@@ -307,7 +307,7 @@ def cells(line):
 
 def renew_tables(program, changes, write):
     """The tables of examples in the documents: columns by their heads."""
-    for path in ("docs/GUIDE.md", "docs/PROVED.md", "README.md", "docs/TIMES.md"):
+    for path in ("docs/GUIDE.md", "README.md", "docs/TIMES.md"):
         if not (TOP / path).exists():
             continue
         lines, heads = (TOP / path).read_text().split("\n"), []
