@@ -9,6 +9,7 @@ with the advice of `explain.py --all` (`edited.c`), and a call of the original w
 program each mended kernel is run by `elastic ref`, and the results are compared with gcc's of the original; without a gcc with those
 kept. --drawn tries so many drawn functions too (tools/draw_foreign.py). --keep writes what is new."""
 import argparse
+import importlib.util
 import os
 import pathlib
 import re
@@ -19,6 +20,9 @@ import tempfile
 
 TOOLS = pathlib.Path(__file__).resolve().parent
 sys.path.insert(0, str(TOOLS))
+if not importlib.util.find_spec("pycparser"):
+    print("mend.py: not tried, since there is no pycparser (`apt-get install python3-pycparser`, or `pip install pycparser`)")
+    sys.exit(0)
 import mend  # noqa: E402  (beside this file)
 import with_gcc  # noqa: E402
 from check_explain import row_of  # noqa: E402

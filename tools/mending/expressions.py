@@ -12,7 +12,7 @@ from explaining.tables import CONTROL
 from mending.kinds import Array, Constant, Pointer, Scalar, State, line_of
 from mending.prepare import Refused
 from mending.tree import (BOOL, Assign, Call, Cast, Cond, If, Index, Num, Step, Var, added, binary, bits, constant, converted,
-                          fitting, is_truth, negation, number, truth, unary, usual, walk)
+                          fitting, is_truth, negation, number, promoted, truth, unary, usual, walk)
 
 ABSOLUTE = {"abs": "int32_t", "labs": "int64_t", "llabs": "int64_t"}
 
@@ -429,13 +429,13 @@ class Expressions:
             return self.temporary("value", result, part) if self.conditional else part
         return self.inlined(symbol.node, args, node)
 
-    def full(self, node):
-        """The value of a whole expression, whose statements behind are put into `out` at once."""
-        part = self.condition_value(node)
+    def full(self, node, tested=True):
+        """The value of a whole expression, or what a test asks of it; the statements behind it are put into `out` at once."""
+        part = self.condition_value(node) if tested else self.value(node)
         behind, self.later = self.later, []
         changed = {it.target for it in behind}
         if behind and any(it in changed for it in walk(part)):
-            part = self.temporary("go", "int32_t", truth(part))
+            part = self.temporary("go", "int32_t", truth(part)) if tested else self.temporary("which", promoted(part.type), part)
         self.out += behind
         self.judge_order(part)
         return part

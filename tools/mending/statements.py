@@ -340,7 +340,7 @@ class Statements(Expressions):
     def switch_(self, node):
         """`switch` as a chain of `if`; a case that goes on into the next has its statements too."""
         line = self.line
-        which = self.full(node.cond)
+        which = self.full(node.cond, tested=False)
         kind = promoted(which.type)
         items = node.stmt.block_items or [] if isinstance(node.stmt, c_ast.Compound) else [node.stmt]
         if any(not isinstance(it, (c_ast.Case, c_ast.Default)) for it in items):
