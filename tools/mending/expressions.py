@@ -303,7 +303,9 @@ class Expressions:
         later, self.later = self.later, []
         left = self.condition_value(node.left)
         own, self.later = self.later, later
+        written, self.written = self.written, set()
         right, before, behind = self.apart(node.right)
+        self.written |= written
         if not (own or before or behind):
             return binary(node.op, left, right)
         result = self.temporary("go", "int32_t", truth(left))
@@ -318,8 +320,11 @@ class Expressions:
         later, self.later = self.later, []
         test = self.condition_value(node.cond)
         own, self.later = self.later, later
+        written, self.written = self.written, set()
         yes, yes_before, yes_behind = self.apart(node.iftrue)
+        first, self.written = self.written, set()
         no, no_before, no_behind = self.apart(node.iffalse)
+        self.written |= written | first
         kind = usual(yes.type, no.type)
         if not (yes_before or yes_behind or no_before or no_behind):
             if own:
@@ -350,6 +355,10 @@ class Expressions:
             raise Refused(line_of(node), "an address as a number")
         part = self.value(node.rvalue)
         target = self.target(node.lvalue)
+        read = [it.array for it in walk(target) if isinstance(it, Index) and (it is not target or node.op != "=")]
+        if set(read) & self.written:
+            raise Refused(line_of(node), f"`{read[0]}` is read beside a call that changes it, in an order that C leaves open",
+                          "call in a statement of its own")
         self.out.append(self.assign(target, node.op, part))
 
     def assign(self, target, op, part):
