@@ -174,7 +174,7 @@ class Where:
         classes = Counter()
         for part in taking:
             classes[self.reason(part)] += part.cycles
-        main = classes.most_common(1)[0][0]
+        main = next((kind for kind in ("room", "entries") if classes[kind]), classes.most_common(1)[0][0])
         counts = Counter(self.reason(part) for part in taking)
         a_turn = f"{total} cycle{'s' * (total != 1)} a turn" if rounds == 1 else f"{total} cycles in {rounds} turns"
         words = ", ".join(said(kind, counts[kind], classes[kind], self.queue_name(taking)) for kind, _ in classes.most_common())
@@ -201,7 +201,7 @@ class Where:
                      "variable in place of the element",
             "lsq": f"`--delay lsq=1`, `--forward`, or a variable for what `{name}` hands from turn to turn",
             "exec": f"fewer accesses to `{name}` in a turn, as by a variable: its queue executes one a cycle",
-            "room": "a greater `--slots`", "entries": f"nothing by options: the queue of `{name}` is full; fewer accesses in a turn",
+            "room": "a greater `--slots`: a channel with fewer slots than its delay does not carry a token a cycle", "entries": f"nothing by options: the queue of `{name}` is full; fewer accesses in a turn",
         }.get(main, "a net of another form; no option changes this")
 
     # ---- the report

@@ -307,7 +307,7 @@ class Expressions:
         right, before, behind = self.apart(node.right)
         self.written |= written
         if not (own or before or behind):
-            return binary(node.op, left, right)
+            return joined(node.op, left, right)
         result = self.temporary("go", "int32_t", truth(left))
         self.out += own
         inner = before + [Assign(result, "=", truth(right), self.line)] + behind
@@ -456,6 +456,15 @@ class Expressions:
         if arrays & written:
             raise Refused(self.source_line, f"`{sorted(arrays & written)[0]}` is read beside a call that changes it, in an order that C leaves "
                           "open", "call in a statement of its own")
+
+
+def joined(op, left, right):
+    """`&&` or `||` of two values; a number that decides nothing is left away."""
+    nothing = op == "&&"
+    for one, other in ((left, right), (right, left)):
+        if isinstance(one, Num) and not one.text and bool(one.value) == nothing:
+            return truth(other)
+    return binary(op, left, right)
 
 
 def character(text, line):
