@@ -14,8 +14,9 @@
 # examples: builds the program, runs the kernels of examples/ by it, by go and by ref, compares with their results, and tells
 #   the units, channels, firings and cycles of each, and the cycles by each depth of a table, with which nothing else may change.
 # clients: with the program that make build left, tries what stands beside it: the scripts of examples/clients on every example,
-#   tools/explain.py on a row for each number and on the kernels of examples/refused, and the manual page and completions; all are
-#   compared with what is kept. PROGRAM=.try/elastic tries the program of make try.
+#   tools/explain.py on a row for each number and on the kernels of examples/refused, tools/mend.py on those and on examples/foreign,
+#   and the manual page and completions; all are compared with what is kept, and mended kernels with gcc where there is one.
+#   PROGRAM=.try/elastic tries the program of make try.
 # test: the gate: every proof, program and the wrong bodies of must-fail/.
 # wrong: tries the wrong bodies that the gate leaves out (crates/*/wrong), of one crate with CRATE=NAME.
 # crews: with the program that make build left, runs 150 drawn nets and those of examples/ by cycles, by 1, 2, 3, 7 and 64
@@ -117,6 +118,7 @@ clients:
 	@test -x $(PROGRAM) || { echo '$(PROGRAM) is not there: make build makes it, and make try .try/elastic' >&2; exit 1; }
 	@tools/clients.py --program $(PROGRAM)
 	@tools/check_explain.py --program $(PROGRAM)
+	@tools/check_mend.py --program $(PROGRAM)
 	@tools/manual.py check $(PROGRAM)
 
 test:

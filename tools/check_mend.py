@@ -1,5 +1,6 @@
 #!/usr/bin/env python3
-"""Tries tools/mend.py: on the kernels of examples/foreign and of examples/refused, and on those of tools/explaining/rows that C takes.
+"""Tries tools/mend.py: on the kernels of examples/foreign and of examples/refused, on those of tools/explaining/rows that C takes, and on
+the rows of tools/mending/rows.
 
     tools/check_mend.py [--program PROGRAM] [--drawn N] [--keep]
 
@@ -7,8 +8,9 @@ A folder of examples/foreign has a kernel as people write it (`kernel.c`), input
 of it (`mended.c`), the lengths that it asks for (`lengths.txt`), where mend.py cannot do all of it the text after one round by hand
 with the advice of `explain.py --all` (`edited.c`), and a call of the original where its parameters are others then (`call.c`). With a
 program each mended kernel is run by `elastic ref`, and the results are compared with gcc's of the original; without a gcc with those
-kept. --drawn tries so many drawn functions too (tools/draw_foreign.py). --keep writes what is new."""
+kept. A row of tools/mending/rows has a kernel, inputs, and either what its refusal says or gcc's word for the results. --drawn tries so many drawn functions too (tools/draw_foreign.py). --keep writes what is new."""
 import argparse
+import importlib.util
 import os
 import pathlib
 import re
@@ -19,6 +21,9 @@ import tempfile
 
 TOOLS = pathlib.Path(__file__).resolve().parent
 sys.path.insert(0, str(TOOLS))
+if not importlib.util.find_spec("pycparser"):
+    print("mend.py: not tried, since there is no pycparser (`apt-get install python3-pycparser`, or `pip install pycparser`)")
+    sys.exit(0)
 import mend  # noqa: E402  (beside this file)
 import with_gcc  # noqa: E402
 from check_explain import row_of  # noqa: E402
@@ -124,6 +129,23 @@ def tried_other(name, text, by_hand, inputs, call, folder, program):
         return ([f"{name}: {said}"] if said else []), bool(program)
 
 
+def tried_row(path, program):
+    """What is wrong with a row of mend.py, in lines, and whether it was compared."""
+    row = row_of(path)
+    with tempfile.TemporaryDirectory() as room:
+        kernel = pathlib.Path(room, "kernel.c")
+        kernel.write_text(row["k.c"])
+        try:
+            made, _, added = mend.mended(str(kernel), None, mend.lengths_of(row.get("lengths", "").split()))
+        except mend.Refused as refused:
+            wanted = row.get("refused", "").strip()
+            return ([] if wanted and wanted in refused.why else [f"{path.name}: {refused.why}"]), False
+        if "refused" in row:
+            return [f"{path.name}: is mended, and was not expected to be"], False
+        said = differs(program, kernel, made, row["inputs"], added) if program else None
+        return ([f"{path.name}: {said}"] if said else []), bool(program)
+
+
 def main():
     words = argparse.ArgumentParser(description=__doc__, formatter_class=argparse.RawDescriptionHelpFormatter)
     words.add_argument("--program", type=os.path.abspath, help="a program elastic")
@@ -137,6 +159,9 @@ def main():
         at_once, wrong, compared = at_once + once, wrong + said, compared + bool(given.program)
     for parts in others():
         said, done = tried_other(*parts, given.program)
+        wrong, compared = wrong + said, compared + done
+    for path in sorted((TOOLS / "mending" / "rows").glob("*.txt")):
+        said, done = tried_row(path, given.program)
         wrong, compared = wrong + said, compared + done
     by_hand = sum((folder / "edited.c").exists() for folder in folders)
     print(f"mend.py: {at_once} of {len(folders)} foreign kernels at once, {by_hand} more after one round by hand; {compared} kernels beside "

@@ -9,6 +9,7 @@ import argparse
 import hashlib
 import os
 import pathlib
+import re
 import subprocess
 import sys
 import tempfile
@@ -88,6 +89,29 @@ def stalled(program, net, inputs, folder):
     return "\n".join([*lines[:9], "..", lines[-1], ""]) + short("\n".join(lines))
 
 
+def where(program, net, inputs, folder):
+    """Where the cycles go; the firings, cycles and turns are those of the program."""
+    said, log = client("where.py", net, inputs), run(program, "run", net, inputs, "--count", "--cycles", "--log")
+    firings, cycles = (re.search(rf"# {word} (\d+)", log).group(1) for word in ("firings", "cycles"))
+    if f": {firings} firings, {cycles} cycles" not in said:
+        raise Failed(f"where.py {net}: not the {firings} firings and {cycles} cycles of the program")
+    for head, entered, turns in re.findall(r"^  (\d+) cmerge: entered (\d+) times?, (\d+) turn", said, re.M):
+        came = len(re.findall(rf"^{head} from ", log, re.M))
+        if came != int(entered) + int(turns):
+            raise Failed(f"where.py {net}: the merge {head} comes {came} times in the program's schedule")
+    return said + "-- --svg --where\n" + short(client("draw.py", "--svg", "--where", inputs, net)) + bounds(program, net, inputs, folder)
+
+
+def bounds(program, net, inputs, folder):
+    """What bounds each loop where the circuit has a depth."""
+    kernel = pathlib.Path(inputs).parent / "kernel.c"
+    if not kernel.exists():
+        return ""
+    other = pathlib.Path(folder, "depth.net")
+    other.write_text(run(program, "compile", kernel, "--depth", "4"))
+    return "-- --depth 4\n" + client("where.py", other, inputs).split("what bounds each loop\n")[1]
+
+
 def answers(program, example, folder):
     """What is kept of an example: a text with a part for each script."""
     kernel, net, inputs = example / "kernel.c", example / "net.txt", example / "inputs.txt"
@@ -97,7 +121,8 @@ def answers(program, example, folder):
     picture = client("draw.py", "--svg", net)
     parts = {"draw.py": client("draw.py", net), "draw.py --svg": short(picture),
              "draw.py --dot": short(client("draw.py", "--dot", net)), "inputs.py": made_inputs(program, kernel, net, folder),
-             "retime.py": retimed(program, net, inputs, folder), "stalls.py": stalled(program, net, inputs, folder)}
+             "retime.py": retimed(program, net, inputs, folder), "stalls.py": stalled(program, net, inputs, folder),
+             "where.py": where(program, net, inputs, folder)}
     return "".join(f"== {name}\n{text}" for name, text in parts.items()), picture
 
 

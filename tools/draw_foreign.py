@@ -24,7 +24,7 @@ HEAD = """#include <stdint.h>
 #include <stdbool.h>
 #define MASK 7
 #define LAST (MASK - 1)
-#define MIX(x, y) (((x) ^ (y) << 1) & 0xfff)
+#define MIX(x, y) (((x) ^ (unsigned)(y) << 1) & 0xfff)
 enum kind { NONE, SOME = 3, ALL };
 static const unsigned char table[8] = {3, 1, 4, 1, 5, 9, 2, 6};
 static unsigned total = 5;

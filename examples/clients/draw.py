@@ -4,6 +4,8 @@
     draw.py NETLIST            a summary: units by kind, registers, queues, the longest chain of units without a register
     draw.py --svg NETLIST      a picture, as an SVG
     draw.py --dot NETLIST      the same graph for Graphviz
+    draw.py --svg --where INPUTS NETLIST    the picture of a run: what its critical path goes over is orange, and where it takes a
+                               tenth of its cycles and more red (`where.py` tells the same in lines)
 
 NETLIST is a file with a netlist, alone or within what `elastic go` or `make demo` printed, or `-`, the standard input. In a
 picture tokens go down, but in loops, which lead back up beside the units. Control tokens go on dashed lines; a point is a fork;
@@ -15,6 +17,7 @@ import sys
 from collections import Counter
 
 import netlist
+import where
 from draw_boxes import boxes_of
 from draw_svg import svg
 from graphs import back_edges, topological
@@ -85,11 +88,15 @@ def main():
     ways = words.add_mutually_exclusive_group()
     ways.add_argument("--svg", dest="show", action="store_const", const=svg, help="a picture, as an SVG")
     ways.add_argument("--dot", dest="show", action="store_const", const=dot, help="the graph for Graphviz")
+    words.add_argument("--where", metavar="INPUTS", help="colour a picture by where the cycles of a run go")
     words.add_argument("netlist", metavar="NETLIST", help="a file, or - for the standard input")
     given = words.parse_args()
+    if given.where and given.show is not svg:
+        sys.exit("draw.py: --where goes with --svg")
     net = netlist.load(given.netlist)
     try:
-        print((given.show or summary)(net), end="")
+        heat = [where.run_of(net, given.where).heat()] if given.where else []
+        print((given.show or summary)(net, *heat), end="")
     except (IndexError, KeyError, ValueError):
         sys.exit(f"{given.netlist}: the net breaks a rule, so it is not drawn; `elastic upgrade` names the rule and the place")
 

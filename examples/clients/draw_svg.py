@@ -12,6 +12,7 @@ text.count { font-size: 9px; font-weight: bold; fill: #ffffff } text.left { text
 .memory { fill: #ffdfc8; stroke: #bc4c00; stroke-width: 2.2 } .read { fill: #fff1e5; stroke: #bc4c00 } .end { fill: #eaeef2 }
 .line { fill: none; stroke: #424a53; stroke-width: 1.3 } .control { stroke: #8250df; stroke-dasharray: 6 3 }
 .fork { fill: #424a53 } .register { fill: #0550ae }"""
+HOT = """.warm { stroke: #e16f24; stroke-width: 2.2 } .hot { stroke: #cf222e; stroke-width: 3.4 }"""
 TIP = ('<defs><marker id="tip" viewBox="0 0 8 8" refX="7" refY="4" markerWidth="7" markerHeight="7" orient="auto">'
        '<path d="M0,0.5 L8,4 L0,7.5 z" fill="#424a53"/></marker></defs>')
 # What stands at the places of units that steer: the condition or the number at `?`, and which input or output is which.
@@ -20,8 +21,8 @@ INPUT_TEXTS = {"mux": lambda place: str(place - 1) if place else "?", "cmerge": 
 OUTPUT_TEXTS = {"branch": ("yes", "no").__getitem__}
 
 
-def svg(net):
-    """The text of the picture."""
+def svg(net, heat=None):
+    """The text of the picture; `heat` has the cycles of the critical path on channels and in units, which are coloured by them."""
     boxes, into, out_of = boxes_of(net)
     ends = [(out_of[channel.source], into[channel.target]) for channel in net.channels]
     late = {at for at, box in enumerate(boxes) if box.style == "value" or box.shape == "sink"}
@@ -36,11 +37,19 @@ def svg(net):
     size = f'width="{width:.0f}" height="{height:.0f}"'
     return "\n".join([
         f'<svg xmlns="http://www.w3.org/2000/svg" {size} viewBox="0 0 {width:.0f} {height:.0f}">',
-        f"<title>{title}</title>", f"<style>{STYLE}</style>", TIP, f'<rect {size} fill="#ffffff"/>',
+        f"<title>{title}</title>", f"<style>{STYLE}{HOT if heat else ''}</style>", TIP, f'<rect {size} fill="#ffffff"/>',
         f'<text class="title" x="{width / 2:.0f}" y="26">{title}</text>',
         *(channel_svg(net, at, [boxes[end] for end in ends[at]], [middles[end] for end in ends[at]],
-                      [(x + shift, row * ROW + TOP) for row, x in paths[at]]) for at in range(len(net.channels))),
-        *(box_svg(net, box, *middle) for box, middle in zip(boxes, middles)), *legend(width, height), "</svg>", ""])
+                      [(x + shift, row * ROW + TOP) for row, x in paths[at]], *warmth(heat, 0, at)) for at in range(len(net.channels))),
+        *(box_svg(net, box, *middle, warmth(heat, 1, box.unit)[0]) for box, middle in zip(boxes, middles)), *legend(width, height), "</svg>", ""])
+
+
+def warmth(heat, which, number):
+    """The class that a channel (0) or a unit (1) is coloured by, and its cycles in words."""
+    if not heat or not heat[which][number]:
+        return "", ""
+    cycles, total = heat[which][number], sum(heat[0].values()) + sum(heat[1].values())
+    return (" hot" if 10 * cycles >= total else " warm"), f", {cycles} of the {total} cycles of the critical path"
 
 
 def width_of(box):
@@ -57,7 +66,7 @@ def place_x(box, x, place, places):
     return x + (places.index(place) - (len(places) - 1) / 2) * pitch
 
 
-def channel_svg(net, number, boxes, middles, points):
+def channel_svg(net, number, boxes, middles, points, warm="", cycles=""):
     """The line of a channel: down from row to row, or, where it leads back up, round below its first box and above its last."""
     channel, (source, target), ((x0, y0), (x1, y1)) = net.channels[number], boxes, middles
     x0, x1 = place_x(source, x0, channel.source[1], source.outs), place_x(target, x1, channel.target[1], target.ins)
@@ -70,10 +79,10 @@ def channel_svg(net, number, boxes, middles, points):
         at = (x, leave)
     path.append(curve(at, (x1, y1), False, back))
     spot = points[len(points) // 2] if points else ((x0 + x1) / 2, (y0 + y1) / 2)
-    kind = " control" if channel.control else ""
+    kind = (" control" if channel.control else "") + warm
     tip = "" if target.shape == "fork" else ' marker-end="url(#tip)"'
     told = (f"chan {channel.source[0]}.{channel.source[1]} {channel.target[0]}.{channel.target[1]}: {channel.width} bits, "
-            f"{channel.slots} slots, delay {channel.delay}")
+            f"{channel.slots} slots, delay {channel.delay}{cycles}")
     text = f'<g><title>{told}</title><path class="line{kind}" d="{" ".join(path)}"{tip}/>'
     if channel.delay:
         wide = 10 + 6 * len(str(channel.delay))
@@ -91,7 +100,7 @@ def curve(start, end, turns_below, turns_above):
     return f"C{x0:.1f},{first if not turns_above else y0 - 34:.1f} {x1:.1f},{last:.1f} {x1:.1f},{y1:.1f}"
 
 
-def box_svg(net, box, x, y):
+def box_svg(net, box, x, y, warm=""):
     """A box with its text, and what stands at its places."""
     unit = net.units[box.unit]
     told = f"<title>unit {box.unit}: {' '.join([unit.kind, *unit.words])}</title>"
@@ -104,10 +113,10 @@ def box_svg(net, box, x, y):
     slant = {"mux": (0, 9), "branch": (9, 0)}.get(box.shape)
     if slant:
         top, low = half - slant[0], half - slant[1]
-        outline = (f'<path class="node {box.style}" d="M{x - top:.1f},{y - high:.1f} L{x + top:.1f},{y - high:.1f} '
+        outline = (f'<path class="node {box.style}{warm}" d="M{x - top:.1f},{y - high:.1f} L{x + top:.1f},{y - high:.1f} '
                    f'L{x + low:.1f},{y + high:.1f} L{x - low:.1f},{y + high:.1f} z"/>')
     else:
-        outline = (f'<rect class="node {box.style}" x="{x - half:.1f}" y="{y - high:.1f}" width="{2 * half:.1f}" '
+        outline = (f'<rect class="node {box.style}{warm}" x="{x - half:.1f}" y="{y - high:.1f}" width="{2 * half:.1f}" '
                    f'height="{HIGH}" rx="{13 if box.shape == "pill" else 3}"/>')
     small = f'<tspan font-size="9" dx="3" fill="#57606a">{escape(box.small)}</tspan>' if box.small else ""
     texts = [(place_x(box, x, place, box.ins) + 9, y - high - 3, INPUT_TEXTS[unit.kind](place))

@@ -5,6 +5,7 @@ that answers counts."""
 import re
 
 from explaining import steps
+from explaining.constants import fitting
 from explaining.source import FIXED, KEYWORDS, QUALIFIERS, TYPE_WORDS, value_of
 from explaining.tables import initial, spelled_constant
 
@@ -115,9 +116,11 @@ def table_or_global(spot):
                 f"write `{number}` where `{name}` stands.")
     if spot.braces:
         return None
+    first = value_of(value, spot.source.defines) if value else 0
     return (f"`{name}` is a variable outside of the kernel: a text is functions alone.",
-            f"declare it in the kernel, or make it a parameter, `{kind} {name}`; what is to last from run to run is an array "
-            f"parameter of one element, `{kind} {name}[1]`.")
+            f"declare it in the kernel, `{kind} {name} = {0 if first is None else first};`, or make it a parameter, `{kind} {name}`; what is to last "
+            f"from run to run is an array parameter of one element, `{kind} {name}[1]`, used as `{name}[0]`, with the input `{name} = "
+            f"{'..' if first is None else first}`.")
 
 
 def table(spot, kind, name, lengths, value):
@@ -129,6 +132,7 @@ def table(spot, kind, name, lengths, value):
                 f"its first elements in the inputs: `{name} = 0 0 ..`.")
     lengths, numbers = initial(lengths, value, spot.source.defines)
     if numbers:
+        numbers = [fitting(number, kind) if kind in FIXED else number for number in numbers]
         shown = " ".join(map(str, numbers[:256])) + " .." * (len(numbers) > 256)
     else:
         shown = "0 0 .."
@@ -166,6 +170,13 @@ def qualifier(spot):
             return f"`{word}` has no place in a helper.", f"leave `{word}` away: a helper begins with `static` alone, and is inlined always."
         return f"`{word}` has no place in a kernel.", f"leave `{word}` away; a helper begins with `static` alone."
     if word == "static" and spot.braces:
+        found = re.match(r"static\s+([\w\s]+?)\s*\b(\w+)\s*(?:=\s*([^;{,]*))?;", spot.bare)
+        if found:
+            kind, name, value = spelled(found.group(1).split()) or found.group(1), found.group(2), found.group(3)
+            first = value_of(value, spot.source.defines) if value else 0
+            return ("`static` makes a variable that lasts from run to run, and a kernel keeps nothing.",
+                    f"make it an array parameter of one element, `{kind} {name}[1]`, used as `{name}[0]`, with the input `{name} = "
+                    f"{'..' if first is None else first}`: its last value is printed with the results.")
         return ("`static` makes a variable that lasts from run to run, and a kernel keeps nothing.",
                 "make it an array parameter of one element: it is read from the inputs, and printed with the results.")
     return (f"`{word}` has no place in a kernel: there are no qualifiers and no storage classes.",
@@ -182,12 +193,32 @@ def helper(spot):
     if spot.text(0) == "[" and spot.in_parameters:
         return f"`{spot.text(-1)}` is an array, and helpers take scalars by value.", "hand over the elements that it needs, `int32_t a, int32_t b`, or write out in the kernel what it does: an array is read and changed there alone."
     if spot.braces and spot.text(0) == "return":
-        return "A helper has one `return`, as its last statement, and this one stands inside another.", "make a variable for the result, assign it here, and return it at the end."
+        return "A helper has one `return`, as its last statement, and this one stands inside another.", early_return(spot)
     if spot.braces and "return" in spot.body() and spot.body()[-1] == ";":
         return "Nothing follows the `return` of a helper.", "write it before the `return`, or take it away."
     if spot.braces == 1 and spot.text(0) == "}":
         return f"The helper `{name}` has no `return` at its end.", "end it with `return ..;`: its value is what a call gives."
     return None
+
+
+def early_return(spot):
+    """What to write for a `return` inside another statement of a helper."""
+    opens = next((number for number in spot.opened if spot.tokens[number].text == "{"), None)
+    closes = spot.source.partner(opens) if opens is not None else 0
+    text = spot.source.between(opens + 1, closes) if opens is not None else ""
+    choices = re.fullmatch(r"((?:if \([^{};]*\) (?:\{ )?return [^;{}]*;(?: \})? (?:else )?)+)(?:\{ )?return ([^;{}]*);(?: \})?", text)
+    if choices and choices.group(1).count("return") <= 4:
+        parts = re.findall(r"if \(([^{};]*)\) (?:\{ )?return ([^;{}]*);", choices.group(1))
+        chain = " else ".join(f"if ({test}) result = {value};" for test, value in parts)
+        return f"write `{kind_of(spot)} result; {chain} else result = {choices.group(2)}; return result;`."
+    return ("make a variable for the result and assign it here; put all that stands behind this into an `else`, so that it is passed over, "
+            "or leave a loop by `break`; and return the variable once, at the end.")
+
+
+def kind_of(spot):
+    """The type of the result of the helper around."""
+    words = [token.text for token in spot.tokens[spot.heads[-1]:] if token.text != "static"]
+    return " ".join(words[:next((at for at, word in enumerate(words) if word == "("), 1) - 1])
 
 
 def type_word(spot):
@@ -292,7 +323,7 @@ def jump(spot):
         say = "" if what != "x" or word != "switch" else ", with `x` for what is switched on"
         return (f"`{word}` is not in the language.",
                 f"write `{choices(spot, what) if word == 'switch' else f'if ({what} == 0) {{ .. }} else if ({what} == 1) {{ .. }} else {{ .. }}'}`"
-                f"{say}; a case without `break` goes on into the next one, whose statements it has too.")
+                f"{say}, each case without its `break`; one that has none goes on into the next, whose statements it has too.")
     if word == ":" and spot.is_name(-1) and spot.text(1) in ("for", "while", "do") and not re.search(
             rf"\bgoto\s+{spot.text(-1)}\b", spot.source.blanked):
         return ("A label is not in the language, nor is a name for a loop.", f"delete `{spot.text(-1)}:`; nothing goes there.")
@@ -422,6 +453,10 @@ def call(spot):
     if name in ("memset", "memcpy"):
         return f"`{name}` is called, and a call is no statement.", "write a loop over the elements."
     after = spot.text(closes + 1 - spot.at) if closes is not None else ""
+    head = re.search(rf"([\w ]*)\b{name}\s*\(([^)]*)\)\s*\{{", spot.source.blanked)
+    if head and ("void" in head.group(1).split() or re.search(r"[\[*]", head.group(2))):
+        return (f"`{whole}` is a call, and a call is no statement.",
+                f"write out here what `{name}` does, with its arguments in place of its parameters: a helper changes no arrays.")
     if after in ASSIGNING | {"++", "--"}:
         return f"What `{whole}` gives is a value, and nothing can be assigned to it.", "assign to a variable or an element."
     return (f"`{whole}` is a call, and a call is no statement: its value would go nowhere.",

@@ -3,7 +3,10 @@ import difflib
 import re
 
 from explaining.habits import BOOL, INLINE, Spot, unexpected
+from explaining import steps
+from explaining.constants import typed_value
 from explaining.source import FIXED, KEYWORDS, NUMBER, value_of
+from explaining.tables import spelled_constant
 
 LIMITS = {f"INT{bits}_MAX": str(2 ** (bits - 1) - 1) for bits in (8, 16, 32, 64)}
 LIMITS.update({f"INT{bits}_MIN": f"(-{2 ** (bits - 1) - 1} - 1)" for bits in (8, 16, 32, 64)})
@@ -82,14 +85,38 @@ def define(source, text, rest):
         return f"`{name}` gets no number.", f"write one, `#define {name} 1`, or leave the line away."
     if value.endswith("\\"):
         return "A `#define` is one line.", "write a number on it."
-    number = value_of(value.rstrip(";"), source.defines)
-    if number is None:
+    known = typed_value(value.rstrip(";"), expressions(source))
+    if known is None:
         return (f"`{value}` is no number, and `#define` gives a name a number.",
                 f"write `{value}` where `{name}` stands, and leave the line away.")
-    if number < 0:
-        return ("The sign is no part of a number.", f"write `#define {name} {-number}` and `-{name}` where it is used.")
+    if not is_grouped(value.rstrip(";")):
+        return (f"`{value}` is an expression, and `#define` gives a name one bare number.",
+                f"write `{value}` where `{name}` stands, without parentheses as C has it, and leave the line away.")
+    number = spelled_constant(*known)
+    if number.startswith("("):
+        return ("The sign is no part of a number.",
+                f"write `{number}` where `{name}` stands, or `#define {name} {number[2:-1]}` and `-{name}` there." if " " not in number
+                else f"write `{number}` where `{name}` stands.")
     what = "ends with a `;`" if value.endswith(";") else "is an expression, and `#define` gives a name one bare number"
     return f"`{value}` {what}.", f"write its value: `#define {name} {number}`."
+
+
+def expressions(source):
+    """What each name of a `#define` without parameters stands for: a number or an expression."""
+    found = re.findall(r"^[ \t]*#[ \t]*define[ \t]+(\w+)[ \t]+([^\n]*?)[ \t\r]*$", source.blanked, re.M)
+    return {**{name: value for name, value in found if typed_value(value, dict(found))}, **source.defines}
+
+
+def is_grouped(value):
+    """Whether an expression is one number, one name, a number with its sign, or stands in one pair of parentheses."""
+    if re.fullmatch(r"\s*-?\s*\w+\s*", value):
+        return True
+    depth = 0
+    for at, char in enumerate(value.strip()):
+        depth += (char == "(") - (char == ")")
+        if not depth:
+            return char == ")" and at == len(value.strip()) - 1
+    return False
 
 
 def bad_number(source, at):
@@ -132,6 +159,9 @@ def end_of_text(source):
             opened.pop()
     if not source.tokens:
         return "The file has no kernel.", "write one: `int32_t f(int32_t a) { return a; }`."
+    if not opened and source.tokens[0].text == "static" and source.tokens[-1].text == "}":
+        return ("The last function begins with `static`, so it is read as a helper, and a kernel is missing.",
+                "leave `static` away before the kernel.")
     if not opened:
         return "The kernel is not whole.", "write a type, a name, parameters in parentheses and a block."
     token = opened[-1]
@@ -261,6 +291,31 @@ def not_scalar(source, at):
             f"name an element, `{name}[i]`; whole arrays are neither assigned nor passed on.")
 
 
+def call_place(source, at):
+    """A call that is evaluated more than once or not always."""
+    name, closes = source.tokens[at].text, source.partner(at + 1)
+    whole = source.between(at, closes + 1)
+    spot = Spot(source, at)
+    why = (f"`{name}` is called where it may be evaluated more than once or not at all: in the condition of a loop, "
+           "on the right of `&&` or `||`, or in the second or third part of `?:`.")
+    place = steps.Walk(source).place(steps.body_of(spot), at) if steps.body_of(spot) is not None else None
+    if place and place.kind in ("while", "test", "do"):
+        left = source.between(place.first, at)
+        right = source.between(closes + 1, place.last)
+        if not re.search(r"&&|\|\||\?", left):
+            text = f"{left}{' ' * bool(left)}{whole}{' ' * bool(right)}{right}"
+            test = f"int go = {steps.tested(text) if left or right else f'{text} != 0'}; if (!go) break;"
+            return why, {
+                "while": f"write `while (1) {{ {test} .. }}`, with the loop's body in place of `..`.",
+                "test": f"leave the condition of the `for` empty, and begin its body with `{test}`.",
+                "do": f"write `int go; do {{ .. go = {test[9:].split(';')[0]}; }} while (go);`, with the loop's body in place of `..`, and "
+                      "what a `continue` of it passes over in an `if`."}[place.kind]
+    if place and place.kind == "if" and re.fullmatch(r"[^?|]*&&\s*", source.between(place.first, at) + " ") and closes + 1 == place.last:
+        return why, f"write `if ({source.between(place.first, at - 1)}) {{ if ({whole}) .. }}`, and what `else` has for both."
+    return why, (f"call it in a statement of its own, `value = {whole};`, within an `if` that asks what stands before: before `&&` or `?`, or "
+                 "the opposite of what stands before `||` or for the third part of `?:`.")
+
+
 def arguments(source, at):
     name = source.tokens[at].text
     found = re.search(rf"\bstatic\s+(?:\w+\s+)+{re.escape(name)}\s*\(([^)]*)\)", source.text)
@@ -297,10 +352,7 @@ def cause(source, number, line, column):
         24: lambda: wrong_dimensions(source, at), 25: lambda: lengths(source, at),
         26: lambda: return_kind(source, line, column),
         27: lambda: (f"`{name}` stands outside of all loops.", "put it into a loop; a kernel is left by `return`."),
-        28: lambda: (f"`{name}` is called where it may be evaluated more than once or not at all: in the condition of a loop, "
-                     "on the right of `&&` or `||`, or in the second or third part of `?:`.",
-                     f"call before, into a variable, `int32_t value = {name}(..);`; for a loop call before it and at its end; "
-                     "for `&&` put the call into an `if`."),
+        28: lambda: call_place(source, at),
         29: lambda: arguments(source, at),
     }
     return ways[number]()

@@ -50,8 +50,8 @@ class Reader(Expressions):
             if self.at == begins:
                 self.note(10)
                 self.at += 1
-        if self.tokens and not any(True for _ in listed):
-            self.note(11)
+        if self.tokens and not seen:
+            self.note(11, len(self.tokens))
 
     def item(self, called):
         """A function, or what else stands outside of functions; whether it is a function that ends a kernel text."""

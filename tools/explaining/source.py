@@ -3,6 +3,10 @@ import re
 from bisect import bisect_right
 from dataclasses import dataclass
 
+from explaining.constants import constant_type, value_of
+
+__all__ = ["FIXED", "KEYWORDS", "QUALIFIERS", "NUMBER", "TYPE_WORDS", "Source", "Token", "constant_type", "readable", "shown", "value_of"]
+
 FIXED = {f"{sign}int{bits}_t" for sign in ("", "u") for bits in (8, 16, 32, 64)}
 KEYWORDS = set("auto break case char const continue default do double else enum extern float for goto if inline int long register "
                "restrict return short signed sizeof static struct switch typedef union unsigned void volatile while "
@@ -133,40 +137,3 @@ def _without_comments(text):
 def _blank(found):
     """Blanks for what was found, line ends being kept."""
     return re.sub(r"[^\n]", " ", found.group())
-
-
-def constant_type(text):
-    """The type of an integer constant as C99 has it; None where it is none, False where no type holds it."""
-    form = re.fullmatch(r"(0[xX][0-9a-fA-F]+|0[0-7]*|[1-9][0-9]*)([uU]?(?:ll|LL|[lL])?|(?:ll|LL|[lL])[uU])", text)
-    if not form:
-        return None
-    digits, suffix = form.group(1), form.group(2).lower()
-    value = int(digits, 8 if re.fullmatch("0[0-7]+", digits) else 0)
-    for bits in (64,) if "l" in suffix else (32, 64):
-        if "u" not in suffix and value < 2 ** (bits - 1):
-            return f"int{bits}_t"
-        if ("u" in suffix or digits.startswith("0")) and value < 2 ** bits:
-            return f"uint{bits}_t"
-    return False
-
-
-def value_of(text, defines):
-    """The value of a constant expression of C over numbers and defined names; None where it is none."""
-    names = re.sub(r"[A-Za-z_]\w*(?![\w.])", lambda it: defines.get(it.group(), it.group()), re.sub(r"\b\d\w*", _plain, text))
-    names = re.sub(r"\b\d\w*", _plain, names)
-    if not re.fullmatch(r"[\d\s+\-*/%<>&|^~()]+", names) or "**" in names or len(names) > 200:
-        return None
-    try:
-        value = eval(names.replace("/", "//"), {"__builtins__": {}})  # digits and operators alone, as was just seen
-    except (SyntaxError, ArithmeticError, ValueError, TypeError, MemoryError):
-        return None
-    return value if isinstance(value, int) and not isinstance(value, bool) and abs(value) < 2 ** 64 else None
-
-
-def _plain(found):
-    """A number of C as a decimal one."""
-    digits = found.group().rstrip("uUlL")
-    try:
-        return str(int(digits, 8 if re.fullmatch("0[0-7]+", digits) else 0))
-    except ValueError:
-        return found.group()

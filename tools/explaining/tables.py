@@ -1,6 +1,7 @@
 """Values of arrays as C initializes them, and constants as `#define` can say them."""
 import re
 
+from explaining.constants import fitting
 from explaining.source import FIXED, constant_type, value_of
 
 CONTROL = {"n": 10, "t": 9, "r": 13, "0": 0, "a": 7, "b": 8, "f": 12, "v": 11, "\\": 92, "'": 39, '"': 34}
@@ -81,19 +82,9 @@ def initial(lengths, value, defines):
     return lengths, numbers
 
 
-def fitting(value, kind):
-    """A number as a type holds it."""
-    found = re.fullmatch(r"(u?)int(\d+)_t", kind or "")
-    if not found:
-        return value
-    bits = int(found.group(2))
-    value &= (1 << bits) - 1
-    return value - (1 << bits) if not found.group(1) and value >> (bits - 1) else value
-
-
 def spelled_constant(value, kind):
     """A number with the suffix that gives it the type that a constant of that type has in an expression."""
-    value = fitting(value, kind)
+    value = fitting(value, kind) if kind in FIXED else value
     kind = "int32_t" if kind in FIXED and int(re.search(r"\d+", kind).group()) < 32 else kind
     suffix = {"uint32_t": "u", "int64_t": "ll", "uint64_t": "ull"}.get(kind, "")
     if value < 0:

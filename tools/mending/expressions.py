@@ -12,7 +12,7 @@ from explaining.tables import CONTROL
 from mending.kinds import Array, Constant, Pointer, Scalar, State, line_of
 from mending.prepare import Refused
 from mending.tree import (BOOL, Assign, Call, Cast, Cond, If, Index, Num, Step, Var, added, binary, bits, constant, converted,
-                          fitting, is_truth, negation, number, truth, unary, usual, walk)
+                          fitting, is_truth, negation, number, promoted, truth, unary, usual, walk)
 
 ABSOLUTE = {"abs": "int32_t", "labs": "int64_t", "llabs": "int64_t"}
 
@@ -303,9 +303,11 @@ class Expressions:
         later, self.later = self.later, []
         left = self.condition_value(node.left)
         own, self.later = self.later, later
+        written, self.written = self.written, set()
         right, before, behind = self.apart(node.right)
+        self.written |= written
         if not (own or before or behind):
-            return binary(node.op, left, right)
+            return joined(node.op, left, right)
         result = self.temporary("go", "int32_t", truth(left))
         self.out += own
         inner = before + [Assign(result, "=", truth(right), self.line)] + behind
@@ -318,8 +320,11 @@ class Expressions:
         later, self.later = self.later, []
         test = self.condition_value(node.cond)
         own, self.later = self.later, later
+        written, self.written = self.written, set()
         yes, yes_before, yes_behind = self.apart(node.iftrue)
+        first, self.written = self.written, set()
         no, no_before, no_behind = self.apart(node.iffalse)
+        self.written |= written | first
         kind = usual(yes.type, no.type)
         if not (yes_before or yes_behind or no_before or no_behind):
             if own:
@@ -350,6 +355,10 @@ class Expressions:
             raise Refused(line_of(node), "an address as a number")
         part = self.value(node.rvalue)
         target = self.target(node.lvalue)
+        read = [it.array for it in walk(target) if isinstance(it, Index) and (it is not target or node.op != "=")]
+        if set(read) & self.written:
+            raise Refused(line_of(node), f"`{read[0]}` is read beside a call that changes it, in an order that C leaves open",
+                          "call in a statement of its own")
         self.out.append(self.assign(target, node.op, part))
 
     def assign(self, target, op, part):
@@ -429,13 +438,13 @@ class Expressions:
             return self.temporary("value", result, part) if self.conditional else part
         return self.inlined(symbol.node, args, node)
 
-    def full(self, node):
-        """The value of a whole expression, whose statements behind are put into `out` at once."""
-        part = self.condition_value(node)
+    def full(self, node, tested=True):
+        """The value of a whole expression, or what a test asks of it; the statements behind it are put into `out` at once."""
+        part = self.condition_value(node) if tested else self.value(node)
         behind, self.later = self.later, []
         changed = {it.target for it in behind}
         if behind and any(it in changed for it in walk(part)):
-            part = self.temporary("go", "int32_t", truth(part))
+            part = self.temporary("go", "int32_t", truth(part)) if tested else self.temporary("which", promoted(part.type), part)
         self.out += behind
         self.judge_order(part)
         return part
@@ -447,6 +456,15 @@ class Expressions:
         if arrays & written:
             raise Refused(self.source_line, f"`{sorted(arrays & written)[0]}` is read beside a call that changes it, in an order that C leaves "
                           "open", "call in a statement of its own")
+
+
+def joined(op, left, right):
+    """`&&` or `||` of two values; a number that decides nothing is left away."""
+    nothing = op == "&&"
+    for one, other in ((left, right), (right, left)):
+        if isinstance(one, Num) and not one.text and bool(one.value) == nothing:
+            return truth(other)
+    return binary(op, left, right)
 
 
 def character(text, line):

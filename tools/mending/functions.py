@@ -9,7 +9,7 @@ from mending.kinds import LIMITS, Array, Constant, Function, Kind, Kinds, Pointe
 from mending.prepare import Refused
 from mending.statements import Statements
 from mending.tree import (BOOL, Assign, Decl, Index, Num, Return, Step, Var, any_of, constant, converted, fitting, lists, number, promoted,
-                          spelled)
+                          spelled, walk)
 
 
 def walked(node, kinds):
@@ -44,11 +44,14 @@ class Program(Statements):
         self.lengths, self.asked = lengths or {}, []
         self.kinds = Kinds(notes, self.constant_value, self.named_number)
         self.functions, self.helpers, self.globals_, self.arrays = {}, {}, {}, {}
-        self.defines, self.added, self.used_numbers = [], [], []
+        self.defines, self.added, self.lasting = [], [], {}
         self.reset()
         self.reserved = set(KEYWORDS) | {f"{sign}int{bits}_t" for sign in ("", "u") for bits in (8, 16, 32, 64)}
         self.collect()
         self.kernel = self.chosen(kernel)
+        self.own = {it.name for it in parameters_of(self.kernel)}
+        self.addressed = {it.expr.name for function in self.functions.values() for it in walked(function.node.body, c_ast.UnaryOp)
+                          if it.op == "&" and isinstance(it.expr, c_ast.ID)}
 
     def reset(self):
         """What belongs to one function."""
@@ -182,7 +185,7 @@ class Program(Statements):
                     raise Refused(line_of(node), f"the values of `{name}` are not known")
                 return self.new_array(name, kind.base, sizes, values, node, what="a table outside of functions")
             value = self.constant_value(node.init) if node.init is not None else 0
-            changed = any(name in changed_names(it.node.body) for it in self.functions.values())
+            changed = name in self.addressed or any(name in changed_names(it.node.body) for it in self.functions.values())
             if value is None:
                 raise Refused(line_of(node), f"the value of `{name}` is not known")
             value = fitting(value, kind.base)
@@ -220,7 +223,7 @@ class Program(Statements):
 
     def new_array(self, name, kind, sizes, values, node, what=None):
         """A parameter more, with its values."""
-        existing = {it.name for it in self.arrays.values()} | self.reserved | self.taken | {name for scope in self.scopes for name in scope}
+        existing = {it.name for it in self.arrays.values()} | self.own | self.reserved | self.taken | {name for scope in self.scopes for name in scope}
         wanted, count = name, 1
         while name in existing:
             count += 1
@@ -450,8 +453,12 @@ class Program(Statements):
         return value
 
     def result_of(self, body, kind):
-        """Puts the statements of a call into `out`; its value."""
-        self.written |= arrays_written(body)
+        """Puts the statements of a call into `out`; its value. Two calls in one expression may not touch what one of them changes."""
+        touched = arrays_written(body)
+        if self.written & (touched | arrays_read(body)):
+            raise Refused(self.source_line, "two calls in one expression change the same, in an order that C leaves open",
+                          "call in statements of their own")
+        self.written |= touched
         if kind == "void":
             self.out += single_return(body, None, self.fresh)
             return number(0)
@@ -470,7 +477,7 @@ class Program(Statements):
             kind = self.kinds.of(it)
             if not kind.sizes:
                 value = self.value(arg)
-                if isinstance(value, Var) and value.type == kind.base and it.name not in moved and not self.may_change(value, node):
+                if isinstance(value, Var) and value.type == kind.base and it.name not in moved and not self.addressed:
                     scope[it.name] = Scalar(value.name, value.type)
                 elif constant(value) is not None and it.name not in moved and fitting(constant(value), kind.base) == constant(value):
                     scope[it.name] = Constant(constant(value), kind.base if kind.base != BOOL else BOOL,
@@ -492,10 +499,6 @@ class Program(Statements):
             self.scopes = before
         return scope
 
-    def may_change(self, value, node):
-        """Whether a variable that is handed over may change while the function runs: its address is handed over too."""
-        return any(isinstance(it, c_ast.UnaryOp) and it.op == "*" for it in walked(node.body, c_ast.UnaryOp))
-
     def bound_pointer(self, node, it, place, moves):
         """A pointer parameter for a call: the array itself, or an index into it."""
         if isinstance(place.target, Array) and not place.before and constant(place.index) == 0 and not moves:
@@ -513,6 +516,19 @@ TEMPORARIES = {"go", "value", "which", "done", "first", "result", "row", "at"}
 def wide(kind):
     """The type that a constant of a type has in expressions."""
     return promoted(kind)
+
+
+def arrays_read(listed):
+    """The arrays that statements read."""
+    found = set()
+    for it in listed:
+        parts = [getattr(it, name, None) for name in ("value", "test", "target")]
+        for part in parts:
+            if part is not None:
+                found |= {inner.array for inner in walk(part) if isinstance(inner, Index)}
+        for inner in [*lists(it), getattr(it, "first", []), getattr(it, "step", [])]:
+            found |= arrays_read(inner)
+    return found
 
 
 def product(sizes):

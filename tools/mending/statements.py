@@ -28,7 +28,7 @@ class Statements(Expressions):
         self.in_loop -= loop
         self.scopes.pop()
         self.out, inner = out, self.out
-        return inner
+        return inner[0].body if len(inner) == 1 and isinstance(inner[0], Block) else inner
 
     def statement(self, node):
         """Puts a statement into `out`."""
@@ -144,12 +144,17 @@ class Statements(Expressions):
 
     def local_array(self, node, kind, is_static):
         """An array of a body: a parameter; where it begins anew at each turn, its values are assigned."""
+        if id(node) in self.lasting:
+            self.scopes[-1][node.name] = self.lasting[id(node)]
+            return
         sizes = self.sizes_of(kind, node)
         const = is_static or "const" in (node.quals or []) or "const" in (qualifiers_inside(node.type))
         once = not self.in_loop and not self.inline_depth
         values = self.numbers_of(node.init, sizes, kind.base) if node.init is not None else None
         symbol = self.new_array(node.name, kind.base, sizes, values if const or once else None, node)
         self.scopes[-1][node.name] = symbol
+        if is_static or const and values is not None:
+            self.lasting[id(node)] = symbol
         if node.init is not None and values is None or node.init is not None and not const and not once:
             self.assign_array(symbol, node)
 
@@ -175,11 +180,14 @@ class Statements(Expressions):
 
     def state(self, node, kind):
         """A variable that outlives a call: an array of one element."""
+        if id(node) in self.lasting:
+            self.scopes[-1][node.name] = self.lasting[id(node)]
+            return
         first = self.constant_value(node.init) if node.init is not None else 0
         if first is None:
             raise Refused(line_of(node), f"the first value of `{node.name}` is not known")
         array = self.new_array(node.name, kind.base, [1], [first], node, what="a variable that outlives a call")
-        self.scopes[-1][node.name] = State(array.name, kind.base)
+        self.scopes[-1][node.name] = self.lasting[id(node)] = State(array.name, kind.base)
 
     # ---- choices and loops
 
@@ -208,9 +216,8 @@ class Statements(Expressions):
 
     def loop_condition(self, node):
         """The condition of a loop, with its statements before and behind."""
-        return_ = self.apart(node)
-        self.written = set()
-        part, before, behind = return_
+        part, before, behind = self.apart(node)
+        self.judge_order(part)
         return before, part, behind
 
     def leaving(self, head, test, behind):
@@ -340,7 +347,7 @@ class Statements(Expressions):
     def switch_(self, node):
         """`switch` as a chain of `if`; a case that goes on into the next has its statements too."""
         line = self.line
-        which = self.full(node.cond)
+        which = self.full(node.cond, tested=False)
         kind = promoted(which.type)
         items = node.stmt.block_items or [] if isinstance(node.stmt, c_ast.Compound) else [node.stmt]
         if any(not isinstance(it, (c_ast.Case, c_ast.Default)) for it in items):
@@ -407,6 +414,8 @@ class Statements(Expressions):
         """What the library does: printing is left away, memory is set and copied by loops."""
         name, args = node.name.name, list(node.args.exprs) if node.args else []
         if name in SILENT:
+            if any(changes(it) for it in args):
+                raise Refused(line_of(node), f"`{name}` of what changes something", "make the change a statement of its own")
             self.note(node, f"`{name}` left away: it prints or checks")
             return
         place = self.pointer(args[0])
@@ -470,6 +479,12 @@ def counted(node, rest):
     for size in rest if flat else []:
         count *= size
     return -(-len(node.exprs) // count)
+
+
+def changes(node):
+    """Whether an expression changes something, or calls."""
+    return (isinstance(node, (c_ast.Assignment, c_ast.FuncCall)) or isinstance(node, c_ast.UnaryOp) and node.op in ("++", "--", "p++", "p--")
+            or any(changes(inner) for _, inner in node.children()))
 
 
 def qualifiers_inside(node):

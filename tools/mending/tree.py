@@ -363,8 +363,20 @@ class Writer:
         at = 0
         while at < len(listed):
             it = listed[at]
-            getattr(self, type(it).__name__.lower())(it, depth)
-            at += 1
+            more = self.alike(listed, at)
+            if more > 1:
+                self.put(depth, f"{spelled(it.type)} {', '.join(other.name for other in listed[at:at + more])};", it.line)
+            else:
+                getattr(self, type(it).__name__.lower())(it, depth)
+            at += more
+
+    def alike(self, listed, at):
+        """How many declarations without values and of one type begin here, which go on one line."""
+        end = at
+        while end < len(listed) and end < at + 8 and isinstance(listed[end], Decl) and listed[end].value is None and (
+                listed[end].type == listed[at].type and listed[end].line == listed[at].line):
+            end += 1
+        return max(1, end - at)
 
     def body(self, said, listed, depth, line=0, tail=""):
         """A head and the statements that belong to it; one simple statement needs no braces."""

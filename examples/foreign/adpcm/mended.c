@@ -3,10 +3,7 @@
 void adpcm_decoder(int8_t indata[8], int16_t outdata[16], int32_t len, int32_t stepsizeTable[89], int32_t index[1], int32_t indexTable[16], int32_t valprev[1]) {
   int32_t inp_at = 0;  // Input buffer pointer
   int32_t outp_at = 0;  // output buffer pointer
-  int32_t sign;
-  int32_t delta;
-  int32_t step;
-  int32_t vpdiff;
+  int32_t sign, delta, step, vpdiff;
   int32_t inputbuffer = 0;
   int32_t bufferstep = 0;
   step = stepsizeTable[index[0]];

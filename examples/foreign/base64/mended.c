@@ -1,7 +1,6 @@
 #include <stdint.h>
 uint64_t b64_encode(uint8_t in[12], uint64_t len, int8_t out[16], int8_t b64chars[65]) {
-  uint64_t i;
-  uint64_t j;
+  uint64_t i, j;
   uint32_t v;
   i = 0;
   for (j = 0; i < len; j += 4) {

@@ -1,7 +1,6 @@
 #include <stdint.h>
 void bubble_sort(int32_t a[8], int32_t n) {
-  int32_t i;
-  int32_t swapped;
+  int32_t i, swapped;
   do {
     swapped = 0;
     for (i = 1; i < n; i++) {

@@ -22,10 +22,8 @@ static int16_t gsm_mult_r(int16_t a, int16_t b) {
   return result;
 }
 int16_t Autocorrelation(int16_t s[40], int32_t L_ACF[9]) {
-  int32_t k;
-  int32_t i;
-  int16_t temp;
-  int16_t smax;
+  int32_t k, i;
+  int16_t temp, smax;
   int16_t scalauto = 0;
   // Search for the maximum.
   smax = 0;

@@ -1,9 +1,6 @@
 #include <stdint.h>
 int32_t levenshtein(int8_t s1[8], int32_t s1len, int8_t s2[8], int32_t s2len, uint32_t column[9]) {
-  uint32_t x;
-  uint32_t y;
-  uint32_t lastdiag;
-  uint32_t olddiag;
+  uint32_t x, y, lastdiag, olddiag;
   for (y = 1; y <= s1len; y++)
     column[y] = y;
   for (x = 1; x <= s2len; x++) {

@@ -1,9 +1,7 @@
 #include <stdint.h>
 // c = a * b, all n by n, row by row
 void matmul(int32_t a[16], int32_t b[16], int32_t c[16], int32_t n) {
-  int32_t i;
-  int32_t j;
-  int32_t k;
+  int32_t i, j, k;
   for (int32_t at = 0; at < (int32_t)(n * n); at++)
     c[at] = 0;
   for (i = 0; i < n; i++)

@@ -1,7 +1,7 @@
 #include <stdint.h>
 void median_filter(int32_t in[12], int32_t out[12], int32_t n) {
   int32_t i;
-  if (n <= 0 || 0 || 0)
+  if (n <= 0)
     return;
   out[0] = in[0];
   for (i = 1; i + 1 < n; i++) {

@@ -3,8 +3,7 @@
 int32_t rle_encode(uint8_t src[24], int32_t len, uint8_t dst[48]) {
   int32_t in = 0;
   int32_t out = 0;
-  uint8_t value;
-  uint8_t run;
+  uint8_t value, run;
   if (len == 0)
     return out;
   do {

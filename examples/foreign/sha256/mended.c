@@ -2,18 +2,8 @@
 // 8-bit byte
 // 32-bit word
 void sha256_transform(uint32_t state[8], uint8_t data[64], uint32_t m[64], uint32_t k[64]) {
-  uint32_t a;
-  uint32_t b;
-  uint32_t c;
-  uint32_t d;
-  uint32_t e;
-  uint32_t f;
-  uint32_t g;
-  uint32_t h;
-  uint32_t i;
-  uint32_t j;
-  uint32_t t1;
-  uint32_t t2;
+  uint32_t a, b, c, d, e, f, g, h;
+  uint32_t i, j, t1, t2;
   i = 0;
   for (j = 0; i < 16; j += 4) {
     m[i] = (uint32_t)data[j] << 24 | data[j + 1] << 16 | data[j + 2] << 8 | data[j + 3];

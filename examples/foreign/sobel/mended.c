@@ -2,9 +2,7 @@
 #define WIDTH 12
 // One row of the gradient's magnitude, from three rows of the image.
 void sobel_row(uint8_t src[3][WIDTH], uint8_t dst[12], int8_t Gx[3][3], int8_t Gy[3][3]) {
-  int32_t x;
-  int32_t i;
-  int32_t j;
+  int32_t x, i, j;
   dst[WIDTH - 1] = 0;
   dst[0] = dst[WIDTH - 1];
   for (x = 1; x < WIDTH - 1; x++) {
