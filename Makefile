@@ -1,49 +1,51 @@
-# try: makes the program before its proofs, in 2 to 4 minutes, where none is there for the sources as they are: .try/elastic.
+# try: makes the program before its proofs, in 2 to 4 minutes, where there is none for the sources as they are: .try/elastic.
 #   The next five targets take the program that make build left for these sources, else that of make try, which they make first.
-#   They say where it is not the proved one, and after a refusal in words why, and what to write instead (tools/explain.py).
-# demo: the main job, on the example of README.md.
+#   They say where it is not the proved one, and after a refusal why, and what to write instead (tools/explain.py).
+# demo: the main job: compiles the histogram of README.md and runs it, without --depth.
 # go: compiles your own kernel to a circuit and runs it on your inputs: make go KERNEL=my.c INPUTS=my.txt
 # compile: the circuit of your own kernel alone: make compile KERNEL=my.c
 # ref: your own kernel and inputs, run as C: make ref KERNEL=my.c INPUTS=my.txt
 # run: a netlist and inputs of your own: make run NETLIST=my.net INPUTS=my.txt
 # install: copies that program, the manual page and the completions below ~/.local; PREFIX=FOLDER is another place.
-# rows: builds each program without its proofs, two at a time, runs it as the gate does and compares what it writes with what is
-#   given: the example and the rows of data. From nothing this takes some fifteen minutes of the processor. It proves nothing.
-# build: proves the program and all below it, and leaves it as crates/elastic/out/elastic. From nothing this takes
-#   most of the gate's time (docs/TIMES.md); what an earlier run proved on this machine is not proved again.
-# examples: builds the program, runs the kernels of examples/ by it, by go and by ref, compares with their results, and tells
+# rows: runs all test cases: builds each program without its proofs, two at a time, runs it as continuous integration does, and
+#   compares its output with the given one. From scratch this takes some fifteen minutes of the processor. It proves nothing.
+# build: proves the program and all below it, and leaves it as crates/elastic/out/elastic. From scratch this takes most of the
+#   time of make test (docs/TIMES.md); what an earlier run proved on this machine is not proved again.
+# examples: builds the program, runs the kernels of examples/ by it, by go and by ref, and compares with their results. It prints
 #   the units, channels, firings and cycles of each, and the cycles by each depth of a table, with which nothing else may change.
-# clients: with the program that make build left, tries what stands beside it: the scripts of examples/clients on every example,
-#   tools/explain.py on a row for each number and on the kernels of examples/refused, tools/mend.py on those and on examples/foreign,
-#   and the manual page and completions; all are compared with what is kept, and mended kernels with gcc where there is one.
-#   PROGRAM=.try/elastic tries the program of make try.
-# test: the gate: every proof, program and the wrong bodies of must-fail/.
-# wrong: tries the wrong bodies that the gate leaves out (crates/*/wrong), of one crate with CRATE=NAME.
+# clients: with the program that make build left, tries the tools beside it: the scripts of examples/clients on every example,
+#   tools/explain.py on an error line of each number and on the kernels of examples/refused, tools/mend.py on those and on
+#   examples/foreign, the manual page and completions. All are compared with what is kept, and mended kernels with gcc where there
+#   is one. PROGRAM=.try/elastic tries the program of make try.
+# test: continuous integration, rt ci: every proof, every program and the mutants of must-fail/.
+# wrong: tries the mutants that continuous integration leaves out (crates/*/wrong), of one crate with CRATE=NAME.
 # crews: with the program that make build left, runs 150 drawn nets and those of examples/ by cycles, by 1, 2, 3, 7 and 64
 #   workers and by a schedule of three workers, and compares. SEED=N draws others; PROGRAM=other tries another program.
-# documents: checks README.md and docs/: names that stand nowhere, long sentences, cells of tables that hold too much, and numbers
+# documents: checks README.md and docs/: names that exist nowhere, long sentences, cells of tables that hold too much, and numbers
 #   that tools/map.py counts (tools/map.py counted --write puts these right).
 # help: these lines.
-# memory: lists the places that answer want of memory where no allocation has failed, and compares them with docs/TESTED.md.
+# memory: lists the places that report out of memory where no allocation has failed, and compares them with docs/TESTED.md.
 # bench: times parts of the compiler and of runs, by the program benches, which tools/benches.py makes before its proofs in 2 to 4
-#   minutes, and compares with what is kept; PROVED=1 proves it, and the program, first. It is no part of the gate. It times
-#   compiling kernels of 1,024 nodes, and how many firings and cycles four kernels take;
-#   reading texts of 65,536 bytes, a million acts on queues of depths 16, 128 and 1,024, buffer placement on nets of up to
-#   a million channels, reading and printing inputs of 2^20 elements, live variables and block arguments of 32,768 blocks
-#   and 1,000 variables, circuits of block graphs of sizes up to a million, the plain interpreter on a loop of 120 million
-#   turns, beside the same kernel by `cc -O0`, and the plain runner on a histogram's net of 103 units, alone and among idle
-#   loops, beside plain sweeps over the units, and runs by cycles on a countdown of 13 units and on the histogram's
-#   net, alone and among up to a million idle units, and on forks of up to 65,536 outputs, beside the plain runner; and runs
-#   by one, two, four and 64 workers beside runs by cycles, with the most memory of each.
-#   It tells what a firing by cycles takes on five nets, in instructions where valgrind is there, and in nanoseconds. At last it
-#   counts instructions of some calls and compares them with docs/TIMES.md, where valgrind is there.
-#   With BEFORE=PROGRAM another build of benches is timed beside this one. BENCH_ACTS, BENCH_SIZE and the like give other sizes.
+#   minutes, and compares with what is kept; PROVED=1 proves it, and the program, first. Continuous integration leaves it out.
+#   It times:
+#   - compiling kernels of 1,024 nodes, with the firings and cycles of four kernels;
+#   - reading texts of 65,536 bytes; a million acts on queues of depths 16, 128 and 1,024; buffer placement on nets of up to a
+#     million channels; reading and printing inputs of 2^20 elements; live variables and block arguments of 32,768 blocks and
+#     1,000 variables; circuits of block graphs of sizes up to a million;
+#   - the plain interpreter on a loop of 120 million turns, beside the same kernel by `cc -O0`;
+#   - the plain runner on a histogram's net of 103 units, alone and among idle loops, beside plain sweeps over the units;
+#   - runs by cycles, beside the plain runner: a countdown of 13 units, the histogram's net, alone and among up to a million idle
+#     units, and forks of up to 65,536 outputs;
+#   - runs by one, two, four and 64 workers beside runs by cycles, with the most memory of each;
+#   - a firing by cycles on five nets, in instructions where valgrind is there, and in nanoseconds.
+#   At last it counts instructions of some calls and compares them with docs/TIMES.md, where valgrind is there.
+#   BEFORE=PROGRAM times another build of benches beside this one. BENCH_ACTS, BENCH_SIZE and the like give other sizes.
 # instructions: that count alone, of the same programs.
 # stack: reads long and deep kernel texts, and compiles and runs long chains of operators, with a stack of 1 MiB, and helpers
 #   that nest deepest with one of 4 MiB.
-# saves: saves a run of a million firings at each tenth and goes on from it by the proved program, and times large states.
+# saves: saves a run of a million firings at each tenth and resumes it by the proved program, and times large states.
 # load: runs the proved program on files at each limit and past it, on nets of a million units and on 2^20 elements.
-# fail-alloc: makes each allocation of some calls fail in turn (tools/failing/calls.tsv), and tells how many there are.
+# fail-alloc: makes each allocation of some calls fail in turn (tools/failing/calls.tsv), and prints how many there are.
 
 .PHONY: try demo go compile ref run install rows build examples clients test wrong crews documents help memory bench instructions stack saves load fail-alloc
 

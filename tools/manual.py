@@ -18,30 +18,31 @@ Command = namedtuple("Command", "word files options text")
 
 FIRINGS = 400_000_000
 DELAY = Option("--delay", "LIST", None, None,
-               "cycles that a result takes, by the class of its unit, as `mul=7,lsq=3`: `logic` (0 where "
-               "nothing is said), `mul` (4), `div` (36), `read` (2) and `lsq` (1); each from 0, `lsq` from 1, to 1,000")
-SLOTS = Option("--slots", "N", 1, 1024, "how many tokens a channel holds; 2 where nothing is said")
+               "cycles that a result takes, by the class of its unit, as `mul=7,lsq=3`: `logic` (by default "
+               "0), `mul` (4), `div` (36), `read` (2) and `lsq` (1); each from 0, `lsq` from 1, to 1,000")
+SLOTS = Option("--slots", "N", 1, 1024, "how many tokens a channel holds; by default 2")
 DEPTH = Option("--depth", "N", 1, 1000,
-               "how many units that work or choose may stand in a row without a delay; with it a loop has a delay once, "
-               "and not on each of its channels, and what lies on no loop has one only where a row would be longer")
-FORWARD = Option("--forward", None, None, None, "marks each queue: a load may take the data of a waiting store to the same element")
+               "how many units that work or choose may be in a row without a delay; with it a loop has a delay where it goes back, "
+               "not on each of its channels, and any other channel gets one only where a row would be longer; the default is a delay on "
+               "each channel of a loop")
+FORWARD = Option("--forward", None, None, None, "a load may take the data of a waiting store to the same element; by default it waits for the store")
 WRAP = Option("--wrap", None, None, None,
               "a signed result of `+`, `-`, `*` and `<<` that is out of range wraps, and is not undefined; the "
               "circuit is the same with it and without")
-WORKERS = Option("--workers", "W", 1, 64, "runs the circuit by so many workers, each in a thread of its own; what is printed is the same, but for the "
+WORKERS = Option("--workers", "W", 1, 64, "runs the circuit by so many workers, each in a thread of its own; the output is the same, but for the "
                  "schedule of --log; not with --cycles")
 LIMIT = Option("--limit", "F", 1, FIRINGS,
-               "the most firings; 8,000,000 where nothing is said, and with --log or --workers at most 16,000,000")
-COUNT = Option("--count", None, None, None, "prints `# firings F`, of `ref` `# turns T`, behind the results")
-CYCLES = Option("--cycles", None, None, None, "prints `# cycles C` behind the results")
+               "the most firings; by default 8,000,000, and with --log or --workers at most 16,000,000")
+COUNT = Option("--count", None, None, None, "prints `# firings F`, of `ref` `# turns T`, after the results")
+CYCLES = Option("--cycles", None, None, None, "prints `# cycles C` after the results")
 LOG = Option("--log", None, None, None, "prints the line `%%` and the firings, one a line, which `replay` reads")
-AT = Option("--at", "K", 0, FIRINGS, "after how many firings the state is saved; 0 where nothing is said")
-TURNS = Option("--turns", "T", 1, FIRINGS, "the most turns; 8,000,000 where nothing is said")
-OPTIONS = (DELAY, SLOTS, DEPTH, FORWARD, WRAP, WORKERS, LIMIT, COUNT, CYCLES, LOG, TURNS, AT)
+AT = Option("--at", "K", 0, FIRINGS, "after how many firings the state is saved; by default 0")
+TURNS = Option("--turns", "T", 1, FIRINGS, "the most turns; by default 8,000,000")
+OPTIONS = (DEPTH, DELAY, SLOTS, FORWARD, WRAP, WORKERS, LIMIT, COUNT, CYCLES, LOG, TURNS, AT)
 
 COMMANDS = (
-    Command("compile", ("KERNEL",), (DELAY, SLOTS, DEPTH, FORWARD, WRAP), "prints the circuit of a kernel, as a netlist"),
-    Command("go", ("KERNEL", "INPUTS"), (DELAY, SLOTS, DEPTH, FORWARD, WRAP, WORKERS, LIMIT, COUNT, CYCLES),
+    Command("compile", ("KERNEL",), (DEPTH, DELAY, SLOTS, FORWARD, WRAP), "prints the circuit of a kernel, as a netlist"),
+    Command("go", ("KERNEL", "INPUTS"), (DEPTH, DELAY, SLOTS, FORWARD, WRAP, WORKERS, LIMIT, COUNT, CYCLES),
             "prints the circuit of a kernel, the line `%%`, and what the circuit gives on the inputs"),
     Command("ref", ("KERNEL", "INPUTS"), (WRAP, TURNS, COUNT), "runs a kernel as C, without a circuit, and prints the results"),
     Command("run", ("NETLIST", "INPUTS"), (WORKERS, LIMIT, COUNT, CYCLES, LOG), "runs a netlist by cycles or by workers, and prints the results"),
@@ -54,11 +55,11 @@ COMMANDS = (
             "its firings, its cycles and a sum"),
 )
 STATUSES = (
-    (0, "the whole text stands on the output"), (1, "the words are no command"), (2, "a file cannot be read"),
+    (0, "the whole text is on the output"), (1, "the words are no command"), (2, "a file cannot be read"),
     (3, "the output did not take all bytes"), (4, "the kernel is refused: `FILE:LINE:COLUMN: NUMBER WORD`"),
     (5, "the netlist is refused"),
     (6, "the inputs are refused"), (7, "the schedule is refused"), (8, "the run has more firings than the limit"),
-    (9, "the run ended and the exit had not fired"), (10, "an address lay past its array"), (11, "memory ran out"),
+    (9, "the run ended and the exit had not fired"), (10, "an address lay past its array"), (11, "out of memory"),
     (12, "a file is too long"), (13, "an operation of the kernel is undefined on these inputs"),
     (14, "the kernel was not over within the turns"), (15, "the snapshot is refused"),
 )
@@ -105,15 +106,15 @@ def manual():
         reach = f" From {option.least:,} to {option.most:,}." if option.least is not None else ""
         lines += [".TP", f"\\fB{roff(option.word)}\\fR{value}", f"{roff(option.text)}.{reach} Of {owners}."]
     lines += ["",
-              "Options and files come in any order behind the command, each option at most once. A value is the next word, or "
-              "stands",
-              "behind", ".BR = .", "Behind a word", ".B \\-\\-", "all words are files.", ".SH EXIT STATUS"]
+              "Options and files come in any order after the command, each option at most once. A value is the next word, or "
+              "comes",
+              "after", ".BR = .", "After a word", ".B \\-\\-", "all words are files.", ".SH EXIT STATUS"]
     for number, text in STATUSES:
         lines += [".TP", f".B {number}", roff(text) + "."]
-    lines += [".PP", "At every status but 0 one line stands on the error output; at every status but 0 and 3 nothing is written to the output.",
+    lines += [".PP", "At every status but 0 one line is written to the error output; at every status but 0 and 3 nothing is written to the output.",
               ".SH EXAMPLES", ".nf",
-              "elastic go examples/hist/kernel.c examples/hist/inputs.txt \\-\\-count \\-\\-cycles",
-              "elastic compile my.c > my.net && elastic run my.net my.txt",
+              "elastic go examples/hist/kernel.c examples/hist/inputs.txt \\-\\-depth 16 \\-\\-count \\-\\-cycles",
+              "elastic compile my.c \\-\\-depth 16 > my.net && elastic run my.net my.txt",
               "elastic go my.c my.txt 2> error.txt || tools/explain.py < error.txt", ".fi", ".SH SEE ALSO",
               "docs/GUIDE.md, docs/FORMATS.md; tools/explain.py says what an error line means."]
     return "\n".join(lines + [""])

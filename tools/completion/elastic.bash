@@ -7,12 +7,12 @@ _elastic() {
     return
   fi
   case $before in
-    --slots|--depth|--workers|--limit|--turns|--at) return ;;
+    --depth|--slots|--workers|--limit|--turns|--at) return ;;
     --delay) compopt -o nospace 2> /dev/null; COMPREPLY=($(compgen -W "logic= mul= div= read= lsq=" -- "$current")); return ;;
   esac
   case ${COMP_WORDS[1]} in
-    compile) options="--delay --slots --depth --forward --wrap" ;;
-    go) options="--delay --slots --depth --forward --wrap --workers --limit --count --cycles" ;;
+    compile) options="--depth --delay --slots --forward --wrap" ;;
+    go) options="--depth --delay --slots --forward --wrap --workers --limit --count --cycles" ;;
     ref) options="--wrap --turns --count" ;;
     run) options="--workers --limit --count --cycles --log" ;;
     replay) options="" ;;
