@@ -1,7 +1,7 @@
 # try: makes the program before its proofs, in 2 to 4 minutes, where there is none for the sources as they are: .try/elastic.
 #   The next five targets take the program that make build left for these sources, else that of make try, which they make first.
 #   They say where it is not the proved one, and after a refusal why, and what to write instead (tools/explain.py).
-# demo: the main job: compiles the histogram of README.md and runs it, without --depth.
+# demo: the main job: compiles the histogram of README.md and runs it.
 # go: compiles your own kernel to a circuit and runs it on your inputs: make go KERNEL=my.c INPUTS=my.txt
 # compile: the circuit of your own kernel alone: make compile KERNEL=my.c
 # ref: your own kernel and inputs, run as C: make ref KERNEL=my.c INPUTS=my.txt
@@ -84,8 +84,8 @@ try:
 	@python3 tools/program.py try
 
 demo:
-	@echo 'elastic go examples/hist/kernel.c examples/hist/inputs.txt --count --cycles prints:' >&2
-	@$(RUN) go examples/hist/kernel.c examples/hist/inputs.txt -- --count --cycles
+	@echo 'elastic go examples/hist/kernel.c examples/hist/inputs.txt --depth 16 --count --cycles prints:' >&2
+	@$(RUN) go examples/hist/kernel.c examples/hist/inputs.txt -- --depth 16 --count --cycles
 
 go:
 	@$(call NAMED,INPUTS,"$(INPUTS)")
