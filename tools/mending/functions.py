@@ -83,7 +83,10 @@ class Program(Statements):
 
     def macro(self, value, line):
         """The constant that a `#define` names, as a number where it is an expression."""
-        parsed = c_parser.CParser().parse(f"int x = {value};").ext[0].init
+        try:
+            parsed = c_parser.CParser().parse(f"int x = {value};").ext[0].init
+        except Exception as wrong:  # pycparser's class of errors moved between versions
+            raise Refused(line, f"`{value}` is no expression") from wrong
         part = self.value(parsed)
         number_, = [constant(part)]
         return Constant(number_, part.type, value), line
