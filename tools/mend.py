@@ -48,9 +48,9 @@ def parsed(prepared, path):
     name = pathlib.Path(path).name
     try:
         return c_parser.CParser().parse(f'# 1 "prelude"\n{PRELUDE}# 1 "{name}"\n{prepared.text}', "prelude")
-    except Exception as wrong:  # pycparser has one class of errors, which moved between its versions
+    except Exception as wrong:  # pycparser's class of errors moved between versions, and some texts break it otherwise
         if type(wrong).__name__ != "ParseError":
-            raise
+            raise Refused(0, "this is no C that pycparser reads", "see what `cc -fsyntax-only` says") from wrong
         parts = str(wrong).split(":", 3)
         line = int(parts[1]) if len(parts) > 2 and parts[1].strip().isdigit() else 0
         raise Refused(line, f"this is no C that pycparser reads: {parts[-1].strip()}", "see what `cc -fsyntax-only` says") from wrong

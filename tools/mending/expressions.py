@@ -178,7 +178,7 @@ class Expressions:
         if not isinstance(node.expr, c_ast.ID):
             raise Refused(line_of(node), "a step of an address that is no variable")
         symbol = self.lookup(node.expr)
-        if not isinstance(symbol.index, Var):
+        if not isinstance(symbol, Pointer) or not isinstance(symbol.index, Var):
             raise Refused(line_of(node), f"`{node.expr.name}` moves, and was not expected to")
         step = Step(symbol.index, node.op[-2:], self.line)
         if node.op.startswith("p"):

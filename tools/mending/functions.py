@@ -22,6 +22,8 @@ def walked(node, kinds):
 
 def parameters_of(function):
     """The declarations of a function's parameters."""
+    if not isinstance(function.decl.type, c_ast.FuncDecl):
+        raise Refused(line_of(function), f"`{function.decl.name}` is no plain function")
     args = function.decl.type.args
     return [it for it in (args.params if args else []) if isinstance(it, c_ast.Decl)]
 
@@ -81,7 +83,10 @@ class Program(Statements):
 
     def macro(self, value, line):
         """The constant that a `#define` names, as a number where it is an expression."""
-        parsed = c_parser.CParser().parse(f"int x = {value};").ext[0].init
+        try:
+            parsed = c_parser.CParser().parse(f"int x = {value};").ext[0].init
+        except Exception as wrong:  # pycparser's class of errors moved between versions
+            raise Refused(line, f"`{value}` is no expression") from wrong
         part = self.value(parsed)
         number_, = [constant(part)]
         return Constant(number_, part.type, value), line
@@ -462,7 +467,7 @@ class Program(Statements):
         if kind == "void":
             self.out += single_return(body, None, self.fresh)
             return number(0)
-        if isinstance(body[-1], Return) and not any_of(body[:-1], lambda it: isinstance(it, Return)):
+        if body and isinstance(body[-1], Return) and not any_of(body[:-1], lambda it: isinstance(it, Return)):
             self.out += body[:-1]
             return self.temporary("value", kind, body[-1].value)
         value = self.temporary("value", kind)

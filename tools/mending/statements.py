@@ -307,6 +307,8 @@ class Statements(Expressions):
     def return_(self, node):
         line = self.line
         value = None
+        if node.expr is None and self.result != "void":
+            raise Refused(line_of(node), "a `return` without a value in a function with a result", "return a value")
         if node.expr is not None:
             if self.result == "void":
                 self.expression_statement(node.expr)
