@@ -5,13 +5,15 @@ the right.
 
     layout = draw_layout.placed(graph)
 
-has for each node its row and its column (the middle), for each edge the (row, column) points between its two nodes, for each row its
-group, and for each group the left and the right end of what is in it."""
+has for each node its row and its column (the middle), for each edge the points between its two nodes, each with its row, its column and
+its side (0 in the row's group, -1 left, 1 right of it), for each row its group, and for each group the left and the right end of what
+is in it."""
 from collections import namedtuple
 
 from graphs import topological
 
 SWEEPS, GAP, LANE, PAD = 24, 20, 10, 14
+BETWEEN_LANES = 20
 
 # `widths` has a width for each node, `edges` pairs of nodes, `groups` the group of each node, and `least` the least width of each group;
 # `back` the numbers of edges that are known to lead back up, `late` the nodes that are put as low as they can be, and `last` those of a
@@ -56,7 +58,7 @@ def placed(graph):
     nodes = Nodes(graph, rows_of(graph))
     nodes.link(graph.edges)
     columns, ends = columns_of(ordered(nodes), nodes)
-    paths = [[(nodes.rows[node], columns[node]) for node in chain] for chain in nodes.chains]
+    paths = [[(nodes.rows[node], columns[node], nodes.sides[node]) for node in chain] for chain in nodes.chains]
     return Layout(nodes.rows[:nodes.real], columns[:nodes.real], paths, nodes.group_of_row, ends)
 
 
@@ -212,8 +214,8 @@ def _lanes(nodes, ends, columns):
     for side, run in sorted(runs, key=lambda it: len(it[1])):
         rows = {nodes.rows[node] for node in run}
         limits = [ends[nodes.group_of_row[row]][side > 0] for row in rows]
-        limits += [column + side * LANE / 2 for other, taken, column in used if other == side and taken & rows]
-        column = (min if side < 0 else max)(limits) + side * (LANE / 2 + 6)
+        limits += [column for other, taken, column in used if other == side and taken & rows]
+        column = (min if side < 0 else max)(limits) + side * BETWEEN_LANES
         used.append((side, rows, column))
         for node in run:
             columns[node] = column

@@ -7,7 +7,8 @@ STYLE = f"""text {{ font-family: "DejaVu Sans", Verdana, sans-serif; font-size: 
 text.small {{ font-size: 9px; fill: #57606a }} text.unit {{ font-size: 9px; fill: #57606a }} text.title {{ font-size: 14px; font-weight: bold }}
 text.number {{ font-size: 8px; fill: #57606a; text-anchor: start }} text.name {{ font-size: 11px; font-style: italic; fill: #0a3069 }}
 text.count {{ font-size: 9px; font-weight: bold; fill: #ffffff }} text.left {{ text-anchor: start }}
-text.block {{ font-size: 10px; font-weight: bold; fill: #57606a; text-anchor: start; paint-order: stroke; stroke: #f6f8fa; stroke-width: 4px }}
+text.block {{ font-size: 10px; font-weight: bold; fill: #57606a; text-anchor: start }}
+text.block, text.mark {{ paint-order: stroke; stroke: #f6f8fa; stroke-width: 3px }}
 .node {{ stroke: #57606a; stroke-width: 1.2 }} {KINDS}
 .memory {{ stroke: #bc4c00; stroke-width: 2.2 }} .read {{ stroke: #bc4c00 }}
 .line {{ fill: none; stroke: #424a53; stroke-width: 1.3 }} .control {{ stroke: #8250df; stroke-dasharray: 6 3 }}
@@ -34,7 +35,7 @@ LEGEND = [
 
 def text_width(text, size):
     """About how wide a text is."""
-    return size * sum(0.96 if it in "mwMW→" else 0.36 if it in "ijlIt.,:;|()[] " else 0.63 for it in text)
+    return size * sum(0.96 if it in "mwMW" else 0.84 if it in "→<>=+−×÷≠≤" else 0.38 if it in "ijlIrtf.,:;|()[] " else 0.62 for it in text)
 
 
 def channel_line(told, kind, path, has_tip, spot, delay):

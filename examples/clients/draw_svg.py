@@ -4,9 +4,10 @@ from html import escape
 import draw_layout
 from draw_blocks import Blocks
 from draw_boxes import boxes_of, loop_channels
+from draw_lines import FRAME, HIGH, levels, on_curve, path_of, segments_of
 from draw_style import FRAME_TITLE, HOT, STYLE, TIP, channel_line, legend, text_width
 
-ROW, HIGH, MARGIN, TOP, BETWEEN = 62, 26, 28, 132, 50
+ROW, MARGIN, TOP, BETWEEN = 62, 28, 132, 54
 # What stands at places: at units that steer the condition or the number at `?`, and which input or output is which; at a queue the number.
 INPUT_TEXTS = {"mux": lambda place: str(place - 1) if place else "?", "cmerge": str, "select": ("?", "yes", "no").__getitem__,
                "branch": "? ".__getitem__, "lsq": str}
@@ -29,7 +30,10 @@ class Picture:
         least = [text_width(title, 10) + 12 for title in self.titles]
         layout = draw_layout.placed(draw_layout.Graph([width_of(box) for box in self.boxes], self.ends, self.groups, least, loops, late, last))
         self.layout = layout
-        sides = list(layout.ends.values()) + [(x, x) for path in layout.paths for _, x in path]
+        segments = [it for at, path in enumerate(layout.paths)
+                    for it in segments_of(at, path, [layout.rows[end] for end in self.ends[at]])]
+        self.heights = levels(segments, self.y)
+        sides = list(layout.ends.values()) + [(x, x) for path in layout.paths for _, x, _ in path]
         left, right = min(low for low, _ in sides), max(high for _, high in sides)
         self.width = max(right - left + 2 * MARGIN, 760)
         self.shift = (self.width - left - right) / 2
@@ -45,7 +49,7 @@ class Picture:
 
     def points(self, channel):
         """The points that a channel passes between its boxes."""
-        return [(x + self.shift, self.y(row)) for row, x in self.layout.paths[channel]]
+        return [(x + self.shift, self.y(row)) for row, x, _ in self.layout.paths[channel]]
 
     def frames(self):
         """The frames of the blocks, and their titles, which are put over the lines."""
@@ -53,7 +57,7 @@ class Picture:
         for group, title in enumerate(self.titles):
             rows = [row for row, of in enumerate(self.layout.group_of_row) if of == group]
             left, right = (x + self.shift for x in self.layout.ends[group])
-            top, low = self.y(rows[0]) - HIGH / 2 - 34, self.y(rows[-1]) + HIGH / 2 + 20
+            top, low = self.y(rows[0]) - HIGH / 2 - 34, self.y(rows[-1]) + HIGH / 2 + FRAME
             if title:
                 frames.append(f'<rect class="frame" x="{left:.1f}" y="{top:.1f}" width="{right - left:.1f}" height="{low - top:.1f}" rx="6"/>')
                 titles.append(FRAME_TITLE.format(x=left + 8, y=top + 13, title=escape(title)))
@@ -90,8 +94,7 @@ def svg(net, heat=None, names=None):
     title = f"kernel {net.name}: {len(net.units)} units, {len(net.channels)} channels"
     frames, titles = picture.frames()
     middles = [picture.middle(at) for at in range(len(picture.boxes))]
-    lines = [channel_svg(net, at, [picture.boxes[end] for end in ends], [middles[end] for end in ends], picture.points(at),
-                         *warmth(heat, 0, at)) for at, ends in enumerate(picture.ends)]
+    lines = [channel_svg(picture, at, *warmth(heat, 0, at)) for at in range(len(net.channels))]
     boxes = [box_svg(net, box, *middle, warmth(heat, 1, box.unit)[0]) for box, middle in zip(picture.boxes, middles)]
     return "\n".join([
         f'<svg xmlns="http://www.w3.org/2000/svg" width="{width}" height="{height}" viewBox="0 0 {width} {height}" '
@@ -134,31 +137,19 @@ def place_x(box, x, place, places):
     return x + (places.index(place) - (len(places) - 1) / 2) * pitch_of(box)
 
 
-def channel_svg(net, number, boxes, middles, points, warm="", cycles=""):
-    """The line of a channel: down from row to row, or, where it leads back up, round below its first box and above its last."""
-    channel, (source, target), ((x0, y0), (x1, y1)) = net.channels[number], boxes, middles
-    x0, x1 = place_x(source, x0, channel.source[1], source.outs), place_x(target, x1, channel.target[1], target.ins)
-    back = y1 <= y0
-    y0, y1 = y0 + (0 if source.shape == "fork" else HIGH / 2), y1 - (4 if target.shape in ("fork", "sink") else HIGH / 2)
-    path, at = [f"M{x0:.1f},{y0:.1f}"], (x0, y0)
-    for x, y in points:
-        enter, leave = (y + HIGH / 2, y - HIGH / 2) if back else (y - HIGH / 2, y + HIGH / 2)
-        path += [curve(at, (x, enter), back and at == (x0, y0), False), f"L{x:.1f},{leave:.1f}"]
-        at = (x, leave)
-    path.append(curve(at, (x1, y1), False, back))
-    spot = points[len(points) // 2] if points else ((x0 + x1) / 2, (y0 + y1) / 2)
+def channel_svg(picture, number, warm="", cycles=""):
+    """The line of a channel: down from row to row, or, where it leads back up, round below its first box and above its last. A register
+    is in the middle, or nearer to the end where a fork has the other ends beside it."""
+    channel, ends = picture.net.channels[number], picture.ends[number]
+    (source, target), ((x0, y0), (x1, y1)) = (picture.boxes[end] for end in ends), (picture.middle(end) for end in ends)
+    start = place_x(source, x0, channel.source[1], source.outs), y0 + (0 if source.shape == "fork" else HIGH / 2)
+    end = place_x(target, x1, channel.target[1], target.ins), y1 - (4 if target.shape in ("fork", "sink") else HIGH / 2)
+    points = picture.points(number)
+    path = path_of(number, start, end, points, picture.heights)
+    spot = points[len(points) // 2] if points else on_curve(start, end, 0.62 if source.shape == "fork" else 0.5)
     told = (f"chan {channel.source[0]}.{channel.source[1]} {channel.target[0]}.{channel.target[1]}: {channel.width} bits, "
             f"{channel.slots} slots, delay {channel.delay}{cycles}")
-    return channel_line(told, (" control" if channel.control else "") + warm, " ".join(path), target.shape != "fork", spot, channel.delay)
-
-
-def curve(start, end, turns_below, turns_above):
-    """A curve from a point to another that leaves and comes in vertically."""
-    (x0, y0), (x1, y1) = start, end
-    bend = (y1 - y0) / 2
-    first = y0 + (34 if turns_below else bend)
-    last = y1 + (34 if turns_below else -34 if turns_above else -bend)
-    return f"C{x0:.1f},{first if not turns_above else y0 - 34:.1f} {x1:.1f},{last:.1f} {x1:.1f},{y1:.1f}"
+    return channel_line(told, (" control" if channel.control else "") + warm, path, target.shape != "fork", spot, channel.delay)
 
 
 def box_svg(net, box, x, y, warm=""):
@@ -206,4 +197,4 @@ def marks(unit, box, x, y, high):
              for place in box.ins if unit.kind in INPUT_TEXTS]
     texts += [(place_x(box, x, place, box.outs) + 10, y + high + 10, OUTPUT_TEXTS[unit.kind](place))
               for place in box.outs if unit.kind in OUTPUT_TEXTS]
-    return "".join(f'<text class="small" x="{at:.1f}" y="{up:.1f}">{text}</text>' for at, up, text in texts if text.strip())
+    return "".join(f'<text class="small mark" x="{at:.1f}" y="{up:.1f}">{text}</text>' for at, up, text in texts if text.strip())

@@ -1,0 +1,75 @@
+"""The lines of a picture's channels. Between two rows a line is a curve. Where it goes into a lane beside the blocks, or comes out of one,
+it runs level, and each of those that do so between the same rows has a height of its own."""
+
+FRAME, LEVELS, HIGH = 20, 24, 26
+
+
+def levels(segments, y_of):
+    """The height of each level part. `segments` has for each its key, the kind, the row below which (or, of kind `above`, above which) it
+    runs, and the column of its lane: `below` and `above` where a loop's line leaves its first box and comes to its last, `in` and `out`
+    where another comes out of a lane and goes into one. Those that lie further out run so that they cross no lane that lies further in."""
+    places = {}
+    for key, kind, row, lane in segments:
+        places.setdefault(("gap", row) if kind in ("in", "out") else (kind, row), []).append((kind, lane if kind == "in" else -lane, key))
+    found = {}
+    for (kind, row), here in places.items():
+        step = min(5, LEVELS / max(len(here) - 1, 1))
+        for rank, (_, _, key) in enumerate(sorted(here, key=lambda it: ({"in": 0}.get(it[0], 1), it[1]))):
+            found[key] = {"gap": y_of(row) + HIGH / 2 + FRAME + 4 + step * rank, "below": y_of(row) + HIGH / 2 + 8 + step * rank,
+                          "above": y_of(row) - HIGH / 2 - 10 - step * rank}[kind]
+    return found
+
+
+def curve(start, end):
+    """A curve from a point to another below it that leaves and comes in vertically."""
+    (x0, y0), (x1, y1) = start, end
+    middle = (y0 + y1) / 2
+    return f"C{x0:.1f},{middle:.1f} {x1:.1f},{middle:.1f} {x1:.1f},{y1:.1f}"
+
+
+def on_curve(start, end, part):
+    """The point of such a curve at a part of its way."""
+    (x0, y0), (x1, y1) = start, end
+    near = (1 - part) ** 3 + 3 * (1 - part) ** 2 * part
+    middle = (y0 + y1) / 2
+    y = (1 - part) ** 3 * y0 + 3 * (1 - part) * part * middle + part ** 3 * y1
+    return near * x0 + (1 - near) * x1, y
+
+
+def level_line(start, end, level):
+    """A line that goes up or down to a level, runs there, and goes up or down to its end, with round corners."""
+    (x0, y0), (x1, y1) = start, end
+    side = 1 if x1 > x0 else -1
+    wide = min(8, abs(x1 - x0) / 2)
+    first, last = (min(8, abs(level - y)) * (1 if y > level else -1) for y in (y0, y1))
+    return (f"L{x0:.1f},{level + first:.1f} Q{x0:.1f},{level:.1f} {x0 + side * wide:.1f},{level:.1f} "
+            f"L{x1 - side * wide:.1f},{level:.1f} Q{x1:.1f},{level:.1f} {x1:.1f},{level + last:.1f} L{x1:.1f},{y1:.1f}")
+
+
+def segments_of(number, path, rows):
+    """The level parts of a line: `path` has the (row, column, side) points between its two ends, and `rows` the rows of these. A part's
+    key is the line's number and how many points are before it."""
+    if path and rows[1] <= rows[0]:
+        return [((number, 0), "below", rows[0], path[0][1]), ((number, len(path)), "above", rows[1], path[-1][1])]
+    found, ends = [], [(rows[0], 0, 0), *path, (rows[1], 0, 0)]
+    for at, (one, other) in enumerate(zip(ends, ends[1:])):
+        if one[2] != other[2]:
+            found.append(((number, at), "out" if other[2] else "in", one[0], other[1] if other[2] else one[1]))
+    return found
+
+
+def path_of(number, start, end, points, heights):
+    """The path of a line from a point over others (column, height of the row's middle) to the last."""
+    back = end[1] <= start[1]
+    words, at = [f"M{start[0]:.1f},{start[1]:.1f}"], start
+    for count, (x, y) in enumerate(points):
+        enter, leave = (y + HIGH / 2, y - HIGH / 2) if back else (y - HIGH / 2, y + HIGH / 2)
+        words += [part(at, (x, enter), heights.get((number, count))), f"L{x:.1f},{leave:.1f}"]
+        at = (x, leave)
+    words.append(part(at, end, heights.get((number, len(points)))))
+    return " ".join(words)
+
+
+def part(start, end, level):
+    """A part of a line, level where it has a level."""
+    return curve(start, end) if level is None else level_line(start, end, level)
