@@ -1,6 +1,8 @@
 """The lines of a picture's channels. Between two rows a line is a curve. Where it goes into a lane beside the blocks, or comes out of one,
 it runs level, and each of those that do so between the same rows has a height of its own."""
 
+from draw_style import register_width
+
 FRAME, LEVELS, HIGH = 20, 24, 26
 
 
@@ -44,6 +46,33 @@ def level_line(start, end, level):
     first, last = (min(8, abs(level - y)) * (1 if y > level else -1) for y in (y0, y1))
     return (f"L{x0:.1f},{level + first:.1f} Q{x0:.1f},{level:.1f} {x0 + side * wide:.1f},{level:.1f} "
             f"L{x1 - side * wide:.1f},{level:.1f} Q{x1:.1f},{level:.1f} {x1:.1f},{level + last:.1f} L{x1:.1f},{y1:.1f}")
+
+
+def spots(start, end, points):
+    """Where on a line a register may be, the best place first."""
+    if not points:
+        return [on_curve(start, end, part) for part in (0.5, 0.62, 0.38, 0.7, 0.3)]
+    middle = sorted(points, key=lambda point: abs(points.index(point) - len(points) // 2))[:5]
+    return middle + [(x, y + step) for x, y in middle for step in (10, -10)]
+
+
+class Registers:
+    """The registers of a picture; each is put where it hides no other, if there is such a place."""
+
+    def __init__(self):
+        self.taken = []
+
+    def place(self, found, delay):
+        """The first of these places that is free, or the first."""
+        wide = register_width(delay)
+        spot = next((it for it in found if not any(self.over(it, wide, other) for other in self.taken)), found[0])
+        self.taken.append((*spot, wide))
+        return spot
+
+    @staticmethod
+    def over(spot, wide, other):
+        """Whether a register at a spot lies over another."""
+        return abs(spot[0] - other[0]) < (wide + other[2]) / 2 + 1 and abs(spot[1] - other[1]) < 13
 
 
 def segments_of(number, path, rows):

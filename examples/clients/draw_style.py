@@ -38,12 +38,17 @@ def text_width(text, size):
     return size * sum(0.96 if it in "mwMW" else 0.84 if it in "→<>=+−×÷≠≤" else 0.38 if it in "ijlIrtf.,:;|()[] " else 0.62 for it in text)
 
 
+def register_width(delay):
+    """How wide a register is."""
+    return 10 + 6 * len(str(delay))
+
+
 def channel_line(told, kind, path, has_tip, spot, delay):
     """The line of a channel, and its register at a spot."""
     tip = ' marker-end="url(#tip)"' if has_tip else ""
     text = f'<g><title>{told}</title><path class="line{kind}" d="{path}"{tip}/>'
     if delay:
-        wide = 10 + 6 * len(str(delay))
+        wide = register_width(delay)
         text += (f'<rect class="register" x="{spot[0] - wide / 2:.1f}" y="{spot[1] - 6:.1f}" width="{wide}" height="12" rx="2"/>'
                  f'<text class="count" x="{spot[0]:.1f}" y="{spot[1] + 3.5:.1f}">{delay}</text>')
     return text + "</g>"

@@ -4,7 +4,7 @@ from html import escape
 import draw_layout
 from draw_blocks import Blocks
 from draw_boxes import boxes_of, loop_channels
-from draw_lines import FRAME, HIGH, levels, on_curve, path_of, segments_of
+from draw_lines import FRAME, HIGH, Registers, levels, path_of, segments_of, spots
 from draw_style import FRAME_TITLE, HOT, STYLE, TIP, channel_line, legend, text_width
 
 ROW, MARGIN, TOP, BETWEEN = 62, 28, 132, 54
@@ -27,12 +27,12 @@ class Picture:
         self.groups, self.titles = groups_of(self.blocks, self.ends, loops)
         late = {at for at, box in enumerate(self.boxes) if box.style == "value" or box.shape == "sink"}
         last = {at for at, box in enumerate(self.boxes) if box.shape == "branch"}
-        least = [text_width(title, 10) + 12 for title in self.titles]
+        least = [text_width(title, 10) + 72 if title else 0 for title in self.titles]
         layout = draw_layout.placed(draw_layout.Graph([width_of(box) for box in self.boxes], self.ends, self.groups, least, loops, late, last))
         self.layout = layout
         segments = [it for at, path in enumerate(layout.paths)
                     for it in segments_of(at, path, [layout.rows[end] for end in self.ends[at]])]
-        self.heights = levels(segments, self.y)
+        self.heights, self.registers = levels(segments, self.y), Registers()
         sides = list(layout.ends.values()) + [(x, x) for path in layout.paths for _, x, _ in path]
         left, right = min(low for low, _ in sides), max(high for _, high in sides)
         self.width = max(right - left + 2 * MARGIN, 760)
@@ -60,8 +60,16 @@ class Picture:
             top, low = self.y(rows[0]) - HIGH / 2 - 34, self.y(rows[-1]) + HIGH / 2 + FRAME
             if title:
                 frames.append(f'<rect class="frame" x="{left:.1f}" y="{top:.1f}" width="{right - left:.1f}" height="{low - top:.1f}" rx="6"/>')
-                titles.append(FRAME_TITLE.format(x=left + 8, y=top + 13, title=escape(title)))
+                titles.append(FRAME_TITLE.format(x=self.title_x(rows[0], left, right, title), y=top + 13, title=escape(title)))
         return frames, titles
+
+    def title_x(self, row, left, right, title):
+        """Where a title begins: at the left of its frame, or at the right where lines come in at the left and none at the right."""
+        coming = [self.middle(at)[0] for at, place in enumerate(self.layout.rows) if place == row]
+        coming += [x + self.shift for path in self.layout.paths for place, x, side in path if place == row and not side]
+        wide = text_width(title, 10) + 6
+        starts = [left + 8, right - wide - 4]
+        return min(starts, key=lambda start: sum(start - 4 < x < start + wide for x in coming))
 
 
 def groups_of(blocks, ends, loops):
@@ -138,15 +146,14 @@ def place_x(box, x, place, places):
 
 
 def channel_svg(picture, number, warm="", cycles=""):
-    """The line of a channel: down from row to row, or, where it leads back up, round below its first box and above its last. A register
-    is in the middle, or nearer to the end where a fork has the other ends beside it."""
+    """The line of a channel: down from row to row, or, where it leads back up, round below its first box and above its last."""
     channel, ends = picture.net.channels[number], picture.ends[number]
     (source, target), ((x0, y0), (x1, y1)) = (picture.boxes[end] for end in ends), (picture.middle(end) for end in ends)
     start = place_x(source, x0, channel.source[1], source.outs), y0 + (0 if source.shape == "fork" else HIGH / 2)
     end = place_x(target, x1, channel.target[1], target.ins), y1 - (4 if target.shape in ("fork", "sink") else HIGH / 2)
     points = picture.points(number)
     path = path_of(number, start, end, points, picture.heights)
-    spot = points[len(points) // 2] if points else on_curve(start, end, 0.62 if source.shape == "fork" else 0.5)
+    spot = picture.registers.place(spots(start, end, points), channel.delay) if channel.delay else None
     told = (f"chan {channel.source[0]}.{channel.source[1]} {channel.target[0]}.{channel.target[1]}: {channel.width} bits, "
             f"{channel.slots} slots, delay {channel.delay}{cycles}")
     return channel_line(told, (" control" if channel.control else "") + warm, path, target.shape != "fork", spot, channel.delay)
@@ -164,7 +171,7 @@ def box_svg(net, box, x, y, warm=""):
 
 def point_svg(box, x, y):
     """A fork, a point, or a sink, three bars; the number at its right."""
-    number = f'<text class="number" x="{x + 8:.1f}" y="{y + (3 if box.shape == "fork" else 5):.1f}">{box.unit}</text>'
+    number = f'<text class="number mark" x="{x + 7:.1f}" y="{y + (-3 if box.shape == "fork" else 6):.1f}">{box.unit}</text>'
     if box.shape == "fork":
         return f'<circle class="fork" cx="{x:.1f}" cy="{y:.1f}" r="4.5"/>{number}'
     bars = " ".join(f"M{x - wide:.1f},{y - 4 + at * 4:.1f} h{2 * wide}" for at, wide in enumerate((8, 5, 2)))
