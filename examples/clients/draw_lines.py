@@ -3,23 +3,45 @@ it runs level, and each of those that do so between the same rows has a height o
 
 from draw_style import register_width
 
-FRAME, LEVELS, HIGH = 20, 24, 26
+# From a row's middle to the next, and what two blocks have between them; the height of a box, the room in a frame below its last row, the
+# room for level parts between two frames, and the distance of two.
+ROW, TOP, BETWEEN, HIGH, FRAME, LEVELS, STEP = 62, 132, 54, 26, 20, 24, 5
 
 
-def levels(segments, y_of):
-    """The height of each level part. `segments` has for each its key, the kind, the row below which (or, of kind `above`, above which) it
-    runs, and the column of its lane: `below` and `above` where a loop's line leaves its first box and comes to its last, `in` and `out`
-    where another comes out of a lane and goes into one. Those that lie further out run so that they cross no lane that lies further in."""
-    places = {}
-    for key, kind, row, lane in segments:
-        places.setdefault(("gap", row) if kind in ("in", "out") else (kind, row), []).append((kind, lane if kind == "in" else -lane, key))
-    found = {}
-    for (kind, row), here in places.items():
-        step = min(5, LEVELS / max(len(here) - 1, 1))
-        for rank, (_, _, key) in enumerate(sorted(here, key=lambda it: ({"in": 0}.get(it[0], 1), it[1]))):
-            found[key] = {"gap": y_of(row) + HIGH / 2 + FRAME + 4 + step * rank, "below": y_of(row) + HIGH / 2 + 8 + step * rank,
-                          "above": y_of(row) - HIGH / 2 - 10 - step * rank}[kind]
-    return found
+class Rows:
+    """The heights of the rows' middles, of the frames' ends, and of the level parts of lines. `segments` has for each level part its key,
+    its kind, the row below which (or, of kind `above`, above which) it runs, and the column of its lane: `below` and `above` where a
+    loop's line leaves its first box and comes to its last, `in` and `out` where another comes out of a lane and goes into one."""
+
+    def __init__(self, group_of_row, segments):
+        self.places = {}
+        for key, kind, row, lane in segments:
+            place = ("gap" if kind in ("in", "out") else kind, row)
+            self.places.setdefault(place, []).append((kind != "in", lane if kind == "in" else -lane, key))
+        count = len(group_of_row)
+        self.over, self.under = ([self.more(kind, row, 12) for row in range(count)] for kind in ("above", "below"))
+        self.y = [TOP + self.over[0]]
+        for row in range(1, count):
+            between = BETWEEN + self.more("gap", row - 1, LEVELS) if group_of_row[row] != group_of_row[row - 1] else 0
+            self.y.append(self.y[-1] + ROW + self.under[row - 1] + self.over[row] + between)
+
+    def more(self, kind, row, room):
+        """The room that the level parts at a place need beyond what there is."""
+        return max(0, STEP * (len(self.places.get((kind, row), [])) - 1) - room)
+
+    def frame(self, rows):
+        """The upper and the lower end of a frame round these rows."""
+        return self.y[rows[0]] - HIGH / 2 - 34 - self.over[rows[0]], self.y[rows[-1]] + HIGH / 2 + FRAME + self.under[rows[-1]]
+
+    def levels(self):
+        """The height of each level part: those that lie further out run so that they cross no lane that lies further in."""
+        found = {}
+        for (kind, row), here in self.places.items():
+            low = self.y[row] + HIGH / 2
+            first, step = {"gap": (low + FRAME + self.under[row] + 4, STEP), "below": (low + 8, STEP),
+                           "above": (low - HIGH - 10, -STEP)}[kind]
+            found.update((key, first + step * rank) for rank, (_, _, key) in enumerate(sorted(here)))
+        return found
 
 
 def curve(start, end):
@@ -48,10 +70,10 @@ def level_line(start, end, level):
             f"L{x1 - side * wide:.1f},{level:.1f} Q{x1:.1f},{level:.1f} {x1:.1f},{level + last:.1f} L{x1:.1f},{y1:.1f}")
 
 
-def spots(start, end, points):
-    """Where on a line a register may be, the best place first."""
+def spots(start, end, points, is_marked):
+    """Where on a line a register may be, the best place first: further from a first end that has a mark beside it."""
     if not points:
-        return [on_curve(start, end, part) for part in (0.5, 0.62, 0.38, 0.7, 0.3)]
+        return [on_curve(start, end, part) for part in ((0.62, 0.5, 0.7) if is_marked else (0.5, 0.62, 0.38, 0.7, 0.3))]
     middle = sorted(points, key=lambda point: abs(points.index(point) - len(points) // 2))[:5]
     return middle + [(x, y + step) for x, y in middle for step in (10, -10)]
 

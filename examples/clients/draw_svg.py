@@ -4,10 +4,10 @@ from html import escape
 import draw_layout
 from draw_blocks import Blocks
 from draw_boxes import boxes_of, loop_channels
-from draw_lines import FRAME, HIGH, Registers, levels, path_of, segments_of, spots
+from draw_lines import HIGH, Registers, Rows, path_of, segments_of, spots
 from draw_style import FRAME_TITLE, HOT, STYLE, TIP, channel_line, legend, text_width
 
-ROW, MARGIN, TOP, BETWEEN = 62, 28, 132, 54
+MARGIN = 28
 # What stands at places: at units that steer the condition or the number at `?`, and which input or output is which; at a queue the number.
 INPUT_TEXTS = {"mux": lambda place: str(place - 1) if place else "?", "cmerge": str, "select": ("?", "yes", "no").__getitem__,
                "branch": "? ".__getitem__, "lsq": str}
@@ -32,24 +32,21 @@ class Picture:
         self.layout = layout
         segments = [it for at, path in enumerate(layout.paths)
                     for it in segments_of(at, path, [layout.rows[end] for end in self.ends[at]])]
-        self.heights, self.registers = levels(segments, self.y), Registers()
+        self.rows, self.registers = Rows(layout.group_of_row, segments), Registers()
+        self.heights = self.rows.levels()
         sides = list(layout.ends.values()) + [(x, x) for path in layout.paths for _, x, _ in path]
         left, right = min(low for low, _ in sides), max(high for _, high in sides)
         self.width = max(right - left + 2 * MARGIN, 760)
         self.shift = (self.width - left - right) / 2
-        self.height = self.y(len(layout.group_of_row) - 1) + HIGH / 2 + 16 + MARGIN
-
-    def y(self, row):
-        """The height of a row's middle."""
-        return TOP + row * ROW + self.layout.group_of_row[row] * BETWEEN
+        self.height = self.rows.frame([len(self.rows.y) - 1])[1] + MARGIN
 
     def middle(self, at):
         """The middle of a box."""
-        return self.layout.columns[at] + self.shift, self.y(self.layout.rows[at])
+        return self.layout.columns[at] + self.shift, self.rows.y[self.layout.rows[at]]
 
     def points(self, channel):
         """The points that a channel passes between its boxes."""
-        return [(x + self.shift, self.y(row)) for row, x, _ in self.layout.paths[channel]]
+        return [(x + self.shift, self.rows.y[row]) for row, x, _ in self.layout.paths[channel]]
 
     def frames(self):
         """The frames of the blocks, and their titles, which are put over the lines."""
@@ -57,7 +54,7 @@ class Picture:
         for group, title in enumerate(self.titles):
             rows = [row for row, of in enumerate(self.layout.group_of_row) if of == group]
             left, right = (x + self.shift for x in self.layout.ends[group])
-            top, low = self.y(rows[0]) - HIGH / 2 - 34, self.y(rows[-1]) + HIGH / 2 + FRAME
+            top, low = self.rows.frame(rows)
             if title:
                 frames.append(f'<rect class="frame" x="{left:.1f}" y="{top:.1f}" width="{right - left:.1f}" height="{low - top:.1f}" rx="6"/>')
                 titles.append(FRAME_TITLE.format(x=self.title_x(rows[0], left, right, title), y=top + 13, title=escape(title)))
@@ -153,7 +150,7 @@ def channel_svg(picture, number, warm="", cycles=""):
     end = place_x(target, x1, channel.target[1], target.ins), y1 - (4 if target.shape in ("fork", "sink") else HIGH / 2)
     points = picture.points(number)
     path = path_of(number, start, end, points, picture.heights)
-    spot = picture.registers.place(spots(start, end, points), channel.delay) if channel.delay else None
+    spot = picture.registers.place(spots(start, end, points, source.style in ("branch", "memory")), channel.delay) if channel.delay else None
     told = (f"chan {channel.source[0]}.{channel.source[1]} {channel.target[0]}.{channel.target[1]}: {channel.width} bits, "
             f"{channel.slots} slots, delay {channel.delay}{cycles}")
     return channel_line(told, (" control" if channel.control else "") + warm, path, target.shape != "fork", spot, channel.delay)
