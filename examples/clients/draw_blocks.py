@@ -26,15 +26,19 @@ class Blocks:
         for at, box in enumerate(boxes):
             kind = net.units[box.unit].kind
             if kind in ("entry", "cmerge"):
-                word = "entry" if kind == "entry" else "loop" if box.unit in heads else "merge"
-                self.begin(at, f"block {box.unit} ({word})")
+                self.begin(at, f"block {box.unit} ({'entry' if kind == 'entry' else 'loop' if box.unit in heads else 'merge'})")
+        for number, first in enumerate(self.begins):  # which grows
+            self.walk(number, first)
         self.data()
 
     def begin(self, first, title):
-        """Makes a block, and those that begin at its branch."""
-        left, number = [first], len(self.begins)
+        """Notes a block: the box that it begins with, and its title."""
         self.begins.append(first)
         self.titles.append(title)
+
+    def walk(self, number, first):
+        """Puts the boxes that control comes to into their block, and notes the blocks that begin at its branch."""
+        left = [first]
         while left:
             at = left.pop()
             if self.of[at] is not None:

@@ -14,7 +14,7 @@ text.block, text.mark {{ paint-order: stroke; stroke: #f6f8fa; stroke-width: 3px
 .line {{ fill: none; stroke: #424a53; stroke-width: 1.3 }} .control {{ stroke: #8250df; stroke-dasharray: 6 3 }}
 .frame {{ fill: #f6f8fa; stroke: #afb8c1; stroke-width: 1 }} .register {{ fill: #0550ae }}"""
 HOT = """ .warm { stroke: #e16f24; stroke-width: 2.2 } .hot { stroke: #cf222e; stroke-width: 3.4 }"""
-TIP = ('<defs><marker id="tip" viewBox="0 0 8 8" refX="7" refY="4" markerWidth="7" markerHeight="7" orient="auto">'
+TIP = ('<defs><marker id="tip" viewBox="0 0 8 8" refX="7" refY="4" markerWidth="9" markerHeight="9" markerUnits="userSpaceOnUse" orient="auto">'
        '<path d="M0,0.5 L8,4 L0,7.5 z" fill="#424a53"/></marker></defs>')
 FRAME_TITLE = '<text class="block" x="{x:.1f}" y="{y:.1f}">{title}</text>'
 SWATCH = '<rect class="node {}" x="{{x}}" y="{{top}}" width="16" height="12" rx="3"/>'

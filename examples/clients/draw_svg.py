@@ -70,9 +70,8 @@ class Picture:
 
 
 def groups_of(blocks, ends, loops):
-    """For each box the number of its group, and the title of each group, "" of one without a frame. The groups are the blocks, and those
-    boxes in no block that are joined to each other; each comes after those that lead to it, and of others first the one with the
-    least unit."""
+    """For each box the number of its group, and the title of each group, "" of one without a frame. The groups are the blocks, and each
+    box in no block; each comes after those that lead to it, and of others first the one with the least unit."""
     groups = {}
     for at, number in enumerate(blocks.of):
         groups.setdefault(number if number is not None else ("single", at), []).append(at)
