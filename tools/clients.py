@@ -1,5 +1,5 @@
 #!/usr/bin/env python3
-"""Runs every script of examples/clients on every example, and compares with what is kept in examples/clients/kept.
+"""Runs every script of examples/clients, and tools/name_units.py, on every example, and compares with what is kept in examples/clients/kept.
 
     tools/clients.py [--program PROGRAM] [--keep]
 
@@ -112,15 +112,31 @@ def bounds(program, net, inputs, folder):
     return "-- --depth 4\n" + client("where.py", other, inputs).split("what bounds each loop\n")[1]
 
 
+def named(kernel, net, folder):
+    """The names of the circuit's units, or why there are none, and the picture with them, or the one without names."""
+    ran = subprocess.run([sys.executable, TOP / "tools" / "name_units.py", kernel, net], capture_output=True, check=False, text=True)
+    if ran.returncode:
+        return ran.stderr.replace(str(kernel), kernel.name), client("draw.py", "--svg", net)
+    file = pathlib.Path(folder, "names.txt")
+    file.write_text(ran.stdout)
+    picture = client("draw.py", "--svg", "--kernel", kernel, net)
+    if client("draw.py", "--svg", "--names", file, net) != picture:
+        raise Failed(f"draw.py: --kernel {kernel} and --names draw different pictures")
+    return ran.stdout + "-- --svg --kernel\n" + short(picture), picture
+
+
 def answers(program, example, folder):
-    """What is kept of an example: a text with a part for each script."""
+    """What is kept of an example: a text with a part for each script; and its picture, with names where there are some."""
     kernel, net, inputs = example / "kernel.c", example / "net.txt", example / "inputs.txt"
     if kernel.exists():
         net = pathlib.Path(folder, "net.txt")
         net.write_text(run(program, "compile", kernel))
     picture = client("draw.py", "--svg", net)
     parts = {"draw.py": client("draw.py", net), "draw.py --svg": short(picture),
-             "draw.py --dot": short(client("draw.py", "--dot", net)), "inputs.py": made_inputs(program, kernel, net, folder),
+             "draw.py --dot": short(client("draw.py", "--dot", net))}
+    if kernel.exists():
+        parts["name_units.py"], picture = named(kernel, net, folder)
+    parts |= {"inputs.py": made_inputs(program, kernel, net, folder),
              "retime.py": retimed(program, net, inputs, folder), "stalls.py": stalled(program, net, inputs, folder),
              "where.py": where(program, net, inputs, folder)}
     return "".join(f"== {name}\n{text}" for name, text in parts.items()), picture

@@ -8,18 +8,20 @@ SIGNS = {"add": "+", "sub": "−", "mul": "×", "divs": "÷", "divu": "÷ u", "r
          "or": "or", "xor": "xor", "shl": "<<", "shrs": ">>", "shru": ">> u", "eq": "=", "ne": "≠", "lts": "<", "ltu": "< u",
          "les": "≤", "leu": "≤ u", "neg": "−x", "not": "not", "zero": "= 0"}
 
-# A box: its unit's number, its shape, its class, its text, the small text behind it, and the numbers of its places.
-Box = namedtuple("Box", "unit shape style text small ins outs")
+# A box: its unit's number, its shape, its class, its text, the small text behind it, the numbers of its places, and the variable that it
+# is named by.
+Box = namedtuple("Box", "unit shape style text small ins outs name", defaults=[""])
 
 FIXED = {
     "entry": ("pill", "end", "entry", ""), "exit": ("pill", "end", "exit", ""), "sink": ("sink", "end", "", ""),
-    "fork": ("fork", "fork", "", ""), "mux": ("mux", "steer", "mux", ""), "cmerge": ("mux", "steer", "merge", ""),
-    "select": ("mux", "steer", "select", ""), "branch": ("branch", "steer", "branch", ""),
+    "fork": ("fork", "fork", "", ""), "mux": ("mux", "join", "mux", ""), "cmerge": ("mux", "join", "merge", ""),
+    "select": ("mux", "op", "select", ""), "branch": ("branch", "branch", "branch", ""),
 }
 
 
-def boxes_of(net):
-    """The boxes, and for each input place and each output place (a unit's number and the place's) the number of its box."""
+def boxes_of(net, names=None):
+    """The boxes, and for each input place and each output place (a unit's number and the place's) the number of its box. `names` has
+    variables for units, by the unit's number, or for a queue's places, by the unit's and the place's."""
     ins, outs = net.inputs(), net.outputs()
     boxes = []
     for number, unit in enumerate(net.units):
@@ -27,9 +29,20 @@ def boxes_of(net):
             boxes += queue_boxes(net, number)
         else:
             boxes.append(Box(number, *look(net, unit), sorted(ins[number]), sorted(outs[number])))
+    names = names or {}
+    boxes = [box._replace(name=named(net, box, names)) for box in boxes]
     into = {(box.unit, place): at for at, box in enumerate(boxes) for place in box.ins}
     out_of = {(box.unit, place): at for at, box in enumerate(boxes) for place in box.outs}
     return boxes, into, out_of
+
+
+def named(net, box, names):
+    """What a box says of its variable: to the value of an operation or a constant the variable is set."""
+    if net.units[box.unit].kind == "lsq":
+        name = names.get((box.unit, box.outs[0]), "") if box.outs else ""
+    else:
+        name = names.get(box.unit, "")
+    return name if not name or box.style in ("join", "branch") else f"→ {name}"
 
 
 def look(net, unit):
