@@ -11,8 +11,8 @@
   tools/map.py proofs CRATE          the proof files of a crate, with what their first line says
   tools/map.py counted [--write]     numbers of README.md and docs/ that are counted here, and differ; --write puts them right
   tools/map.py names                 backticked names of README.md and docs/ that stand nowhere in the repository
-  tools/map.py sentences             sentences of more than 60 words and cells of tables of more than 400 characters in
-                                     README.md and docs/, and README.md where it has 900 words or more
+  tools/map.py sentences             sentences of more than 35 words outside tables and cells of tables of more than 400
+                                     characters in README.md and docs/, and README.md where it has more than 700 words
 """
 import collections
 import itertools
@@ -301,22 +301,20 @@ def names():
 
 
 def sentences():
-    found = 0
+    found = []
     for file in documents():
         for number, line in prose(file):
-            is_table = line.startswith("|")
-            for piece in line.strip().strip("|").split(" | ") if is_table else [line]:
-                said = []
-                if is_table and len(piece.strip()) > 400:
-                    said.append(f"a cell of {len(piece.strip())} characters")
-                said += [f"a sentence of {len(it.split())} words" for it in re.split(r"(?<=[.!?])\s+", piece) if len(it.split()) > 60]
-                for it in said:
-                    print(f"{file.relative_to(TOP)}:{number}: {it}")
-                    found += 1
+            at = f"{file.relative_to(TOP)}:{number}"
+            if line.startswith("|"):
+                cells = [cell.strip() for cell in line.strip().strip("|").split(" | ")]
+                found += [f"{at}: a cell of {len(cell)} characters" for cell in cells if len(cell) > 400]
+            else:
+                said = re.split(r"(?<=[.!?])[\"')*]*\s+|(?<=:)$", line.strip())
+                found += [f"{at}: a sentence of {len(it.split())} words: {it[:60]}" for it in said if len(it.split()) > 35]
     size = len((TOP / "README.md").read_text().split())
-    if size >= 900:
-        print(f"README.md: {size} words")
-        found += 1
+    if size > 700:
+        found.append(f"README.md: {size} words")
+    print("".join(f"{it}\n" for it in found), end="")
     sys.exit(1 if found else 0)
 
 
