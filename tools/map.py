@@ -347,7 +347,7 @@ def counted_documents():
     yield readme, text
     parts = [part for _, part in crate_sizes()]
     all_sizes = [str(len(parts)), *(f"{sum(column):,}" for column in zip(*parts))]
-    pattern = r"(\d+) crates have ([\d,]+) lines of code, ([\d,]+) of definitions and ([\d,]+) of proofs, and (\d+) mutants"
+    pattern = r"(\d+) crates have ([\d,]+) lines of code, ([\d,]+) of definitions and ([\d,]+) of proofs, and ([\d,]+) mutants"
     text = number_in(map_page.read_text(), pattern, all_sizes, map_page)
     yield map_page, text
     text = number_in(theorem.read_text(), edge, host, theorem)
