@@ -311,7 +311,7 @@ def sentences():
                 cells = [cell.strip() for cell in line.strip().strip("|").split(" | ")]
                 found += [f"{at}: a cell of {len(cell)} characters" for cell in cells if len(cell) > 400]
             else:
-                said = re.split(r"(?<=[.!?])[\"')*]*\s+|(?<=:)$", line.strip())
+                said = re.split(r"(?<=[.!?])[\"')*]*\s+", line.strip())
                 found += [f"{at}: a sentence of {len(it.split())} words: {it[:60]}" for it in said if len(it.split()) > 35]
     size = len((TOP / "README.md").read_text().split())
     if size > 700:
