@@ -11,8 +11,8 @@
   tools/map.py proofs CRATE          the proof files of a crate, with what their first line says
   tools/map.py counted [--write]     numbers of README.md and docs/ that are counted here, and differ; --write puts them right
   tools/map.py names                 backticked names of README.md and docs/ that stand nowhere in the repository
-  tools/map.py sentences             sentences of more than 60 words and cells of tables of more than 400 characters in
-                                     README.md and docs/, and README.md where it has 900 words or more
+  tools/map.py sentences             sentences of more than 35 words outside tables and cells of tables of more than 400
+                                     characters in README.md and docs/, and README.md where it has more than 700 words
 """
 import collections
 import itertools
@@ -29,8 +29,8 @@ def count(paths):
     return sum(len(path.read_text().splitlines()) for path in paths)
 
 
-def size_rows():
-    """A row of a table for each crate, in the order of crates.txt."""
+def crate_sizes():
+    """Each crate in the order of crates.txt, with its lines of code, of definitions and of proofs, and its mutants."""
     for line in (CRATES.parent / "crates.txt").read_text().splitlines():
         if line.startswith("#") or ":" not in line:
             continue
@@ -39,11 +39,13 @@ def size_rows():
         edits = sum(len(list(crate.glob(f"{folder}/*.edit"))) for folder in ("must-fail", "wrong"))
         parts = [count(crate.glob(f"{part}/**/*.{kind}")) for part, kind in
                  (("src", "rt"), ("specs", "antt"), ("proofs", "antt"))]
-        yield f"| `{name}` | {parts[0]:,} | {parts[1]:,} | {parts[2]:,} | {edits} |"
+        yield name, [*parts, edits]
 
 
 def sizes():
-    print("\n".join(size_rows()))
+    print("| Crate | Code | Definitions | Proofs | Mutants |\n|---|---|---|---|---|")
+    for name, parts in crate_sizes():
+        print(f"| `{name}` | {' | '.join(f'{part:,}' for part in parts)} |")
 
 
 def reached(text, ghost):
@@ -301,22 +303,20 @@ def names():
 
 
 def sentences():
-    found = 0
+    found = []
     for file in documents():
         for number, line in prose(file):
-            is_table = line.startswith("|")
-            for piece in line.strip().strip("|").split(" | ") if is_table else [line]:
-                said = []
-                if is_table and len(piece.strip()) > 400:
-                    said.append(f"a cell of {len(piece.strip())} characters")
-                said += [f"a sentence of {len(it.split())} words" for it in re.split(r"(?<=[.!?])\s+", piece) if len(it.split()) > 60]
-                for it in said:
-                    print(f"{file.relative_to(TOP)}:{number}: {it}")
-                    found += 1
+            at = f"{file.relative_to(TOP)}:{number}"
+            if line.startswith("|"):
+                cells = [cell.strip() for cell in line.strip().strip("|").split(" | ")]
+                found += [f"{at}: a cell of {len(cell)} characters" for cell in cells if len(cell) > 400]
+            else:
+                said = re.split(r"(?<=[.!?])[\"')*]*\s+", line.strip())
+                found += [f"{at}: a sentence of {len(it.split())} words: {it[:60]}" for it in said if len(it.split()) > 35]
     size = len((TOP / "README.md").read_text().split())
-    if size >= 900:
-        print(f"README.md: {size} words")
-        found += 1
+    if size > 700:
+        found.append(f"README.md: {size} words")
+    print("".join(f"{it}\n" for it in found), end="")
     sys.exit(1 if found else 0)
 
 
@@ -345,10 +345,10 @@ def counted_documents():
     text = number_in(text, r"(\d+) definition files, ([\d,]+) lines", weight("elastic_top/src/call.rt")[:2], readme)
     text = number_in(text, r"The short way is `Good`: (\d+) files, ([\d,]+) lines", weight("kernel_compile/specs/Goods.antt")[:2], readme)
     yield readme, text
-    text = map_page.read_text()
-    head = "| Crate | Code | Definitions | Proofs | Mutants |\n|---|---|---|---|---|\n"
-    before, _, after = text.partition(head)
-    text = before + head + "".join(f"{row}\n" for row in size_rows()) + after[after.index("\n\n") + 1:]
+    parts = [part for _, part in crate_sizes()]
+    all_sizes = [str(len(parts)), *(f"{sum(column):,}" for column in zip(*parts))]
+    pattern = r"(\d+) crates have ([\d,]+) lines of code, ([\d,]+) of definitions and ([\d,]+) of proofs, and ([\d,]+) mutants"
+    text = number_in(map_page.read_text(), pattern, all_sizes, map_page)
     yield map_page, text
     text = number_in(theorem.read_text(), edge, host, theorem)
     for source in re.findall(r"^\| [^|]* \| `([\w/.]+)`(?: of [^|]*)? \| \d+, [\d,]+ \|", text, re.M):
