@@ -5,7 +5,7 @@ ghost use Rattle.el_base.specs.Widths.{op1_in, op1_out, op2_in, op2_out};
 ghost use Rattle.el_base.specs.Names.{op1_name, op2_name};
 
 /// An operation on one pattern, named as in a net text: the operand's width, then the result's.
-#[derive(Clone, Copy, Debug, PartialEq, Eq)]
+#[derive(Clone, Copy, Debug, PartialEq, Eq, Hash)]
 pub enum Op1 {
     Neg32,
     Neg64,
@@ -159,7 +159,7 @@ impl Op1 {
 }
 
 /// An operation on two patterns of one width, named as in a net text.
-#[derive(Clone, Copy, Debug, PartialEq, Eq)]
+#[derive(Clone, Copy, Debug, PartialEq, Eq, Hash)]
 pub enum Op2 {
     Add32,
     Add64,
