@@ -1,0 +1,3 @@
+//! What passes over block graphs keep: finished runs without strays on inputs that fit, stored arrays, and that values stay
+//! in their widths. Laws: passes go on from one to the next, and a pass may go block by block.
+#![tactic(auto)]
