@@ -19,14 +19,15 @@ use Rattle.block_merge.specs.Renamed.{block_of, moved_to, renamed_to, renamed_ju
 use Rattle.block_merge.specs.Joined.{values_of, joined, idle, joined_at}
 use Rattle.block_merge.specs.Merged.{with_blocks}
 use Rattle.block_merge.specs.Shares.{RunsOver}
+use Rattle.block_merge.proofs.Backs.{EndsBack}
 use Rattle.block_merge.proofs.JoinedValues.{every, handed_long, number_of_arg, number_of_step, named, all_kept, widths, somes_long, shape_long}
 use Rattle.block_merge.proofs.Visiting.{is_block}
-use Rattle.block_merge.proofs.JoinedRuns.{LeadsOn, taken_in, target, is_c, hand, joined_runs}
+use Rattle.block_merge.proofs.JoinedRuns.{LeadsOn, taken_in, target, is_c, hand, joined_runs, joined_back}
 use Rattle.block_merge.proofs.ListedRuns.{LeadsTo}
 use Rattle.block_merge.proofs.Blocks.{graph_of, target_of, some_blocks}
 use Rattle.block_merge.proofs.ThreadedFits.{hand_width}
 use Rattle.block_merge.proofs.Rows.{IsRow, no_other_edge, leads_elsewhere, renamed_leads}
-use Rattle.block_merge.proofs.IdleRuns.{idle_runs}
+use Rattle.block_merge.proofs.IdleRuns.{idle_runs, idle_back}
 
 -- ---- steps behind others
 
@@ -208,3 +209,7 @@ module _ (g : Graph) (k : ℕ) (to : To) (fine : IsGraph g) (row : IsRow g.block
   pub row_runs : RunsOver g (with_blocks g bs)
   row_runs scalars arrays r last more most l x =
       idle_runs (taken_in g k to) to.block (idle to.block) no_entry away_after scalars arrays r last more most l (joined_runs g k to leads scalars arrays r last more most l x)
+
+  pub row_back : EndsBack g (with_blocks g bs)
+  row_back scalars arrays r last l x =
+      joined_back g k to leads scalars arrays r last l (idle_back (taken_in g k to) to.block (idle to.block) no_entry away_after scalars arrays r last l x)

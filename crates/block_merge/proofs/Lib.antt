@@ -1,4 +1,5 @@
 pub mod Works
+pub mod Backs
 pub mod JoinedValues
 pub mod Visiting
 pub mod JoinedRuns
@@ -14,6 +15,7 @@ pub mod FoundLemmas
 pub mod ListedFits
 pub mod Stored
 pub mod Passes
+pub mod MergedBack
 pub mod Rounds
 pub mod WithEdges
 pub mod Onward

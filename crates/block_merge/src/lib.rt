@@ -12,5 +12,5 @@ mod threading;
 mod walking;
 
 pub use ir::{Ir, Memory};
-pub use laws::merged_graphs_keep;
+pub use laws::{merged_graphs_keep, merged_runs_go_back};
 pub use merging::merge;

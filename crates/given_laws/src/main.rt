@@ -69,6 +69,8 @@ fn graphs() {
     block_args::sizes_are_kept();
     block_args::served_graphs_are_well_formed();
     block_merge::merged_graphs_keep();
+    block_pass::blocks_go_on();
+    block_pass::block_by_block();
 }
 
 /// Laws of nets, queues and runs.
