@@ -1,1 +1,4 @@
 pub mod Numbers
+pub mod Patterns
+pub mod Products
+pub mod Signs

@@ -1,2 +1,3 @@
 pub mod Magic
 pub mod Numbers
+pub mod Quotients

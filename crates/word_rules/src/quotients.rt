@@ -1,8 +1,38 @@
-//! Quotients and remainders by constants, as products, shifts and sums.
+//! Quotients and remainders by constants, as products, shifts, sums and masks.
+ghost use Rattle.el_base.specs.declared.operation.Op2.TheVariants as op2;
 ghost use Rattle.word_rules.specs.Numbers.{ProductsAreQuotients, ProductsAreBelowQuotients};
+ghost use Rattle.word_rules.specs.Quotients.{DividesByProduct, DividesByLongProduct, DividesBySignedProduct, SameWithoutSign, LeavesByQuotient, shifted_product32, shifted_product64};
 
-/// A product with a magic number of the divisor, shifted to the right, is the quotient; of a negative number it is one less.
+/// A number's product with a magic number of the divisor, shifted to the right, is the quotient; of a negative number it is one less.
 pub fn products_are_quotients()
     ensures natural { ProductsAreQuotients }
     ensures negative { ProductsAreBelowQuotients }
+{}
+
+/// Unsigned quotients of patterns up to a bound, by a magic number of at most 64 bits, and by one of 33 bits.
+pub fn unsigned_quotients_are_products()
+    ensures divu32 { DividesByProduct 32 op2.Divu32 shifted_product32 }
+    ensures divu64 { DividesByProduct 64 op2.Divu64 shifted_product64 }
+    ensures long { DividesByLongProduct }
+{}
+
+/// Signed quotients of all patterns of 32 bits, by a magic number of at most 32 bits.
+pub fn signed_quotients_are_products()
+    ensures { DividesBySignedProduct }
+{}
+
+/// Signed division of numbers that are not negative is unsigned division, also by 0.
+pub fn divisions_without_sign_are_unsigned()
+    ensures divs32 { SameWithoutSign 32 op2.Divs32 op2.Divu32 }
+    ensures divs64 { SameWithoutSign 64 op2.Divs64 op2.Divu64 }
+    ensures rems32 { SameWithoutSign 32 op2.Rems32 op2.Remu32 }
+    ensures rems64 { SameWithoutSign 64 op2.Rems64 op2.Remu64 }
+{}
+
+/// Remainders from quotients, for each divisor other than 0, also a negative one.
+pub fn remainders_are_differences()
+    ensures remu32 { LeavesByQuotient 32 op2.Sub32 op2.Mul32 op2.Divu32 op2.Remu32 }
+    ensures remu64 { LeavesByQuotient 64 op2.Sub64 op2.Mul64 op2.Divu64 op2.Remu64 }
+    ensures rems32 { LeavesByQuotient 32 op2.Sub32 op2.Mul32 op2.Divs32 op2.Rems32 }
+    ensures rems64 { LeavesByQuotient 64 op2.Sub64 op2.Mul64 op2.Divs64 op2.Rems64 }
 {}
