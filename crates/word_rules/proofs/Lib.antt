@@ -2,3 +2,4 @@ pub mod Numbers
 pub mod Patterns
 pub mod Products
 pub mod Signs
+pub mod Powers

@@ -52,7 +52,7 @@ same_rems64 = same_remainder 64 (lit< tt)
 -- ---- remainders from quotients
 
 -- x less the product is the remainder, and so it is of the patterns
-remainder_is : (x y : ℤ) → x -ℤ (int_div x y *ℤ y) ≡ int_rem x y
+pub remainder_is : (x y : ℤ) → x -ℤ (int_div x y *ℤ y) ≡ int_rem x y
 remainder_is x y =
     let p = int_div x y *ℤ y in
     same_in (x -ℤ p) (int_rem x y) (omega (arith, sum_is_lem, neg_is, same_out, quot-rem x y))

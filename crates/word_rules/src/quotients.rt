@@ -1,7 +1,7 @@
 //! Quotients and remainders by constants, as products, shifts, sums and masks.
 ghost use Rattle.el_base.specs.declared.operation.Op2.TheVariants as op2;
 ghost use Rattle.word_rules.specs.Numbers.{ProductsAreQuotients, ProductsAreBelowQuotients};
-ghost use Rattle.word_rules.specs.Quotients.{DividesByProduct, DividesByLongProduct, DividesBySignedProduct, SameWithoutSign, LeavesByQuotient, shifted_product32, shifted_product64};
+ghost use Rattle.word_rules.specs.Quotients.{DividesByProduct, DividesByLongProduct, DividesBySignedProduct, DividesByShift, LeavesByMask, SameWithoutSign, LeavesByQuotient, shifted_product32, shifted_product64, biased32, biased64};
 
 /// A number's product with a magic number of the divisor, shifted to the right, is the quotient; of a negative number it is one less.
 pub fn products_are_quotients()
@@ -19,6 +19,14 @@ pub fn unsigned_quotients_are_products()
 /// Signed quotients of all patterns of 32 bits, by a magic number of at most 32 bits.
 pub fn signed_quotients_are_products()
     ensures { DividesBySignedProduct }
+{}
+
+/// Signed quotients and remainders by a power of two: a negative dividend is biased by one less than the divisor.
+pub fn signed_powers_are_shifts()
+    ensures divs32 { DividesByShift 32 biased32 op2.Shrs32 op2.Divs32 }
+    ensures divs64 { DividesByShift 64 biased64 op2.Shrs64 op2.Divs64 }
+    ensures rems32 { LeavesByMask 32 biased32 op2.Sub32 op2.And32 op2.Rems32 }
+    ensures rems64 { LeavesByMask 64 biased64 op2.Sub64 op2.And64 op2.Rems64 }
 {}
 
 /// Signed division of numbers that are not negative is unsigned division, also by 0.
