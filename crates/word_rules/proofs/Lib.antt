@@ -3,3 +3,5 @@ pub mod Patterns
 pub mod Products
 pub mod Signs
 pub mod Powers
+pub mod Digits
+pub mod Reciprocals

@@ -1,3 +1,4 @@
 pub mod Magic
 pub mod Numbers
 pub mod Quotients
+pub mod Existence

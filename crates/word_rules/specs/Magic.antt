@@ -1,5 +1,6 @@
 -- Magic numbers: factors whose products, shifted to the right, are quotients by a constant.
-use Rattle.std.specs.Prelude.{ℕ, ◌-◌, ◌*◌, ◌^◌, ◌<◌, ◌≤◌}
+use Rattle.std.specs.Prelude.{ℕ, ◌+◌, ◌-◌, ◌*◌, ◌^◌, ◌<◌, ◌≤◌}
+use Rattle.std.specs.Int.{div_ceil}
 
 -- m / 2 ^ s is 1 / d, or more by less than 1 / (d * top), so that n / d is m * n / 2 ^ s for each n up to top
 pub record IsMagic (top d s m : ℕ) : Type 0 where
@@ -16,3 +17,12 @@ pub record FitsWord (top s m : ℕ) : Type 0 where
   pub factor : m < 2 ^ 64
   pub product : m * top < 2 ^ 64
   pub amount : s < 64
+
+-- the least m for which m / 2 ^ s is 1 / d or more
+abbrev pub reciprocal : ℕ → ℕ → ℕ
+reciprocal d s = div_ceil (2 ^ s) d
+
+-- a has t binary digits, and 0 has none
+pub record HasDigits (a t : ℕ) : Type 0 where
+  pub below : a < 2 ^ t
+  pub least : 2 ^ t ≤ 2 * a + 1

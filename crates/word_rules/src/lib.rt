@@ -3,3 +3,4 @@
 #![tactic(auto)]
 
 pub mod quotients;
+pub mod existence;
