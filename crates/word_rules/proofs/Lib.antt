@@ -5,3 +5,4 @@ pub mod Signs
 pub mod Powers
 pub mod Digits
 pub mod Reciprocals
+pub mod Greatest

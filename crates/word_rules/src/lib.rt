@@ -3,4 +3,5 @@
 #![tactic(auto)]
 
 pub mod quotients;
+pub mod bounds;
 pub mod existence;
