@@ -1,9 +1,9 @@
 -- Binary digits of numbers, and powers of two.
-use Rattle.std.proofs.Common.{◌≡◌, ℕ, zero, suc, ◌+◌, ◌-◌, ◌*◌, ◌/◌, ◌%◌, ◌^◌, ◌<◌, ◌≤◌, Bool, true, false, eqb, refl, sym, ◌∙◌, ap, subst, arith, eq-eqb}
+use Rattle.std.proofs.Common.{◌≡◌, ℕ, zero, suc, ◌+◌, ◌-◌, ◌*◌, ◌/◌, ◌%◌, ◌^◌, ◌<◌, ◌≤◌, refl, sym, ◌∙◌, ap, subst, arith, eq-eqb}
 use Rattle.std.specs.Prelude.{count_ones}
-use Rattle.std.specs.Int.{IsPowerOfTwo, is_power_of_two}
+use Rattle.std.specs.Int.{IsPowerOfTwo}
 use Rattle.std.specs.Int.Count.{count_leading_zeros, ones-ones}
-use Rattle.std.proofs.lemmas.Nat.{pow_pos, pow-add, leading_length, ones_cat, ones_le_self, zero_from_ones, mod_below, div-add-mod'}
+use Rattle.std.proofs.lemmas.Nat.{pow_pos, pow-add, leading_length, ones_cat, ones_le_self, zero_from_ones}
 use Rattle.std.proofs.Math.Nat.{pow-suc}
 use borrow.Author.Tests.{eqb-true}
 use Rattle.word_rules.specs.Magic.{HasDigits}

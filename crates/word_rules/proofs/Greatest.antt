@@ -1,10 +1,10 @@
 -- No result is greater than what is computed from the greatest values of the operands.
-use Rattle.std.proofs.Common.{◌≡◌, ℕ, zero, suc, ◌+◌, ◌-◌, ◌*◌, ◌/◌, ◌%◌, ◌^◌, ◌<◌, ◌≤◌, Bool, true, false, lit<, lit≤, cond, eqb, ltb, min, max, refl, sym, ◌∙◌, ap, subst, arith}
-use Rattle.std.specs.Prelude.{ℤ, pos, ◌*ℤ◌, bit_and, bit_or, bit_xor, ◌==◌, nat_lt, nat_le, not, int_lt, int_le}
+use Rattle.std.proofs.Common.{◌≡◌, ℕ, zero, suc, ◌+◌, ◌-◌, ◌*◌, ◌/◌, ◌%◌, ◌^◌, ◌<◌, ◌≤◌, Bool, true, false, lit<, lit≤, eqb, ltb, min, max, refl, sym, ap, subst, arith}
+use Rattle.std.specs.Prelude.{pos, bit_and, bit_or, bit_xor, ◌==◌, nat_lt, nat_le, not, int_lt, int_le}
 use Rattle.std.specs.Int.{from_bool}
 use Rattle.std.proofs.lemmas.Bool.{cond_both, ltb-true}
-use Rattle.std.proofs.lemmas.Nat.{pow_pos, pow-add, and_le_l, and_le_r, or_lt, xor_lt, shr_le, mul-le, mod_below, leading_length, le-div}
-use Rattle.std.proofs.Math.Nat.{mod-le, div-le_self, div-le_of_le-mul, mul-le-mul_right, lt_of_not-le, le_refl, div-zero, div-mul-le_self}
+use Rattle.std.proofs.lemmas.Nat.{pow_pos, pow-add, and_le_l, and_le_r, or_lt, xor_lt, shr_le, mul-le, mod_below, le-div}
+use Rattle.std.proofs.Math.Nat.{mod-le, div-le_self, mul-le-mul_right, lt_of_not-le, le_refl, div-zero, div-mul-le_self}
 use Rattle.std.proofs.Math.Pow.{pow_mono}
 use borrow.Author.Tests.{eqb-false}
 use Rattle.el_base.specs.declared.operation.Op1.TheVariants.{Neg32, Neg64, Not32, Not64, Zero32, Zero64, S8to16, S8to32, S8to64, S16to32, S16to64, S32to64, U8to16, U8to32, U8to64, U16to32, U16to64, U32to64, Cut16to8, Cut32to8, Cut32to16, Cut64to8, Cut64to16, Cut64to32}
@@ -14,7 +14,6 @@ use Rattle.word_ops.specs.Operations.{sum_of, product_of, left_shift_of, right_s
 use Rattle.word_ops.proofs.Below.{below_width1, below_width2}
 use Rattle.word_ops.proofs.Residues.{residue_below}
 use Rattle.word_rules.specs.Bounds.{all_ones, ones_over, greatest_extension, greatest1, greatest2, greatest_by, BoundedResults1, BoundedResults2, BoundedResultsBy, BoundsAreBelowWidth1, BoundsAreBelowWidth2, BoundsAreBelowWidthBy}
-use Rattle.word_rules.specs.Magic.{HasDigits}
 use Rattle.word_rules.proofs.Digits.{digits_are_counted}
 use Rattle.word_rules.proofs.Patterns.{kept, signed_low}
 

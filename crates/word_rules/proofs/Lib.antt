@@ -1,8 +1,10 @@
+pub mod Digits
+pub mod Greatest
 pub mod Numbers
 pub mod Patterns
-pub mod Products
-pub mod Signs
 pub mod Powers
-pub mod Digits
+pub mod Products
 pub mod Reciprocals
-pub mod Greatest
+pub mod Signs
+pub mod UnsignedPowers
+pub mod WorkedNumbers

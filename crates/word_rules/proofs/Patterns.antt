@@ -1,13 +1,13 @@
 -- Patterns of w bits and the numbers that they stand for, and the rules over a width on operands whose exact result is a pattern.
-use Rattle.std.proofs.Common.{◌≡◌, ℕ, ◌+◌, ◌-◌, ◌*◌, ◌/◌, ◌%◌, ◌^◌, ◌<◌, ◌≤◌, Bool, true, false, cond, eqb, ltb, ◌⊎◌, inl, inr, refl, sym, ◌∙◌, ap, subst, arith}
-use Rattle.std.specs.Prelude.{ℤ, pos, negsuc, ◌-ℤ◌, ◌<ℤ◌}
+use Rattle.std.proofs.Common.{◌≡◌, ℕ, ◌+◌, ◌-◌, ◌*◌, ◌/◌, ◌%◌, ◌^◌, ◌<◌, ◌≤◌, Bool, true, false, eqb, ltb, refl, sym, ◌∙◌, ap, subst, arith}
+use Rattle.std.specs.Prelude.{ℤ, pos, negsuc, ◌-ℤ◌}
 use Rattle.std.proofs.lemmas.Bool.{cond_above, cond_below, cond-false, ltb-true, ltb-false, ne_eqb}
 use Rattle.std.proofs.lemmas.Int.{ints}
 use Rattle.std.proofs.lemmas.Nat.{pow_pos, mul-mod}
 use Rattle.std.proofs.Math.Nat.{mod-eq_of_lt, add-mod}
 use borrow.Author.Differences.{same_in, sum_is_lem, neg_is}
 use Rattle.el_base.specs.Numbers.{residue, signed_number, IsWithin}
-use Rattle.word_ops.specs.Operations.{sum_of, product_of, right_shift_of, quotient_of, remainder_of}
+use Rattle.word_ops.specs.Operations.{sum_of, product_of, right_shift_of, quotient_of}
 use Rattle.word_ops.proofs.Words.{half_twice}
 
 -- ---- the number of a pattern

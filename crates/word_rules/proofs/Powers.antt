@@ -1,17 +1,17 @@
 -- Signed quotients and remainders by powers of two.
 use Rattle.std.proofs.Common.{◌≡◌, ℕ, zero, suc, ◌+◌, ◌-◌, ◌*◌, ◌/◌, ◌%◌, ◌^◌, ◌<◌, ◌≤◌, Bool, true, false, lit<, lit≤, cond, eqb, ltb, refl, sym, ◌∙◌, ap, subst, arith}
-use Rattle.std.specs.Prelude.{ℤ, pos, negsuc, ◌+ℤ◌, ◌-ℤ◌, ◌*ℤ◌, neg_ℤ, int_div, int_rem, bit_and}
+use Rattle.std.specs.Prelude.{ℤ, pos, negsuc, ◌+ℤ◌, ◌-ℤ◌, ◌*ℤ◌, neg_ℤ, int_div, bit_and}
 use Rattle.std.specs.Int.{int_shr}
 use Rattle.std.specs.Int.Bits.{and_block, and_zero_r}
 use Rattle.std.proofs.lemmas.Bool.{cond_both, ltb-true, ltb-false}
-use Rattle.std.proofs.lemmas.Int.{ints, quot-rem}
-use Rattle.std.proofs.lemmas.Nat.{pow_pos, pow_below, pow-add, and_mask, shr_le, div-add-mod', div-mul-add, div_below, mod_below}
+use Rattle.std.proofs.lemmas.Int.{ints}
+use Rattle.std.proofs.lemmas.Nat.{pow_pos, pow_below, pow-add, and_mask, div-add-mod', div-mul-add, div_below, mod_below}
 use Rattle.std.proofs.lemmas.Nat.Bits.{ones_shr}
-use Rattle.std.proofs.Math.Nat.{mod-eq_of_lt, div-eq_of_lt, div-eq-sub-div, div-eq_of_lt-le, add-mod_left}
+use Rattle.std.proofs.Math.Nat.{mod-eq_of_lt, div-eq_of_lt, div-eq-sub-div, div-eq_of_lt-le}
 use Rattle.std.proofs.Math.Pow.{pow_mono}
-use borrow.Author.Differences.{same_in, same_out, sum_is_lem, neg_is}
+use borrow.Author.Differences.{same_in, sum_is_lem, neg_is}
 use borrow.Author.Tests.{eqb-true}
-use Rattle.el_base.specs.declared.operation.Op2.TheVariants.{Add32, Add64, Sub32, Sub64, And32, And64, Shru32, Shru64, Shrs32, Shrs64, Divs32, Divs64, Rems32, Rems64}
+use Rattle.el_base.specs.declared.operation.Op2.TheVariants.{Sub32, Sub64, And32, And64, Shrs32, Shrs64, Divs32, Divs64, Rems32, Rems64}
 use Rattle.el_base.specs.Numbers.{residue, signed_number, IsWithin}
 use Rattle.word_ops.specs.Operations.{op2_on, op2_result, sum_of, difference_of, right_shift_of, signed_shift_of, signed_quotient_of, signed_remainder_of}
 use Rattle.word_ops.proofs.Exact.{summed, subtracted, shifted_signed, divided_signed, rest_signed}
@@ -19,7 +19,7 @@ use Rattle.word_ops.proofs.Residues.{same_residue, residue_below}
 use Rattle.word_ops.proofs.Words.{half_twice}
 use Rattle.word_rules.specs.Quotients.{DividesByShift, LeavesByMask, biased32, biased64}
 use Rattle.word_rules.proofs.Signs.{remainder_is}
-use Rattle.word_rules.proofs.Patterns.{kept, right_shift_small, residue_natural, residue_signed, signed_within, signed_low, signed_high}
+use Rattle.word_rules.proofs.Patterns.{kept, right_shift_small, residue_signed, signed_within}
 
 -- ---- whole numbers
 

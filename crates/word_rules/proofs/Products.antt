@@ -1,20 +1,20 @@
 -- Quotients of patterns by products with magic numbers.
-use Rattle.std.proofs.Common.{◌≡◌, ℕ, suc, ◌+◌, ◌-◌, ◌*◌, ◌/◌, ◌%◌, ◌^◌, ◌<◌, ◌≤◌, true, false, lit<, lit≤, refl, sym, ◌∙◌, ap, subst, arith}
-use Rattle.std.specs.Prelude.{ℤ, pos, negsuc, ◌-ℤ◌, ◌*ℤ◌, neg_ℤ, int_div}
+use Rattle.std.proofs.Common.{◌≡◌, ℕ, suc, ◌+◌, ◌-◌, ◌*◌, ◌/◌, ◌%◌, ◌^◌, ◌<◌, ◌≤◌, true, lit<, lit≤, sym, ◌∙◌, ap, arith}
+use Rattle.std.specs.Prelude.{ℤ, pos, negsuc, ◌-ℤ◌, ◌*ℤ◌, int_div}
 use Rattle.std.specs.Int.{int_shr}
 use Rattle.std.proofs.lemmas.Int.{ints}
-use Rattle.std.proofs.lemmas.Nat.{pow_pos, mul-le, shr-shr, shr_le}
-use Rattle.std.proofs.Math.Nat.{mod-eq_of_lt, mul_comm, div-le_self, div-eq_of_lt, mul-le-mul_left, add-mul-div_right}
-use borrow.Author.Differences.{same_in, sum_is_lem, neg_is, product_is}
+use Rattle.std.proofs.lemmas.Nat.{mul-le, shr-shr}
+use Rattle.std.proofs.Math.Nat.{mul_comm, div-le_self, div-eq_of_lt, mul-le-mul_left}
+use borrow.Author.Differences.{same_in, sum_is_lem, neg_is}
 use Rattle.el_base.specs.declared.operation.Op1.TheVariants.{S32to64, U32to64, Cut64to32}
 use Rattle.el_base.specs.declared.operation.Op2.TheVariants.{Add64, Sub32, Mul64, Shru64, Shrs32, Shrs64, Divu32, Divu64, Divs32}
 use Rattle.el_base.specs.Numbers.{residue, signed_number, IsWithin}
 use Rattle.word_ops.specs.Operations.{op1_on, op2_on, op1_result, op2_result}
 use Rattle.word_ops.proofs.ByOperation as by
 use Rattle.word_rules.specs.Magic.{IsMagic, IsSignedMagic, FitsWord}
-use Rattle.word_rules.specs.Quotients.{shifted_product32, shifted_product64, shifted_long_product, shifted_signed_product, DividesByProduct, DividesByLongProduct, DividesBySignedProduct}
+use Rattle.word_rules.specs.Quotients.{shifted_product32, shifted_product64, shifted_signed_product, DividesByProduct, DividesByLongProduct, DividesBySignedProduct}
 use Rattle.word_rules.proofs.Numbers.{products_are_quotients, products_are_below_quotients}
-use Rattle.word_rules.proofs.Patterns.{kept, sum_small, product_small, right_shift_small, quotient_small, residue_natural, residue_signed, signed_within}
+use Rattle.word_rules.proofs.Patterns.{kept, sum_small, product_small, right_shift_small, quotient_small, residue_signed, signed_within}
 
 -- ---- what the operations give on small operands
 

@@ -1,17 +1,23 @@
 -- Magic numbers of each divisor.
-use Rattle.std.proofs.Common.{◌≡◌, ℕ, zero, suc, ◌+◌, ◌-◌, ◌*◌, ◌/◌, ◌%◌, ◌^◌, ◌<◌, ◌≤◌, refl, sym, ◌∙◌, ap, subst, arith}
-use Rattle.std.specs.Prelude.{min}
-use Rattle.std.specs.Int.{IsPowerOfTwo, div_ceil}
+use Rattle.std.proofs.Common.{◌≡◌, ℕ, ◌+◌, ◌-◌, ◌*◌, ◌^◌, ◌<◌, ◌≤◌, ap, arith}
 use Rattle.std.proofs.lemmas.Grind.{div_ceil_times}
-use Rattle.std.proofs.lemmas.Nat.{pow_pos, pow_below, pow-add, mul-lt, mul-le, mod_below, div-add-mod'}
-use Rattle.std.proofs.Math.Nat.{le_of_mul-le-mul_right, lt_of_mul-lt-mul_right, mul-le-mul_right, mul-le-mul_left, mul-lt-mul_of_pos_right, lt_of_not-le}
+use Rattle.std.proofs.lemmas.Nat.{pow_pos, pow-add}
+use Rattle.std.proofs.Math.Nat.{le_of_mul-le-mul_right, lt_of_mul-lt-mul_right, mul-le-mul_left, mul-lt-mul_of_pos_right, lt_of_not-le, div-le_self}
 use Rattle.std.proofs.Math.Pow.{pow_mono}
-use Rattle.word_rules.specs.Magic.{IsMagic, IsSignedMagic, HasDigits, reciprocal}
-use Rattle.word_rules.specs.Existence.{ReciprocalsAreClose, LongMagicExists, SignedMagicExists, SignedFactorsFit, FactorsAreAbove}
+use Rattle.word_rules.specs.Magic.{HasDigits, reciprocal}
+use Rattle.word_rules.specs.Existence.{ReciprocalsAreClose, CloseReciprocalsAreMagic, ReciprocalsFitWords, LongMagicExists, SignedMagicExists, SignedFactorsFit, FactorsAreAbove}
 use Rattle.word_rules.proofs.Digits.{power_from_divisor}
 
 pub reciprocals_are_close : ReciprocalsAreClose
 reciprocals_are_close d s some = div_ceil_times (2 ^ s) d some
+
+pub close_reciprocals_are_magic : CloseReciprocalsAreMagic
+close_reciprocals_are_magic d s top some h = record { above = (reciprocals_are_close d s some).0; close = h }
+
+pub reciprocals_fit_words : ReciprocalsFitWords
+reciprocals_fit_words d s some h =
+    let le : 2 ^ s ≤ 2 ^ 63 = pow_mono {i = s} {j = 63} (omega arith) in
+    omega (arith, div-le_self (2 ^ s) d)
 
 -- with t digits in d - 1, d is at most 2 ^ t and more than half of it
 module _ (d t : ℕ) (some : 0 < d) (digits : HasDigits (d - 1) t) where
@@ -57,12 +63,13 @@ module _ (d t : ℕ) (some : 0 < d) (digits : HasDigits (d - 1) t) where
       omega arith
 
 pub long_magic_exists : LongMagicExists
-long_magic_exists d t top some ld digits lt =
-    (record { above = (reciprocals_are_close d (32 + t) some).0; close = reciprocal_close d t some digits 32 top (omega arith) },
-     reciprocal_above d t some digits 32,
-     reciprocal_below d t some digits 32 (32 + t) (omega arith) (omega arith),
-     let k = digits_below d t some digits 32 (omega arith) in omega arith,
-     λ le. digits_below d t some digits 31 le)
+long_magic_exists d t top some ld digits lt = (
+  record { above = (reciprocals_are_close d (32 + t) some).0; close = reciprocal_close d t some digits 32 top (omega arith) },
+  reciprocal_above d t some digits 32,
+  reciprocal_below d t some digits 32 (32 + t) (omega arith) (omega arith),
+  let k = digits_below d t some digits 32 (omega arith) in omega arith,
+  λ le. digits_below d t some digits 31 le,
+)
 
 pub factors_are_above : FactorsAreAbove
 factors_are_above d s some apart =

@@ -1,11 +1,11 @@
 -- Signed division of numbers without sign, and remainders from quotients.
-use Rattle.std.proofs.Common.{◌≡◌, ℕ, ◌+◌, ◌-◌, ◌*◌, ◌/◌, ◌%◌, ◌^◌, ◌<◌, ◌≤◌, Bool, true, false, lit<, cond, eqb, refl, sym, ◌∙◌, ap, subst, arith}
-use Rattle.std.specs.Prelude.{ℤ, pos, negsuc, ◌-ℤ◌, ◌*ℤ◌, int_div, int_rem}
+use Rattle.std.proofs.Common.{◌≡◌, ℕ, ◌-◌, ◌/◌, ◌%◌, ◌^◌, ◌<◌, ◌≤◌, lit<, cond, eqb, refl, sym, ◌∙◌, ap, arith}
+use Rattle.std.specs.Prelude.{ℤ, pos, ◌-ℤ◌, ◌*ℤ◌, int_div, int_rem}
 use Rattle.std.proofs.lemmas.Int.{ints, quot-rem}
-use Rattle.std.proofs.Math.Nat.{mod-eq_of_lt, div-le_self, mod-le}
+use Rattle.std.proofs.Math.Nat.{div-le_self, mod-le}
 use borrow.Author.Differences.{same_in, same_out, sum_is_lem, neg_is}
 use Rattle.el_base.specs.declared.operation.Op2.TheVariants.{Sub32, Sub64, Mul32, Mul64, Divu32, Divu64, Remu32, Remu64, Divs32, Divs64, Rems32, Rems64}
-use Rattle.el_base.specs.Numbers.{residue, signed_number, IsWithin}
+use Rattle.el_base.specs.Numbers.{residue, signed_number}
 use Rattle.word_ops.specs.Operations.{op2_on, op2_result, quotient_of, remainder_of, signed_quotient_of, signed_remainder_of, difference_of, product_of}
 use Rattle.word_ops.proofs.Exact.{divided_unsigned, rest_unsigned, divided_signed, rest_signed, subtracted, multiplied}
 use Rattle.word_ops.proofs.Words.{half_twice}

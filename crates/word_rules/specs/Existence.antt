@@ -8,6 +8,13 @@ use Rattle.word_rules.specs.Magic.{IsMagic, IsSignedMagic, HasDigits, reciprocal
 abbrev pub ReciprocalsAreClose : Type 0
 ReciprocalsAreClose = (d s : ℕ) → 0 < d → (2 ^ s ≤ reciprocal d s * d) × (reciprocal d s * d < 2 ^ s + d)
 
+-- so it is a magic number where its distance is small enough for numbers up to top, and a factor of 64 bits
+abbrev pub CloseReciprocalsAreMagic : Type 0
+CloseReciprocalsAreMagic = (d s top : ℕ) → 0 < d → (reciprocal d s * d - 2 ^ s) * top < 2 ^ s → IsMagic top d s (reciprocal d s)
+
+abbrev pub ReciprocalsFitWords : Type 0
+ReciprocalsFitWords = (d s : ℕ) → 0 < d → s < 64 → reciprocal d s < 2 ^ 64
+
 -- digits are counted by the zeros that lead them
 abbrev pub DigitsAreCounted : Type 0
 DigitsAreCounted = (k a : ℕ) → a < 2 ^ k → HasDigits a (k - count_leading_zeros k a)

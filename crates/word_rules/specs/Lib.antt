@@ -1,5 +1,6 @@
+pub mod Bounds
+pub mod Existence
 pub mod Magic
 pub mod Numbers
 pub mod Quotients
-pub mod Existence
-pub mod Bounds
+pub mod Worked

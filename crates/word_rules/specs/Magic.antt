@@ -12,9 +12,8 @@ pub record IsSignedMagic (d s m : ℕ) : Type 0 where
   pub above : 2 ^ s < m * d
   pub close : (m * d - 2 ^ s) * 2 ^ 31 < 2 ^ s
 
--- m and its products with numbers up to top have at most 64 bits, and s is an amount by which 64 bits are shifted
+-- the products of m with numbers up to top have at most 64 bits, and s is an amount by which 64 bits are shifted
 pub record FitsWord (top s m : ℕ) : Type 0 where
-  pub factor : m < 2 ^ 64
   pub product : m * top < 2 ^ 64
   pub amount : s < 64
 

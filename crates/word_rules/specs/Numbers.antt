@@ -1,6 +1,6 @@
 -- Quotients by products and shifts, on natural and on whole numbers.
 -- The source is T. Granlund and P. L. Montgomery, "Division by Invariant Integers using Multiplication", PLDI 1994, 4.2 and 5.2.
-use Rattle.std.specs.Prelude.{ℕ, ◌-◌, ◌*◌, ◌/◌, ◌^◌, ◌<◌, ◌≤◌, ◌≡◌, ℤ, pos, ◌-ℤ◌, ◌*ℤ◌, ◌<ℤ◌, int_div}
+use Rattle.std.specs.Prelude.{ℕ, ◌*◌, ◌/◌, ◌^◌, ◌<◌, ◌≡◌, ℤ, pos, ◌-ℤ◌, ◌*ℤ◌, ◌<ℤ◌, int_div}
 use Rattle.std.specs.Int.{int_shr}
 use Rattle.std.specs.Int.RustNames.{unsigned_abs}
 use Rattle.word_rules.specs.Magic.{IsMagic}

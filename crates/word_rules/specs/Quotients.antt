@@ -6,6 +6,12 @@ use Rattle.el_base.specs.declared.operation.Op2.TheVariants.{Add32, Add64, Sub32
 use Rattle.word_ops.specs.Operations.{op1_result, op2_result}
 use Rattle.word_rules.specs.Magic.{IsMagic, IsSignedMagic, FitsWord}
 
+-- ---- by powers of two, unsigned
+
+-- the operation new by f k gives what the operation old gives by 2 ^ k
+abbrev pub ReplacesPower : ℕ → Op2 → (ℕ → ℕ) → Op2 → Type 0
+ReplacesPower w new f old = (n k : ℕ) → k < w → op2_result new n (f k) ≡ op2_result old n (2 ^ k)
+
 -- ---- unsigned quotients
 
 -- the product with m, shifted to the right by s: of patterns of 64 bits, and of 32 bits

@@ -2,6 +2,6 @@
 //! Each rule is a law: the contract of a function that does nothing.
 #![tactic(auto)]
 
-pub mod quotients;
 pub mod bounds;
 pub mod existence;
+pub mod quotients;

@@ -1,7 +1,8 @@
 //! Quotients and remainders by constants, as products, shifts, sums and masks.
+ghost use Rattle.std.specs.Prelude.{◌-◌, ◌^◌};
 ghost use Rattle.el_base.specs.declared.operation.Op2.TheVariants as op2;
 ghost use Rattle.word_rules.specs.Numbers.{ProductsAreQuotients, ProductsAreBelowQuotients};
-ghost use Rattle.word_rules.specs.Quotients.{DividesByProduct, DividesByLongProduct, DividesBySignedProduct, DividesByShift, LeavesByMask, SameWithoutSign, LeavesByQuotient, shifted_product32, shifted_product64, biased32, biased64};
+ghost use Rattle.word_rules.specs.Quotients.{ReplacesPower, DividesByProduct, DividesByLongProduct, DividesBySignedProduct, DividesByShift, LeavesByMask, SameWithoutSign, LeavesByQuotient, shifted_product32, shifted_product64, biased32, biased64};
 
 /// A number's product with a magic number of the divisor, shifted to the right, is the quotient; of a negative number it is one less.
 pub fn products_are_quotients()
@@ -19,6 +20,16 @@ pub fn unsigned_quotients_are_products()
 /// Signed quotients of all patterns of 32 bits, by a magic number of at most 32 bits.
 pub fn signed_quotients_are_products()
     ensures { DividesBySignedProduct }
+{}
+
+/// Products and unsigned quotients by a power of two are shifts, and remainders are masks.
+pub fn unsigned_powers_are_shifts()
+    ensures mul32 { ReplacesPower 32 op2.Shl32 (λ k. k) op2.Mul32 }
+    ensures mul64 { ReplacesPower 64 op2.Shl64 (λ k. k) op2.Mul64 }
+    ensures divu32 { ReplacesPower 32 op2.Shru32 (λ k. k) op2.Divu32 }
+    ensures divu64 { ReplacesPower 64 op2.Shru64 (λ k. k) op2.Divu64 }
+    ensures remu32 { ReplacesPower 32 op2.And32 (λ k. 2 ^ k - 1) op2.Remu32 }
+    ensures remu64 { ReplacesPower 64 op2.And64 (λ k. 2 ^ k - 1) op2.Remu64 }
 {}
 
 /// Signed quotients and remainders by a power of two: a negative dividend is biased by one less than the divisor.
