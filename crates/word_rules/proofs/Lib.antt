@@ -1,5 +1,6 @@
 pub mod Digits
 pub mod Greatest
+pub mod LeastAmounts
 pub mod Numbers
 pub mod Patterns
 pub mod Powers

@@ -1,19 +1,19 @@
 -- The greatest value that a result can have, where those of the operands are known.
 use Rattle.std.specs.Prelude.{ℕ, ◌+◌, ◌-◌, ◌*◌, ◌/◌, ◌%◌, ◌^◌, ◌<◌, ◌≤◌, nat_lt, min, max, if◌then◌else◌}
-use Rattle.std.specs.Int.Count.{count_leading_zeros}
 use Rattle.el_base.specs.declared.operation.Op1.{Op1}
 use Rattle.el_base.specs.declared.operation.Op1.TheVariants.{Neg32, Neg64, Not32, Not64, Zero32, Zero64, S8to16, S8to32, S8to64, S16to32, S16to64, S32to64, U8to16, U8to32, U8to64, U16to32, U16to64, U32to64, Cut16to8, Cut32to8, Cut32to16, Cut64to8, Cut64to16, Cut64to32}
 use Rattle.el_base.specs.declared.operation.Op2.{Op2}
 use Rattle.el_base.specs.declared.operation.Op2.TheVariants.{Add32, Add64, Sub32, Sub64, Mul32, Mul64, And32, And64, Or32, Or64, Xor32, Xor64, Shl32, Shl64, Shru32, Shru64, Shrs32, Shrs64, Divu32, Divu64, Remu32, Remu64, Divs32, Divs64, Rems32, Rems64, Eq32, Eq64, Ne32, Ne64, Ltu32, Ltu64, Leu32, Leu64, Lts32, Lts64, Les32, Les64}
 use Rattle.el_base.specs.Widths.{op1_in, op1_out, op2_in, op2_out}
 use Rattle.word_ops.specs.Operations.{op1_result, op2_result}
+use Rattle.word_rules.specs.Magic.{binary_digits}
 
 -- the greatest pattern of w bits, and that of as many bits as n has
 abbrev pub all_ones : ℕ → ℕ
 all_ones w = 2 ^ w - 1
 
 abbrev pub ones_over : ℕ → ℕ
-ones_over n = all_ones (64 - count_leading_zeros 64 n)
+ones_over n = all_ones (binary_digits n)
 
 -- an extension keeps a number without sign; that of another is some pattern
 abbrev pub greatest_extension : ℕ → ℕ → ℕ → ℕ

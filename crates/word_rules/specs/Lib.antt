@@ -1,3 +1,4 @@
+pub mod Amounts
 pub mod Bounds
 pub mod Existence
 pub mod Magic

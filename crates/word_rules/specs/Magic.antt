@@ -1,6 +1,7 @@
 -- Magic numbers: factors whose products, shifted to the right, are quotients by a constant.
 use Rattle.std.specs.Prelude.{ℕ, ◌+◌, ◌-◌, ◌*◌, ◌^◌, ◌<◌, ◌≤◌}
 use Rattle.std.specs.Int.{div_ceil}
+use Rattle.std.specs.Int.Count.{count_leading_zeros}
 
 -- m / 2 ^ s is 1 / d, or more by less than 1 / (d * top), so that n / d is m * n / 2 ^ s for each n up to top
 pub record IsMagic (top d s m : ℕ) : Type 0 where
@@ -25,3 +26,7 @@ reciprocal d s = div_ceil (2 ^ s) d
 pub record HasDigits (a t : ℕ) : Type 0 where
   pub below : a < 2 ^ t
   pub least : 2 ^ t ≤ 2 * a + 1
+
+-- how many binary digits a number below 2 ^ 64 has
+abbrev pub binary_digits : ℕ → ℕ
+binary_digits a = 64 - count_leading_zeros 64 a

@@ -2,6 +2,7 @@
 //! Each rule is a law: the contract of a function that does nothing.
 #![tactic(auto)]
 
+pub mod amounts;
 pub mod bounds;
 pub mod existence;
 pub mod quotients;
