@@ -4,8 +4,8 @@ them writes, and compares them with the tables of docs/TIMES.md under the headin
 tenth more than the table says is an alarm, and then this fails. A body that only costs time breaks no clause and changes no row:
 this is what notices it. Writes are counted beside the instructions, since most of what they cost is spent in the system.
 
-usage: tools/measure/instructions.py [BENCHES PROGRAM]   (at the top of the repository; those of tools/measure/benches.py and of
-                                                  tools/use/program.py, where none are named)"""
+usage: tools/measure/instructions.py [BENCHES PROGRAM]   (those of tools/measure/benches.py and of tools/use/program.py, where none
+                                                          are named)"""
 import pathlib
 import re
 import shutil
@@ -14,8 +14,10 @@ import sys
 import tempfile
 
 import benches
+from nets import histogram_inputs, with_idle_loops
 
-sys.path.insert(0, str(pathlib.Path(__file__).resolve().parents[1] / "use"))
+TOP = pathlib.Path(__file__).resolve().parents[2]
+sys.path.insert(0, str(TOP / "tools/use"))
 import program  # noqa: E402  (its folder was just named)
 
 HEADING = "## Instructions"
@@ -24,33 +26,14 @@ IDLE_LOOPS = 10_000
 PRINTING = f"printing {ELEMENTS:,} elements"
 
 
-def with_idle_loops(net, loops):
-    """The netlist with so many loops of a fork and a sum, in which no token ever is, behind its units."""
-    units = sum(line.startswith("unit ") for line in net.splitlines())
-    laid, chans = [], []
-    for loop in range(loops):
-        fork, add = units + 2 * loop, units + 2 * loop + 1
-        laid += ["unit fork 32 2", "unit op2 add32"]
-        chans += [f"chan {fork}.0 {add}.0 32 1 1", f"chan {fork}.1 {add}.1 32 1 1", f"chan {add}.0 {fork}.0 32 1 1"]
-    before, _, after = net.partition("\nchan ")
-    return "\n".join([before, *laid, "chan " + after.removesuffix("end\n").rstrip("\n"), *chans, "end", ""])
-
-
 def slow(net):
     """The netlist with a delay of 100 wherever it has one."""
     return re.sub(r"^(chan \S+ \S+ \d+ \d+) [1-9]\d*", r"\1 100", net, flags=re.MULTILINE)
 
 
-def histogram_inputs(net, turns):
-    """Inputs of the histogram's netlist."""
-    lengths = {name: int(length) for name, length in re.findall(r"^array (\w+) \w+ (\d+)", net, re.MULTILINE)}
-    values = " ".join(str((place * 37 + 11) % lengths["h"]) for place in range(lengths["x"]))
-    return f"n = {turns}\nx = {values}\nh = {' '.join('0' * lengths['h'])}\n"
-
-
 def calls(folder, made, elastic):
     """What each call of the programs benches and elastic tries, and its words."""
-    histogram, loop = (pathlib.Path("examples", name, "net.txt").read_text() for name in ("histogram", "countdown"))
+    histogram, loop = (pathlib.Path(TOP, "examples", name, "net.txt").read_text() for name in ("histogram", "countdown"))
     files = {
         "copy.c": f"void f(int32_t a[{ELEMENTS}]) {{ }}\n",
         "elements": f"a = {' '.join('0' * ELEMENTS)}\n",
@@ -63,7 +46,7 @@ def calls(folder, made, elastic):
     }
     for name, text in files.items():
         pathlib.Path(folder, name).write_text(text)
-    net, countdown = (str(pathlib.Path("examples", name, "net.txt").resolve()) for name in ("histogram", "countdown"))
+    net, countdown = (str(pathlib.Path(TOP, "examples", name, "net.txt")) for name in ("histogram", "countdown"))
     return {
         PRINTING: [elastic, "ref", "copy.c", "elements"],
         "placing buffers on some 20,000 channels": [made, "place", "20000"],
@@ -93,7 +76,7 @@ def writes(words, folder):
 
 def told():
     """The numbers of docs/TIMES.md, by call, of proved programs and of those before their proofs."""
-    section = pathlib.Path("docs/TIMES.md").read_text().partition(HEADING + "\n")[2].partition("\n## ")[0]
+    section = pathlib.Path(TOP, "docs/TIMES.md").read_text().partition(HEADING + "\n")[2].partition("\n## ")[0]
     rows = re.findall(r"^\| (.+?) \| ([\d,]+) \| ([\d,]+) \|$", section, re.MULTILINE)
     return {call: [int(count.replace(",", "")) for count in counts] for call, *counts in rows}
 
@@ -103,14 +86,11 @@ def is_unproved(made):
     return made.parent == program.TRY and not made.name.endswith("_proved")
 
 
-def main():
-    if len(sys.argv) not in (1, 3):
-        sys.exit(__doc__)
+def tell(made, elastic):
+    """Prints the table, and answers whether a call takes too much more than the document says."""
     if not shutil.which("valgrind"):
         print("instructions are counted by valgrind, which is not here")
-        return
-    named = [pathlib.Path(word).resolve() for word in sys.argv[1:]]
-    made, elastic = named or (benches.benches(), program.chosen())
+        return False
     before, alarms = told(), []
     with tempfile.TemporaryDirectory() as folder:
         tried = calls(folder, made, elastic)
@@ -123,8 +103,15 @@ def main():
             if 10 * count > 11 * before.get(call, [0, 0])[is_unproved(words[0])]:
                 alarms.append(call)
     if alarms:
-        sys.exit(f"more than a tenth more than docs/TIMES.md says: {'; '.join(alarms)}")
+        print(f"more than a tenth more than docs/TIMES.md says: {'; '.join(alarms)}", file=sys.stderr)
+    return bool(alarms)
+
+
+def main():
+    if len(sys.argv) not in (1, 3):
+        sys.exit(__doc__)
+    return tell(*[pathlib.Path(word).resolve() for word in sys.argv[1:]] or (benches.benches(), program.chosen()))
 
 
 if __name__ == "__main__":
-    main()
+    program.ended(main)

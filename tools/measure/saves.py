@@ -12,7 +12,7 @@ import sys
 import tempfile
 import time
 
-from instructions import histogram_inputs
+from nets import histogram_inputs
 
 TOP = pathlib.Path(__file__).resolve().parents[2]
 PROGRAM = pathlib.Path(sys.argv[1] if len(sys.argv) > 1 else TOP / "crates/elastic/out/elastic").resolve()

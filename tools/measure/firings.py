@@ -3,7 +3,7 @@
 of `run_cycles` alone, its opening included, without reading and compiling; a run of `benches cycles` opens twice more, and these
 are counted too. It prints the table of docs/TIMES.md, which has the same numbers on every machine, and the times beside.
 
-usage: tools/measure/bench_firings.py [BENCHES PROGRAM]   (those of tools/measure/benches.py and of tools/use/program.py, where none are named)"""
+usage: tools/measure/firings.py [BENCHES PROGRAM]   (those of tools/measure/benches.py and of tools/use/program.py, where none are named)"""
 import pathlib
 import re
 import shutil
@@ -11,8 +11,8 @@ import subprocess
 import sys
 import tempfile
 
-import bench_workers
 import benches
+import workers
 
 TOP = pathlib.Path(__file__).resolve().parents[2]
 sys.path.insert(0, str(TOP / "tools/use"))
@@ -41,7 +41,7 @@ def nets(folder, elastic):
         "`hist`, arrays of 1,024 elements, 1,024 turns": histogram(),
         "`examples/matrix`": example("matrix"),
         "`examples/crc`": example("crc"),
-        "20 recurrences in one loop (`tools/measure/bench_workers.py`), 500 turns": (bench_workers.recurrences(), "n = 500\n"),
+        "20 recurrences in one loop (`tools/measure/workers.py`), 500 turns": (workers.recurrences(), "n = 500\n"),
     }
     for number, (what, (kernel, inputs)) in enumerate(kernels.items()):
         (folder / f"{number}.c").write_text(kernel)
@@ -70,10 +70,8 @@ def counted(made, files, folder):
     return int(found[1]) if found and told.returncode == 0 else None
 
 
-def main():
-    if len(sys.argv) not in (1, 3):
-        sys.exit(__doc__)
-    made, elastic = [pathlib.Path(word).resolve() for word in sys.argv[1:]] or (benches.benches(), program.chosen())
+def tell(made, elastic):
+    """Prints the table."""
     print("| Net | Firings | Instructions | A firing | Nanoseconds |\n|---|---|---|---|---|")
     with tempfile.TemporaryDirectory() as name:
         folder = pathlib.Path(name)
@@ -84,5 +82,11 @@ def main():
             print(f"| {what} | {firings:,} | {' | '.join(cells)} | {nanoseconds:.0f} |", flush=True)
 
 
+def main():
+    if len(sys.argv) not in (1, 3):
+        sys.exit(__doc__)
+    tell(*[pathlib.Path(word).resolve() for word in sys.argv[1:]] or (benches.benches(), program.chosen()))
+
+
 if __name__ == "__main__":
-    main()
+    program.ended(main)
