@@ -1,12 +1,12 @@
 #!/usr/bin/env python3
-"""Builds each program of the repository without its proofs, runs it as the gate does (tools/house/given.py), and compares what it writes
-with its file stdout: the example of elastic, the rows of the crates given_*. Two are built at a time. What was built stands in .try,
-and is built anew when its sources change.
+"""Runs the test cases on programs made without proofs: builds each program that has a file stdout, runs it as continuous integration
+does (tools/house/given.py), and compares what it writes with that file: the example of elastic, the test data of the crates given_*.
+Two are built at a time. What was built stands in .try, and is built anew when its sources change.
 
-usage: tools/house/try_rows.py [CRATE..]   (every crate with a src/main.rt, where none is named)
+usage: tools/house/try_rows.py [CRATE..]   (all of them, where none is named)
 
-This is no proof: it tries what the rows try and nothing else. No contract is checked, and no wrong body is refused. `rt ci` is the
-gate; it builds each program by two compilers besides."""
+This is no proof: it tries what the test cases try and nothing else. No contract is checked, and no mutant is refused. given_laws has
+no test cases: it calls laws, which do nothing. `rt ci` checks all that, and builds each program by two compilers."""
 import concurrent.futures
 import pathlib
 import sys
@@ -27,8 +27,8 @@ MOST = 600
 
 
 def programs():
-    """The crates that are programs."""
-    return [name for name in sources.dependencies() if (program.TOP / "crates" / name / "src" / "main.rt").is_file()]
+    """The programs that have something to write."""
+    return [name for name in sources.dependencies() if (program.TOP / "crates" / name / "stdout").is_file()]
 
 
 def tried(name):
@@ -46,9 +46,9 @@ def main(names):
     with concurrent.futures.ThreadPoolExecutor(AT_ONCE) as pool:
         for name, (differ, seconds) in zip(names, pool.map(tried, names)):
             wrote = given.stream(program.TOP / "crates" / name, "stdout").count(b"\n")
-            print(f"{name}: {'FAILED' if differ else f'wrote the {wrote:,} lines that are given, in {seconds:.1f} s'}", *differ, sep="\n  ", flush=True)
+            print(f"{name}: {'FAILED' if differ else f'printed the expected {wrote:,} lines in {seconds:.1f} s'}", *differ, sep="\n  ", flush=True)
             failed += bool(differ)
-    print("without proofs: the gate is `rt ci`")
+    print("without proofs: `rt ci` makes them")
     print(f"{len(names) - failed} passed, {failed} failed")
     return bool(failed)
 
@@ -56,5 +56,5 @@ def main(names):
 if __name__ == "__main__":
     unknown = {*sys.argv[1:]} - {*programs()}
     if unknown:
-        sys.exit(f"no program: {', '.join(sorted(unknown))}")
+        sys.exit(f"no program with test cases: {', '.join(sorted(unknown))}")
     program.ended(lambda: main(sys.argv[1:] or programs()))
