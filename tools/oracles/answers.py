@@ -25,6 +25,7 @@ MOST_VISITS, MOST_FIRINGS, USUAL_FIRINGS = 40_000, 20_000, 8_000_000
 MOST_DEPTH, TOO_DEEP = 1024, "36 C7"
 BETWEEN = "%%\n"
 SLOW = {"graphs.tsv", "merged.tsv"}
+MOST_TOLD = 20
 
 
 class Passes:
@@ -203,6 +204,12 @@ def parts_of(crate):
     return parts
 
 
+def in_order(crate, parts):
+    """The parts in the order in which the crate's program answers its files."""
+    files = re.findall(r'^    \("([\w.]+)", Rows', (CRATES / crate / "src" / "rows.rt").read_text(), re.M)
+    return {name: parts[name] for name in [*files, *(name for name in parts if name not in files)] if name in parts}
+
+
 def rows_of(crate, name):
     return (CRATES / crate / "data" / name).read_text(encoding="latin-1").splitlines()[1:]
 
@@ -242,10 +249,10 @@ def main(words):
         sys.exit(f"no such file: {', '.join(sorted(names - every))}")
     for crate in FILES:
         parts, told = renewed(passes, crate, names)
-        print(*told, sep="\n", end="\n" * bool(told))
+        print(*told[:MOST_TOLD], *[f"{crate}: .."] * (len(told) > MOST_TOLD), sep="\n", end="\n" * bool(told))
         differ += len(told)
         if rest[0] == "write" and told:
-            text = "".join(f"== {name}\n" + "".join(f"{line}\n" for line in lines) for name, lines in parts.items())
+            text = "".join(f"== {name}\n" + "".join(f"{line}\n" for line in lines) for name, lines in in_order(crate, parts).items())
             (CRATES / crate / "stdout").write_text(text, encoding="latin-1")
     if "elastic" in names and program_text(passes) != (CRATES / "elastic" / "stdout").read_text():
         print("elastic: another output")
