@@ -6,9 +6,9 @@ use Rattle.std.proofs.lemmas.Bool.{ltb-true, lt-ltb}
 use Rattle.el_base.specs.declared.operation.Op2.TheVariants.{Divu32}
 use Rattle.word_ops.specs.Operations.{op2_result}
 use Rattle.word_rules.specs.Magic.{IsMagic, IsSignedMagic, HasDigits, reciprocal, binary_digits}
-use Rattle.word_rules.specs.Amounts.{serves, serves_signed, unsigned_amount, signed_amount, quotient_with, UnsignedAmountsServe, SignedAmountsServe, UnsignedQuotientsAreMade, SignedQuotientsAreMade}
+use Rattle.word_rules.specs.Amounts.{serves, serves_signed, unsigned_amount, signed_amount, quotient_with, UnsignedAmountsServe, SignedAmountsServe, UnsignedQuotientsAreMade, WideQuotientsAreMade, SignedQuotientsAreMade}
 use Rattle.word_rules.proofs.Digits.{digits_are_counted}
-use Rattle.word_rules.proofs.Products.{divides_by_product32, divides_by_long_product, divides_by_signed_product}
+use Rattle.word_rules.proofs.Products.{divides_by_product32, divides_by_product64, divides_by_long_product, divides_by_signed_product}
 use Rattle.word_rules.proofs.Reciprocals.{close_reciprocals_are_magic, reciprocals_fit_words, long_magic_exists, signed_magic_exists, signed_factors_fit, factors_are_above}
 
 -- ---- the first number of a range that passes a test
@@ -65,6 +65,11 @@ unsigned_quotients_are_made top d n some ld lt le = by (unsigned_amount top d) r
     by (Some s) e =
         let f = unsigned_amounts_serve top d s some e in
         divides_by_product32 top d s (reciprocal d s) n some ld (omega arith) le f.0 f.1
+
+pub wide_quotients_are_made : WideQuotientsAreMade
+wide_quotients_are_made top d s n some ld lt le e =
+    let f = unsigned_amounts_serve top d s some e in
+    divides_by_product64 top d s (reciprocal d s) n some ld (omega arith) le f.0 f.1
 
 -- ---- signed amounts
 
