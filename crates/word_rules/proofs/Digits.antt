@@ -33,6 +33,9 @@ some_set : (d : ℕ) → count_ones d ≡ 1 → 0 < d
 some_set zero e = absurd (omega (arith, none_set))
 some_set (suc n) e = omega arith
 
+doubled : (d : ℕ) → d ≡ d / 2 * 2 → IsPowerOfTwo (d / 2) → IsPowerOfTwo d
+doubled d e p = (p.0 + 1, e ∙ twice (d / 2) p.0 p.1)
+
 -- one step of the search for the power, by the lowest digit
 power_from_half : (d r : ℕ) → d % 2 ≡ r → count_ones d ≡ 1 → (count_ones (d / 2) ≡ 1 → IsPowerOfTwo (d / 2)) → IsPowerOfTwo d
 power_from_half d r q e f = by r q
@@ -43,9 +46,7 @@ power_from_half d r q e f = by r q
     by : (r : ℕ) → d % 2 ≡ r → IsPowerOfTwo d
     by zero q =
         let none : count_ones (d % 2) ≡ 0 = ap count_ones q ∙ none_set in
-        let half = f (omega (arith, parts)) in
-        let even : d ≡ d / 2 * 2 = omega arith in
-        (half.0 + 1, even ∙ twice (d / 2) half.0 half.1)
+        doubled d (omega arith) (f (omega (arith, parts)))
     by (suc r) q =
         let odd : d % 2 ≡ 1 = omega arith in
         let one : count_ones (d % 2) ≡ 1 = ap count_ones odd ∙ one_set in
@@ -71,8 +72,7 @@ one_step : (s d q r v : ℕ) → d % 2 ≡ r → q % 2 ≡ v → q * d ≡ 2 ^ s
 one_step s d q zero v f g e h k =
     let even : d ≡ d / 2 * 2 = omega arith in
     let product : q * (d / 2 * 2) ≡ 2 ^ s * 2 = ap (λ n. q * n) (sym even) ∙ e in
-    let half = h (omega arith) in
-    (half.0 + 1, even ∙ twice (d / 2) half.0 half.1)
+    doubled d even (h (omega arith))
 one_step s d q (suc r) zero f g e h k =
     let even : q ≡ q / 2 * 2 = omega arith in
     let product : q / 2 * 2 * d ≡ 2 ^ s * 2 = ap (λ n. n * d) (sym even) ∙ e in

@@ -5,10 +5,10 @@ use Rattle.std.specs.List.{find, range_with_len}
 use Rattle.std.proofs.lemmas.Bool.{ltb-true, lt-ltb}
 use Rattle.el_base.specs.declared.operation.Op2.TheVariants.{Divu32}
 use Rattle.word_ops.specs.Operations.{op2_result}
-use Rattle.word_rules.specs.Magic.{IsMagic, IsSignedMagic, FitsWord, HasDigits, reciprocal, binary_digits}
-use Rattle.word_rules.specs.Amounts.{serves, serves_signed, unsigned_amount, signed_amount, quotient_with, UnsignedAmountsServe, SignedAmountsServe, UnsignedQuotientsAreMade, SignedQuotientsAreMade}
+use Rattle.word_rules.specs.Magic.{IsMagic, IsSignedMagic, HasDigits, reciprocal, binary_digits}
+use Rattle.word_rules.specs.Amounts.{serves, serves_signed, unsigned_amount, signed_amount, quotient_with, UnsignedAmountsServe, SignedAmountsServe, UnsignedQuotientsAreMade, WideQuotientsAreMade, SignedQuotientsAreMade}
 use Rattle.word_rules.proofs.Digits.{digits_are_counted}
-use Rattle.word_rules.proofs.Products.{divides_by_product32, divides_by_long_product, divides_by_signed_product}
+use Rattle.word_rules.proofs.Products.{divides_by_product32, divides_by_product64, divides_by_long_product, divides_by_signed_product}
 use Rattle.word_rules.proofs.Reciprocals.{close_reciprocals_are_magic, reciprocals_fit_words, long_magic_exists, signed_magic_exists, signed_factors_fit, factors_are_above}
 
 -- ---- the first number of a range that passes a test
@@ -45,11 +45,12 @@ unsigned_amounts_serve top d s some e =
     let f = found_passes (serves top d) 32 32 s e in
     let m = reciprocal d s in
     let both = and_parts (ltb ((m * d - 2 ^ s) * top) (2 ^ s)) (ltb (m * top) (2 ^ 64)) f.0 in
-    let lt : s < 64 = omega (arith, f.2) in
-    (close_reciprocals_are_magic d s top some (ltb-true ((m * d - 2 ^ s) * top) (2 ^ s) both.0),
-     record { product = ltb-true (m * top) (2 ^ 64) both.1; amount = lt },
-     reciprocals_fit_words d s some lt,
-     f.1)
+    let lt : s < 64 = omega (arith, f.2) in (
+      close_reciprocals_are_magic d s top some (ltb-true ((m * d - 2 ^ s) * top) (2 ^ s) both.0),
+      record { product = ltb-true (m * top) (2 ^ 64) both.1; amount = lt },
+      reciprocals_fit_words d s some lt,
+      f.1,
+    )
 
 pub unsigned_quotients_are_made : UnsignedQuotientsAreMade
 unsigned_quotients_are_made top d n some ld lt le = by (unsigned_amount top d) refl
@@ -64,6 +65,11 @@ unsigned_quotients_are_made top d n some ld lt le = by (unsigned_amount top d) r
     by (Some s) e =
         let f = unsigned_amounts_serve top d s some e in
         divides_by_product32 top d s (reciprocal d s) n some ld (omega arith) le f.0 f.1
+
+pub wide_quotients_are_made : WideQuotientsAreMade
+wide_quotients_are_made top d s n some ld lt le e =
+    let f = unsigned_amounts_serve top d s some e in
+    divides_by_product64 top d s (reciprocal d s) n some ld (omega arith) le f.0 f.1
 
 -- ---- signed amounts
 

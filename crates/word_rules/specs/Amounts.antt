@@ -1,11 +1,11 @@
--- The least amounts that serve a divisor, and the quotients of patterns of 32 bits with them.
+-- The least amounts that serve a divisor, and the quotients of patterns with them.
 use Rattle.std.specs.Prelude.{ℕ, ◌+◌, ◌-◌, ◌*◌, ◌^◌, ◌<◌, ◌≤◌, ◌≡◌, Bool, ◌&&◌, nat_lt, Option, Some, None}
 use Rattle.std.specs.Int.{IsPowerOfTwo}
 use Rattle.std.specs.List.{find, range_with_len}
-use Rattle.el_base.specs.declared.operation.Op2.TheVariants.{Divu32, Divs32}
+use Rattle.el_base.specs.declared.operation.Op2.TheVariants.{Divu32, Divu64, Divs32}
 use Rattle.word_ops.specs.Operations.{op2_result}
 use Rattle.word_rules.specs.Magic.{IsMagic, IsSignedMagic, FitsWord, reciprocal, binary_digits}
-use Rattle.word_rules.specs.Quotients.{shifted_product32, shifted_long_product, shifted_signed_product}
+use Rattle.word_rules.specs.Quotients.{shifted_product32, shifted_product64, shifted_long_product, shifted_signed_product}
 
 -- the reciprocal for s is close enough for numbers up to top, and its products with them have 64 bits
 abbrev pub serves : ℕ → ℕ → ℕ → Bool
@@ -41,6 +41,10 @@ SignedAmountsServe =
 abbrev pub UnsignedQuotientsAreMade : Type 0
 UnsignedQuotientsAreMade =
     (top d n : ℕ) → 0 < d → d < 2 ^ 32 → top < 2 ^ 32 → n ≤ top → quotient_with (unsigned_amount top d) d n ≡ op2_result Divu32 n d
+
+abbrev pub WideQuotientsAreMade : Type 0
+WideQuotientsAreMade =
+    (top d s n : ℕ) → 0 < d → d < 2 ^ 64 → top < 2 ^ 64 → n ≤ top → unsigned_amount top d ≡ Some s → shifted_product64 n (reciprocal d s) s ≡ op2_result Divu64 n d
 
 abbrev pub SignedQuotientsAreMade : Type 0
 SignedQuotientsAreMade =

@@ -1,5 +1,4 @@
 //! Which magic numbers there are: what a search for the least amount of a shift, by a loop, knows at its end.
-ghost use Rattle.word_rules.specs.Worked.{ThreeIsWorked, SevenIsWorked, SignedSevenIsWorked, FourIsWorked};
 ghost use Rattle.word_rules.specs.Existence.{ReciprocalsAreClose, CloseReciprocalsAreMagic, ReciprocalsFitWords, DigitsAreCounted, PowersAreTold, LongMagicExists, SignedMagicExists, SignedFactorsFit, FactorsAreAbove};
 
 /// A reciprocal, as `div_ceil` gives it, is above the exact one by less than 1. What a search tests of it makes it a magic number.
@@ -26,12 +25,4 @@ pub fn signed_magic_exists()
     ensures exists { SignedMagicExists }
     ensures fits { SignedFactorsFit }
     ensures above { FactorsAreAbove }
-{}
-
-/// Worked examples: the magic numbers of 3 and 7, and what they give.
-pub fn magic_numbers_are_worked()
-    ensures three { ThreeIsWorked }
-    ensures seven { SevenIsWorked }
-    ensures signed_seven { SignedSevenIsWorked }
-    ensures four { FourIsWorked }
 {}

@@ -6,3 +6,4 @@ pub mod amounts;
 pub mod bounds;
 pub mod existence;
 pub mod quotients;
+pub mod worked;
