@@ -1,17 +1,17 @@
 #!/usr/bin/env python3
-"""Lists each place in crates/*/src that answers want of memory where no allocation has failed, and compares the list with the
+"""Lists each place in crates/*/src that returns "out of memory" where no allocation has failed, and compares the list with the
 one under the heading of docs/TESTED.md that says so. Fails where they differ.
 
-usage: tools/house/memories.py   (at the top of the repository; `make memory`)
+usage: tools/house/memories.py   (at the top of the repository; `make documents`)
 
-A place answers want of memory where a line has the value `Memory`, `KIND::Memory` or `AllocError`. An allocation has failed there if the line
-hands on another want of memory (an arm whose pattern names it, or an implementation of `From`), or stands in the branch of a
+A place returns out of memory where a line has the value `Memory`, `KIND::Memory` or `AllocError`. An allocation has failed there if the line
+passes on another one (an arm whose pattern names it, or an implementation of `From`), or stands in the branch of a
 call that allocates: the arm of an error of a `match`, or an `if` by `is_err`, whose head calls one of the words below."""
 import glob
 import re
 import sys
 
-HEADING = "Want of memory without a failed allocation"
+HEADING = "Out of memory without a failed allocation"
 ALLOCATING = re.compile(r"\.(push\w*|extend\w*|reserve\w*|add|copy|insert|try_\w+)\(|\bcopy\(")
 FAILED = re.compile(r"\bErr\(|\.is_err\(\) \{$")
 VALUE = re.compile(r"(?<![<\w.])(\w+::)*(Memory|AllocError)\b(?![>\w:])")
