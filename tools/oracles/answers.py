@@ -145,7 +145,8 @@ class Call:
 
 def of_circuit(words, files, answer):
     """The call of a row whose answer a circuit gives; else None."""
-    if int(re.match(r"\d+", answer)[0]) not in (0, 8, 10):
+    status = re.match(r"\d+", answer)
+    if status and int(status[0]) not in (0, 8, 10):
         return None
     call = Call(words, files)
     is_compiled = call.words[:1] in (["go"], ["compile"]) and all(word in call.files for word in call.words[1:])

@@ -102,6 +102,45 @@ def accesses(block):
     return sum(not is_pure(step) for step in block[1])
 
 
+# ---- graphs that are well formed
+
+def widths_in(op):
+    """The width of each operand of an operation."""
+    return int(op.lstrip("abcdefghijklmnopqrstuvwxyz").split("to")[0]) if is_conversion(op) else kind_of(op)[1]
+
+
+def fits(step, widths, elements):
+    """The width of a step's value, 0 of a store; None where a width, a value or an array is not as it has to be."""
+    kind, *words = step
+    if kind == "const":
+        return words[0] if words[1] < 1 << words[0] else None
+    known = [widths[value] if value < len(widths) else None for value in operands(step)]
+    wanted, width = {
+        "one": lambda: ([widths_in(words[0])], width_out(words[0])), "two": lambda: ([widths_in(words[0])] * 2, width_out(words[0])),
+        "select": lambda: ([32, words[0], words[0]], words[0]), "load": lambda: ([64], elements[words[0]]),
+        "store": lambda: ([64, elements[words[0]]], 0)}[kind]()
+    return width if known == wanted else None
+
+
+def is_graph(graph):
+    """Whether all widths, values, blocks and arrays are as they have to be."""
+    elements = graph.elements()
+    if not graph.blocks or graph.blocks[0][0] != [BITS[ty] for _, ty in graph.scalars]:
+        return False
+    for args, steps, jump in graph.blocks:
+        widths = list(args)
+        for step in steps:
+            width = fits(step, widths, elements)
+            if width is None:
+                return False
+            widths.append(width)
+        if jump[0] == "if" and widths[jump[1]] != 32 or any([widths[value] for value in given] != graph.blocks[to][0] for to, given in sides(jump)):
+            return False
+        if jump[0] == "return" and (jump[1] is None) != (graph.result is None) or jump[0] == "return" and jump[1] is not None and widths[jump[1]] != BITS[graph.result]:
+            return False
+    return True
+
+
 # ---- steps that nothing needs
 
 def jump_values(jump):
