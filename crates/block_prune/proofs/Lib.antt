@@ -4,6 +4,7 @@ pub mod Fits
 pub mod Goes
 pub mod LastStores
 pub mod LiveSteps
+pub mod Marks
 pub mod Numbers
 pub mod Onward
 pub mod Operands
