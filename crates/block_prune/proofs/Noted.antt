@@ -1,5 +1,5 @@
 -- The marks that the code gives from the last step on are those of the definition.
-use Rattle.std.proofs.Common.{◌≡◌, ℕ, zero, suc, ◌+◌, ◌<◌, ◌⊎◌, List, [], ◌∷◌, ◌++◌, length, get_or, drop, refl, sym, ◌∙◌, ap, arith, inl, inr}
+use Rattle.std.proofs.Common.{◌≡◌, ℕ, zero, suc, ◌+◌, ◌-◌, ◌<◌, ◌≤◌, List, [], ◌∷◌, ◌++◌, length, get_or, drop, refl, sym, ◌∙◌, ap, subst, arith, inl, inr}
 use Rattle.std.specs.Prelude.{Bool, true, false, ◌==◌, ◌&&◌, ◌||◌, not, filter, set, cond, replicate, if◌then◌else◌}
 use Rattle.std.proofs.Math.Bool.{or-true, or-false}
 use Rattle.std.proofs.Math.ListN.{drop_of_length-le}
@@ -90,17 +90,17 @@ pub record LastFrom (steps : List Instr) (k : ℕ) (ms : List Bool) (ps : List P
 
 pub last_start : (steps : List Instr) (k : ℕ) (ms : List Bool) (ps : List Place) → k ≡ length steps → length ms ≡ length steps → ps ≡ [] → LastFrom steps k ms ps
 last_start steps k ms ps e long none =
-    let past = drop_of_length-le steps (let le : length steps ≤-k k = omega arith in le) in
+    let past : drop k steps ≡ [] = drop_of_length-le steps (omega arith) in
     record {
       long = long;
       pending = none ∙ sym (ap all_noted past);
       marks = drop_of_length-le ms (omega arith) ∙ sym (ap lasting_marks past);
     }
 
-pub last_more : (steps : List Instr) (k : ℕ) (ms new : List Bool) (ps qs : List Place) (b : Bool) (d : Instr) → LastFrom steps (suc k) ms ps → k < length steps → d ≡ get_or steps k d
+last_more : (steps : List Instr) (k : ℕ) (ms new : List Bool) (ps qs : List Place) (b : Bool) (d e : Instr) → LastFrom steps (suc k) ms ps → k < length steps → d ≡ get_or steps k e
     → b ≡ lasts d ps → qs ≡ noted d ps → new ≡ set ms k b → LastFrom steps k new qs
-last_more steps k ms new ps qs b d h lt at mark note set_is =
-    let first = first_of steps k d lt at in
+last_more steps k ms new ps qs b d e h lt at mark note set_is =
+    let first = first_of steps k d e lt at in
     let more = drop (suc k) steps in
     record {
       long = ap length set_is ∙ length-set ms k b ∙ h.long;
@@ -109,8 +109,18 @@ last_more steps k ms new ps qs b d h lt at mark note set_is =
           ∙ ap (λ l. not (is_overwritten d more) ∷ l) h.marks ∙ sym (ap lasting_marks first);
     }
 
-pub last_end : (steps : List Instr) (ms : List Bool) (ps : List Place) → LastFrom steps 0 ms ps → ms ≡ lasting_marks steps
-last_end steps ms ps h = h.marks
+-- the step before the p-th
+pub last_before : (steps : List Instr) (p : ℕ) (ms new : List Bool) (ps qs : List Place) (b : Bool) (d e : Instr) → LastFrom steps p ms ps → 0 < p → p ≤ length steps
+    → d ≡ get_or steps (p - 1) e → b ≡ lasts d ps → qs ≡ noted d ps → new ≡ set ms (p - 1) b → LastFrom steps (p - 1) new qs
+last_before steps p ms new ps qs b d e h pos le at mark note set_is =
+    let k : p ≡ suc (p - 1) = omega arith in
+    last_more steps (p - 1) ms new ps qs b d e (subst (λ q. LastFrom steps q ms ps) k h) (omega arith) at mark note set_is
+
+pub last_end : (steps : List Instr) (k : ℕ) (ms : List Bool) (ps : List Place) → LastFrom steps k ms ps → k ≤ 0 → ms ≡ lasting_marks steps
+last_end steps k ms ps h le =
+    let none : k ≡ 0 = omega arith in
+    let first = subst (λ q. LastFrom steps q ms ps) none h in
+    first.marks
 
 -- ---- values that are needed
 
@@ -138,25 +148,60 @@ live_start last args steps k ms needed e long is =
       marks = drop_of_length-le ms (omega arith) ∙ sym (ap (live_marks last (args + k)) past);
     }
 
-pub live_more : (last : List ℕ) (args : ℕ) (steps : List Instr) (k : ℕ) (ms new needed more : List Bool) (b : Bool) (d : Instr) → LiveFrom last args steps (suc k) ms needed
-    → k < length steps → d ≡ get_or steps k d → b ≡ (not (is_pure d) || get_or needed (args + k) false)
+same_length : (c : Bool) (ms : List Bool) (xs : List ℕ) → length (if c then marked ms xs else ms) ≡ length ms
+same_length true ms xs = length_marked ms xs
+same_length false ms xs = refl
+
+-- where those of the rest are marked, those of a step more are
+needs_more : (c : Bool) (ms : List Bool) (xs rest : List ℕ) (a : ℕ) → a < length ms → get_or ms a false ≡ is_in rest a
+    → get_or (if c then marked ms xs else ms) a false ≡ is_in (if c then (xs ++ rest) else rest) a
+needs_more true ms xs rest a lt h =
+    marked_at ms xs a lt ∙ ap (λ (c : Bool). c || is_in xs a) h ∙ or_comm (is_in rest a) (is_in xs a) ∙ sym (list_any-append (λ y. y == a) xs rest)
+needs_more false ms xs rest a lt h = h
+
+live_more : (last : List ℕ) (args : ℕ) (steps : List Instr) (k : ℕ) (ms new needed more : List Bool) (b : Bool) (d e : Instr) → LiveFrom last args steps (suc k) ms needed
+    → k < length steps → d ≡ get_or steps k e → b ≡ (not (is_pure d) || get_or needed (args + k) false)
     → more ≡ (if b then marked needed (operands d) else needed) → new ≡ set ms k b → LiveFrom last args steps k new more
-live_more last args steps k ms new needed more b d h lt at live note set_is =
+live_more last args steps k ms new needed more b d e h lt at live note set_is =
+    let next : args + suc k ≡ suc (args + k) = omega arith in
+    let behind = drop (suc k) steps in
+    let rest = needed_from last (suc (args + k)) behind in
+    let first = first_of steps k d e lt at in
+    let needs : (a : ℕ) → a < length needed → get_or needed a false ≡ is_in rest a = λ a l. h.needs a l ∙ ap (λ n. is_in (needed_from last n behind) a) next in
+    let wide = h.wide in
+    let stays : b ≡ is_live (args + k) d rest = live ∙ ap (λ (c : Bool). not (is_pure d) || c) (needs (args + k) (omega (arith, wide, lt))) in
+    let same : length more ≡ length needed = ap length note ∙ same_length b needed (operands d) in
     record {
       long = ap length set_is ∙ length-set ms k b ∙ h.long;
-      wide = ap length note ∙ same_length b ∙ h.wide;
+      wide = same ∙ wide;
       needs = λ a l.
-          let few : a < length needed = (let e : length more ≡ length needed = ap length note ∙ same_length b in omega (arith, l, e)) in
-          ap (λ l. get_or l a false) note ∙ by b a few ∙ ap (λ (c : Bool). is_in (if c then (operands d ++ rest) else rest) a) stays ∙ sym (ap (λ l. is_in (needed_from last (args + k) l) a) first);
+          let few : a < length needed = omega (arith, l, same) in
+          ap (λ z. get_or z a false) note ∙ needs_more b needed (operands d) rest a few (needs a few)
+          ∙ ap (λ (c : Bool). is_in (if c then (operands d ++ rest) else rest) a) stays ∙ sym (ap (λ z. is_in (needed_from last (args + k) z) a) first);
       marks = ap (drop k) set_is ∙ drop_set ms k b (let l = h.long in omega (arith, l, lt)) ∙ ap (λ c. c ∷ drop (suc k) ms) stays
-          ∙ ap (λ l. is_live (args + k) d rest ∷ l) (h.marks ∙ ap (λ n. live_marks last n (drop (suc k) steps)) next) ∙ sym (ap (live_marks last (args + k)) first);
+          ∙ ap (λ z. is_live (args + k) d rest ∷ z) (h.marks ∙ ap (λ n. live_marks last n behind) next) ∙ sym (ap (live_marks last (args + k)) first);
     }
-  where
-    next : args + suc k ≡ suc (args + k)
-    next = omega arith
 
-    rest : List ℕ
-    rest = needed_from last (suc (args + k)) (drop (suc k) steps)
+-- the step before the p-th
+pub live_before : (last : List ℕ) (args : ℕ) (steps : List Instr) (p : ℕ) (ms new needed more : List Bool) (b : Bool) (d e : Instr) → LiveFrom last args steps p ms needed
+    → 0 < p → p ≤ length steps → d ≡ get_or steps (p - 1) e → b ≡ (not (is_pure d) || get_or needed (args + (p - 1)) false)
+    → more ≡ (if b then marked needed (operands d) else needed) → new ≡ set ms (p - 1) b → LiveFrom last args steps (p - 1) new more
+live_before last args steps p ms new needed more b d e h pos le at live note set_is =
+    let k : p ≡ suc (p - 1) = omega arith in
+    live_more last args steps (p - 1) ms new needed more b d e (subst (λ q. LiveFrom last args steps q ms needed) k h) (omega arith) at live note set_is
 
-    first : drop k steps ≡ d ∷ drop (suc k) steps
-    first = first_of steps k d lt at
+pub live_end : (last : List ℕ) (args : ℕ) (steps : List Instr) (k : ℕ) (ms needed : List Bool) → LiveFrom last args steps k ms needed → k ≤ 0 → ms ≡ live_marks last args steps
+live_end last args steps k ms needed h le =
+    let none : k ≡ 0 = omega arith in
+    let first = subst (λ q. LiveFrom last args steps q ms needed) none h in
+    first.marks ∙ ap (λ n. live_marks last n steps) (let e : args + 0 ≡ args = omega arith in e)
+
+-- ---- as many marks as steps
+
+pub length_lasting : (is : List Instr) → length (lasting_marks is) ≡ length is
+length_lasting [] = refl
+length_lasting (i ∷ is) = ap suc (length_lasting is)
+
+pub length_live : (last : List ℕ) (n : ℕ) (is : List Instr) → length (live_marks last n is) ≡ length is
+length_live last n [] = refl
+length_live last n (i ∷ is) = ap suc (length_live last (suc n) is)
