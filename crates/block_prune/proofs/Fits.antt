@@ -1,5 +1,5 @@
 -- Steps and jumps fit under new numbers where steps go that they do not name.
-use Rattle.std.proofs.Common.{◌≡◌, ℕ, suc, List, [], ◌∷◌, ◌++◌, map, Option, Some, None, refl, sym, ap, subst}
+use Rattle.std.proofs.Common.{◌≡◌, ℕ, suc, List, [], ◌∷◌, ◌++◌, map, Option, Some, None, refl, sym, subst}
 use Rattle.std.specs.Prelude.{Bool, true, false, option_map}
 use Rattle.std.specs.List.{AllByRecursion}
 use Rattle.el_base.specs.declared.ty.Ty.{Ty}

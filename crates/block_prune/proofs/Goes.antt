@@ -1,7 +1,7 @@
 -- What one block keeps of another goes on to the next, so a pruned block keeps what a pass has to keep.
-use Rattle.std.proofs.Common.{◌≡◌, ℕ, List, sym, ◌∙◌, ap, subst}
+use Rattle.std.proofs.Common.{ℕ, List, sym, ◌∙◌, subst}
 use Rattle.ir.specs.declared.graph.Block.{Block}
-use Rattle.ir.specs.Graphs.{Graph, IsBlock}
+use Rattle.ir.specs.Graphs.{Graph}
 use Rattle.block_pass.specs.Fitting.{FitWidths}
 use Rattle.block_pass.specs.Blocks.{BlockShare}
 use Rattle.block_prune.specs.Overwritten.{without_overwritten}

@@ -4,10 +4,13 @@ pub mod Fits
 pub mod Goes
 pub mod LastStores
 pub mod LiveSteps
+pub mod Marks
+pub mod Noted
 pub mod Numbers
 pub mod Onward
 pub mod Operands
 pub mod Pending
 pub mod Shares
 pub mod Stores
+pub mod Tables
 pub mod Works

@@ -1,19 +1,17 @@
 -- A block of which the marked steps stay keeps what a pass has to keep, where the others may go.
-use Rattle.std.proofs.Common.{◌≡◌, ℕ, suc, ◌<◌, ◌⊎◌, List, [], ◌∷◌, map, length, Option, Some, refl, sym, ◌∙◌, ap, subst, arith, inl, inr}
-use Rattle.std.specs.Prelude.{Bool, true, false}
+use Rattle.std.proofs.Common.{◌≡◌, ℕ, suc, List, [], ◌∷◌, map, length, Option, Some, refl, ap, arith, inl, inr}
+use Rattle.std.specs.Prelude.{Bool}
 use Rattle.std.proofs.lemmas.List.{length-map}
 use Rattle.ir.specs.declared.graph.Block.{Block}
 use Rattle.ir.specs.Steps.{through, beginning}
 use Rattle.ir.specs.Shapes.{Shape}
 use Rattle.ir.specs.Graphs.{Graph, IsBlock, shape_of}
-use Rattle.ir.specs.Renaming.{renamed}
 use Rattle.block_pass.specs.Fitting.{FitWidths}
 use Rattle.block_pass.specs.Blocks.{BlockShare, StoresTo}
-use Rattle.block_prune.specs.Kept.{kept_steps, kept_block, new_number}
+use Rattle.block_prune.specs.Kept.{kept_block, new_number}
 use Rattle.block_prune.specs.Dead.{jump_operands}
 use Rattle.block_prune.proofs.Numbers.{is_kept, marked, args_renumber}
-use Rattle.block_prune.proofs.Again.{StoresIn}
-use Rattle.block_prune.proofs.Elements.{element, arrays_equal}
+use Rattle.block_prune.proofs.Elements.{arrays_equal}
 use Rattle.block_prune.proofs.Pending.{AgreeBut, Owes}
 use Rattle.block_prune.proofs.Fits.{AllKept, NameKept, FitAfter, steps_fit, keeps_widths, jump_fits}
 use Rattle.block_prune.proofs.Works.{MayGo, Follow, Followed, follow_all, same_value}

@@ -1,5 +1,5 @@
 -- Each array to which a step stores keeps a store.
-use Rattle.std.proofs.Common.{◌≡◌, ℕ, zero, suc, ◌<◌, ◌⊎◌, List, [], ◌∷◌, map, Some, sym, ◌∙◌, ap, refl, inl, inr, arith}
+use Rattle.std.proofs.Common.{◌≡◌, ℕ, zero, suc, ◌⊎◌, List, [], ◌∷◌, map, Some, sym, ◌∙◌, ap, refl, inl, inr, arith}
 use Rattle.std.specs.Prelude.{Bool, true, false, slice_get}
 use Rattle.std.proofs.lemmas.Option.{slice_get_within}
 use Rattle.ir.specs.declared.instr.Instr.{Instr}

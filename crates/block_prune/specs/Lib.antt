@@ -3,3 +3,4 @@ pub mod Overwritten
 pub mod Dead
 pub mod Pruned
 pub mod Laws
+pub mod Code

@@ -2,7 +2,12 @@
 //! the jump nor a step that stays needs.
 #![tactic(auto)]
 
+mod keeping;
 mod laws;
+mod live;
+mod overwritten;
+mod pruning;
 
 pub use ir::{Block, Memory};
 pub use laws::pruned_blocks_keep;
+pub use pruning::prune_block;
