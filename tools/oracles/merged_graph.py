@@ -1,12 +1,11 @@
 #!/usr/bin/env python3
-"""The merged graph of a kernel, made beside the program, from the definitions of the normal form, of its graph over variables,
-of live arguments and of merged graphs: for rows that hold graphs of kernels or their numbers.
+"""The merged graph of a kernel, made beside the program from the definitions of the normal form, live arguments and merged graphs.
 
-usage: tools/oracles/merged_graph.py KERNEL    KERNEL: a file with the text of a kernel, without helper functions. Its graph is printed before
-                                       and after merging, the blocks and the size of each, and the arguments of each block but block 0;
-                                       graphs in the form of the graphs of given_middle, which tools/oracles/lean_net.py reads
-       tools/oracles/merged_graph.py --told    the same of each graph on standard input, one a line: its scalars, its arrays, the type of its
-                                       result and its blocks, with tabs between"""
+usage: tools/oracles/merged_graph.py KERNEL | --told
+
+KERNEL is the text of a kernel without helper functions (programs.py reads those). Its graph is printed before and after merging, the
+blocks and the size of each, and the arguments of each block but block 0; graphs in the form of those of given_middle, which lean_net.py
+reads. --told prints the same of graphs on standard input, one a line: scalars, arrays, the result's type and blocks, with tabs between."""
 import re
 import sys
 
@@ -58,7 +57,7 @@ class Reader:
                 macros[found.group(1)] = self.tokens(found.group(2), macros)
             elif not line.strip().startswith("#"):
                 self.words += self.tokens(line, macros)
-        self.types, self.arrays, self.scopes, self.params = [], [], [{}], []
+        self.types, self.names, self.arrays, self.scopes, self.params = [], [], [], [{}], []
         self.result = self.type_or_void()
         self.name = self.take()
         self.expect("(")
@@ -122,6 +121,7 @@ class Reader:
     def declare(self, name, ty):
         self.scopes[-1][name] = ("var", len(self.types), ty)
         self.types.append(ty)
+        self.names.append(name)
         return len(self.types) - 1
 
     def known(self, name):
@@ -760,9 +760,8 @@ def told(blocks):
     return out
 
 
-def graphs(kernel):
+def graphs(tree):
     """The parts of a header, and the blocks before and after merging."""
-    tree = Reader(kernel)
     form = Normal(tree)
     blocks = argued(tree, form, Draft(tree, form).blocks)
     lengths = []
@@ -789,13 +788,12 @@ def show(header, before, after):
 def main(words):
     if len(words) != 1:
         sys.exit(__doc__)
-    if words == ["--told"]:
-        for line in sys.stdin:
-            *header, blocks = line.rstrip("\n").split("\t")
-            show(header, told(blocks), merged(told(blocks)))
-        return
-    with open(words[0]) as kernel:
-        show(*graphs(kernel.read()))
+    if words != ["--told"]:
+        with open(words[0]) as kernel:
+            return show(*graphs(Reader(kernel.read())))
+    for line in sys.stdin:
+        *header, blocks = line.rstrip("\n").split("\t")
+        show(header, told(blocks), merged(told(blocks)))
 
 
 if __name__ == "__main__":

@@ -4,16 +4,17 @@
     tools/use/name_units.py KERNEL NETLIST > names.txt
 
 NETLIST is what `elastic compile KERNEL` printed, with any options; `-` is the standard input. The block graph of the kernel is computed
-by tools/oracles/merged_graph.py, and the circuit is built from it by tools/oracles/lean_net.py; both are written beside the program. So the netlist must
-have the units and the channels of that circuit, and where it has not, nothing is printed. A line `UNIT NAME` says
+by merged_graph.py and programs.py of tools/oracles, and the circuit is built from it by lean_net.py; they are written beside the
+program. So the netlist must have the units and the channels of that circuit, and where it has not, nothing is printed. A line
+`UNIT NAME` says
 
 - of a mux: its block has this variable as an argument;
 - of a branch: it leads this variable into one of two blocks;
 - of a constant, an operation, a `select` or a `read`: the variable is set to its value.
 
-A line `UNIT.PLACE NAME` says the latter of a load port of a queue. `draw.py --names names.txt` draws the names, and `draw.py --kernel
-KERNEL` makes them itself. A unit of a value that no variable of the kernel has gets no line. Kernels with helper functions are refused:
-merged_graph.py does not read them."""
+A line `UNIT.PLACE NAME` says the latter of a load port of a queue. The variable x of a helper h is named `h.x`, the value of a call
+`h()`. `draw.py --names names.txt` draws the names, and `draw.py --kernel KERNEL` makes them itself. A unit of a value that no variable
+of the kernel has gets no line."""
 import pathlib
 import sys
 
@@ -22,6 +23,7 @@ sys.path[:0] = [str(TOP / folder) for folder in ("tools/oracles", "examples/clie
 import lean_net  # noqa: E402  (their folders were just named)
 import merged_graph  # noqa: E402
 import netlist  # noqa: E402
+import programs  # noqa: E402
 
 
 class NoNames(Exception):
@@ -33,16 +35,22 @@ class Word(str):
     names = ()
 
 
-class Reader(merged_graph.Reader):
-    """A reader that keeps the variables' names."""
+class Program(programs.Program):
+    """The tree of a kernel without calls, with the names of its variables by number: those of a helper behind the helper's name, and
+    the value of a call by that name with parentheses."""
 
     def __init__(self, text):
-        self.names = []
+        self.names = {}
         super().__init__(text)
+        kernel = programs.Function(programs.functions(text)[-1], self.helpers)
+        self.names.update(enumerate(kernel.names))
 
-    def declare(self, name, ty):
-        self.names.append(name)
-        return super().declare(name, ty)
+    def call(self, e, before):
+        fresh, helper = super().call(e, before), self.helpers[e[2]]
+        first = fresh[2] - len(helper.types)
+        self.names.update({first + at: f"{helper.name}.{name}" for at, name in enumerate(helper.names)})
+        self.names[fresh[2]] = f"{helper.name}()"
+        return fresh
 
 
 class Draft(merged_graph.Draft):
@@ -57,7 +65,7 @@ class Draft(merged_graph.Draft):
         if statement[0] != "assign" or statement[1][0] != "var":
             return
         variable, step = statement[1][2], self.env[statement[1][2]] - self.count
-        if variable < len(self.names) and step >= 0:
+        if variable in self.names and step >= 0:
             word = Word(self.steps[step][0])
             word.names = (*getattr(self.steps[step][0], "names", ()), self.names[variable])
             self.steps[step] = (word, *self.steps[step][1:])
@@ -66,7 +74,7 @@ class Draft(merged_graph.Draft):
 def graph(text):
     """The header and the blocks of a kernel's merged graph, and for each block the names of its values: of the arguments, which come
     first, and of the steps."""
-    tree = Reader(text)
+    tree = Program(text)
     form = merged_graph.Normal(tree)
     draft = Draft(tree, form)
     arguments = merged_graph.live(draft.blocks, draft.count)
@@ -80,9 +88,9 @@ def graph(text):
     blocks = merged_graph.reached(blocks)
     names = []
     for (_, steps, _), number in zip(blocks, second):
-        held = [tree.names[it] if it < len(tree.names) else "" for it in arguments[first[number]]]
+        held = [tree.names.get(it, "") for it in arguments[first[number]]]
         names.append(held + [", ".join(dict.fromkeys(getattr(step[0], "names", ()))) for step in steps])
-    header, _, merged = merged_graph.graphs(text)
+    header, _, merged = merged_graph.graphs(tree)
     if merged != blocks:
         raise NoNames("its merged graph came out in two ways; tools/use/name_units.py has to follow tools/oracles/merged_graph.py")
     return header, blocks, names
@@ -131,8 +139,7 @@ def names(text, net):
         header, blocks, values = graph(text)
         drawing = Drawing(header, blocks, values)
     except (AssertionError, AttributeError, IndexError, KeyError, StopIteration, TypeError, ValueError) as wrong:
-        raise NoNames("its block graph is not computed here: a kernel with helper functions, or one that `elastic compile` "
-                      "refuses") from wrong
+        raise NoNames("its block graph is not computed here; does `elastic compile` take the kernel?") from wrong
     units = [plain(*(lambda kind, *words: (kind, words))(*unit.split())) for unit in drawing.units]
     channels = [(start, to) for start, to, _, _ in drawing.chans]
     if (units, channels) != ([plain(it.kind, it.words) for it in net.units], [(it.source, it.target) for it in net.channels]):
