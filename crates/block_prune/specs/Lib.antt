@@ -1,0 +1,6 @@
+pub mod Kept
+pub mod Overwritten
+pub mod Dead
+pub mod Pruned
+pub mod Laws
+pub mod Code
