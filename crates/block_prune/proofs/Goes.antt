@@ -6,6 +6,7 @@ use Rattle.block_pass.specs.Fitting.{FitWidths}
 use Rattle.block_pass.specs.Blocks.{BlockShare}
 use Rattle.block_prune.specs.Overwritten.{without_overwritten}
 use Rattle.block_prune.specs.Laws.{PrunedBlocksKeep}
+use Rattle.block_prune.specs.Pruned.{pruned}
 use Rattle.block_prune.proofs.LastStores.{overwritten_may_go}
 use Rattle.block_prune.proofs.LiveSteps.{dead_may_go}
 
@@ -24,6 +25,7 @@ go_on g b c d p q =
     }
 
 pub pruned_keep : PrunedBlocksKeep
+unfolding pruned
 pruned_keep g b is =
     let p = overwritten_may_go g b is in
     let c = without_overwritten b in

@@ -3,4 +3,5 @@ pub mod Overwritten
 pub mod Dead
 pub mod Pruned
 pub mod Laws
+pub mod Sample
 pub mod Code

@@ -3,5 +3,5 @@ use Rattle.ir.specs.declared.graph.Block.{Block}
 use Rattle.block_prune.specs.Overwritten.{without_overwritten}
 use Rattle.block_prune.specs.Dead.{without_dead}
 
-abbrev pub pruned : Block → Block
+unfoldable pub pruned : Block → Block
 pruned b = without_dead (without_overwritten b)

@@ -7,7 +7,9 @@ mod laws;
 mod live;
 mod overwritten;
 mod pruning;
+mod worked;
 
 pub use ir::{Block, Memory};
 pub use laws::pruned_blocks_keep;
 pub use pruning::prune_block;
+pub use worked::sample_is_pruned;

@@ -19,6 +19,7 @@ use std::alloc::Global;
 /// # Errors
 ///
 /// [`Memory`] where memory is wanting.
+#[tactic(auto, unfolding(crate::specs::Pruned::pruned))]
 pub fn prune_block(alloc: Global, block: &Block) -> Result<Block, Memory>
     requires { IsNumbered (length block.now.args + length block.now.steps) }
     ensures { IfOk result (λ b. b ≡ pruned block.now) }
