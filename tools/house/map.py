@@ -1,18 +1,18 @@
 #!/usr/bin/env python3
 """Maps of the repository that are counted, and not written.
 
-  tools/house/map.py sizes                 lines of code, definitions and proofs, and mutants, of each crate
-  tools/house/map.py definitions FILE..    all that these files rest on: the definition files that a source file's contracts or a
-                                     definition file reach, each after those that it stands on, with their lines, and then
-                                     the Rust types and traits that these and the files cite, with where they stand
-  tools/house/map.py meaning [CRATE]       the definition files of a crate, or of all, with what their head comments say
-  tools/house/map.py words                 words of specs/ that have two definitions: in a crate, or in it and one below it
-  tools/house/map.py like NAME             the files that name a variant, a field or another word, by crate, with how often
-  tools/house/map.py proofs CRATE          the proof files of a crate, with what their first line says
-  tools/house/map.py counted [--write]     numbers of README.md and docs/ that are counted here, and differ; --write puts them right
-  tools/house/map.py names                 backticked names of README.md and docs/ that stand nowhere in the repository
-  tools/house/map.py sentences             sentences of more than 35 words outside tables and cells of tables of more than 400
-                                     characters in README.md and docs/, and README.md where it has more than 700 words
+  map.py sizes                 lines of code, definitions and proofs, and mutants, of each crate
+  map.py definitions FILE..    all that these files rest on: the definition files that a source file's contracts or a
+                               definition file reach, each after those that it stands on, with their lines, and then
+                               the Rust types and traits that these and the files cite, with where they stand
+  map.py meaning [CRATE]       the definition files of a crate, or of all, with what their head comments say
+  map.py words                 words of specs/ that have two definitions: in a crate, or in it and one below it
+  map.py like NAME             the files that name a variant, a field or another word, by crate, with how often
+  map.py proofs CRATE          the proof files of a crate, with what their first line says
+  map.py counted [--write]     numbers of README.md and docs/ that are counted here, and differ; --write puts them right
+  map.py names                 backticked names of README.md and docs/ that stand nowhere in the repository
+  map.py sentences             sentences of more than 35 words outside tables and cells of tables of more than 400
+                               characters in README.md and docs/, and documents that have too many words
 """
 import collections
 import itertools
@@ -265,6 +265,8 @@ def meaning(crates):
                 print(f"{file.relative_to(CRATES)}: {' '.join(said[:2 if said[0].startswith('Private') else 1])}")
 
 
+# How many words a document may have, and all of docs/.
+MOST_WORDS = {"README.md": 700, "docs/TIMES.md": 2_000, "docs": 45_000}
 # Names of the shell that documents may cite.
 STANDARD = {"xargs"}
 
@@ -313,9 +315,9 @@ def sentences():
             else:
                 said = re.split(r"(?<=[.!?])[\"')*]*\s+", line.strip())
                 found += [f"{at}: a sentence of {len(it.split())} words: {it[:60]}" for it in said if len(it.split()) > 35]
-    size = len((TOP / "README.md").read_text().split())
-    if size > 700:
-        found.append(f"README.md: {size} words")
+    sizes = {str(file.relative_to(TOP)): len(file.read_text().split()) for file in documents()}
+    sizes["docs"] = sum(sizes.values()) - sizes["README.md"]
+    found += [f"{name}: {sizes[name]:,} words, above {most:,}" for name, most in MOST_WORDS.items() if sizes[name] > most]
     print("".join(f"{it}\n" for it in found), end="")
     sys.exit(1 if found else 0)
 
