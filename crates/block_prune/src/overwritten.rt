@@ -15,7 +15,7 @@ struct Place {
 
 /// For each step whether it stays: it is no store, or none of the steps behind it overwrites it.
 ///
-/// The time is that of a search among the places that later steps store to, for each store.
+/// The time is as the number of steps, and for each load and store as the number of stores behind it.
 ///
 /// # Errors
 ///

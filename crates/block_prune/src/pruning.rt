@@ -13,8 +13,8 @@ use std::alloc::Global;
 
 /// The block without the stores that a later store of it overwrites, and without the pure steps that nothing then needs.
 ///
-/// It asks that a `u32` can number the block's values. The time is as the block's weight, and for each store a search among
-/// the places that later steps store to.
+/// It asks that a `u32` can number the block's values. The time is as the block's weight, and for each load and store as the
+/// number of stores behind it.
 ///
 /// # Errors
 ///
