@@ -3,18 +3,16 @@ use Rattle.std.proofs.Common.{List, None, Option, Some, ap, arith, inl, inr, ref
 use Rattle.std.specs.Prelude.{Bool, true, false, cond, ◌==◌, ◌&&◌, not, nat_le, option_map, sum_by}
 use Rattle.std.specs.Option.{option_or}
 use Rattle.std.proofs.lemmas.Option.{same_Some}
-use Rattle.std.proofs.lemmas.Bool.{cases_eq}
 use Rattle.ir.specs.declared.graph.Block.{Block}
 use Rattle.ir.specs.declared.graph.Jump.{Jump}
 use Rattle.ir.specs.declared.graph.Jump.TheVariants.{Go, Two, Return}
 use Rattle.ir.specs.declared.graph.To.{To}
-use Rattle.ir.specs.declared.instr.Instr.{Instr}
 use Rattle.ir.specs.Accesses.{accesses_in}
 use Rattle.block_merge.specs.Renamed.{block_of}
 use Rattle.block_select.specs.declared.arms.Way.{Way}
 use Rattle.block_select.specs.declared.arms.Way.TheVariants.{Direct, ByArm}
 use Rattle.block_select.specs.declared.arms.Meeting.{Meeting}
-use Rattle.block_select.specs.Arms.{step_cost, max_arm_cost, are_arm_steps, arm_of_jump, arm_of, side_end, meeting_of_ends, meeting_by, meeting}
+use Rattle.block_select.specs.Arms.{step_cost, max_arm_cost, are_arm_steps, arm_of_jump, side_end, meeting_of_ends, meeting_by, meeting}
 
 -- ---- arms
 

@@ -1,5 +1,5 @@
 -- Further steps leave earlier values and widths as they are; steps without accesses leave all else, too.
-use Rattle.std.proofs.Common.{List, Some, [], ap, arith, length, length-append, map, refl, suc, sym, zero, ℕ, ◌++◌, ◌+◌, ◌<◌, ◌∙◌, ◌∷◌, ◌≡◌}
+use Rattle.std.proofs.Common.{List, Some, [], ap, arith, length, length-append, map, refl, suc, zero, ℕ, ◌++◌, ◌+◌, ◌<◌, ◌∙◌, ◌∷◌, ◌≡◌}
 use Rattle.std.specs.Prelude.{slice_get}
 use Rattle.std.specs.List.{flat_map}
 use Rattle.std.proofs.lemmas.Option.{slice_get_within}
@@ -21,7 +21,7 @@ value_kept (i ∷ is) w a lt =
     let x = step_value i w.values w.arrays in
     value_kept is (after_step i w) a (omega (arith, lt, length-append w.values (x ∷ []))) ∙ get_or_append_left w.values (x ∷ []) 0 a lt
 
-in_front : (ws us : Shape) (a w : ℕ) → IsOfWidth ws a w → IsOfWidth (ws ++ us) a w
+pub in_front : (ws us : Shape) (a w : ℕ) → IsOfWidth ws a w → IsOfWidth (ws ++ us) a w
 in_front ws us a w h = front ws us a (slice_get_within ws a (Some w) h) ∙ h
   where
     front : (ws us : Shape) (a : ℕ) → a < length ws → slice_get (ws ++ us) a ≡ slice_get ws a

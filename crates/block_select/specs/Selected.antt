@@ -1,5 +1,5 @@
 -- If-conversion: a block whose sides only compute before they meet makes the steps of both, and chooses by its condition.
-use Rattle.std.specs.Prelude.{ℕ, zero, suc, nat_le, cond, List, [], ◌++◌, map, length, set, Option, Some, None}
+use Rattle.std.specs.Prelude.{ℕ, zero, suc, nat_le, cond, List, [], ◌++◌, map, length, set}
 use Rattle.std.specs.Option.{option_map_or}
 use Rattle.ir.specs.declared.graph.Block.{Block}
 use Rattle.ir.specs.declared.graph.Jump.{Jump}
