@@ -75,7 +75,7 @@ nil_if false = refl
 
 -- u are the values before the choices all, and v those after, numbered from n on; t says that the second side is chosen
 module _ (all : List Choice) (n : ℕ) (shape : Shape) (u v : ℕ → ℕ) (t : Bool) (long : length shape ≡ n) (old : (a : ℕ) → a < n → v a ≡ u a)
-  (new : (p : ℕ) (k : Choice) → slice_get all p ≡ Some k → v (n + p) ≡ (if t then u k.no else u k.yes)) where
+    (new : (p : ℕ) (k : Choice) → slice_get all p ≡ Some k → v (n + p) ≡ (if t then u k.no else u k.yes)) where
   one_chosen : (w x y : ℕ) → IsOfWidth shape x w → ((x == y) ≡ false → Has all (pair_of w x y)) → v (cond (x == y) x (n + place_of_choice all (pair_of w x y))) ≡ (if t then u y else u x)
   one_chosen w x y h has =
       cond_both (x == y) x (n + place_of_choice all (pair_of w x y)) (λ a. v a ≡ (if t then u y else u x))
@@ -111,8 +111,8 @@ choices_fit shape (w ∷ ws) (x ∷ xs) (y ∷ ys) cs is hx hy h =
     let k = pair_of w x y in
     let fit : ChoiceFits shape k = record { width = All-head IsWidth w ws is; yes = hx.0; no = hy.0 } in
     let more : All (ChoiceFits shape) (with_choice cs k) =
-      cond_both (list_any (is_choice k) cs) cs (cs ++ k ∷ []) (All (ChoiceFits shape)) (λ e. h)
-      (λ e. All-append (ChoiceFits shape) cs (k ∷ []) h (All-cons (ChoiceFits shape) k [] fit (All-nil (ChoiceFits shape)))) in
+    cond_both (list_any (is_choice k) cs) cs (cs ++ k ∷ []) (All (ChoiceFits shape)) (λ e. h)
+    (λ e. All-append (ChoiceFits shape) cs (k ∷ []) h (All-cons (ChoiceFits shape) k [] fit (All-nil (ChoiceFits shape)))) in
     choices_fit shape ws xs ys (step_of cs w x y) (All-tail IsWidth w ws is) hx.1 hy.1 (cond_both (x == y) cs (with_choice cs k) (All (ChoiceFits shape)) (λ e. h) (λ e. more))
 
 -- ---- the values that stand for both have the widths of both

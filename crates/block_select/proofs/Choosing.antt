@@ -82,7 +82,7 @@ select_value w c (d ∷ cs) (suc p) k e lc ly ln =
 -- ---- the block
 
 module _ (g : Graph) (b : Block) (c : ℕ) (ws xs ys : List ℕ) (is_b : IsBlock g b) (cond_fits : IsOfWidth (shape_of g b) c 32) (args : All IsWidth ws) (hx : AreHanded (shape_of g b) xs ws)
-  (hy : AreHanded (shape_of g b) ys ws) where
+    (hy : AreHanded (shape_of g b) ys ws) where
   abbrev shape : Shape
   shape = shape_of g b
 

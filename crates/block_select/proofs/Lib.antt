@@ -4,5 +4,8 @@ pub mod Sides
 pub mod ChoiceLemmas
 pub mod Choosing
 pub mod Runs
-pub mod Selecting
+pub mod OneBlock
 pub mod Passing
+pub mod Arming
+pub mod Chosen
+pub mod Lights

@@ -1,6 +1,7 @@
 -- A block along one of its sides: its steps fit, and what they make leads where the side leads.
-use Rattle.std.proofs.Common.{◌≡◌, ℕ, List, [], ◌++◌, map, length, Some, refl, sym, ◌∙◌, ap, subst, arith, append-nil}
+use Rattle.std.proofs.Common.{◌≡◌, ◌≤◌, ℕ, List, [], ◌++◌, map, length, Some, refl, sym, ◌∙◌, ap, subst, arith, append-nil}
 use Rattle.std.proofs.lemmas.Option.{same_Some, slice_get_within}
+use Rattle.std.proofs.lemmas.List.{length-map}
 use Rattle.ir.specs.declared.instr.Instr.{Instr}
 use Rattle.ir.specs.declared.graph.Block.{Block}
 use Rattle.ir.specs.declared.graph.Jump.{Jump}
@@ -41,6 +42,7 @@ pub record AlongSide (g : Graph) (b : Block) (to : To) (w : Way) (j : ℕ) (p : 
   pub more : List Instr
   pub steps : p.steps ≡ b.steps ++ more
   pub quiet : accesses_in more ≡ 0
+  pub few : length more ≤ length (block_at g to.block).steps
   pub fits : StepsFit g.arrays (shape_of g b) more
   pub with : List ℕ
   pub goes : p.jump ≡ Go (record { block = j; with = with })
@@ -58,9 +60,9 @@ along_block g b to w j p is_b s =
       jump = subst (λ ws. IsTarget g.blocks ws (record { block = j; with = s.with })) (sym e) s.target;
     } in
     let z : q ≡ p =
-      ap (λ (xs : List ℕ). record { args = xs; steps = b.steps ++ s.more; jump = Go (record { block = j; with = s.with }) }) (sym s.args)
-      ∙ ap (λ (is : List Instr). record { args = p.args; steps = is; jump = Go (record { block = j; with = s.with }) }) (sym s.steps)
-      ∙ ap (λ (x : Jump). record { args = p.args; steps = p.steps; jump = x }) (sym s.goes) in
+    ap (λ (xs : List ℕ). record { args = xs; steps = b.steps ++ s.more; jump = Go (record { block = j; with = s.with }) }) (sym s.args)
+    ∙ ap (λ (is : List Instr). record { args = p.args; steps = is; jump = Go (record { block = j; with = s.with }) }) (sym s.steps)
+    ∙ ap (λ (x : Jump). record { args = p.args; steps = p.steps; jump = x }) (sym s.goes) in
     subst (IsBlock g) z is_q
 
 module _ (g : Graph) (fine : IsGraph g) (b : Block) (is_b : IsBlock g b) (k : ℕ) (to : To) (target : IsTarget g.blocks (shape_of g b) to) where
@@ -70,6 +72,7 @@ module _ (g : Graph) (fine : IsGraph g) (b : Block) (is_b : IsBlock g b) (k : �
     more = [];
     steps = sym (append-nil b.steps);
     quiet = refl;
+    few = omega arith;
     fits = tt;
     with = to.with;
     goes = refl;
@@ -100,6 +103,7 @@ module _ (g : Graph) (fine : IsGraph g) (b : Block) (is_b : IsBlock g b) (k : �
         more = more;
         steps = refl;
         quiet = renamed_accesses f c.steps ∙ quiet;
+        few = omega (arith, length-map c.steps (renamed f));
         fits = joined_steps_fit g b c to.with is_c hand;
         with = map f t.with;
         goes = e;

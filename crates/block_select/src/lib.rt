@@ -3,7 +3,10 @@
 
 mod arms;
 mod choices;
+mod copying;
 mod laws;
+mod selecting;
 
 pub use ir::{Ir, Memory};
-pub use laws::selected_graphs_pass;
+pub use laws::{samples_are_selected, selected_graphs_pass};
+pub use selecting::select;

@@ -77,10 +77,10 @@ module _ (g : Graph) (k c : ℕ) (yes_part no_part : To) (m : Meeting) (is : Cho
   abbrev pub h : Graph
   h = with_blocks g (set g.blocks k (selected_block g.blocks (block_at g k) c yes_part no_part m))
 
-  is_b : IsBlock g b
+  pub is_b : IsBlock g b
   is_b = is_block g is.graph k is.within
 
-  jump_fits : IsJump g (shape_of g b) (Two c yes_part no_part)
+  pub jump_fits : IsJump g (shape_of g b) (Two c yes_part no_part)
   jump_fits = subst (IsJump g (shape_of g b)) is.decides is_b.jump
 
   -- ---- along the one side, and along the other behind it
@@ -88,27 +88,27 @@ module _ (g : Graph) (k c : ℕ) (yes_part no_part : To) (m : Meeting) (is : Cho
   abbrev p1 : Block
   p1 = along g.blocks b yes_part m.yes
 
-  first : AlongSide g b yes_part m.yes m.block p1
+  pub first : AlongSide g b yes_part m.yes m.block p1
   first = along_side g is.graph b is_b k yes_part jump_fits.1 m.yes m.block is.meets.yes_end
 
-  is_p1 : IsBlock g p1
+  pub is_p1 : IsBlock g p1
   is_p1 = along_block g b yes_part m.yes m.block p1 is_b first
 
   abbrev p2 : Block
   p2 = along g.blocks p1 no_part m.no
 
-  no_target : IsTarget g.blocks (shape_of g p1) no_part
+  pub no_target : IsTarget g.blocks (shape_of g p1) no_part
   no_target = along_target g b yes_part m.yes m.block p1 first g.blocks no_part jump_fits.2
 
-  second : AlongSide g p1 no_part m.no m.block p2
+  pub second : AlongSide g p1 no_part m.no m.block p2
   second = along_side g is.graph p1 is_p1 k no_part no_target m.no m.block is.meets.no_end
 
-  is_p2 : IsBlock g p2
+  pub is_p2 : IsBlock g p2
   is_p2 = along_block g p1 no_part m.no m.block p2 is_p1 second
 
   -- ---- the block where both meet
 
-  j_within : m.block < length g.blocks
+  pub j_within : m.block < length g.blocks
   j_within = let t = second.target in slice_get_within g.blocks m.block t.block t.exists
 
   abbrev ws : List ℕ
@@ -123,13 +123,13 @@ module _ (g : Graph) (k c : ℕ) (yes_part no_part : To) (m : Meeting) (is : Cho
   j_args : All IsWidth ws
   j_args = (is_block g is.graph m.block j_within).args
 
-  x1 : AreHanded (shape_of g p1) xs ws
+  pub x1 : AreHanded (shape_of g p1) xs ws
   x1 = end_hands g b yes_part m.yes m.block p1 first
 
   x2 : AreHanded (shape_of g p2) xs ws
   x2 = along_hands g p1 no_part m.no m.block p2 second xs ws x1
 
-  y2 : AreHanded (shape_of g p2) ys ws
+  pub y2 : AreHanded (shape_of g p2) ys ws
   y2 = end_hands g p1 no_part m.no m.block p2 second
 
   c1 : IsOfWidth (shape_of g p1) c 32
