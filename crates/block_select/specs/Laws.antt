@@ -1,4 +1,4 @@
--- The law of the stand-in.
+-- The law of if-conversion.
 use Rattle.std.specs.Prelude.{ℕ}
 use Rattle.ir.specs.Graphs.{Graph, IsGraph}
 use Rattle.block_pass.specs.Laws.{PassesBack}

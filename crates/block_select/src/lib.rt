@@ -1,25 +1,12 @@
-//! A stand-in for the pass that selects: it merges.
+//! If-conversion of block graphs: sides of a condition that only compute become choices of values.
 #![tactic(auto)]
 
-ghost use Rattle.std.specs.Prelude.{◌≡◌, ◌≤◌, IfOk};
-ghost use Rattle.ir.specs.Graphs.{size};
-ghost use Rattle.block_select.specs.Selected.{selected};
-
+mod arms;
+mod choices;
+mod copying;
 mod laws;
+mod selecting;
 
-use block_merge::merge;
-use ir::{Ir, Memory};
-pub use laws::selected_graphs_pass;
-use std::alloc::Global;
-
-/// The graph with choices.
-///
-/// # Errors
-///
-/// [`Memory`] where memory is wanting.
-pub fn select(alloc: Global, graph: &Ir, _most: u64) -> Result<Ir, Memory>
-    requires { size graph.now ≤ 8000000 }
-    ensures selected { IfOk result (λ g. g ≡ selected _most graph.now) }
-{
-    merge(alloc, graph)
-}
+pub use ir::{Ir, Memory};
+pub use laws::{samples_are_selected, selected_graphs_pass};
+pub use selecting::select;
