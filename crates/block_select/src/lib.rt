@@ -18,7 +18,8 @@ use std::alloc::Global;
 ///
 /// [`Memory`] where memory is wanting.
 pub fn select(alloc: Global, graph: &Ir, _most: u64) -> Result<Ir, Memory>
-    requires { size graph.now ≤ 8000000 }
+    requires small { size graph.now ≤ 8000000 }
+    requires light { _most ≤ 8000000 }
     ensures selected { IfOk result (λ g. g ≡ selected _most graph.now) }
 {
     merge(alloc, graph)

@@ -31,7 +31,8 @@ pub(crate) enum Pass {
 impl Pass {
     /// What the pass makes of a graph. No block with choices weighs more than `most`.
     fn run(self, alloc: Global, graph: &Ir, most: u64) -> Result<Ir, Memory>
-        requires { size graph.now ≤ 8000000 }
+        requires small { size graph.now ≤ 8000000 }
+        requires light { most ≤ 8000000 }
         ensures { IfOk result (λ g. g ≡ pass_of most self graph.now) }
     {
         match self {
@@ -49,7 +50,8 @@ impl Pass {
 ///
 /// [`Memory`] where memory is wanting.
 pub(crate) fn optimize(alloc: Global, graph: Ir, most: u64) -> Result<Ir, Memory>
-    requires { size graph ≤ 8000000 }
+    requires small { size graph ≤ 8000000 }
+    requires light { most ≤ 8000000 }
     ensures { IfOk result (λ g. g ≡ optimized_within most graph) }
 {
     let folded = Pass::Fold.run(alloc, &graph, most)?;
@@ -74,6 +76,7 @@ pub(crate) fn optimize(alloc: Global, graph: Ir, most: u64) -> Result<Ir, Memory
 
 /// What the passes make of a graph one after another, or nothing where one would begin with too great a graph.
 fn passed(alloc: Global, graph: Ir, passes: &[Pass], most: u64) -> Result<Option<Ir>, Memory>
+    requires { most ≤ 8000000 }
     ensures { IfOk result (λ made. made ≡ after_passes most passes.now graph) }
 {
     let mut made = graph;

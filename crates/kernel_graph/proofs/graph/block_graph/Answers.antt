@@ -22,11 +22,14 @@ merge-requires c =
     can_merge c.args.typed.now c.in_ok-form.form c.in_ok-graph.graph c.in_ok-argued.argued c.in_ok-form.ensures.form c.requires.few c.small_forms_can_be_built.ensures c.in_ok-form.ensures.share c.in_ok-form.ensures.sizes
     c.in_ok-graph.ensures.share c.in_ok-graph.ensures.sizes c.in_ok-argued.ensures.share c.in_ok-argued.ensures.sizes
 
-pub optimize-requires : goal.optimize-requires
-optimize-requires c =
+pub optimize-requires-clause-small : goal.optimize-requires-clause-small
+optimize-requires-clause-small c =
     (all_kept c.args.typed.now c.in_ok-form.form c.in_ok-graph.graph c.in_ok-argued.argued c.in_ok-merged.merged c.in_ok-form.ensures.form c.in_ok-graph.ensures.graph c.requires.few c.small_forms_can_be_built.ensures
     c.stores_are_assignments.ensures c.in_ok-form.ensures.share c.in_ok-form.ensures.sizes c.in_ok-graph.ensures.share c.in_ok-graph.ensures.sizes c.in_ok-argued.ensures.made c.in_ok-argued.ensures.share
     c.in_ok-argued.ensures.sizes c.in_ok-merged.ensures.share).small.bounded
+
+pub optimize-requires-clause-light : goal.optimize-requires-clause-light
+optimize-requires-clause-light c = let e = count_is c.args.typed.now c.nodes-count.result c.requires.few c.nodes-count.ensures in let l = c.requires.few in omega (arith, e, l)
 
 pub returns-clause-share : goal.returns-clause-share
 returns-clause-share c =
