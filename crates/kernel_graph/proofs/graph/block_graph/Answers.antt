@@ -29,10 +29,7 @@ optimize-requires-clause-small c =
     c.in_ok-argued.ensures.sizes c.in_ok-merged.ensures.share).small.bounded
 
 pub optimize-requires-clause-light : goal.optimize-requires-clause-light
-optimize-requires-clause-light c =
-    let l = c.requires.few in
-    let e = count_is c.args.typed.now c.nodes-count.result c.requires.few c.nodes-count.ensures in
-    omega (arith, l, e)
+optimize-requires-clause-light c = let e = count_is c.args.typed.now c.nodes-count.result c.requires.few c.nodes-count.ensures in let l = c.requires.few in omega (arith, e, l)
 
 pub returns-clause-share : goal.returns-clause-share
 returns-clause-share c =
