@@ -1,1 +1,10 @@
-pub mod Probe
+pub mod StepLemmas
+pub mod Tables
+pub mod Growing
+pub mod Equal
+pub mod Putting
+pub mod Sums
+pub mod Standing
+pub mod Walking
+pub mod JumpLemmas
+pub mod Keeping

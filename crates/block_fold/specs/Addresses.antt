@@ -2,9 +2,9 @@
 use Rattle.std.specs.Prelude.{ℕ, ◌==◌, ◌&&◌, ◌||◌, not, Bool, true, false, if◌then◌else◌, List, [], ◌∷◌, Option, Some, None}
 use Rattle.el_base.specs.declared.operation.Op2.{Op2}
 use Rattle.el_base.specs.declared.operation.Op2.TheVariants.{Add64}
+use Rattle.el_base.specs.contracts.operation.Op2PartialEq.TheImpl as equality
 use Rattle.ir.specs.declared.instr.Instr.{Instr}
 use Rattle.ir.specs.declared.instr.Instr.TheVariants.{Const, One, Two, Select, Load, Store}
-use Rattle.ir.specs.contracts.instr.InstrPartialEq.TheImpl as equality
 use Rattle.block_fold.specs.declared.known.Known.{Known}
 use Rattle.block_fold.specs.Numbers.{step_at, const_at}
 
@@ -28,7 +28,7 @@ sum_with v x (Some c) = record { base = Some x; constant = c }
 
 -- is the operation the sum of 64 bits
 abbrev pub is_sum : Op2 → Bool
-is_sum op = equality.ghosts.eq (Two op 0 0) (Two Add64 0 0)
+is_sum op = equality.ghosts.eq op Add64
 
 -- value v of this step
 abbrev pub sum_of_step : ℕ → List Instr → ℕ → Option Instr → Sum
