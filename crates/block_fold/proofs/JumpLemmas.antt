@@ -2,6 +2,7 @@
 use Rattle.std.proofs.Common.{◌≡◌, ℕ, zero, suc, List, [], ◌∷◌, map, Option, Some, None, refl, sym, ◌∙◌, ap, subst, arith}
 use Rattle.std.specs.Prelude.{◌==◌, ◌&&◌, not, Bool, true, false, cond, if◌then◌else◌, option_map}
 use Rattle.std.proofs.lemmas.Bool.{and_parts, eqb-true, ne_eqb}
+use Rattle.std.specs.Cmp.Lexicographic.{pointwise}
 use Rattle.el_base.specs.declared.ty.Array.{Array}
 use Rattle.ir.specs.declared.instr.Instr.{Instr}
 use Rattle.ir.specs.declared.graph.Block.{Block}
@@ -18,7 +19,7 @@ use Rattle.block_rules.specs.Known.{AreValues}
 use Rattle.block_rules.specs.Rules.{stripped}
 use Rattle.block_rules.specs.Laws.{DecidesAlike, ConditionsAreRight}
 use Rattle.block_fold.specs.Numbers.{const_at}
-use Rattle.block_fold.specs.Jumps.{same_values, same_target, decided, decided_by, folded_jump}
+use Rattle.block_fold.specs.Jumps.{same_target, decided, decided_by, folded_jump}
 use Rattle.block_fold.proofs.StepLemmas.{SameValues}
 use Rattle.block_fold.proofs.Sums.{constant_value}
 
@@ -74,17 +75,17 @@ module _ (f : ℕ → ℕ) (ws : Shape) (olds news : List ℕ) (same : SameValue
   returned_same None (Some v) h = absurd h
   returned_same (Some t) None h = absurd h
 
-same_values_is : (xs ys : List ℕ) → same_values xs ys ≡ true → xs ≡ ys
+same_values_is : (xs ys : List ℕ) → pointwise ◌==◌ xs ys ≡ true → xs ≡ ys
 same_values_is [] [] h = refl
 same_values_is (x ∷ xs) (y ∷ ys) h =
-    let both = and_parts (x == y) (same_values xs ys) h in
+    let both = and_parts (x == y) (pointwise ◌==◌ xs ys) h in
     ap (λ z. z ∷ xs) (eqb-true x y both.0) ∙ ap (λ zs. y ∷ zs) (same_values_is xs ys both.1)
 same_values_is [] (y ∷ ys) h = absurd (cc)
 same_values_is (x ∷ xs) [] h = absurd (cc)
 
 same_target_handed : (vs : List ℕ) (s t : To) → same_target s t ≡ true → handed vs s ≡ handed vs t
 same_target_handed vs s t h =
-    let both = and_parts (s.block == t.block) (same_values s.with t.with) h in
+    let both = and_parts (s.block == t.block) (pointwise ◌==◌ s.with t.with) h in
     ap (λ b. onto b (map (value_at vs) s.with)) (eqb-true s.block t.block both.0) ∙ ap (λ l. onto t.block (map (value_at vs) l)) (same_values_is s.with t.with both.1)
 
 -- a side by a test

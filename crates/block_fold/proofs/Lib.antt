@@ -8,3 +8,4 @@ pub mod Standing
 pub mod Walking
 pub mod JumpLemmas
 pub mod Keeping
+pub mod CodeLemmas

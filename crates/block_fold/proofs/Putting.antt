@@ -216,5 +216,6 @@ module _ (stay : ValuesStayInWidths) (s : Start) where
   by_number rules d right steps i y may false = added_right steps i y may
 
   pub put_right : RewritingsAreRight → (d : ℕ) → PutsRight s (put d (count s))
+  unfolding put
   put_right rules zero steps i y may = added_right steps i y may
   put_right rules (suc d) steps i y may = by_number rules d (put_right rules d) steps i y may (nat_lt (count s + length steps) most_values)

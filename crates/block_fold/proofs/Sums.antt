@@ -15,7 +15,8 @@ use Rattle.ir.specs.Shapes.{Shape, IsOfWidth}
 use Rattle.block_pass.proofs.Values.{fit_at}
 use Rattle.block_rules.specs.Known.{AreValues}
 use Rattle.block_fold.specs.Numbers.{step_at, constant_of, const_at}
-use Rattle.block_fold.specs.Addresses.{Sum, alone, sum_with, is_sum, sum_of_step, sum_at, same_base, differ}
+use Rattle.block_fold.specs.declared.known.Sum.{Sum}
+use Rattle.block_fold.specs.Addresses.{alone, sum_with, is_sum, sum_of_step, sum_at, same_base, differ}
 use Rattle.block_fold.proofs.Equal.{op2_same}
 
 -- ---- the step of a value

@@ -6,17 +6,13 @@ use Rattle.el_base.specs.contracts.operation.Op2PartialEq.TheImpl as equality
 use Rattle.ir.specs.declared.instr.Instr.{Instr}
 use Rattle.ir.specs.declared.instr.Instr.TheVariants.{Const, One, Two, Select, Load, Store}
 use Rattle.block_fold.specs.declared.known.Known.{Known}
+use Rattle.block_fold.specs.declared.known.Sum.{Sum}
 use Rattle.block_fold.specs.Numbers.{step_at, const_at}
 
 -- the value that is known to stand at an address of an array
 abbrev pub known_value : List Known → ℕ → ℕ → Option ℕ
 known_value [] a p = None
 known_value (k ∷ ks) a p = if (k.array == a) && (k.addr == p) then Some k.value else known_value ks a p
-
--- an address as a value, if any, and a constant that is added to it
-pub record Sum : Type 0 where
-  pub base : Option ℕ
-  pub constant : ℕ
 
 -- a value alone
 abbrev pub alone : ℕ → Sum

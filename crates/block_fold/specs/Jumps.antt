@@ -1,5 +1,6 @@
 -- A jump on values under new numbers, with its condition stripped; one that is decided, or that leads to the same on both sides, has none.
 use Rattle.std.specs.Prelude.{ℕ, zero, suc, ◌==◌, ◌&&◌, Bool, true, false, if◌then◌else◌, List, [], ◌∷◌, option_map, Option, Some, None}
+use Rattle.std.specs.Cmp.Lexicographic.{pointwise}
 use Rattle.ir.specs.declared.instr.Instr.{Instr}
 use Rattle.ir.specs.declared.graph.Jump.{Jump}
 use Rattle.ir.specs.declared.graph.Jump.TheVariants.{Go, Two, Return}
@@ -9,14 +10,8 @@ use Rattle.block_rules.specs.declared.rewriting.Condition.{Condition}
 use Rattle.block_rules.specs.Rules.{stripped}
 use Rattle.block_fold.specs.Numbers.{const_at}
 
-abbrev pub same_values : List ℕ → List ℕ → Bool
-same_values [] [] = true
-same_values (x ∷ xs) (y ∷ ys) = (x == y) && same_values xs ys
-same_values [] (y ∷ ys) = false
-same_values (x ∷ xs) [] = false
-
 abbrev pub same_target : To → To → Bool
-same_target s t = (s.block == t.block) && same_values s.with t.with
+same_target s t = (s.block == t.block) && pointwise ◌==◌ s.with t.with
 
 -- on a condition that may be this constant
 abbrev pub decided : ℕ → To → To → Option ℕ → Jump

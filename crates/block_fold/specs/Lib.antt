@@ -5,3 +5,4 @@ pub mod Jumps
 pub mod Simplified
 pub mod Folded
 pub mod Laws
+pub mod Code

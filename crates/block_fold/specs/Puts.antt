@@ -54,7 +54,7 @@ unfoldable pub most_values : ℕ
 most_values = 2 ^ 31
 
 -- a step put, where the steps that rules make are put by rules again, d deep
-abbrev pub put : ℕ → ℕ → List Instr → Instr → Put
+unfoldable pub put : ℕ → ℕ → List Instr → Instr → Put
 put zero n steps i = added n steps i
 put (suc d) n steps i =
     if nat_lt (n + length steps) most_values

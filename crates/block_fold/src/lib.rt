@@ -2,8 +2,14 @@
 //! what is known to stand at an address, jumps that are decided; and without what nothing needs then.
 #![tactic(auto)]
 
+mod folding;
+mod jumps;
 mod known;
 mod laws;
+mod making;
+mod numbers;
+mod table;
 
-pub use ir::{Block, Ir, Memory};
-pub use laws::simplified_blocks_keep;
+pub use folding::fold;
+pub use ir::{Ir, Memory};
+pub use laws::{folded_graphs_pass, simplified_blocks_keep};

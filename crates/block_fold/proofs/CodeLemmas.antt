@@ -1,0 +1,11 @@
+-- Lemmas of the loops of the code.
+use Rattle.std.proofs.Common.{◌≡◌, ℕ, ◌+◌, ◌<◌, List, [], ◌∷◌, drop, length, get_or, Option, Some, sym, ◌∙◌, ap}
+use Rattle.std.specs.Prelude.{◌==◌, ◌&&◌, if◌then◌else◌}
+use Rattle.std.proofs.lemmas.List.{drop_more}
+use Rattle.block_fold.specs.declared.known.Known.{Known}
+use Rattle.block_fold.specs.Addresses.{known_value}
+
+pub known_more : (ks : List Known) (i : ℕ) (k : Known) (a p : ℕ) → i < length ks → k ≡ get_or ks i k
+    → known_value (drop i ks) a p ≡ (if (k.array == a) && (k.addr == p) then Some k.value else known_value (drop (i + 1) ks) a p)
+known_more ks i k a p lt e =
+    ap (λ l. known_value l a p) (drop_more ks i k lt) ∙ ap (λ (x : Known). known_value (x ∷ drop (i + 1) ks) a p) (sym e)
