@@ -9,3 +9,6 @@ pub mod Walking
 pub mod JumpLemmas
 pub mod Keeping
 pub mod CodeLemmas
+pub mod TableLemmas
+pub mod Counts
+pub mod Loops

@@ -37,7 +37,7 @@ put_all f m numbers p (i ∷ is) =
     let q = f p.steps (renamed (renumbered m numbers) i) in put_all f m (numbers ++ q.number ∷ []) q is
 
 -- so many steps a rule may make
-unfoldable pub most_made : ℕ
+abbrev pub most_made : ℕ
 most_made = 64
 
 -- a step that became this, with f for the steps that it made
@@ -50,7 +50,7 @@ put_as f n steps i (Steps is) =
     else added n steps i
 
 -- so many values a block may have where rules are tried
-unfoldable pub most_values : ℕ
+abbrev pub most_values : ℕ
 most_values = 2 ^ 31
 
 -- a step put, where the steps that rules make are put by rules again, d deep

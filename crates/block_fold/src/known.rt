@@ -1,5 +1,5 @@
 //! What is known of arrays while a block is made: values that stand at addresses.
-ghost use Rattle.std.specs.Prelude.{◌≡◌, IfOk};
+ghost use Rattle.std.specs.Prelude.{◌≡◌, ◌==◌, ◌&&◌, IfOk};
 ghost use Rattle.std.specs.List.{filter};
 ghost use Rattle.block_fold.specs.Addresses.{
   known_value,
@@ -30,16 +30,23 @@ struct Sum {
 }
 
 /// The value that is known to stand at an address of an array.
-#[tactic(auto, using(crate::proofs::CodeLemmas::known_more))]
+#[tactic(auto, using(crate::proofs::CodeLemmas::known_here, crate::proofs::CodeLemmas::known_behind))]
 pub(crate) fn known_value(known: &[Known], array: u32, addr: u32) -> Option<u32>
     ensures { result ≡ known_value known.now array addr }
 {
     for entry in known {
-        if entry.array == array && entry.addr == addr {
+        if is_at(entry, array, addr) {
             return Some(entry.value);
         }
     }
     None
+}
+
+/// Whether an entry is of that address of that array.
+fn is_at(entry: &Known, array: u32, addr: u32) -> bool
+    ensures { result ≡ ((entry.now.array == array) && (entry.now.addr == addr)) }
+{
+    entry.array == array && entry.addr == addr
 }
 
 /// A value as a sum of 64 bits.
