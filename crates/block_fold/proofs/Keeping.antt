@@ -5,23 +5,26 @@ use Rattle.std.specs.List.{flat_map}
 use Rattle.std.proofs.lemmas.Nat.{pow_pos}
 use Rattle.std.proofs.lemmas.List.Elements.{All-nil}
 use Rattle.el_base.specs.declared.ty.Array.{Array}
+use Rattle.el_base.specs.declared.ty.Scalar.{Scalar}
 use Rattle.el_base.specs.Widths.{ty_width}
 use Rattle.ir.specs.declared.instr.Instr.{Instr}
 use Rattle.ir.specs.declared.instr.Instr.TheVariants.{Const, One, Two, Select, Load, Store}
 use Rattle.ir.specs.declared.graph.Block.{Block}
 use Rattle.ir.specs.Graphs.{Graph, IsGraph, IsBlock, IsJump, shape_of, onward_of}
 use Rattle.block_merge.specs.Found.{stored_by}
+use Rattle.block_merge.specs.Merged.{with_blocks}
 use Rattle.block_merge.proofs.Members.{In, in_left, in_right, in_either}
 use Rattle.block_merge.proofs.Stored as merge
 use Rattle.block_pass.specs.Fitting.{FitWidths, FitShape, FitArrays}
 use Rattle.block_pass.specs.Blocks.{block_passage, LeadsClean, StoresTo, BlockShare}
+use Rattle.block_pass.specs.Shares.{VisitsBack}
 use Rattle.block_pass.specs.Laws.{ValuesStayInWidths, BlocksGoOn, BlocksPass}
 use Rattle.block_pass.proofs.Values.{fit_first}
 use Rattle.block_rules.specs.Laws.{RewritingsAreRight, ConditionsAreRight}
 use Rattle.block_prune.specs.Pruned.{pruned}
 use Rattle.block_prune.specs.Laws.{PrunedBlocksKeep}
 use Rattle.block_fold.specs.Simplified.{Made, nothing_made, new_number, taken_all, simplified}
-use Rattle.block_fold.specs.Folded.{folded_block}
+use Rattle.block_fold.specs.Folded.{folded_block, folded}
 use Rattle.block_fold.specs.Laws.{SimplifiedBlocksKeep, FoldedGraphsPass}
 use Rattle.block_fold.proofs.Growing.{Start, count, shape, work, values, Fit, known_values}
 use Rattle.block_fold.proofs.Walking.{Alike, Follows, block_taken}
@@ -133,3 +136,16 @@ pub folded_passes : BlocksPass → BlocksGoOn → SimplifiedBlocksKeep → Prune
 folded_passes pass on simple prune g fine = pass g folded_block fine (λ b block.
   let one = simple g b block in
   on g b (simplified b) (pruned (simplified b)) one (prune g (simplified b) one.fine))
+
+-- ---- the graph that the code makes
+
+pub back_of : (g v : Graph) (n : List ℕ) (s : List Scalar) (a : List Array) (bs : List Block) → IsGraph g → FoldedGraphsPass → v ≡ g → n ≡ v.name → s ≡ v.scalars → a ≡ v.arrays → bs ≡ map folded_block g.blocks
+    → VisitsBack g (record { name = n; scalars = s; arrays = a; result = v.result; blocks = bs })
+back_of g v n s a bs fine law h e_n e_s e_a e_b =
+    let e : record { name = n; scalars = s; arrays = a; result = v.result; blocks = bs } ≡ folded g =
+    ap (λ (x : List ℕ). record { name = x; scalars = s; arrays = a; result = v.result; blocks = bs }) e_n
+    ∙ ap (λ (x : List Scalar). record { name = v.name; scalars = x; arrays = a; result = v.result; blocks = bs }) e_s
+    ∙ ap (λ (x : List Array). record { name = v.name; scalars = v.scalars; arrays = x; result = v.result; blocks = bs }) e_a
+    ∙ ap (λ (x : Graph). with_blocks x bs) h
+    ∙ ap (with_blocks g) e_b in
+    subst (λ (x : Graph). VisitsBack g x) (sym e) (law g fine).back

@@ -9,6 +9,7 @@ use Rattle.block_fold.specs.Numbers.{renumbered}
 use Rattle.block_fold.specs.Puts.{Put, put_all, most_values, most_made, put, depth}
 use Rattle.block_fold.specs.Simplified.{Made, nothing_made, taken, new_number, taken_all}
 use Rattle.block_fold.specs.Code.{values_in, PlacesAreRight, IsPutThere, made_of, IsMade, most_more}
+use Rattle.block_fold.proofs.TableLemmas.{depth_is}
 use Rattle.block_fold.proofs.Counts.{GrowsWithin, grows_on_within, put_within, taken_within}
 
 rest_more : (is : List Instr) (k : ℕ) (i : Instr) → k < length is → i ≡ get_or is k i → drop k is ≡ i ∷ drop (k + 1) is
@@ -107,6 +108,13 @@ pub taking_on : (n : ℕ) (is : List Instr) (k : ℕ) (m new : Maker) (slice : L
 taking_on n is k m new slice e j h lt same step done =
     let i = get_or is k e in
     taking_more n is k m new i j h lt (get_or_default is k e i lt) (step ∙ ap (λ l. renamed (renumbered n l) i) same) done
+
+pub taking_few : (n : ℕ) (is : List Instr) (k : ℕ) (m : Maker) → IsTaking n is k m → k ≤ length is → n + length is < 2 ^ 30 → values_in m.table < 2 ^ 32
+taking_few n is k m h le small =
+    let few = h.few in
+    let d = depth_is in
+    let deep : most_more depth ≡ most_more 8 = ap most_more d in
+    omega (arith, few, deep, le, small)
 
 pub taking_all : (n : ℕ) (is : List Instr) (k : ℕ) (m : Maker) → IsTaking n is k m → length is ≤ k → made_of m ≡ taken_all n nothing_made is
 taking_all n is k m h ge = ap (λ l. taken_all n (made_of m) l) (sym (drop_all k is ge)) ∙ h.rest
