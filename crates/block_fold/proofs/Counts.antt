@@ -1,7 +1,7 @@
 -- How many values a block under construction has at most.
-use Rattle.std.proofs.Common.{◌≡◌, ℕ, zero, suc, ◌+◌, ◌*◌, ◌^◌, ◌<◌, ◌≤◌, Bool, true, false, List, [], ◌∷◌, ◌++◌, length, Option, Some, None, refl, sym, ◌∙◌, ap, subst, arith, length-append, inl, inr}
+use Rattle.std.proofs.Common.{◌≡◌, ℕ, zero, suc, ◌+◌, ◌<◌, ◌≤◌, Bool, true, false, List, [], ◌∷◌, ◌++◌, length, Option, Some, None, refl, arith, length-append, inl, inr}
 use Rattle.std.specs.Prelude.{nat_lt, nat_le, if◌then◌else◌, position}
-use Rattle.std.proofs.lemmas.Bool.{cases_lt, ltb-true, ltb-false, leb-true}
+use Rattle.std.proofs.lemmas.Bool.{cases_lt, ltb-true, leb-true}
 use Rattle.ir.specs.declared.instr.Instr.{Instr}
 use Rattle.ir.specs.declared.instr.Instr.TheVariants.{Const, One, Two, Select, Load, Store}
 use Rattle.ir.specs.Renaming.{renamed}
@@ -11,7 +11,7 @@ use Rattle.block_rules.specs.Rules.{rewritten}
 use Rattle.block_fold.specs.Numbers.{renumbered}
 use Rattle.block_fold.specs.Puts.{Put, same_step, added_at, added, put_all, most_made, put_as, most_values, put, depth}
 use Rattle.block_fold.specs.Addresses.{known_value}
-use Rattle.block_fold.specs.Simplified.{Made, loaded_as, taken, new_number, taken_all}
+use Rattle.block_fold.specs.Simplified.{Made, loaded_as, taken}
 use Rattle.block_fold.specs.Code.{most_more}
 
 -- from so many values to so many, d deep

@@ -1,5 +1,5 @@
 -- Steps that `==` takes for the same are equal.
-use Rattle.std.proofs.Common.{◌≡◌, ℕ, true, Bool, ap, ◌∙◌, rules, arith}
+use Rattle.std.proofs.Common.{◌≡◌, true, rules}
 use Rattle.std.specs.Prelude.{◌&&◌, ◌==◌}
 use Rattle.std.proofs.lemmas.Bool.{and_parts, eqb-true}
 use denote.Enum.Bare.{same_true}

@@ -1,5 +1,5 @@
 -- A block under construction in a visit: its shape and its work, and what further steps leave as it is.
-use Rattle.std.proofs.Common.{◌≡◌, ℕ, ◌+◌, ◌<◌, List, [], ◌∷◌, ◌++◌, map, length, get_or, Option, Some, None, refl, sym, ◌∙◌, ap, subst, arith, length-append}
+use Rattle.std.proofs.Common.{◌≡◌, ℕ, ◌+◌, List, [], ◌∷◌, ◌++◌, map, length, Some, refl, sym, ◌∙◌, ap, subst, arith}
 use Rattle.std.specs.Prelude.{slice_get}
 use Rattle.std.specs.List.{flat_map}
 use Rattle.std.proofs.lemmas.Option.{slice_get_within}
@@ -7,7 +7,7 @@ use Rattle.std.proofs.lemmas.List.{get_or_append_left, get_or_push, append-nil}
 use Rattle.el_base.specs.declared.ty.Array.{Array}
 use Rattle.ir.specs.declared.instr.Instr.{Instr}
 use Rattle.ir.specs.declared.instr.Instr.TheVariants.{Const, One, Two, Select, Load, Store}
-use Rattle.ir.specs.Steps.{Work, value_at, step_value, step_arrays, step_strays, after_step, through, beginning}
+use Rattle.ir.specs.Steps.{Work, value_at, step_value, after_step, through, beginning}
 use Rattle.ir.specs.Shapes.{Shape, IsOfWidth, StepFits, StepsFit, step_width, shape_after}
 use Rattle.ir.proofs.Fitting.{behind}
 use Rattle.block_merge.specs.Found.{stored_by}
@@ -15,8 +15,8 @@ use Rattle.block_merge.proofs.JoinedValues.{through_long, shape_long, somes_long
 use Rattle.block_merge.proofs.Works.{through_append}
 use Rattle.block_pass.specs.Fitting.{FitShape, FitArrays}
 use Rattle.block_pass.specs.Laws.{ValuesStayInWidths}
-use Rattle.block_rules.specs.Known.{IsPure, pure_value, AreValues}
-use Rattle.block_fold.proofs.StepLemmas.{get_front, shape_append, fit_append, fit_shape_long, pure_any, pure_arrays, pure_strays, are_values}
+use Rattle.block_rules.specs.Known.{IsPure, AreValues}
+use Rattle.block_fold.proofs.StepLemmas.{get_front, shape_append, fit_append, fit_shape_long, pure_arrays, pure_strays, are_values}
 use Rattle.block_fold.proofs.Tables.{KeepsWidth, KeepsValue}
 
 -- ---- a visit

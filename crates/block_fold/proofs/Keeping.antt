@@ -1,6 +1,6 @@
 -- A block made anew does what the block does, and so does the graph of such blocks.
-use Rattle.std.proofs.Common.{◌≡◌, ℕ, zero, suc, ◌<◌, ◌^◌, List, [], ◌∷◌, ◌++◌, map, length, Option, Some, None, refl, sym, ◌∙◌, ap, subst, arith, inl, inr}
-use Rattle.std.specs.Prelude.{slice_get, ◌↔◌}
+use Rattle.std.proofs.Common.{◌≡◌, ℕ, suc, ◌<◌, ◌^◌, List, [], ◌∷◌, map, length, Some, refl, sym, ◌∙◌, ap, subst, inl, inr}
+use Rattle.std.specs.Prelude.{slice_get}
 use Rattle.std.specs.List.{flat_map}
 use Rattle.std.proofs.lemmas.Nat.{pow_pos}
 use Rattle.std.proofs.lemmas.List.Elements.{All-nil}
@@ -10,10 +10,10 @@ use Rattle.el_base.specs.Widths.{ty_width}
 use Rattle.ir.specs.declared.instr.Instr.{Instr}
 use Rattle.ir.specs.declared.instr.Instr.TheVariants.{Const, One, Two, Select, Load, Store}
 use Rattle.ir.specs.declared.graph.Block.{Block}
-use Rattle.ir.specs.Graphs.{Graph, IsGraph, IsBlock, IsJump, shape_of, onward_of}
+use Rattle.ir.specs.Graphs.{Graph, IsGraph, IsBlock, shape_of}
 use Rattle.block_merge.specs.Found.{stored_by}
 use Rattle.block_merge.specs.Merged.{with_blocks}
-use Rattle.block_merge.proofs.Members.{In, in_left, in_right, in_either}
+use Rattle.block_merge.proofs.Members.{In, in_either}
 use Rattle.block_merge.proofs.Stored as merge
 use Rattle.block_pass.specs.Fitting.{FitWidths, FitShape, FitArrays}
 use Rattle.block_pass.specs.Blocks.{block_passage, LeadsClean, StoresTo, BlockShare}
@@ -26,8 +26,8 @@ use Rattle.block_prune.specs.Laws.{PrunedBlocksKeep}
 use Rattle.block_fold.specs.Simplified.{Made, nothing_made, new_number, taken_all, simplified}
 use Rattle.block_fold.specs.Folded.{folded_block, folded}
 use Rattle.block_fold.specs.Laws.{SimplifiedBlocksKeep, FoldedGraphsPass}
-use Rattle.block_fold.proofs.Growing.{Start, count, shape, work, values, Fit, known_values}
-use Rattle.block_fold.proofs.Walking.{Alike, Follows, block_taken}
+use Rattle.block_fold.proofs.Growing.{Start, shape, work, values, known_values}
+use Rattle.block_fold.proofs.Walking.{Follows, block_taken}
 use Rattle.block_fold.proofs.JumpLemmas.{jump_fits, jump_leads}
 
 -- ---- some values that fit
@@ -134,8 +134,8 @@ simplified_keeps stay rules conditions g b fine = keeps stay rules conditions g 
 
 pub folded_passes : BlocksPass → BlocksGoOn → SimplifiedBlocksKeep → PrunedBlocksKeep → FoldedGraphsPass
 folded_passes pass on simple prune g fine = pass g folded_block fine (λ b block.
-  let one = simple g b block in
-  on g b (simplified b) (pruned (simplified b)) one (prune g (simplified b) one.fine))
+    let one = simple g b block in
+    on g b (simplified b) (pruned (simplified b)) one (prune g (simplified b) one.fine))
 
 -- ---- the graph that the code makes
 

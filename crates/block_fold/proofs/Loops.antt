@@ -1,16 +1,16 @@
 -- What the loops of the code have done so far, and that the rest gives the whole.
-use Rattle.std.proofs.Common.{◌≡◌, ℕ, zero, suc, ◌+◌, ◌*◌, ◌^◌, ◌<◌, ◌≤◌, List, [], ◌∷◌, ◌++◌, drop, length, get_or, refl, sym, ◌∙◌, ap, subst, arith}
+use Rattle.std.proofs.Common.{◌≡◌, ℕ, ◌+◌, ◌^◌, ◌<◌, ◌≤◌, List, [], ◌∷◌, ◌++◌, drop, length, get_or, refl, sym, ◌∙◌, ap, subst, arith}
 use Rattle.std.proofs.lemmas.List.{drop_more, drop_all, get_or_default}
 use Rattle.ir.specs.declared.instr.Instr.{Instr}
 use Rattle.ir.specs.Renaming.{renamed}
 use Rattle.block_fold.specs.declared.table.StepTable.{StepTable}
 use Rattle.block_fold.specs.declared.making.Maker.{Maker}
 use Rattle.block_fold.specs.Numbers.{renumbered}
-use Rattle.block_fold.specs.Puts.{Put, put_all, most_values, most_made, put, depth}
+use Rattle.block_fold.specs.Puts.{Put, put_all, most_values, put, depth}
 use Rattle.block_fold.specs.Simplified.{Made, nothing_made, taken, new_number, taken_all}
 use Rattle.block_fold.specs.Code.{values_in, PlacesAreRight, IsPutThere, made_of, IsMade, most_more}
 use Rattle.block_fold.proofs.TableLemmas.{depth_is}
-use Rattle.block_fold.proofs.Counts.{GrowsWithin, grows_on_within, put_within, taken_within}
+use Rattle.block_fold.proofs.Counts.{grows_on_within, put_within, taken_within}
 
 rest_more : (is : List Instr) (k : ℕ) (i : Instr) → k < length is → i ≡ get_or is k i → drop k is ≡ i ∷ drop (k + 1) is
 rest_more is k i lt e = drop_more is k i lt ∙ ap (λ j. j ∷ drop (k + 1) is) (sym e)

@@ -1,19 +1,18 @@
 -- A pure step that is put has its value and its width under the number that it gets.
-use Rattle.std.proofs.Common.{◌≡◌, ℕ, zero, suc, ◌+◌, ◌-◌, ◌<◌, List, [], ◌∷◌, ◌++◌, map, length, get_or, Option, Some, None, refl, sym, ◌∙◌, ap, subst, arith, length-append}
+use Rattle.std.proofs.Common.{◌≡◌, ℕ, zero, suc, ◌+◌, List, [], ◌∷◌, ◌++◌, length, get_or, Option, Some, None, refl, sym, ◌∙◌, ap, subst, arith, length-append}
 use Rattle.std.specs.Prelude.{slice_get, nat_lt, nat_le, Bool, true, false, if◌then◌else◌, position, All}
 use Rattle.std.proofs.lemmas.Option.{slice_get-get_or}
 use Rattle.std.proofs.lemmas.List.Quantifiers.{position-Some}
 use Rattle.std.proofs.lemmas.List.Elements.{All-head, All-tail}
 use Rattle.std.proofs.lemmas.List.{get_or_push}
 use Rattle.ir.specs.declared.instr.Instr.{Instr}
-use Rattle.ir.specs.declared.instr.Instr.TheVariants.{Const}
 use Rattle.ir.specs.Steps.{Work, value_at, step_value, after_step, through, beginning}
 use Rattle.ir.specs.Shapes.{Shape, IsOfWidth, StepFits, StepsFit, step_width, shape_after}
 use Rattle.ir.specs.Renaming.{renamed}
 use Rattle.block_pass.specs.Laws.{ValuesStayInWidths}
 use Rattle.block_rules.specs.declared.rewriting.Rewriting.{Rewriting}
 use Rattle.block_rules.specs.declared.rewriting.Rewriting.TheVariants.{Kept, Value, Steps}
-use Rattle.block_rules.specs.Known.{IsPure, pure_value, AreValues}
+use Rattle.block_rules.specs.Known.{IsPure, pure_value}
 use Rattle.block_rules.specs.Rules.{rewritten}
 use Rattle.block_rules.specs.Laws.{IsRight, AreRight, RewritingsAreRight}
 use Rattle.block_fold.specs.Numbers.{renumbered}

@@ -1,17 +1,15 @@
 -- What is known of arrays stands there in each visit without strays.
-use Rattle.std.proofs.Common.{◌≡◌, ◌≢◌, ℕ, suc, ◌+◌, ◌<◌, List, [], ◌∷◌, ◌++◌, map, length, get_or, Option, Some, None, refl, sym, ◌∙◌, ap, subst, arith, inl, inr}
-use Rattle.std.specs.Prelude.{slice_get, set, nat_lt, ◌==◌, ◌&&◌, ◌||◌, not, Bool, true, false, if◌then◌else◌, All}
+use Rattle.std.proofs.Common.{◌≡◌, ◌≢◌, ℕ, ◌+◌, ◌<◌, List, [], ◌∷◌, ◌++◌, map, length, get_or, Some, refl, sym, ◌∙◌, ap, subst, arith, inl, inr}
+use Rattle.std.specs.Prelude.{slice_get, set, nat_lt, ◌==◌, ◌&&◌, not, Bool, true, false, if◌then◌else◌, All}
 use Rattle.std.specs.List.{filter}
-use Rattle.std.proofs.lemmas.Bool.{cases_lt, cases_eq, lt-ltb, ltb-true, and_parts, or_cases, eqb-true, eqb-false, not-true, true≢false, cases_Bool}
+use Rattle.std.proofs.lemmas.Bool.{cases_eq, lt-ltb, ltb-true, and_parts, or_cases, eqb-true, eqb-false, not-true}
 use Rattle.std.proofs.lemmas.Option.{slice_get_within}
 use Rattle.std.proofs.lemmas.List.{get_or-set_same, get_or-set_other, length-set}
-use Rattle.std.proofs.lemmas.List.Elements.{All-nil, All-cons, All-head, All-tail, All-push, All-weaker}
-use Rattle.el_base.specs.declared.ty.Array.{Array}
+use Rattle.std.proofs.lemmas.List.Elements.{All-nil, All-cons, All-head, All-tail, All-weaker}
 use Rattle.ir.specs.declared.instr.Instr.{Instr}
 use Rattle.ir.specs.declared.instr.Instr.TheVariants.{Load, Store}
-use Rattle.ir.specs.Steps.{Work, value_at, cells, strays_past, step_value, step_arrays, step_strays, after_step, through, beginning}
-use Rattle.ir.specs.Shapes.{Shape, IsOfWidth, IsArray, StepFits, StepsFit, element_width, step_width, shape_after}
-use Rattle.block_pass.specs.Fitting.{FitArrays}
+use Rattle.ir.specs.Steps.{Work, value_at, cells, strays_past, step_arrays, step_strays, beginning}
+use Rattle.ir.specs.Shapes.{IsOfWidth, IsArray, StepFits, element_width}
 use Rattle.block_pass.specs.Laws.{ValuesStayInWidths}
 use Rattle.block_fold.specs.declared.known.Known.{Known}
 use Rattle.block_fold.specs.Addresses.{known_value, differ, stays_known}
@@ -160,21 +158,21 @@ module _ (stay : ValuesStayInWidths) (s : Start) (steps : List Instr) (a p v : �
 
   stands_apart : (k : Known) → Stands s steps k → k.array ≡ a → differ (count s) steps k.addr p ≡ true → Stands s (steps ++ Store a p v ∷ []) k
   stands_apart k st same d = stands_on s steps (steps ++ Store a p v ∷ []) k st (grows_more s steps (Store a p v)) (λ z. (clean_before s steps (Store a p v) z).0) (λ z.
-    let ne : value_at (values s steps) k.addr ≢ value_at (values s steps) p =
-    differ_apart s.declared (count s) steps (shape s steps) (values s steps) (known_values stay s steps fit) k.addr p st.addr fits.2 d in
-    let olds = cells (work s steps).arrays a in
-    let c : KeepsCell olds (cells (work s (steps ++ Store a p v ∷ [])).arrays a) (value_at (values s steps) k.addr) = record {
-      long = ap length cells_stored ∙ length-set olds (value_at (values s steps) p) (value_at (values s steps) v);
-      same = ap (λ l. get_or l (value_at (values s steps) k.addr) 0) cells_stored ∙ get_or-set_other olds (value_at (values s steps) p) (value_at (values s steps) k.addr) (value_at (values s steps) v) 0 ne;
-    } in
-    subst (λ b. KeepsCell (cells (work s steps).arrays b) (cells (work s (steps ++ Store a p v ∷ [])).arrays b) (value_at (values s steps) k.addr)) (sym same) c)
+      let ne : value_at (values s steps) k.addr ≢ value_at (values s steps) p =
+      differ_apart s.declared (count s) steps (shape s steps) (values s steps) (known_values stay s steps fit) k.addr p st.addr fits.2 d in
+      let olds = cells (work s steps).arrays a in
+      let c : KeepsCell olds (cells (work s (steps ++ Store a p v ∷ [])).arrays a) (value_at (values s steps) k.addr) = record {
+        long = ap length cells_stored ∙ length-set olds (value_at (values s steps) p) (value_at (values s steps) v);
+        same = ap (λ l. get_or l (value_at (values s steps) k.addr) 0) cells_stored ∙ get_or-set_other olds (value_at (values s steps) p) (value_at (values s steps) k.addr) (value_at (values s steps) v) 0 ne;
+      } in
+      subst (λ b. KeepsCell (cells (work s steps).arrays b) (cells (work s (steps ++ Store a p v ∷ [])).arrays b) (value_at (values s steps) k.addr)) (sym same) c)
 
   stands_over : (k : Known) → Stands s steps k → stays_known (count s) steps a p k ≡ true → Stands s (steps ++ Store a p v ∷ []) k
   stands_over k st h = elim (cases_eq k.array a) [
     | inl same ↦ elim (or_cases (not (k.array == a)) (differ (count s) steps k.addr p) h) [
-        | inl other ↦ absurd (eqb-false k.array a (not-true (k.array == a) other) same)
-        | inr d ↦ stands_apart k st same d
-      ]
+      | inl other ↦ absurd (eqb-false k.array a (not-true (k.array == a) other) same)
+      | inr d ↦ stands_apart k st same d
+    ]
     | inr ne ↦ stands_elsewhere k st ne
   ]
 

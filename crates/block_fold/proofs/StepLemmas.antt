@@ -1,5 +1,5 @@
 -- Steps behind others: shapes and values in front stay, each step fits what stands then, and each pure step has the value that it gives.
-use Rattle.std.proofs.Common.{◌≡◌, ℕ, zero, suc, ◌+◌, ◌<◌, List, [], ◌∷◌, ◌++◌, map, length, get_or, Option, Some, None, refl, sym, ◌∙◌, ap, subst, arith, length-append}
+use Rattle.std.proofs.Common.{◌≡◌, ℕ, zero, suc, ◌+◌, ◌<◌, List, [], ◌∷◌, ◌++◌, map, length, get_or, Option, Some, refl, sym, ◌∙◌, ap, subst, arith, length-append}
 use Rattle.std.specs.Prelude.{slice_get, set}
 use Rattle.std.proofs.lemmas.Option.{slice_get_within}
 use Rattle.std.proofs.lemmas.List.{get_or_append_left, get_or_push}
@@ -11,8 +11,7 @@ use Rattle.ir.specs.Steps.{Work, value_at, chosen_of, cells, strays_past, step_v
 use Rattle.ir.specs.Shapes.{Shape, IsOfWidth, StepFits, StepsFit, step_width, shape_after}
 use Rattle.ir.specs.Renaming.{renamed}
 use Rattle.ir.proofs.Fitting.{behind}
-use Rattle.block_merge.proofs.JoinedValues.{through_long, shape_long, somes_long}
-use Rattle.block_merge.proofs.Works.{through_append}
+use Rattle.block_merge.proofs.JoinedValues.{shape_long, somes_long}
 use Rattle.block_pass.specs.Fitting.{FitShape, FitArrays}
 use Rattle.block_pass.specs.Laws.{ValuesStayInWidths}
 use Rattle.block_rules.specs.Known.{IsPure, pure_value, AreValues}

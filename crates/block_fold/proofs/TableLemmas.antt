@@ -1,6 +1,6 @@
 -- The table of steps: the numbers of first equal steps, and puts by it.
-use Rattle.std.proofs.Common.{◌≡◌, ℕ, zero, suc, ◌+◌, ◌-◌, ◌*◌, ◌^◌, ◌<◌, ◌≤◌, Bool, true, false, List, [], ◌∷◌, ◌++◌, drop, length, get_or, Option, Some, None, refl, sym, ◌∙◌, ap, subst, arith, length-append}
-use Rattle.std.specs.Prelude.{nat_lt, nat_le, ◌==◌, ◌&&◌, not, is_none, cond, if◌then◌else◌, position, option_map}
+use Rattle.std.proofs.Common.{◌≡◌, ℕ, zero, suc, ◌+◌, ◌-◌, ◌<◌, ◌≤◌, Bool, true, false, List, [], ◌∷◌, ◌++◌, length, Option, Some, None, refl, sym, ◌∙◌, ap, subst, arith, length-append}
+use Rattle.std.specs.Prelude.{nat_lt, ◌&&◌, not, is_none, cond, if◌then◌else◌, position, option_map}
 use Rattle.std.specs.List.{position_or_len}
 use Rattle.std.proofs.lemmas.Bool.{lt-ltb, le-ltb, ltb-true, ltb-false, le-leb, lt-leb, eq-eqb, ne_eqb, true≢false}
 use Rattle.std.proofs.lemmas.List.Folds.{position_or_len_push}
@@ -8,7 +8,7 @@ use Rattle.std.proofs.lemmas.List.Sums.{prefix_len-le-length}
 use Rattle.indexmap.specs.IndexMap.{IndexMap, get}
 use Rattle.ir.specs.declared.instr.Instr.{Instr}
 use Rattle.block_rules.specs.declared.rewriting.Rewriting.{Rewriting}
-use Rattle.block_rules.specs.declared.rewriting.Rewriting.TheVariants.{Kept, Value, Steps}
+use Rattle.block_rules.specs.declared.rewriting.Rewriting.TheVariants.{Steps}
 use Rattle.block_rules.specs.Rules.{rewritten}
 use Rattle.block_fold.specs.declared.table.StepTable.{StepTable}
 use Rattle.block_fold.specs.Puts.{Put, same_step, appended, added_at, added, put_all, most_made, put_as, most_values, put, depth}

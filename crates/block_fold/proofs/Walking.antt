@@ -1,5 +1,5 @@
 -- A block that is made anew, beside the old one, step by step.
-use Rattle.std.proofs.Common.{◌≡◌, ℕ, suc, ◌+◌, ◌<◌, List, [], ◌∷◌, ◌++◌, map, length, get_or, Option, Some, None, refl, sym, ◌∙◌, ap, subst, arith, length-append, append_assoc, append-nil}
+use Rattle.std.proofs.Common.{◌≡◌, ℕ, ◌+◌, List, [], ◌∷◌, ◌++◌, map, length, get_or, Option, Some, None, refl, sym, ◌∙◌, ap, subst, arith, length-append, append_assoc, append-nil}
 use Rattle.std.specs.Prelude.{slice_get, All}
 use Rattle.std.specs.List.{flat_map, filter}
 use Rattle.std.proofs.lemmas.List.Elements.{All-nil, All-push, All-weaker}
@@ -11,18 +11,17 @@ use Rattle.ir.specs.Renaming.{renamed}
 use Rattle.block_merge.specs.Found.{stored_by}
 use Rattle.block_merge.proofs.JoinedValues.{somes_long}
 use Rattle.block_pass.specs.Laws.{ValuesStayInWidths}
-use Rattle.block_rules.specs.Known.{IsPure, pure_value}
+use Rattle.block_rules.specs.Known.{IsPure}
 use Rattle.block_rules.specs.Laws.{RewritingsAreRight}
 use Rattle.block_fold.specs.declared.known.Known.{Known}
-use Rattle.block_fold.specs.Numbers.{renumbered}
-use Rattle.block_fold.specs.Puts.{Put, put, depth}
+use Rattle.block_fold.specs.Puts.{put, depth}
 use Rattle.block_fold.specs.Addresses.{known_value, stays_known}
 use Rattle.block_fold.specs.Simplified.{Made, nothing_made, with_number, with_put, with_access, loaded_as, stored_at, taken, new_number, taken_all}
 use Rattle.block_fold.proofs.StepLemmas.{width_renamed, pure_renamed, fits_renamed, value_renamed, arrays_renamed, strays_renamed, pure_any, pure_arrays, pure_strays, pure_width, fit_shape_long}
 use Rattle.block_fold.proofs.Tables.{KeepsWidth, KeepsValue, first_widths, first_values, more_widths, more_values}
-use Rattle.block_fold.proofs.Growing.{Start, count, shape, work, values, Fit, shape_count, values_count, known_values, work_more, fit_more, width_more, value_more, Grows, grows_more, grown_widths, grown_values, Stays, stored_more}
-use Rattle.block_fold.proofs.Putting.{IsPut, MayBePut, put_right}
-use Rattle.block_fold.proofs.Standing.{Holds, Stands, IsFound, known_found, within_none, same_cells, stands_on, clean_before, all_loaded, stands_loaded, all_over, stands_stored}
+use Rattle.block_fold.proofs.Growing.{Start, count, shape, work, values, Fit, work_more, fit_more, width_more, value_more, grows_more, grown_widths, grown_values, stored_more}
+use Rattle.block_fold.proofs.Putting.{MayBePut, put_right}
+use Rattle.block_fold.proofs.Standing.{Stands, IsFound, known_found, within_none, same_cells, stands_on, clean_before, all_loaded, stands_loaded, all_over, stands_stored}
 
 -- where the old work has no strays: the new has none, the same arrays, and the same values under their new numbers
 pub record Alike (s : Start) (ws : Shape) (w : Work) (d : Made) : Type 0 where
@@ -72,7 +71,7 @@ module _ (s : Start) (ws : Shape) (w : Work) (stored : List ℕ) (d : Made) (h :
       let more = length-append d.numbers (number ∷ []) in
       let strays : (work s new).strays ≡ (work s d.steps).strays + step_strays j (values s d.steps) (work s d.steps).arrays = ap (λ (v : Work). v.strays) (work_more s d.steps j) in
       let alike_strays = λ (a : Alike s ws w d).
-          ap (λ l. step_strays j (values s d.steps) l) a.arrays ∙ strays_renamed s.declared g ws w.values (values s d.steps) a.values_are w.arrays i fits in
+      ap (λ l. step_strays j (values s d.steps) l) a.arrays ∙ strays_renamed s.declared g ws w.values (values s d.steps) a.values_are w.arrays i fits in
       record {
         long = omega (arith, long, long_ws, more);
         long_olds = omega (arith, olds, long_ws, long_olds);

@@ -1,10 +1,10 @@
 -- Private: only contracts of private functions cite it. What the code keeps beside the definitions.
-use Rattle.std.specs.Prelude.{◌≡◌, ℕ, ◌+◌, ◌*◌, ◌≤◌, ◌<◌, ◌&&◌, is_none, cond, List, length, position, option_map, Option, Some, None}
+use Rattle.std.specs.Prelude.{◌≡◌, ℕ, ◌+◌, ◌*◌, ◌&&◌, is_none, cond, length, position, option_map, Some}
 use Rattle.indexmap.specs.IndexMap.{IndexMap, get}
 use Rattle.ir.specs.declared.instr.Instr.{Instr}
 use Rattle.block_fold.specs.declared.table.StepTable.{StepTable}
 use Rattle.block_fold.specs.declared.making.Maker.{Maker}
-use Rattle.block_fold.specs.Puts.{Put, same_step, most_values, most_made}
+use Rattle.block_fold.specs.Puts.{Put, same_step, most_made}
 use Rattle.block_fold.specs.Simplified.{Made}
 
 -- how many values there are

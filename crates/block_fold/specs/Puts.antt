@@ -1,6 +1,6 @@
 -- A pure step put behind the steps of a block with n arguments: by the rules it becomes a value or other steps, and an equal step that
 -- stands already is taken in its place.
-use Rattle.std.specs.Prelude.{ℕ, zero, suc, ◌+◌, ◌^◌, ◌&&◌, nat_lt, nat_le, if◌then◌else◌, Bool, List, [], ◌∷◌, ◌++◌, length, position, Option, Some, None}
+use Rattle.std.specs.Prelude.{ℕ, zero, suc, ◌+◌, ◌^◌, nat_lt, nat_le, if◌then◌else◌, Bool, List, [], ◌∷◌, ◌++◌, length, position, Option, Some, None}
 use Rattle.ir.specs.declared.instr.Instr.{Instr}
 use Rattle.ir.specs.contracts.instr.InstrPartialEq.TheImpl as equality
 use Rattle.ir.specs.Renaming.{renamed}

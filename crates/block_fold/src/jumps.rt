@@ -45,12 +45,7 @@ fn target(alloc: Global, args: u32, numbers: &[u32], to: &To) -> Result<To, Memo
 }
 
 /// The values under their new numbers.
-fn values(
-    alloc: Global,
-    args: u32,
-    numbers: &[u32],
-    values: &[u32],
-) -> Result<List<u32>, Memory>
+fn values(alloc: Global, args: u32, numbers: &[u32], values: &[u32]) -> Result<List<u32>, Memory>
     ensures { IfOk result (λ vs. vs ≡ map (renumbered args numbers.now) values.now) }
 {
     let mut all = List::new(alloc);

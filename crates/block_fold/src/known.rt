@@ -70,18 +70,22 @@ fn sum_at(args: u32, steps: &[Instr], value: u32) -> Sum
             }
         }
         Some(Instr::One(_, _))
-        | Some(Instr::Select {
-            width: _,
-            cond: _,
-            yes: _,
-            no: _,
-        })
+        | Some(
+            Instr::Select {
+                width: _,
+                cond: _,
+                yes: _,
+                no: _,
+            },
+        )
         | Some(Instr::Load { array: _, addr: _ })
-        | Some(Instr::Store {
-            array: _,
-            addr: _,
-            value: _,
-        })
+        | Some(
+            Instr::Store {
+                array: _,
+                addr: _,
+                value: _,
+            },
+        )
         | None => alone,
     }
 }

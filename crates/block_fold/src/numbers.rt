@@ -70,18 +70,22 @@ pub(crate) fn const_at(args: u32, steps: &[Instr], value: u32) -> Option<u64>
         Some(Instr::Const { width: _, value }) => Some(value),
         Some(Instr::One(_, _))
         | Some(Instr::Two(_, _, _))
-        | Some(Instr::Select {
-            width: _,
-            cond: _,
-            yes: _,
-            no: _,
-        })
+        | Some(
+            Instr::Select {
+                width: _,
+                cond: _,
+                yes: _,
+                no: _,
+            },
+        )
         | Some(Instr::Load { array: _, addr: _ })
-        | Some(Instr::Store {
-            array: _,
-            addr: _,
-            value: _,
-        })
+        | Some(
+            Instr::Store {
+                array: _,
+                addr: _,
+                value: _,
+            },
+        )
         | None => None,
     }
 }

@@ -162,7 +162,7 @@ impl StepTable {
         requires shallow { depth ≤ 7 }
         ensures { IfOk result (λ v. IsPutThere self.old self.new v
             (put_all (put depth self.old.args) (values_in self.old) []
-                (record { steps = self.old.steps; number = 0 }) steps.now)) }
+            (record { steps = self.old.steps; number = 0 }) steps.now)) }
     {
         let first = self.values();
         let mut numbers = List::new(alloc);

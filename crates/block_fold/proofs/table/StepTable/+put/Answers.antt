@@ -1,4 +1,4 @@
-use Rattle.std.proofs.Common.{IfOk, sym, subst, arith, ◌<◌, ◌∙◌, ap}
+use Rattle.std.proofs.Common.{IfOk, sym, subst, arith, ◌<◌}
 use Rattle.block_fold.specs.Puts.{most_values}
 use Rattle.block_fold.specs.Code.{values_in, IsPutThere}
 use Rattle.block_fold.proofs.TableLemmas.{put_none, put_many, put_step}
