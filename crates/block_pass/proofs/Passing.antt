@@ -7,7 +7,7 @@ use Rattle.el_base.specs.Widths.{ty_width}
 use Rattle.ir.specs.Visits.{Visit, over_visits}
 use Rattle.ir.specs.Graphs.{Graph, first_visit, weight}
 use Rattle.ir.specs.Headers.{graph_header}
-use Rattle.block_merge.specs.Laws.{MergedGraphsKeep}
+use Rattle.block_merge.specs.Laws.{MergedGraphsKeep, MergedRunsGoBack}
 use Rattle.block_pass.specs.Fitting.{FitWidths, FitArrays, FitHeader}
 use Rattle.block_pass.specs.Laws.{EachKeepsItself, PassesGoOn, EndsGoBack, MergedGraphsPass}
 use Rattle.block_pass.proofs.Values.{fit_long}
@@ -44,22 +44,28 @@ go_back g h k share first second scalars arrays r last more fit e =
     let x = second scalars arrays r last more (fits_header g h scalars arrays share.header fit) e in
     first scalars arrays r last x.0 fit x.1
 
-no_cost : (vs : List Visit) → over_visits (λ v. 0) vs ≡ 0
+pub no_cost : (vs : List Visit) → over_visits (λ v. 0) vs ≡ 0
 no_cost [] = refl
 no_cost (v ∷ vs) = let e = no_cost vs in omega (arith, e)
 
-pub merged_passes : MergedGraphsKeep → MergedGraphsPass
-merged_passes law g fine =
+-- inputs that fit are as many as the scalars
+scalars_long : (g : Graph) (scalars : List ℕ) (arrays : List (List ℕ)) → FitHeader g scalars arrays → length scalars ≡ length g.scalars
+scalars_long g scalars arrays fit = fit_long (map (λ (s : Scalar). ty_width s.ty) g.scalars) scalars fit.each_scalar ∙ length-map g.scalars (λ s. ty_width s.ty)
+
+pub merged_passes : MergedGraphsKeep → MergedRunsGoBack → MergedGraphsPass
+merged_passes law back g fine =
     let share = law g fine in
     record {
-      header = share.header;
-      fine = share.fine;
-      runs = λ scalars arrays r last more fit e.
-          let long : length scalars ≡ length g.scalars = fit_long (map (λ (s : Scalar). ty_width s.ty) g.scalars) scalars fit.each_scalar ∙ length-map g.scalars (λ s. ty_width s.ty) in
-          let v = first_visit scalars arrays in
-          let x = share.runs scalars arrays r last more (over_visits (weight g) (v ∷ e.rest)) long (record { rest = e.rest; ends = e.ends; clean = e.clean; few = e.few; cheap = omega arith }) in
-          record { rest = x.rest; ends = x.ends; clean = x.clean; few = x.few; cheap = (let z = no_cost (v ∷ x.rest) in omega (arith, z)) };
-      blocks = share.sizes.blocks;
-      few_args = share.sizes.few_args;
-      stored = share.stored;
+      share = record {
+        header = share.header;
+        fine = share.fine;
+        runs = λ scalars arrays r last more fit e.
+            let v = first_visit scalars arrays in
+            let x = share.runs scalars arrays r last more (over_visits (weight g) (v ∷ e.rest)) (scalars_long g scalars arrays fit) (record { rest = e.rest; ends = e.ends; clean = e.clean; few = e.few; cheap = omega arith }) in
+            record { rest = x.rest; ends = x.ends; clean = x.clean; few = x.few; cheap = (let z = no_cost (v ∷ x.rest) in omega (arith, z)) };
+        blocks = share.sizes.blocks;
+        few_args = share.sizes.few_args;
+        stored = share.stored;
+      };
+      back = λ scalars arrays r last more fit e. back g fine scalars arrays r last more (scalars_long g scalars arrays fit) e;
     }

@@ -33,8 +33,13 @@ PassesGoOn = (g h k : Graph) → PassShare g h → PassShare h k → PassShare g
 abbrev pub EndsGoBack : Type 0
 EndsGoBack = (g h k : Graph) → PassShare g h → VisitsBack g h → VisitsBack h k → VisitsBack g k
 
+-- what a pass gives, and its ends go back
+pub record PassesBack (g h : Graph) : Type 0 where
+  pub share : PassShare g h
+  pub back : VisitsBack g h
+
 abbrev pub MergedGraphsPass : Type 0
-MergedGraphsPass = (g : Graph) → IsGraph g → PassShare g (merged g)
+MergedGraphsPass = (g : Graph) → IsGraph g → PassesBack g (merged g)
 
 -- each visit of a block that there is weighs at most so much, and past the blocks a visit weighs 1
 abbrev pub LightVisits : Type 0
@@ -47,11 +52,6 @@ BlocksKeepThemselves = (g : Graph) (b : Block) → IsBlock g b → BlockShare g 
 
 abbrev pub BlocksGoOn : Type 0
 BlocksGoOn = (g : Graph) (b c d : Block) → BlockShare g b c → BlockShare g c d → BlockShare g b d
-
--- what a pass gives, and its ends go back
-pub record PassesBack (g h : Graph) : Type 0 where
-  pub share : PassShare g h
-  pub back : VisitsBack g h
 
 -- a function of blocks, each made anew
 abbrev pub BlocksPass : Type 0

@@ -1,7 +1,7 @@
 //! The laws, each as the contract of a function that does nothing.
 ghost use Rattle.block_pass.specs.Laws.{ValuesStayInWidths, EachKeepsItself, PassesGoOn, EndsGoBack, MergedGraphsPass, BlocksKeepThemselves, BlocksGoOn, BlocksPass, OneBlockPasses, LightVisits};
 
-use block_merge::merged_graphs_keep;
+use block_merge::{merged_graphs_keep, merged_runs_go_back};
 use word_ops::laws::results_are_patterns;
 
 /// Values that fit their widths, and elements that fit their arrays, still do after steps that fit.
@@ -18,11 +18,12 @@ pub fn passes_go_on()
     ensures back { EndsGoBack }
 {}
 
-/// The merged graph of a graph is one that a pass may give.
+/// The merged graph of a graph is one that a pass may give, and its ends go back.
 pub fn merged_graphs_pass()
     ensures { MergedGraphsPass }
 {
     merged_graphs_keep();
+    merged_runs_go_back();
 }
 
 /// A block keeps itself, and what one block keeps of another goes on to the next.

@@ -1,5 +1,5 @@
 -- The law of the rules: what a step becomes has the step's width and value.
-use Rattle.std.specs.Prelude.{◌≡◌, ℕ, suc, ◌+◌, ◌<◌, Bool, List, [], length, All, Some, ◌==◌, not, cond}
+use Rattle.std.specs.Prelude.{◌≡◌, ℕ, suc, ◌+◌, List, [], length, All, Some, ◌==◌, not, cond}
 use Rattle.el_base.specs.declared.ty.Array.{Array}
 use Rattle.ir.specs.declared.instr.Instr.{Instr}
 use Rattle.ir.specs.Shapes.{Shape, IsOfWidth, StepFits, StepsFit, step_width, shape_after}
