@@ -1,0 +1,14 @@
+pub mod StepLemmas
+pub mod Tables
+pub mod Growing
+pub mod Equal
+pub mod Putting
+pub mod Sums
+pub mod Standing
+pub mod Walking
+pub mod JumpLemmas
+pub mod Keeping
+pub mod CodeLemmas
+pub mod TableLemmas
+pub mod Counts
+pub mod Loops

@@ -1,25 +1,15 @@
-//! A stand-in for the pass that folds blocks: it merges.
+//! Each block of a graph made anew from left to right: constants and identities by rules, equal pure steps once, loads of
+//! what is known to stand at an address, jumps that are decided; and without what nothing needs then.
 #![tactic(auto)]
 
-ghost use Rattle.std.specs.Prelude.{◌≡◌, ◌≤◌, IfOk};
-ghost use Rattle.ir.specs.Graphs.{size};
-ghost use Rattle.block_fold.specs.Folded.{folded};
-
+mod folding;
+mod jumps;
+mod known;
 mod laws;
+mod making;
+mod numbers;
+mod table;
 
-use block_merge::merge;
-use ir::{Ir, Memory};
-pub use laws::folded_graphs_pass;
-use std::alloc::Global;
-
-/// The folded graph.
-///
-/// # Errors
-///
-/// [`Memory`] where memory is wanting.
-pub fn fold(alloc: Global, graph: &Ir) -> Result<Ir, Memory>
-    requires { size graph.now ≤ 8000000 }
-    ensures folded { IfOk result (λ g. g ≡ folded graph.now) }
-{
-    merge(alloc, graph)
-}
+pub use folding::fold;
+pub use ir::{Ir, Memory};
+pub use laws::{folded_graphs_pass, simplified_blocks_keep};
