@@ -1,27 +1,25 @@
 -- One block made anew passes, and so do all, one after the other.
-use Rattle.std.proofs.Common.{◌≡◌, ℕ, zero, suc, ◌<◌, ◌≤◌, List, [], ◌∷◌, map, length, Option, Some, None, refl, sym, ◌∙◌, ap, subst, arith, inl, inr}
+use Rattle.std.proofs.Common.{◌≡◌, ℕ, zero, suc, ◌<◌, ◌≤◌, List, ◌∷◌, map, length, Option, Some, None, refl, sym, ◌∙◌, ap, subst, arith, inl, inr}
 use Rattle.std.specs.Prelude.{set, All, nat_le}
 use Rattle.std.specs.Option.{option_map_or}
 use Rattle.std.proofs.lemmas.Bool.{cases_lt, cond_both}
 use Rattle.std.proofs.lemmas.List.{length-map, length-set, get_or_past}
 use Rattle.std.proofs.lemmas.List.Elements.{All-get_or, All-from_get_or}
-use Rattle.el_base.specs.declared.ty.Array.{Array}
-use Rattle.el_base.specs.declared.ty.Scalar.{Scalar}
-use Rattle.el_base.specs.Headers.{Header}
 use Rattle.el_base.specs.Widths.{ty_width}
 use Rattle.ir.specs.declared.graph.Block.{Block}
 use Rattle.ir.specs.declared.graph.Jump.{Jump}
 use Rattle.ir.specs.declared.graph.Jump.TheVariants.{Go, Two, Return}
 use Rattle.ir.specs.declared.graph.To.{To}
-use Rattle.ir.specs.Visits.{Visit, over_visits}
 use Rattle.ir.specs.Graphs.{Graph, IsGraph, no_block, block_at, passage, first_visit, block_weight}
 use Rattle.block_merge.specs.Merged.{with_blocks}
 use Rattle.block_merge.proofs.Members.{In}
 use Rattle.block_merge.proofs.Stored.{stored_alike}
 use Rattle.block_merge.proofs.Visiting.{Fits, fits_next, first_fits}
-use Rattle.block_pass.specs.Fitting.{FitWidths, FitArrays, FitHeader}
-use Rattle.block_pass.specs.Shares.{VisitsOver, VisitsBack, PassShare}
+use Rattle.block_pass.specs.Fitting.{FitHeader}
+use Rattle.block_pass.specs.Shares.{VisitsOver, VisitsBack}
 use Rattle.block_pass.specs.Laws.{PassesBack}
+use Rattle.block_pass.proofs.Passing.{keeps_itself, go_on, go_back, no_cost}
+use Rattle.block_pass.proofs.Values.{fit_long}
 use Rattle.block_select.specs.declared.arms.Meeting.{Meeting}
 use Rattle.block_select.specs.Arms.{meeting}
 use Rattle.block_select.specs.Selected.{selected_block, with_light, selected_by, selected_at, selected_blocks, selected}
@@ -32,53 +30,12 @@ use Rattle.block_select.proofs.Runs.{shorter, longer}
 -- ---- passes
 
 passes_itself : (g : Graph) → IsGraph g → PassesBack g g
-passes_itself g fine = record {
-  share = record {
-    header = refl;
-    fine = fine;
-    runs = λ scalars arrays r last more fit x. x;
-    blocks = omega arith;
-    few_args = λ most x. x;
-    stored = λ a. (λ x. x, λ x. x);
-  };
-  back = λ scalars arrays r last more fit x. (more, x);
-}
-
-header_fits : (g h : Graph) (scalars : List ℕ) (arrays : List (List ℕ)) → PassShare g h → FitHeader g scalars arrays → FitHeader h scalars arrays
-header_fits g h scalars arrays s fit =
-    record {
-      each_scalar = subst (λ (xs : List Scalar). FitWidths (map (λ x. ty_width x.ty) xs) scalars) (sym (ap (λ (e : Header). e.scalars) s.header)) fit.each_scalar;
-      each_array = subst (λ (xs : List Array). FitArrays xs arrays) (sym (ap (λ (e : Header). e.arrays) s.header)) fit.each_array;
-    }
+passes_itself g fine = record { share = keeps_itself g fine; back = λ scalars arrays r last more fit x. (more, x) }
 
 passes_twice : (g h k : Graph) → PassesBack g h → PassesBack h k → PassesBack g k
-passes_twice g h k a b =
-    let p = a.share in
-    let q = b.share in
-    record {
-      share = record {
-        header = q.header ∙ p.header;
-        fine = q.fine;
-        runs = λ scalars arrays r last more fit x. q.runs scalars arrays r last more (header_fits g h scalars arrays p fit) (p.runs scalars arrays r last more fit x);
-        blocks = (let x = p.blocks in let y = q.blocks in omega (arith, x, y));
-        few_args = λ most x. q.few_args most (p.few_args most x);
-        stored = λ a. (λ x. (p.stored a).0 ((q.stored a).0 x), λ x. (q.stored a).1 ((p.stored a).1 x));
-      };
-      back = λ scalars arrays r last more fit x.
-          let y = b.back scalars arrays r last more (header_fits g h scalars arrays p fit) x in a.back scalars arrays r last y.0 fit y.1;
-    }
+passes_twice g h k a b = record { share = go_on g h k a.share b.share; back = go_back g h k a.share a.back b.back }
 
 -- ---- one block
-
-widths_long : (ws vs : List ℕ) → FitWidths ws vs → length vs ≡ length ws
-widths_long [] [] h = refl
-widths_long (w ∷ ws) (v ∷ vs) h = ap suc (widths_long ws vs h.1)
-widths_long [] (v ∷ vs) h = absurd h
-widths_long (w ∷ ws) [] h = absurd h
-
-free : (vs : List Visit) → over_visits (λ v. 0) vs ≤ 0
-free [] = omega arith
-free (v ∷ vs) = let l = free vs in omega (arith, l)
 
 module _ (g : Graph) (k c : ℕ) (yes_part no_part : To) (m : Meeting) (is : Chooses g k c yes_part no_part m) where
   abbrev bs : List Block
@@ -89,7 +46,7 @@ module _ (g : Graph) (k c : ℕ) (yes_part no_part : To) (m : Meeting) (is : Cho
 
   starts : (scalars : List ℕ) (arrays : List (List ℕ)) → FitHeader g scalars arrays → Fits g is.graph (first_visit scalars arrays)
   starts scalars arrays fit =
-      first_fits g is.graph scalars arrays (widths_long (map (λ s. ty_width s.ty) g.scalars) scalars fit.each_scalar ∙ length-map g.scalars (λ s. ty_width s.ty))
+      first_fits g is.graph scalars arrays (fit_long (map (λ s. ty_width s.ty) g.scalars) scalars fit.each_scalar ∙ length-map g.scalars (λ s. ty_width s.ty))
 
   over : VisitsOver g h
   over scalars arrays r last more fit x =
@@ -99,7 +56,7 @@ module _ (g : Graph) (k c : ℕ) (yes_part no_part : To) (m : Meeting) (is : Cho
         ends = s.ends;
         clean = s.strays ∙ x.clean;
         few = (let p = s.few in let q = x.few in omega (arith, p, q));
-        cheap = free (first_visit scalars arrays ∷ s.again);
+        cheap = (let e = no_cost (first_visit scalars arrays ∷ s.again) in omega (arith, e));
       }
 
   back : VisitsBack g h
@@ -111,7 +68,7 @@ module _ (g : Graph) (k c : ℕ) (yes_part no_part : To) (m : Meeting) (is : Cho
           ends = s.ends;
           clean = s.strays ∙ x.clean;
           few = omega arith;
-          cheap = free (first_visit scalars arrays ∷ s.rest);
+          cheap = (let e = no_cost (first_visit scalars arrays ∷ s.rest) in omega (arith, e));
         },
       )
 
