@@ -3,12 +3,9 @@
 The tree is as docs/FORMATS.md tells it (section 13, "Calls"), and N is counted on it (section 3). Trees are those of
 merged_graph.Reader. What a text has of itself is marked: a cast that is written, a block in braces and an empty statement end
 with the word WRITTEN, and so do the blocks that calls become; implied casts and the parts of an `if` do not."""
-import pathlib
 import re
-import sys
 
-sys.path.append(str(pathlib.Path(__file__).resolve().parent.parent))
-import merged_graph as mg  # noqa: E402  (beside this file, or in the folder above)
+import merged_graph as mg
 
 WRITTEN = "written"
 
