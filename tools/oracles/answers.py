@@ -174,6 +174,28 @@ def lines_answer(passes, fields, _):
     return f"0: {sum(line.startswith(fields[1]) for line in net.splitlines())} lines of '{fields[1]}'"
 
 
+# The kernel that lies in the program, and how its inputs are drawn: x from the six highest bits of a generator's states.
+BENCH = ("void hist(int32_t n, int32_t x[1024], int32_t w[1024], int32_t h[64]) "
+         "{ for (int32_t i = 0; i < n; i++) h[x[i]] += w[i]; }")
+FACTOR, ADDED, STATES = 6364136223846793005, 1442695040888963407, 1 << 64
+
+
+def bench_inputs(state):
+    places = []
+    for _ in range(1024):
+        state = (state * FACTOR + ADDED) % STATES
+        places.append(state >> 58)
+    return f"n = 1024\nx = {' '.join(map(str, places))}\nw = {' '.join(map(str, range(1, 1025)))}\nh = {' '.join('0' * 64)}\n"
+
+
+def bench_answer(passes, fields, answer):
+    if not answer.startswith("0"):
+        return answer
+    lines, firings, cycles = simulate.simulate(placing.netlist(passes.graph(BENCH)), bench_inputs(int(fields[0].split()[1])), USUAL_FIRINGS)
+    total = sum(map(int, lines[2].split()[2:]))
+    return f"0\tfirings {firings}\\ncycles {cycles}\\nsum {total}\\n\t"
+
+
 def agreement_answer(passes, fields, _):
     """The results are in the row; whether the graph gives them is looked at here."""
     graph = passes.graph(plain(fields[0]))
@@ -186,7 +208,7 @@ FILES = {
     "given_middle": {"walks.tsv": walk_answer, "live.tsv": arguments_answer, "circuits.tsv": circuit_answer, "graphs.tsv": graph_answer,
                      "merged.tsv": merged_answer, "folded.tsv": folded_answer, "selected.tsv": selected_answer,
                      "optimized.tsv": optimized_answer},
-    "given_calls": {"calls.tsv": call_answer, "circuits.tsv": go_answer, "lines.tsv": lines_answer, "kernels.tsv": agreement_answer,
+    "given_calls": {"calls.tsv": call_answer, "circuits.tsv": go_answer, "lines.tsv": lines_answer, "bench.tsv": bench_answer, "kernels.tsv": agreement_answer,
                     "rules.tsv": agreement_answer, "quotients.tsv": agreement_answer, "loops.tsv": agreement_answer},
 }
 

@@ -52,7 +52,7 @@ def inputs_of(kernel):
 
 
 def name_of(kernel):
-    return kernel.parent.name if kernel.stem == "kernel" else kernel.stem
+    return kernel.parent.name if kernel.stem in ("kernel", "mended", "edited") else kernel.stem
 
 
 def row(program, graph, inputs, stage, want):
