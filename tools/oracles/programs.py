@@ -33,8 +33,12 @@ class Function(mg.Reader):
     """The tree of one function, with a word WRITTEN where a part stands in its text, and with calls: ("call", type, name, arguments)."""
 
     def __init__(self, text, helpers):
-        self.helpers = helpers
+        self.helpers, self.names = helpers, []
         super().__init__(re.sub(r"\bstatic\b", " ", text, count=1))
+
+    def declare(self, name, ty):
+        self.names.append(name)
+        return super().declare(name, ty)
 
     def statement(self):
         braces, made = self.peek() == "{", super().statement()
@@ -58,7 +62,8 @@ class Function(mg.Reader):
 
 
 class Program:
-    """The tree without calls of a kernel with its helpers, in the form of merged_graph.Reader."""
+    """The tree without calls of a kernel with its helpers, in the form of merged_graph.Reader, with the names of its variables; the
+    fresh variable of a call has none."""
 
     def __init__(self, text):
         self.helpers = {}
@@ -68,7 +73,7 @@ class Program:
             self.helpers[read.name] = read
         read = Function(kernel, self.helpers)
         self.name, self.result, self.arrays, self.params, self.scalars = read.name, read.result, read.arrays, read.params, read.scalars
-        self.types, self.base = list(read.types), 0
+        self.types, self.names, self.base = list(read.types), list(read.names), 0
         self.body = self.all(read.body)
 
     # ---- expressions: what is left of one; the blocks of its calls go to the list
@@ -94,6 +99,7 @@ class Program:
         self.base = len(self.types)
         fresh = ("var", helper.result, self.base + len(helper.types))
         self.types += [*helper.types, helper.result]
+        self.names += [*helper.names, ""]
         block = [("declare", self.base + number, value) for number, value in enumerate(given)]
         block += self.all(helper.body[:-1])
         behind = []
