@@ -5,8 +5,8 @@ usage: tools/oracles/answers.py [--order LETTERS] [--divide] check|write [NAME..
 
 `check` compares them with the files stdout of given_middle, given_calls and elastic, and tells which lines are others; `write` writes
 them there. NAMEs of files of data leave out the others; graphs.tsv and merged.tsv, which no pass changes, are left out unless named (they
-take some minutes each). The options are those of optimized_graph.py; `--order ''` is for a program that
-only merges. A row that the program refuses before there is a circuit keeps its answer, and so do rows that say nothing of a circuit."""
+take some minutes each). The options are those of optimized_graph.py. A row that the program refuses before there is a circuit keeps its
+answer, and so do rows that say nothing of a circuit."""
 import pathlib
 import re
 import sys
@@ -265,7 +265,7 @@ def main(words):
     if not rest or rest[0] not in ("check", "write"):
         sys.exit(__doc__)
     sys.setrecursionlimit(100_000)
-    passes, differ = Passes(found.get("order", optimized_graph.ORDER), "divide" in found), 0
+    passes, differ = Passes(found.get("order", optimized_graph.ORDER), found.get("divide", optimized_graph.DIVIDES)), 0
     every = {name for files in FILES.values() for name in files} | {"elastic"}
     names = set(rest[1:]) or every - SLOW
     if names - every:

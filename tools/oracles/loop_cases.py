@@ -76,7 +76,7 @@ CASES = [
 def show():
     for name, text, _ in CASES:
         graph = Graph.of_kernel(text)
-        made = optimized_graph.optimized(graph, optimized_graph.ORDER_WITH_COPIES, True)
+        made = optimized_graph.optimized(graph, optimized_graph.COPYING, True)
         print(f"{name}: blocks {len(graph.blocks)} to {len(made.blocks)}, size {graph.size()} to {made.size()}, most steps {max(map(work, made.blocks))}")
 
 

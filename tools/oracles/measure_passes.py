@@ -16,11 +16,10 @@ import tempfile
 
 import placing
 from blocks import Graph
-from optimized_graph import ORDER, ORDER_WITH_COPIES, optimized
+from optimized_graph import COPYING, SELECTING, optimized
 
 # What a stage is: the order of its passes, and whether divisions by constants are made products.
-STAGES = {"merged": ("", False), "folded": ("FMFM", False), "selected": (ORDER, False), "copied": (ORDER_WITH_COPIES, False),
-          "divided": (ORDER_WITH_COPIES, True)}
+STAGES = {"merged": ("", False), "folded": ("FMFM", False), "selected": (SELECTING, False), "copied": (COPYING, False), "divided": (COPYING, True)}
 COLUMNS = ("units", "firings", "cycles", "depth 4")
 LIMIT = "400000000"
 

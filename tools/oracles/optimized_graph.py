@@ -7,7 +7,8 @@ usage: tools/oracles/optimized_graph.py [OPTION..] KERNEL        KERNEL: a file 
 
 It prints the merged graph, what folding and selecting each make of it, and the optimized one, each below a line with its name, its number
 of blocks and its size; graphs in the form of the graphs of given_middle, which lean_net.py reads.
-  --order LETTERS  the passes of the optimized graph from left to right: f folds, m merges, s selects, c copies; FMSMFM where none are named
+  --order LETTERS  the passes of the optimized graph from left to right: f folds, m merges, s selects, c copies; where none are named, those
+                   of the program
   --divide         folding makes products and shifts of divisions by constants
   --rules          the rules of folding that were taken, with how often, in place of the graphs
   --net            the netlist of the optimized graph in place of the graphs, with the usual slots and delays
@@ -23,7 +24,9 @@ from divide import divided
 from select_arms import select
 
 BUDGET = 96
-ORDER, ORDER_WITH_COPIES = "FMSMFM", "FMSCMFSMFM"
+SELECTING, COPYING = "FMSMFM", "FMSCMFSMFM"
+# The passes of the program, and whether it makes products of divisions by constants: so far it merges alone.
+ORDER, DIVIDES = "", False
 
 
 def is_fit(graph, most):
@@ -31,7 +34,7 @@ def is_fit(graph, most):
     return graph.size() <= MOST_SIZE and all(weight(block) <= most and accesses(block) <= MOST_ACCESSES for block in graph.blocks)
 
 
-def optimized(graph, order=ORDER, divides=False):
+def optimized(graph, order=ORDER, divides=DIVIDES):
     """What the passes of an order make of a graph; the graph itself where that is not fit, or was too great between two passes."""
     rule, most, made = divided if divides else None, 10 * graph.nodes, graph
     for letter in order.upper():
@@ -58,7 +61,7 @@ def show(graph, order, divides):
 
 def shown(graph, words):
     """Prints what the options ask for."""
-    order, divides = words.get("order", ORDER), "divide" in words
+    order, divides = words.get("order", ORDER), words.get("divide", DIVIDES)
     if "rules" in words:
         fold.TAKEN.clear()
         optimized(graph, order, divides)
