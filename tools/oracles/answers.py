@@ -113,7 +113,7 @@ class Call:
     def __init__(self, words, files):
         self.options, self.words = {}, []
         self.files = {name: plain(text) for name, _, text in (file.partition(":") for file in files)}
-        words = [part for word in words.split() for part in (word.split("=", 1) if word.startswith("--") else [word])]
+        words = [part for word in words for part in (word.split("=", 1) if word.startswith("--") else [word])]
         while words:
             word = words.pop(0)
             if word == "--":
@@ -148,7 +148,7 @@ def of_circuit(words, files, answer):
     status = re.match(r"\d+", answer)
     if status and int(status[0]) not in (0, 8, 10):
         return None
-    call = Call(words, files)
+    call = Call(words.split(), files)
     is_compiled = call.words[:1] in (["go"], ["compile"]) and all(word in call.files for word in call.words[1:])
     return call if is_compiled else None
 
@@ -170,7 +170,7 @@ def go_answer(passes, fields, answer):
 
 
 def lines_answer(passes, fields, _):
-    net = Call(fields[0], [f"k:{fields[2]}"]).netlist(passes)
+    net = Call(fields[0].split(), [f"k:{fields[2]}"]).netlist(passes)
     return f"0: {sum(line.startswith(fields[1]) for line in net.splitlines())} lines of '{fields[1]}'"
 
 
@@ -254,7 +254,7 @@ def renewed(passes, crate, names):
 def program_text(passes):
     """What the program elastic prints of its example."""
     words = (CRATES / "elastic" / "args").read_text().split()
-    call = Call(" ".join(words), [])
+    call = Call(words, [])
     call.files = {word: (CRATES / "elastic" / "data" / word).read_text() for word in words[1:]}
     _, net, after, _ = call.answer(passes)
     return net + after
