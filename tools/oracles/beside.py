@@ -1,5 +1,5 @@
 #!/usr/bin/env python3
-"""The program elastic with circuits that are made beside it: for tools that take a program, as tools/clients.py and tools/depths.py.
+"""The program elastic with circuits that are made beside it: for tools that take a program, as tools/house/clients.py.
 
 usage: tools/oracles/beside.py WORD..      the words of a call of elastic
 

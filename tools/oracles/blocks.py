@@ -4,10 +4,9 @@ A block is (args, steps, jump), as merged_graph.py makes it. A value of it is a 
 ("const", width, number), ("one", op, a), ("two", op, a, b), ("select", width, condition, yes, no), ("load", array, address) or
 ("store", array, address, value); a jump ("go", to), ("if", condition, to, to) or ("return", value or None), where `to` is a block
 with the values that it gets."""
+import merged_graph as mg
 import programs
-from programs import mg
-
-import simulate  # noqa: E402  (found as merged_graph is)
+import simulate
 
 BITS = mg.BITS
 sides, with_sides, with_values, renamed, moved, weight = mg.sides, mg.with_sides, mg.with_values, mg.renamed, mg.moved, mg.weight

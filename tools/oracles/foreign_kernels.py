@@ -1,5 +1,5 @@
 #!/usr/bin/env python3
-"""Writes the kernels of examples/foreign as tools/mend.py mends them, and their inputs, into a folder: NAME.c and NAME.in of each, for
+"""Writes the kernels of examples/foreign as tools/use/mend.py mends them, and their inputs, into a folder: NAME.c and NAME.in of each, for
 measure_passes.py. It needs pycparser.
 
 usage: tools/oracles/foreign_kernels.py FOLDER"""
@@ -7,9 +7,9 @@ import pathlib
 import sys
 
 TOOLS = pathlib.Path(__file__).resolve().parent.parent
-sys.path.append(str(TOOLS))
-import check_mend  # noqa: E402  (in the folder above)
-import mend  # noqa: E402
+sys.path += [str(TOOLS / "house"), str(TOOLS / "use")]
+import check_mend  # noqa: E402  (of tools/house)
+import mend  # noqa: E402  (of tools/use)
 
 
 def mended(folder):

@@ -1,9 +1,5 @@
 """Delays of the channels of a circuit that lean_net.py draws: by cycles, and by a depth."""
-import pathlib
-import sys
-
-sys.path.append(str(pathlib.Path(__file__).resolve().parent.parent))
-import lean_net  # noqa: E402  (beside this file, or in the folder above)
+import lean_net
 
 WIRES = ("entry", "param", "const", "fork", "sink", "exit")
 

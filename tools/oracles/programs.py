@@ -3,12 +3,9 @@
 The tree is as docs/FORMATS.md tells it (section 13, "Calls"), and N is counted on it (section 3). Trees are those of
 merged_graph.Reader. What a text has of itself is marked: a cast that is written, a block in braces and an empty statement end
 with the word WRITTEN, and so do the blocks that calls become; implied casts and the parts of an `if` do not."""
-import pathlib
 import re
-import sys
 
-sys.path.append(str(pathlib.Path(__file__).resolve().parent.parent))
-import merged_graph as mg  # noqa: E402  (beside this file, or in the folder above)
+import merged_graph as mg
 
 WRITTEN = "written"
 
@@ -62,8 +59,8 @@ class Function(mg.Reader):
 
 
 class Program:
-    """The tree without calls of a kernel with its helpers, in the form of merged_graph.Reader, with the names of its variables; the
-    fresh variable of a call has none."""
+    """The tree without calls of a kernel with its helpers, in the form of merged_graph.Reader, with the names of its variables: those
+    of a helper behind its name, and the value of a call by that name with parentheses."""
 
     def __init__(self, text):
         self.helpers = {}
@@ -99,7 +96,7 @@ class Program:
         self.base = len(self.types)
         fresh = ("var", helper.result, self.base + len(helper.types))
         self.types += [*helper.types, helper.result]
-        self.names += [*helper.names, ""]
+        self.names += [*(f"{helper.name}.{name}" for name in helper.names), f"{helper.name}()"]
         block = [("declare", self.base + number, value) for number, value in enumerate(given)]
         block += self.all(helper.body[:-1])
         behind = []

@@ -1,15 +1,16 @@
 -- A block to which no other block leads is never visited, whatever stands there.
-use Rattle.std.proofs.Common.{◌≡◌, ◌≢◌, ℕ, zero, suc, ◌+◌, List, [], ◌∷◌, Option, Some, ◌∙◌, ap, subst, arith}
+use Rattle.std.proofs.Common.{◌≡◌, ◌≢◌, ℕ, zero, suc, ◌+◌, List, [], ◌∷◌, Option, Some, sym, ◌∙◌, ap, subst, arith}
 use Rattle.std.specs.Prelude.{set}
 use Rattle.std.proofs.lemmas.List.{get_or-set_other}
 use Rattle.ir.specs.declared.graph.Block.{Block}
 use Rattle.ir.specs.declared.graph.Jump.{Jump}
 use Rattle.ir.specs.declared.graph.Jump.TheVariants.{Go, Two, Return}
 use Rattle.ir.specs.Steps.{value_at}
-use Rattle.ir.specs.Visits.{Visit, Passage, next_of, Finishes, over_visits, strays_of}
+use Rattle.ir.specs.Visits.{Visit, Passage, next_of, next_visit, Finishes, over_visits, strays_of}
 use Rattle.ir.specs.Graphs.{Graph, handed, side, onward_of, no_block, block_at, passage, first_visit, block_weight, weight}
 use Rattle.block_merge.specs.Merged.{with_blocks}
 use Rattle.block_merge.specs.Shares.{RunsOver}
+use Rattle.block_merge.proofs.Backs.{EndsClean, EndsBack}
 use Rattle.block_merge.proofs.ListedRuns.{LeadsTo}
 use Rattle.block_merge.proofs.Visiting.{by_block}
 
@@ -63,3 +64,23 @@ module _ (g : Graph) (c : ℕ) (x : Block) (no_entry : 0 ≢ c) (away : (n : ℕ
         few = f.few;
         cheap = (let p = f.cheap in let q = s.heavy in omega (arith, p, q));
       }
+
+  -- ---- and back
+
+  back : (rest : List Visit) (v : Visit) (r : Option ℕ) (arrays : List (List ℕ)) → v.block ≢ c → Finishes (passage h) v rest r arrays → strays_of (passage h) (v ∷ rest) ≡ 0 → EndsClean g v r arrays
+  back [] v r arrays ne f z =
+      let p : passage h v ≡ passage g v = ap (λ (y : Block). by_block y v.given v.arrays) (same_block v.block ne) in
+      record {
+        rest = [];
+        ends = record { result = sym (ap (λ (q : Passage). q.onward) p) ∙ f.result; last_arrays = sym (ap (λ (q : Passage). q.arrays) p) ∙ f.last_arrays };
+        clean = (let s = ap (λ (q : Passage). q.strays) p in omega (arith, s, z));
+      }
+  back (u ∷ rest) v r arrays ne f z =
+      let p : passage h v ≡ passage g v = ap (λ (y : Block). by_block y v.given v.arrays) (same_block v.block ne) in
+      let n : next_visit (passage g) v ≡ Some u = sym (ap (λ (q : Passage). next_of q.onward q.arrays) p) ∙ f.0 in
+      let later : strays_of (passage h) (u ∷ rest) ≡ 0 = omega (arith, z) in
+      let i = back rest u r arrays (next_away (block_at g v.block).jump (passage g v).values (passage g v).arrays u (away v.block ne) n) f.1 later in
+      record { rest = u ∷ i.rest; ends = (n, i.ends); clean = (let s = ap (λ (q : Passage). q.strays) p in let t = i.clean in omega (arith, s, t, z)) }
+
+  pub idle_back : EndsBack g h
+  idle_back scalars arrays r last l x = back x.rest (first_visit scalars arrays) r last no_entry x.ends x.clean

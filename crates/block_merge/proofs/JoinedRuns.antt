@@ -16,6 +16,7 @@ use Rattle.block_merge.specs.Renamed.{moved_to, renamed_jump}
 use Rattle.block_merge.specs.Joined.{values_of, joined}
 use Rattle.block_merge.specs.Merged.{with_blocks}
 use Rattle.block_merge.specs.Shares.{RunsOver}
+use Rattle.block_merge.proofs.Backs.{EndsClean, EndsBack}
 use Rattle.block_merge.proofs.JoinedValues.{together}
 use Rattle.block_merge.proofs.Visiting.{is_block, Fits, fits_next, first_fits, by_block}
 
@@ -178,6 +179,76 @@ module _ (g : Graph) (k : ℕ) (to : To) (leads : LeadsOn g k to) where
         | inr ne ↦ same_on v w (x ∷ rest) r arrays (other v ne) f.0 (same (x ∷ rest) w r arrays fw f.1)
       ]
 
+  -- ---- and back
+
+  abbrev at_first : List ℕ → List (List ℕ) → Visit
+  at_first us xs = record { block = k; given = us; arrays = xs }
+
+  -- the visit behind one of block k
+  abbrev second : List ℕ → List (List ℕ) → Visit
+  second us xs = let one = through b.steps (beginning us xs) in record { block = to.block; given = map (value_at one.values) to.with; arrays = one.arrays }
+
+  next_second : (us : List ℕ) (xs : List (List ℕ)) → next_visit (passage g) (at_first us xs) ≡ Some (second us xs)
+  next_second us xs = ap (λ o. next_of o (through b.steps (beginning us xs)).arrays) (goes_on us xs)
+
+  back_last : (us : List ℕ) (xs : List (List ℕ)) (r : Option ℕ) (arrays : List (List ℕ)) → length us ≡ length b.args → Returns (passage h) (at_first us xs) r arrays → (passage h (at_first us xs)).strays ≡ 0
+      → EndsClean g (at_first us xs) r arrays
+  back_last us xs r arrays long f z =
+      let n = next_second us xs in
+      let t = both us xs (second us xs) long n in
+      record {
+        rest = second us xs ∷ [];
+        ends = (n, record { result = sym t.onward ∙ f.result; last_arrays = sym t.arrays ∙ f.last_arrays });
+        clean = (let s = t.strays in omega (arith, s, z));
+      }
+
+  on_second : (us : List ℕ) (xs : List (List ℕ)) (x : Visit) → length us ≡ length b.args → next_visit (passage h) (at_first us xs) ≡ Some x → next_visit (passage g) (second us xs) ≡ Some x
+  on_second us xs x long e =
+      let t = both us xs (second us xs) long (next_second us xs) in
+      sym (ap (λ o. next_of o (passage h (at_first us xs)).arrays) t.onward ∙ ap (next_of (passage g (second us xs)).onward) t.arrays) ∙ e
+
+  back_on : (us : List ℕ) (xs : List (List ℕ)) (x : Visit) (r : Option ℕ) (arrays : List (List ℕ)) → length us ≡ length b.args → (passage h (at_first us xs)).strays ≡ 0 → next_visit (passage g) (second us xs) ≡ Some x
+      → EndsClean g x r arrays → EndsClean g (at_first us xs) r arrays
+  back_on us xs x r arrays long z m i =
+      let n = next_second us xs in
+      let t = both us xs (second us xs) long n in
+      record { rest = second us xs ∷ x ∷ i.rest; ends = (n, (m, i.ends)); clean = (let s = t.strays in let c = i.clean in omega (arith, s, z, c)) }
+
+  back : (rest : List Visit) (v : Visit) (r : Option ℕ) (arrays : List (List ℕ)) → Fits g leads.graph v → Finishes (passage h) v rest r arrays → strays_of (passage h) (v ∷ rest) ≡ 0 → EndsClean g v r arrays
+  back [] v r arrays fit f z =
+      let none : (passage h v).strays ≡ 0 = omega (arith, z) in
+      elim (cases_eq v.block k) [
+        | inl e ↦
+            let s = at_k v e in
+            let w : Fits g leads.graph (at_first v.given v.arrays) = subst (Fits g leads.graph) s fit in
+            subst (λ u. EndsClean g u r arrays) (sym s)
+            (back_last v.given v.arrays r arrays w.long (subst (λ u. Returns (passage h) u r arrays) s f) (subst (λ u. (passage h u).strays ≡ 0) s none))
+        | inr ne ↦
+            let p = (other v ne).passage_is in
+            record {
+              rest = [];
+              ends = record { result = sym (ap (λ (q : Passage). q.onward) p) ∙ f.result; last_arrays = sym (ap (λ (q : Passage). q.arrays) p) ∙ f.last_arrays };
+              clean = (let s = ap (λ (q : Passage). q.strays) p in omega (arith, s, none));
+            }
+      ]
+  back (x ∷ rest) v r arrays fit f z =
+      let none : (passage h v).strays ≡ 0 = omega (arith, z) in
+      let later : strays_of (passage h) (x ∷ rest) ≡ 0 = omega (arith, z) in
+      elim (cases_eq v.block k) [
+        | inl e ↦
+            let s = at_k v e in
+            let w : Fits g leads.graph (at_first v.given v.arrays) = subst (Fits g leads.graph) s fit in
+            let m = on_second v.given v.arrays x w.long (subst (λ u. next_visit (passage h) u ≡ Some x) s f.0) in
+            let fw = fits_next g leads.graph (at_first v.given v.arrays) (second v.given v.arrays) w (next_second v.given v.arrays) in
+            let i = back rest x r arrays (fits_next g leads.graph (second v.given v.arrays) x fw m) f.1 later in
+            subst (λ u. EndsClean g u r arrays) (sym s) (back_on v.given v.arrays x r arrays w.long (subst (λ u. (passage h u).strays ≡ 0) s none) m i)
+        | inr ne ↦
+            let p = (other v ne).passage_is in
+            let n : next_visit (passage g) v ≡ Some x = sym (ap (λ (q : Passage). next_of q.onward q.arrays) p) ∙ f.0 in
+            let i = back rest x r arrays (fits_next g leads.graph v x fit n) f.1 later in
+            record { rest = x ∷ i.rest; ends = (n, i.ends); clean = (let s = ap (λ (q : Passage). q.strays) p in let t = i.clean in omega (arith, s, t, none)) }
+      ]
+
 pub joined_runs : (g : Graph) (k : ℕ) (to : To) → LeadsOn g k to → RunsOver g (taken_in g k to)
 joined_runs g k to leads scalars arrays r last more most l x =
     let s = same g k to leads x.rest (first_visit scalars arrays) r last (first_fits g leads.graph scalars arrays l) x.ends in
@@ -188,3 +259,6 @@ joined_runs g k to leads scalars arrays r last more most l x =
       few = (let p = s.few in let q = x.few in omega (arith, p, q));
       cheap = (let p = s.cheap in let q = x.cheap in omega (arith, p, q));
     }
+
+pub joined_back : (g : Graph) (k : ℕ) (to : To) → LeadsOn g k to → EndsBack g (taken_in g k to)
+joined_back g k to leads scalars arrays r last l x = back g k to leads x.rest (first_visit scalars arrays) r last (first_fits g leads.graph scalars arrays l) x.ends x.clean

@@ -1,4 +1,5 @@
 pub mod Works
+pub mod Backs
 pub mod JoinedValues
 pub mod Visiting
 pub mod JoinedRuns
@@ -8,12 +9,14 @@ pub mod Blocks
 pub mod ThreadedFits
 pub mod Rows
 pub mod IdleRuns
+pub mod JoinedBlocks
 pub mod JoinedFits
 pub mod Members
 pub mod FoundLemmas
 pub mod ListedFits
 pub mod Stored
 pub mod Passes
+pub mod MergedBack
 pub mod Rounds
 pub mod WithEdges
 pub mod Onward

@@ -17,8 +17,9 @@ use Rattle.block_merge.specs.Found.{targets, found_blocks}
 use Rattle.block_merge.specs.Numbered.{numbered_to, numbered_jump, numbered, listed, place_of}
 use Rattle.block_merge.specs.Merged.{with_blocks}
 use Rattle.block_merge.specs.Shares.{RunsOver}
+use Rattle.block_merge.proofs.Backs.{EndsBack}
 use Rattle.block_merge.proofs.Visiting.{is_block}
-use Rattle.block_merge.proofs.ListedRuns.{IsFound, LeadsTo, IsListing, listed_runs}
+use Rattle.block_merge.proofs.ListedRuns.{IsFound, LeadsTo, IsListing, listed_runs, listed_back}
 use Rattle.block_merge.proofs.Blocks.{IsWeight, HasFewArgs, graph_of, target_hands, some_blocks}
 use Rattle.block_merge.proofs.Members.{In, in_at, place_below, place_there, first_place, AllBelow, below_at, total_at}
 use Rattle.block_merge.proofs.FoundLemmas.{LeadsWithin, IsFoundList, found_list, few_found}
@@ -98,6 +99,9 @@ module _ (g : Graph) (fine : IsGraph g) where
 
   pub reached_runs : RunsOver g (with_blocks g bs)
   reached_runs = listed_runs g found f listing
+
+  pub reached_back : EndsBack g (with_blocks g bs)
+  reached_back = listed_back g found f listing
 
   -- ---- well formed
 

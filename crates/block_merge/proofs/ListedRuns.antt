@@ -1,5 +1,5 @@
 -- The blocks that a walk finds, under new numbers, have the same finished runs.
-use Rattle.std.proofs.Common.{◌≡◌, ℕ, zero, suc, ◌<◌, ◌≤◌, List, [], ◌∷◌, map, length, get_or, Option, Some, refl, ◌∙◌, ap, subst, arith}
+use Rattle.std.proofs.Common.{◌≡◌, ℕ, zero, suc, ◌<◌, ◌≤◌, List, [], ◌∷◌, map, length, get_or, Option, Some, refl, sym, ◌∙◌, ap, subst, arith}
 use Rattle.std.proofs.lemmas.List.{get_or-map, length-map}
 use Rattle.ir.specs.declared.graph.Jump.{Jump}
 use Rattle.ir.specs.declared.graph.Jump.TheVariants.{Go, Two, Return}
@@ -9,6 +9,7 @@ use Rattle.ir.specs.Graphs.{Graph, handed, side, onward_of, no_block, block_at, 
 use Rattle.block_merge.specs.Numbered.{numbered_to, numbered_jump, numbered, listed}
 use Rattle.block_merge.specs.Merged.{with_blocks}
 use Rattle.block_merge.specs.Shares.{RunsOver}
+use Rattle.block_merge.proofs.Backs.{EndsClean, EndsBack}
 use Rattle.block_merge.proofs.Visiting.{by_block}
 
 pub as_heavy_jump : (f : ℕ → ℕ) (j : Jump) → handed_on (numbered_jump f j) ≡ handed_on j
@@ -112,6 +113,40 @@ module _ (g : Graph) (found : List ℕ) (f : ℕ → ℕ) (is : IsListing g foun
         heavy = (let s = a.heavy in let t = i.heavy in omega (arith, s, t));
       }
 
+  -- ---- and back
+
+  led_leaves : (o : Onward) (r : Option ℕ) → led o ≡ leaves r → o ≡ leaves r
+  led_leaves (onto b vs) r e = absurd (cc)
+  led_leaves (leaves q) r e = e
+
+  -- the visit of the graph that is a visit of the listed graph under its new number
+  record Before (o : Onward) (xs : List (List ℕ)) (w : Visit) : Type 0 where
+    visit : Visit
+    next : next_of o xs ≡ Some visit
+    moves : moved visit ≡ w
+
+  next_before : (o : Onward) (xs : List (List ℕ)) (w : Visit) → next_of (led o) xs ≡ Some w → Before o xs w
+  next_before (onto b vs) xs w e =
+      let z : ◌≡◌ {A = Visit} (record { block = f b; given = vs; arrays = xs }) w = cc in
+      record { visit = record { block = b; given = vs; arrays = xs }; next = refl; moves = z }
+  next_before (leaves r) xs w e = absurd (cc)
+
+  back : (rest : List Visit) (v : Visit) (r : Option ℕ) (arrays : List (List ℕ)) → Found v.block → Finishes (passage h) (moved v) rest r arrays → strays_of (passage h) (moved v ∷ rest) ≡ 0 → EndsClean g v r arrays
+  back [] v r arrays at e z =
+      let a = alike v at in
+      record {
+        rest = [];
+        ends = record { result = led_leaves (passage g v).onward r (sym a.onward ∙ e.result); last_arrays = sym a.arrays ∙ e.last_arrays };
+        clean = (let s = a.strays in omega (arith, s, z));
+      }
+  back (w ∷ rest) v r arrays at e z =
+      let a = alike v at in
+      let later : strays_of (passage h) (w ∷ rest) ≡ 0 = omega (arith, z) in
+      let b = next_before (passage g v).onward (passage g v).arrays w (sym (ap (λ o. next_of o (passage h (moved v)).arrays) a.onward ∙ ap (next_of (led (passage g v).onward)) a.arrays) ∙ e.0) in
+      let i = back rest b.visit r arrays (found_next (block_at g v.block).jump (passage g v).values (passage g v).arrays b.visit (is.closed v.block at) b.next)
+      (subst (λ u. Finishes (passage h) u rest r arrays) (sym b.moves) e.1) (subst (λ u. strays_of (passage h) (u ∷ rest) ≡ 0) (sym b.moves) later) in
+      record { rest = b.visit ∷ i.rest; ends = (b.next, i.ends); clean = (let s = a.strays in let t = i.clean in omega (arith, s, t, z)) }
+
 pub listed_runs : (g : Graph) (found : List ℕ) (f : ℕ → ℕ) → IsListing g found f → RunsOver g (listed_graph g found f)
 listed_runs g found f is scalars arrays r last more most l x =
     let v = first_visit scalars arrays in
@@ -124,3 +159,10 @@ listed_runs g found f is scalars arrays r last more most l x =
       few = (let p = x.few in let q = length-map x.rest (moved g found f is) in omega (arith, p, q));
       cheap = subst (λ u. over_visits (weight (listed_graph g found f)) (u ∷ map (moved g found f is) x.rest) ≤ most) e (let p = x.cheap in let q = s.heavy in omega (arith, p, q));
     }
+
+pub listed_back : (g : Graph) (found : List ℕ) (f : ℕ → ℕ) → IsListing g found f → EndsBack g (listed_graph g found f)
+listed_back g found f is scalars arrays r last l x =
+    let v = first_visit scalars arrays in
+    let e : moved g found f is v ≡ v = ap (λ n. record { block = n; given = scalars; arrays = arrays }) is.first in
+    back g found f is x.rest v r last is.start (subst (λ u. Finishes (passage (listed_graph g found f)) u x.rest r last) (sym e) x.ends)
+    (subst (λ u. strays_of (passage (listed_graph g found f)) (u ∷ x.rest) ≡ 0) (sym e) x.clean)

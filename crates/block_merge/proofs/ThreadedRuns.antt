@@ -18,6 +18,7 @@ use Rattle.block_merge.specs.Renamed.{moved_to}
 use Rattle.block_merge.specs.Threaded.{onward_of_parts, only_onward, further, threaded_to, threaded_jump, threaded_block, threaded_once}
 use Rattle.block_merge.specs.Merged.{with_blocks}
 use Rattle.block_merge.specs.Shares.{RunsOver}
+use Rattle.block_merge.proofs.Backs.{EndsClean, EndsBack}
 use Rattle.block_merge.proofs.JoinedValues.{handed_long, handed_below, number_of_arg, widths, somes_long}
 use Rattle.block_merge.proofs.Visiting.{is_block, Fits, fits_next, first_fits, by_block}
 
@@ -248,6 +249,38 @@ module _ (g : Graph) (fine : IsGraph g) where
         | inr p ↦ same_past v w x rest r arrays a p f.0 f.1.0 (same rest x r arrays fx f.1.1)
       ]
 
+  -- ---- and back
+
+  back : (rest : List Visit) (v : Visit) (r : Option ℕ) (arrays : List (List ℕ)) → Fits g fine v → Finishes (passage h) v rest r arrays → strays_of (passage h) (v ∷ rest) ≡ 0 → EndsClean g v r arrays
+  back [] v r arrays fit f z =
+      let a = alike v fit in
+      elim a.led [
+        | inl o ↦ record { rest = []; ends = record { result = sym o ∙ f.result; last_arrays = sym a.arrays ∙ f.last_arrays }; clean = (let s = a.strays in omega (arith, s, z)) }
+        | inr p ↦ absurd (let y : leaves r ≡ onto p.to.block (map (value_at p.vs) p.to.with) = sym f.result ∙ p.is in cc)
+      ]
+  back (w ∷ rest) v r arrays fit f z =
+      let a = alike v fit in
+      let later : strays_of (passage h) (w ∷ rest) ≡ 0 = omega (arith, z) in
+      elim a.led [
+        | inl o ↦
+            let n : next_visit (passage g) v ≡ Some w = sym (ap (λ q. next_of q (passage h v).arrays) o ∙ ap (next_of (passage g v).onward) a.arrays) ∙ f.0 in
+            let i = back rest w r arrays (fits_next g fine v w fit n) f.1 later in
+            record { rest = w ∷ i.rest; ends = (n, i.ends); clean = (let s = a.strays in let t = i.clean in omega (arith, s, t, z)) }
+        | inr p ↦
+            let ys = (passage g v).arrays in
+            let u : Visit = record { block = p.k; given = p.vs; arrays = ys } in
+            let n : next_visit (passage g) v ≡ Some u = ap (λ q. next_of q ys) p.was in
+            let m = passes p.k p.to p.vs ys p.only in
+            let on : next_visit (passage g) u ≡ Some w = ap (λ (q : Passage). next_of q.onward q.arrays) m
+            ∙ (sym (ap (λ q. next_of q (passage h v).arrays) p.is ∙ ap (next_of (handed p.vs p.to)) a.arrays) ∙ f.0) in
+            let i = back rest w r arrays (fits_next g fine u w (fits_next g fine v u fit n) on) f.1 later in
+            record {
+              rest = u ∷ w ∷ i.rest;
+              ends = (n, (on, i.ends));
+              clean = (let s = a.strays in let t = i.clean in let none : (passage g u).strays ≡ 0 = ap (λ (q : Passage). q.strays) m in omega (arith, s, t, z, none));
+            }
+      ]
+
 pub threaded_runs : (g : Graph) → IsGraph g → RunsOver g (with_blocks g (threaded_once g.blocks))
 threaded_runs g fine scalars arrays r last more most l x =
     let s = same g fine x.rest (first_visit scalars arrays) r last (first_fits g fine scalars arrays l) x.ends in
@@ -258,3 +291,6 @@ threaded_runs g fine scalars arrays r last more most l x =
       few = (let p = s.few in let q = x.few in omega (arith, p, q));
       cheap = (let p = s.cheap in let q = x.cheap in omega (arith, p, q));
     }
+
+pub threaded_back : (g : Graph) → IsGraph g → EndsBack g (with_blocks g (threaded_once g.blocks))
+threaded_back g fine scalars arrays r last l x = back g fine x.rest (first_visit scalars arrays) r last (first_fits g fine scalars arrays l) x.ends x.clean

@@ -11,6 +11,12 @@ RunsOver g h = (scalars : List ℕ) (arrays : List (List ℕ)) (r : Option ℕ) 
     → Finished (passage g) (first_visit scalars arrays) r last (weight g) more most
     → Finished (passage h) (first_visit scalars arrays) r last (weight h) more most
 
+-- and back: each finished run of h without strays is one of g, whatever its visits
+abbrev pub RunsBack : Graph → Graph → Type 0
+RunsBack g h = (scalars : List ℕ) (arrays : List (List ℕ)) (r : Option ℕ) (last : List (List ℕ)) (more : ℕ) → length scalars ≡ length g.scalars
+    → Finished (passage h) (first_visit scalars arrays) r last (λ v. 0) more 0
+    → (visits : ℕ) × Finished (passage g) (first_visit scalars arrays) r last (λ v. 0) visits 0
+
 -- no more blocks, no greater size, no more steps, arguments and accesses, all blocks together, and no block with more arguments than one had
 pub record NoGreater (g h : Graph) : Type 0 where
   pub blocks : length h.blocks ≤ length g.blocks

@@ -57,6 +57,7 @@ pub fn put_selected<R: Threads + Sync>(
     let graph = read_graph(alloc, graph)?;
     let within = graph.has_size_within(8_000_000);
     ensure!(within, "a graph that is too great");
+    ensure!(most <= 8_000_000, "a weight that is too great");
     match select(alloc, &graph, most) {
         Ok(selected) => put_both(rt, alloc, &selected, inputs, out),
         Err(_) => bail!("want of memory"),

@@ -33,6 +33,7 @@ use Rattle.struct_cfg.specs.Kernels.{IsSmallForm, form_graph}
 use Rattle.block_trim.specs.Trimming.{trimmed}
 use Rattle.block_args.specs.Shares.{ArgsShare, ArgsSizes}
 use Rattle.block_args.specs.Made.{IsArgued, parts}
+use Rattle.kernel_graph.specs.Optimized.{optimized_within, optimized}
 use Rattle.kernel_graph.specs.Composed.{kernel_var_graph, IsGraphOf}
 use Rattle.kernel_graph.specs.Laws.{StoresAreAssignments}
 use Rattle.kernel_graph.specs.Targets.{IsAssignedTo}
@@ -184,23 +185,22 @@ Layers k c f = NormalShare k f × NormalSizes (typed_nodes k) (length f.vars) (f
 argued_of : (k : Typed) (f : Normal) (c : VarGraph) (g : Graph) → f ≡ normal_form k → c ≡ trimmed (form_graph f) → IsArgued c g → IsArgued (kernel_var_graph k) g
 argued_of k f c g is cut made = subst (λ x. IsArgued x g) (cut ∙ ap (λ x. trimmed (form_graph x)) is) made
 
--- and so the merged graph, and the stores
-pub graph_is : (k : Typed) (f : Normal) (c : VarGraph) (g : Graph) (r : Result Graph Memory) → f ≡ normal_form k → c ≡ trimmed (form_graph f) → IsArgued c g → IfOk r (λ m. m ≡ merged g)
-    → IfOk r (IsGraphOf k)
-graph_is k f c g (Ok m) is cut made same = record { unmerged = g; argued = argued_of k f c g is cut made; is = same }
-graph_is k f c g (Err e) is cut made same = tt
+-- and so the graph of the kernel
+pub graph_is : (k : Typed) (f : Normal) (c : VarGraph) (g m : Graph) (n : ℕ) (r : Result Graph Memory) → f ≡ normal_form k → c ≡ trimmed (form_graph f) → IsArgued c g → m ≡ merged g → n ≡ typed_nodes k
+    → IfOk r (λ h. h ≡ optimized_within (10 * n) m) → IfOk r (IsGraphOf k)
+graph_is k f c g m n (Ok h) is cut made of count same = record { unmerged = g; argued = argued_of k f c g is cut made; is = same ∙ ap (λ x. optimized_within (10 * x) m) count ∙ ap (optimized (typed_nodes k)) of }
+graph_is k f c g m n (Err e) is cut made of count same = tt
 
 stores_kept : (k : Typed) (f : Normal) (c : VarGraph) (g : Graph) → StoresAreAssignments → f ≡ normal_form k → c ≡ trimmed (form_graph f) → IsArgued c g → (a : ℕ) → IsStoredTo g a ↔ IsAssignedTo k a
 stores_kept k f c g law is cut made = law k g (argued_of k f c g is cut made)
 
-pub all_kept : (k : Typed) (f : Normal) (c : VarGraph) (g : Graph) (r : Result Graph Memory) → f ≡ normal_form k → c ≡ trimmed (form_graph f) → typed_nodes k ≤ max_nodes
+pub all_kept : (k : Typed) (f : Normal) (c : VarGraph) (g m : Graph) → f ≡ normal_form k → c ≡ trimmed (form_graph f) → typed_nodes k ≤ max_nodes
     → ((n v : ℕ) (z : Sizes) → n ≤ max_nodes → NormalSizes n v z → SmallSizes v z) → StoresAreAssignments
     → NormalShare k f → NormalSizes (typed_nodes k) (length f.vars) (form_sizes f) → CfgShare f c → CfgSizes c (form_sizes f)
-    → IsArgued c g → ArgsShare c g → ArgsSizes c g → IfOk r (MergeShare g) → IfOk r (GraphShare k)
-all_kept k f c g (Ok m) is cut few law stores n z a b made d e share =
+    → IsArgued c g → ArgsShare c g → ArgsSizes c g → MergeShare g m → GraphShare k m
+all_kept k f c g m is cut few law stores n z a b made d e share =
     let all = subst (Layers k c) is (n, z, a, b) in
     kept k c g all.0 all.1 all.2 all.3 d e m share few (law (typed_nodes k) (length (normal_form k).vars) (form_sizes (normal_form k)) few all.1) (stores_kept k f c g stores is cut made)
-all_kept k f c g (Err x) is cut few law stores n z a b made d e share = tt
 
 -- the graph's values can be numbered
 pub can_merge : (k : Typed) (f : Normal) (c : VarGraph) (g : Graph) → f ≡ normal_form k → typed_nodes k ≤ max_nodes → ((n v : ℕ) (z : Sizes) → n ≤ max_nodes → NormalSizes n v z → SmallSizes v z)

@@ -9,3 +9,6 @@ pub mod Made
 pub mod Tables
 pub mod Worked
 pub mod GraphLemmas
+pub mod Passed
+pub mod Kept
+pub mod Counted

@@ -9,6 +9,8 @@ use Rattle.block_args.specs.Arguments.{argued}
 use Rattle.block_args.specs.Made.{IsArgued}
 use Rattle.block_args.specs.Tables.{listed_at, AreAscending, ListsLive}
 use Rattle.block_merge.specs.Merged.{merged}
+use Rattle.c_ast.specs.Nodes.{typed_nodes}
+use Rattle.kernel_graph.specs.Optimized.{optimized}
 use Rattle.kernel_graph.specs.Composed.{kernel_var_graph}
 use Rattle.kernel_graph.specs.Laws.{GraphsAreOne}
 
@@ -62,4 +64,4 @@ argued_one : (c : VarGraph) (g h : Graph) → IsArgued c g → IsArgued c h → 
 argued_one c g h a b = a.is ∙ ap (argued c) (tables_one c a.table b.table a.lists b.lists) ∙ sym b.is
 
 pub graphs_one : GraphsAreOne
-graphs_one k g h a b = a.is ∙ ap merged (argued_one (kernel_var_graph k) a.unmerged b.unmerged a.argued b.argued) ∙ sym b.is
+graphs_one k g h a b = a.is ∙ ap (λ x. optimized (typed_nodes k) (merged x)) (argued_one (kernel_var_graph k) a.unmerged b.unmerged a.argued b.argued) ∙ sym b.is

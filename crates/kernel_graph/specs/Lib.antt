@@ -1,4 +1,5 @@
 pub mod Targets
+pub mod Optimized
 pub mod Composed
 pub mod Laws
 pub mod Worked

@@ -5,9 +5,12 @@ ghost use Rattle.c_meaning.specs.Lawful.{Lawful};
 ghost use Rattle.kernel_graph.specs.Composed.{IsGraphOf};
 ghost use Rattle.kernel_graph.specs.Shares.{GraphShare};
 
-use crate::laws::stores_are_assignments;
+use crate::count::nodes;
+use crate::laws::{optimized_graphs_pass, stores_are_assignments};
+use crate::passes::optimize;
 use block_args::arguments;
 use block_merge::merge;
+use block_pass::visits_are_light;
 use c_ast::Typed;
 use c_norm::laws::small_forms_can_be_built;
 use c_norm::normal;
@@ -33,8 +36,12 @@ pub fn block_graph(alloc: Global, typed: &Typed) -> Result<Ir, Memory>
 {
     small_forms_can_be_built();
     stores_are_assignments();
+    optimized_graphs_pass();
+    visits_are_light();
     let form = normal(alloc, typed)?;
     let graph = cfg(alloc, &form)?;
     let argued = arguments(alloc, &graph)?;
-    merge(alloc, &argued)
+    let merged = merge(alloc, &argued)?;
+    let count = nodes(typed);
+    optimize(alloc, merged, 10 * count)
 }

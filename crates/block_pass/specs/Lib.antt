@@ -1,0 +1,4 @@
+pub mod Fitting
+pub mod Shares
+pub mod Blocks
+pub mod Laws

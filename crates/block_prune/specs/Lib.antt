@@ -1,0 +1,7 @@
+pub mod Kept
+pub mod Overwritten
+pub mod Dead
+pub mod Pruned
+pub mod Laws
+pub mod Sample
+pub mod Code

@@ -1,0 +1,15 @@
+//! Blocks without what nothing needs: stores that a later store of the block overwrites, and pure steps whose values neither
+//! the jump nor a step that stays needs.
+#![tactic(auto)]
+
+mod keeping;
+mod laws;
+mod live;
+mod overwritten;
+mod pruning;
+mod worked;
+
+pub use ir::{Block, Memory};
+pub use laws::pruned_blocks_keep;
+pub use pruning::prune_block;
+pub use worked::sample_is_pruned;

@@ -1,0 +1,9 @@
+pub mod Peeling
+pub mod Operations
+pub mod Identities
+pub mod Facts
+pub mod Changed
+pub mod TwoLaws
+pub mod OneLaws
+pub mod ConditionLaws
+pub mod SelectLaws

@@ -1,0 +1,10 @@
+pub mod Known
+pub mod Kinds
+pub mod Reading
+pub mod Changes
+pub mod Conditions
+pub mod OneRules
+pub mod TwoRules
+pub mod SelectRules
+pub mod Rules
+pub mod Laws

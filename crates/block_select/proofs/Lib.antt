@@ -1,0 +1,11 @@
+pub mod Quiet
+pub mod Meetings
+pub mod Sides
+pub mod ChoiceLemmas
+pub mod Choosing
+pub mod Runs
+pub mod OneBlock
+pub mod Passing
+pub mod Arming
+pub mod Chosen
+pub mod Lights
