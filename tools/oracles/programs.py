@@ -30,12 +30,8 @@ class Function(mg.Reader):
     """The tree of one function, with a word WRITTEN where a part stands in its text, and with calls: ("call", type, name, arguments)."""
 
     def __init__(self, text, helpers):
-        self.helpers, self.names = helpers, []
+        self.helpers = helpers
         super().__init__(re.sub(r"\bstatic\b", " ", text, count=1))
-
-    def declare(self, name, ty):
-        self.names.append(name)
-        return super().declare(name, ty)
 
     def statement(self):
         braces, made = self.peek() == "{", super().statement()
