@@ -15,6 +15,61 @@ FIRST = {"const": 3, "one": 2, "two": 2, "select": 2, "load": 2, "store": 2}
 TESTS = ("zero", "eq", "ne", "ltu", "leu", "lts", "les")
 
 
+# ---- names that passes carry along, for tools/name_units.py
+
+class Width(int):
+    """The width of an argument, with the name of the variable that it is."""
+    name = ""
+
+    @classmethod
+    def of(cls, width, name):
+        made = cls(width)
+        made.name = name
+        return made
+
+
+class Word(str):
+    """The first word of a step, with the names of the variables that are set to the step's value."""
+    names = ()
+
+    @classmethod
+    def of(cls, word, names):
+        """The word, with more names where there are some."""
+        known = (*getattr(word, "names", ()), *(name for name in names if name))
+        made = cls(word) if known else word
+        if known:
+            made.names = tuple(dict.fromkeys(known))
+        return made
+
+
+class Draft(mg.Draft):
+    """A graph over variables whose steps have the names of the variables that are set to them."""
+
+    def __init__(self, tree, form):
+        self.names = tree.names
+        super().__init__(tree, form)
+
+    def lower(self, statement, out, again):
+        super().lower(statement, out, again)
+        if statement[0] != "assign" or statement[1][0] != "var":
+            return
+        variable, step = statement[1][2], self.env[statement[1][2]] - self.count
+        if variable < len(self.names) and step >= 0:
+            word, *words = self.steps[step]
+            self.steps[step] = (Word.of(word, [self.names[variable]]), *words)
+
+
+def named_blocks(tree):
+    """The blocks of a tree's graph before merging, with names of arguments and steps."""
+    form = mg.Normal(tree)
+    draft = Draft(tree, form)
+    held = mg.live(draft.blocks, draft.count)
+    held[0] = range(tree.scalars)
+    name = lambda variable: tree.names[variable] if variable < len(tree.names) else ""
+    return [([Width.of(width, name(variable)) for width, variable in zip(args, variables)], steps, jump)
+            for (args, steps, jump), variables in zip(mg.argued(tree, form, draft.blocks), held)]
+
+
 class Graph:
     """Blocks with a header: the kernel's name, scalars (name, type), arrays (name, type, length), the type of the result or None, and
     the number of nodes of the kernel."""
@@ -26,8 +81,7 @@ class Graph:
     def of_kernel(cls, text):
         """The merged graph of a kernel with its helpers."""
         tree = programs.Program(text)
-        form = mg.Normal(tree)
-        blocks = mg.merged(mg.argued(tree, form, mg.Draft(tree, form).blocks))
+        blocks = mg.merged(named_blocks(tree))
         arrays = [(name, ty, product(lengths)) for name, ty, lengths in tree.arrays]
         return cls(tree.name, [(name, ty) for ty, name in tree.params], arrays, tree.result, blocks, programs.nodes(tree))
 

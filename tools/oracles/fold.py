@@ -4,7 +4,7 @@ Each step is renamed by the table, and then the first rule that fits is taken; t
 pure step that stands in the block already is that value. `TAKEN` counts the rules that were taken, by their names."""
 import collections
 
-from blocks import (TESTS, is_conversion, is_pure, kind_of, one_result, renamed, two_result, width_out, with_values, without_dead,
+from blocks import (TESTS, Word, is_conversion, is_pure, kind_of, one_result, renamed, two_result, width_out, with_values, without_dead,
                     without_overwritten)
 
 COMMUTE = ("add", "mul", "and", "or", "xor", "eq", "ne")
@@ -262,10 +262,18 @@ class Folder:
             return by("a jump on a constant", ("go", yes if value else no))
         return by("a jump to one side", ("go", yes)) if yes == no else ("if", c, yes, no)
 
+    def name(self, value, names):
+        """Gives names to the step of a value."""
+        at = value - len(self.args)
+        if names and at >= 0:
+            word, *words = self.steps[at]
+            self.steps[at] = (Word.of(word, names), *words)
+
     def take(self, steps, jump, new):
         """Puts steps behind what stands, whose first values are `new`, and tells their jump."""
         for step in steps:
             new.append(self.put(renamed(step, new.__getitem__)))
+            self.name(new[-1], getattr(step[0], "names", ()))
         return self.jump(with_values(jump, new.__getitem__))
 
     def block(self, jump):

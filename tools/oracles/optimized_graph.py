@@ -25,8 +25,8 @@ from select_arms import select
 
 BUDGET = 96
 SELECTING, COPYING = "FMSMFM", "FMSCMFSMFM"
-# The passes of the program, and whether it makes products of divisions by constants: so far it merges alone.
-ORDER, DIVIDES = "", False
+# The passes of the program, and whether it makes products of divisions by constants.
+ORDER, DIVIDES = SELECTING, False
 
 
 def is_fit(graph, most):

@@ -55,7 +55,8 @@ class Function(mg.Reader):
 
 
 class Program:
-    """The tree without calls of a kernel with its helpers, in the form of merged_graph.Reader."""
+    """The tree without calls of a kernel with its helpers, in the form of merged_graph.Reader, with the names of its variables: those
+    of a helper behind its name, and the value of a call by that name with parentheses."""
 
     def __init__(self, text):
         self.helpers = {}
@@ -65,7 +66,7 @@ class Program:
             self.helpers[read.name] = read
         read = Function(kernel, self.helpers)
         self.name, self.result, self.arrays, self.params, self.scalars = read.name, read.result, read.arrays, read.params, read.scalars
-        self.types, self.base = list(read.types), 0
+        self.types, self.names, self.base = list(read.types), list(read.names), 0
         self.body = self.all(read.body)
 
     # ---- expressions: what is left of one; the blocks of its calls go to the list
@@ -91,6 +92,7 @@ class Program:
         self.base = len(self.types)
         fresh = ("var", helper.result, self.base + len(helper.types))
         self.types += [*helper.types, helper.result]
+        self.names += [*(f"{helper.name}.{name}" for name in helper.names), f"{helper.name}()"]
         block = [("declare", self.base + number, value) for number, value in enumerate(given)]
         block += self.all(helper.body[:-1])
         behind = []

@@ -4,7 +4,7 @@ A block ends with a condition and two sides. A side is an arm where its block is
 12, and leads on without a condition. Where both sides come to one block, each at once or through its arm, the block takes in the steps
 of the arms it goes through, has a select for each value in which the two ways differ, and leads there. The blocks of arms stay; where
 nothing leads to one any more, merging leaves it out."""
-from blocks import is_pure, moved, renamed, sides, weight
+from blocks import Word, is_pure, moved, renamed, sides, weight
 
 MOST_COST = 12
 
@@ -58,7 +58,7 @@ def chosen(blocks, number, to, arms):
     for width, yes, no in zip(blocks[to][0], *handed):
         if yes != no and (width, yes, no) not in made:
             made[width, yes, no] = len(args) + len(steps)
-            steps.append(("select", width, jump[1], yes, no))
+            steps.append((Word.of("select", [getattr(width, "name", "")]), width, jump[1], yes, no))
         values.append(yes if yes == no else made[width, yes, no])
     return args, steps, ("go", (to, values))
 

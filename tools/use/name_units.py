@@ -4,13 +4,12 @@
     tools/use/name_units.py KERNEL NETLIST > names.txt
 
 NETLIST is what `elastic compile KERNEL` printed, with any options; `-` is the standard input. The block graph of the kernel is computed
-by merged_graph.py and programs.py of tools/oracles, and the circuit is built from it by lean_net.py; they are written beside the
-program. So the netlist must have the units and the channels of that circuit, and where it has not, nothing is printed. A line
-`UNIT NAME` says
+by tools/oracles/optimized_graph.py, and the circuit is built from it by lean_net.py; both are written beside the program. So the netlist
+must have the units and the channels of that circuit, and where it has not, nothing is printed. A line `UNIT NAME` says
 
 - of a mux: its block has this variable as an argument;
 - of a branch: it leads this variable into one of two blocks;
-- of a constant, an operation, a `select` or a `read`: the variable is set to its value.
+- of a constant, an operation, a `select` or a `read`: the variable is set to its value, or each of several variables.
 
 A line `UNIT.PLACE NAME` says the latter of a load port of a queue. The variable x of a helper h is named `h.x`, the value of a call
 `h()`. `draw.py --names names.txt` draws the names, and `draw.py --kernel KERNEL` makes them itself. A unit of a value that no variable
@@ -21,90 +20,30 @@ import sys
 TOP = pathlib.Path(__file__).resolve().parents[2]
 sys.path[:0] = [str(TOP / folder) for folder in ("tools/oracles", "examples/clients")]
 import lean_net  # noqa: E402  (their folders were just named)
-import merged_graph  # noqa: E402
 import netlist  # noqa: E402
-import programs  # noqa: E402
+import optimized_graph  # noqa: E402
+from blocks import Graph  # noqa: E402
 
 
 class NoNames(Exception):
     """Why there are no names, in a sentence."""
 
 
-class Word(str):
-    """The first word of a step, with the variables that are set to the step's value."""
-    names = ()
-
-
-class Program(programs.Program):
-    """The tree of a kernel without calls, with the names of its variables by number: those of a helper behind the helper's name, and
-    the value of a call by that name with parentheses."""
-
-    def __init__(self, text):
-        self.names = {}
-        super().__init__(text)
-        kernel = programs.Function(programs.functions(text)[-1], self.helpers)
-        self.names.update(enumerate(kernel.names))
-
-    def call(self, e, before):
-        fresh, helper = super().call(e, before), self.helpers[e[2]]
-        first = fresh[2] - len(helper.types)
-        self.names.update({first + at: f"{helper.name}.{name}" for at, name in enumerate(helper.names)})
-        self.names[fresh[2]] = f"{helper.name}()"
-        return fresh
-
-
-class Draft(merged_graph.Draft):
-    """A graph over variables; the first word of a step says which variables are set to its value."""
-
-    def __init__(self, tree, form):
-        self.names = tree.names
-        super().__init__(tree, form)
-
-    def lower(self, statement, out, again):
-        super().lower(statement, out, again)
-        if statement[0] != "assign" or statement[1][0] != "var":
-            return
-        variable, step = statement[1][2], self.env[statement[1][2]] - self.count
-        if variable in self.names and step >= 0:
-            word = Word(self.steps[step][0])
-            word.names = (*getattr(self.steps[step][0], "names", ()), self.names[variable])
-            self.steps[step] = (word, *self.steps[step][1:])
-
-
 def graph(text):
-    """The header and the blocks of a kernel's merged graph, and for each block the names of its values: of the arguments, which come
-    first, and of the steps."""
-    tree = Program(text)
-    form = merged_graph.Normal(tree)
-    draft = Draft(tree, form)
-    arguments = merged_graph.live(draft.blocks, draft.count)
-    arguments[0] = range(tree.scalars)
-    blocks = merged_graph.argued(tree, form, draft.blocks)
-    for _ in range(16):
-        blocks = merged_graph.threaded(blocks)
-    first = merged_graph.found(blocks)
-    blocks = merged_graph.joined(merged_graph.reached(blocks))
-    second = merged_graph.found(blocks)
-    blocks = merged_graph.reached(blocks)
-    names = []
-    for (_, steps, _), number in zip(blocks, second):
-        held = [tree.names.get(it, "") for it in arguments[first[number]]]
-        names.append(held + [", ".join(dict.fromkeys(getattr(step[0], "names", ()))) for step in steps])
-    header, _, merged = merged_graph.graphs(tree)
-    if merged != blocks:
-        raise NoNames("its merged graph came out in two ways; tools/use/name_units.py has to follow tools/oracles/merged_graph.py")
-    return header, blocks, names
+    """A kernel's optimized graph, and for each block the names of its values: of the arguments, which come first, and of the steps."""
+    made = optimized_graph.optimized(Graph.of_kernel(text))
+    names = [[getattr(width, "name", "") for width in args] + [", ".join(getattr(step[0], "names", ())) for step in steps] for args, steps, _ in made.blocks]
+    return made, names
 
 
 class Drawing(lean_net.Drawing):
     """A circuit that keeps which units have a name: by the unit's number, or by the unit's and the place's."""
 
-    def __init__(self, header, blocks, names):
+    def __init__(self, made, names):
         self.values, self.number, self.named = names, 0, {}
-        scalars, arrays = ([word.split(":") for word in part.split()] for part in header[:2])
         widths = lean_net.WIDTHS
-        super().__init__([(it[1], widths[it[0]]) for it in scalars], [(it[1], widths[it[0]]) for it in arrays],
-                         widths[header[2]] if header[2] else None, [lean_net.Block(merged_graph.text(it)) for it in blocks])
+        super().__init__([(name, widths[ty]) for name, ty in made.scalars], [(name, widths[ty]) for name, ty, _ in made.arrays],
+                         widths[made.result] if made.result else None, [lean_net.Block(text) for text in made.text().split("|")])
 
     def lay_block(self, number, block):
         self.number = number
@@ -136,8 +75,7 @@ def plain(kind, words):
 def names(text, net):
     """The names of a net's units by the text of its kernel: a dictionary from a unit's number, or (unit, place), to a name."""
     try:
-        header, blocks, values = graph(text)
-        drawing = Drawing(header, blocks, values)
+        drawing = Drawing(*graph(text))
     except (AssertionError, AttributeError, IndexError, KeyError, StopIteration, TypeError, ValueError) as wrong:
         raise NoNames("its block graph is not computed here; does `elastic compile` take the kernel?") from wrong
     units = [plain(*(lambda kind, *words: (kind, words))(*unit.split())) for unit in drawing.units]

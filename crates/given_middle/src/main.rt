@@ -8,7 +8,7 @@ mod exprs;
 mod forms;
 mod graphs;
 mod kernels;
-mod merged;
+mod passes;
 mod rows;
 mod stmts;
 mod walks;

@@ -3,7 +3,7 @@ use crate::circuits::{put_graph, put_kernel};
 use crate::ends::put_both;
 use crate::exprs::Places;
 use crate::forms::put_form;
-use crate::merged::{put_merged, put_optimized};
+use crate::passes::{put_folded, put_merged, put_optimized, put_selected};
 use crate::walks::{put_arguments, put_walk};
 use anyhow::{Result, bail};
 use row_fields::Output;
@@ -27,12 +27,16 @@ pub enum Rows {
     Graphs,
     /// What it is, a block graph and inputs, for merging and for a run of the merged graph's circuit.
     Merged,
+    /// What it is, a block graph and inputs, for folding and for a run of the folded graph's circuit.
+    Folded,
+    /// What it is, what a block may weigh, a block graph and inputs, for selecting and for a run of that graph's circuit.
+    Selected,
     /// A kernel and inputs, for its block graph and for a run of that graph's circuit.
     Optimized,
 }
 
 /// The files, in the order in which they are answered.
-pub const FILES: [(&str, Rows); 10] = [
+pub const FILES: [(&str, Rows); 12] = [
     ("forms.tsv", Rows::Forms(Places::Hidden)),
     ("places.tsv", Rows::Forms(Places::Written)),
     ("walks.tsv", Rows::Walks),
@@ -42,6 +46,8 @@ pub const FILES: [(&str, Rows); 10] = [
     ("circuits.tsv", Rows::Circuits),
     ("graphs.tsv", Rows::Graphs),
     ("merged.tsv", Rows::Merged),
+    ("folded.tsv", Rows::Folded),
+    ("selected.tsv", Rows::Selected),
     ("optimized.tsv", Rows::Optimized),
 ];
 
@@ -91,6 +97,10 @@ impl Rows {
             (Rows::Circuits, [kernel, inputs]) => put_kernel(rt, alloc, kernel, inputs, out),
             (Rows::Graphs, [_, graph @ .., inputs]) => put_graph(rt, alloc, graph, inputs, out),
             (Rows::Merged, [_, graph @ .., inputs]) => put_merged(rt, alloc, graph, inputs, out),
+            (Rows::Folded, [_, graph @ .., inputs]) => put_folded(rt, alloc, graph, inputs, out),
+            (Rows::Selected, [_, most, graph @ .., inputs]) => {
+                put_selected(rt, alloc, most.parse()?, graph, inputs, out)
+            }
             (Rows::Optimized, [kernel, inputs]) => put_optimized(rt, alloc, kernel, inputs, out),
             (rows, _) => bail!("a line of {rows:?} of other fields"),
         }

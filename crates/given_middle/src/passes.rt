@@ -3,7 +3,9 @@ use crate::circuits::put_circuit;
 use crate::graphs::read_graph;
 use crate::kernels::graph_of;
 use anyhow::{Result, bail, ensure};
+use block_fold::fold;
 use block_merge::merge;
+use block_select::select;
 use ir::{Block, Instr, Ir, Jump, To};
 use row_fields::Output;
 use std::alloc::Global;
@@ -22,6 +24,42 @@ pub fn put_merged<R: Threads + Sync>(
     ensure!(within, "a graph that is too great");
     match merge(alloc, &graph) {
         Ok(merged) => put_both(rt, alloc, &merged, inputs, out),
+        Err(_) => bail!("want of memory"),
+    }
+}
+
+/// Writes the blocks of the folded graph of a graph, and behind a tab what its circuit comes to on inputs, or that it has none.
+pub fn put_folded<R: Threads + Sync>(
+    rt: &R,
+    alloc: Global,
+    graph: &[&str],
+    inputs: &str,
+    out: &mut Output,
+) -> Result<()> {
+    let graph = read_graph(alloc, graph)?;
+    let within = graph.has_size_within(8_000_000);
+    ensure!(within, "a graph that is too great");
+    match fold(alloc, &graph) {
+        Ok(folded) => put_both(rt, alloc, &folded, inputs, out),
+        Err(_) => bail!("want of memory"),
+    }
+}
+
+/// The same of the graph whose sides are selected, where a block may weigh so much.
+pub fn put_selected<R: Threads + Sync>(
+    rt: &R,
+    alloc: Global,
+    most: u64,
+    graph: &[&str],
+    inputs: &str,
+    out: &mut Output,
+) -> Result<()> {
+    let graph = read_graph(alloc, graph)?;
+    let within = graph.has_size_within(8_000_000);
+    ensure!(within, "a graph that is too great");
+    ensure!(most <= 8_000_000, "a weight that is too great");
+    match select(alloc, &graph, most) {
+        Ok(selected) => put_both(rt, alloc, &selected, inputs, out),
         Err(_) => bail!("want of memory"),
     }
 }
