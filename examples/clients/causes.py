@@ -2,14 +2,14 @@
 
     run = causes.recorded(net_text, inputs_text)      a Recorded: .firings, .cycles, .ended
 
-It is the simulator of tools/simulate.py (docs/FORMATS.md, sections 14 and 18), watched: each firing has its unit, its act, its cycle,
+It is the simulator of tools/oracles/simulate.py (docs/FORMATS.md, sections 14 and 18), watched: each firing has its unit, its act, its cycle,
 and its causes, each with the firing that it comes from and the cycle from which on it held."""
 import pathlib
 import sys
 from collections import namedtuple
 from dataclasses import dataclass, field
 
-sys.path.insert(0, str(pathlib.Path(__file__).resolve().parent.parent.parent / "tools"))
+sys.path.insert(0, str(pathlib.Path(__file__).resolve().parents[2] / "tools/oracles"))
 import simulate  # noqa: E402  (its folder was just named)
 
 # What a firing waited for: `kind` is token, room, place, queue or entries; the firing before (its number), the cycle from which on it

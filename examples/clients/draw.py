@@ -8,7 +8,7 @@
                                tenth of its cycles and more red (`where.py` tells the same in lines)
     draw.py --svg --kernel KERNEL.c NETLIST    a picture with the names of the kernel's variables
     draw.py --svg --names NAMES NETLIST        the same with the names in a file: lines `UNIT NAME` or, of a place of a queue,
-                               `UNIT.PLACE NAME`, as tools/name_units.py prints them
+                               `UNIT.PLACE NAME`, as tools/use/name_units.py prints them
 
 NETLIST is a file with a netlist, alone or within what `elastic go` or `make demo` printed, or `-`, the standard input. In a
 picture tokens go down, but in loops, which lead back up at the left. Control tokens go on dashed lines; a point is a fork;
@@ -106,8 +106,8 @@ def names_in(path):
 
 
 def names_of(path, net):
-    """The names that tools/name_units.py finds by a kernel; where it finds none, a line on the error output and status 1."""
-    sys.path.insert(0, str(pathlib.Path(__file__).resolve().parent.parent.parent / "tools"))
+    """The names that tools/use/name_units.py finds by a kernel; where it finds none, a line on the error output and status 1."""
+    sys.path.insert(0, str(pathlib.Path(__file__).resolve().parents[2] / "tools/use"))
     import name_units  # the tools are needed only here
     try:
         return name_units.names(netlist.text_of(path), net)

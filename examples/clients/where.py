@@ -3,7 +3,7 @@
 
     where.py NETLIST INPUTS [--limit F]
 
-It runs the net by cycles (the simulator of tools/simulate.py, so take inputs of some thousand firings), and tells of each loop its turns
+It runs the net by cycles (the simulator of tools/oracles/simulate.py, so take inputs of some thousand firings), and tells of each loop its turns
 and the cycles of a turn; the critical path, that is, what the last firing waited for, what that waited for, and so on back to the
 begin, with its cycles by channel; of each queue its most entries, and the cycles in which it refused an allocation for want of room;
 and at last what bounds each loop, and what to try. NETLIST may be `-`. `draw.py --svg --where INPUTS NETLIST` draws the path."""

@@ -1,0 +1,5 @@
+pub mod Values
+pub mod Follows
+pub mod Passing
+pub mod Remade
+pub mod Weights

@@ -1,7 +1,6 @@
 -- Values that fit their widths, and inputs that fit a graph's header.
 use Rattle.std.specs.Prelude.{ℕ, ◌<◌, ◌^◌, List, [], ◌∷◌, map, Option, Some, None, All}
 use Rattle.el_base.specs.declared.ty.Array.{Array}
-use Rattle.el_base.specs.declared.ty.Scalar.{Scalar}
 use Rattle.el_base.specs.Widths.{ty_width}
 use Rattle.ir.specs.Shapes.{Shape}
 use Rattle.ir.specs.Graphs.{Graph}

@@ -35,7 +35,7 @@ pub enum Rows {
 }
 
 /// The files, in the order in which they are answered.
-pub const FILES: [(&str, Rows); 17] = [
+pub const FILES: [(&str, Rows); 20] = [
     ("calls.tsv", Rows::Calls(Told::Whole)),
     ("schedules.tsv", Rows::Calls(Told::Whole)),
     ("runs.tsv", Rows::Calls(Told::Whole)),
@@ -47,6 +47,9 @@ pub const FILES: [(&str, Rows); 17] = [
     ("resumed.tsv", Rows::Resumed),
     ("faults.tsv", Rows::Faults),
     ("kernels.tsv", Rows::Kernels),
+    ("rules.tsv", Rows::Kernels),
+    ("quotients.tsv", Rows::Kernels),
+    ("loops.tsv", Rows::Kernels),
     ("lines.tsv", Rows::Lines),
     ("limits.tsv", Rows::Limits),
     ("gates.tsv", Rows::Gates),

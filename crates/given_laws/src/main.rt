@@ -5,6 +5,7 @@
 fn main(rt: HostRuntime) {
     let _host = rt;
     words_and_trees();
+    rules();
     parts_of_trees();
     graphs();
     nets();
@@ -41,6 +42,27 @@ fn words_and_trees() {
     c_meaning::worked_laws::results_are_converted();
     c_meaning::worked_laws::counts_are_worked();
     c_meaning::worked_laws::unlawful_trees_are_refused();
+}
+
+/// Rules by which operations are replaced by others.
+fn rules() {
+    word_rules::amounts::least_amounts_serve();
+    word_rules::amounts::quotients_are_made();
+    word_rules::bounds::results_are_bounded();
+    word_rules::bounds::bounds_are_patterns();
+    word_rules::existence::reciprocals_are_close();
+    word_rules::existence::digits_are_counted();
+    word_rules::existence::long_magic_exists();
+    word_rules::existence::signed_magic_exists();
+    word_rules::quotients::products_are_quotients();
+    word_rules::quotients::unsigned_powers_are_shifts();
+    word_rules::quotients::unsigned_quotients_are_products();
+    word_rules::quotients::signed_quotients_are_products();
+    word_rules::quotients::signed_powers_are_shifts();
+    word_rules::quotients::divisions_without_sign_are_unsigned();
+    word_rules::quotients::remainders_are_differences();
+    word_rules::worked::divisors_are_worked();
+    word_rules::worked::bounds_are_worked();
 }
 
 /// Laws of the parts of trees.

@@ -1,5 +1,5 @@
 //! Answers given rows on kernels and on block graphs, one a line of the files of its folder, each file below its name: normal
-//! forms as text, walks along block graphs, ends by the plain interpreter, and runs of circuits, and merged graphs.
+//! forms as text, walks along block graphs, ends by the plain interpreter, runs of circuits, and what passes make of graphs.
 #![tactic(auto)]
 
 mod circuits;

@@ -1,6 +1,7 @@
-//! Merged graphs, as text in the form in which graphs are told, without the word `times`.
+//! What passes make of graphs, as text in the form in which graphs are told, without the word `times`.
 use crate::circuits::put_circuit;
 use crate::graphs::read_graph;
+use crate::kernels::graph_of;
 use anyhow::{Result, bail, ensure};
 use block_merge::merge;
 use ir::{Block, Instr, Ir, Jump, To};
@@ -23,6 +24,18 @@ pub fn put_merged<R: Threads + Sync>(
         Ok(merged) => put_both(rt, alloc, &merged, inputs, out),
         Err(_) => bail!("want of memory"),
     }
+}
+
+/// Writes the blocks of a kernel's graph, and behind a tab what its circuit comes to on inputs.
+pub fn put_optimized<R: Threads + Sync>(
+    rt: &R,
+    alloc: Global,
+    kernel: &str,
+    inputs: &str,
+    out: &mut Output,
+) -> Result<()> {
+    let graph = graph_of(alloc, kernel)?;
+    put_both(rt, alloc, &graph, inputs, out)
 }
 
 /// Writes the blocks of a graph, and behind a tab what its circuit comes to on inputs, or that it has none.

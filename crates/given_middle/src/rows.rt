@@ -3,7 +3,7 @@ use crate::circuits::{put_graph, put_kernel};
 use crate::ends::put_both;
 use crate::exprs::Places;
 use crate::forms::put_form;
-use crate::merged::put_merged;
+use crate::merged::{put_merged, put_optimized};
 use crate::walks::{put_arguments, put_walk};
 use anyhow::{Result, bail};
 use row_fields::Output;
@@ -27,10 +27,12 @@ pub enum Rows {
     Graphs,
     /// What it is, a block graph and inputs, for merging and for a run of the merged graph's circuit.
     Merged,
+    /// A kernel and inputs, for its block graph and for a run of that graph's circuit.
+    Optimized,
 }
 
 /// The files, in the order in which they are answered.
-pub const FILES: [(&str, Rows); 9] = [
+pub const FILES: [(&str, Rows); 10] = [
     ("forms.tsv", Rows::Forms(Places::Hidden)),
     ("places.tsv", Rows::Forms(Places::Written)),
     ("walks.tsv", Rows::Walks),
@@ -40,6 +42,7 @@ pub const FILES: [(&str, Rows); 9] = [
     ("circuits.tsv", Rows::Circuits),
     ("graphs.tsv", Rows::Graphs),
     ("merged.tsv", Rows::Merged),
+    ("optimized.tsv", Rows::Optimized),
 ];
 
 impl Rows {
@@ -88,6 +91,7 @@ impl Rows {
             (Rows::Circuits, [kernel, inputs]) => put_kernel(rt, alloc, kernel, inputs, out),
             (Rows::Graphs, [_, graph @ .., inputs]) => put_graph(rt, alloc, graph, inputs, out),
             (Rows::Merged, [_, graph @ .., inputs]) => put_merged(rt, alloc, graph, inputs, out),
+            (Rows::Optimized, [kernel, inputs]) => put_optimized(rt, alloc, kernel, inputs, out),
             (rows, _) => bail!("a line of {rows:?} of other fields"),
         }
     }

@@ -1,0 +1,13 @@
+pub mod Again
+pub mod Elements
+pub mod Fits
+pub mod Goes
+pub mod LastStores
+pub mod LiveSteps
+pub mod Numbers
+pub mod Onward
+pub mod Operands
+pub mod Pending
+pub mod Shares
+pub mod Stores
+pub mod Works

@@ -1,0 +1,11 @@
+pub mod Digits
+pub mod Greatest
+pub mod LeastAmounts
+pub mod Numbers
+pub mod Patterns
+pub mod Powers
+pub mod Products
+pub mod Reciprocals
+pub mod Signs
+pub mod UnsignedPowers
+pub mod WorkedNumbers

@@ -1,1 +1,0 @@
-"""What tools/explain.py stands on: causes and remedies of the lines that the program ends with."""

@@ -1,1 +1,0 @@
-"""Kernels made of C as people write it: the parts of tools/mend.py. pycparser reads the C (`apt-get install python3-pycparser`)."""
