@@ -7,3 +7,5 @@ pub mod TwoLaws
 pub mod OneLaws
 pub mod ConditionLaws
 pub mod SelectLaws
+pub mod TopSteps
+pub mod TopLaw

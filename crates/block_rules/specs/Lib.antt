@@ -6,5 +6,6 @@ pub mod Conditions
 pub mod OneRules
 pub mod TwoRules
 pub mod SelectRules
+pub mod Tops
 pub mod Rules
 pub mod Laws
