@@ -9,3 +9,4 @@ pub mod ConditionLaws
 pub mod SelectLaws
 pub mod TopSteps
 pub mod TopLaw
+pub mod Factors

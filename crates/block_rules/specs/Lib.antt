@@ -7,5 +7,6 @@ pub mod OneRules
 pub mod TwoRules
 pub mod SelectRules
 pub mod Tops
+pub mod Divisions
 pub mod Rules
 pub mod Laws

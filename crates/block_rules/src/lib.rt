@@ -4,6 +4,7 @@
 
 mod change;
 mod conditions;
+mod division;
 mod kind;
 mod laws;
 mod of_one;
