@@ -3,8 +3,9 @@ use Rattle.std.proofs.Common.{◌≡◌, ℕ, suc, ◌+◌, ◌-◌, ◌*◌, �
 use Rattle.std.specs.List.{find, range_with_len}
 use Rattle.std.proofs.lemmas.Bool.{cond-true, cond-false}
 use Rattle.std.proofs.Math.Pow.{pow_mono}
-use Rattle.word_rules.specs.Magic.{reciprocal}
-use Rattle.word_rules.proofs.Reciprocals.{reciprocals_are_close}
+use Rattle.word_rules.specs.Magic.{reciprocal, binary_digits}
+use Rattle.word_rules.proofs.Digits.{digits_are_counted}
+use Rattle.word_rules.proofs.Reciprocals.{reciprocals_are_close, long_magic_exists}
 
 pub product_fits : (d s : ℕ) → 0 < d → d < 2 ^ 63 → s < 64 → reciprocal d s * d < 2 ^ 64
 product_fits d s some half h =
@@ -30,3 +31,8 @@ pub found_nowhere : (p : ℕ → Bool) (s : ℕ) → 64 ≤ s → find p (range_
 found_nowhere p s h =
     let k : 0 ≡ 64 - s = omega arith in
     subst (λ (j : ℕ). find p (range_with_len s j) ≡ None) k refl
+
+pub digits_are_few : (d : ℕ) → 1 < d → d < 2 ^ 31 → binary_digits (d - 1) < 32
+digits_are_few d some half =
+    let h = digits_are_counted 64 (d - 1) (omega arith) in
+    (long_magic_exists d (binary_digits (d - 1)) 0 (omega arith) (omega arith) h (omega arith)).4 (omega arith)

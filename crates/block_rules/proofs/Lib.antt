@@ -10,3 +10,4 @@ pub mod SelectLaws
 pub mod TopSteps
 pub mod TopLaw
 pub mod Factors
+pub mod Lists

@@ -1,5 +1,5 @@
 -- What a division by a constant becomes: products, shifts, sums and masks. Its steps are numbered from the next value of the block on.
-use Rattle.std.specs.Prelude.{ℕ, ◌+◌, ◌-◌, ◌^◌, ◌==◌, nat_lt, ◌&&◌, if◌then◌else◌, Bool, true, false, List, [], ◌∷◌, length, Option, Some, None}
+use Rattle.std.specs.Prelude.{ℕ, ◌+◌, ◌-◌, ◌^◌, ◌<◌, ◌==◌, nat_lt, ◌&&◌, if◌then◌else◌, Bool, true, false, List, [], ◌∷◌, length, Option, Some, None}
 use Rattle.el_base.specs.declared.operation.Op1.TheVariants.{S32to64, U32to64, Cut64to32}
 use Rattle.el_base.specs.declared.operation.Op2.{Op2}
 use Rattle.el_base.specs.declared.operation.Op2.TheVariants.{Add64, Sub32, Mul64, Shru64, Shrs32, Shrs64}
@@ -19,6 +19,10 @@ use Rattle.block_rules.specs.Kinds.{bits, word_of, kind_of, operation}
 use Rattle.block_rules.specs.Reading.{const_at}
 use Rattle.block_rules.specs.TwoRules.{exponent_of}
 use Rattle.block_rules.specs.Tops.{narrowed, top_within}
+
+-- so many values more can be numbered
+abbrev pub HasRoom : ℕ → Type 0
+HasRoom m = m < 2 ^ 32 - 16
 
 -- ---- unsigned, by products
 

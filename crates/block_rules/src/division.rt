@@ -1,9 +1,9 @@
 //! What a division by a constant becomes.
-ghost use Rattle.std.specs.Prelude.{◌≡◌, ◌<◌, ◌-◌, ◌^◌, IfOk, ◌*◌, nat_lt};
+ghost use Rattle.std.specs.Prelude.{◌≡◌, ◌<◌, ◌-◌, ◌^◌, IfOk, IfSome, ◌*◌, nat_lt};
 ghost use Rattle.word_rules.specs.Magic.{reciprocal, binary_digits};
 ghost use Rattle.word_rules.specs.Amounts.{serves, serves_signed, unsigned_amount, signed_amount};
 ghost use Rattle.block_rules.specs.Kinds.{bits};
-ghost use Rattle.block_rules.specs.Divisions.{quotient32, has_factor, quotient64, unsigned_quotient, signed32, by_quotient, unsigned_remainder, power_quotient, power_remainder, no_power_quotient, no_power_remainder, large_quotient, large_remainder, signed_quotient, signed_remainder, divided};
+ghost use Rattle.block_rules.specs.Divisions.{HasRoom, quotient32, has_factor, quotient64, unsigned_quotient, signed32, by_quotient, unsigned_remainder, power_quotient, power_remainder, no_power_quotient, no_power_remainder, large_quotient, large_remainder, signed_quotient, signed_remainder, divided};
 
 use crate::kind::{Kind, Word};
 use crate::rewriting::Rewriting;
@@ -90,7 +90,8 @@ fn is_signed_factor(divisor: u64, amount: u32) -> bool
 fn unsigned_shift(top: u64, divisor: u64) -> Option<u32>
     requires some { 0 < divisor }
     requires half { divisor < 2 ^ 63 }
-    ensures { result ≡ unsigned_amount top divisor }
+    ensures within { IfSome result (λ s. s < 64) }
+    ensures least { result ≡ unsigned_amount top divisor }
 {
     for amount in 32..64u32 {
         if is_factor(top, divisor, amount) {
@@ -105,7 +106,8 @@ fn unsigned_shift(top: u64, divisor: u64) -> Option<u32>
 fn signed_shift(divisor: u64) -> Option<u32>
     requires some { 0 < divisor }
     requires half { divisor < 2 ^ 63 }
-    ensures { result ≡ signed_amount divisor }
+    ensures within { IfSome result (λ s. s < 64) }
+    ensures least { result ≡ signed_amount divisor }
 {
     for amount in 32..64u32 {
         if is_signed_factor(divisor, amount) {
@@ -113,4 +115,239 @@ fn signed_shift(divisor: u64) -> Option<u32>
         }
     }
     None
+}
+
+/// Those steps, as what a step becomes.
+fn steps_of(alloc: Global, items: &[Instr]) -> Result<Rewriting, Memory>
+    ensures { IfOk result (λ r. r ≡ Rewriting.Steps items.now) }
+{
+    let mut steps = List::new(alloc);
+    for item in items {
+        steps.push(*item)?;
+    }
+    Ok(Rewriting::Steps(steps))
+}
+
+fn constant(width: u32, value: u64) -> Instr
+    ensures { result ≡ Instr.Const width value }
+{
+    Instr::Const { width, value }
+}
+
+/// An unsigned quotient of 32 bits.
+fn divide32(alloc: Global, x: Division, amount: Option<u32>) -> Result<Rewriting, Memory>
+    requires room { HasRoom x.next }
+    requires some { 1 < x.divisor }
+    requires half { x.divisor < 2 ^ 31 }
+    requires amount { IfSome amount (λ s. s < 64) }
+    ensures { IfOk result (λ r. r ≡ Rewriting.Steps (quotient32 x amount)) }
+{
+    match amount {
+        None => divide_long(alloc, x),
+        Some(amount) => divide_short(alloc, x, amount),
+    }
+}
+
+fn divide_short(alloc: Global, x: Division, amount: u32) -> Result<Rewriting, Memory>
+    requires room { HasRoom x.next }
+    requires some { 1 < x.divisor }
+    requires within { amount < 64 }
+    ensures { IfOk result (λ r. r ≡ Rewriting.Steps (quotient32 x (Some amount))) }
+{
+    let m = x.next;
+    steps_of(
+        alloc,
+        &[
+            Instr::One(Op1::U32to64, x.left),
+            constant(64, factor(x.divisor, amount)),
+            Instr::Two(Op2::Mul64, m, m + 1),
+            constant(64, amount as u64),
+            Instr::Two(Op2::Shru64, m + 2, m + 3),
+            Instr::One(Op1::Cut64to32, m + 4),
+        ],
+    )
+}
+
+/// By a magic number of 33 bits.
+fn divide_long(alloc: Global, x: Division) -> Result<Rewriting, Memory>
+    requires room { HasRoom x.next }
+    requires some { 1 < x.divisor }
+    requires half { x.divisor < 2 ^ 31 }
+    ensures { IfOk result (λ r. r ≡ Rewriting.Steps (quotient32 x None)) }
+{
+    let m = x.next;
+    let digits = digits_before(x.divisor);
+    steps_of(
+        alloc,
+        &[
+            Instr::One(Op1::U32to64, x.left),
+            constant(64, factor(x.divisor, 32 + digits).saturating_sub(1 << 32)),
+            Instr::Two(Op2::Mul64, m, m + 1),
+            constant(64, 32),
+            Instr::Two(Op2::Shru64, m + 2, m + 3),
+            Instr::Two(Op2::Add64, m + 4, m),
+            constant(64, digits as u64),
+            Instr::Two(Op2::Shru64, m + 5, m + 6),
+            Instr::One(Op1::Cut64to32, m + 7),
+        ],
+    )
+}
+
+/// How many binary digits the number before the divisor has.
+#[tactic(auto, using(crate::proofs::Factors::digits_are_few))]
+fn digits_before(divisor: u64) -> u32
+    requires some { 1 < divisor }
+    requires half { divisor < 2 ^ 31 }
+    ensures few { result < 32 }
+    ensures digits { result ≡ binary_digits (divisor - 1) }
+{
+    64 - (divisor - 1).leading_zeros()
+}
+
+/// An unsigned quotient of 64 bits.
+fn divide64(alloc: Global, x: Division, amount: Option<u32>) -> Result<Rewriting, Memory>
+    requires room { HasRoom x.next }
+    requires some { 1 < x.divisor }
+    requires amount { IfSome amount (λ s. s < 64) }
+    ensures { IfOk result (λ r. r ≡ quotient64 x amount) }
+{
+    let Some(amount) = amount else {
+        return Ok(Rewriting::Kept);
+    };
+    let m = x.next;
+    let factor = factor(x.divisor, amount);
+    if factor < 1 << 32 {
+        steps_of(
+            alloc,
+            &[
+                constant(64, factor),
+                Instr::Two(Op2::Mul64, x.left, m),
+                constant(64, amount as u64),
+                Instr::Two(Op2::Shru64, m + 1, m + 2),
+            ],
+        )
+    } else {
+        Ok(Rewriting::Kept)
+    }
+}
+
+/// A signed quotient of 32 bits.
+fn divide_signed32(alloc: Global, x: Division, amount: Option<u32>) -> Result<Rewriting, Memory>
+    requires room { HasRoom x.next }
+    requires some { 1 < x.divisor }
+    requires amount { IfSome amount (λ s. s < 64) }
+    ensures { IfOk result (λ r. r ≡ signed32 x amount) }
+{
+    let Some(amount) = amount else {
+        return Ok(Rewriting::Kept);
+    };
+    let m = x.next;
+    steps_of(
+        alloc,
+        &[
+            Instr::One(Op1::S32to64, x.left),
+            constant(64, factor(x.divisor, amount)),
+            Instr::Two(Op2::Mul64, m, m + 1),
+            constant(64, amount as u64),
+            Instr::Two(Op2::Shrs64, m + 2, m + 3),
+            Instr::One(Op1::Cut64to32, m + 4),
+            constant(32, 31),
+            Instr::Two(Op2::Shrs32, x.left, m + 6),
+            Instr::Two(Op2::Sub32, m + 5, m + 7),
+        ],
+    )
+}
+
+/// A remainder, by its quotient.
+fn leave_by_quotient(
+    alloc: Global,
+    kind: Kind,
+    word: Word,
+    x: Division,
+) -> Result<Rewriting, Memory>
+    requires { HasRoom x.next }
+    ensures { IfOk result (λ r. r ≡ Rewriting.Steps (by_quotient kind word x)) }
+{
+    steps_of(
+        alloc,
+        &[
+            Instr::Two(kind.on(word), x.left, x.right),
+            Instr::Two(Kind::Mul.on(word), x.next, x.right),
+            Instr::Two(Kind::Sub.on(word), x.left, x.next + 1),
+        ],
+    )
+}
+
+/// A signed quotient by two to that many places.
+fn divide_power(alloc: Global, word: Word, x: Division, places: u64) -> Result<Rewriting, Memory>
+    requires room { HasRoom x.next }
+    requires within { places < bits word }
+    ensures { IfOk result (λ r. r ≡ Rewriting.Steps (power_quotient word x places)) }
+{
+    let m = x.next;
+    let width = word.bits();
+    if places == 1 {
+        steps_of(
+            alloc,
+            &[
+                constant(width, width as u64 - 1),
+                Instr::Two(Kind::Shru.on(word), x.left, m),
+                Instr::Two(Kind::Add.on(word), x.left, m + 1),
+                constant(width, 1),
+                Instr::Two(Kind::Shrs.on(word), m + 2, m + 3),
+            ],
+        )
+    } else {
+        steps_of(
+            alloc,
+            &[
+                constant(width, width as u64 - 1),
+                Instr::Two(Kind::Shrs.on(word), x.left, m),
+                constant(width, width as u64 - places),
+                Instr::Two(Kind::Shru.on(word), m + 1, m + 2),
+                Instr::Two(Kind::Add.on(word), x.left, m + 3),
+                constant(width, places),
+                Instr::Two(Kind::Shrs.on(word), m + 4, m + 5),
+            ],
+        )
+    }
+}
+
+/// A signed remainder by two to that many places.
+fn leave_power(alloc: Global, word: Word, x: Division, places: u64) -> Result<Rewriting, Memory>
+    requires room { HasRoom x.next }
+    requires within { places < bits word }
+    requires some { 0 < x.divisor }
+    requires pattern { x.divisor < 2 ^ bits word }
+    ensures { IfOk result (λ r. r ≡ Rewriting.Steps (power_remainder word x places)) }
+{
+    let m = x.next;
+    let width = word.bits();
+    if places == 1 {
+        steps_of(
+            alloc,
+            &[
+                constant(width, width as u64 - 1),
+                Instr::Two(Kind::Shru.on(word), x.left, m),
+                Instr::Two(Kind::Add.on(word), x.left, m + 1),
+                constant(width, word.ones() - 1),
+                Instr::Two(Kind::And.on(word), m + 2, m + 3),
+                Instr::Two(Kind::Sub.on(word), x.left, m + 4),
+            ],
+        )
+    } else {
+        steps_of(
+            alloc,
+            &[
+                constant(width, width as u64 - 1),
+                Instr::Two(Kind::Shrs.on(word), x.left, m),
+                constant(width, width as u64 - places),
+                Instr::Two(Kind::Shru.on(word), m + 1, m + 2),
+                Instr::Two(Kind::Add.on(word), x.left, m + 3),
+                constant(width, word.opposite(x.divisor)),
+                Instr::Two(Kind::And.on(word), m + 4, m + 5),
+                Instr::Two(Kind::Sub.on(word), x.left, m + 6),
+            ],
+        )
+    }
 }

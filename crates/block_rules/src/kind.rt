@@ -1,5 +1,5 @@
 //! Operations on two patterns of one width as a kind and a width.
-ghost use Rattle.std.specs.Prelude.{◌≡◌, ◌-◌, ◌^◌};
+ghost use Rattle.std.specs.Prelude.{◌≡◌, ◌-◌, ◌^◌, ◌<◌};
 ghost use Rattle.block_rules.specs.Kinds.{bits, word_of, kind_of, operation, negative_on, flip_on, zero_on, is_zero, is_comparison, commutes, is_unequal};
 
 use ir::{Op1, Op2};
@@ -64,6 +64,15 @@ impl Word {
             Word::Word32 => u32::MAX as u64,
             Word::Word64 => u64::MAX,
         }
+    }
+
+    /// What a pattern above 0 lacks to the next power of two.
+    pub(crate) fn opposite(self, pattern: u64) -> u64
+        requires some { 0 < pattern }
+        requires within { pattern < 2 ^ bits self }
+        ensures { result ≡ 2 ^ bits self - pattern }
+    {
+        self.ones() - pattern + 1
     }
 
     /// The operation that gives the negative.
