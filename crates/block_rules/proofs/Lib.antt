@@ -11,3 +11,6 @@ pub mod TopSteps
 pub mod TopLaw
 pub mod Factors
 pub mod Lists
+pub mod DivisionSteps
+pub mod Exponents
+pub mod DivisionLaws

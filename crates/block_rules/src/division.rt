@@ -3,9 +3,11 @@ ghost use Rattle.std.specs.Prelude.{◌≡◌, ◌<◌, ◌-◌, ◌^◌, IfOk, 
 ghost use Rattle.word_rules.specs.Magic.{reciprocal, binary_digits};
 ghost use Rattle.word_rules.specs.Amounts.{serves, serves_signed, unsigned_amount, signed_amount};
 ghost use Rattle.block_rules.specs.Kinds.{bits};
+ghost use Rattle.block_rules.specs.TwoRules.{exponent_of};
 ghost use Rattle.block_rules.specs.Divisions.{HasRoom, quotient32, has_factor, quotient64, unsigned_quotient, signed32, by_quotient, unsigned_remainder, power_quotient, power_remainder, no_power_quotient, no_power_remainder, large_quotient, large_remainder, signed_quotient, signed_remainder, divided};
 
 use crate::kind::{Kind, Word};
+use crate::of_two::exponent;
 use crate::rewriting::Rewriting;
 use ir::{Instr, List, Memory, Op1, Op2};
 use std::alloc::Global;
@@ -349,5 +351,159 @@ fn leave_power(alloc: Global, word: Word, x: Division, places: u64) -> Result<Re
                 Instr::Two(Kind::Sub.on(word), x.left, m + 6),
             ],
         )
+    }
+}
+
+/// An unsigned quotient.
+#[tactic(auto, unfolding(crate::specs::Divisions::unsigned_quotient))]
+fn divide_unsigned(alloc: Global, word: Word, x: Division) -> Result<Rewriting, Memory>
+    requires room { HasRoom x.next }
+    requires some { 1 < x.divisor }
+    requires half { x.divisor < 2 ^ (bits word - 1) }
+    ensures { IfOk result (λ r. r ≡ unsigned_quotient word x) }
+{
+    match word {
+        Word::Word32 => divide32(alloc, x, unsigned_shift(x.top, x.divisor)),
+        Word::Word64 => if x.top < 1 << 32 {
+            divide64(alloc, x, unsigned_shift(x.top, x.divisor))
+        } else {
+            Ok(Rewriting::Kept)
+        },
+    }
+}
+
+/// Whether the factor for the amount has 32 bits.
+fn is_factor_small(divisor: u64, amount: Option<u32>) -> bool
+    requires some { 1 < divisor }
+    requires amount { IfSome amount (λ s. s < 64) }
+    ensures { result ≡ has_factor divisor amount }
+{
+    match amount {
+        None => false,
+        Some(amount) => factor(divisor, amount) < 1 << 32,
+    }
+}
+
+/// An unsigned remainder.
+#[tactic(auto, unfolding(crate::specs::Divisions::unsigned_remainder))]
+fn leave_unsigned(alloc: Global, word: Word, x: Division) -> Result<Rewriting, Memory>
+    requires room { HasRoom x.next }
+    requires some { 1 < x.divisor }
+    requires half { x.divisor < 2 ^ (bits word - 1) }
+    ensures { IfOk result (λ r. r ≡ unsigned_remainder word x) }
+{
+    match word {
+        Word::Word32 => leave_by_quotient(alloc, Kind::Divu, Word::Word32, x),
+        Word::Word64 => if x.top < 1 << 32
+            && is_factor_small(x.divisor, unsigned_shift(x.top, x.divisor))
+        {
+            leave_by_quotient(alloc, Kind::Divu, Word::Word64, x)
+        } else {
+            Ok(Rewriting::Kept)
+        },
+    }
+}
+
+/// A signed quotient by no power of two.
+fn divide_by_no_power(alloc: Global, word: Word, x: Division) -> Result<Rewriting, Memory>
+    requires room { HasRoom x.next }
+    requires some { 1 < x.divisor }
+    requires half { x.divisor < 2 ^ (bits word - 1) }
+    ensures { IfOk result (λ r. r ≡ no_power_quotient word x) }
+{
+    match word {
+        Word::Word32 => divide_signed32(alloc, x, signed_shift(x.divisor)),
+        Word::Word64 => Ok(Rewriting::Kept),
+    }
+}
+
+/// A signed remainder by no power of two.
+fn leave_by_no_power(alloc: Global, word: Word, x: Division) -> Result<Rewriting, Memory>
+    requires { HasRoom x.next }
+    ensures { IfOk result (λ r. r ≡ no_power_remainder word x) }
+{
+    match word {
+        Word::Word32 => leave_by_quotient(alloc, Kind::Divs, Word::Word32, x),
+        Word::Word64 => Ok(Rewriting::Kept),
+    }
+}
+
+/// The power of two that a divisor is.
+#[tactic(auto, using(crate::proofs::Exponents::places_are_few))]
+fn exponent_below(word: Word, divisor: u64) -> Option<u64>
+    requires { divisor < 2 ^ (bits word - 1) }
+    ensures within { IfSome result (λ k. k < bits word) }
+    ensures exponent { result ≡ exponent_of divisor }
+{
+    exponent(divisor)
+}
+
+/// A signed quotient.
+#[tactic(auto, unfolding(crate::specs::Divisions::signed_quotient))]
+fn divide_signed(alloc: Global, word: Word, x: Division) -> Result<Rewriting, Memory>
+    requires room { HasRoom x.next }
+    requires some { 1 < x.divisor }
+    requires half { x.divisor < 2 ^ (bits word - 1) }
+    ensures { IfOk result (λ r. r ≡ signed_quotient word x) }
+{
+    if x.top < word.half() {
+        return steps_of(alloc, &[Instr::Two(Kind::Divu.on(word), x.left, x.right)]);
+    }
+    match exponent_below(word, x.divisor) {
+        None => divide_by_no_power(alloc, word, x),
+        Some(places) => divide_power(alloc, word, x, places),
+    }
+}
+
+/// A signed remainder.
+#[tactic(auto, using(crate::proofs::Exponents::half_below), unfolding(crate::specs::Divisions::signed_remainder))]
+fn leave_signed(alloc: Global, word: Word, x: Division) -> Result<Rewriting, Memory>
+    requires room { HasRoom x.next }
+    requires some { 1 < x.divisor }
+    requires half { x.divisor < 2 ^ (bits word - 1) }
+    ensures { IfOk result (λ r. r ≡ signed_remainder word x) }
+{
+    if x.top < word.half() {
+        return steps_of(alloc, &[Instr::Two(Kind::Remu.on(word), x.left, x.right)]);
+    }
+    match exponent_below(word, x.divisor) {
+        None => leave_by_no_power(alloc, word, x),
+        Some(places) => leave_power(alloc, word, x, places),
+    }
+}
+
+/// What an operation becomes that is a division.
+#[tactic(auto, unfolding(crate::specs::Divisions::divided))]
+pub(crate) fn divide(
+    alloc: Global,
+    kind: Kind,
+    word: Word,
+    x: Division,
+) -> Result<Rewriting, Memory>
+    requires room { HasRoom x.next }
+    requires some { 1 < x.divisor }
+    requires half { x.divisor < 2 ^ (bits word - 1) }
+    ensures { IfOk result (λ r. r ≡ divided kind word x) }
+{
+    match kind {
+        Kind::Divu => divide_unsigned(alloc, word, x),
+        Kind::Remu => leave_unsigned(alloc, word, x),
+        Kind::Divs => divide_signed(alloc, word, x),
+        Kind::Rems => leave_signed(alloc, word, x),
+        Kind::Add
+        | Kind::Sub
+        | Kind::Mul
+        | Kind::And
+        | Kind::Or
+        | Kind::Xor
+        | Kind::Shl
+        | Kind::Shru
+        | Kind::Shrs
+        | Kind::Eq
+        | Kind::Ne
+        | Kind::Ltu
+        | Kind::Leu
+        | Kind::Lts
+        | Kind::Les => Ok(Rewriting::Kept),
     }
 }

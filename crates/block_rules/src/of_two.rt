@@ -197,7 +197,7 @@ fn value_if(test: bool, value: u32) -> Change
 
 /// The power of two, from 1 on, that a number is.
 #[tactic(auto, unfolding(crate::specs::TwoRules::exponent_of))]
-fn exponent(number: u64) -> Option<u64>
+pub(crate) fn exponent(number: u64) -> Option<u64>
     ensures { result ≡ exponent_of number }
 {
     let places = number.trailing_zeros();
