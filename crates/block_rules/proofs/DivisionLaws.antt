@@ -39,11 +39,7 @@ use Rattle.block_rules.proofs.Factors.{digits_are_few}
 use Rattle.block_rules.proofs.Lists.{AreSteps, steps_right}
 use Rattle.block_rules.proofs.DivisionSteps as made
 use Rattle.block_rules.proofs.DivisionSteps.{IsDivision}
-use Rattle.block_rules.proofs.Exponents.{exponent_law, places_below, half_below}
-
--- no power of two has no exponent
-no_power : (w : Word) (d : ℕ) → 1 < d → d < 2 ^ (bits w - 1) → exponent_of d ≡ None → ¬ IsPowerOfTwo d
-no_power w d some half e = ?
+use Rattle.block_rules.proofs.Exponents.{exponent_law, places_below, half_below, no_power}
 
 module _ (arrays : List Array) (ws : Shape) (vs : List ℕ) where
   -- an operation of the word on the two values, by the constant
@@ -83,7 +79,7 @@ module _ (arrays : List Array) (ws : Shape) (vs : List ℕ) where
       let is = wide_quotients_are_made x.top d s n some (half_below Word64 d r.half) r.top_below r.most e in
       let list : List Instr = Const 64 (reciprocal d s) ∷ Two Mul64 x.left m ∷ Const 64 s ∷ Two Shru64 (m + 1) (m + 2) ∷ [] in
       given 64 z (nat_lt (reciprocal d s) (2 ^ 32)) (Steps list) Kept
-        (λ t. steps_right arrays ws vs 64 z list r.long (made.wide_steps arrays ws vs x s r f.2 f.1.amount z is)) (λ t. tt)
+      (λ t. steps_right arrays ws vs 64 z list r.long (made.wide_steps arrays ws vs x s r f.2 f.1.amount z is)) (λ t. tt)
 
   rest_law : (k : Kind) (w : Word) (x : Division) (z : ℕ) → IsDivision ws vs w x → AreSteps arrays ws vs [] [] (bits w) z (by_quotient k w x) → AreRight arrays ws vs (by_quotient k w x) (bits w) z
   rest_law k w x z r h = steps_right arrays ws vs (bits w) z (by_quotient k w x) r.long h
@@ -118,14 +114,14 @@ module _ (arrays : List Array) (ws : Shape) (vs : List ℕ) where
   unsigned_law Word32 x r = unsigned32 x r (unsigned_amount x.top x.divisor) refl
   unsigned_law Word64 x r =
       given 64 (op2_result Divu64 (value_at vs x.left) x.divisor) (nat_lt x.top (2 ^ 32)) (quotient64 x (unsigned_amount x.top x.divisor)) Kept
-        (λ t. unsigned64 x r (unsigned_amount x.top x.divisor) refl) (λ t. tt)
+      (λ t. unsigned64 x r (unsigned_amount x.top x.divisor) refl) (λ t. tt)
 
   unsigned_rest_law : (w : Word) (x : Division) → IsDivision ws vs w x → IsRight arrays ws vs (bits w) (op2_result (operation Remu w) (value_at vs x.left) x.divisor) (unsigned_remainder w x)
   unfolding unsigned_remainder
   unsigned_rest_law Word32 x r = unsigned_rest32 x r
   unsigned_rest_law Word64 x r =
       given 64 (op2_result Remu64 (value_at vs x.left) x.divisor) (nat_lt x.top (2 ^ 32) && has_factor x.divisor (unsigned_amount x.top x.divisor)) (Steps (by_quotient Divu Word64 x)) Kept
-        (λ t. unsigned_rest64 x r) (λ t. tt)
+      (λ t. unsigned_rest64 x r) (λ t. tt)
 
   signed_quot32 : (x : Division) → IsDivision ws vs Word32 x → ¬ IsPowerOfTwo x.divisor → (o : Option ℕ) → signed_amount x.divisor ≡ o
       → IsRight arrays ws vs 32 (op2_result Divs32 (value_at vs x.left) x.divisor) (signed32 x o)
@@ -160,15 +156,15 @@ module _ (arrays : List Array) (ws : Shape) (vs : List ℕ) where
       let one_list : List Instr = (Const 32 31 ∷ Two Shru32 x.left x.next ∷ Two Add32 x.left (x.next + 1) ∷ Const 32 1 ∷ Two Shrs32 (x.next + 2) (x.next + 3) ∷ []) in
       let more_list : List Instr = (Const 32 31 ∷ Two Shrs32 x.left x.next ∷ Const 32 (32 - k) ∷ Two Shru32 (x.next + 1) (x.next + 2) ∷ Two Add32 x.left (x.next + 3) ∷ Const 32 k ∷ Two Shrs32 (x.next + 4) (x.next + 5) ∷ []) in
       cond_both (eqb k 1) one_list more_list (λ (t : List Instr). AreRight arrays ws vs t 32 z)
-        (λ t. let one : k ≡ 1 = eqb-true k 1 t in
-          let pick : cond (eqb k 1) n (op2_result Shrs32 n 31) ≡ n = cond-true (eqb k 1) n (op2_result Shrs32 n 31) t in
-          let same : op2_result Shrs32 (op2_result Add32 n (op2_result Shru32 n (32 - 1))) 1 ≡ z = (λ i. op2_result Shrs32 (op2_result Add32 n (op2_result Shru32 (sym pick i) (32 - sym one i))) sym one i) ∙ is in
-          steps_right arrays ws vs 32 z one_list r.long (made.quotient_two32 arrays ws vs x r z same))
-        (λ t. let other : ¬ (k ≡ 1) = λ q. eqb-false k 1 t q in
-          let many : 1 < k = omega (arith, other) in
-          let pick : cond (eqb k 1) n (op2_result Shrs32 n 31) ≡ op2_result Shrs32 n 31 = cond-false (eqb k 1) n (op2_result Shrs32 n 31) t in
-          let same : op2_result Shrs32 (op2_result Add32 n (op2_result Shru32 (op2_result Shrs32 n 31) (32 - k))) k ≡ z = (λ i. op2_result Shrs32 (op2_result Add32 n (op2_result Shru32 (sym pick i) (32 - k))) k) ∙ is in
-          steps_right arrays ws vs 32 z more_list r.long (made.quotient_power32 arrays ws vs x r k many (omega arith) z same))
+      (λ t. let one : k ≡ 1 = eqb-true k 1 t in
+      let pick : cond (eqb k 1) n (op2_result Shrs32 n 31) ≡ n = cond-true (eqb k 1) n (op2_result Shrs32 n 31) t in
+      let same : op2_result Shrs32 (op2_result Add32 n (op2_result Shru32 n (32 - 1))) 1 ≡ z = (λ i. op2_result Shrs32 (op2_result Add32 n (op2_result Shru32 (sym pick i) (32 - (sym one i)))) (sym one i)) ∙ is in
+      steps_right arrays ws vs 32 z one_list r.long (made.quotient_two32 arrays ws vs x r z same))
+      (λ t. let other : ¬ (k ≡ 1) = λ q. eqb-false k 1 t q in
+      let many : 1 < k = omega (arith, other) in
+      let pick : cond (eqb k 1) n (op2_result Shrs32 n 31) ≡ op2_result Shrs32 n 31 = cond-false (eqb k 1) n (op2_result Shrs32 n 31) t in
+      let same : op2_result Shrs32 (op2_result Add32 n (op2_result Shru32 (op2_result Shrs32 n 31) (32 - k))) k ≡ z = (λ i. op2_result Shrs32 (op2_result Add32 n (op2_result Shru32 (sym pick i) (32 - k))) k) ∙ is in
+      steps_right arrays ws vs 32 z more_list r.long (made.quotient_power32 arrays ws vs x r k many (omega arith) z same))
 
   power_rems32 : (x : Division) (k : ℕ) → IsDivision ws vs Word32 x → 0 < k → k < 31 → x.divisor ≡ 2 ^ k → AreRight arrays ws vs (power_remainder Word32 x k) 32 (op2_result Rems32 (value_at vs x.left) x.divisor)
   power_rems32 x k r low high e =
@@ -178,15 +174,15 @@ module _ (arrays : List Array) (ws : Shape) (vs : List ℕ) where
       let one_list : List Instr = (Const 32 31 ∷ Two Shru32 x.left x.next ∷ Two Add32 x.left (x.next + 1) ∷ Const 32 (2 ^ 32 - 2) ∷ Two And32 (x.next + 2) (x.next + 3) ∷ Two Sub32 x.left (x.next + 4) ∷ []) in
       let more_list : List Instr = (Const 32 31 ∷ Two Shrs32 x.left x.next ∷ Const 32 (32 - k) ∷ Two Shru32 (x.next + 1) (x.next + 2) ∷ Two Add32 x.left (x.next + 3) ∷ Const 32 (2 ^ 32 - x.divisor) ∷ Two And32 (x.next + 4) (x.next + 5) ∷ Two Sub32 x.left (x.next + 6) ∷ []) in
       cond_both (eqb k 1) one_list more_list (λ (t : List Instr). AreRight arrays ws vs t 32 z)
-        (λ t. let one : k ≡ 1 = eqb-true k 1 t in
-          let pick : cond (eqb k 1) n (op2_result Shrs32 n 31) ≡ n = cond-true (eqb k 1) n (op2_result Shrs32 n 31) t in
-          let same : op2_result Sub32 n (op2_result And32 (op2_result Add32 n (op2_result Shru32 n (32 - 1))) (2 ^ 32 - 2 ^ 1)) ≡ z = (λ i. op2_result Sub32 n (op2_result And32 (op2_result Add32 n (op2_result Shru32 (sym pick i) (32 - sym one i))) (2 ^ 32 - 2 ^ (sym one i)))) ∙ is in
-          steps_right arrays ws vs 32 z one_list r.long (made.rest_two32 arrays ws vs x r z same))
-        (λ t. let other : ¬ (k ≡ 1) = λ q. eqb-false k 1 t q in
-          let many : 1 < k = omega (arith, other) in
-          let pick : cond (eqb k 1) n (op2_result Shrs32 n 31) ≡ op2_result Shrs32 n 31 = cond-false (eqb k 1) n (op2_result Shrs32 n 31) t in
-          let same : op2_result Sub32 n (op2_result And32 (op2_result Add32 n (op2_result Shru32 (op2_result Shrs32 n 31) (32 - k))) (2 ^ 32 - x.divisor)) ≡ z = (λ i. op2_result Sub32 n (op2_result And32 (op2_result Add32 n (op2_result Shru32 (sym pick i) (32 - k))) (2 ^ 32 - e i))) ∙ is in
-          steps_right arrays ws vs 32 z more_list r.long (made.rest_power32 arrays ws vs x r k many (omega arith) z same))
+      (λ t. let one : k ≡ 1 = eqb-true k 1 t in
+      let pick : cond (eqb k 1) n (op2_result Shrs32 n 31) ≡ n = cond-true (eqb k 1) n (op2_result Shrs32 n 31) t in
+      let same : op2_result Sub32 n (op2_result And32 (op2_result Add32 n (op2_result Shru32 n (32 - 1))) (2 ^ 32 - 2 ^ 1)) ≡ z = (λ i. op2_result Sub32 n (op2_result And32 (op2_result Add32 n (op2_result Shru32 (sym pick i) (32 - (sym one i)))) (2 ^ 32 - 2 ^ (sym one i)))) ∙ is in
+      steps_right arrays ws vs 32 z one_list r.long (made.rest_two32 arrays ws vs x r z same))
+      (λ t. let other : ¬ (k ≡ 1) = λ q. eqb-false k 1 t q in
+      let many : 1 < k = omega (arith, other) in
+      let pick : cond (eqb k 1) n (op2_result Shrs32 n 31) ≡ op2_result Shrs32 n 31 = cond-false (eqb k 1) n (op2_result Shrs32 n 31) t in
+      let same : op2_result Sub32 n (op2_result And32 (op2_result Add32 n (op2_result Shru32 (op2_result Shrs32 n 31) (32 - k))) (2 ^ 32 - x.divisor)) ≡ z = (λ i. op2_result Sub32 n (op2_result And32 (op2_result Add32 n (op2_result Shru32 (sym pick i) (32 - k))) (2 ^ 32 - e i))) ∙ is in
+      steps_right arrays ws vs 32 z more_list r.long (made.rest_power32 arrays ws vs x r k many (omega arith) z same))
 
   power_divs64 : (x : Division) (k : ℕ) → IsDivision ws vs Word64 x → 0 < k → k < 63 → x.divisor ≡ 2 ^ k → AreRight arrays ws vs (power_quotient Word64 x k) 64 (op2_result Divs64 (value_at vs x.left) x.divisor)
   power_divs64 x k r low high e =
@@ -196,15 +192,15 @@ module _ (arrays : List Array) (ws : Shape) (vs : List ℕ) where
       let one_list : List Instr = (Const 64 63 ∷ Two Shru64 x.left x.next ∷ Two Add64 x.left (x.next + 1) ∷ Const 64 1 ∷ Two Shrs64 (x.next + 2) (x.next + 3) ∷ []) in
       let more_list : List Instr = (Const 64 63 ∷ Two Shrs64 x.left x.next ∷ Const 64 (64 - k) ∷ Two Shru64 (x.next + 1) (x.next + 2) ∷ Two Add64 x.left (x.next + 3) ∷ Const 64 k ∷ Two Shrs64 (x.next + 4) (x.next + 5) ∷ []) in
       cond_both (eqb k 1) one_list more_list (λ (t : List Instr). AreRight arrays ws vs t 64 z)
-        (λ t. let one : k ≡ 1 = eqb-true k 1 t in
-          let pick : cond (eqb k 1) n (op2_result Shrs64 n 63) ≡ n = cond-true (eqb k 1) n (op2_result Shrs64 n 63) t in
-          let same : op2_result Shrs64 (op2_result Add64 n (op2_result Shru64 n (64 - 1))) 1 ≡ z = (λ i. op2_result Shrs64 (op2_result Add64 n (op2_result Shru64 (sym pick i) (64 - sym one i))) sym one i) ∙ is in
-          steps_right arrays ws vs 64 z one_list r.long (made.quotient_two64 arrays ws vs x r z same))
-        (λ t. let other : ¬ (k ≡ 1) = λ q. eqb-false k 1 t q in
-          let many : 1 < k = omega (arith, other) in
-          let pick : cond (eqb k 1) n (op2_result Shrs64 n 63) ≡ op2_result Shrs64 n 63 = cond-false (eqb k 1) n (op2_result Shrs64 n 63) t in
-          let same : op2_result Shrs64 (op2_result Add64 n (op2_result Shru64 (op2_result Shrs64 n 63) (64 - k))) k ≡ z = (λ i. op2_result Shrs64 (op2_result Add64 n (op2_result Shru64 (sym pick i) (64 - k))) k) ∙ is in
-          steps_right arrays ws vs 64 z more_list r.long (made.quotient_power64 arrays ws vs x r k many (omega arith) z same))
+      (λ t. let one : k ≡ 1 = eqb-true k 1 t in
+      let pick : cond (eqb k 1) n (op2_result Shrs64 n 63) ≡ n = cond-true (eqb k 1) n (op2_result Shrs64 n 63) t in
+      let same : op2_result Shrs64 (op2_result Add64 n (op2_result Shru64 n (64 - 1))) 1 ≡ z = (λ i. op2_result Shrs64 (op2_result Add64 n (op2_result Shru64 (sym pick i) (64 - (sym one i)))) (sym one i)) ∙ is in
+      steps_right arrays ws vs 64 z one_list r.long (made.quotient_two64 arrays ws vs x r z same))
+      (λ t. let other : ¬ (k ≡ 1) = λ q. eqb-false k 1 t q in
+      let many : 1 < k = omega (arith, other) in
+      let pick : cond (eqb k 1) n (op2_result Shrs64 n 63) ≡ op2_result Shrs64 n 63 = cond-false (eqb k 1) n (op2_result Shrs64 n 63) t in
+      let same : op2_result Shrs64 (op2_result Add64 n (op2_result Shru64 (op2_result Shrs64 n 63) (64 - k))) k ≡ z = (λ i. op2_result Shrs64 (op2_result Add64 n (op2_result Shru64 (sym pick i) (64 - k))) k) ∙ is in
+      steps_right arrays ws vs 64 z more_list r.long (made.quotient_power64 arrays ws vs x r k many (omega arith) z same))
 
   power_rems64 : (x : Division) (k : ℕ) → IsDivision ws vs Word64 x → 0 < k → k < 63 → x.divisor ≡ 2 ^ k → AreRight arrays ws vs (power_remainder Word64 x k) 64 (op2_result Rems64 (value_at vs x.left) x.divisor)
   power_rems64 x k r low high e =
@@ -214,15 +210,15 @@ module _ (arrays : List Array) (ws : Shape) (vs : List ℕ) where
       let one_list : List Instr = (Const 64 63 ∷ Two Shru64 x.left x.next ∷ Two Add64 x.left (x.next + 1) ∷ Const 64 (2 ^ 64 - 2) ∷ Two And64 (x.next + 2) (x.next + 3) ∷ Two Sub64 x.left (x.next + 4) ∷ []) in
       let more_list : List Instr = (Const 64 63 ∷ Two Shrs64 x.left x.next ∷ Const 64 (64 - k) ∷ Two Shru64 (x.next + 1) (x.next + 2) ∷ Two Add64 x.left (x.next + 3) ∷ Const 64 (2 ^ 64 - x.divisor) ∷ Two And64 (x.next + 4) (x.next + 5) ∷ Two Sub64 x.left (x.next + 6) ∷ []) in
       cond_both (eqb k 1) one_list more_list (λ (t : List Instr). AreRight arrays ws vs t 64 z)
-        (λ t. let one : k ≡ 1 = eqb-true k 1 t in
-          let pick : cond (eqb k 1) n (op2_result Shrs64 n 63) ≡ n = cond-true (eqb k 1) n (op2_result Shrs64 n 63) t in
-          let same : op2_result Sub64 n (op2_result And64 (op2_result Add64 n (op2_result Shru64 n (64 - 1))) (2 ^ 64 - 2 ^ 1)) ≡ z = (λ i. op2_result Sub64 n (op2_result And64 (op2_result Add64 n (op2_result Shru64 (sym pick i) (64 - sym one i))) (2 ^ 64 - 2 ^ (sym one i)))) ∙ is in
-          steps_right arrays ws vs 64 z one_list r.long (made.rest_two64 arrays ws vs x r z same))
-        (λ t. let other : ¬ (k ≡ 1) = λ q. eqb-false k 1 t q in
-          let many : 1 < k = omega (arith, other) in
-          let pick : cond (eqb k 1) n (op2_result Shrs64 n 63) ≡ op2_result Shrs64 n 63 = cond-false (eqb k 1) n (op2_result Shrs64 n 63) t in
-          let same : op2_result Sub64 n (op2_result And64 (op2_result Add64 n (op2_result Shru64 (op2_result Shrs64 n 63) (64 - k))) (2 ^ 64 - x.divisor)) ≡ z = (λ i. op2_result Sub64 n (op2_result And64 (op2_result Add64 n (op2_result Shru64 (sym pick i) (64 - k))) (2 ^ 64 - e i))) ∙ is in
-          steps_right arrays ws vs 64 z more_list r.long (made.rest_power64 arrays ws vs x r k many (omega arith) z same))
+      (λ t. let one : k ≡ 1 = eqb-true k 1 t in
+      let pick : cond (eqb k 1) n (op2_result Shrs64 n 63) ≡ n = cond-true (eqb k 1) n (op2_result Shrs64 n 63) t in
+      let same : op2_result Sub64 n (op2_result And64 (op2_result Add64 n (op2_result Shru64 n (64 - 1))) (2 ^ 64 - 2 ^ 1)) ≡ z = (λ i. op2_result Sub64 n (op2_result And64 (op2_result Add64 n (op2_result Shru64 (sym pick i) (64 - (sym one i)))) (2 ^ 64 - 2 ^ (sym one i)))) ∙ is in
+      steps_right arrays ws vs 64 z one_list r.long (made.rest_two64 arrays ws vs x r z same))
+      (λ t. let other : ¬ (k ≡ 1) = λ q. eqb-false k 1 t q in
+      let many : 1 < k = omega (arith, other) in
+      let pick : cond (eqb k 1) n (op2_result Shrs64 n 63) ≡ op2_result Shrs64 n 63 = cond-false (eqb k 1) n (op2_result Shrs64 n 63) t in
+      let same : op2_result Sub64 n (op2_result And64 (op2_result Add64 n (op2_result Shru64 (op2_result Shrs64 n 63) (64 - k))) (2 ^ 64 - x.divisor)) ≡ z = (λ i. op2_result Sub64 n (op2_result And64 (op2_result Add64 n (op2_result Shru64 (sym pick i) (64 - k))) (2 ^ 64 - e i))) ∙ is in
+      steps_right arrays ws vs 64 z more_list r.long (made.rest_power64 arrays ws vs x r k many (omega arith) z same))
 
   power_law : (w : Word) (x : Division) (k : ℕ) → IsDivision ws vs w x → 0 < k → k < bits w - 1 → x.divisor ≡ 2 ^ k
       → AreRight arrays ws vs (power_quotient w x k) (bits w) (op2_result (operation Divs w) (value_at vs x.left) x.divisor)
@@ -261,25 +257,25 @@ module _ (arrays : List Array) (ws : Shape) (vs : List ℕ) where
       let is : kind_on k (bits w) n (value_at vs x.right) ≡ z = sym (operation-below k w n (value_at vs x.right) r.left.below less) ∙ on_divisor k w x r ∙ sym e in
       let s = two_step arrays ws vs k w x.left x.right z r.left.width r.right r.left.below less is in
       subst (λ (u : ℕ). AreRight arrays ws vs (Two (operation k w) x.left x.right ∷ []) u z) wide
-        (change_right arrays ws vs (width_out k (bits w)) z (Becomes (Two (operation k w) x.left x.right)) r.long s)
+      (change_right arrays ws vs (width_out k (bits w)) z (Becomes (Two (operation k w) x.left x.right)) r.long s)
 
   signed_law : (w : Word) (x : Division) → IsDivision ws vs w x → IsRight arrays ws vs (bits w) (op2_result (operation Divs w) (value_at vs x.left) x.divisor) (signed_quotient w x)
   unfolding signed_quotient
   signed_law w x r =
       let z = op2_result (operation Divs w) (value_at vs x.left) x.divisor in
       given (bits w) z (nat_lt x.top (2 ^ (bits w - 1))) (Steps (Two (operation Divu w) x.left x.right ∷ [])) (large_quotient w x (exponent_of x.divisor))
-        (λ t. let low : value_at vs x.left < 2 ^ (bits w - 1) = omega (arith, ltb-true x.top (2 ^ (bits w - 1)) t, r.most) in
-          plain Divu w x z r refl (same_quotient w (value_at vs x.left) x.divisor low r.half))
-        (λ t. large_law w x r (exponent_of x.divisor) refl)
+      (λ t. let low : value_at vs x.left < 2 ^ (bits w - 1) = omega (arith, ltb-true x.top (2 ^ (bits w - 1)) t, r.most) in
+      plain Divu w x z r refl (same_quotient w (value_at vs x.left) x.divisor low r.half))
+      (λ t. large_law w x r (exponent_of x.divisor) refl)
 
   signed_rest_law : (w : Word) (x : Division) → IsDivision ws vs w x → IsRight arrays ws vs (bits w) (op2_result (operation Rems w) (value_at vs x.left) x.divisor) (signed_remainder w x)
   unfolding signed_remainder
   signed_rest_law w x r =
       let z = op2_result (operation Rems w) (value_at vs x.left) x.divisor in
       given (bits w) z (nat_lt x.top (2 ^ (bits w - 1))) (Steps (Two (operation Remu w) x.left x.right ∷ [])) (large_remainder w x (exponent_of x.divisor))
-        (λ t. let low : value_at vs x.left < 2 ^ (bits w - 1) = omega (arith, ltb-true x.top (2 ^ (bits w - 1)) t, r.most) in
-          plain Remu w x z r refl (same_remainder w (value_at vs x.left) x.divisor low r.half))
-        (λ t. large_rest_law w x r (exponent_of x.divisor) refl)
+      (λ t. let low : value_at vs x.left < 2 ^ (bits w - 1) = omega (arith, ltb-true x.top (2 ^ (bits w - 1)) t, r.most) in
+      plain Remu w x z r refl (same_remainder w (value_at vs x.left) x.divisor low r.half))
+      (λ t. large_rest_law w x r (exponent_of x.divisor) refl)
 
   pub divided_law : (k : Kind) (w : Word) (x : Division) → IsDivision ws vs w x → IsRight arrays ws vs (width_out k (bits w)) (op2_result (operation k w) (value_at vs x.left) x.divisor) (divided k w x)
   unfolding divided

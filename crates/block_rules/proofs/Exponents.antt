@@ -1,11 +1,12 @@
 -- The power of two that a divisor is.
-use Rattle.std.proofs.Common.{◌≡◌, ℕ, ◌-◌, ◌^◌, ◌<◌, ◌≤◌, Option, Some, eqb, refl, ◌∙◌, ap, subst, inl, inr, arith}
+use Rattle.std.proofs.Common.{◌≡◌, ℕ, zero, suc, ◌-◌, ◌^◌, ◌<◌, ◌≤◌, Option, Some, None, eqb, refl, sym, ◌∙◌, ap, subst, inl, inr, arith}
 use Rattle.std.specs.Prelude.{nat_lt, ◌&&◌}
-use Rattle.std.specs.Int.{trailing_zeros, w64}
-use Rattle.std.proofs.lemmas.Bool.{and_parts, cases_lt}
-use Rattle.std.proofs.lemmas.Option.{cond_some}
+use Rattle.std.specs.Int.{trailing_zeros, w64, bit_at, IsPowerOfTwo}
+use Rattle.std.proofs.lemmas.Bool.{and_parts, and_from, cases_lt, cond-true}
+use Rattle.std.proofs.lemmas.Nat.Bits.{bit_at-trailing_zeros, bit_at-pow_other}
+use Rattle.std.proofs.lemmas.Option.{cond_some, none-some}
 use Rattle.std.proofs.Math.Pow.{pow_mono}
-use borrow.Author.Tests.{eqb-true, ltb-true}
+use borrow.Author.Tests.{eqb-true, ltb-true, lt-ltb, eq-eqb}
 use Rattle.block_rules.specs.declared.kind.Word.{Word}
 use Rattle.block_rules.specs.declared.kind.Word.TheVariants.{Word32, Word64}
 use Rattle.block_rules.specs.Kinds.{bits}
@@ -43,3 +44,27 @@ places_below w y k e h = less_places (bits w - 1) k (subst (λ (z : ℕ). z < 2 
 
 pub places_are_few : (w : Word) (y k : ℕ) → exponent_of y ≡ Some k → y < 2 ^ (bits w - 1) → k < bits w
 places_are_few w y k e h = omega (arith, places_below w y k e h)
+
+positive : (j : ℕ) → 1 < 2 ^ j → 0 < j
+positive zero h = absurd (omega arith)
+positive (suc j) h = omega arith
+
+word_below : (w : Word) (d : ℕ) → d < 2 ^ (bits w - 1) → d < 2 ^ 64
+word_below Word32 d h = omega arith
+word_below Word64 d h = omega arith
+
+-- a number without exponent is no power of two
+pub no_power : (w : Word) (d : ℕ) → 1 < d → d < 2 ^ (bits w - 1) → exponent_of d ≡ None → ¬ IsPowerOfTwo d
+unfolding exponent_of
+no_power w d some half e p =
+    let k = p.0 in
+    let j = trailing_zeros w64 d in
+    let t = bit_at-trailing_zeros w64 d (omega arith) (word_below w d half) in
+    let same : j ≡ k → ⊥ = λ q.
+    let is : d ≡ 2 ^ j = p.1 ∙ ap (λ (i : ℕ). 2 ^ i) (sym q) in
+    let low : 0 < j = positive j (subst (λ (z : ℕ). 1 < z) is some) in
+    let both = and_from (nat_lt 0 j) (nat_lt j 64) (lt-ltb 0 j low) (lt-ltb j 64 t.0) in
+    let yes = and_from (nat_lt 0 j && nat_lt j 64) (eqb d (2 ^ j)) both (eq-eqb d (2 ^ j) is) in
+    none-some j (sym e ∙ cond-true ((nat_lt 0 j && nat_lt j 64) && eqb d (2 ^ j)) (Some j) None yes) in
+    let no : bit_at (2 ^ k) j ≡ 0 = bit_at-pow_other k j same in
+    omega (arith, t.1, ap (λ (z : ℕ). bit_at z j) p.1, no)

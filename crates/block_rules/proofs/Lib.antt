@@ -14,3 +14,4 @@ pub mod Lists
 pub mod DivisionSteps
 pub mod Exponents
 pub mod DivisionLaws
+pub mod DivisionRight

@@ -105,7 +105,7 @@ pub record IsUpTo (w a x : ℕ) : Type 0 where
   pub most : a ≤ narrowed w x
   pub below : narrowed w x < 2 ^ w
 
-up_to : (w a x : ℕ) → IsWidth w → a ≤ x → a < 2 ^ w → IsUpTo w a x
+pub up_to : (w a x : ℕ) → IsWidth w → a ≤ x → a < 2 ^ w → IsUpTo w a x
 up_to w a x h le lt =
     let e = narrowed-at w x h in
     record { most = omega (arith, e); below = omega (arith, e) }

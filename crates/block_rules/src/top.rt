@@ -131,7 +131,7 @@ fn greatest_by_constant(op: Op2, x: u64, c: u64) -> u64
 
 /// No more than the greatest pattern of that width.
 #[tactic(auto, unfolding(crate::specs::Tops::narrowed))]
-fn narrow(width: u32, x: u64) -> u64
+pub(crate) fn narrow(width: u32, x: u64) -> u64
     ensures { result ≡ narrowed width x }
 {
     if width == 8 {

@@ -1,4 +1,3 @@
-use Rattle.block_rules.proofs.DivisionSteps.{short_steps}
 use Rattle.block_rules.proofs.TopLaw.{top_law}
 use Rattle.block_rules.proofs.laws.values_are_bounded.Goals as goal
 
