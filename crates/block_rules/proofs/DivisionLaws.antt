@@ -1,24 +1,24 @@
 -- What a division by a constant becomes is right.
-use Rattle.std.proofs.Common.{◌≡◌, ℕ, zero, suc, ◌+◌, ◌-◌, ◌%◌, ◌^◌, ◌<◌, ◌≤◌, Bool, true, false, cond, List, [], ◌∷◌, ◌++◌, length, Option, Some, None, refl, sym, ◌∙◌, ap, subst, eqb, ltb, leb, inl, inr, arith}
-use Rattle.std.specs.Prelude.{nat_lt, not, ◌&&◌}
-use Rattle.std.specs.Int.{IsPowerOfTwo, is_power_of_two}
+use Rattle.std.proofs.Common.{◌≡◌, ℕ, ◌+◌, ◌-◌, ◌^◌, ◌<◌, Bool, true, false, cond, List, [], ◌∷◌, Option, Some, None, refl, sym, ◌∙◌, ap, subst, eqb, arith}
+use Rattle.std.specs.Prelude.{nat_lt, ◌&&◌}
+use Rattle.std.specs.Int.{IsPowerOfTwo}
 use Rattle.std.proofs.lemmas.Option.{same_Some}
-use Rattle.std.proofs.lemmas.Bool.{and_parts, cond_both, cond-true, cond-false}
+use Rattle.std.proofs.lemmas.Bool.{cond_both, cond-true, cond-false}
 use borrow.Author.Tests.{ltb-true, eqb-true, eqb-false}
 use Rattle.el_base.specs.declared.ty.Array.{Array}
-use Rattle.el_base.specs.declared.operation.Op1.TheVariants.{S32to64, U32to64, Cut64to32}
+use Rattle.el_base.specs.declared.operation.Op1.TheVariants.{S32to64, Cut64to32}
 use Rattle.el_base.specs.declared.operation.Op2.TheVariants.{Add32, Add64, Sub32, Sub64, Mul32, Mul64, And32, And64, Shru32, Shru64, Shrs32, Shrs64, Divu32, Divu64, Remu32, Remu64, Divs32, Divs64, Rems32, Rems64}
-use Rattle.word_ops.specs.Operations.{op1_result, op2_result}
-use Rattle.word_rules.specs.Magic.{reciprocal, binary_digits}
+use Rattle.word_ops.specs.Operations.{op2_result}
+use Rattle.word_rules.specs.Magic.{reciprocal}
 use Rattle.word_rules.specs.Amounts.{quotient_with, unsigned_amount, signed_amount}
-use Rattle.word_rules.specs.Quotients.{shifted_product32, shifted_product64, shifted_long_product, shifted_signed_product, biased32, biased64, LeavesByQuotient}
+use Rattle.word_rules.specs.Quotients.{biased32, biased64}
 use Rattle.word_rules.proofs.LeastAmounts.{unsigned_amounts_serve, unsigned_quotients_are_made, wide_quotients_are_made, signed_amounts_serve, signed_quotients_are_made}
 use Rattle.word_rules.proofs.Powers.{divs32, divs64, rems32, rems64}
 use Rattle.word_rules.proofs.Signs.{same_divs32, same_divs64, same_rems32, same_rems64, left_remu32, left_remu64, left_rems32}
 use Rattle.word_rules.proofs.Reciprocals.{reciprocals_fit_words}
 use Rattle.ir.specs.declared.instr.Instr.{Instr}
 use Rattle.ir.specs.declared.instr.Instr.TheVariants.{Const, One, Two}
-use Rattle.ir.specs.Shapes.{Shape, IsOfWidth}
+use Rattle.ir.specs.Shapes.{Shape}
 use Rattle.ir.specs.Steps.{value_at}
 use Rattle.block_rules.specs.declared.division.Division.{Division}
 use Rattle.block_rules.specs.declared.kind.Kind.{Kind}
@@ -31,11 +31,9 @@ use Rattle.block_rules.specs.TwoRules.{exponent_of}
 use Rattle.block_rules.specs.Laws.{AreRight, IsRight}
 use Rattle.block_rules.specs.declared.rewriting.Rewriting.{Rewriting}
 use Rattle.block_rules.specs.declared.rewriting.Rewriting.TheVariants.{Kept, Steps}
-use Rattle.block_rules.proofs.Operations.{kind_on, width_out, result-below, operation-below, result-operation}
+use Rattle.block_rules.proofs.Operations.{kind_on, width_out, operation-below}
 use Rattle.block_rules.proofs.Changed.{two_step, change_right}
 use Rattle.block_rules.specs.declared.change.Change.TheVariants.{Becomes}
-use Rattle.block_rules.proofs.TwoLaws.{IsOperand}
-use Rattle.block_rules.proofs.Factors.{digits_are_few}
 use Rattle.block_rules.proofs.Lists.{AreSteps, steps_right}
 use Rattle.block_rules.proofs.DivisionSteps as made
 use Rattle.block_rules.proofs.DivisionSteps.{IsDivision}

@@ -1,5 +1,5 @@
 -- What a division by a constant becomes is right in its block.
-use Rattle.std.proofs.Common.{◌≡◌, ℕ, ◌+◌, ◌-◌, ◌^◌, ◌<◌, Bool, true, cond, List, length, Option, Some, None, refl, sym, ◌∙◌, ap, subst}
+use Rattle.std.proofs.Common.{◌≡◌, ℕ, ◌+◌, ◌-◌, ◌^◌, List, length, Option, Some, None, refl, sym, ◌∙◌, ap, subst}
 use Rattle.std.specs.Prelude.{nat_lt, ◌&&◌}
 use Rattle.std.proofs.lemmas.Bool.{cond_both, and_parts}
 use Rattle.std.proofs.lemmas.Option.{same_Some}
@@ -18,7 +18,7 @@ use Rattle.block_rules.specs.declared.change.Change.TheVariants.{Stays, Is, Beco
 use Rattle.block_rules.specs.declared.division.Division.{Division}
 use Rattle.block_rules.specs.declared.rewriting.Rewriting.{Rewriting}
 use Rattle.block_rules.specs.declared.rewriting.Rewriting.TheVariants.{Kept}
-use Rattle.block_rules.specs.Known.{IsPure, pure_value, AreValues}
+use Rattle.block_rules.specs.Known.{pure_value, AreValues}
 use Rattle.block_rules.specs.Kinds.{bits, word_of, kind_of, operation, is_division}
 use Rattle.block_rules.specs.Reading.{const_at}
 use Rattle.block_rules.specs.Changes.{rewriting_of}

@@ -1,5 +1,5 @@
 -- The power of two that a divisor is.
-use Rattle.std.proofs.Common.{◌≡◌, ℕ, zero, suc, ◌-◌, ◌^◌, ◌<◌, ◌≤◌, Option, Some, None, eqb, refl, sym, ◌∙◌, ap, subst, inl, inr, arith}
+use Rattle.std.proofs.Common.{◌≡◌, ℕ, zero, suc, ◌-◌, ◌^◌, ◌<◌, ◌≤◌, Some, None, eqb, sym, ◌∙◌, ap, subst, inl, inr, arith}
 use Rattle.std.specs.Prelude.{nat_lt, ◌&&◌}
 use Rattle.std.specs.Int.{trailing_zeros, w64, bit_at, IsPowerOfTwo}
 use Rattle.std.proofs.lemmas.Bool.{and_parts, and_from, cases_lt, cond-true}

@@ -1,5 +1,5 @@
 -- Steps in a row, each with its width and value, are right where the last has those of a step.
-use Rattle.std.proofs.Common.{◌≡◌, ℕ, zero, suc, ◌+◌, ◌^◌, ◌<◌, List, [], ◌∷◌, ◌++◌, length, Option, Some, None, get_or, refl, sym, ◌∙◌, ap, subst, append_assoc, append-nil, arith, length-append}
+use Rattle.std.proofs.Common.{◌≡◌, ℕ, zero, suc, ◌+◌, ◌^◌, ◌<◌, List, [], ◌∷◌, ◌++◌, length, Option, Some, get_or, refl, sym, ◌∙◌, ap, subst, append_assoc, append-nil, arith, length-append}
 use Rattle.std.specs.Prelude.{slice_get}
 use Rattle.std.proofs.lemmas.Option.{slice_get_within}
 use Rattle.std.proofs.lemmas.List.{get_or-append-add}
@@ -12,7 +12,7 @@ use Rattle.word_ops.specs.Operations.{op1_result, op2_result}
 use Rattle.ir.specs.declared.instr.Instr.{Instr}
 use Rattle.ir.specs.declared.instr.Instr.TheVariants.{Const, One, Two, Select, Load, Store}
 use Rattle.ir.specs.Shapes.{Shape, IsOfWidth, IsWidth, StepFits, step_width, shape_after}
-use Rattle.ir.specs.Steps.{Work, value_at, step_value, after_step, beginning, through}
+use Rattle.ir.specs.Steps.{Work, value_at, after_step, beginning, through}
 use Rattle.block_rules.specs.declared.change.Change.TheVariants.{Becomes}
 use Rattle.block_rules.specs.Known.{IsPure, pure_value}
 use Rattle.block_rules.specs.Laws.{AreRight}

@@ -1,23 +1,22 @@
 -- No value is greater than what its steps tell.
-use Rattle.std.proofs.Common.{◌≡◌, ℕ, zero, suc, ◌+◌, ◌-◌, ◌%◌, ◌^◌, ◌<◌, ◌≤◌, ◌⊎◌, Bool, true, false, cond, List, [], ◌∷◌, ◌++◌, length, Option, Some, None, refl, sym, ◌∙◌, ap, subst, eqb, ltb, leb, inl, inr, arith}
-use Rattle.std.specs.Prelude.{slice_get, min, max}
+use Rattle.std.proofs.Common.{◌≡◌, ℕ, zero, suc, ◌-◌, ◌^◌, ◌<◌, ◌≤◌, List, Option, Some, None, refl, sym, subst, eqb, inl, inr, arith}
+use Rattle.std.specs.Prelude.{min, max}
 use Rattle.std.proofs.lemmas.Bool.{cond_both}
 use Rattle.std.proofs.Math.Pow.{pow_mono}
-use borrow.Author.Tests.{eqb-true}
 use Rattle.el_base.specs.declared.ty.Array.{Array}
 use Rattle.el_base.specs.declared.operation.Op1.{Op1}
 use Rattle.el_base.specs.declared.operation.Op1.TheVariants.{Neg32, Neg64, Not32, Not64, Zero32, Zero64, S8to16, S8to32, S8to64, S16to32, S16to64, S32to64, U8to16, U8to32, U8to64, U16to32, U16to64, U32to64, Cut16to8, Cut32to8, Cut32to16, Cut64to8, Cut64to16, Cut64to32}
 use Rattle.el_base.specs.declared.operation.Op2.{Op2}
 use Rattle.el_base.specs.declared.operation.Op2.TheVariants.{Add32, Add64, Sub32, Sub64, Mul32, Mul64, And32, And64, Or32, Or64, Xor32, Xor64, Shl32, Shl64, Shru32, Shru64, Shrs32, Shrs64, Divu32, Divu64, Remu32, Remu64, Divs32, Divs64, Rems32, Rems64, Eq32, Eq64, Ne32, Ne64, Ltu32, Ltu64, Leu32, Leu64, Lts32, Lts64, Les32, Les64}
 use Rattle.el_base.specs.Widths.{op1_in, op2_in}
-use Rattle.word_ops.specs.Operations.{op1_result, op2_result}
+use Rattle.word_ops.specs.Operations.{op2_result}
 use Rattle.word_rules.specs.Bounds.{greatest1, greatest2, greatest_by}
 use Rattle.word_rules.proofs.Greatest.{bounded1, bounded2, bounded_by}
 use Rattle.ir.specs.declared.instr.Instr.{Instr}
 use Rattle.ir.specs.declared.instr.Instr.TheVariants.{Const, One, Two, Select, Load, Store}
 use Rattle.ir.specs.Shapes.{Shape, IsOfWidth, IsWidth}
-use Rattle.ir.specs.Steps.{value_at, chosen_of}
-use Rattle.block_rules.specs.Known.{AreValues, pure_value}
+use Rattle.ir.specs.Steps.{value_at}
+use Rattle.block_rules.specs.Known.{AreValues}
 use Rattle.block_rules.specs.Reading.{step_at, const_at}
 use Rattle.block_rules.specs.Tops.{any_top, narrowed, top_of_two, top_of, top_within}
 use Rattle.block_rules.proofs.Facts.{below, made, constant}

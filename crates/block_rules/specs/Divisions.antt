@@ -1,13 +1,11 @@
 -- What a division by a constant becomes: products, shifts, sums and masks. Its steps are numbered from the next value of the block on.
-use Rattle.std.specs.Prelude.{ℕ, ◌+◌, ◌-◌, ◌^◌, ◌<◌, ◌==◌, nat_lt, ◌&&◌, if◌then◌else◌, Bool, true, false, List, [], ◌∷◌, length, Option, Some, None}
+use Rattle.std.specs.Prelude.{ℕ, ◌+◌, ◌-◌, ◌^◌, ◌<◌, ◌==◌, nat_lt, ◌&&◌, if◌then◌else◌, Bool, false, List, [], ◌∷◌, Option, Some, None}
 use Rattle.el_base.specs.declared.operation.Op1.TheVariants.{S32to64, U32to64, Cut64to32}
-use Rattle.el_base.specs.declared.operation.Op2.{Op2}
 use Rattle.el_base.specs.declared.operation.Op2.TheVariants.{Add64, Sub32, Mul64, Shru64, Shrs32, Shrs64}
-use Rattle.el_base.specs.Widths.{op2_in}
 use Rattle.word_rules.specs.Magic.{reciprocal, binary_digits}
 use Rattle.word_rules.specs.Amounts.{unsigned_amount, signed_amount}
 use Rattle.ir.specs.declared.instr.Instr.{Instr}
-use Rattle.ir.specs.declared.instr.Instr.TheVariants.{Const, One, Two, Select, Load, Store}
+use Rattle.ir.specs.declared.instr.Instr.TheVariants.{Const, One, Two}
 use Rattle.block_rules.specs.declared.kind.Kind.{Kind}
 use Rattle.block_rules.specs.declared.kind.Kind.TheVariants.{Add, Sub, Mul, And, Or, Xor, Shl, Shru, Shrs, Divu, Remu, Divs, Rems, Eq, Ne, Ltu, Leu, Lts, Les}
 use Rattle.block_rules.specs.declared.kind.Word.{Word}
@@ -15,10 +13,8 @@ use Rattle.block_rules.specs.declared.kind.Word.TheVariants.{Word32, Word64}
 use Rattle.block_rules.specs.declared.division.Division.{Division}
 use Rattle.block_rules.specs.declared.rewriting.Rewriting.{Rewriting}
 use Rattle.block_rules.specs.declared.rewriting.Rewriting.TheVariants.{Kept, Steps}
-use Rattle.block_rules.specs.Kinds.{bits, word_of, kind_of, operation}
-use Rattle.block_rules.specs.Reading.{const_at}
+use Rattle.block_rules.specs.Kinds.{bits, operation}
 use Rattle.block_rules.specs.TwoRules.{exponent_of}
-use Rattle.block_rules.specs.Tops.{narrowed, top_within}
 
 -- so many values more can be numbered
 abbrev pub HasRoom : ℕ → Type 0

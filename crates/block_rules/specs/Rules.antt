@@ -7,7 +7,6 @@ use Rattle.block_rules.specs.declared.change.Change.{Change}
 use Rattle.block_rules.specs.declared.change.Change.TheVariants.{Stays, Is, Becomes, BecomesTwo}
 use Rattle.block_rules.specs.declared.rewriting.Rewriting.{Rewriting}
 use Rattle.block_rules.specs.declared.rewriting.Rewriting.TheVariants.{Kept}
-use Rattle.block_rules.specs.declared.division.Division.{Division}
 use Rattle.el_base.specs.Widths.{op2_in}
 use Rattle.block_rules.specs.Kinds.{bits, word_of, kind_of, is_division}
 use Rattle.block_rules.specs.Tops.{narrowed, top_within}

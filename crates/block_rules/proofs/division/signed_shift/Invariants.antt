@@ -1,6 +1,6 @@
 use Rattle.std.proofs.Common.{◌≡◌, ◌-◌}
 use Rattle.std.specs.List.{find, range_with_len}
-use Rattle.word_rules.specs.Amounts.{serves, serves_signed}
+use Rattle.word_rules.specs.Amounts.{serves_signed}
 use Rattle.block_rules.proofs.division.signed_shift.Given as goal
 
 abbrev pub invariant-loop-amount : goal.invariant-loop-amount
