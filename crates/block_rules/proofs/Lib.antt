@@ -7,3 +7,11 @@ pub mod TwoLaws
 pub mod OneLaws
 pub mod ConditionLaws
 pub mod SelectLaws
+pub mod TopSteps
+pub mod TopLaw
+pub mod Factors
+pub mod Lists
+pub mod DivisionSteps
+pub mod Exponents
+pub mod DivisionLaws
+pub mod DivisionRight

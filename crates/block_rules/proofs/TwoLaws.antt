@@ -1,11 +1,9 @@
 -- What an operation on two values becomes has its value.
-use Rattle.std.proofs.Common.{◌≡◌, ℕ, ◌-◌, ◌%◌, ◌^◌, ◌<◌, ◌≤◌, Bool, true, false, cond, List, length, Option, Some, None, refl, sym, ◌∙◌, ap, subst, eqb, ltb, leb, inl, inr, arith}
-use Rattle.std.specs.Prelude.{pos, ◌==◌, nat_lt, not, ◌&&◌, bit_and, bit_or, bit_xor}
-use Rattle.std.specs.Int.{from_bool, trailing_zeros, w64}
-use Rattle.std.proofs.lemmas.Bool.{false≢true, cond_both, and_parts, cases_lt}
-use Rattle.std.proofs.lemmas.Option.{cond_some}
+use Rattle.std.proofs.Common.{◌≡◌, ℕ, ◌-◌, ◌%◌, ◌^◌, ◌<◌, Bool, true, false, cond, List, length, Option, Some, None, refl, sym, ◌∙◌, ap, subst, eqb, ltb, leb, arith}
+use Rattle.std.specs.Prelude.{pos, ◌==◌, not, ◌&&◌, bit_and, bit_or, bit_xor}
+use Rattle.std.specs.Int.{from_bool}
+use Rattle.std.proofs.lemmas.Bool.{false≢true, cond_both, and_parts}
 use Rattle.std.proofs.lemmas.Nat.{pow_pos, and_comm, or_comm, xor_comm}
-use Rattle.std.proofs.Math.Pow.{pow_mono}
 use Rattle.std.proofs.Math.IntN.{+ℤ_comm, *ℤ_comm}
 use borrow.Author.Tests.{eqb-true}
 use Rattle.el_base.specs.declared.ty.Array.{Array}
@@ -27,6 +25,7 @@ use Rattle.block_rules.specs.Kinds.{bits, word_of, kind_of, negative_on, flip_on
 use Rattle.block_rules.specs.TwoRules.{of_equal, by_left, exponent_of, product_by, quotient_by, remainder_by, by_right, by_none, by_constants}
 use Rattle.block_rules.proofs.Operations.{kind_on, width_out, in-word, op2-width, word-width, negative-result, negative-in, negative-out, flip-result, flip-in, flip-out, zero-test, zero-in, zero-32, result-below, result-out}
 use Rattle.block_rules.proofs.Identities.{sum-zero, difference-zero, zero-difference, difference-self, product-zero, product-one, product-power, and-ones, and-one, or-ones, xor-ones32, xor-ones64, left_shift-zero, right_shift-zero, signed_shift-zero, quotient-one, remainder-one, signed_quotient-one, signed_remainder-one, quotient-power, remainder-power, eqb-swap, eqb-self, ltb-self, leb-self, int_lt-self, int_le-self, bit-equal_one, bit-unequal_zero, bit-unequal_one}
+use Rattle.block_rules.proofs.Exponents.{less_places, exponent_law}
 use Rattle.block_rules.proofs.Facts.{IsConstant, IsBit}
 use Rattle.block_rules.proofs.Changed.{IsStep, IsChange, const_step, one_step, by_new}
 use Rattle.std.specs.Int.Bits.{and_zero_r, or_zero_r, xor_zero_r, and_self, or_self, xor_self}
@@ -55,24 +54,15 @@ xor_ones Word64 x h = xor-ones64 x h
 
 -- ---- the power of two that a number is
 
-pub record IsPower (w : Word) (y k : ℕ) : Type 0 where
-  pub is : y ≡ 2 ^ k
-  pub places : k < bits w
-
-less_places : (w k : ℕ) → 2 ^ k < 2 ^ w → k < w
-less_places w k h = elim (cases_lt k w) [
-  | inl lt ↦ lt
-  | inr ge ↦ let le : 2 ^ w ≤ 2 ^ k = pow_mono {i = w} {j = k} ge in absurd (omega arith)
-]
+-- y is 2 ^ k, with fewer places than the word
+record IsPower (w : Word) (y k : ℕ) : Type 0 where
+  is : y ≡ 2 ^ k
+  places : k < bits w
 
 power : (w : Word) (y k : ℕ) → y < 2 ^ bits w → exponent_of y ≡ Some k → IsPower w y k
-unfolding exponent_of
 power w y k h e =
-    let j = trailing_zeros w64 y in
-    let p = cond_some ((nat_lt 0 j && nat_lt j 64) && eqb y (2 ^ j)) j k e in
-    let q = and_parts (nat_lt 0 j && nat_lt j 64) (eqb y (2 ^ j)) p.0 in
-    let is : y ≡ 2 ^ k = eqb-true y (2 ^ j) q.1 ∙ ap (λ (i : ℕ). 2 ^ i) p.1 in
-    record { is = is; places = less_places (bits w) k (subst (λ (z : ℕ). z < 2 ^ bits w) is h) }
+    let p = exponent_law y k e in
+    record { is = p.is; places = less_places (bits w) k (subst (λ (z : ℕ). z < 2 ^ bits w) p.is h) }
 
 -- ---- of two values of a word's width
 

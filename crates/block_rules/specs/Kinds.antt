@@ -202,3 +202,25 @@ is_unequal Ltu = false
 is_unequal Leu = false
 is_unequal Lts = false
 is_unequal Les = false
+
+-- whether it divides
+abbrev pub is_division : Kind → Bool
+is_division Add = false
+is_division Sub = false
+is_division Mul = false
+is_division And = false
+is_division Or = false
+is_division Xor = false
+is_division Shl = false
+is_division Shru = false
+is_division Shrs = false
+is_division Divu = true
+is_division Remu = true
+is_division Divs = true
+is_division Rems = true
+is_division Eq = false
+is_division Ne = false
+is_division Ltu = false
+is_division Leu = false
+is_division Lts = false
+is_division Les = false

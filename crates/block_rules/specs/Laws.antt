@@ -1,13 +1,14 @@
 -- The law of the rules: what a step becomes has the step's width and value.
-use Rattle.std.specs.Prelude.{◌≡◌, ℕ, suc, ◌+◌, List, [], length, All, Some, ◌==◌, not, cond}
+use Rattle.std.specs.Prelude.{◌≡◌, ℕ, suc, ◌+◌, ◌≤◌, List, [], length, All, Some, ◌==◌, not, cond}
 use Rattle.el_base.specs.declared.ty.Array.{Array}
 use Rattle.ir.specs.declared.instr.Instr.{Instr}
-use Rattle.ir.specs.Shapes.{Shape, IsOfWidth, StepFits, StepsFit, step_width, shape_after}
+use Rattle.ir.specs.Shapes.{Shape, IsWidth, IsOfWidth, StepFits, StepsFit, step_width, shape_after}
 use Rattle.ir.specs.Steps.{value_at, through, beginning}
 use Rattle.block_rules.specs.declared.rewriting.Rewriting.{Rewriting}
 use Rattle.block_rules.specs.declared.rewriting.Rewriting.TheVariants.{Kept, Value, Steps}
 use Rattle.block_rules.specs.declared.rewriting.Condition.{Condition}
 use Rattle.block_rules.specs.Known.{IsPure, pure_value, AreValues}
+use Rattle.block_rules.specs.Tops.{top_within}
 use Rattle.block_rules.specs.Rules.{rewritten, stripped}
 
 -- these steps are pure, fit behind the shape, and their last value is x of width w
@@ -37,3 +38,8 @@ pub record DecidesAlike (ws : Shape) (vs : List ℕ) (c : ℕ) (d : Condition) :
 abbrev pub ConditionsAreRight : Type 0
 ConditionsAreRight = (arrays : List Array) (n : ℕ) (steps : List Instr) (ws : Shape) (vs : List ℕ) (c : ℕ) → AreValues arrays n steps ws vs
     → IsOfWidth ws c 32 → DecidesAlike ws vs c (stripped n steps c)
+
+-- no value is greater than what the steps before it tell
+abbrev pub ValuesAreBounded : Type 0
+ValuesAreBounded = (arrays : List Array) (n : ℕ) (steps : List Instr) (ws : Shape) (vs : List ℕ) → AreValues arrays n steps ws vs
+    → (k v w : ℕ) → IsWidth w → IsOfWidth ws v w → value_at vs v ≤ top_within k n steps v

@@ -6,5 +6,7 @@ pub mod Conditions
 pub mod OneRules
 pub mod TwoRules
 pub mod SelectRules
+pub mod Tops
+pub mod Divisions
 pub mod Rules
 pub mod Laws

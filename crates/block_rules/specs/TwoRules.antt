@@ -77,14 +77,33 @@ abbrev pub remainder_by : Word → ℕ → ℕ → ℕ → Option ℕ → Change
 remainder_by w m a y None = Stays
 remainder_by w m a y (Some k) = BecomesTwo (Const (bits w) (y - 1)) (Two (operation And w) a m)
 
+-- products, bitwise operations, and comparisons for equality, of a test's value where t
+abbrev pub multiplied_by : Word → ℕ → ℕ → ℕ → ℕ → Change
+multiplied_by w m a b y = if y == 0 then Is b else (if y == 1 then Is a else product_by w m a (exponent_of y))
+
+abbrev pub masked_by : Word → ℕ → ℕ → ℕ → Bool → Change
+masked_by w a b y t = if y == 0 then Is b else (if y == 2 ^ bits w - 1 then Is a else (if t && y == 1 then Is a else Stays))
+
+abbrev pub joined_by : Word → ℕ → ℕ → ℕ → Change
+joined_by w a b y = if y == 0 then Is a else (if y == 2 ^ bits w - 1 then Is b else Stays)
+
+abbrev pub flipped_by : Word → ℕ → ℕ → Change
+flipped_by w a y = if y == 0 then Is a else (if y == 2 ^ bits w - 1 then Becomes (One (flip_on w) a) else Stays)
+
+abbrev pub compared_by : Word → ℕ → ℕ → Bool → Change
+compared_by w a y t = if y == 0 then Becomes (One (zero_on w) a) else (if t && y == 1 then Is a else Stays)
+
+abbrev pub distinguished_by : Word → ℕ → ℕ → Bool → Change
+distinguished_by w a y t = if t && y == 0 then Is a else (if t && y == 1 then Becomes (One (zero_on w) a) else Stays)
+
 -- of the value a, a test's where t, and the value b that is the constant y
 unfoldable pub by_right : Kind → Word → ℕ → ℕ → ℕ → ℕ → Bool → Change
 by_right Add w m a b y t = if y == 0 then Is a else Stays
 by_right Sub w m a b y t = if y == 0 then Is a else Stays
-by_right Mul w m a b y t = if y == 0 then Is b else (if y == 1 then Is a else product_by w m a (exponent_of y))
-by_right And w m a b y t = if y == 0 then Is b else (if y == 2 ^ bits w - 1 then Is a else (if t && y == 1 then Is a else Stays))
-by_right Or w m a b y t = if y == 0 then Is a else (if y == 2 ^ bits w - 1 then Is b else Stays)
-by_right Xor w m a b y t = if y == 0 then Is a else (if y == 2 ^ bits w - 1 then Becomes (One (flip_on w) a) else Stays)
+by_right Mul w m a b y t = multiplied_by w m a b y
+by_right And w m a b y t = masked_by w a b y t
+by_right Or w m a b y t = joined_by w a b y
+by_right Xor w m a b y t = flipped_by w a y
 by_right Shl w m a b y t = if y % bits w == 0 then Is a else Stays
 by_right Shru w m a b y t = if y % bits w == 0 then Is a else Stays
 by_right Shrs w m a b y t = if y % bits w == 0 then Is a else Stays
@@ -92,8 +111,8 @@ by_right Divu w m a b y t = if y == 1 then Is a else quotient_by w m a (exponent
 by_right Remu w m a b y t = if y == 1 then Becomes (Const (bits w) 0) else remainder_by w m a y (exponent_of y)
 by_right Divs w m a b y t = if y == 1 then Is a else Stays
 by_right Rems w m a b y t = if y == 1 then Becomes (Const (bits w) 0) else Stays
-by_right Eq w m a b y t = if y == 0 then Becomes (One (zero_on w) a) else (if t && y == 1 then Is a else Stays)
-by_right Ne w m a b y t = if t && y == 0 then Is a else (if t && y == 1 then Becomes (One (zero_on w) a) else Stays)
+by_right Eq w m a b y t = compared_by w a y t
+by_right Ne w m a b y t = distinguished_by w a y t
 by_right Ltu w m a b y t = Stays
 by_right Leu w m a b y t = Stays
 by_right Lts w m a b y t = Stays

@@ -1,6 +1,6 @@
 //! Operations on two patterns of one width as a kind and a width.
-ghost use Rattle.std.specs.Prelude.{◌≡◌, ◌-◌, ◌^◌};
-ghost use Rattle.block_rules.specs.Kinds.{bits, word_of, kind_of, operation, negative_on, flip_on, zero_on, is_zero, is_comparison, commutes, is_unequal};
+ghost use Rattle.std.specs.Prelude.{◌≡◌, ◌-◌, ◌^◌, ◌<◌};
+ghost use Rattle.block_rules.specs.Kinds.{bits, word_of, kind_of, operation, negative_on, flip_on, zero_on, is_zero, is_comparison, commutes, is_unequal, is_division};
 
 use ir::{Op1, Op2};
 
@@ -64,6 +64,25 @@ impl Word {
             Word::Word32 => u32::MAX as u64,
             Word::Word64 => u64::MAX,
         }
+    }
+
+    /// The number whose pattern has its sign bit alone.
+    pub(crate) fn half(self) -> u64
+        ensures { result ≡ 2 ^ (bits self - 1) }
+    {
+        match self {
+            Word::Word32 => 1 << 31,
+            Word::Word64 => 1 << 63,
+        }
+    }
+
+    /// What a pattern above 0 lacks to the next power of two.
+    pub(crate) fn opposite(self, pattern: u64) -> u64
+        requires some { 0 < pattern }
+        requires within { pattern < 2 ^ bits self }
+        ensures { result ≡ 2 ^ bits self - pattern }
+    {
+        self.ones() - pattern + 1
     }
 
     /// The operation that gives the negative.
@@ -278,6 +297,29 @@ impl Kind {
             | Kind::Divs
             | Kind::Rems
             | Kind::Eq
+            | Kind::Ltu
+            | Kind::Leu
+            | Kind::Lts
+            | Kind::Les => false,
+        }
+    }
+
+    pub(crate) fn is_division(self) -> bool
+        ensures { result ≡ is_division self }
+    {
+        match self {
+            Kind::Divu | Kind::Remu | Kind::Divs | Kind::Rems => true,
+            Kind::Add
+            | Kind::Sub
+            | Kind::Mul
+            | Kind::And
+            | Kind::Or
+            | Kind::Xor
+            | Kind::Shl
+            | Kind::Shru
+            | Kind::Shrs
+            | Kind::Eq
+            | Kind::Ne
             | Kind::Ltu
             | Kind::Leu
             | Kind::Lts

@@ -4,6 +4,7 @@
 
 mod change;
 mod conditions;
+mod division;
 mod kind;
 mod laws;
 mod of_one;
@@ -11,8 +12,9 @@ mod of_select;
 mod of_two;
 mod reading;
 mod rewriting;
+mod top;
 
 pub use conditions::strip;
 pub use ir::{Instr, List, Memory, Op1, Op2};
-pub use laws::rewritings_are_right;
+pub use laws::{rewritings_are_right, values_are_bounded};
 pub use rewriting::{Condition, Rewriting, rewrite};

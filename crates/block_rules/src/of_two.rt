@@ -1,7 +1,7 @@
 //! What an operation on two values becomes, by the constants among them.
 ghost use Rattle.std.specs.Prelude.{◌≡◌, ◌-◌, ◌^◌, ◌==◌, if◌then◌else◌};
 ghost use Rattle.block_rules.specs.Kinds.{bits};
-ghost use Rattle.block_rules.specs.TwoRules.{of_equal, by_left, by_none, by_right, by_constants, exponent_of, product_by, quotient_by, remainder_by};
+ghost use Rattle.block_rules.specs.TwoRules.{of_equal, by_left, by_none, by_right, by_constants, exponent_of, product_by, quotient_by, remainder_by, multiplied_by, masked_by, joined_by, flipped_by, compared_by, distinguished_by};
 
 use crate::change::Change;
 use crate::kind::{Kind, Word};
@@ -126,32 +126,10 @@ fn change_right(
 {
     match kind {
         Kind::Add | Kind::Sub => value_if(y == 0, left),
-        Kind::Mul => if y == 0 {
-            Change::Is(right)
-        } else if y == 1 {
-            Change::Is(left)
-        } else {
-            product(word, next, left, exponent(y))
-        },
-        Kind::And => if y == 0 {
-            Change::Is(right)
-        } else if y == word.ones() {
-            Change::Is(left)
-        } else {
-            value_if(test && y == 1, left)
-        },
-        Kind::Or => if y == 0 {
-            Change::Is(left)
-        } else {
-            value_if(y == word.ones(), right)
-        },
-        Kind::Xor => if y == 0 {
-            Change::Is(left)
-        } else if y == word.ones() {
-            Change::Becomes(Instr::One(word.flip(), left))
-        } else {
-            Change::Stays
-        },
+        Kind::Mul => multiplied(word, next, left, right, y),
+        Kind::And => masked(word, left, right, y, test),
+        Kind::Or => joined(word, left, right, y),
+        Kind::Xor => flipped(word, left, y),
         Kind::Shl | Kind::Shru | Kind::Shrs => value_if(y % word.bits() as u64 == 0, left),
         Kind::Divu => if y == 1 {
             Change::Is(left)
@@ -164,24 +142,94 @@ fn change_right(
             remainder(word, next, left, y, exponent(y))
         },
         Kind::Divs => value_if(y == 1, left),
-        Kind::Rems => if y == 1 {
-            number(word.bits(), 0)
-        } else {
-            Change::Stays
-        },
-        Kind::Eq => if y == 0 {
-            Change::Becomes(Instr::One(word.zero(), left))
-        } else {
-            value_if(test && y == 1, left)
-        },
-        Kind::Ne => if test && y == 0 {
-            Change::Is(left)
-        } else if test && y == 1 {
-            Change::Becomes(Instr::One(word.zero(), left))
-        } else {
-            Change::Stays
-        },
+        Kind::Rems => zero_if(y == 1, word),
+        Kind::Eq => compared(word, left, y, test),
+        Kind::Ne => distinguished(word, left, y, test),
         Kind::Ltu | Kind::Leu | Kind::Lts | Kind::Les => Change::Stays,
+    }
+}
+
+fn zero_if(test: bool, word: Word) -> Change
+    ensures { result ≡ (if test then Change.Becomes (Instr.Const (bits word) 0) else Change.Stays) }
+{
+    if test {
+        number(word.bits(), 0)
+    } else {
+        Change::Stays
+    }
+}
+
+/// A product by a constant.
+fn multiplied(word: Word, next: u32, left: u32, right: u32, y: u64) -> Change
+    ensures { result ≡ multiplied_by word next left right y }
+{
+    if y == 0 {
+        Change::Is(right)
+    } else if y == 1 {
+        Change::Is(left)
+    } else {
+        product(word, next, left, exponent(y))
+    }
+}
+
+/// The bits that a constant has too.
+fn masked(word: Word, left: u32, right: u32, y: u64, test: bool) -> Change
+    ensures { result ≡ masked_by word left right y test }
+{
+    if y == 0 {
+        Change::Is(right)
+    } else if y == word.ones() {
+        Change::Is(left)
+    } else {
+        value_if(test && y == 1, left)
+    }
+}
+
+/// The bits that it has, or a constant has.
+fn joined(word: Word, left: u32, right: u32, y: u64) -> Change
+    ensures { result ≡ joined_by word left right y }
+{
+    if y == 0 {
+        Change::Is(left)
+    } else {
+        value_if(y == word.ones(), right)
+    }
+}
+
+/// The bits turned that a constant has.
+fn flipped(word: Word, left: u32, y: u64) -> Change
+    ensures { result ≡ flipped_by word left y }
+{
+    if y == 0 {
+        Change::Is(left)
+    } else if y == word.ones() {
+        Change::Becomes(Instr::One(word.flip(), left))
+    } else {
+        Change::Stays
+    }
+}
+
+/// Whether it is a constant.
+fn compared(word: Word, left: u32, y: u64, test: bool) -> Change
+    ensures { result ≡ compared_by word left y test }
+{
+    if y == 0 {
+        Change::Becomes(Instr::One(word.zero(), left))
+    } else {
+        value_if(test && y == 1, left)
+    }
+}
+
+/// Whether it is no such constant.
+fn distinguished(word: Word, left: u32, y: u64, test: bool) -> Change
+    ensures { result ≡ distinguished_by word left y test }
+{
+    if test && y == 0 {
+        Change::Is(left)
+    } else if test && y == 1 {
+        Change::Becomes(Instr::One(word.zero(), left))
+    } else {
+        Change::Stays
     }
 }
 
@@ -197,7 +245,7 @@ fn value_if(test: bool, value: u32) -> Change
 
 /// The power of two, from 1 on, that a number is.
 #[tactic(auto, unfolding(crate::specs::TwoRules::exponent_of))]
-fn exponent(number: u64) -> Option<u64>
+pub(crate) fn exponent(number: u64) -> Option<u64>
     ensures { result ≡ exponent_of number }
 {
     let places = number.trailing_zeros();

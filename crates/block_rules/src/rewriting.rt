@@ -1,13 +1,16 @@
 //! Which value or which steps a pure step becomes.
 ghost use Rattle.std.specs.Prelude.{◌≡◌, ◌+◌, IfOk, length};
 ghost use Rattle.el_base.specs.Limits.{IsNumbered};
-ghost use Rattle.block_rules.specs.Rules.{rewritten, changed, two_change};
+ghost use Rattle.block_rules.specs.Rules.{rewritten, changed, two_change, division_of, divided_by};
 
 use crate::change::{Change, rewriting};
+use crate::division::{Division, divide};
+use crate::kind::{Kind, Word};
 use crate::of_one::change_one;
 use crate::of_select::change_select;
 use crate::of_two::change_two;
 use crate::reading::{constant, test};
+use crate::top::{narrow, top};
 use ir::{Instr, List, Memory, Op2};
 use std::alloc::Global;
 
@@ -39,7 +42,12 @@ pub fn rewrite(alloc: Global, args: u32, steps: &[Instr], step: Instr) -> Result
     requires { IsNumbered (args + length steps.now) }
     ensures { IfOk result (λ r. r ≡ rewritten args steps.now step) }
 {
-    rewriting(alloc, change(args, steps, step))
+    match change(args, steps, step) {
+        Change::Stays => divide_step(alloc, args, steps, step),
+        Change::Is(value) => rewriting(alloc, Change::Is(value)),
+        Change::Becomes(new) => rewriting(alloc, Change::Becomes(new)),
+        Change::BecomesTwo(first, second) => rewriting(alloc, Change::BecomesTwo(first, second)),
+    }
 }
 
 #[tactic(auto, unfolding(crate::specs::Rules::changed))]
@@ -69,4 +77,59 @@ fn by_two(args: u32, steps: &[Instr], op: Op2, left: u32, right: u32) -> Change
     let x = constant(args, steps, left);
     let y = constant(args, steps, right);
     change_two(op, next, left, right, x, y, test(args, steps, left))
+}
+
+/// A division by a constant, to which no other rule applies.
+#[tactic(auto, unfolding(crate::specs::Rules::division_of))]
+fn divide_step(alloc: Global, args: u32, steps: &[Instr], step: Instr) -> Result<Rewriting, Memory>
+    requires { IsNumbered (args + length steps.now) }
+    ensures { IfOk result (λ r. r ≡ division_of args steps.now step) }
+{
+    match step {
+        Instr::Two(op, left, right) => match constant(args, steps, right) {
+            None => Ok(Rewriting::Kept),
+            Some(divisor) => divide_by(alloc, args, steps, op, left, right, divisor),
+        },
+        Instr::Const { .. }
+        | Instr::One(_, _)
+        | Instr::Select { .. }
+        | Instr::Load { .. }
+        | Instr::Store { .. } => Ok(Rewriting::Kept),
+    }
+}
+
+/// By the constant that the value `right` is.
+#[tactic(auto, unfolding(crate::specs::Rules::divided_by))]
+fn divide_by(
+    alloc: Global,
+    args: u32,
+    steps: &[Instr],
+    op: Op2,
+    left: u32,
+    right: u32,
+    divisor: u64,
+) -> Result<Rewriting, Memory>
+    requires { IsNumbered (args + length steps.now) }
+    ensures { IfOk result (λ r. r ≡ divided_by args steps.now op left right divisor) }
+{
+    let kind = Kind::of(op);
+    let word = Word::of(op.operand_width());
+    let next = args + steps.len() as u32;
+    if kind.is_division() && 1 < divisor && divisor < word.half() && next < 0xffff_fff0 {
+        let top = narrow(word.bits(), top(8, args, steps, left));
+        divide(
+            alloc,
+            kind,
+            word,
+            Division {
+                next,
+                left,
+                right,
+                divisor,
+                top,
+            },
+        )
+    } else {
+        Ok(Rewriting::Kept)
+    }
 }

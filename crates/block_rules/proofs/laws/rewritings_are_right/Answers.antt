@@ -10,13 +10,14 @@ use Rattle.ir.specs.Steps.{value_at}
 use Rattle.block_rules.specs.Known.{IsPure, pure_value, AreValues}
 use Rattle.block_rules.specs.Reading.{const_at, is_test}
 use Rattle.block_rules.specs.OneRules.{one_change}
-use Rattle.block_rules.specs.Rules.{rewritten, changed, two_change}
+use Rattle.block_rules.specs.Rules.{rewritten, changed, two_change, division_of}
 use Rattle.block_rules.proofs.Facts.{long, below, constant, test}
 use Rattle.block_rules.proofs.Changed.{IsChange, change_right}
 use Rattle.block_rules.proofs.OneLaws.{one_law}
 use Rattle.block_rules.proofs.TwoLaws.{two_law}
 use Rattle.block_rules.proofs.SelectLaws.{select_law}
 use Rattle.block_rules.proofs.ConditionLaws.{strip_law}
+use Rattle.block_rules.proofs.DivisionRight.{division_right, or_else_right}
 use Rattle.block_rules.proofs.laws.rewritings_are_right.Goals as goal
 
 module _ (arrays : List Array) (n : ℕ) (steps : List Instr) (ws : Shape) (vs : List ℕ) (known : AreValues arrays n steps ws vs) where
@@ -48,7 +49,9 @@ pub returns-clause-steps : goal.returns-clause-steps
 unfolding rewritten
 returns-clause-steps c =
     λ arrays n steps ws vs i w known pure fits width.
-    change_right arrays ws vs w (pure_value i vs) (changed n steps i) (long arrays n steps ws vs known) (changed_right arrays n steps ws vs known w i pure fits width)
+    let x = pure_value i vs in
+    let first = change_right arrays ws vs w x (changed n steps i) (long arrays n steps ws vs known) (changed_right arrays n steps ws vs known w i pure fits width) in
+    or_else_right arrays ws vs w x (changed n steps i) (division_of n steps i) first (division_right arrays n steps ws vs known w i fits width)
 
 pub returns-clause-conditions : goal.returns-clause-conditions
 returns-clause-conditions c = λ arrays n steps ws vs d known width. strip_law arrays n steps ws vs known d width

@@ -1,0 +1,7 @@
+use Rattle.std.proofs.Common.{◌≡◌, ◌-◌}
+use Rattle.std.specs.List.{find, range_with_len}
+use Rattle.word_rules.specs.Amounts.{serves_signed}
+use Rattle.block_rules.proofs.division.signed_shift.Given as goal
+
+abbrev pub invariant-loop-amount : goal.invariant-loop-amount
+invariant-loop-amount l = find (serves_signed l.divisor) (range_with_len 32 32) ≡ find (serves_signed l.divisor) (range_with_len l.amount (64 - l.amount))
