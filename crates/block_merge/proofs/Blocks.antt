@@ -64,7 +64,7 @@ pub record IsWeight (w : Block → ℕ) : Type 0 where
   pub joined_less : (b c : Block) (with : List ℕ) (n : ℕ) → w (joined b with c) + w (idle n) ≤ w b + w c
   pub lighter : (b : Block) (j : Jump) → handed_on j ≤ handed_on b.jump → w (record { args = b.args; steps = b.steps; jump = j }) ≤ w b
 
-accesses_append : (is js : List Instr) → accesses_in (is ++ js) ≡ accesses_in is + accesses_in js
+pub accesses_append : (is js : List Instr) → accesses_in (is ++ js) ≡ accesses_in is + accesses_in js
 accesses_append [] js = omega arith
 accesses_append (i ∷ is) js = omega (arith, accesses_append is js)
 
@@ -76,7 +76,7 @@ renamed_access f (step.Select w c a b) = refl
 renamed_access f (step.Load a p) = refl
 renamed_access f (step.Store a p v) = refl
 
-renamed_accesses : (f : ℕ → ℕ) (is : List Instr) → accesses_in (map (renamed f) is) ≡ accesses_in is
+pub renamed_accesses : (f : ℕ → ℕ) (is : List Instr) → accesses_in (map (renamed f) is) ≡ accesses_in is
 renamed_accesses f [] = refl
 renamed_accesses f (i ∷ is) = ap (λ n. n + accesses_in (map (renamed f) is)) (renamed_access f i) ∙ ap (λ n. is_access i + n) (renamed_accesses f is)
 

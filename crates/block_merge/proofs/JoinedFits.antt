@@ -1,65 +1,30 @@
 -- A graph in which a block takes in the next of its row is well formed.
-use Rattle.std.proofs.Common.{◌≡◌, ◌≢◌, ℕ, ◌+◌, ◌<◌, List, [], ◌∷◌, ◌++◌, map, length, Option, Some, None, refl, sym, ◌∙◌, ap, subst, arith, inl, inr}
-use Rattle.std.specs.Prelude.{set, option_map}
+use Rattle.std.proofs.Common.{◌≡◌, ◌≢◌, ℕ, ◌<◌, List, map, length, Some, sym, ◌∙◌, ap, subst, arith, inl, inr}
+use Rattle.std.specs.Prelude.{set}
 use Rattle.std.proofs.lemmas.Bool.{cases_eq}
 use Rattle.std.proofs.lemmas.Option.{slice_get-get_or, slice_get_within}
 use Rattle.std.proofs.lemmas.List.{get_or-set_same, get_or-set_other, length-set}
 use Rattle.std.proofs.lemmas.List.Elements.{All-nil}
-use Rattle.el_base.specs.declared.ty.Array.{Array}
-use Rattle.ir.specs.declared.instr.Instr.{Instr}
 use Rattle.ir.specs.declared.graph.Block.{Block}
 use Rattle.ir.specs.declared.graph.Jump.{Jump}
 use Rattle.ir.specs.declared.graph.Jump.TheVariants.{Go, Two, Return}
 use Rattle.ir.specs.declared.graph.To.{To}
-use Rattle.ir.specs.Shapes.{Shape, IsWidth, IsOfWidth, StepsFit, step_width, shape_after}
-use Rattle.ir.specs.Renaming.{renamed, KeepsWidths, RenamedFit}
-use Rattle.ir.specs.Graphs.{Graph, IsGraph, IsBlock, IsJump, IsTarget, IsReturn, AreHanded, shape_of, no_block, block_at}
-use Rattle.ir.proofs.Fitting.{fitting_steps_name, renamed_steps_fit}
-use Rattle.block_merge.specs.Renamed.{block_of, moved_to, renamed_to, renamed_jump}
+use Rattle.ir.specs.Shapes.{Shape, IsWidth, shape_after}
+use Rattle.ir.specs.Renaming.{renamed}
+use Rattle.ir.specs.Graphs.{Graph, IsGraph, IsBlock, IsJump, IsTarget, shape_of, no_block, block_at}
+use Rattle.block_merge.specs.Renamed.{block_of, moved_to, renamed_jump}
 use Rattle.block_merge.specs.Joined.{values_of, joined, idle, joined_at}
 use Rattle.block_merge.specs.Merged.{with_blocks}
 use Rattle.block_merge.specs.Shares.{RunsOver}
-use Rattle.block_merge.proofs.JoinedValues.{every, handed_long, number_of_arg, number_of_step, named, all_kept, widths, somes_long, shape_long}
+use Rattle.block_merge.proofs.JoinedValues.{widths}
 use Rattle.block_merge.proofs.Visiting.{is_block}
+use Rattle.block_merge.proofs.JoinedBlocks.{shape_append, fit_append, jump_renamed}
+use Rattle.block_merge.proofs.JoinedBlocks as block
 use Rattle.block_merge.proofs.JoinedRuns.{LeadsOn, taken_in, target, is_c, hand, joined_runs}
 use Rattle.block_merge.proofs.ListedRuns.{LeadsTo}
 use Rattle.block_merge.proofs.Blocks.{graph_of, target_of, some_blocks}
-use Rattle.block_merge.proofs.ThreadedFits.{hand_width}
 use Rattle.block_merge.proofs.Rows.{IsRow, no_other_edge, leads_elsewhere, renamed_leads}
 use Rattle.block_merge.proofs.IdleRuns.{idle_runs}
-
--- ---- steps behind others
-
-shape_append : (arrays : List Array) (ws : Shape) (is js : List Instr) → shape_after arrays ws (is ++ js) ≡ shape_after arrays (shape_after arrays ws is) js
-shape_append arrays ws [] js = refl
-shape_append arrays ws (i ∷ is) js = shape_append arrays (ws ++ step_width arrays i ∷ []) is js
-
-fit_append : (arrays : List Array) (ws : Shape) (is js : List Instr) → StepsFit arrays ws is → StepsFit arrays (shape_after arrays ws is) js → StepsFit arrays ws (is ++ js)
-fit_append arrays ws [] js h i = i
-fit_append arrays ws (x ∷ is) js h i = (h.0, fit_append arrays (ws ++ step_width arrays x ∷ []) is js h.1 i)
-
--- ---- renamed jumps
-
-module _ (f : ℕ → ℕ) (ws us : Shape) (keeps : (a w : ℕ) → IsOfWidth ws a w → IsOfWidth us (f a) w) where
-  hands_renamed : (ys args : List ℕ) → AreHanded ws ys args → AreHanded us (map f ys) args
-  hands_renamed [] [] h = tt
-  hands_renamed (y ∷ ys) (w ∷ args) h = (keeps y w h.0, hands_renamed ys args h.1)
-  hands_renamed [] (w ∷ args) h = absurd h
-  hands_renamed (y ∷ ys) [] h = absurd h
-
-  target_renamed : (bs : List Block) (t : To) → IsTarget bs ws t → IsTarget bs us (renamed_to f t)
-  target_renamed bs t h = record { block = h.block; exists = h.exists; no_entry = h.no_entry; handed = hands_renamed t.with h.block.args h.handed }
-
-  jump_renamed : (g : Graph) (j : Jump) → IsJump g ws j → IsJump g us (renamed_jump f j)
-  jump_renamed g (Go t) h = target_renamed g.blocks t h
-  jump_renamed g (Two c x y) h = (keeps c 32 h.0, target_renamed g.blocks x h.1, target_renamed g.blocks y h.2)
-  jump_renamed g (Return v) h = by g.result v h
-    where
-      by : (r : _) (v : Option ℕ) → IsReturn r ws v → IsReturn r us (option_map f v)
-      by None None h = tt
-      by (Some t) (Some v) h = keeps v _ h
-      by None (Some v) h = absurd h
-      by (Some t) None h = absurd h
 
 module _ (g : Graph) (k : ℕ) (to : To) (fine : IsGraph g) (row : IsRow g.blocks k to) where
   pub leads : LeadsOn g k to
@@ -124,42 +89,18 @@ module _ (g : Graph) (k : ℕ) (to : To) (fine : IsGraph g) (row : IsRow g.block
   abbrev f : ℕ → ℕ
   f = moved_to to.with (values_of b)
 
-  abbrev n : ℕ
-  n = length to.with
-
-  c_long : length (widths c.args) ≡ n + 0
-  c_long = let e = handed_long (shape_of g b) to.with c.args (hand g k to leads) in omega (arith, e, somes_long c.args)
-
-  b_long : length (shape_of g b) ≡ values_of b + 0
-  b_long = let e = shape_long g.arrays (widths b.args) b.steps in omega (arith, e, somes_long b.args)
-
-  keeps : KeepsWidths every f n 0 (widths c.args) (shape_of g b)
-  keeps a w (inl (lt, kept)) h = subst (λ x. IsOfWidth (shape_of g b) x w) (sym (number_of_arg to.with (values_of b) a lt)) (hand_width (shape_of g b) to.with c.args a w (hand g k to leads) h)
-  keeps a w (inr (i, lt, is)) h = absurd (omega arith)
-
-  fit : RenamedFit every f n 0 g.arrays (widths c.args) (shape_of g b) c.steps
-  fit =
-      let c_is = is_c g k to leads in
-      renamed_steps_fit every f n (values_of b) (number_of_step to.with (values_of b)) g.arrays c.steps 0 (widths c.args) (shape_of g b) c_long b_long keeps
-      (fitting_steps_name every n g.arrays c.steps 0 (widths c.args) c_long (all_kept n c.steps) c_is.steps) c_is.steps
-
-  c_end : length (shape_of g c) ≡ n + (0 + length c.steps)
-  c_end = let e = shape_long g.arrays (widths c.args) c.steps in let l = c_long in omega (arith, e, l)
-
   abbrev end_shape : Shape
   end_shape = shape_after g.arrays (shape_of g b) (map (renamed f) c.steps)
-
-  widths_after : (a w : ℕ) → IsOfWidth (shape_of g c) a w → IsOfWidth end_shape (f a) w
-  widths_after a w h = fit.widths a w (named n (0 + length c.steps) (shape_of g c) a w c_end h) h
 
   joined_fits_block : IsBlock (with_blocks g bs) bc
   joined_fits_block =
       let c_is = is_c g k to leads in
+      let h = hand g k to leads in
       let e : shape_of g bc ≡ end_shape = shape_append g.arrays (widths b.args) b.steps (map (renamed f) c.steps) in
-      let j : IsJump g end_shape (renamed_jump f c.jump) = jump_renamed f (shape_of g c) end_shape widths_after g c.jump c_is.jump in
+      let j : IsJump g end_shape (renamed_jump f c.jump) = jump_renamed f (shape_of g c) end_shape (block.widths_after g b c to.with c_is h) g c.jump c_is.jump in
       record {
         args = is_b.args;
-        steps = fit_append g.arrays (widths b.args) b.steps (map (renamed f) c.steps) is_b.steps fit.steps;
+        steps = fit_append g.arrays (widths b.args) b.steps (map (renamed f) c.steps) is_b.steps (block.joined_steps_fit g b c to.with c_is h);
         jump = subst (λ ws. IsJump (with_blocks g bs) ws (renamed_jump f c.jump)) (sym e) (kept_jump end_shape (renamed_jump f c.jump) (renamed_leads (λ m. m ≢ to.block) f c.jump (away to.block row.other)) j);
       }
 

@@ -8,6 +8,7 @@ pub mod Blocks
 pub mod ThreadedFits
 pub mod Rows
 pub mod IdleRuns
+pub mod JoinedBlocks
 pub mod JoinedFits
 pub mod Members
 pub mod FoundLemmas

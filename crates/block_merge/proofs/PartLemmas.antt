@@ -16,7 +16,7 @@ use Rattle.ir.specs.declared.graph.Jump.TheVariants.{Go, Two, Return}
 use Rattle.ir.specs.declared.graph.To.{To}
 use Rattle.ir.specs.Shapes.{Shape, IsOfWidth, StepFits, StepsFit, step_width}
 use Rattle.ir.specs.Renaming.{renamed, operands}
-use Rattle.ir.specs.Graphs.{Graph, IsJump, IsReturn, AreHanded, shape_of, no_block, block_weight}
+use Rattle.ir.specs.Graphs.{Graph, IsBlock, IsJump, IsReturn, AreHanded, shape_of, no_block, block_weight}
 use Rattle.block_merge.specs.declared.joining.Edges.{Edges}
 use Rattle.block_merge.specs.Renamed.{block_of, moved_to}
 use Rattle.block_merge.specs.Joined.{values_of, joined, idle, joined_at, next_in_row, row_joined, rows_joined, all_joined}
@@ -82,6 +82,22 @@ module _ (ns : Numbers) (arrays : List Array) (m : ℕ) (few : IsNumbered (ns.st
       by None (Some v) h = absurd h
       by (Some t) None h = absurd h
 
+-- ---- two blocks
+
+-- where the values of both can be numbered
+pub can_join_blocks : (g : Graph) (b c : Block) (with : List ℕ) → IsBlock g c → AreHanded (shape_of g b) with c.args → given_on b.jump ≡ with → IsNumbered (values_of b + length c.steps)
+    → CanBeJoined b c
+can_join_blocks g b c with c_is hand goes few =
+    let ns : Numbers = record { args = given_on b.jump; steps = values_of b } in
+    let n = handed_long (shape_of g b) with c.args hand in
+    let m = ap length goes in
+    let e = shape_long g.arrays (widths c.args) c.steps in
+    record {
+      few = omega (arith, few);
+      steps = steps_movable ns g.arrays (length c.steps) few c.steps (widths c.args) (omega (arith, somes_long c.args, n, m)) c_is.steps;
+      jump = jump_movable ns g.arrays (length c.steps) few g (shape_of g c) c.jump (omega (arith, e, somes_long c.args, n, m)) c_is.jump;
+    }
+
 -- ---- a row
 
 module _ (bs : List Block) (k : ℕ) (to : To) (are : AreBlocks bs) (is : IsRow bs k to) where
@@ -117,25 +133,11 @@ module _ (bs : List Block) (k : ℕ) (to : To) (are : AreBlocks bs) (is : IsRow 
       let s = blocks_kept.small in
       omega (arith, h, e, s, length-append b.steps (map (renamed f) c.steps), length-map c.steps (renamed f))
 
-  abbrev numbers : Numbers
-  numbers = record { args = given_on b.jump; steps = values_of b }
-
   goes : given_on b.jump ≡ to.with
   goes = ap given_on is.goes
 
   pub can_join : CanBeJoined b c
-  can_join =
-      let leads = row.leads g k to are.fine is in
-      let c_is = is_c g k to leads in
-      let n = handed_long (shape_of g b) to.with c.args (hand g k to leads) in
-      let m = ap length goes in
-      let few = few_steps in
-      let e = shape_long are.graph.arrays (widths c.args) c.steps in
-      record {
-        few = omega (arith, few);
-        steps = steps_movable numbers are.graph.arrays (length c.steps) few c.steps (widths c.args) (omega (arith, somes_long c.args, n, m)) c_is.steps;
-        jump = jump_movable numbers are.graph.arrays (length c.steps) few g (shape_of g c) c.jump (omega (arith, e, somes_long c.args, n, m)) c_is.jump;
-      }
+  can_join = let leads = row.leads g k to are.fine is in can_join_blocks g b c to.with (is_c g k to leads) (hand g k to leads) goes few_steps
 
   pub takes_in : next_in_row bs k ≡ Some to → TakesIn bs k to.block
   takes_in e = record {

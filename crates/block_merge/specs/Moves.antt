@@ -1,4 +1,4 @@
--- Private: only contracts of private functions cite it. New numbers of values that a u32 holds.
+-- New numbers of values that a u32 holds.
 use Rattle.std.specs.Prelude.{ℕ, ◌+◌, ◌-◌, List, length, Some, None, All}
 use Rattle.el_base.specs.Limits.{IsNumbered}
 use Rattle.ir.specs.declared.instr.Instr.{Instr}

@@ -1,4 +1,4 @@
--- Private: only contracts of private functions cite it. What the loops over blocks ask of them.
+-- What joining two blocks asks of them, and, for contracts of private functions alone, what the loops over blocks ask.
 use Rattle.std.specs.Prelude.{◌≡◌, ◌≢◌, ◌<◌, ℕ, List, [], length, Some, sum_by}
 use Rattle.el_base.specs.Limits.{IsNumbered}
 use Rattle.ir.specs.declared.graph.Block.{Block}

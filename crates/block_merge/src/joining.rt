@@ -143,8 +143,12 @@ fn given_on(alloc: Global, jump: Jump) -> List<u32>
     }
 }
 
-/// A block and behind it the one that it leads to.
-fn join(alloc: Global, block: Block, next: &Block) -> Result<Block, Memory>
+/// A block and behind it the one that it leads to, which it leads to without a condition.
+///
+/// # Errors
+///
+/// [`Memory`] where memory is wanting.
+pub fn join(alloc: Global, block: Block, next: &Block) -> Result<Block, Memory>
     requires { CanBeJoined block next.now }
     ensures { IfOk result (λ b. b ≡ joined block (given_on block.jump) next.now) }
 {

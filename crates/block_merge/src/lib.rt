@@ -11,6 +11,7 @@ mod numbering;
 mod threading;
 mod walking;
 
-pub use ir::{Ir, Memory};
+pub use ir::{Block, Ir, Memory};
+pub use joining::join;
 pub use laws::merged_graphs_keep;
 pub use merging::merge;

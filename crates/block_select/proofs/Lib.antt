@@ -1,0 +1,8 @@
+pub mod Quiet
+pub mod Meetings
+pub mod Sides
+pub mod ChoiceLemmas
+pub mod Choosing
+pub mod Runs
+pub mod Selecting
+pub mod Passing
