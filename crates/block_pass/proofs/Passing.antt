@@ -44,7 +44,7 @@ go_back g h k share first second scalars arrays r last more fit e =
     let x = second scalars arrays r last more (fits_header g h scalars arrays share.header fit) e in
     first scalars arrays r last x.0 fit x.1
 
-no_cost : (vs : List Visit) → over_visits (λ v. 0) vs ≡ 0
+pub no_cost : (vs : List Visit) → over_visits (λ v. 0) vs ≡ 0
 no_cost [] = refl
 no_cost (v ∷ vs) = let e = no_cost vs in omega (arith, e)
 

@@ -3,6 +3,5 @@ pub mod Meetings
 pub mod Sides
 pub mod ChoiceLemmas
 pub mod Choosing
-pub mod Runs
 pub mod Selecting
 pub mod Passing

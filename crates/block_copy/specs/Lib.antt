@@ -1,0 +1,5 @@
+pub mod Nonconstants
+pub mod Growing
+pub mod Searches
+pub mod Copied
+pub mod Laws
