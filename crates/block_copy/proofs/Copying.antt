@@ -1,5 +1,5 @@
 -- The graph with copied joins is one that a pass may give, and its ends go back.
-use Rattle.std.proofs.Common.{◌≡◌, ◌≢◌, ℕ, zero, suc, ◌+◌, ◌<◌, ◌==◌, ◌&&◌, ◌||◌, Bool, true, false, cond, List, length, Option, Some, None, refl, sym, ◌∙◌, ap, subst}
+use Rattle.std.proofs.Common.{◌≡◌, ◌≢◌, ℕ, zero, suc, ◌+◌, ◌-◌, ◌<◌, ◌==◌, ◌&&◌, ◌||◌, Bool, true, false, cond, List, length, Option, Some, None, refl, sym, ◌∙◌, ap, subst}
 use Rattle.std.specs.Prelude.{set, is_some}
 use Rattle.std.proofs.lemmas.Bool.{cond_both, eq-eqb}
 use Rattle.std.proofs.lemmas.Option.{same_Some}
@@ -93,7 +93,7 @@ module _ (law : Given) (g : Graph) (k limit : ℕ) (within : k < length g.blocks
   grown_stands (suc n) s h = after_stands g k (grown n g.blocks k limit) (λ t i. grown_stands n t i) (turn_of g.blocks k limit s) (turn_stands s h)
 
 pub first_growth_stands : (law : Given) (g : Graph) (k : ℕ) → IsGraph g → k < length g.blocks → GrowthStands g k (first_growth (block_at g k))
-  unfolding first_growth
+unfolding first_growth
 first_growth_stands law g k fine lt = record { row = first_stands law g k fine lt; best = tt }
 
 pub best_stands : (law : Given) (g : Graph) (k : ℕ) → IsGraph g → k < length g.blocks → BestStands g k (best_row g.blocks k)

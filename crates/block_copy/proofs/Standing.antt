@@ -134,7 +134,7 @@ module _ (law : Given) where
   joined_row_stands g k r within stands to goes other = joined_stands g k r within stands to goes other
 
   pub next_stands : (g : Graph) (k : ℕ) (r : Block) → k < length g.blocks → Stands g k r → (to : To) → r.jump ≡ Go to → to.block ≢ k → Stands g k (folded_behind r (block_at g to.block))
-    unfolding folded_behind
+  unfolding folded_behind
   next_stands g k r within stands to goes other =
       let j = joined r (given_on r.jump) (block_at g to.block) in
       folded_stands g k j within (joined_row_stands g k r within stands to goes other)
