@@ -14,7 +14,7 @@ use Rattle.ir.specs.Steps.{value_at, through, beginning}
 use Rattle.ir.specs.Visits.{Visit, Passage, next_of, next_visit}
 use Rattle.ir.specs.Shapes.{Shape, shape_after}
 use Rattle.ir.specs.Renaming.{renamed}
-use Rattle.ir.specs.Graphs.{Graph, IsGraph, IsBlock, IsJump, IsTarget, shape_of, no_block, block_at, passage}
+use Rattle.ir.specs.Graphs.{Graph, IsGraph, IsBlock, IsJump, IsTarget, AreHanded, shape_of, no_block, block_at, passage}
 use Rattle.block_merge.specs.Renamed.{block_of, moved_to, renamed_jump}
 use Rattle.block_merge.specs.Found.{stored_by, stored_in}
 use Rattle.block_merge.specs.Joined.{values_of, joined}
@@ -29,6 +29,24 @@ use Rattle.block_merge.proofs.Visiting.{is_block, Fits}
 use Rattle.block_pass.specs.Laws.{PassesBack}
 use Rattle.block_pass.proofs.Runs.{LeadsPast, AlikeOrPast}
 use Rattle.block_pass.proofs.Past.{past_over, past_back}
+
+-- a block with a copy of another behind it is a block of the graph
+module _ (g : Graph) (b c : Block) (with : List ℕ) (is_b : IsBlock g b) (is_c : IsBlock g c) (hand : AreHanded (shape_of g b) with c.args) where
+  abbrev f : ℕ → ℕ
+  f = moved_to with (values_of b)
+
+  abbrev end_shape : Shape
+  end_shape = shape_after g.arrays (shape_of g b) (map (renamed f) c.steps)
+
+  pub joined_fits : IsBlock g (joined b with c)
+  joined_fits =
+      let e : shape_of g (joined b with c) ≡ end_shape = shape_append g.arrays (widths b.args) b.steps (map (renamed f) c.steps) in
+      let j : IsJump g end_shape (renamed_jump f c.jump) = jump_renamed f (shape_of g c) end_shape (widths_after g b c with is_c hand) g c.jump is_c.jump in
+      record {
+        args = is_b.args;
+        steps = fit_append g.arrays (widths b.args) b.steps (map (renamed f) c.steps) is_b.steps (joined_steps_fit g b c with is_c hand);
+        jump = subst (λ ws. IsJump g ws (renamed_jump f c.jump)) (sym e) j;
+      }
 
 module _ (g : Graph) (k : ℕ) (to : To) (leads : LeadsOn g k to) where
   abbrev b : Block
@@ -68,24 +86,8 @@ module _ (g : Graph) (k : ℕ) (to : To) (leads : LeadsOn g k to) where
   kept_block : (x : Block) → IsBlock g x → IsBlock h x
   kept_block x i = record { args = i.args; steps = i.steps; jump = kept_jump (shape_of g x) x.jump i.jump }
 
-  abbrev f : ℕ → ℕ
-  f = moved_to to.with (values_of b)
-
-  abbrev end_shape : Shape
-  end_shape = shape_after g.arrays (shape_of g b) (map (renamed f) c.steps)
-
   pub joined_is_block : IsBlock g bc
-  joined_is_block =
-      let b_is = is_block g leads.graph k leads.within in
-      let c_is = is_c g k to leads in
-      let handed = hand g k to leads in
-      let e : shape_of g bc ≡ end_shape = shape_append g.arrays (widths b.args) b.steps (map (renamed f) c.steps) in
-      let j : IsJump g end_shape (renamed_jump f c.jump) = jump_renamed f (shape_of g c) end_shape (widths_after g b c to.with c_is handed) g c.jump c_is.jump in
-      record {
-        args = b_is.args;
-        steps = fit_append g.arrays (widths b.args) b.steps (map (renamed f) c.steps) b_is.steps (joined_steps_fit g b c to.with c_is handed);
-        jump = subst (λ ws. IsJump g ws (renamed_jump f c.jump)) (sym e) j;
-      }
+  joined_is_block = joined_fits g b c to.with (is_block g leads.graph k leads.within) (is_c g k to leads) (hand g k to leads)
 
   fits_block : (n : ℕ) → n < length bs → IsBlock h (block_of bs n)
   fits_block n lt = elim (cases_eq n k) [
@@ -121,7 +123,9 @@ module _ (g : Graph) (k : ℕ) (to : To) (leads : LeadsOn g k to) where
   -- ---- stores
 
   both_stores : stored_in bc ≡ stored_in b ++ stored_in c
-  both_stores = flat_map-append stored_by b.steps (map (renamed f) c.steps) ∙ ap (λ l. stored_in b ++ l) (renamed_stores f c.steps)
+  both_stores =
+      let f = moved_to to.with (values_of b) in
+      flat_map-append stored_by b.steps (map (renamed f) c.steps) ∙ ap (λ l. stored_in b ++ l) (renamed_stores f c.steps)
 
   stores_after : (a : ℕ) → Stores g.blocks a → Stores bs a
   stores_after a s = elim (cases_eq s.number k) [

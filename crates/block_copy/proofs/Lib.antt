@@ -1,3 +1,7 @@
 pub mod Joining
 pub mod Standing
-pub mod Copying
+pub mod CopiedPasses
+pub mod StepCounts
+pub mod Weighing
+pub mod Following
+pub mod Keeping

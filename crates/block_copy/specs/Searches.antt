@@ -1,8 +1,9 @@
 -- Whether a block leads to some others, as far as a search of a few blocks finds.
-use Rattle.std.specs.Prelude.{ℕ, zero, suc, ◌==◌, ◌&&◌, ◌||◌, not, nat_lt, Bool, false, cond, List, [], ◌∷◌, ◌++◌, length}
+use Rattle.std.specs.Prelude.{ℕ, zero, suc, ◌==◌, ◌&&◌, ◌||◌, not, nat_lt, Bool, false, cond, List, [], ◌∷◌, ◌++◌, length, reverse}
 use Rattle.ir.specs.declared.graph.Block.{Block}
 use Rattle.block_merge.specs.Renamed.{block_of}
 use Rattle.block_merge.specs.Found.{is_in, targets}
+use Rattle.block_copy.specs.declared.searching.Near.{Near}
 
 -- the blocks seen, in order, and those of them from which the search has still to go on, the last seen first
 pub record Search : Type 0 where
@@ -41,3 +42,7 @@ max_looks = 16
 -- whether block b is a wanted one or leads to one, round block k
 abbrev pub leads_to : List Block → List ℕ → ℕ → ℕ → Bool
 leads_to bs wanted k b = finds max_looks bs wanted k (record { seen = b ∷ []; left = b ∷ [] })
+
+-- the search that is held so: what is left stands with the last seen last
+abbrev pub search_of : Near → Search
+search_of n = record { seen = n.seen.items; left = reverse n.left.items }

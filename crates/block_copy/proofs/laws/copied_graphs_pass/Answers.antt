@@ -1,4 +1,4 @@
-use Rattle.block_copy.proofs.Copying.{copied_passes}
+use Rattle.block_copy.proofs.CopiedPasses.{copied_passes}
 use Rattle.block_copy.proofs.laws.copied_graphs_pass.Goals as goal
 
 pub returns : goal.returns
