@@ -1,8 +1,8 @@
 -- The row among the blocks: it can take in the block to which it leads, and is a block of the graph then.
-use Rattle.std.proofs.Common.{◌≡◌, ℕ, zero, suc, ◌+◌, ◌-◌, ◌<◌, ◌≤◌, ◌==◌, ◌&&◌, ◌||◌, Bool, true, false, List, length, Option, Some, None, refl, sym, ◌∙◌, ap, subst, arith}
+use Rattle.std.proofs.Common.{◌≡◌, ℕ, zero, suc, ◌+◌, ◌-◌, ◌<◌, ◌≤◌, ◌==◌, ◌&&◌, ◌||◌, Bool, true, false, cond, List, [], ◌∷◌, ◌++◌, length, get_or, Option, Some, None, refl, sym, ◌∙◌, ap, subst, arith}
 use Rattle.std.specs.Prelude.{is_some, nat_le}
 use Rattle.std.proofs.lemmas.Bool.{cond_both, leb-true}
-use Rattle.std.proofs.lemmas.Option.{slice_get_within}
+use Rattle.std.proofs.lemmas.Option.{slice_get_within, slice_get-get_or, get_or_from_slice_get}
 use Rattle.std.proofs.lemmas.List.Sums.{get_or-le-sum_by}
 use Rattle.ir.specs.declared.graph.Block.{Block}
 use Rattle.ir.specs.declared.graph.Jump.{Jump}
@@ -21,7 +21,7 @@ use Rattle.block_copy.specs.declared.growing.Growth.{Growth}
 use Rattle.block_copy.specs.declared.growing.Turn.{Turn}
 use Rattle.block_copy.specs.declared.growing.Turn.TheVariants.{Ends, Goes}
 use Rattle.block_copy.specs.Nonconstants.{nonconstants_in}
-use Rattle.block_copy.specs.Growing.{has_condition, next_of, folded_behind, row_behind, can_take_in, best_with, turn_with, turn_to, turn_of, after_turn, grown, max_turns, first_growth}
+use Rattle.block_copy.specs.Growing.{has_condition, next_of, folded_behind, row_behind, can_take_in, best_with, turn_with, turn_to, turn_of, after_turn, grown, max_turns, first_growth, best_row}
 use Rattle.block_copy.specs.Fits.{AreSmall, FitsAmong, CanFollow}
 use Rattle.block_copy.proofs.Joining.{joined_fits}
 use Rattle.block_copy.proofs.CopiedPasses.{LeadsAway, leads_away}
@@ -99,6 +99,31 @@ module _ (law : FoldedBlocksKeep) (bs : List Block) (k limit : ℕ) where
   turn_fits : (s next : Growth) → FitsAmong bs s.row.block → Goes next ≡ turn_of bs k limit s → FitsAmong bs next.row.block
   turn_fits s next fits e = subst (TurnFits bs) (sym e) (to_fits s (next_of k s.row.block.jump) fits refl)
 
+-- ---- one turn
+
+-- an element by its index
+pub at_index : (bs : List Block) (n : ℕ) (x : Block) → n < length bs → x ≡ get_or bs n x → x ≡ block_of bs n
+at_index bs n x lt e = e ∙ sym (get_or_from_slice_get bs n (get_or bs n x) no_block (slice_get-get_or bs n x lt))
+
+-- the turn that takes in block x
+abbrev taking : Growth → ℕ → Block → Turn
+taking s n x = turn_with s x (record { block = folded_behind s.row.block x; taken = s.row.taken ++ n ∷ [] })
+
+module _ (bs : List Block) (k limit : ℕ) (s : Growth) (n : ℕ) (x : Block) (next : next_of k s.row.block.jump ≡ Some n) (is : x ≡ block_of bs n) where
+  turn_at : turn_of bs k limit s ≡ cond (can_take_in limit s x) (taking s n x) (Ends None)
+  turn_at = ap (turn_to bs limit s) next ∙ ap (λ (y : Block). cond (can_take_in limit s y) (taking s n y) (Ends None)) (sym is)
+
+  pub turn_takes : can_take_in limit s x ≡ true → turn_of bs k limit s ≡ turn_with s x (record { block = folded_behind s.row.block x; taken = s.row.taken ++ n ∷ [] })
+  turn_takes h = turn_at ∙ ap (λ (b : Bool). cond b (taking s n x) (Ends None)) h
+
+  pub turn_refuses : can_take_in limit s x ≡ false → Ends None ≡ turn_of bs k limit s
+  turn_refuses h = sym (turn_at ∙ ap (λ (b : Bool). cond b (taking s n x) (Ends None)) h)
+
+  pub turn_follows : FitsAmong bs s.row.block → can_take_in limit s x ≡ true → CanFollow s.row.block x
+  turn_follows fits h =
+      let t = takes_in limit s x h in
+      subst (CanFollow s.row.block) (sym is) (next_follows bs s.row.block fits k n next (subst (λ (y : Block). block_weight s.row.block + block_weight y ≤ 8000000) is t.light))
+
 -- ---- the loop
 
 -- after `all` copies at most, of which `left` are left
@@ -139,3 +164,7 @@ unfolding first_growth
 first_fits law bs k are lt =
     let g = with_blocks are.graph bs in
     record { graph = are.graph; fine = are.fine; block = (law g (block_of bs k) (is_block g are.fine k lt)).fine }
+
+pub best_row_is : (bs : List Block) (k turns limit : ℕ) (s : Growth) → turns ≡ max_turns → limit ≡ nonconstants_in (block_of bs k).steps + 384 → s ≡ first_growth (block_of bs k) → grown turns bs k limit s ≡ best_row bs k
+best_row_is bs k turns limit s e l f =
+    ap (λ n. grown n bs k limit s) e ∙ (ap (λ m. grown max_turns bs k m s) l ∙ ap (grown max_turns bs k (nonconstants_in (block_of bs k).steps + 384)) f)

@@ -1,6 +1,7 @@
 -- The blocks stay those of a well formed graph of no great size, one after the other.
 use Rattle.std.proofs.Common.{◌≡◌, ℕ, zero, suc, ◌+◌, ◌-◌, ◌<◌, ◌≤◌, ◌&&◌, not, Bool, true, false, List, length, Option, Some, None, refl, sym, ◌∙◌, ap, subst, arith}
 use Rattle.std.specs.Prelude.{set, nat_le, sum_by}
+use Rattle.std.specs.Option.{option_map_or}
 use Rattle.std.proofs.lemmas.Bool.{cond_both, leb-true}
 use Rattle.std.proofs.lemmas.List.{length-set}
 use Rattle.ir.specs.declared.graph.Block.{Block}
@@ -82,6 +83,14 @@ copying_next law most first bs new n i lt s e =
 
 pub copying_ends : (most : ℕ) (first bs : List Block) (n i : ℕ) → n ≤ i → AreCopying most first i (n - i) bs → bs ≡ copied_blocks most (length first) first 0
 copying_ends most first bs n i le s = let z : n - i ≡ 0 = omega (arith, le) in sym (ap (λ j. copied_blocks most j bs i) z) ∙ s.rest
+
+pub set_is : (most : ℕ) (bs xs new : List Block) (k : ℕ) (o : Option Block) (b : Block) → xs ≡ bs → option_map_or (λ (x : Block). set xs k x) o xs ≡ copied_at most xs k → o ≡ Some b → new ≡ set bs k b → new ≡ copied_at most bs k
+set_is most bs xs new k o b e h is n =
+    n ∙ (ap (λ ys. set ys k b) (sym e) ∙ (ap (λ (p : Option Block). option_map_or (λ (x : Block). set xs k x) p xs) (sym is) ∙ (h ∙ ap (λ ys. copied_at most ys k) e)))
+
+pub stays_is : (most : ℕ) (bs xs new : List Block) (k : ℕ) (o : Option Block) → xs ≡ bs → option_map_or (λ (x : Block). set xs k x) o xs ≡ copied_at most xs k → o ≡ None → new ≡ bs → new ≡ copied_at most bs k
+stays_is most bs xs new k o e h is n =
+    n ∙ (sym e ∙ (ap (λ (p : Option Block). option_map_or (λ (x : Block). set xs k x) p xs) (sym is) ∙ (h ∙ ap (λ ys. copied_at most ys k) e)))
 
 -- ---- at the start
 

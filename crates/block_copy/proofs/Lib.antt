@@ -5,3 +5,4 @@ pub mod StepCounts
 pub mod Weighing
 pub mod Following
 pub mod Keeping
+pub mod Finding

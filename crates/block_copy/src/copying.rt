@@ -68,8 +68,9 @@ fn copied_blocks(alloc: Global, blocks: List<Block>, most: u64) -> Result<List<B
     let mut blocks = blocks;
     let count = blocks.len();
     for at in 0..count {
-        if let Some(block) = copied_at(alloc, blocks.as_slice(), at, most)? {
-            blocks.set(at, block);
+        match copied_at(alloc, blocks.as_slice(), at, most)? {
+            Some(block) => blocks.set(at, block),
+            None => {}
         }
     }
     Ok(blocks)

@@ -126,5 +126,6 @@ pub(crate) fn leads_to(
 ) -> Result<bool, Memory>
     ensures { IfOk result (λ r. r ≡ leads_to blocks.now wanted.now at block) }
 {
-    Near::from(alloc, block)?.finds(blocks, wanted, at, MAX_LOOKS)
+    let near = Near::from(alloc, block)?;
+    near.finds(blocks, wanted, at, MAX_LOOKS)
 }
