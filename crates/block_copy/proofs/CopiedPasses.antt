@@ -1,5 +1,5 @@
 -- The graph with copied joins is one that a pass may give, and its ends go back.
-use Rattle.std.proofs.Common.{◌≡◌, ◌≢◌, ℕ, zero, suc, ◌+◌, ◌-◌, ◌<◌, ◌==◌, ◌&&◌, ◌||◌, Bool, true, false, cond, List, length, Option, Some, None, refl, sym, ◌∙◌, ap, subst}
+use Rattle.std.proofs.Common.{◌≡◌, ◌≢◌, ℕ, zero, suc, ◌-◌, ◌<◌, ◌==◌, ◌&&◌, ◌||◌, Bool, true, false, cond, length, Option, Some, None, refl, sym, ◌∙◌, subst}
 use Rattle.std.specs.Prelude.{set, is_some}
 use Rattle.std.proofs.lemmas.Bool.{cond_both, eq-eqb}
 use Rattle.std.proofs.lemmas.Option.{same_Some}
@@ -18,7 +18,6 @@ use Rattle.block_copy.specs.declared.growing.Turn.{Turn}
 use Rattle.block_copy.specs.declared.growing.Turn.TheVariants.{Ends, Goes}
 use Rattle.block_copy.specs.Growing.{has_condition, is_return, next_of, folded_behind, row_behind, can_take_in, best_with, turn_with, turn_to, turn_of, after_turn, grown, max_turns, first_growth, best_row}
 use Rattle.block_copy.specs.Copied.{is_taken, with_row, copied_by, copied_at, copied_blocks, copied}
-use Rattle.block_copy.specs.Laws.{CopiedGraphsPass}
 use Rattle.block_copy.proofs.Standing.{Given, Stands, two_passes, same_passes, first_stands, next_stands}
 
 -- ---- the next block

@@ -1,14 +1,11 @@
 -- The row among the blocks: it can take in the block to which it leads, and is a block of the graph then.
-use Rattle.std.proofs.Common.{◌≡◌, ℕ, zero, suc, ◌+◌, ◌-◌, ◌<◌, ◌≤◌, ◌==◌, ◌&&◌, ◌||◌, Bool, true, false, cond, List, [], ◌∷◌, ◌++◌, length, get_or, Option, Some, None, refl, sym, ◌∙◌, ap, subst, arith}
+use Rattle.std.proofs.Common.{◌≡◌, ℕ, suc, ◌+◌, ◌-◌, ◌<◌, ◌≤◌, ◌==◌, ◌&&◌, ◌||◌, Bool, true, false, cond, List, [], ◌∷◌, ◌++◌, length, get_or, Option, Some, None, refl, sym, ◌∙◌, ap, subst, arith}
 use Rattle.std.specs.Prelude.{is_some, nat_le}
 use Rattle.std.proofs.lemmas.Bool.{cond_both, leb-true}
 use Rattle.std.proofs.lemmas.Option.{slice_get_within, slice_get-get_or, get_or_from_slice_get}
 use Rattle.std.proofs.lemmas.List.Sums.{get_or-le-sum_by}
 use Rattle.ir.specs.declared.graph.Block.{Block}
-use Rattle.ir.specs.declared.graph.Jump.{Jump}
-use Rattle.ir.specs.declared.graph.Jump.TheVariants.{Go}
-use Rattle.ir.specs.declared.graph.To.{To}
-use Rattle.ir.specs.Graphs.{Graph, IsGraph, IsBlock, IsJump, IsTarget, AreHanded, shape_of, no_block, block_weight}
+use Rattle.ir.specs.Graphs.{Graph, IsJump, IsTarget, AreHanded, shape_of, no_block, block_weight}
 use Rattle.block_merge.specs.Renamed.{block_of}
 use Rattle.block_merge.specs.Merged.{with_blocks}
 use Rattle.block_merge.specs.Parts.{given_on}

@@ -1,5 +1,5 @@
 -- A graph in which a block takes in a copy of the one that it leads to is one that a pass may give, and its ends go back.
-use Rattle.std.proofs.Common.{◌≡◌, ◌≢◌, ℕ, ◌<◌, ◌≤◌, List, ◌++◌, map, length, Some, refl, sym, ◌∙◌, ap, subst, arith, inl, inr}
+use Rattle.std.proofs.Common.{◌≡◌, ℕ, ◌<◌, ◌≤◌, List, ◌++◌, map, length, Some, refl, sym, ◌∙◌, ap, subst, arith, inl, inr}
 use Rattle.std.specs.Prelude.{set, All}
 use Rattle.std.proofs.lemmas.Bool.{cases_eq}
 use Rattle.std.proofs.lemmas.Grind.{flat_map-append}
@@ -18,7 +18,6 @@ use Rattle.ir.specs.Graphs.{Graph, IsGraph, IsBlock, IsJump, IsTarget, AreHanded
 use Rattle.block_merge.specs.Renamed.{block_of, moved_to, renamed_jump}
 use Rattle.block_merge.specs.Found.{stored_by, stored_in}
 use Rattle.block_merge.specs.Joined.{values_of, joined}
-use Rattle.block_merge.specs.Merged.{with_blocks}
 use Rattle.block_merge.proofs.Blocks.{graph_of, target_of, some_blocks}
 use Rattle.block_merge.proofs.JoinedBlocks.{shape_append, fit_append, jump_renamed, joined_steps_fit, widths_after}
 use Rattle.block_merge.proofs.JoinedRuns.{LeadsOn, taken_in, is_c, hand, at_other, at_joined, goes_on, both, other, at_k}

@@ -1,9 +1,11 @@
 -- The blocks stay those of a well formed graph of no great size, one after the other.
-use Rattle.std.proofs.Common.{◌≡◌, ℕ, zero, suc, ◌+◌, ◌-◌, ◌<◌, ◌≤◌, ◌&&◌, not, Bool, true, false, List, length, Option, Some, None, refl, sym, ◌∙◌, ap, subst, arith}
+use Rattle.std.proofs.Common.{◌≡◌, ℕ, suc, ◌+◌, ◌-◌, ◌<◌, ◌≤◌, ◌&&◌, not, Bool, true, false, List, length, Option, Some, None, refl, sym, ◌∙◌, ap, subst, arith}
 use Rattle.std.specs.Prelude.{set, nat_le, sum_by}
 use Rattle.std.specs.Option.{option_map_or}
 use Rattle.std.proofs.lemmas.Bool.{cond_both, leb-true}
 use Rattle.std.proofs.lemmas.List.{length-set}
+use Rattle.el_base.specs.declared.ty.Array.{Array}
+use Rattle.el_base.specs.declared.ty.Scalar.{Scalar}
 use Rattle.ir.specs.declared.graph.Block.{Block}
 use Rattle.ir.specs.declared.graph.Jump.{Jump}
 use Rattle.ir.specs.declared.graph.Jump.TheVariants.{Go, Two, Return}
@@ -96,3 +98,17 @@ stays_is most bs xs new k o e h is n =
 
 pub starts_small : (g : Graph) (bs : List Block) → IsGraph g → size g ≤ 8000000 → bs ≡ g.blocks → AreSmall bs
 starts_small g bs fine few e = subst AreSmall (sym e) (record { graph = g; fine = fine; small = few })
+
+-- ---- the graph
+
+pub graph_made : (most : ℕ) (g v : Graph) (n : List ℕ) (s : List Scalar) (a : List Array) (bs made : List Block) → v ≡ g → n ≡ v.name → s ≡ v.scalars → a ≡ v.arrays → bs ≡ g.blocks
+    → made ≡ copied_blocks most (length bs) bs 0 → record { name = n; scalars = s; arrays = a; result = v.result; blocks = made } ≡ copied most g
+graph_made most g v n s a bs made h e_n e_s e_a e_b e =
+    ap (λ (x : List ℕ). record { name = x; scalars = s; arrays = a; result = v.result; blocks = made }) e_n
+    ∙ ap (λ (x : List Scalar). record { name = v.name; scalars = x; arrays = a; result = v.result; blocks = made }) e_s
+    ∙ ap (λ (x : List Array). record { name = v.name; scalars = v.scalars; arrays = x; result = v.result; blocks = made }) e_a
+    ∙ ap (λ (x : Graph). with_blocks x made) h
+    ∙ ap (with_blocks g) (e ∙ ap (λ xs. copied_blocks most (length xs) xs 0) e_b)
+
+pub passes_of : (most : ℕ) (g r : Graph) → CopiedGraphsPass → IsGraph g → r ≡ copied most g → PassesBack g r
+passes_of most g r law fine e = subst (PassesBack g) (sym e) (law most g fine)

@@ -1,7 +1,7 @@
 -- The weights of the blocks that are left, where another block stands in the place of one.
-use Rattle.std.proofs.Common.{◌≡◌, ◌≢◌, ℕ, ◌+◌, ◌<◌, List, length, get_or, drop, sym, ◌∙◌, ap, subst, arith}
+use Rattle.std.proofs.Common.{◌≡◌, ℕ, ◌+◌, ◌<◌, List, length, get_or, drop, sym, ◌∙◌, ap, arith}
 use Rattle.std.specs.Prelude.{set, sum_by}
-use Rattle.std.proofs.lemmas.List.{length-set, get_or-set_same, get_or-set_other}
+use Rattle.std.proofs.lemmas.List.{length-set}
 use Rattle.std.proofs.lemmas.List.Sums.{sum_by-drop_more}
 use Rattle.ir.specs.declared.graph.Block.{Block}
 use Rattle.ir.specs.Graphs.{block_weight}

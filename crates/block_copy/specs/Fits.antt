@@ -1,5 +1,5 @@
 -- Private: only contracts of private functions cite it. Blocks of a well formed graph, whose values can be numbered.
-use Rattle.std.specs.Prelude.{◌≡◌, ◌≤◌, ◌<◌, ◌+◌, ℕ, List, length, sum_by}
+use Rattle.std.specs.Prelude.{◌≤◌, ◌+◌, List, sum_by}
 use Rattle.ir.specs.declared.graph.Block.{Block}
 use Rattle.ir.specs.Graphs.{Graph, IsGraph, IsBlock, block_weight}
 use Rattle.block_merge.specs.Merged.{with_blocks}

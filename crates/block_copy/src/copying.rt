@@ -77,12 +77,7 @@ fn copied_blocks(alloc: Global, blocks: List<Block>, most: u64) -> Result<List<B
 }
 
 /// The best part of the row of the block at a place, where that is taken.
-fn copied_at(
-    alloc: Global,
-    blocks: &[Block],
-    at: usize,
-    most: u64,
-) -> Result<Option<Block>, Memory>
+fn copied_at(alloc: Global, blocks: &[Block], at: usize, most: u64) -> Result<Option<Block>, Memory>
     requires blocks { AreSmall blocks.now }
     requires within { at < length blocks.now }
     ensures { IfOk result (λ new. option_map_or (λ b. set blocks.now at b) new blocks.now

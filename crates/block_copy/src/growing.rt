@@ -167,8 +167,9 @@ fn take_in(alloc: Global, growth: Growth, number: u32, next: &Block) -> Result<T
     requires follows { CanFollow growth.row.block next.now }
     requires unseen { block_weight next.now ≤ growth.unseen }
     ensures { IfOk result (λ t. t ≡ turn_with growth next.now (record {
-        block = folded_behind growth.row.block next.now;
-        taken = growth.row.taken ++ number ∷ [] })) }
+      block = folded_behind growth.row.block next.now;
+      taken = growth.row.taken ++ number ∷ [];
+    })) }
 {
     let Growth { row, best, unseen } = growth;
     let unseen = unseen - next.weight();

@@ -91,13 +91,7 @@ impl Near {
     }
 
     /// Whether one of the next blocks, so many, is a wanted one.
-    fn finds(
-        self,
-        blocks: &[Block],
-        wanted: &[u32],
-        at: usize,
-        looks: u32,
-    ) -> Result<bool, Memory>
+    fn finds(self, blocks: &[Block], wanted: &[u32], at: usize, looks: u32) -> Result<bool, Memory>
         ensures { IfOk result (λ r. r ≡ finds looks blocks.now wanted.now at (search_of self)) }
     {
         let mut near = self;

@@ -19,8 +19,8 @@ returns-then-can_take_in c =
     let next = sym c.next_of.ensures ∙ c.in-Some.is in
     let lt = next_within c.args.blocks.now c.args.growth.row.block c.requires c.args.at c.in-Some.number next in
     let e =
-        turn_takes c.args.blocks.now c.args.at c.args.limit c.args.growth c.in-Some.number c.index-blocks-number.result next
-        (at_index c.args.blocks.now c.in-Some.number c.index-blocks-number.result lt c.index-blocks-number.is) (sym c.can_take_in.ensures ∙ c.if-can_take_in.true) in
+    turn_takes c.args.blocks.now c.args.at c.args.limit c.args.growth c.in-Some.number c.index-blocks-number.result next
+    (at_index c.args.blocks.now c.in-Some.number c.index-blocks-number.result lt c.index-blocks-number.is) (sym c.can_take_in.ensures ∙ c.if-can_take_in.true) in
     subst (λ (y : Turn). IfOk c.take_in.result (λ t. t ≡ y)) (sym e) c.take_in.ensures
 
 pub returns-else-can_take_in : goal.returns-else-can_take_in

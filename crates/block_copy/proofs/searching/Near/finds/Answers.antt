@@ -1,4 +1,4 @@
-use Rattle.std.proofs.Common.{◌-◌, sym, ◌∙◌}
+use Rattle.std.proofs.Common.{◌-◌, sym, ◌∙◌, arith}
 use Rattle.block_copy.specs.Searches.{finds, search_of}
 use Rattle.block_copy.proofs.Finding.{look_starts, look_finds, look_goes, look_ends}
 use Rattle.block_copy.proofs.searching.Near.finds.Goals as goal
@@ -11,7 +11,7 @@ returns-then-is_in c =
 pub returns-in-None : goal.returns-in-None
 returns-in-None c =
     look_ends c.args.blocks.now c.args.wanted.now c.args.at (c.args.looks - c.loop-look.look) c.loop-look.near.seen.items c.loop-look.near.left.items
-    (finds c.args.looks c.args.blocks.now c.args.wanted.now c.args.at (search_of c.args.self)) c.in-None.ensures.cases.0 c.loop-look.invariant
+    (finds c.args.looks c.args.blocks.now c.args.wanted.now c.args.at (search_of c.args.self)) (let h = c.in-None.ensures.cases.0 in omega arith) c.loop-look.invariant
 
 pub loop-look-init : goal.loop-look-init
 loop-look-init c = look_starts c.args.blocks.now c.args.wanted.now c.args.at c.args.looks (search_of c.args.self)
