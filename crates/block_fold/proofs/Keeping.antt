@@ -25,7 +25,7 @@ use Rattle.block_prune.specs.Pruned.{pruned}
 use Rattle.block_prune.specs.Laws.{PrunedBlocksKeep}
 use Rattle.block_fold.specs.Simplified.{Made, nothing_made, new_number, taken_all, simplified}
 use Rattle.block_fold.specs.Folded.{folded_block, folded}
-use Rattle.block_fold.specs.Laws.{SimplifiedBlocksKeep, FoldedGraphsPass}
+use Rattle.block_fold.specs.Laws.{SimplifiedBlocksKeep, FoldedBlocksKeep, FoldedGraphsPass}
 use Rattle.block_fold.proofs.Growing.{Start, shape, work, values, known_values}
 use Rattle.block_fold.proofs.Walking.{Follows, block_taken}
 use Rattle.block_fold.proofs.JumpLemmas.{jump_fits, jump_leads}
@@ -132,10 +132,14 @@ module _ (stay : ValuesStayInWidths) (rules : RewritingsAreRight) (conditions : 
 pub simplified_keeps : ValuesStayInWidths → RewritingsAreRight → ConditionsAreRight → SimplifiedBlocksKeep
 simplified_keeps stay rules conditions g b fine = keeps stay rules conditions g b fine
 
-pub folded_passes : BlocksPass → BlocksGoOn → SimplifiedBlocksKeep → PrunedBlocksKeep → FoldedGraphsPass
-folded_passes pass on simple prune g fine = pass g folded_block fine (λ b block.
+pub folded_keeps : BlocksGoOn → SimplifiedBlocksKeep → PrunedBlocksKeep → FoldedBlocksKeep
+unfolding folded_block
+folded_keeps on simple prune g b block =
     let one = simple g b block in
-    on g b (simplified b) (pruned (simplified b)) one (prune g (simplified b) one.fine))
+    on g b (simplified b) (pruned (simplified b)) one (prune g (simplified b) one.fine)
+
+pub folded_passes : BlocksPass → FoldedBlocksKeep → FoldedGraphsPass
+folded_passes pass keep g fine = pass g folded_block fine (keep g)
 
 -- ---- the graph that the code makes
 

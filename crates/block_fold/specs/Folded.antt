@@ -6,7 +6,7 @@ use Rattle.block_merge.specs.Merged.{with_blocks}
 use Rattle.block_prune.specs.Pruned.{pruned}
 use Rattle.block_fold.specs.Simplified.{simplified}
 
-abbrev pub folded_block : Block → Block
+unfoldable pub folded_block : Block → Block
 folded_block b = pruned (simplified b)
 
 abbrev pub folded : Graph → Graph

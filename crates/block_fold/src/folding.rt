@@ -44,13 +44,18 @@ fn folded_blocks(alloc: Global, blocks: &[Block]) -> Result<List<Block>, Memory>
 {
     let mut all = List::new(alloc);
     for block in blocks {
-        all.push(folded_block(alloc, block)?)?;
+        all.push(fold_block(alloc, block)?)?;
     }
     Ok(all)
 }
 
-// The block made anew, without what nothing needs then.
-fn folded_block(alloc: Global, block: &Block) -> Result<Block, Memory>
+/// The block made anew, without stores that are overwritten and pure steps that nothing needs. It weighs at most 8,000,000.
+///
+/// # Errors
+///
+/// [`Memory`] where memory is wanting.
+#[tactic(auto, unfolding(crate::specs::Folded::folded_block))]
+pub fn fold_block(alloc: Global, block: &Block) -> Result<Block, Memory>
     requires { block_weight block.now ≤ 8000000 }
     ensures { IfOk result (λ b. b ≡ folded_block block.now) }
 {

@@ -10,6 +10,6 @@ mod making;
 mod numbers;
 mod table;
 
-pub use folding::fold;
-pub use ir::{Ir, Memory};
-pub use laws::{folded_graphs_pass, simplified_blocks_keep};
+pub use folding::{fold, fold_block};
+pub use ir::{Block, Ir, Memory};
+pub use laws::{folded_blocks_keep, folded_graphs_pass, simplified_blocks_keep};

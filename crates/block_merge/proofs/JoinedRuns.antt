@@ -59,10 +59,10 @@ module _ (g : Graph) (k : ℕ) (to : To) (leads : LeadsOn g k to) where
   abbrev pub bc : Block
   bc = joined b to.with c
 
-  at_other : (n : ℕ) → n ≢ k → block_at h n ≡ block_at g n
+  pub at_other : (n : ℕ) → n ≢ k → block_at h n ≡ block_at g n
   at_other n ne = get_or-set_other g.blocks k n bc no_block ne
 
-  at_joined : block_at h k ≡ bc
+  pub at_joined : block_at h k ≡ bc
   at_joined = get_or-set_same g.blocks k bc no_block leads.within
 
   pub target : IsTarget g.blocks (shape_of g b) to
@@ -78,16 +78,16 @@ module _ (g : Graph) (k : ℕ) (to : To) (leads : LeadsOn g k to) where
   hand = subst (λ (x : Block). AreHanded (shape_of g b) to.with x.args) (sym target_is) target.handed
 
   -- what the visit of the joined block makes, from the two visits
-  record Both (us : List ℕ) (xs : List (List ℕ)) (w : Visit) : Type 0 where
-    onward : (passage h (record { block = k; given = us; arrays = xs })).onward ≡ (passage g w).onward
-    arrays : (passage h (record { block = k; given = us; arrays = xs })).arrays ≡ (passage g w).arrays
-    strays : (passage h (record { block = k; given = us; arrays = xs })).strays ≡ (passage g (record { block = k; given = us; arrays = xs })).strays + (passage g w).strays
-    weight : weight h (record { block = k; given = us; arrays = xs }) ≤ weight g (record { block = k; given = us; arrays = xs }) + weight g w
+  pub record Both (us : List ℕ) (xs : List (List ℕ)) (w : Visit) : Type 0 where
+    pub onward : (passage h (record { block = k; given = us; arrays = xs })).onward ≡ (passage g w).onward
+    pub arrays : (passage h (record { block = k; given = us; arrays = xs })).arrays ≡ (passage g w).arrays
+    pub strays : (passage h (record { block = k; given = us; arrays = xs })).strays ≡ (passage g (record { block = k; given = us; arrays = xs })).strays + (passage g w).strays
+    pub weight : weight h (record { block = k; given = us; arrays = xs }) ≤ weight g (record { block = k; given = us; arrays = xs }) + weight g w
 
-  goes_on : (us : List ℕ) (xs : List (List ℕ)) → (passage g (record { block = k; given = us; arrays = xs })).onward ≡ handed (through b.steps (beginning us xs)).values to
+  pub goes_on : (us : List ℕ) (xs : List (List ℕ)) → (passage g (record { block = k; given = us; arrays = xs })).onward ≡ handed (through b.steps (beginning us xs)).values to
   goes_on us xs = ap (λ j. onward_of j (through b.steps (beginning us xs)).values) leads.goes
 
-  both : (us : List ℕ) (xs : List (List ℕ)) (w : Visit) → length us ≡ length b.args → next_visit (passage g) (record { block = k; given = us; arrays = xs }) ≡ Some w → Both us xs w
+  pub both : (us : List ℕ) (xs : List (List ℕ)) (w : Visit) → length us ≡ length b.args → next_visit (passage g) (record { block = k; given = us; arrays = xs }) ≡ Some w → Both us xs w
   both us xs w long e =
       let one = through b.steps (beginning us xs) in
       let t = together g b c to.with us xs (is_block g leads.graph k leads.within) is_c hand long in
@@ -109,11 +109,11 @@ module _ (g : Graph) (k : ℕ) (to : To) (leads : LeadsOn g k to) where
     cheap : over_visits (weight h) (v ∷ again) ≤ over_visits (weight g) (v ∷ rest)
 
   -- a visit of another block
-  record Alike (v : Visit) : Type 0 where
-    passage_is : passage h v ≡ passage g v
-    weight_is : weight h v ≡ weight g v
+  pub record Alike (v : Visit) : Type 0 where
+    pub passage_is : passage h v ≡ passage g v
+    pub weight_is : weight h v ≡ weight g v
 
-  other : (v : Visit) → v.block ≢ k → Alike v
+  pub other : (v : Visit) → v.block ≢ k → Alike v
   other v ne = let e = at_other v.block ne in record { passage_is = ap (λ (x : Block). by_block x v.given v.arrays) e; weight_is = ap block_weight e }
 
   same_last : (v : Visit) (r : Option ℕ) (arrays : List (List ℕ)) → Alike v → Returns (passage g) v r arrays → Same v [] r arrays
@@ -154,7 +154,7 @@ module _ (g : Graph) (k : ℕ) (to : To) (leads : LeadsOn g k to) where
   }
 
   -- the visit of block k is one with its number
-  at_k : (v : Visit) → v.block ≡ k → v ≡ record { block = k; given = v.given; arrays = v.arrays }
+  pub at_k : (v : Visit) → v.block ≡ k → v ≡ record { block = k; given = v.given; arrays = v.arrays }
   at_k v e = ap (λ n. record { block = n; given = v.given; arrays = v.arrays }) e
 
   not_last : (v : Visit) (r : Option ℕ) (arrays : List (List ℕ)) → v.block ≡ k → Returns (passage g) v r arrays → ⊥

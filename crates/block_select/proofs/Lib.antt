@@ -3,7 +3,6 @@ pub mod Meetings
 pub mod Sides
 pub mod ChoiceLemmas
 pub mod Choosing
-pub mod Runs
 pub mod OneBlock
 pub mod Passing
 pub mod Arming

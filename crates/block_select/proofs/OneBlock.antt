@@ -35,7 +35,7 @@ use Rattle.block_select.proofs.Quiet.{quiet_arrays, quiet_strays, quiet_stores}
 use Rattle.block_select.proofs.Meetings.{Meets, leads_by}
 use Rattle.block_select.proofs.Sides.{AlongSide, along_side, along_block, arm_visit, side_onward, side_same, along_hands, along_width, along_target, end_hands, along_arrays, along_strays, along_values, along_value, end_leads}
 use Rattle.block_select.proofs.Choosing.{selects_quiet, choosing_fits, choosing_hands, choosing_leads}
-use Rattle.block_select.proofs.Runs.{AlikeOrPast}
+use Rattle.block_pass.proofs.Runs.{AlikeOrPast}
 
 -- block k has a condition, and its sides meet
 pub record Chooses (g : Graph) (k c : ℕ) (yes_part no_part : To) (m : Meeting) : Type 0 where

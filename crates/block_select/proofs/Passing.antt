@@ -25,7 +25,7 @@ use Rattle.block_select.specs.Arms.{meeting}
 use Rattle.block_select.specs.Selected.{selected_block, with_light, selected_by, selected_at, selected_blocks, selected}
 use Rattle.block_select.proofs.Meetings.{meets}
 use Rattle.block_select.proofs.OneBlock.{Chooses, same_args, same_stores, new_graph, each_visit}
-use Rattle.block_select.proofs.Runs.{shorter, longer}
+use Rattle.block_pass.proofs.Runs.{shorter, longer}
 
 -- ---- passes
 

@@ -3,7 +3,6 @@
 
 mod arms;
 mod choices;
-mod copying;
 mod laws;
 mod selecting;
 

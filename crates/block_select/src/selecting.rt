@@ -21,8 +21,8 @@ ghost use Rattle.block_select.specs.Light.{AreLight, CanGoAlong, SidesMeet};
 
 use crate::arms::{Meeting, Way, meeting_of};
 use crate::choices::{add_selects, choices, chosen_values};
-use crate::copying::{copy_block, copy_blocks, copy_edge};
 use block_merge::join;
+use block_pass::{copy_block, copy_blocks, copy_edge};
 use el_base::{copy_arrays, copy_scalars};
 use ir::{Block, Ir, Jump, List, Memory, To};
 use std::alloc::Global;

@@ -5,7 +5,11 @@ use ir::{Block, Jump, List, Memory, To};
 use std::alloc::Global;
 
 /// An equal edge.
-pub(crate) fn copy_edge(edge: &To) -> Result<To, Memory>
+///
+/// # Errors
+///
+/// [`Memory`] where memory is wanting.
+pub fn copy_edge(edge: &To) -> Result<To, Memory>
     ensures { IfOk result (λ t. t ≡ edge.now) }
 {
     Ok(To {
@@ -30,7 +34,11 @@ fn copy_jump(jump: &Jump) -> Result<Jump, Memory>
 }
 
 /// An equal block.
-pub(crate) fn copy_block(block: &Block) -> Result<Block, Memory>
+///
+/// # Errors
+///
+/// [`Memory`] where memory is wanting.
+pub fn copy_block(block: &Block) -> Result<Block, Memory>
     ensures { IfOk result (λ b. b ≡ block.now) }
 {
     Ok(Block {
@@ -41,7 +49,11 @@ pub(crate) fn copy_block(block: &Block) -> Result<Block, Memory>
 }
 
 /// Equal blocks, in their order.
-pub(crate) fn copy_blocks(alloc: Global, blocks: &[Block]) -> Result<List<Block>, Memory>
+///
+/// # Errors
+///
+/// [`Memory`] where memory is wanting.
+pub fn copy_blocks(alloc: Global, blocks: &[Block]) -> Result<List<Block>, Memory>
     ensures { IfOk result (λ copies. copies ≡ blocks.now) }
 {
     let mut copies = List::new(alloc);

@@ -1,5 +1,5 @@
 use Rattle.std.proofs.Common.{◌≡◌, take}
-use Rattle.block_select.proofs.copying.copy_blocks.Given as goal
+use Rattle.block_pass.proofs.copying.copy_blocks.Given as goal
 
 abbrev pub invariant-loop-block : goal.invariant-loop-block
 invariant-loop-block l = l.copies ≡ take l.block-index l.blocks
