@@ -5,11 +5,12 @@ use Rattle.std.specs.Option.{option_map_or}
 use Rattle.std.proofs.lemmas.Bool.{le-leb}
 use Rattle.std.proofs.Math.Seq.{drop-cons}
 use Rattle.ir.specs.Graphs.{Graph, IsGraph, size}
+use Rattle.block_copy.specs.Copied.{copied}
 use Rattle.block_fold.specs.Folded.{folded}
 use Rattle.block_select.specs.Selected.{selected}
 use Rattle.block_pass.specs.Laws.{EachKeepsItself, PassesGoOn, EndsGoBack, MergedGraphsPass, PassesBack}
 use Rattle.kernel_graph.specs.declared.passes.Pass.{Pass}
-use Rattle.kernel_graph.specs.declared.passes.Pass.TheVariants.{Fold, Merge, Select}
+use Rattle.kernel_graph.specs.declared.passes.Pass.TheVariants.{Fold, Merge, Select, Copy}
 use Rattle.kernel_graph.specs.Optimized.{pass_of, after_passes, pass_order, is_within, accepted, optimized_within}
 use Rattle.kernel_graph.specs.Laws.{OptimizedGraphsPass}
 
@@ -23,6 +24,7 @@ pub record PassesKeep : Type 0 where
   pub merges : MergedGraphsPass
   pub folds : (g : Graph) → IsGraph g → PassesBack g (folded g)
   pub selects : (most : ℕ) (g : Graph) → IsGraph g → PassesBack g (selected most g)
+  pub copies : (most : ℕ) (g : Graph) → IsGraph g → PassesBack g (copied most g)
 
 module _ (laws : PassesKeep) (most : ℕ) where
   unchanged : (g : Graph) → IsGraph g → PassesBack g g
@@ -32,6 +34,7 @@ module _ (laws : PassesKeep) (most : ℕ) where
   pass_keeps Fold g fine = laws.folds g fine
   pass_keeps Merge g fine = laws.merges g fine
   pass_keeps Select g fine = laws.selects most g fine
+  pass_keeps Copy g fine = laws.copies most g fine
 
   passes_keep : (ps : List Pass) (g h : Graph) → IsGraph g → after_passes most ps g ≡ Some h → PassesBack g h
   passes_keep [] g h fine e = let z : g ≡ h = cc in subst (PassesBack g) z (unchanged g fine)
@@ -71,7 +74,7 @@ none_passed most i ps g first lt small e =
 -- ---- the last test
 
 abbrev later : List Pass
-later = Merge ∷ Select ∷ Merge ∷ Fold ∷ Merge ∷ []
+later = Merge ∷ Select ∷ Copy ∷ Merge ∷ Fold ∷ Select ∷ Merge ∷ Fold ∷ Merge ∷ []
 
 module _ (most : ℕ) (g f : Graph) (o : Option Graph) (small : size g ≤ 8000000) (first : f ≡ pass_of most Fold g) (made : o ≡ after_passes most later f) where
   all_are : after_passes most pass_order g ≡ o

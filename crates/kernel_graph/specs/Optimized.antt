@@ -6,17 +6,19 @@ use Rattle.std.specs.Option.{option_map_or}
 use Rattle.ir.specs.declared.graph.Block.{Block}
 use Rattle.ir.specs.Accesses.{accesses_in}
 use Rattle.ir.specs.Graphs.{Graph, block_weight, size}
+use Rattle.block_copy.specs.Copied.{copied}
 use Rattle.block_fold.specs.Folded.{folded}
 use Rattle.block_merge.specs.Merged.{merged}
 use Rattle.block_select.specs.Selected.{selected}
 use Rattle.kernel_graph.specs.declared.passes.Pass.{Pass}
-use Rattle.kernel_graph.specs.declared.passes.Pass.TheVariants.{Fold, Merge, Select}
+use Rattle.kernel_graph.specs.declared.passes.Pass.TheVariants.{Fold, Merge, Select, Copy}
 
--- what a pass makes of a graph; most is the greatest weight of a block with choices
+-- what a pass makes of a graph; most is the greatest weight of a block with choices or copies
 abbrev pub pass_of : ℕ → Pass → Graph → Graph
 pass_of most Fold g = folded g
 pass_of most Merge g = merged g
 pass_of most Select g = selected most g
+pass_of most Copy g = copied most g
 
 -- the passes one after another, or nothing where one would begin with a graph of a size past 8,000,000
 abbrev pub after_passes : ℕ → List Pass → Graph → Option Graph
@@ -24,7 +26,7 @@ after_passes most [] g = Some g
 after_passes most (p ∷ ps) g = cond (nat_le (size g) 8000000) (after_passes most ps (pass_of most p g)) None
 
 abbrev pub pass_order : List Pass
-pass_order = Fold ∷ Merge ∷ Select ∷ Merge ∷ Fold ∷ Merge ∷ []
+pass_order = Fold ∷ Merge ∷ Select ∷ Copy ∷ Merge ∷ Fold ∷ Select ∷ Merge ∷ Fold ∷ Merge ∷ []
 
 -- the block weighs at most so much, and has at most 1,024 accesses
 abbrev pub is_light : ℕ → Block → Bool

@@ -1,6 +1,7 @@
 //! The laws, each as the contract of a function that does nothing.
 ghost use Rattle.kernel_graph.specs.Laws.{GraphsAreOne, OptimizedGraphsPass, StoresAreAssignments};
 
+use block_copy::copied_graphs_pass;
 use block_fold::folded_graphs_pass;
 use block_pass::{merged_graphs_pass, passes_go_on};
 use block_select::selected_graphs_pass;
@@ -25,4 +26,5 @@ pub fn optimized_graphs_pass()
     merged_graphs_pass();
     folded_graphs_pass();
     selected_graphs_pass();
+    copied_graphs_pass();
 }

@@ -4,6 +4,7 @@ ghost use Rattle.ir.specs.Accesses.{accesses_in};
 ghost use Rattle.ir.specs.Graphs.{size};
 ghost use Rattle.kernel_graph.specs.Optimized.{pass_of, after_passes, is_light, is_within, optimized_within};
 
+use block_copy::copy;
 use block_fold::fold;
 use block_merge::merge;
 use block_select::select;
@@ -26,10 +27,12 @@ pub(crate) enum Pass {
     Merge,
     /// Choices of values in place of branches.
     Select,
+    /// Copies of blocks behind others, where conditions are constants then.
+    Copy,
 }
 
 impl Pass {
-    /// What the pass makes of a graph. No block with choices weighs more than `most`.
+    /// What the pass makes of a graph. No block with choices or copies weighs more than `most`.
     fn run(self, alloc: Global, graph: &Ir, most: u64) -> Result<Ir, Memory>
         requires small { size graph.now ≤ 8000000 }
         requires light { most ≤ 8000000 }
@@ -39,6 +42,7 @@ impl Pass {
             Pass::Fold => fold(alloc, graph),
             Pass::Merge => merge(alloc, graph),
             Pass::Select => select(alloc, graph, most),
+            Pass::Copy => copy(alloc, graph, most),
         }
     }
 }
@@ -57,6 +61,10 @@ pub(crate) fn optimize(alloc: Global, graph: Ir, most: u64) -> Result<Ir, Memory
     let folded = Pass::Fold.run(alloc, &graph, most)?;
     let order = [
         Pass::Merge,
+        Pass::Select,
+        Pass::Copy,
+        Pass::Merge,
+        Pass::Fold,
         Pass::Select,
         Pass::Merge,
         Pass::Fold,

@@ -9,4 +9,5 @@ returns c = optimized_passes (record {
   merges = c.merged_graphs_pass.ensures;
   folds = c.folded_graphs_pass.ensures;
   selects = c.selected_graphs_pass.ensures;
+  copies = c.copied_graphs_pass.ensures;
 })
