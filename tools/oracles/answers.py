@@ -1,7 +1,7 @@
 #!/usr/bin/env python3
 """The answers to rows that depend on the circuits of kernels or on the passes over block graphs, made beside the program by this folder.
 
-usage: tools/oracles/answers.py [--order LETTERS] [--divide] check|write [NAME..]
+usage: tools/oracles/answers.py [--order LETTERS] [--divisions] check|write [NAME..]
 
 `check` compares them with the files stdout of given_middle, given_calls and elastic, and tells which lines are others; `write` writes
 them there. NAMEs of files of data leave out the others; graphs.tsv and merged.tsv, which no pass changes, are left out unless named (they
@@ -265,7 +265,7 @@ def main(words):
     if not rest or rest[0] not in ("check", "write"):
         sys.exit(__doc__)
     sys.setrecursionlimit(100_000)
-    passes, differ = Passes(found.get("order", optimized_graph.ORDER), found.get("divide", optimized_graph.DIVIDES)), 0
+    passes, differ = Passes(found.get("order", optimized_graph.ORDER), optimized_graph.divides_by(found)), 0
     every = {name for files in FILES.values() for name in files} | {"elastic"}
     names = set(rest[1:]) or every - SLOW
     if names - every:

@@ -10,6 +10,7 @@ import loop_cases
 import rule_cases
 from blocks import Graph, mg
 from by_c import wrapped
+from divide import divided
 from fold import fold
 from walking import escaped
 
@@ -273,7 +274,7 @@ def selected():
         has_array = "load" in blocks or "store" in blocks
         yield line(what, "u32:x u32:y", "u32:a:4" * has_array, "u32", blocks, "x = 3\ny = 5\n" + "a = 1 2 3 4\n" * has_array, most)
     for name, graph, inputs in example_graphs():
-        made = fold(graph)
+        made = fold(graph, divided)
         made = made.with_blocks(mg.merged(made.blocks))
         yield line(f"examples/{name}, folded and merged", *made.fields(), inputs, 10 * graph.nodes)
     for name, text, given in rule_cases.KERNELS[19:] + rule_cases.COSTS:

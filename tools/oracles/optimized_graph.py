@@ -9,7 +9,7 @@ It prints the merged graph, what folding and selecting each make of it, and the 
 of blocks and its size; graphs in the form of the graphs of given_middle, which lean_net.py reads.
   --order LETTERS  the passes of the optimized graph from left to right: f folds, m merges, s selects, c copies; where none are named, those
                    of the program
-  --divide         folding makes products and shifts of divisions by constants
+  --divisions      folding leaves divisions by constants
   --rules          the rules of folding that were taken, with how often, in place of the graphs
   --net            the netlist of the optimized graph in place of the graphs, with the usual slots and delays
   --depth N        the same, with the delays of a depth
@@ -26,7 +26,7 @@ from select_arms import select
 BUDGET = 96
 SELECTING, COPYING = "FMSMFM", "FMSCMFSMFM"
 # The passes of the program, and whether it makes products of divisions by constants.
-ORDER, DIVIDES = SELECTING, False
+ORDER, DIVIDES = COPYING, True
 
 
 def is_fit(graph, most):
@@ -38,6 +38,8 @@ def optimized(graph, order=ORDER, divides=DIVIDES):
     """What the passes of an order make of a graph; the graph itself where that is not fit, or was too great between two passes."""
     rule, most, made = divided if divides else None, 10 * graph.nodes, graph
     for letter in order.upper():
+        if made.size() > MOST_SIZE:
+            return graph
         if letter == "F":
             made = fold.fold(made, rule)
         elif letter == "M":
@@ -46,8 +48,6 @@ def optimized(graph, order=ORDER, divides=DIVIDES):
             made = select(made, most)
         elif letter == "C":
             made = copy(made, BUDGET, rule, most)
-        if made.size() > MOST_SIZE:
-            return graph
     return made if is_fit(made, most) else graph
 
 
@@ -59,9 +59,14 @@ def show(graph, order, divides):
         print("\t".join(made.fields()))
 
 
+def divides_by(words):
+    """Whether folding makes products of divisions by constants, by the options."""
+    return DIVIDES and "divisions" not in words
+
+
 def shown(graph, words):
     """Prints what the options ask for."""
-    order, divides = words.get("order", ORDER), words.get("divide", DIVIDES)
+    order, divides = words.get("order", ORDER), divides_by(words)
     if "rules" in words:
         fold.TAKEN.clear()
         optimized(graph, order, divides)
@@ -79,7 +84,7 @@ def options(words):
         word = words.pop(0)
         if word in ("--order", "--depth", "--told") and words:
             found[word[2:]] = words.pop(0)
-        elif word in ("--divide", "--rules", "--net"):
+        elif word in ("--divisions", "--rules", "--net"):
             found[word[2:]] = True
         else:
             rest.append(word)

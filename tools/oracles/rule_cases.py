@@ -164,7 +164,7 @@ def show():
     for name, text, _ in cases():
         graph = Graph.of_kernel(text)
         fold.TAKEN.clear()
-        made = optimized_graph.optimized(graph, optimized_graph.SELECTING)
+        made = optimized_graph.optimized(graph, optimized_graph.SELECTING, True)
         taken = ", ".join(f"{rule} {count}" for rule, count in fold.TAKEN.most_common() if count)
         print(f"{name}: {graph.nodes} nodes, blocks {len(graph.blocks)} to {len(made.blocks)}, size {graph.size()} to {made.size()}; {taken}")
 
