@@ -20,9 +20,9 @@ import sources  # noqa: E402
 import unproved_program  # noqa: E402
 
 AT_ONCE = 2
-# elastic is built as `make try` builds it. given_calls makes many millions of firings. The others are built in less time, and run
-# slower: so they have more time.
-LEVELS = {"elastic": "-O3", "given_calls": "-O1"}
+# elastic is built as `make try` builds it. given_calls and given_middle make many millions of firings and turns. The others are built
+# in less time, and run slower: so they have more time.
+LEVELS = {"elastic": "-O3", "given_calls": "-O1", "given_middle": "-O1"}
 MOST = 600
 
 

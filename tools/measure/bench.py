@@ -169,7 +169,7 @@ def time_merge(bench):
 
 
 def time_build(bench):
-    """circuits of block graphs (--size)"""
+    """circuits of block graphs (--size, of 27,000 at least)"""
     tell(bench.benches("build", bench.words.size))
 
 
@@ -266,7 +266,10 @@ def main():
     words.elastic = words.elastic and str(pathlib.Path(words.elastic).resolve()) or program.chosen()
     for name in words.names or ALL:
         with tempfile.TemporaryDirectory() as folder:
-            ALL[name](Bench(words, pathlib.Path(folder)))
+            try:
+                ALL[name](Bench(words, pathlib.Path(folder)))
+            except subprocess.CalledProcessError as failed:
+                sys.exit(f"bench.py: {name}: `{' '.join(map(str, failed.cmd))}` ended with status {failed.returncode}")
 
 
 if __name__ == "__main__":

@@ -17,7 +17,7 @@ use Rattle.block_rules.specs.declared.rewriting.Condition.{Condition}
 use Rattle.block_rules.specs.Known.{AreValues}
 use Rattle.block_rules.specs.Rules.{stripped}
 use Rattle.block_rules.specs.Laws.{DecidesAlike, ConditionsAreRight}
-use Rattle.block_fold.specs.Numbers.{const_at}
+use Rattle.block_rules.specs.Reading.{const_at}
 use Rattle.block_fold.specs.Jumps.{same_target, decided, decided_by, folded_jump}
 use Rattle.block_fold.proofs.StepLemmas.{SameValues}
 use Rattle.block_fold.proofs.Sums.{constant_value}

@@ -14,7 +14,7 @@ use Rattle.ir.specs.Steps.{value_at}
 use Rattle.ir.specs.Shapes.{Shape, IsOfWidth}
 use Rattle.block_pass.proofs.Values.{fit_at}
 use Rattle.block_rules.specs.Known.{AreValues}
-use Rattle.block_fold.specs.Numbers.{step_at, constant_of, const_at}
+use Rattle.block_rules.specs.Reading.{step_at, constant_of, const_at}
 use Rattle.block_fold.specs.declared.known.Sum.{Sum}
 use Rattle.block_fold.specs.Addresses.{alone, sum_with, is_sum, sum_of_step, sum_at, same_base, differ}
 use Rattle.block_fold.proofs.Equal.{op2_same}
@@ -45,8 +45,13 @@ constant_is (Some (Select w x a b)) c h = absurd (cc)
 constant_is (Some (Load a p)) c h = absurd (cc)
 constant_is (Some (Store a p v)) c h = absurd (cc)
 
+constant_step : (n : ℕ) (steps : List Instr) (v w c : ℕ) → step_at n steps v ≡ Some (Const w c) → const_at n steps v ≡ Some c
+unfolding const_at
+constant_step n steps v w c h = ap constant_of h
+
 module _ (xs : List Array) (n : ℕ) (steps : List Instr) (ws : Shape) (vs : List ℕ) (known : AreValues xs n steps ws vs) where
   pub constant_value : (v c : ℕ) → const_at n steps v ≡ Some c → value_at vs v ≡ c
+  unfolding const_at
   constant_value v c h =
       let k = constant_is (step_at n steps v) c h in
       let at = step_found n steps v (Const k.0 c) k.1 in
@@ -61,6 +66,7 @@ module _ (xs : List Array) (n : ℕ) (steps : List Instr) (ws : Shape) (vs : Lis
       subst (λ z. c < 2 ^ z) e (known.fits at.place (Const w c) at.is_step).1
 
   constant_below : (v c : ℕ) → const_at n steps v ≡ Some c → IsOfWidth ws v 64 → c < 2 ^ 64
+  unfolding const_at
   constant_below v c h wide = let k = constant_is (step_at n steps v) c h in constant_step_below v k.0 c k.1 wide
 
 -- ---- sums
@@ -104,7 +110,7 @@ module _ (xs : List Array) (n : ℕ) (steps : List Instr) (ws : Shape) (vs : Lis
   step_is : (v : ℕ) → IsOfWidth ws v 64 → (o : Option Instr) → step_at n steps v ≡ o → IsSum vs v (sum_of_step n steps v o)
   step_is v wide None e = alone_is vs v
   step_is v wide (Some (Const w c)) e =
-      let is_c = constant_value xs n steps ws vs known v c (ap constant_of e) in
+      let is_c = constant_value xs n steps ws vs known v c (constant_step n steps v w c e) in
       record { below = constant_step_below xs n steps ws vs known v w c e wide; less = 0; more = 0; wraps = omega (arith, is_c) }
   step_is v wide (Some (One op x)) e = alone_is vs v
   step_is v wide (Some (Two op x y)) e = by (is_sum op) refl

@@ -7,7 +7,7 @@ use Rattle.ir.specs.declared.instr.Instr.{Instr}
 use Rattle.ir.specs.declared.instr.Instr.TheVariants.{Const, One, Two, Select, Load, Store}
 use Rattle.block_fold.specs.declared.known.Known.{Known}
 use Rattle.block_fold.specs.declared.known.Sum.{Sum}
-use Rattle.block_fold.specs.Numbers.{step_at, const_at}
+use Rattle.block_rules.specs.Reading.{step_at, const_at}
 
 -- the value that is known to stand at an address of an array
 abbrev pub known_value : List Known → ℕ → ℕ → Option ℕ

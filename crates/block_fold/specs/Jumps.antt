@@ -8,7 +8,7 @@ use Rattle.ir.specs.declared.graph.To.{To}
 use Rattle.block_merge.specs.Renamed.{renamed_to}
 use Rattle.block_rules.specs.declared.rewriting.Condition.{Condition}
 use Rattle.block_rules.specs.Rules.{stripped}
-use Rattle.block_fold.specs.Numbers.{const_at}
+use Rattle.block_rules.specs.Reading.{const_at}
 
 abbrev pub same_target : To → To → Bool
 same_target s t = (s.block == t.block) && pointwise ◌==◌ s.with t.with

@@ -1,7 +1,8 @@
 //! New numbers of values, and what steps say of a value.
 ghost use Rattle.std.specs.Prelude.{◌≡◌};
 ghost use Rattle.ir.specs.Renaming.{renamed};
-ghost use Rattle.block_fold.specs.Numbers.{renumbered, step_at, const_at};
+ghost use Rattle.block_rules.specs.Reading.{step_at, const_at};
+ghost use Rattle.block_fold.specs.Numbers.{renumbered};
 
 use ir::Instr;
 
@@ -63,6 +64,7 @@ pub(crate) fn step_at(args: u32, steps: &[Instr], value: u32) -> Option<Instr>
 }
 
 /// The constant that a value is, if it is one.
+#[tactic(auto, unfolding(block_rules::specs::Reading::const_at))]
 pub(crate) fn const_at(args: u32, steps: &[Instr], value: u32) -> Option<u64>
     ensures { result ≡ const_at args steps.now value }
 {

@@ -93,6 +93,9 @@ fn graphs() {
     block_merge::merged_graphs_keep();
     block_pass::blocks_go_on();
     block_pass::block_by_block();
+    block_prune::sample_is_pruned();
+    block_rules::values_are_bounded();
+    block_select::samples_are_selected();
 }
 
 /// Laws of nets, queues and runs.
