@@ -6,7 +6,7 @@
 # build: proves the program and all below it: crates/elastic/out/elastic; from scratch it takes most of the time of make test
 # test: continuous integration, rt ci: every proof, every program, and the mutants of must-fail/
 # clients: tests the tools of tools/use and examples/clients, the examples and the manual (PROGRAM=FILE: with that program)
-# documents: checks README.md and docs/: names, links, long sentences, counted numbers, and the list of causes of "out of memory"
+# documents: checks README.md and docs/: names, long sentences, numbers of words, counted numbers, and the list of causes of "out of memory"
 # load: stress tests of the proved program: limits, saved states, small stacks, failed allocations, workers (PROGRAM=FILE: of that)
 # bench: times the compiler and runs: make bench BENCH="front ref"; tools/measure/bench.py --list names them (PROVED=1: proved ones)
 # help: these lines
