@@ -23,7 +23,7 @@ class Row:
 
     def __init__(self, blocks, number, budget, divided):
         self.blocks, self.number, self.divided = blocks, number, divided
-        self.most_work = work(blocks[number]) + 4 * budget
+        self.most_work = work(blocks[number]) + 2 * budget
         self.block, self.taken, self.best, self.unseen = fold_block(blocks[number], divided), [], None, MOST_SEEN
 
     def can_take_in(self, behind):

@@ -162,6 +162,6 @@ first_fits law bs k are lt =
     let g = with_blocks are.graph bs in
     record { graph = are.graph; fine = are.fine; block = (law g (block_of bs k) (is_block g are.fine k lt)).fine }
 
-pub best_row_is : (bs : List Block) (k turns limit : ℕ) (s : Growth) → turns ≡ max_turns → limit ≡ nonconstants_in (block_of bs k).steps + 384 → s ≡ first_growth (block_of bs k) → grown turns bs k limit s ≡ best_row bs k
+pub best_row_is : (bs : List Block) (k turns limit : ℕ) (s : Growth) → turns ≡ max_turns → limit ≡ nonconstants_in (block_of bs k).steps + 192 → s ≡ first_growth (block_of bs k) → grown turns bs k limit s ≡ best_row bs k
 best_row_is bs k turns limit s e l f =
-    ap (λ n. grown n bs k limit s) e ∙ (ap (λ m. grown max_turns bs k m s) l ∙ ap (grown max_turns bs k (nonconstants_in (block_of bs k).steps + 384)) f)
+    ap (λ n. grown n bs k limit s) e ∙ (ap (λ m. grown max_turns bs k m s) l ∙ ap (grown max_turns bs k (nonconstants_in (block_of bs k).steps + 192)) f)

@@ -91,7 +91,7 @@ first_growth b = record { row = record { block = folded_block b; taken = [] }; b
 
 -- the unfinished row has at most so many more steps that are no constants than the block
 abbrev pub max_unfinished : ℕ
-max_unfinished = 384
+max_unfinished = 192
 
 abbrev pub best_row : List Block → ℕ → Option Row
 best_row bs k = let b = block_of bs k in grown max_turns bs k (nonconstants_in b.steps + max_unfinished) (first_growth b)

@@ -29,7 +29,7 @@ const MAX_SEEN: u128 = 4096;
 /// So there are at most that many turns, each block weighing at least 1.
 const MAX_TURNS: u32 = 4097;
 /// A row that is made has at most so many more steps that are no constants than its block.
-const MAX_UNFINISHED: u128 = 384;
+const MAX_UNFINISHED: u128 = 192;
 /// A block weighs at most so much, so that its values can be numbered.
 const MAX_WEIGHT: u128 = 8_000_000;
 

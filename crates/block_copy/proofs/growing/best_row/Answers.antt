@@ -24,6 +24,6 @@ grown-requires c =
 pub returns : goal.returns
 returns c =
     let is = at_index c.args.blocks.now c.args.at c.index-blocks-at.result c.requires.within c.index-blocks-at.is in
-    let l = ap (λ n. n + 384) (c.nonconstants_in.ensures ∙ (ap nonconstants_in c.as_slice.ensures ∙ ap (λ (x : Block). nonconstants_in x.steps) is)) in
-    let e = best_row_is c.args.blocks.now c.args.at 4097 (c.nonconstants_in.result + 384) c.in_ok-growth.growth (sym turns_are) l (c.in_ok-growth.ensures ∙ ap first_growth is) in
+    let l = ap (λ n. n + 192) (c.nonconstants_in.ensures ∙ (ap nonconstants_in c.as_slice.ensures ∙ ap (λ (x : Block). nonconstants_in x.steps) is)) in
+    let e = best_row_is c.args.blocks.now c.args.at 4097 (c.nonconstants_in.result + 192) c.in_ok-growth.growth (sym turns_are) l (c.in_ok-growth.ensures ∙ ap first_growth is) in
     subst (λ (y : Option Row). IfOk c.grown.result (λ r. r ≡ y)) e c.grown.ensures
