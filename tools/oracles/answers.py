@@ -15,6 +15,7 @@ import optimized_graph
 import placing
 import simulate
 from blocks import Graph, mg
+from copy_joins import copy
 from fold import fold
 from select_arms import select
 from walking import Walk, escaped, plain, read_inputs
@@ -102,6 +103,11 @@ def folded_answer(passes, fields, _):
 
 def selected_answer(passes, fields, _):
     return both(select(Graph.told(fields[2:6]), int(fields[1])), plain(fields[6]))
+
+
+def copied_answer(passes, fields, _):
+    rule = optimized_graph.divided if passes.divides else None
+    return both(copy(Graph.told(fields[2:6]), optimized_graph.BUDGET, rule, int(fields[1])), plain(fields[6]))
 
 
 # ---- given_calls
@@ -206,7 +212,7 @@ def agreement_answer(passes, fields, _):
 
 FILES = {
     "given_middle": {"walks.tsv": walk_answer, "live.tsv": arguments_answer, "circuits.tsv": circuit_answer, "graphs.tsv": graph_answer,
-                     "merged.tsv": merged_answer, "folded.tsv": folded_answer, "selected.tsv": selected_answer,
+                     "merged.tsv": merged_answer, "folded.tsv": folded_answer, "selected.tsv": selected_answer, "copied.tsv": copied_answer,
                      "optimized.tsv": optimized_answer},
     "given_calls": {"calls.tsv": call_answer, "circuits.tsv": go_answer, "lines.tsv": lines_answer, "bench.tsv": bench_answer, "kernels.tsv": agreement_answer,
                     "rules.tsv": agreement_answer, "quotients.tsv": agreement_answer, "loops.tsv": agreement_answer},

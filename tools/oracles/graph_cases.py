@@ -1,5 +1,5 @@
 #!/usr/bin/env python3
-"""Writes rows of given_middle that try passes over block graphs: data/folded.tsv and data/selected.tsv, graphs that are told, and
+"""Writes rows of given_middle that try passes over block graphs: data/folded.tsv, selected.tsv and copied.tsv, graphs that are told, and
 data/optimized.tsv, kernels. tools/oracles/answers.py writes their answers.
 
 usage: tools/oracles/graph_cases.py"""
@@ -12,6 +12,7 @@ from blocks import Graph, mg
 from by_c import wrapped
 from divide import divided
 from fold import fold
+from select_arms import select
 from walking import escaped
 
 TOP = pathlib.Path(__file__).resolve().parent.parent.parent
@@ -282,6 +283,17 @@ def selected():
         yield line(name, *graph.fields(), inputs_text(graph, given), 10 * graph.nodes)
 
 
+# ---- copying: what is tried, what a block may weigh, and the graph
+
+def copied():
+    for name, graph, inputs in example_graphs():
+        made = select(fold(graph, divided), 10 * graph.nodes)
+        yield line(f"examples/{name}, folded and selected", *made.fields(), inputs, 10 * graph.nodes)
+    for name, text, given in loop_cases.CASES:
+        graph = Graph.of_kernel(" ".join(text.split()))
+        yield line(name, *graph.fields(), inputs_text(graph, given), 10 * graph.nodes)
+
+
 # ---- kernels
 
 def inputs_text(graph, given):
@@ -312,6 +324,7 @@ def main(words):
     sys.setrecursionlimit(100_000)
     write("folded.tsv", f"what it is, {TOLD}", folded())
     write("selected.tsv", f"what it is, what a block may weigh, {TOLD}", selected())
+    write("copied.tsv", f"what it is, what a block may weigh, {TOLD}", copied())
     write("optimized.tsv", "a kernel text and the text of its inputs; \\n \\t \\r \\\\ \\xHH are bytes", optimized())
 
 

@@ -1,8 +1,12 @@
 //! What passes make of graphs, as text in the form in which graphs are told, without the word `times`.
+ghost use Rattle.std.specs.Prelude.{◌≤◌, IfOk};
+ghost use Rattle.ir.specs.Graphs.{size};
+
 use crate::circuits::put_circuit;
 use crate::graphs::read_graph;
 use crate::kernels::graph_of;
 use anyhow::{Result, bail, ensure};
+use block_copy::copy;
 use block_fold::fold;
 use block_merge::merge;
 use block_select::select;
@@ -10,6 +14,16 @@ use ir::{Block, Instr, Ir, Jump, To};
 use row_fields::Output;
 use std::alloc::Global;
 use std::thread::Threads;
+
+/// The graph that fields tell, whose values can be numbered.
+fn told_graph(alloc: Global, fields: &[&str]) -> Result<Ir>
+    ensures { IfOk result (λ g. size g ≤ 8000000) }
+{
+    let graph = read_graph(alloc, fields)?;
+    let within = graph.has_size_within(8_000_000);
+    ensure!(within, "a graph that is too great");
+    Ok(graph)
+}
 
 /// Writes the blocks of the merged graph of a graph, and behind a tab what its circuit comes to on inputs, or that it has none.
 pub fn put_merged<R: Threads + Sync>(
@@ -19,9 +33,7 @@ pub fn put_merged<R: Threads + Sync>(
     inputs: &str,
     out: &mut Output,
 ) -> Result<()> {
-    let graph = read_graph(alloc, graph)?;
-    let within = graph.has_size_within(8_000_000);
-    ensure!(within, "a graph that is too great");
+    let graph = told_graph(alloc, graph)?;
     match merge(alloc, &graph) {
         Ok(merged) => put_both(rt, alloc, &merged, inputs, out),
         Err(_) => bail!("want of memory"),
@@ -36,9 +48,7 @@ pub fn put_folded<R: Threads + Sync>(
     inputs: &str,
     out: &mut Output,
 ) -> Result<()> {
-    let graph = read_graph(alloc, graph)?;
-    let within = graph.has_size_within(8_000_000);
-    ensure!(within, "a graph that is too great");
+    let graph = told_graph(alloc, graph)?;
     match fold(alloc, &graph) {
         Ok(folded) => put_both(rt, alloc, &folded, inputs, out),
         Err(_) => bail!("want of memory"),
@@ -54,12 +64,26 @@ pub fn put_selected<R: Threads + Sync>(
     inputs: &str,
     out: &mut Output,
 ) -> Result<()> {
-    let graph = read_graph(alloc, graph)?;
-    let within = graph.has_size_within(8_000_000);
-    ensure!(within, "a graph that is too great");
+    let graph = told_graph(alloc, graph)?;
     ensure!(most <= 8_000_000, "a weight that is too great");
     match select(alloc, &graph, most) {
         Ok(selected) => put_both(rt, alloc, &selected, inputs, out),
+        Err(_) => bail!("want of memory"),
+    }
+}
+
+/// The same of the graph with copied joins, where a block may weigh so much.
+pub fn put_copied<R: Threads + Sync>(
+    rt: &R,
+    alloc: Global,
+    most: u64,
+    graph: &[&str],
+    inputs: &str,
+    out: &mut Output,
+) -> Result<()> {
+    let graph = told_graph(alloc, graph)?;
+    match copy(alloc, &graph, most) {
+        Ok(copied) => put_both(rt, alloc, &copied, inputs, out),
         Err(_) => bail!("want of memory"),
     }
 }

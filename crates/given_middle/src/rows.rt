@@ -3,7 +3,7 @@ use crate::circuits::{put_graph, put_kernel};
 use crate::ends::put_both;
 use crate::exprs::Places;
 use crate::forms::put_form;
-use crate::passes::{put_folded, put_merged, put_optimized, put_selected};
+use crate::passes::{put_copied, put_folded, put_merged, put_optimized, put_selected};
 use crate::walks::{put_arguments, put_walk};
 use anyhow::{Result, bail};
 use row_fields::Output;
@@ -31,12 +31,14 @@ pub enum Rows {
     Folded,
     /// What it is, what a block may weigh, a block graph and inputs, for selecting and for a run of that graph's circuit.
     Selected,
+    /// The same for copied joins.
+    Copied,
     /// A kernel and inputs, for its block graph and for a run of that graph's circuit.
     Optimized,
 }
 
 /// The files, in the order in which they are answered.
-pub const FILES: [(&str, Rows); 12] = [
+pub const FILES: [(&str, Rows); 13] = [
     ("forms.tsv", Rows::Forms(Places::Hidden)),
     ("places.tsv", Rows::Forms(Places::Written)),
     ("walks.tsv", Rows::Walks),
@@ -48,6 +50,7 @@ pub const FILES: [(&str, Rows); 12] = [
     ("merged.tsv", Rows::Merged),
     ("folded.tsv", Rows::Folded),
     ("selected.tsv", Rows::Selected),
+    ("copied.tsv", Rows::Copied),
     ("optimized.tsv", Rows::Optimized),
 ];
 
@@ -100,6 +103,9 @@ impl Rows {
             (Rows::Folded, [_, graph @ .., inputs]) => put_folded(rt, alloc, graph, inputs, out),
             (Rows::Selected, [_, most, graph @ .., inputs]) => {
                 put_selected(rt, alloc, most.parse()?, graph, inputs, out)
+            }
+            (Rows::Copied, [_, most, graph @ .., inputs]) => {
+                put_copied(rt, alloc, most.parse()?, graph, inputs, out)
             }
             (Rows::Optimized, [kernel, inputs]) => put_optimized(rt, alloc, kernel, inputs, out),
             (rows, _) => bail!("a line of {rows:?} of other fields"),
