@@ -168,6 +168,11 @@ def time_merge(bench):
     tell(bench.benches("merge", bench.words.blocks))
 
 
+def time_passes(bench):
+    """folding, selecting and copying blocks, and a block of 14,336 steps (--blocks)"""
+    tell(bench.benches("passes", bench.words.blocks))
+
+
 def time_build(bench):
     """circuits of block graphs (--size, of 27,000 at least)"""
     tell(bench.benches("build", bench.words.size))
@@ -236,7 +241,7 @@ def time_instructions(bench):
 
 
 ALL = {run.__name__.removeprefix("time_"): run for run in (
-    time_compile, time_front, time_queue, time_place, time_inputs, time_args, time_merge, time_build, time_ref, time_core, time_cycles,
+    time_compile, time_front, time_queue, time_place, time_inputs, time_args, time_merge, time_passes, time_build, time_ref, time_core, time_cycles,
     time_firings, time_workers, time_instructions)}
 
 
