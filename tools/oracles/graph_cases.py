@@ -285,7 +285,78 @@ def selected():
 
 # ---- copying: what is tried, what a block may weigh, and the graph
 
+def turns(count, sums, end="return 0", most=LONG):
+    """A loop of so many turns, each of so many sums of what stands: block 0 leads to it with constants."""
+    body = f"const 32 1 ; two add32 0 2 ; two add32 1 3 ; {SUMS(sums - 1, 4)}".rstrip(" ;")
+    return most, (f"block 32 32 ; const 32 0 ; go 1 2 0 | block 32 32 ; const 32 {count} ; two ltu32 0 2 ; if 3 2 0 1 else 3 1 | "
+                  f"block 32 32 ; {body} ; go 1 3 {sums + 3} | block 32 ; {end}")
+
+
+def empty_turns(count):
+    return LONG, (f"block 32 32 ; const 32 0 ; go 1 2 | block 32 ; const 32 {count} ; two ltu32 0 1 ; if 2 2 0 else 3 | "
+                  "block 32 ; const 32 1 ; two add32 0 1 ; go 1 2 | block ; const 32 7 ; return 0")
+
+
+def by_way_of(count):
+    """A decided block that leads into a loop back to it, by way of so many blocks."""
+    chain = " | ".join(["block 32 ; go {} 0".format(5 + at) for at in range(count - 1)] + ["block 32 ; const 32 1 ; go 1 1 0"])
+    return LONG, ("block 32 32 ; const 32 1 ; go 1 2 0 | block 32 32 ; if 0 2 1 else 3 1 | "
+                  f"block 32 ; const 32 1 ; two sub32 0 1 ; if 0 4 2 else 3 0 | block 32 ; return 0 | {chain}")
+
+
+def loads(count):
+    """A block with so many loads that leads to a decided one with a load more."""
+    steps = " ; ".join(f"const 64 {at} ; load 0 {2 * at + 2}" for at in range(count))
+    return LONG, f"block 32 32 ; {steps} ; const 32 1 ; go 1 {2 * count + 2} | block 32 ; const 64 1090 ; load 0 1 ; if 0 2 2 else 2 0 | block 32 ; return 0"
+
+
+COPIED = [
+    ("a loop of four turns", *turns(4, 2)),
+    ("a loop of no turn", *turns(0, 2)),
+    ("96 steps more", *turns(96, 1)),
+    ("97 steps more", *turns(97, 1)),
+    ("192 steps that nothing needs at the end", *turns(1, 192, "const 32 0 ; two mul32 0 1 ; return 2")),
+    ("193 steps that nothing needs at the end", *turns(1, 193, "const 32 0 ; two mul32 0 1 ; return 2")),
+    ("4,087 of weight looked at", *empty_turns(408)),
+    ("4,097 of weight looked at", *empty_turns(409)),
+    ("a block that would weigh what it may", *turns(4, 2, most=15)),
+    ("a block that would weigh one more", *turns(4, 2, most=14)),
+    ("a loop whose block is the 16th that is seen behind the row", *by_way_of(13)),
+    ("a loop whose block would be the 17th that is seen behind the row", *by_way_of(14)),
+    ("1,024 accesses", *loads(1023)),
+    ("1,025 accesses", *loads(1024)),
+    ("two ways with a flag", LONG,
+     "block 32 32 ; two ltu32 0 1 ; if 2 1 0 else 2 1 | block 32 ; const 32 4 ; go 3 1 0 | block 32 ; const 32 0 ; go 3 1 0 | block 32 32 ; if 0 4 1 else 5 1 | block 32 ; two add32 0 0 ; return 1 | block 32 ; two mul32 0 0 ; return 1"),
+    ("a flag behind a block that only leads on", LONG,
+     "block 32 32 ; const 32 1 ; go 1 2 0 | block 32 32 ; two add32 1 1 ; go 2 0 2 | block 32 32 ; if 0 3 1 else 4 1 | block 32 ; return 0 | block 32 ; two mul32 0 0 ; return 1"),
+    ("blocks that lead on behind a decided one, and another decided one", LONG,
+     "block 32 32 ; const 32 1 ; go 1 2 0 | block 32 32 ; if 0 2 0 1 else 5 1 | block 32 32 ; two add32 1 1 ; go 3 0 2 | block 32 32 ; two mul32 1 1 ; go 4 0 2 | block 32 32 ; one zero32 0 ; if 2 5 0 else 6 1 | block 32 ; return 0 | block 32 ; two xor32 0 0 ; two add32 0 1 ; go 5 2"),
+    ("a block that leads on, and one that is not decided, behind a decided one", LONG,
+     "block 32 32 ; const 32 1 ; go 1 2 0 | block 32 32 ; if 0 2 0 1 else 4 1 | block 32 32 ; two add32 1 1 ; go 3 2 | block 32 ; if 0 4 0 else 5 | block 32 ; return 0 | block ; const 32 9 ; return 0"),
+    ("a return that nothing decides", LONG, "block 32 32 ; two add32 0 1 ; go 1 2 | block 32 ; two mul32 0 0 ; return 1"),
+    ("a return behind a block that leads on, which nothing decides", LONG, "block 32 32 ; go 1 0 | block 32 ; two mul32 0 0 ; go 2 1 | block 32 ; return 0"),
+    ("a row that comes back to its block", LONG, "block 32 32 ; go 1 0 | block 32 ; const 32 1 ; two sub32 0 1 ; go 2 1 2 | block 32 32 ; if 0 1 1 else 3 1 | block 32 ; return 0"),
+    ("a block that leads to itself", LONG, "block 32 32 ; go 1 0 | block 32 ; const 32 1 ; two sub32 0 1 ; go 1 2"),
+    ("conditions that are decided without an end", LONG, "block 32 32 ; const 32 1 ; go 1 2 | block 32 ; if 0 1 0 else 2 0 | block 32 ; return 0"),
+    ("no condition but an own one", LONG, "block 32 32 ; const 32 1 ; if 2 1 0 else 1 1 | block 32 ; return 0"),
+    ("loaded flags, and stores that are overwritten", LONG,
+     "block 32 32 ; const 64 1 ; const 32 0 ; store 0 2 3 ; go 1 2 0 | block 64 32 ; load 0 0 ; if 2 2 1 else 3 0 1 | block 32 ; return 0 | block 64 32 ; const 32 5 ; store 0 0 2 ; store 0 0 1 ; load 0 0 ; two sub32 5 2 ; go 4 6 | block 32 ; const 32 0 ; two lts32 1 1 ; if 2 2 0 else 5 0 | block 32 ; const 32 3 ; two divu32 0 1 ; return 2"),
+    ("a row over a block that has its own row", LONG,
+     "block 32 32 ; go 3 0 1 | block 32 32 ; const 32 0 ; go 2 2 1 | block 32 32 ; if 0 4 1 else 5 1 | block 32 32 ; const 32 1 ; if 0 6 2 1 else 4 1 | block 32 ; return 0 | block 32 ; const 32 7 ; two remu32 0 1 ; return 2 | block 32 32 ; if 0 1 0 1 else 4 1"),
+    ("a row behind a block that took one in", LONG,
+     "block 32 32 ; if 0 2 0 1 else 1 0 1 | block 32 32 ; const 32 0 ; go 3 2 1 | block 32 32 ; const 32 1 ; go 3 2 1 | block 32 32 ; const 32 2 ; if 0 4 2 1 else 5 1 | block 32 32 ; go 3 0 1 | block 32 ; return 0"),
+    ("values of 8, 16 and 64 bits", LONG,
+     "block 32 32 ; one cut32to8 0 ; const 16 3 ; one u32to64 1 ; go 1 2 3 4 | block 8 16 64 ; one u16to32 1 ; if 3 2 0 1 2 else 3 2 | block 8 16 64 ; one u8to32 0 ; one u16to32 1 ; two add32 3 4 ; one u32to64 5 ; two add64 6 2 ; go 3 7 | block 64 ; one cut64to32 0 ; return 1"),
+    ("a block that nothing leads to", LONG, "block 32 32 ; return 0 | block 32 ; const 32 1 ; go 2 1 0 | block 32 32 ; if 0 3 1 else 3 0 | block 32 ; two add32 0 0 ; return 1"),
+    ("a graph that returns", LONG, "block 32 32 ; return 1"),
+]
+
+
 def copied():
+    for what, most, blocks in COPIED:
+        length = 4 if "store" in blocks else 1091
+        has_array = "load" in blocks or "store" in blocks
+        yield line(what, "u32:x u32:y", f"u32:a:{length}" * has_array, "u32", blocks, "x = 3\ny = 5\n" + f"a = {' '.join(map(str, range(1, length + 1)))}\n" * has_array, most)
     for name, graph, inputs in example_graphs():
         made = select(fold(graph, divided), 10 * graph.nodes)
         yield line(f"examples/{name}, folded and selected", *made.fields(), inputs, 10 * graph.nodes)
