@@ -193,6 +193,7 @@ module _ (t : Tables) (a : Worker) (m : IsMadeOf t a) (f : Firing) (x : Effect) 
     scalars = refl;
     own = refl;
     arrays = refl;
+    strays = refl;
     into = λ c q. refl;
     out = λ c l q. tokens_here c l ∙ (ap (λ o. added (puts_on t.net f.unit o c) (taken (takes_from t.net f.unit x c) (tokens_at s c))) is ∙ others_empty c l q);
   })
@@ -217,6 +218,7 @@ module _ (t : Tables) (a : Worker) (m : IsMadeOf t a) (f : Firing) (x : Effect) 
         scalars = refl;
         own = refl;
         arrays = refl;
+        strays = refl;
         into = λ c q. refl;
         out = λ c l q. elsewhere c l q (λ z. none_some PutEnd (subst IsSome e (whole.puts d (inside, from, λ k. q (ap (taker t.net (owner_in t)) z ∙ k)))));
       })
@@ -224,6 +226,7 @@ module _ (t : Tables) (a : Worker) (m : IsMadeOf t a) (f : Firing) (x : Effect) 
         scalars = refl;
         own = refl;
         arrays = refl;
+        strays = refl;
         into = λ c q. get_or-set_other s1.tokens d c (taken true (tokens_at s1 d)) [] (λ z. (m.puts_out d p e).0.2 (ap (taker t.net (owner_in t)) (sym z) ∙ q));
         out = λ c l q. out c l q (cases_eq c d);
       })

@@ -1,10 +1,12 @@
 pub mod Lists
 pub mod Moves
 pub mod Steps
+pub mod Strays
 pub mod Merging
 pub mod Opening
 pub mod Logs
 pub mod Ascending
+pub mod Together
 pub mod Gathering
 pub mod More
 pub mod Locals

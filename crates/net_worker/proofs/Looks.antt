@@ -114,6 +114,7 @@ module _ (t : Tables) (a b : Worker) (c : ℕ) (e e' : TakeEnd) (x : Token) (m :
     into = λ d q. at_in d q (cases_eq d c);
     out = λ d b q. laid_there d (λ z. q (ap (taker t.net owner) z ∙ l.into.1)) ∙ m.sees.out d b q;
     arrays_long = ap length on.fuller.arrays ∙ m.sees.arrays_long;
+    strays = on.fuller.strays ∙ m.sees.strays;
   }
     where
       at_in : (d : ℕ) → taker t.net owner d ≡ j → (d ≡ c) ⊎ (d ≡ c → ⊥) → tokens_at on.to.state d ≡ tokens_at s' d

@@ -89,6 +89,7 @@ module _ (t : Tables) (w : Worker) (b : IsBegun t w) where
     into = λ c q. empty c ∙ sym (here_empty c);
     out = λ c l q. here_empty c;
     arrays_long = ap (λ s. length s.arrays) (sym b.state);
+    strays = ap (λ s. s.strays) (sym b.state);
   }
 
   begun : IsMadeOf t w

@@ -2,6 +2,7 @@ pub mod Stamped
 pub mod Plays
 pub mod Merge
 pub mod Local
+pub mod Together
 pub mod Merged
 pub mod Ascending
 pub mod Steps

@@ -67,8 +67,8 @@ shown w after = record {
 
 -- ---- the worker's own state
 
--- The state s that worker j holds is the state t after its log: in its units, and on the channels into them. On channels to other
--- workers s has no token, for their tokens are in the links.
+-- The state s that worker j holds is the state t after its log: in its units, on the channels into them, and in the counts of strays.
+-- On channels to other workers s has no token, for their tokens are in the links.
 pub record Sees (net : Net) (owner : ℕ → ℕ) (j : ℕ) (s t : State) : Type 0 where
   pub scalars : t.scalars ≡ s.scalars
   pub own : (u : ℕ) → owner u ≡ j → get_or t.own u idle ≡ get_or s.own u idle
@@ -76,6 +76,7 @@ pub record Sees (net : Net) (owner : ℕ → ℕ) (j : ℕ) (s t : State) : Type
   pub into : (c : ℕ) → taker net owner c ≡ j → tokens_at t c ≡ tokens_at s c
   pub out : (c : ℕ) → c < length net.chans → taker net owner c ≢ j → tokens_at s c ≡ []
   pub arrays_long : length t.arrays ≡ length s.arrays
+  pub strays : t.strays ≡ s.strays
 
 -- an entry of the list is a firing of the exit
 abbrev pub HasExitAmong : Net → List Entry → Type 0
