@@ -32,4 +32,5 @@ pub mod NewEnds
 pub mod NewWorkers
 pub mod Resting
 pub mod Edges
+pub mod Drains
 pub mod Inside

@@ -18,6 +18,7 @@ pub mod Mays
 pub mod Fires
 pub mod Keeps
 pub mod Given
+pub mod Handed
 pub mod Settles
 pub mod Asking
 pub mod Glances

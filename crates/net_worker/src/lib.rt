@@ -6,6 +6,7 @@ mod crossing;
 mod ends;
 mod entry;
 mod giving;
+mod handing;
 mod laws;
 mod looking;
 mod making;
