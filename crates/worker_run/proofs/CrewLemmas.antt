@@ -60,7 +60,7 @@ module _ (t : Tables) (ws : List Worker) (d : Worker) (checked : IsChecked (net_
   owner = owner_in t
 
   here : (v : ℕ) → v < length ws → IsMadeOf t (get_or ws v d)
-  here v l = made.made v d l
+  here v l = made.made v d l (whole v d l).not_closed
 
   abbrev pick : (v : ℕ) → (v < length ws) ⊎ (length ws ≤ v) → Shown
   pick v (inl l) = shown (get_or ws v d) (here v l).after
