@@ -1,3 +1,4 @@
+pub mod EndPlaces
 pub mod Lists
 pub mod Moves
 pub mod Steps

@@ -18,13 +18,9 @@ use Rattle.net_worker.specs.declared.entry.Entry.{Entry}
 use Rattle.net_worker.specs.declared.tables.Tables.{Tables}
 use Rattle.net_worker.specs.declared.worker.Worker.{Worker}
 use Rattle.net_core.proofs.RegularLemmas.{opening_tokens}
+use Rattle.net_worker.proofs.EndPlaces.{nothing_there}
 use Rattle.net_worker.proofs.Exits.{exit_opening}
 use Rattle.net_worker.proofs.Opening.{fed_tokens, fed_stamps, fed_past}
-
-none_at : {X : Type 0} (n c : ℕ) → get_or {A = Option X} (replicate n None) c None ≡ None
-none_at Rattle.std.proofs.Common.zero c = refl
-none_at (Rattle.std.proofs.Common.suc n) Rattle.std.proofs.Common.zero = refl
-none_at (Rattle.std.proofs.Common.suc n) (Rattle.std.proofs.Common.suc c) = none_at n c
 
 none_is : {X : Type 0} (o : Option X) (x : X) → o ≡ None → o ≡ Some x → ⊥
 none_is o x p q = cc
@@ -49,10 +45,10 @@ pub record IsBegun (t : Tables) (w : Worker) : Type 0 where
 
 module _ (t : Tables) (w : Worker) (b : IsBegun t w) where
   no_put : (c : ℕ) → put_end w c ≡ None
-  no_put c = ap (λ l. get_or l c None) b.puts ∙ none_at (length t.net.chans) c
+  no_put c = ap (λ l. get_or l c None) b.puts ∙ nothing_there (length t.net.chans) c
 
   no_take : (c : ℕ) → take_end w c ≡ None
-  no_take c = ap (λ l. get_or l c None) b.takes ∙ none_at (length t.net.chans) c
+  no_take c = ap (λ l. get_or l c None) b.takes ∙ nothing_there (length t.net.chans) c
 
   abbrev after : Stamped
   after = fed_opening t.net t.inputs (λ c. handed_by (take_end w c))

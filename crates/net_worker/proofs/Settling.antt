@@ -291,13 +291,7 @@ mended a b m = record {
   takes = m.takes;
 }
 
--- ---- the ends that are lent
-
-pub put_found : (w : Worker) (c : ℕ) (o : Option PutEnd) (p : PutEnd) → IsSome (put_end w c) → o ≡ get_or w.puts.items c o → o ≡ Some p → put_end w c ≡ Some p
-put_found w c o p some is found = get_or_default w.puts.items c None o (put_within w c some) ∙ (sym is ∙ found)
-
-pub take_found : (w : Worker) (c : ℕ) (o : Option TakeEnd) (e : TakeEnd) → IsSome (take_end w c) → o ≡ get_or w.takes.items c o → o ≡ Some e → take_end w c ≡ Some e
-take_found w c o e some is found = get_or_default w.takes.items c None o (take_within w c some) ∙ (sym is ∙ found)
+-- ---- one end
 
 -- nothing but one end has changed, and this is kept
 pub mended_put : (a b : Worker) (c : ℕ) (p q : PutEnd) → IsSome (put_end a c) → put_end a c ≡ Some p → KeptPutEnd p q

@@ -6,6 +6,8 @@ pub mod Merged
 pub mod Ascending
 pub mod Steps
 pub mod Locally
+pub mod ChannelEnds
+pub mod EndLends
 pub mod Views
 pub mod Crossing
 pub mod Workers

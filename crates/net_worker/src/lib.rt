@@ -2,6 +2,7 @@
 #![tactic(auto)]
 
 mod acting;
+mod channel_ends;
 mod crossing;
 mod ends;
 mod entry;

@@ -3,6 +3,7 @@ ghost use Rattle.std.specs.Prelude.{◌≡◌, ◌≤◌, ◌<◌};
 ghost use Rattle.elastic_link.specs.Credits.{IsStamp};
 ghost use Rattle.net_worker.specs.Shares.{max_share};
 
+use crate::channel_ends::ChannelEnds;
 use crate::entry::Entry;
 use crate::ready::Ready;
 use el_base::Log;
@@ -20,8 +21,8 @@ pub struct Worker {
     /// that the end holds, and of a channel to another worker none.
     pub(crate) state: State,
     /// By channel.
-    pub(crate) puts: Vec<Option<PutEnd>>,
-    pub(crate) takes: Vec<Option<TakeEnd>>,
+    pub(crate) puts: ChannelEnds<PutEnd>,
+    pub(crate) takes: ChannelEnds<TakeEnd>,
     /// The channels to other workers, and those from others.
     pub(crate) outs: Vec<u32>,
     pub(crate) ins: Vec<u32>,
@@ -30,4 +31,6 @@ pub struct Worker {
     pub(crate) closed: bool,
     pub ghost most: { share ≤ max_share },
     pub ghost stamp: { IsStamp clock },
+    pub ghost put_places: { puts.chans ≡ outs.items },
+    pub ghost take_places: { takes.chans ≡ ins.items },
 }

@@ -1,4 +1,4 @@
-use Rattle.std.proofs.Common.{refl}
+use Rattle.std.proofs.Common.{refl, ◌∙◌}
 use Rattle.net_worker.proofs.Asking.{asked_made, puts_asked_self, takes_asked_self, takes_asked_trans}
 use Rattle.net_worker.proofs.Glancing.{asked_looked, looked_trans, handed_takes}
 use Rattle.net_worker.proofs.Looks.{made_looks}
@@ -7,12 +7,12 @@ use Rattle.net_worker.proofs.worker.Worker.look_at.Goals as goal
 pub returns-then-held-gt0-clause-made : goal.returns-then-held-gt0-clause-made
 returns-then-held-gt0-clause-made c =
     asked_made c.args.tables.now c.args.self.now _ c.requires.made
-    (record { number = refl; share = refl; log = refl; clock = refl; state = refl; outs = refl; ins = refl; closed = refl; puts = puts_asked_self c.args.self.now.puts.items; takes = c.flush_at.ensures })
+    (record { number = refl; share = refl; log = refl; clock = refl; state = refl; outs = refl; ins = refl; closed = refl; puts = puts_asked_self c.args.self.now.puts.items; takes = c.flush_at.ensures.asked })
 
 pub returns-then-held-gt0-clause-looked : goal.returns-then-held-gt0-clause-looked
 returns-then-held-gt0-clause-looked c =
     asked_looked c.args.self.now _
-    (record { number = refl; share = refl; log = refl; clock = refl; state = refl; outs = refl; ins = refl; closed = refl; puts = puts_asked_self c.args.self.now.puts.items; takes = c.flush_at.ensures })
+    (record { number = refl; share = refl; log = refl; clock = refl; state = refl; outs = refl; ins = refl; closed = refl; puts = puts_asked_self c.args.self.now.puts.items; takes = c.flush_at.ensures.asked })
 
 pub returns-in_default-clause-made : goal.returns-in_default-clause-made
 returns-in_default-clause-made c =
@@ -27,7 +27,7 @@ returns-in_default-clause-made c =
       ins = refl;
       closed = refl;
       puts = puts_asked_self c.args.self.now.puts.items;
-      takes = takes_asked_trans c.args.self.now.takes.items c.flush_at.new.takes.items c.peek_at.new.takes.items c.flush_at.ensures c.in_default.ensures.none;
+      takes = takes_asked_trans c.args.self.now.takes.items c.flush_at.new.takes.items c.peek_at.new.takes.items c.flush_at.ensures.asked c.in_default.ensures.none;
     })
 
 pub returns-in_default-clause-looked : goal.returns-in_default-clause-looked
@@ -43,16 +43,16 @@ returns-in_default-clause-looked c =
       ins = refl;
       closed = refl;
       puts = puts_asked_self c.args.self.now.puts.items;
-      takes = takes_asked_trans c.args.self.now.takes.items c.flush_at.new.takes.items c.peek_at.new.takes.items c.flush_at.ensures c.in_default.ensures.none;
+      takes = takes_asked_trans c.args.self.now.takes.items c.flush_at.new.takes.items c.peek_at.new.takes.items c.flush_at.ensures.asked c.in_default.ensures.none;
     })
 
 pub returns-clause-made : goal.returns-clause-made
 returns-clause-made c =
     let t = c.args.tables.now in
-    let mid = record c.args.self.now { takes = c.flush_at.new.takes } in
+    let mid = record c.args.self.now { takes = c.flush_at.new.takes; take_places = c.flush_at.ensures.chans ∙ c.args.self.now.take_places } in
     let h = c.in-Some.ensures.some in
     made_looks t mid _ c.args.chan h.before h.after c.in-Some.token
-    (asked_made t c.args.self.now mid c.requires.made (record { number = refl; share = refl; log = refl; clock = refl; state = refl; outs = refl; ins = refl; closed = refl; puts = puts_asked_self c.args.self.now.puts.items; takes = c.flush_at.ensures }))
+    (asked_made t c.args.self.now mid c.requires.made (record { number = refl; share = refl; log = refl; clock = refl; state = refl; outs = refl; ins = refl; closed = refl; puts = puts_asked_self c.args.self.now.puts.items; takes = c.flush_at.ensures.asked }))
     (record {
       into = c.requires.into;
       old = h.was;
@@ -76,9 +76,9 @@ returns-clause-made c =
 
 pub returns-clause-looked : goal.returns-clause-looked
 returns-clause-looked c =
-    let mid = record c.args.self.now { takes = c.flush_at.new.takes } in
+    let mid = record c.args.self.now { takes = c.flush_at.new.takes; take_places = c.flush_at.ensures.chans ∙ c.args.self.now.take_places } in
     looked_trans c.args.self.now mid _
-    (asked_looked c.args.self.now mid (record { number = refl; share = refl; log = refl; clock = refl; state = refl; outs = refl; ins = refl; closed = refl; puts = puts_asked_self c.args.self.now.puts.items; takes = c.flush_at.ensures }))
+    (asked_looked c.args.self.now mid (record { number = refl; share = refl; log = refl; clock = refl; state = refl; outs = refl; ins = refl; closed = refl; puts = puts_asked_self c.args.self.now.puts.items; takes = c.flush_at.ensures.asked }))
     (record {
       number = refl;
       share = refl;
