@@ -1,6 +1,6 @@
 use Rattle.std.proofs.Common.{◌≡◌, ℕ, ◌^◌, ◌<◌, ◌≤◌, ◌-◌, get_or}
 use Rattle.lsq_core.proofs.BitLemmas.{NoneFrom}
-use Rattle.lsq_core.proofs.bits.Bits.next.Given as goal
+use Rattle.lsq_core.proofs.words.Words.next.Given as goal
 
 abbrev pub invariant-loop-at : goal.invariant-loop-at
 invariant-loop-at l = record {

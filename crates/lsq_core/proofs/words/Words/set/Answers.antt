@@ -1,7 +1,7 @@
 use Rattle.std.proofs.Common.{◌/◌, slice_set, refl, ◌∙◌}
 use Rattle.lsq_core.proofs.BitLemmas.{put_in, take_out}
-use Rattle.lsq_core.proofs.bits.Bits.set.Goals as goal
-use Rattle.lsq_core.proofs.bits.Bits.set.Goals.{then-within, else-within}
+use Rattle.lsq_core.proofs.words.Words.set.Goals as goal
+use Rattle.lsq_core.proofs.words.Words.set.Goals.{then-within, else-within}
 
 pub returns : goal.returns
 returns c =

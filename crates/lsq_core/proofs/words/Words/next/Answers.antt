@@ -1,7 +1,7 @@
 use Rattle.std.proofs.Common.{◌/◌, ◌%◌, ◌^◌, get_or, arith}
 use Rattle.std.proofs.lemmas.Nat.{trailing_le}
 use Rattle.lsq_core.proofs.BitLemmas.{next_answer, next_more}
-use Rattle.lsq_core.proofs.bits.Bits.next.Goals as goal
+use Rattle.lsq_core.proofs.words.Words.next.Goals as goal
 
 pub overflow_add-at : goal.overflow_add-at
 overflow_add-at c =
