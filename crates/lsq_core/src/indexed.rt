@@ -521,7 +521,16 @@ impl Indexed {
     {
         match self.index.ready.next(self.head, row_of_side(side), 0) {
             None => None,
-            Some(first) => self.first_from(side, first),
+            Some(first) => {
+                let entry = self.at(first);
+                if self.executes(&entry) {
+                    return Some(first);
+                }
+                if !self.is_reached(side, &entry) {
+                    return None;
+                }
+                self.first_from(side, first + 1)
+            }
         }
     }
 
@@ -561,7 +570,7 @@ impl Indexed {
     /// The place of the first entry of a side that may execute, where none does before a number.
     #[inline(never)]
     fn first_from(&self, side: bool, first: usize) -> Option<usize>
-        requires within { first < length self.now.queue.items }
+        requires within { first ≤ length self.now.queue.items }
         requires none { NoneBelow (runs side self.now.queue.forward self.now.queue.items)
             self.now.queue.items first }
         ensures { MatchOption result
