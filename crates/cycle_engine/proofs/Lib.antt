@@ -28,3 +28,4 @@ mod GoLemmas
 mod UnitTurnLemmas
 mod SwapLemmas
 pub mod SameLemmas
+mod TokenLemmas
