@@ -21,6 +21,7 @@ mod MakeLemmas
 mod StartLemmas
 mod MarkLemmas
 mod NoteLemmas
+mod CellLemmas
 mod NextLemmas
 mod ExecLemmas
 pub mod FollowLemmas
