@@ -1,7 +1,8 @@
 //! Lists of channels, of which the next that is not empty is found in a few steps.
 
-ghost use Rattle.std.specs.Prelude.{◌≡◌, ◌≢◌, ◌*◌, ◌<◌, ◌≤◌, ◌^◌, ◌++◌, ◌∷◌, ℕ, [], IfOk, OnOk, get_or, length, set};
-ghost use Rattle.cycle_engine.specs.private.Lists.{HasNone, IsNextList, lists_of};
+ghost use Rattle.std.specs.Prelude.{◌≡◌, ◌≢◌, ◌*◌, ◌<◌, ◌≤◌, ◌^◌, ◌++◌, ◌∷◌, ℕ, [], true, IfOk, OnOk, get_or, length, set};
+ghost use Rattle.lsq_core.specs.Bits.{IsSet};
+ghost use Rattle.cycle_engine.specs.private.Lists.{HasNone, IsNextList, few_lists, lists_of};
 
 use crate::stack::Stack;
 use lsq_core::Bits;
@@ -14,7 +15,7 @@ use std::marker::Model;
 const KEPT_ROOM: usize = 1024;
 
 /// So many lists are looked at one by one: to note which are not empty would cost more.
-const FEW: u64 = 16;
+const FEW: usize = 16;
 
 /// How many lists a word of bits tells of.
 const WORD: u64 = 64;
@@ -44,9 +45,9 @@ impl Model for Cells {
 /// How many words of bits there are for so many lists.
 fn words(count: u64) -> usize
     requires { count ≤ 2 ^ 32 }
-    ensures { 0 < result → count ≤ 64 * result }
+    ensures { few_lists < count → count ≤ 64 * result }
 {
-    if count > FEW {
+    if count > FEW as u64 {
         count.div_ceil(WORD) as usize
     } else {
         0
@@ -97,8 +98,8 @@ impl Cells {
         ensures { OnOk result
             (self.new ≡ set self.old place (get_or self.old place [] ++ chan ∷ [])) }
     {
-        if self.filled.words() > 0 {
-            self.filled.set(place, true);
+        if self.lists.len() > FEW {
+            fill(&mut self.filled, place);
         }
         add_at(&mut self.lists, place, chan)
     }
@@ -109,7 +110,7 @@ impl Cells {
         ensures { self.new ≡ set self.old place [] }
     {
         clear_at(&mut self.lists, place);
-        if self.filled.words() > 0 {
+        if self.lists.len() > FEW {
             self.filled.set(place, false);
         }
     }
@@ -120,7 +121,7 @@ impl Cells {
         requires within { to ≤ length self.now }
         ensures { IsNextList self.now from to result }
     {
-        if self.filled.words() > 0 {
+        if self.lists.len() > FEW {
             self.filled.next(from, to)
         } else {
             self.next_of_few(from, to)
@@ -140,6 +141,15 @@ impl Cells {
         }
         to
     }
+}
+
+/// Notes that the list of a place may not be empty. It stands apart so that what adds to one of few lists stays small.
+#[inline(never)]
+fn fill(filled: &mut Bits, place: usize)
+    requires { place < 64 * length filled.old }
+    ensures { IsSet place true filled.old filled.new }
+{
+    filled.set(place, true);
 }
 
 /// So many empty lists.

@@ -10,11 +10,15 @@ lists_of stacks = map (λ (v : Stacked ℕ). v.items) stacks
 abbrev pub HasNone : List (List ℕ) → Type 0
 HasNone lists = (k : ℕ) → get_or lists k [] ≡ []
 
--- the set, where it has words, has room for the place of each list, and has that of each list that is not empty
+-- so many lists are looked at one by one
+abbrev pub few_lists : ℕ
+few_lists = 16
+
+-- where there are more, the set has room for the place of each list, and has that of each list that is not empty
 pub record AreShown (filled : List ℕ) (lists : List (List ℕ)) : Type 0 where
   pub few : length lists ≤ 2 ^ 32
-  pub room : 0 < length filled → length lists ≤ 64 * length filled
-  pub empty : 0 < length filled → (k : ℕ) → has filled k ≡ false → get_or lists k [] ≡ []
+  pub room : few_lists < length lists → length lists ≤ 64 * length filled
+  pub empty : few_lists < length lists → (k : ℕ) → has filled k ≡ false → get_or lists k [] ≡ []
 
 -- the place is from one on and up to another, and the lists before it are empty
 pub record IsNextList (lists : List (List ℕ)) (from to at : ℕ) : Type 0 where
