@@ -1,7 +1,6 @@
 //! Lists of channels, of which the next that is not empty is found in a few steps.
 
-ghost use Rattle.std.specs.Prelude.{◌≡◌, ◌≢◌, ◌*◌, ◌<◌, ◌≤◌, ◌^◌, ◌++◌, ◌∷◌, ℕ, [], true, IfOk, OnOk, get_or, length, set};
-ghost use Rattle.lsq_core.specs.Bits.{IsSet};
+ghost use Rattle.std.specs.Prelude.{◌≡◌, ◌≢◌, ◌*◌, ◌<◌, ◌≤◌, ◌^◌, ◌++◌, ◌∷◌, ℕ, [], IfOk, OnOk, get_or, length, set};
 ghost use Rattle.cycle_engine.specs.private.Lists.{HasNone, IsNextList, few_lists, lists_of};
 
 use crate::stack::Stack;
@@ -99,8 +98,24 @@ impl Cells {
             (self.new ≡ set self.old place (get_or self.old place [] ++ chan ∷ [])) }
     {
         if self.lists.len() > FEW {
-            fill(&mut self.filled, place);
+            return self.add_to_many(place, chan);
         }
+        add_at(&mut self.lists, place, chan)
+    }
+
+    /// As [`Cells::add`], where there are more lists than few. It stands apart so that what adds to one of few stays small.
+    ///
+    /// # Errors
+    ///
+    /// [`Memory`] where memory is wanting.
+    #[inline(never)]
+    fn add_to_many(&mut self, place: usize, chan: u32) -> Result<(), Memory>
+        requires within { place < length self.old }
+        requires many { few_lists < length self.old }
+        ensures { OnOk result
+            (self.new ≡ set self.old place (get_or self.old place [] ++ chan ∷ [])) }
+    {
+        self.filled.set(place, true);
         add_at(&mut self.lists, place, chan)
     }
 
@@ -141,15 +156,6 @@ impl Cells {
         }
         to
     }
-}
-
-/// Notes that the list of a place may not be empty. It stands apart so that what adds to one of few lists stays small.
-#[inline(never)]
-fn fill(filled: &mut Bits, place: usize)
-    requires { place < 64 * length filled.old }
-    ensures { IsSet place true filled.old filled.new }
-{
-    filled.set(place, true);
 }
 
 /// So many empty lists.
