@@ -1,6 +1,7 @@
 //! Lists of channels, of which the next that is not empty is found in a few steps.
 
 ghost use Rattle.std.specs.Prelude.{◌≡◌, ◌≢◌, ◌*◌, ◌<◌, ◌≤◌, ◌^◌, ◌++◌, ◌∷◌, ℕ, [], IfOk, OnOk, get_or, length, set};
+ghost use Rattle.lsq_core.specs.Bits.{IsSet};
 ghost use Rattle.cycle_engine.specs.private.Lists.{HasNone, IsNextList, few_lists, lists_of};
 
 use crate::stack::Stack;
@@ -98,24 +99,8 @@ impl Cells {
             (self.new ≡ set self.old place (get_or self.old place [] ++ chan ∷ [])) }
     {
         if self.lists.len() > FEW {
-            return self.add_to_many(place, chan);
+            note(&mut self.filled, place, true);
         }
-        add_at(&mut self.lists, place, chan)
-    }
-
-    /// As [`Cells::add`], where there are more lists than few. It stands apart so that what adds to one of few stays small.
-    ///
-    /// # Errors
-    ///
-    /// [`Memory`] where memory is wanting.
-    #[inline(never)]
-    fn add_to_many(&mut self, place: usize, chan: u32) -> Result<(), Memory>
-        requires within { place < length self.old }
-        requires many { few_lists < length self.old }
-        ensures { OnOk result
-            (self.new ≡ set self.old place (get_or self.old place [] ++ chan ∷ [])) }
-    {
-        self.filled.set(place, true);
         add_at(&mut self.lists, place, chan)
     }
 
@@ -126,7 +111,7 @@ impl Cells {
     {
         clear_at(&mut self.lists, place);
         if self.lists.len() > FEW {
-            self.filled.set(place, false);
+            note(&mut self.filled, place, false);
         }
     }
 
@@ -156,6 +141,15 @@ impl Cells {
         }
         to
     }
+}
+
+/// Notes whether the list of a place may not be empty. It stands apart so that what adds to one of few lists stays small.
+#[inline(never)]
+fn note(filled: &mut Bits, place: usize, within: bool)
+    requires { place < 64 * length filled.old }
+    ensures { IsSet place within filled.old filled.new }
+{
+    filled.set(place, within);
 }
 
 /// So many empty lists.

@@ -66,7 +66,9 @@ impl Notes {
         self.coming.at(place)
     }
 
-    /// The first cycle from `now` on in which a noted token ripens; `None` where none is noted.
+    /// The first cycle from `now` on in which a noted token ripens; `None` where none is noted. It stands apart so that the run that
+    /// asks for it stays small.
+    #[inline(never)]
     pub(crate) fn next(&self, now: u64) -> Option<u64>
         requires { AreCells self.now }
         ensures { MatchOption result ((k : ℕ) → cell self.now k ≡ [])
