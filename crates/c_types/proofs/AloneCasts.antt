@@ -1,5 +1,5 @@
 -- What a kernel without helpers is cast to as a program, it is cast to as a tree.
-use Rattle.std.proofs.Common.{◌≡◌, ℕ, Bool, true, false, List, [], ◌∷◌, length, Option, Some, None, refl, sym, ap, subst, ◌∙◌, if◌then◌else◌, arith}
+use Rattle.std.proofs.Common.{◌≡◌, ℕ, Bool, true, false, List, [], length, Option, Some, None, refl, sym, ap, subst, ◌∙◌, if◌then◌else◌, arith}
 use Rattle.std.specs.Prelude.{option_map}
 use Rattle.el_base.specs.Limits.{IsNumbered}
 use Rattle.el_base.specs.declared.span.Span.{Span}

@@ -1,6 +1,6 @@
 -- Private: the part of a typed tree that is the same as a part of a typed program.
 -- A kernel without helpers has no call, so it does not matter what a call becomes: it is written as the number 0.
-use Rattle.std.specs.Prelude.{List, map, Option, option_map}
+use Rattle.std.specs.Prelude.{List, map, option_map}
 use Rattle.c_ast.specs.declared.program.ProgExpr.{ProgExpr, fold-ProgExpr}
 use Rattle.c_ast.specs.declared.program.ProgExprKind.{ProgExprKind, fold-ProgExprKind}
 use Rattle.c_ast.specs.declared.program.ProgExprKind.TheOpen.{ProgExprKind-F, Number, Var, Element, Unary, Cast, Binary, Choose, Call}

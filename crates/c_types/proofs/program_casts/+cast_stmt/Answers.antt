@@ -1,4 +1,4 @@
-use Rattle.std.proofs.Common.{length, take, refl, sym, ap, subst, ◌∙◌, rules, arith}
+use Rattle.std.proofs.Common.{length, take, refl, sym, ap, subst, rules, arith}
 use Rattle.c_types.proofs.FirstFaults.{item_more}
 use Rattle.c_types.proofs.ContextLemmas.{opening, leaving}
 use Rattle.c_types.proofs.ProgramCastStatements.{act_made, block_arm, if_arm, while_arm, do_arm, for_arm, break_arm, continue_arm, empty_arm, inside_arm, none_held, one_held, held_is, no_stmts, one_more_stmt}
