@@ -31,3 +31,4 @@ pub mod NewWorkers
 pub mod Resting
 pub mod Edges
 pub mod Inside
+pub mod Turns

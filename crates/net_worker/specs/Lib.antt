@@ -24,5 +24,6 @@ pub mod Offers
 pub mod Inside
 pub mod Sweeps
 pub mod Going
+pub mod Turns
 pub mod Firings
 pub mod Rests

@@ -61,7 +61,7 @@ impl Worker {
         };
         self.state.put_token(&tables.net, chan, token.value);
         self.ready
-            .mark(tables.net.net().chans.as_slice()[chan as usize].to.unit);
+            .mark_fed(chan, &tables.net.net().chans.as_slice()[chan as usize]);
     }
 
     /// Looks at all channels from other workers.

@@ -3,9 +3,11 @@ ghost use Rattle.std.specs.Prelude.{◌≡◌, ◌<◌, length, IsTrue, IsFalse}
 ghost use Rattle.net_core.specs.States.{IsOf};
 ghost use Rattle.net_worker.specs.Asking.{IsAsked};
 ghost use Rattle.net_worker.specs.Going.{GoesOn, HasAdded, IsUnitHeld, IsOwnHeld, IsAllHeld, ActsFit};
+ghost use Rattle.net_worker.specs.Turns.{HasUnit, HasMade};
 ghost use Rattle.net_worker.specs.Views.{net_of, number_of, log_room, owner_in, held_state};
 ghost use Rattle.net_worker.specs.Workers.{IsMadeOf, IsWhole};
 
+use crate::skips::next_number;
 use crate::tables::Tables;
 use crate::worker::Worker;
 use lsq_core::Queue;
@@ -39,30 +41,52 @@ impl Worker {
         fired
     }
 
-    /// Tries the acts of a unit, where it is the worker's own, one after another; answers how many firings it made.
+    /// Tries the acts of a unit, where it is the worker's own; answers how many firings it made.
     fn visit(&mut self, tables: &Tables, unit: u32) -> u32
         requires made { IsMadeOf tables.now self.old }
         requires whole { IsWhole tables.now self.old }
-        ensures made { IsMadeOf tables.now self.new }
-        ensures later { GoesOn tables.now self.old self.new }
-        ensures added { HasAdded result self.old self.new }
-        ensures none { result ≡ 0 → IsAsked self.old self.new }
+        ensures { HasMade tables.now result self.old self.new }
     {
-        if unit as usize >= tables.net.net().units.len() || tables.owner(unit) != self.number {
+        let units = tables.net.net().units.as_slice();
+        if unit as usize >= units.len() || tables.owner(unit) != self.number {
             return 0;
         }
+        if tables.crosses(unit) {
+            return self.visit_each(tables, unit);
+        }
+        self.visit_inner(tables, unit, &units[unit as usize])
+    }
+
+    /// Tries the acts of one of its own units, one after another, but those of which its queue or the place of the control token
+    /// tells that nothing comes of them; answers how many firings it made.
+    pub(crate) fn visit_each(&mut self, tables: &Tables, unit: u32) -> u32
+        requires own { HasUnit tables.now self.old unit }
+        ensures { HasMade tables.now result self.old self.new }
+    {
         let mut fired = 0;
-        for number in 0..u32::MAX {
+        let mut number = 0;
+        'acts: for _ in 0..u32::MAX {
             if self.log.room() == 0 {
                 return fired;
             }
-            let Some(act) = self.state.act_at(&tables.net, unit, number) else {
+            let next = self.number_from(tables, unit, number);
+            let Some(act) = self.state.act_at(&tables.net, unit, next) else {
                 return fired;
             };
             let made = self.try_one(tables, Firing { unit, act });
             fired += made;
+            number = next.saturating_add(1);
         }
         fired
+    }
+
+    /// The next number from one on, in the order of a unit's acts, of an act that is not passed over.
+    fn number_from(&self, tables: &Tables, unit: u32, number: u32) -> u32
+        requires of { IsOf (net_of tables.now) self.now.state }
+        requires within { unit < length (net_of tables.now).units }
+    {
+        let control = self.ready.control();
+        next_number(&tables.net, &self.state, control, unit, number)
     }
 
     /// Tries a firing of one of its own units; answers how many it made, one or none.
@@ -72,10 +96,7 @@ impl Worker {
         requires mine { owner_in tables.now firing.unit ≡ number_of self.old }
         requires within { firing.unit < length (net_of tables.now).units }
         requires room { 0 < log_room self.old }
-        ensures made { IsMadeOf tables.now self.new }
-        ensures later { GoesOn tables.now self.old self.new }
-        ensures added { HasAdded result self.old self.new }
-        ensures none { result ≡ 0 → IsAsked self.old self.new }
+        ensures { HasMade tables.now result self.old self.new }
     {
         if self.try_act(tables, firing) {
             return 1;
