@@ -1,5 +1,5 @@
 -- Turns of one of a worker's own units.
-use Rattle.std.proofs.Common.{◌≡◌, ℕ, ◌+◌, ◌∷◌, [], Option, Some, None, length, refl, ap, ◌∙◌, sym, subst, arith, length-append}
+use Rattle.std.proofs.Common.{◌≡◌, ℕ, ◌+◌, ◌∷◌, [], Option, Some, None, length, ap, ◌∙◌, sym, subst, arith, length-append}
 use Rattle.net_types.specs.declared.net.Net.{Net}
 use Rattle.net_types.specs.declared.firing.Firing.{Firing}
 use Rattle.net_core.specs.declared.plan.Put.{Put}

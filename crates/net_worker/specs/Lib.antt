@@ -1,3 +1,5 @@
+pub mod StampedFirings
+pub mod Families
 pub mod Stamped
 pub mod Plays
 pub mod Merge

@@ -59,7 +59,7 @@ impl Worker {
         }
         self.state.make_moves(net, firing, plan, moves);
         self.clock = stamp;
-        self.log.add(Entry { stamp, firing });
+        self.log.add(Entry::new(stamp, firing));
         true
     }
 

@@ -10,12 +10,13 @@ use Rattle.net_core.proofs.MoveLemmas.{distinct_of}
 use Rattle.net_core.proofs.PlanUses.{plans_use}
 use Rattle.net_core.proofs.StateLemmas.{unit_is, plan_within}
 use Rattle.net_core.specs.private.Moves.{taken_chans}
-use Rattle.net_worker.specs.Firings.{AllHold, IsFiredExactly}
+use Rattle.net_worker.specs.Firings.{AllHold}
 use Rattle.net_worker.specs.Going.{base_of}
 use Rattle.net_worker.specs.Offers.{greatest_in, IsOffered, IsNotOffered}
 use Rattle.net_worker.proofs.Assembly.{made_up, room_held, few_counts}
 use Rattle.net_worker.proofs.Mays.{used_there}
 use Rattle.net_worker.proofs.Paying.{all_hold, all_payable, all_distinct}
+use Rattle.net_worker.proofs.Entries.{one_entry}
 use Rattle.net_worker.proofs.worker.Worker.fire_crossing.Goals as goal
 
 pub above-base-requires-clause-held : goal.above-base-requires-clause-held
@@ -105,7 +106,7 @@ returns-clause-fired c =
       taken = c.take_all.ensures;
       number = refl;
       share = refl;
-      items = c.add.ensures.items;
+      items = c.add.ensures.items ∙ one_entry a.log.items c.new.result c.in_ok-stamp.stamp f c.new.ensures.stamp c.new.ensures.firing;
       log_room = c.add.ensures.room;
       clock = refl;
       of = c.hand_over.ensures.of;

@@ -1,14 +1,14 @@
-use Rattle.std.proofs.Common.{◌≡◌, Some, suc, sym, ap, subst, refl, ◌∙◌, arith, ◌^◌, ◌<◌, ◌+◌}
+use Rattle.std.proofs.Common.{◌≡◌, Some, sym, ap, subst, refl, ◌∙◌, arith, ◌^◌, ◌<◌, ◌+◌}
 use Rattle.net_core.specs.Fire.{effect, after_effect}
 use Rattle.net_core.specs.Plans.{places_of, effect_by}
 use Rattle.net_types.specs.Nets.{kind_of}
 use Rattle.net_core.specs.States.{state_of, own_at, array_at}
-use Rattle.net_worker.specs.Going.{base_of}
 use Rattle.net_worker.specs.Offers.{IsOffered}
 use Rattle.net_worker.proofs.Asking.{takes_asked_self}
 use Rattle.net_worker.proofs.Assembly.{made_up, few_counts}
 use Rattle.net_worker.proofs.Inside.{no_put, taken_inside, base_inside, handed_inside, inside_some}
 use Rattle.net_worker.proofs.Turns.{room_by_moves}
+use Rattle.net_worker.proofs.Entries.{one_entry}
 use Rattle.net_worker.proofs.worker.Worker.fire_moves.Goals as goal
 
 pub make_moves-requires-clause-room : goal.make_moves-requires-clause-room
@@ -42,7 +42,7 @@ returns-clause-fired c = λ _.
       taken = taken_inside t a c.requires.own.made f.unit c.requires.inner (a.clock + 1) (places_of p.takes);
       number = refl;
       share = refl;
-      items = c.add.ensures.items;
+      items = c.add.ensures.items ∙ one_entry a.log.items c.new.result (a.clock + 1) f c.new.ensures.stamp c.new.ensures.firing;
       log_room = c.add.ensures.room;
       clock = refl;
       of = c.make_moves.ensures.of;
