@@ -13,6 +13,9 @@ pub mod Looks
 pub mod Mays
 pub mod Exits
 pub mod Fires
+pub mod Waits
+pub mod Tries
+pub mod Turning
 pub mod Keeping
 pub mod Settling
 pub mod Asking

@@ -3,7 +3,7 @@ use Rattle.std.proofs.Common.{◌≡◌, ◌≢◌, ◌⊎◌, inl, inr, ℕ, �
 use Rattle.std.specs.List.{All, Contains}
 use mathlib.Core.Path.{fun_ext}
 use mathlib.Core.List.{IsPrefix}
-use Rattle.std.proofs.lemmas.Bool.{cases_eq}
+use Rattle.std.proofs.lemmas.Bool.{cases_eq, false≢true}
 use Rattle.el_base.specs.Limits.{max_depth}
 use Rattle.elastic_link.specs.declared.message.Token.{Token}
 use Rattle.elastic_link.specs.declared.message.Credit.{Credit}
@@ -147,6 +147,7 @@ module _ (t : Tables) (a b : Worker) (c : ℕ) (e e' : TakeEnd) (x : Token) (m :
     ins = λ d i. subst (λ v. Contains v.items d) (sym l.ins) (m.ins d (subst (λ k. IsInto t k d) l.number i));
     ins_only = subst (λ v. All (IsInto t b.number) v.items) (sym l.ins) (subst (λ k. All (IsInto t k) a.ins.items) (sym l.number) m.ins_only);
     repaid = λ d y q. repaid_is d y q (cases_eq d c);
+    rests = λ r. absurd (false≢true (sym l.resting ∙ r));
   }
     where
       mine : (d : ℕ) → IsInto t b.number d → IsInto t j d

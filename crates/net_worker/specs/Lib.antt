@@ -8,6 +8,7 @@ pub mod Steps
 pub mod Locally
 pub mod Views
 pub mod Crossing
+pub mod Spans
 pub mod Workers
 pub mod Shares
 pub mod Sights
@@ -21,6 +22,7 @@ pub mod Settles
 pub mod Asking
 pub mod Glances
 pub mod Offers
+pub mod Waits
 pub mod Inside
 pub mod Sweeps
 pub mod Going

@@ -52,6 +52,7 @@ impl Worker {
         hand_over(&mut self.state, &self.puts, net, unit, plan.put);
         take_all(&mut self.takes, net, unit, plan.takes, stamp);
         self.clock = stamp;
+        self.resting = false;
         self.log.add(Entry { stamp, firing });
         Some(plan)
     }
@@ -72,6 +73,7 @@ impl Worker {
         let stamp = offer_inside(&self.state, net, firing.unit, plan.put, self.clock)?;
         self.state.make(net, firing, plan);
         self.clock = stamp;
+        self.resting = false;
         self.log.add(Entry { stamp, firing });
         Some(plan)
     }

@@ -13,9 +13,11 @@ mod parts;
 mod passes;
 mod ready;
 mod settle;
+mod spans;
 mod sweep;
 mod tables;
 mod viewing;
+mod waiting;
 mod waking;
 mod worker;
 

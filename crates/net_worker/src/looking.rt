@@ -60,6 +60,7 @@ impl Worker {
             return;
         };
         self.state.put_token(&tables.net, chan, token.value);
+        self.resting = false;
         self.ready
             .mark(tables.net.net().chans.as_slice()[chan as usize].to.unit);
     }

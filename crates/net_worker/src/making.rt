@@ -38,6 +38,7 @@ impl Worker {
         let log = Log::with_room(alloc, share)?;
         let puts = nothing(alloc, chans)?;
         let takes = nothing(alloc, chans)?;
+        let waits = vec![in alloc; false; chans]?;
         let state = State::new(alloc, &tables.net, &tables.inputs)?;
         Ok(Worker {
             number,
@@ -50,6 +51,8 @@ impl Worker {
             outs,
             ins,
             ready,
+            waits,
+            resting: false,
             closed: false,
         })
     }

@@ -27,6 +27,10 @@ pub struct Worker {
     pub(crate) ins: Vec<u32>,
     /// The units that may be able to fire.
     pub(crate) ready: Ready,
+    /// By channel: whether a firing waits for a credit of its end.
+    pub(crate) waits: Vec<bool>,
+    /// Each firing of its units that is enabled in its state waits so.
+    pub(crate) resting: bool,
     pub(crate) closed: bool,
     pub ghost most: { share ≤ max_share },
     pub ghost stamp: { IsStamp clock },
