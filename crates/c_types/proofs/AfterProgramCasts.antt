@@ -1,20 +1,23 @@
 -- After a statement of a program that is cast: the names in force are those of the rules, and for each variable that it declares it has a node.
-use Rattle.std.proofs.Common.{◌≡◌, ◌+◌, ◌≤◌, List, [], ◌∷◌, length, Option, Some, None, refl, ap, ◌∙◌, arith, length-append}
+use Rattle.std.proofs.Common.{◌≡◌, ℕ, ◌+◌, ◌≤◌, List, [], ◌∷◌, length, Option, Some, None, refl, ap, ◌∙◌, arith, length-append}
 use Rattle.el_base.specs.declared.ty.Ty.{Ty}
 use Rattle.c_ast.specs.declared.tree.Stmt.{Stmt}
 use Rattle.c_ast.specs.declared.tree.Helper.{Helper}
 use Rattle.c_ast.specs.declared.program.ProgStmt.{ProgStmt}
 use Rattle.c_ast.specs.Nodes.{stmt_nodes, stmts_nodes, held_nodes}
-use Rattle.c_ast.specs.Typing.{names_after}
+use Rattle.c_ast.specs.Typing.{with_name, names_after}
 use Rattle.c_ast.specs.Programs.{names_after_list}
-use Rattle.c_ast.specs.Casts.{Context}
+use Rattle.c_ast.specs.Casts.{Context, Scope, a_var, into_innermost}
 use Rattle.c_ast.specs.ProgramCasts as rule
 use Rattle.c_ast.specs.ProgramCasts.{CastsCallStmt, CastsCallHeld, CastsCallStmts}
 use Rattle.c_types.specs.TypingParts.{names_as}
 use Rattle.c_types.specs.ProgramContexts.{callees}
-use Rattle.c_types.proofs.AfterCasts.{entered}
 use Rattle.c_types.proofs.ProgramCastLemmas.{held_scopes}
 use Rattle.c_types.proofs.StatementNodes.{block_nodes, declare_nodes, if_nodes, while_nodes, do_nodes, for_nodes, one_more_nodes}
+
+pub entered : (x : List ℕ) (n : ℕ) (t : Ty) (ss : List Scope) → names_as (into_innermost (x, a_var n t) ss) ≡ with_name x (names_as ss)
+entered x n t [] = refl
+entered x n t (s ∷ ss) = refl
 
 module _ (helpers : List Helper) where
   -- ---- names

@@ -1,19 +1,15 @@
--- What the parameters of a kernel declare, and the typed tree of a kernel.
+-- What the parameters of a kernel declare.
 use Rattle.std.proofs.Common.{◌≡◌, ℕ, zero, suc, true, false, List, [], ◌∷◌, ◌++◌, length, refl, sym, ap, subst, ◌∙◌, append_assoc}
 use Rattle.std.proofs.lemmas.Bool.{false≢true}
 use Rattle.std.specs.Prelude.{◌==◌}
 use Rattle.c_ast.specs.declared.tree.Param.{Param}
-use Rattle.c_ast.specs.declared.tree.Stmt.{Stmt}
-use Rattle.c_ast.specs.declared.tree.Tree.{Tree}
 use Rattle.c_ast.specs.declared.typed.ArrayOf.{ArrayOf}
-use Rattle.c_ast.specs.declared.typed.TypedStmt.{TypedStmt}
-use Rattle.c_ast.specs.declared.typed.Typed.{Typed}
-use Rattle.c_ast.specs.Casts.{into_innermost, a_var, an_array, Parameters, with_param, with_params, parameters, first_context, CastsStmts, Casts}
+use Rattle.c_ast.specs.Casts.{into_innermost, a_var, an_array, Parameters, with_param, with_params, parameters, first_context}
 use Rattle.c_types.specs.declared.known.Binding.TheVariants as binding
 use Rattle.c_types.specs.declared.known.Known.{Known}
 use Rattle.c_types.specs.Scopes.{is_new_in, with_entry, scopes_by}
-use Rattle.c_types.specs.Contexts.{array_as, declared_by, context_of, AreCastStmts, Tells, AreParameters, IsOneMore}
-use Rattle.c_types.proofs.CastLemmas.{context_with, entered}
+use Rattle.c_types.specs.Contexts.{array_as, declared_by, context_of, Tells, AreParameters, IsOneMore}
+use Rattle.c_types.proofs.ContextLemmas.{context_with, entered}
 
 with_params-append : (ps : List Param) (p : Param) (q : Parameters) → with_params (ps ++ p ∷ []) q ≡ with_param p p.dims (with_params ps q)
 with_params-append [] p q = refl
@@ -76,7 +72,7 @@ array_param k l xs ys p n some number new scopes types more =
       parameters = λ q h. subst (λ q. AreParameters l ys q) (sym (with_array_is p p.dims q some)) (array_param_in k l xs ys p n q number new scopes types more h);
     }
 
--- ---- kernels
+-- ---- the context of a block
 
 -- the dimensions of the array of a number
 abbrev pub dims_in : List ArrayOf → ℕ → List ℕ
@@ -94,21 +90,3 @@ dims_tell xs = record { told = λ before x after is. ap (λ v. dims_in v (length
 pub first_is : (k : Known) (xs : List ArrayOf) (ps : List Param) → AreParameters k xs (parameters ps) → context_of (dims_in xs) k ≡ first_context ps
 first_is k xs ps h =
     ap (λ v. context_with v k.types) (h.scopes_are (dims_in xs) (dims_tell xs)) ∙ ap (λ ts. context_with ((parameters ps).scope ∷ []) ts) h.types_are
-
-pub tree_arm : (tree : Tree) (k l : Known) (xs : List ArrayOf) (ps : List Param) (ss : List Stmt) (ts : List TypedStmt) (t : Typed) → ps ≡ tree.params → ss ≡ tree.body → AreParameters k xs (parameters ps)
-    → AreCastStmts tree.result k ss ts l → t.name ≡ tree.name → t.at ≡ tree.at → t.result ≡ tree.result → t.params ≡ tree.params → t.vars ≡ l.types → t.arrays ≡ xs → t.body ≡ ts → Casts tree t
-tree_arm tree k l xs ps ss ts t params_is body_is h hs name at result params vars arrays body =
-    let q : AreParameters k xs (parameters tree.params) = subst (λ ps. AreParameters k xs (parameters ps)) params_is h in
-    let d : CastsStmts tree.result (first_context tree.params) tree.body ts (context_of (dims_in xs) l) =
-    subst (λ ss. CastsStmts tree.result (first_context tree.params) ss ts (context_of (dims_in xs) l)) body_is
-    (subst (λ c. CastsStmts tree.result c ss ts (context_of (dims_in xs) l)) (first_is k xs tree.params q) (hs.casts (dims_in xs))) in
-    record {
-      same_name = name;
-      same_place = at;
-      same_result = result;
-      same_params = params;
-      arrays_are = arrays ∙ q.arrays_are;
-      last = context_of (dims_in xs) l;
-      body_casts = subst (λ ts. CastsStmts tree.result (first_context tree.params) tree.body ts (context_of (dims_in xs) l)) (sym body) d;
-      vars_are = vars;
-    }

@@ -1,22 +1,21 @@
--- A parameter of a tree that keeps the typing rules is new after those before it, and the body keeps them after all; and all can be numbered.
-use Rattle.std.proofs.Common.{◌≡◌, ℕ, ◌+◌, ◌<◌, ◌≤◌, true, false, List, [], ◌∷◌, ◌++◌, length, take, drop, get_or, None, refl, sym, ap, subst, ◌∙◌, arith, length-append}
+-- A parameter of a block that keeps the typing rules is new after those before it; and all can be numbered.
+use Rattle.std.proofs.Common.{◌≡◌, ℕ, ◌+◌, ◌<◌, ◌≤◌, true, List, [], ◌∷◌, ◌++◌, length, take, drop, get_or, None, refl, sym, ap, subst, ◌∙◌, arith, length-append}
 use Rattle.std.proofs.lemmas.List.{take-append-drop}
 use Rattle.std.proofs.lemmas.List.Sums.{sum_by-cons}
 use Rattle.el_base.specs.Limits.{IsNumbered}
 use Rattle.c_ast.specs.declared.tree.Param.{Param}
-use Rattle.c_ast.specs.declared.tree.Stmt.{Stmt}
-use Rattle.c_ast.specs.declared.tree.Tree.{Tree}
 use Rattle.c_ast.specs.declared.typed.ArrayOf.{ArrayOf}
-use Rattle.c_ast.specs.Nodes.{param_nodes, params_nodes, tree_nodes}
-use Rattle.c_ast.specs.Typing.{Sort, sort_in, sort_of_dims, elements_of, IsNew, TypingParams, TypingList, scope_of, Typing}
+use Rattle.c_ast.specs.Nodes.{param_nodes, params_nodes}
+use Rattle.c_ast.specs.Typing.{Sort, sort_in, sort_of_dims, elements_of, IsNew, TypingParams, scope_of}
 use Rattle.c_ast.specs.Typing as typing
 use Rattle.c_ast.specs.Casts.{Parameters, with_param, with_params, parameters}
 use Rattle.c_types.specs.declared.known.Known.{Known}
 use Rattle.c_types.specs.Scopes.{is_new_in, scope_by}
 use Rattle.c_types.specs.Contexts.{AreParameters}
-use Rattle.c_types.specs.TypingParts.{sort_as, names_as, names_in, TypingListIn}
+use Rattle.c_types.specs.TypingParts.{sort_as, names_as, names_in}
 use Rattle.c_types.proofs.CastParams.{dims_in, dims_tell}
-use Rattle.c_types.proofs.StatementParts.{new_in, item_here}
+use Rattle.c_types.proofs.UsedNames.{new_in}
+use Rattle.c_types.proofs.Items.{item_here}
 
 -- ---- names
 
@@ -69,21 +68,3 @@ pub few_arrays : (k : Known) (xs : List ArrayOf) (ps us rest : List Param) (p : 
 few_arrays k xs ps us rest p is few h =
     let arrays : length xs ≡ length (parameters us).arrays = ap length h.arrays_are in
     omega (arith, few, arrays, ap length is, length-append us (p ∷ rest), declared us (record { scope = []; types = []; arrays = [] }))
-
--- ---- kernels
-
-pub few_params : (tree : Tree) (ps : List Param) → ps ≡ tree.params → IsNumbered (tree_nodes tree) → IsNumbered (length ps)
-few_params tree ps is few = let same : length ps ≡ length tree.params = ap length is in omega (arith, few, same, counted_by_nodes tree.params)
-
-pub body_typing : (tree : Tree) (k : Known) (xs : List ArrayOf) (ps : List Param) (ss : List Stmt) → ps ≡ tree.params → ss ≡ tree.body → Typing tree → IsNumbered (tree_nodes tree)
-    → AreParameters k xs (parameters ps) → TypingListIn tree.result k.scopes (length k.types) ss
-body_typing tree k xs ps ss is body keep few h =
-    let here : AreParameters k xs (parameters tree.params) = subst (λ ps. AreParameters k xs (parameters ps)) is h in
-    let types : length k.types ≡ length (parameters tree.params).types = ap length here.types_are in
-    subst (TypingListIn tree.result k.scopes (length k.types)) (sym body)
-    (record {
-      dims = dims_in xs;
-      loop = false;
-      typing = subst (TypingList tree.body tree.result false) (sym (names_after k xs tree.params here)) keep.body_keeps;
-      numbered = omega (arith, few, types, counted_by_nodes tree.params, declared tree.params (record { scope = []; types = []; arrays = [] }));
-    })

@@ -30,8 +30,8 @@ use Rattle.std.proofs.lemmas.Bool.{false≢true}
 use Rattle.std.proofs.lemmas.List.{length-map}
 use Rattle.std.proofs.Math.ListN.{drop_of_length-le}
 use Rattle.c_types.proofs.Lookups.{same_name}
-use Rattle.c_types.proofs.StatementParts.{item_here}
-use Rattle.c_types.proofs.CastLemmas.{outside, innermost_outside, found, unfound, no_dims, no_items, variable_of, array_of, no_index}
+use Rattle.c_types.proofs.Items.{item_here}
+use Rattle.c_types.proofs.ContextLemmas.{outside, innermost_outside, found, unfound, no_dims, no_items, variable_of, array_of, no_index}
 
 module _ (helpers : List Helper) where
   pub held_scopes : {r : Option Ty} {c d : Context} {o : Option Stmt} {p : Option ProgStmt} → CastsCallHeld (callees helpers) r c o p d → d.scopes ≡ c.scopes

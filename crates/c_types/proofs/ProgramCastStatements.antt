@@ -23,8 +23,7 @@ use Rattle.c_types.specs.declared.known.Known.{Known}
 use Rattle.c_types.specs.Scopes.{is_new_in, with_entry, scopes_by}
 use Rattle.c_types.specs.Contexts.{Bindings, declared_by, context_in, context_of}
 use Rattle.c_types.specs.ProgramContexts.{callees, IsProgExpr, IsProgOption, IsProgTarget, IsProgValue, no_value, a_value, IsProgStmt, IsProgAct, AreProgStmts, IsProgHeld, IsProgWithin, IsProgInside}
-use Rattle.c_types.proofs.CastLemmas.{with_var_is, outside}
-use Rattle.c_types.proofs.CastStatements.{IsOpened, IsLeft, in_opened, after_left}
+use Rattle.c_types.proofs.ContextLemmas.{with_var_is, outside, IsOpened, IsLeft, in_opened, after_left}
 use Rattle.c_types.proofs.ProgramCastLemmas.{held_scopes, stmts_outside, stmt_outside}
 
 module _ (helpers : List Helper) where

@@ -27,7 +27,7 @@ use Rattle.c_types.specs.ProgramContexts.{callees, IsProgConverted, AreProgStmts
 use Rattle.c_types.specs.ProgramParts.{Knows, Around, names_with, TypingExprWith, TypingListWith, TypingHelperWith, TypingKernelWith}
 use Rattle.c_types.proofs.CastParams.{dims_in, first_is}
 use Rattle.c_types.proofs.ParameterParts.{names_after, counted_by_nodes, declared}
-use Rattle.c_types.proofs.StatementParts.{item_here}
+use Rattle.c_types.proofs.Items.{item_here}
 use Rattle.c_types.proofs.ProgramNames.{knows_none, knows_more}
 use Rattle.c_types.proofs.ProgramStatementParts.{length_in, after_statements}
 

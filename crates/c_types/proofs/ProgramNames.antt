@@ -22,7 +22,7 @@ use Rattle.c_types.specs.TypingParts.{names_in, TypingUseIn}
 use Rattle.c_types.specs.ProgramContexts.{callees}
 use Rattle.c_types.specs.ProgramParts.{sort_of_callee, Knows, Around, names_with, IsCallee}
 use Rattle.c_types.proofs.Lookups.{same_name, names_compare, lookup_in_first, lookup_in_second}
-use Rattle.c_types.proofs.ExpressionParts.{sort_is}
+use Rattle.c_types.proofs.UsedNames.{sort_is}
 
 -- ---- names with one more scope outside
 

@@ -21,14 +21,14 @@ use Rattle.c_types.specs.Contexts.{Bindings, declared_by, context_of}
 use Rattle.c_types.specs.TypingParts.{names_as, names_in}
 use Rattle.c_types.specs.ProgramContexts.{IsProgStmt, AreProgStmts, IsProgHeld, IsProgWithin, IsProgInside}
 use Rattle.c_types.specs.ProgramParts.{Around, names_with, TypingExprWith, TypingTargetWith, TypingStmtWith, TypingListWith}
-use Rattle.c_types.proofs.CastLemmas as made
+use Rattle.c_types.proofs.ContextLemmas as made
 use Rattle.c_types.proofs.StatementNodes.{block_nodes, if_nodes, while_nodes, do_nodes, for_nodes, one_more_nodes}
-use Rattle.c_types.proofs.AfterCasts.{entered}
-use Rattle.c_types.proofs.StatementParts.{new_in, item_here}
+use Rattle.c_types.proofs.UsedNames.{new_in}
+use Rattle.c_types.proofs.Items.{item_here}
 use Rattle.c_types.proofs.TypingRows.{in_option, in_block, in_if, in_while, in_do, InFor, in_for}
 use Rattle.c_types.proofs.ProgramNames.{name_inside, after_inside, after_some, list_inside, list_some}
 use Rattle.c_types.proofs.ProgramCastLemmas.{held_scopes}
-use Rattle.c_types.proofs.AfterProgramCasts.{names_after_cast, names_after_casts, vars_after_cast, vars_after_held, vars_after_casts}
+use Rattle.c_types.proofs.AfterProgramCasts.{entered, names_after_cast, names_after_casts, vars_after_cast, vars_after_held, vars_after_casts}
 use Rattle.c_types.proofs.ProgramExpressionParts.{option_typing}
 
 module _ (helpers : List Helper) where

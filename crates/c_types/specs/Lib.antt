@@ -10,5 +10,5 @@ pub mod ProgramNodes
 pub mod ProgramParts
 pub mod Refusals
 pub mod Scopes
-pub mod TypedNodes
+pub mod TypedParts
 pub mod TypingParts

@@ -1,5 +1,5 @@
 -- Private: what a walk over a program gives for each node, where such helpers may be called and such declarations are in force.
--- As in `Contexts`, it is the cast whatever the dimensions of arrays are.
+-- It is the cast whatever the dimensions of arrays are.
 use Rattle.std.specs.Prelude.{◌≡◌, ℕ, List, map, Option, Some, None}
 use Rattle.el_base.specs.declared.span.Span.{Span}
 use Rattle.el_base.specs.declared.ty.Ty.{Ty}

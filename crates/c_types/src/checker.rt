@@ -10,11 +10,11 @@ ghost use Rattle.c_types.specs.Faults.{tree_faults};
 ghost use Rattle.c_types.specs.ProgramFaults.{program_faults};
 ghost use Rattle.c_types.specs.Causes.{IsCause, IsProgramCause};
 
-use crate::casts::casts;
 use crate::fault::TypeRefusal;
 use crate::faults::first_fault;
 use crate::program_casts::program_casts;
 use crate::programs::first_program_fault;
+use crate::typed_parts::typed_tree;
 use c_ast::{Program, Tree, Typed, TypedProgram};
 use std::alloc::Global;
 
@@ -35,7 +35,7 @@ pub fn check(alloc: Global, tree: &Tree) -> Result<Typed, TypeRefusal>
     ensures refused { IfErr result (IsCause tree.now) }
 {
     check_rules(alloc, tree)?;
-    let typed = casts(alloc, tree)?;
+    let typed = typed_tree(alloc, tree)?;
     Ok(typed)
 }
 

@@ -3,18 +3,18 @@
 #![tactic(auto)]
 
 mod calls;
-mod casts;
 mod checker;
-mod conversions;
 mod fault;
 mod faults;
 mod known;
 mod laws;
+mod parameters;
 mod program_casts;
 mod program_conversions;
 mod programs;
 mod scopes;
 mod sort;
+mod typed_parts;
 
 pub use checker::{check, check_program, check_program_rules, check_rules};
 pub use fault::{Fault, Rule, TypeRefusal};

@@ -1,6 +1,6 @@
-//! The typed program of a program that keeps the rules: as [`crate::casts`] of a tree, with the
-//! helpers before at hand. A walk that meets no error, since no name is missing and none is of
-//! another sort.
+//! The typed program of a program that keeps the rules: its names numbered, its types written, and
+//! each implied conversion a cast. The rules are the premise of each call, so that no name is
+//! missing and none is of another sort.
 ghost use Rattle.std.specs.Prelude.{
   ◌≡◌,
   [],
@@ -27,6 +27,7 @@ ghost use Rattle.c_ast.specs.ProgramCasts.{
 };
 ghost use Rattle.c_types.specs.declared.known.Binding.TheVariants as binding;
 ghost use Rattle.c_types.specs.Scopes.{is_new_in, with_entry};
+ghost use Rattle.c_types.specs.Contexts.{IsObject};
 ghost use Rattle.c_types.specs.TypingParts.{TypingUseIn};
 ghost use Rattle.c_types.specs.ProgramParts.{
   HasCallee,
@@ -56,8 +57,8 @@ ghost use Rattle.c_types.specs.ProgramContexts.{
   IsProgKernel,
 };
 
-use crate::casts::{copy_params, declare_params, object};
 use crate::known::{Binding, Known};
+use crate::parameters::{copy_params, declare_params};
 use crate::program_conversions::{assigned, binary, cast, choose, converted, prog_node, unary};
 use crate::scopes::Scopes;
 use c_ast::{
@@ -123,7 +124,11 @@ fn cast_helper(alloc: Global, helpers: &[Helper], helper: &Helper) -> Result<Typ
 }
 
 // The kernel behind all helpers.
-fn cast_kernel(alloc: Global, helpers: &[Helper], kernel: &Tree) -> Result<ProgTree, Memory>
+pub(crate) fn cast_kernel(
+    alloc: Global,
+    helpers: &[Helper],
+    kernel: &Tree,
+) -> Result<ProgTree, Memory>
     requires { TypingKernelWith helpers.now kernel.now }
     ensures { IfOk result (λ k. IsProgKernel helpers.now kernel.now k) }
 {
@@ -473,6 +478,19 @@ fn cast_inside(
 }
 
 // ---- expressions
+
+// The variable or array that a name stands for where it has so many indices, with the type of it
+// or of its elements.
+fn object(scopes: &Scopes<Binding>, name: &Name, indices: usize) -> (Object, Ty)
+    requires { TypingUseIn scopes.now name.now indices }
+    ensures { IsObject scopes.now name.now indices result.0 result.1 }
+{
+    match scopes.find(name) {
+        Some(Binding::Var { var, ty }) => (Object::Var(var), ty),
+        Some(Binding::Array { array, ty }) => (Object::Array(array), ty),
+        None => unreachable!(),
+    }
+}
 
 // What is assigned to, with the type of its object.
 fn cast_target(

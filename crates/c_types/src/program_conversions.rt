@@ -1,17 +1,69 @@
-//! The conversions that an expression of a program implies, as [`crate::conversions`] of a tree's.
+//! The conversions that an expression implies (ISO/IEC 9899:1999 6.3.1), and typed expressions
+//! with them.
 ghost use Rattle.std.specs.Prelude.{◌≡◌, IfOk};
 ghost use Rattle.c_ast.specs.declared.program.ProgExprKind.TheVariants as typed;
-ghost use Rattle.c_ast.specs.Casts.{assigned_type};
+ghost use Rattle.c_ast.specs.Casts.{same_type, left_type, right_type, assigned_type};
 ghost use Rattle.c_ast.specs.ProgramCasts.{prog_of, prog_converted};
 ghost use Rattle.c_types.specs.ProgramNodes.{prog_unary_of, prog_binary_of, prog_choice_of};
 
-use crate::conversions::{left_type, right_type, same_type};
 use c_ast::{
     Binary, Boxed, ProgExpr, ProgExprKind, Span, Ty, Unary, joint_type, promoted, result_type,
     unary_type, usual,
 };
 use el_base::Memory;
 use std::alloc::Global;
+
+fn left_type(op: Binary, left: Ty, right: Ty) -> Ty
+    ensures { result ≡ left_type op left right }
+{
+    match op {
+        Binary::Both | Binary::Either => left,
+        Binary::Shl | Binary::Shr => promoted(left),
+        Binary::Mul
+        | Binary::Div
+        | Binary::Rem
+        | Binary::Add
+        | Binary::Sub
+        | Binary::Lt
+        | Binary::Gt
+        | Binary::Le
+        | Binary::Ge
+        | Binary::Eq
+        | Binary::Ne
+        | Binary::And
+        | Binary::Xor
+        | Binary::Or => usual(left, right),
+    }
+}
+
+fn right_type(op: Binary, left: Ty, right: Ty) -> Ty
+    ensures { result ≡ right_type op left right }
+{
+    match op {
+        Binary::Both | Binary::Either => right,
+        Binary::Shl | Binary::Shr => promoted(right),
+        Binary::Mul
+        | Binary::Div
+        | Binary::Rem
+        | Binary::Add
+        | Binary::Sub
+        | Binary::Lt
+        | Binary::Gt
+        | Binary::Le
+        | Binary::Ge
+        | Binary::Eq
+        | Binary::Ne
+        | Binary::And
+        | Binary::Xor
+        | Binary::Or => usual(left, right),
+    }
+}
+
+fn same_type(left: Ty, right: Ty) -> bool
+    ensures { result ≡ same_type left right }
+{
+    left == right
+}
 
 /// A typed expression. Expressions go from call to call in boxes: a level of the recursion then
 /// takes little stack.

@@ -21,6 +21,7 @@ mod MakeLemmas
 mod StartLemmas
 mod MarkLemmas
 mod NoteLemmas
+mod CellLemmas
 mod NextLemmas
 mod ExecLemmas
 pub mod FollowLemmas
@@ -28,3 +29,4 @@ mod GoLemmas
 mod UnitTurnLemmas
 mod SwapLemmas
 pub mod SameLemmas
+mod TokenLemmas

@@ -22,7 +22,7 @@ use Rattle.cycle_engine.specs.declared.engine.Engine.{Engine}
 use Rattle.cycle_engine.specs.declared.notes.Notes.{Notes}
 use Rattle.cycle_engine.specs.Cycles.{Dated, dated, after_by, after_in}
 use Rattle.cycle_engine.specs.private.Trials.{dated_of, IsEngine}
-use Rattle.cycle_engine.specs.private.Marking.{Holds, AreCells, HasCells, around, cell, coming_in, lists_of, cells_of, cells_with, IsNoted}
+use Rattle.cycle_engine.specs.private.Marking.{Holds, AreCells, HasCells, around, cell, coming_in, cells_of, cells_with, IsNoted}
 use Rattle.cycle_engine.specs.private.Stacks.{Stacked}
 use Rattle.cycle_engine.specs.private.Goings.{AreComing}
 use Rattle.cycle_engine.proofs.BeforeLemmas.{after_of, dated_put}
@@ -111,12 +111,6 @@ comes_with net d c xs some p = by (nat_lt 0 (chan_at net d).delay) refl
     by true e = subst P (sym (get_or-set_same xs i (get_or xs i [] ++ d ∷ []) [] (mod_below (c + (chan_at net d).delay) (length xs) some))) (holds_last (get_or xs i []) d)
     by false e = let z : true ≡ false = sym (lt-ltb 0 (chan_at net d).delay p) ∙ e in cc
 
--- the list of a cell
-pub list_at : (xs : List (Stacked ℕ)) (i : ℕ) (v : Stacked ℕ) → i < length xs → v ≡ get_or xs i v → v.items ≡ get_or (lists_of xs) i []
-list_at [] i v l e = absurd (omega arith)
-list_at (x ∷ xs) zero v l e = ap (λ (y : Stacked ℕ). y.items) e
-list_at (x ∷ xs) (suc i) v l e = list_at xs i v (omega arith) e
-
 -- the place for a cycle so far ahead
 around_is : (c a n : ℕ) → a < n → around (c % n) a n ≡ (c + a) % n
 around_is c a n l = by (cases_lt a (n - c % n))
@@ -168,6 +162,32 @@ none_noted n first l empty k = by (cases_lt k (length (cells_of n)))
     by : (k < count) ⊎ (count ≤ k) → cell n k ≡ []
     by (inl w) = at w (cases_lt k first)
     by (inr w) = get_or_past (cells_of n) k [] w
+
+-- where the cells from a place on are empty up to another one, those so far ahead are
+ahead_empty : (n : Notes) (first to a : ℕ) → to ≤ length (cells_of n) → ((k : ℕ) → first ≤ k → k < to → cell n k ≡ []) → a < to - first → cell n (around first a (length (cells_of n))) ≡ []
+ahead_empty n first to a most empty l =
+    let P : ℕ → Type 0 = λ k. cell n k ≡ [] in
+    let count : ℕ = length (cells_of n) in
+    let e : first + a ≡ around first a count = sym (ap (λ b. cond b (first + a) (a - (count - first))) (lt-ltb a (count - first) (omega arith))) in
+    subst P e (empty (first + a) (omega arith) (omega arith))
+
+-- and those behind them, where the first cells are empty up to another place
+pub round_empty : (n : Notes) (first to a : ℕ) → first < length (cells_of n) → ((k : ℕ) → first ≤ k → k < length (cells_of n) → cell n k ≡ []) → ((k : ℕ) → 0 ≤ k → k < to → cell n k ≡ [])
+    → a < length (cells_of n) - first + to → cell n (around first a (length (cells_of n))) ≡ []
+round_empty n first to a within late early l = by (cases_lt a (length (cells_of n) - first))
+  where
+    by : (a < length (cells_of n) - first) ⊎ (length (cells_of n) - first ≤ a) → cell n (around first a (length (cells_of n))) ≡ []
+    by (inl k) = ahead_empty n first (length (cells_of n)) a (omega arith) late k
+    by (inr k) =
+        let P : ℕ → Type 0 = λ x. cell n x ≡ [] in
+        let count : ℕ = length (cells_of n) in
+        let z : count - first ≤ a = k in
+        let e : a - (count - first) ≡ around first a count = sym (ap (λ b. cond b (first + a) (a - (count - first))) (le-ltb a (count - first) z)) in
+        subst P e (early (a - (count - first)) (omega arith) (omega arith))
+
+-- so none is noted for the cycles up to the first of which the cell is not empty
+pub none_ahead : (n : Notes) (now to : ℕ) → to ≤ length (cells_of n) → ((k : ℕ) → now % length (cells_of n) ≤ k → k < to → cell n k ≡ []) → (k : ℕ) → now ≤ k → k < now + (to - now % length (cells_of n)) → coming_in n k ≡ []
+none_ahead n now to most empty = none_before n now (to - now % length (cells_of n)) (omega arith) (λ a l. ahead_empty n (now % length (cells_of n)) to a most empty l)
 
 -- a firing that puts a token on a channel
 pub noted_some : (net : Net) (laid : Option Laid) (w : Laid) (c : ℕ) (old new : Notes) → laid ≡ Some w → AreCells old → cells_of new ≡ cells_with net w.chan c (cells_of old) → IsNoted net laid c old new

@@ -338,30 +338,30 @@ laid_more net base n m below laid = record { long = (let a = laid.long in omega 
         by (inl l) = let a = laid.least u l in let b = old u l in omega arith
         by (inr l) = let z = long in let a = last u (omega arith) in let b = laid.long in omega arith
 
-    most : (u : ℕ) (a : Act) → u < length (base ++ n ∷ []) → Fits (kind_of net u) a → get_or (base ++ n ∷ []) u 0 + own_number a < n + m
-    most u a w f = by (cases_lt u (length base))
+    most : (u : ℕ) (a : Act) → u < length (base ++ n ∷ []) → Fits (kind_of net u) a → own_number a ≢ 0 → get_or (base ++ n ∷ []) u 0 + own_number a < n + m
+    most u a w f ne = by (cases_lt u (length base))
       where
         by : (u < length base) ⊎ (length base ≤ u) → get_or (base ++ n ∷ []) u 0 + own_number a < n + m
-        by (inl l) = let b = laid.most u a l f in let c = old u l in omega arith
+        by (inl l) = let b = laid.most u a l f ne in let c = old u l in omega arith
         by (inr l) =
             let z = long in
             let e : u ≡ length base = omega arith in
             let b = last u e in
             let P : ℕ → Type 0 = λ x. Fits (kind_of net x) a in
-            let c = below.below a (subst P e f) in
+            let c = below.below a (subst P e f) ne in
             omega arith
 
-    rising : (u v : ℕ) (a : Act) → u < v → v < length (base ++ n ∷ []) → Fits (kind_of net u) a → get_or (base ++ n ∷ []) u 0 + own_number a < get_or (base ++ n ∷ []) v 0
-    rising u v a uv w f = by (cases_lt v (length base))
+    rising : (u v : ℕ) (a : Act) → u < v → v < length (base ++ n ∷ []) → Fits (kind_of net u) a → own_number a ≢ 0 → get_or (base ++ n ∷ []) u 0 + own_number a < get_or (base ++ n ∷ []) v 0
+    rising u v a uv w f ne = by (cases_lt v (length base))
       where
         by : (v < length base) ⊎ (length base ≤ v) → get_or (base ++ n ∷ []) u 0 + own_number a < get_or (base ++ n ∷ []) v 0
-        by (inl l) = let b = laid.rising u v a uv l f in let c = old u (omega arith) in let d = old v l in omega arith
+        by (inl l) = let b = laid.rising u v a uv l f ne in let c = old u (omega arith) in let d = old v l in omega arith
         by (inr l) =
             let z = long in
             let b = last v (omega arith) in
             let r : u < length base = omega arith in
             let c = old u r in
-            let d = laid.most u a r f in
+            let d = laid.most u a r f ne in
             omega arith
 
 -- after the last unit
@@ -380,14 +380,14 @@ laid_all net base n e laid = record { long = laid.long; least = least; most = mo
       where
         by : (own_number f.act ≡ 0) ⊎ (own_number f.act ≢ 0) → place_number base f < n
         by (inl z) = let w = p.within in let a = number_unit base f z in let b = laid.long in omega arith
-        by (inr ne) = let w = p.within in let a = number_more base f ne in let b = laid.most f.unit f.act (omega arith) p.fits in omega arith
+        by (inr ne) = let w = p.within in let a = number_more base f ne in let b = laid.most f.unit f.act (omega arith) p.fits ne in omega arith
 
     rising : (f g : Firing) → HasPlace net f → HasPlace net g → f.unit < g.unit → own_number f.act ≢ 0 → own_number g.act ≢ 0 → place_number base f < place_number base g
     rising f g pf pg l nf ng =
         let w = pg.within in
         let a = number_more base f nf in
         let b = number_more base g ng in
-        let c = laid.rising f.unit g.unit f.act l (omega arith) pf.fits in
+        let c = laid.rising f.unit g.unit f.act l (omega arith) pf.fits nf in
         omega arith
 
 -- ---- places that have fired

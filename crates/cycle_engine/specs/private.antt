@@ -5,4 +5,5 @@ pub mod Goings
 pub mod Marking
 pub mod Used
 pub mod Stacks
+pub mod Lists
 pub mod Places

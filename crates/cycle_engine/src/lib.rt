@@ -4,6 +4,7 @@
 #![tactic(auto)]
 
 mod broken;
+mod cells;
 mod control;
 mod dates;
 mod engine;

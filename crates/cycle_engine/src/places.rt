@@ -1,8 +1,9 @@
 //! The acts of units, one after another.
 
-ghost use Rattle.std.specs.Prelude.{◌≡◌, ◌≤◌, true, false, MatchOption};
+ghost use Rattle.std.specs.Prelude.{◌≡◌, ◌+◌, ◌*◌, ◌^◌, ◌<◌, ◌≤◌, true, false, is_some, MatchOption};
 ghost use Rattle.net_types.specs.Nets.{kind_of};
 ghost use Rattle.net_check.specs.Ends.{is_lsq};
+ghost use Rattle.net_core.specs.Fire.{head_at};
 ghost use Rattle.net_core.specs.States.{IsOf, state_of};
 ghost use Rattle.cycle_engine.specs.private.Marking.{IsStarved, asks_first, is_merge};
 ghost use Rattle.net_types.specs.declared.firing.Act.TheVariants as acts;
@@ -14,6 +15,9 @@ use lsq_core::Queue;
 use net_check::Checked;
 use net_core::{State, UnitQueue};
 use net_types::{Act, Unit};
+
+/// The ports of a queue of no more than so many are told whether they have tokens or not.
+const FEW_PORTS: u32 = 8;
 
 /// Whether a unit is a queue.
 #[inline(always)]
@@ -216,8 +220,10 @@ fn queue_of<'a>(net: &Checked, state: &'a State, unit: u32) -> Option<&'a UnitQu
     Some(queue)
 }
 
-/// The least port from a number on at which a queue allows an address.
-fn next_addr(net: &Checked, state: &State, unit: u32, from: u32) -> Option<u32>
+/// The least port from a number on at which a queue of so many ports allows an address. Of a queue of many ports only those are told that
+/// have a token for it.
+#[inline(always)]
+fn next_addr(net: &Checked, state: &State, unit: u32, from: u32, ports: u32) -> Option<u32>
     requires { IsOf net.now state.now }
     ensures { MatchOption result (HasNoneFrom net.now (state_of state.now) unit (acts.Addr 0) from)
         (IsNextNumber net.now (state_of state.now) unit (acts.Addr 0) from) }
@@ -225,11 +231,65 @@ fn next_addr(net: &Checked, state: &State, unit: u32, from: u32) -> Option<u32>
     let Some(queue) = queue_of(net, state, unit) else {
         return None;
     };
+    if ports <= FEW_PORTS {
+        next_told_addr(net, state, unit, queue, from)
+    } else {
+        next_fed_addr(net, state, unit, queue, from)
+    }
+}
+
+/// The least port from a number on at which a queue allows an address.
+#[inline(always)]
+fn next_told_addr(
+    net: &Checked,
+    state: &State,
+    unit: u32,
+    queue: &UnitQueue,
+    from: u32,
+) -> Option<u32>
+    requires of { IsOf net.now state.now }
+    requires view { IsViewOf net.now (state_of state.now) unit queue.now }
+    ensures { MatchOption result (HasNoneFrom net.now (state_of state.now) unit (acts.Addr 0) from)
+        (IsNextNumber net.now (state_of state.now) unit (acts.Addr 0) from) }
+{
+    let _ = net;
+    let _ = state;
+    let _ = unit;
     queue.next_addr(from)
 }
 
-/// The least port from a number on at which a queue allows data.
-fn next_data(net: &Checked, state: &State, unit: u32, from: u32) -> Option<u32>
+/// The least port from a number on at which a queue allows an address and has a token for it.
+#[inline(never)]
+fn next_fed_addr(
+    net: &Checked,
+    state: &State,
+    unit: u32,
+    queue: &UnitQueue,
+    from: u32,
+) -> Option<u32>
+    requires of { IsOf net.now state.now }
+    requires view { IsViewOf net.now (state_of state.now) unit queue.now }
+    ensures { MatchOption result (HasNoneFrom net.now (state_of state.now) unit (acts.Addr 0) from)
+        (IsNextNumber net.now (state_of state.now) unit (acts.Addr 0) from) }
+{
+    let first = control_places_of(net, unit);
+    let mut at = from;
+    for _ in 0..u32::MAX {
+        let Some(port) = queue.next_addr(at) else {
+            return None;
+        };
+        if !lacks_token(net, state, unit, first, 0, port) {
+            return Some(port);
+        }
+        at = port + 1;
+    }
+    Some(at)
+}
+
+/// The least port from a number on at which a queue of so many ports allows data. Of a queue of many ports only those are told that
+/// have a token for them.
+#[inline(always)]
+fn next_data(net: &Checked, state: &State, unit: u32, from: u32, ports: u32) -> Option<u32>
     requires { IsOf net.now state.now }
     ensures { MatchOption result (HasNoneFrom net.now (state_of state.now) unit (acts.Data 0) from)
         (IsNextNumber net.now (state_of state.now) unit (acts.Data 0) from) }
@@ -237,7 +297,79 @@ fn next_data(net: &Checked, state: &State, unit: u32, from: u32) -> Option<u32>
     let Some(queue) = queue_of(net, state, unit) else {
         return None;
     };
+    if ports <= FEW_PORTS {
+        next_told_data(net, state, unit, queue, from)
+    } else {
+        next_fed_data(net, state, unit, queue, from)
+    }
+}
+
+/// The least port from a number on at which a queue allows data.
+#[inline(always)]
+fn next_told_data(
+    net: &Checked,
+    state: &State,
+    unit: u32,
+    queue: &UnitQueue,
+    from: u32,
+) -> Option<u32>
+    requires of { IsOf net.now state.now }
+    requires view { IsViewOf net.now (state_of state.now) unit queue.now }
+    ensures { MatchOption result (HasNoneFrom net.now (state_of state.now) unit (acts.Data 0) from)
+        (IsNextNumber net.now (state_of state.now) unit (acts.Data 0) from) }
+{
+    let _ = net;
+    let _ = state;
+    let _ = unit;
     queue.next_data(from)
+}
+
+/// The least port from a number on at which a queue allows data and has a token for them.
+#[inline(never)]
+fn next_fed_data(
+    net: &Checked,
+    state: &State,
+    unit: u32,
+    queue: &UnitQueue,
+    from: u32,
+) -> Option<u32>
+    requires of { IsOf net.now state.now }
+    requires view { IsViewOf net.now (state_of state.now) unit queue.now }
+    ensures { MatchOption result (HasNoneFrom net.now (state_of state.now) unit (acts.Data 0) from)
+        (IsNextNumber net.now (state_of state.now) unit (acts.Data 0) from) }
+{
+    let first = control_places_of(net, unit);
+    let mut at = from;
+    for _ in 0..u32::MAX {
+        let Some(port) = queue.next_data(at) else {
+            return None;
+        };
+        if !lacks_token(net, state, unit, first, 1, port) {
+            return Some(port);
+        }
+        at = port + 1;
+    }
+    Some(at)
+}
+
+/// Whether there is no token at one of the two places of a port, where those of the first port begin at `first`. It is not told of the
+/// last number that a port may have.
+#[inline(always)]
+fn lacks_token(net: &Checked, state: &State, unit: u32, first: u64, beside: u64, port: u32) -> bool
+    requires of { IsOf net.now state.now }
+    requires beside { beside ≤ 1 }
+    ensures lacks { result ≡ true
+        → is_some (head_at net.now (state_of state.now) unit (first + beside + 2 * port)) ≡ false }
+    ensures small { result ≡ true → port + 1 < 2 ^ 32 }
+{
+    if port == u32::MAX || first > u64::from(u32::MAX) {
+        return false;
+    }
+    let place = first + beside + 2 * u64::from(port);
+    match state.head(net, net.into_place(unit, place)) {
+        None => true,
+        Some(_) => false,
+    }
 }
 
 /// The least port from a number on at which a queue allows a reply.
@@ -288,6 +420,7 @@ fn next_told(
     unit: u32,
     kind: Act,
     from: u32,
+    count: u32,
 ) -> Option<u32>
     requires { IsOf net.now state.now }
     ensures { KeepsControl net.now (state_of state.now) noted
@@ -298,8 +431,8 @@ fn next_told(
         Act::From(_) => next_control(net, state, noted, unit, kind, from),
         Act::Alloc(_) => next_control(net, state, noted, unit, kind, from),
         Act::End => next_control(net, state, noted, unit, kind, from),
-        Act::Addr(_) => next_addr(net, state, unit, from),
-        Act::Data(_) => next_data(net, state, unit, from),
+        Act::Addr(_) => next_addr(net, state, unit, from, count),
+        Act::Data(_) => next_data(net, state, unit, from, count),
         Act::Reply(_) => next_reply(net, state, unit, from),
         Act::Go => Some(from),
         Act::Send(_) => Some(from),
@@ -327,7 +460,7 @@ pub(crate) fn next_number(
     ensures from_on { from ≤ result }
     ensures within { result ≤ count }
 {
-    match next_told(net, state, noted, unit, kind, from) {
+    match next_told(net, state, noted, unit, kind, from, count) {
         None => count,
         Some(number) => number.max(from).min(count),
     }

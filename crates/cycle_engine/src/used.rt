@@ -34,7 +34,7 @@ fn queue_places(groups: usize, ports: usize) -> u128
     4 * (groups.max(ports) as u128) + 3
 }
 
-/// How many numbers the places of a unit take.
+/// How many numbers the places of a unit take from where they begin on. The one place of most units has the unit's number, and takes none.
 fn places(unit: &Unit) -> u128
     ensures below { HasNumbersBelow unit.now result }
     ensures small { result < 2 ^ 67 }
@@ -45,7 +45,17 @@ fn places(unit: &Unit) -> u128
         Unit::Lsq { groups, ports, .. } => {
             queue_places(groups.as_slice().len(), ports.as_slice().len())
         }
-        _ => 1,
+        Unit::Entry => 0,
+        Unit::Param(_) => 0,
+        Unit::Const { .. } => 0,
+        Unit::Op1(_) => 0,
+        Unit::Op2(_) => 0,
+        Unit::Select { .. } => 0,
+        Unit::Mux { .. } => 0,
+        Unit::Branch { .. } => 0,
+        Unit::Sink { .. } => 0,
+        Unit::Read(_) => 0,
+        Unit::Exit => 0,
     }
 }
 
@@ -81,7 +91,7 @@ impl Used {
         ensures none { IfOk result (λ u. (x : ℕ) → get_or u.last.items x 0 ≡ 0) }
     {
         let units = net.net().units.as_slice();
-        let mut base = Vec::new(alloc);
+        let mut base = Vec::with_capacity(alloc, units.len())?;
         let mut count = units.len() as u128;
         for unit in units {
             let Ok(from) = u64::try_from(count) else {

@@ -6,7 +6,7 @@ use Rattle.elastic_link.specs.declared.message.Credit.{Credit}
 use Rattle.elastic_link.specs.declared.put_end.PutEnd.{PutEnd}
 use Rattle.elastic_link.specs.declared.take_end.TakeEnd.{TakeEnd}
 use Rattle.el_base.specs.Rises.{Rose}
-use Rattle.elastic_link.specs.Rings.{room_out, items_out, items_in, full_count, empty_count, SameOut, SameIn, IsRing}
+use Rattle.elastic_link.specs.Rings.{room_out, items_out, items_in, items_known, full_count, empty_count, SameOut, SameIn, IsRing}
 use Rattle.elastic_link.specs.Held.{without_held, tokens_of}
 use Rattle.elastic_link.specs.Credits.{credits_in, owed_message, never_falls}
 
@@ -65,6 +65,10 @@ pub record IsNewPut (n : ℕ) (p : PutEnd) : Type 0 where
 -- the token that was peeked and not taken
 abbrev pub token_held : TakeEnd → Option Token
 token_held t = t.held
+
+-- the tokens that the ring is known to have, oldest first
+abbrev pub tokens_known : TakeEnd → List Token
+tokens_known t = items_known t.tokens
 
 -- the tokens taken so far, oldest first
 abbrev pub tokens_taken : TakeEnd → List Token

@@ -28,7 +28,7 @@ impl PutEnd {
     ghost use Rattle.el_base.specs.Limits.{max_slots};
     ghost use Rattle.elastic_link.specs.Rings.{items_out, items_in, room_out, items_known};
     ghost use Rattle.elastic_link.specs.Credits.{IsStamp, newest_stamp};
-    ghost use Rattle.elastic_link.specs.Ends.{token_room, tokens_put, messages_received, credits_in_hand, slots_of, no_slot_count, no_message_count, SamePutEnd, KeptPutEnd, KeptTakeEnd, IsLink, IsSound};
+    ghost use Rattle.elastic_link.specs.Ends.{token_room, tokens_put, messages_received, credits_in_hand, slots_of, no_slot_count, no_message_count, SamePutEnd, SameTakeEnd, tokens_taken, KeptPutEnd, KeptTakeEnd, IsLink, IsSound};
 
     pub(crate) fn new(
         tokens: RingOut<Token, Stamped>,
@@ -135,5 +135,24 @@ impl PutEnd {
     {
         take.tokens.beside(&mut self.tokens);
         self.credits.beside(&mut take.credits);
+    }
+
+    /// With both ends in one thread: takes the oldest token that was put and not taken, whether it is held or in the ring;
+    /// `None` where all were taken. Its credit is not repaid.
+    pub fn drain(&mut self, take: &mut TakeEnd) -> Option<Token>
+        requires { IsLink self.old take.old }
+        ensures link { IsLink self.new take.new }
+        ensures put { KeptPutEnd self.old self.new }
+        ensures take { SameTakeEnd take.old take.new }
+        ensures first { IsPrefix (tokens_taken take.new) (tokens_put self.new) }
+        ensures some { IfSome result
+            (λ x. tokens_taken take.new ≡ tokens_taken take.old ++ x ∷ []) }
+        ensures none { IfNone result (tokens_taken take.new ≡ tokens_taken take.old) }
+        ensures all { IfNone result (tokens_taken take.new ≡ tokens_put self.new) }
+    {
+        take.tokens.beside(&mut self.tokens);
+        let token = take.next();
+        take.tokens.beside(&mut self.tokens);
+        token
     }
 }

@@ -33,7 +33,7 @@ impl TakeEnd {
     ghost use Rattle.el_base.specs.Limits.{max_slots};
     ghost use Rattle.elastic_link.specs.Rings.{items_out, items_in};
     ghost use Rattle.elastic_link.specs.Credits.{IsStamp, one_more};
-    ghost use Rattle.elastic_link.specs.Ends.{tokens_taken, token_held, messages_sent, messages_repaid, credits_owed, repaid_stamp, credits_repaid, no_token_count, no_credit_slot_count, SameTakeEnd, SameTokens, SameCredits, SentOrFull};
+    ghost use Rattle.elastic_link.specs.Ends.{tokens_taken, token_held, messages_sent, messages_repaid, credits_owed, repaid_stamp, credits_repaid, no_token_count, no_credit_slot_count, SameTakeEnd, SameTokens, SameCredits, SentOrFull, tokens_known};
 
     pub(crate) fn new(
         tokens: RingIn<Token, Stamped>,
@@ -95,6 +95,28 @@ impl TakeEnd {
                 token
             }
             None => unreachable!(),
+        }
+    }
+
+    /// Takes the token that is held, or else the next one that the ring shows; `None` where there is neither. Its credit is not
+    /// repaid.
+    pub(crate) fn next(&mut self) -> Option<Token>
+        ensures same { SameTakeEnd self.old self.new }
+        ensures credits { SameCredits self.old self.new }
+        ensures some { IfSome result
+            (λ x. tokens_taken self.new ≡ tokens_taken self.old ++ x ∷ []) }
+        ensures held { token_held self.new ≡ None }
+        ensures none { IfNone result (tokens_taken self.new ≡ tokens_taken self.old) }
+        ensures held_none { IfNone result (token_held self.old ≡ None) }
+        ensures known_none { IfNone result (tokens_known self.old ≡ []) }
+        ensures count { no_token_count self.old ≤ no_token_count self.new }
+    {
+        match self.held {
+            Some(token) => {
+                self.held = None;
+                Some(token)
+            }
+            None => self.tokens.pop(),
         }
     }
 

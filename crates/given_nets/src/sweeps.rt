@@ -130,13 +130,13 @@ fn put_swept(
 
 /// Writes an entry of a log behind a space: its firing and its stamp.
 fn put_entry(alloc: Global, entry: &Entry, out: &mut Output) -> Result<()> {
-    let Ok(text) = print_schedule(alloc, &[entry.firing]) else {
+    let Ok(text) = print_schedule(alloc, &[entry.firing()]) else {
         bail!("want of memory");
     };
     out.word(" ");
     out.bytes(text.as_slice().trim_ascii_end());
     out.word("@");
-    out.number(entry.stamp);
+    out.number(entry.stamp());
     Ok(())
 }
 

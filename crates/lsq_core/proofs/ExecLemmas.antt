@@ -311,7 +311,7 @@ runs_none m side fw r from ys items k re is h n j l = by (cases_lt j from)
     by (inr b) = ready_row m side fw r items (entry_at items j) k re (rw (← is) (n j b (rw is l)))
 
 -- what stops an entry stops those after it
-unfilled : (s : Bool) (x y : Entry) (items : List Entry) → x.serial ≤ y.serial → list_all (filled s x) items ≡ false → list_all (filled s y) items ≡ false
+pub unfilled : (s : Bool) (x y : Entry) (items : List Entry) → x.serial ≤ y.serial → list_all (filled s x) items ≡ false → list_all (filled s y) items ≡ false
 unfilled s x y [] l e = absurd (false≢true (sym e))
 unfilled s x y (o ∷ os) l e = by (cases_lt o.serial x.serial) ((count_of o.store == count_of s) && is_none o.addr) (list_all (filled s x) os) (unfilled s x y os l) e
   where

@@ -1,4 +1,7 @@
+pub mod AnswerLemmas
+pub mod BehindLemmas
 pub mod BitLemmas
+pub mod CoverLemmas
 pub mod EntryLemmas
 pub mod ExecLemmas
 pub mod IndexLemmas

@@ -11,7 +11,7 @@ use Rattle.lsq_core.specs.Wants.{asks, allows_at, nearer, IsFirst, HasNone, HasN
 use Rattle.lsq_core.proofs.EntryLemmas.{and_inv, and_true}
 use Rattle.lsq_core.proofs.PlaceLemmas.{find_first, find_none}
 
-either : (b : Bool) → (b ≡ true) ⊎ (b ≡ false)
+pub either : (b : Bool) → (b ≡ true) ⊎ (b ≡ false)
 either true = inl refl
 either false = inr refl
 

@@ -1,5 +1,5 @@
 -- Sets of numbers as words of 64 bits.
-use Rattle.std.specs.Prelude.{◌≡◌, ℕ, ◌/◌, ◌%◌, ◌<◌, ◌≤◌, ◌==◌, Bool, true, false, List, length, get_or}
+use Rattle.std.specs.Prelude.{◌≡◌, ℕ, ◌*◌, ◌/◌, ◌%◌, ◌<◌, ◌≤◌, ◌==◌, Bool, true, false, List, length, get_or}
 use Rattle.std.specs.Int.{bit_at}
 
 -- whether a number is in the set
@@ -23,3 +23,13 @@ pub record IsNext (words : List ℕ) (from to at : ℕ) : Type 0 where
   pub at_most : at ≤ to
   pub here : at < to → has words at ≡ true
   pub before : (j : ℕ) → from ≤ j → j < at → has words j ≡ false
+
+-- it is noted which words have a number of the set: a word that is not noted has none. Without notes nothing is said
+pub record Covers (words filled : List ℕ) : Type 0 where
+  pub room : 0 < length filled → length words ≤ 64 * length filled
+  pub empty : 0 < length filled → (i : ℕ) → has filled (i / 64) ≡ false → has words i ≡ false
+
+-- the same of all words but one
+pub record CoversOthers (at : ℕ) (words filled : List ℕ) : Type 0 where
+  pub room : 0 < length filled → length words ≤ 64 * length filled
+  pub empty : 0 < length filled → (i : ℕ) → (i / 64 ≡ at → ⊥) → has filled (i / 64) ≡ false → has words i ≡ false

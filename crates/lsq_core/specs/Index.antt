@@ -19,6 +19,7 @@ abbrev pub row_of : Kind → ℕ → Entry → ℕ
 row_of kind.Addr rows x = x.port
 row_of kind.Data rows x = x.port
 row_of kind.Reply rows x = x.port
+row_of kind.Answer rows x = x.port
 row_of kind.Blank rows x = count_of x.store
 row_of kind.Ready rows x = count_of x.store
 row_of kind.Pending rows x = 2 * bucket (max 1 (rows / 2)) (or_zero x.addr) + count_of x.store
@@ -28,6 +29,7 @@ abbrev pub stands : Kind → Entry → Bool
 stands kind.Addr x = is_none x.addr
 stands kind.Data x = x.store && is_none x.datum
 stands kind.Reply x = not x.store && not x.replied
+stands kind.Answer x = x.done && (not x.store && not x.replied)
 stands kind.Blank x = is_none x.addr
 stands kind.Ready x = ready x
 stands kind.Pending x = is_some x.addr && not x.done
@@ -109,6 +111,7 @@ pub record IsIndex (ports width : ℕ) (i : Index) : Type 0 where
   pub addr : IsMarks kind.Addr ports width i.addr
   pub «data» : IsMarks kind.Data ports width i.«data»
   pub reply : IsMarks kind.Reply ports width i.reply
+  pub answer : IsMarks kind.Answer ports width i.answer
   pub blank : IsMarks kind.Blank 2 width i.blank
   pub ready : IsMarks kind.Ready 2 width i.ready
   pub pending : IsMarks kind.Pending (2 * buckets width) width i.pending
@@ -119,6 +122,7 @@ pub record Indexes (i : Index) (head : ℕ) (items : List Entry) : Type 0 where
   pub addr : Shows i.addr head items
   pub «data» : Shows i.«data» head items
   pub reply : Shows i.reply head items
+  pub answer : Shows i.answer head items
   pub blank : Shows i.blank head items
   pub ready : Shows i.ready head items
   pub pending : Shows i.pending head items

@@ -5,5 +5,6 @@ pub mod Wants
 pub mod Runs
 pub mod Laws
 pub mod Rows
+pub mod Behind
 pub mod Bits
 pub mod Index

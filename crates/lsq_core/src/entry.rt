@@ -156,7 +156,8 @@ impl Entry {
     }
 
     /// Whether both addresses are known and equal.
-    fn has_address_of(&self, other: &Entry) -> bool
+    #[inline(always)]
+    pub(crate) fn has_address_of(&self, other: &Entry) -> bool
         ensures { result ≡ same self.now.addr other.now.addr }
     {
         match (self.addr, other.addr) {

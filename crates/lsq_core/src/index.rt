@@ -18,6 +18,7 @@ pub(crate) struct Index {
     pub(crate) addr: Marks,
     pub(crate) data: Marks,
     pub(crate) reply: Marks,
+    pub(crate) answer: Marks,
     pub(crate) blank: Marks,
     pub(crate) ready: Marks,
     pub(crate) pending: Marks,
@@ -30,6 +31,7 @@ impl Drop for Index {
             addr: _addr,
             data: _data,
             reply: _reply,
+            answer: _answer,
             blank: _blank,
             ready: _ready,
             pending: _pending,
@@ -49,7 +51,7 @@ impl Index {
         ensures shape { IfOk result (λ i. IsIndex ports (64 * blocks) i) }
         ensures shows { IfOk result (λ i. Indexes i 0 []) }
     {
-        let reply = Marks::new(alloc, Kind::Reply, ports, blocks)?;
+        let (reply, answer) = two(alloc, (Kind::Reply, ports), (Kind::Answer, ports), blocks)?;
         let (addr, data) = two(alloc, (Kind::Addr, ports), (Kind::Data, ports), blocks)?;
         let (blank, ready) = two(alloc, (Kind::Blank, 2), (Kind::Ready, 2), blocks)?;
         let pending = Marks::new(alloc, Kind::Pending, 8 * blocks, blocks)?;
@@ -57,6 +59,7 @@ impl Index {
             addr,
             data,
             reply,
+            answer,
             blank,
             ready,
             pending,
@@ -134,6 +137,7 @@ impl Index {
             → Indexes self.new head (set items at (executed value old.now)) }
     {
         let new = old.with(Made::Done(value));
+        self.answer.change(Kind::Answer, place, &new);
         self.ready.change(Kind::Ready, place, &new);
         self.pending.change(Kind::Pending, place, &new);
     }
@@ -152,6 +156,7 @@ impl Index {
     {
         let new = old.with(Made::Replied);
         self.reply.change(Kind::Reply, place, &new);
+        self.answer.change(Kind::Answer, place, &new);
     }
 
     /// Notes that an entry is added after so many.
@@ -170,6 +175,7 @@ impl Index {
         self.addr.add(Kind::Addr, place, new);
         self.data.add(Kind::Data, place, new);
         self.reply.add(Kind::Reply, place, new);
+        self.answer.add(Kind::Answer, place, new);
         self.blank.add(Kind::Blank, place, new);
         self.ready.add(Kind::Ready, place, new);
         self.pending.add(Kind::Pending, place, new);
@@ -190,6 +196,7 @@ impl Index {
         self.addr.retire(Kind::Addr, head, old);
         self.data.retire(Kind::Data, head, old);
         self.reply.retire(Kind::Reply, head, old);
+        self.answer.retire(Kind::Answer, head, old);
         self.blank.retire(Kind::Blank, head, old);
         self.ready.retire(Kind::Ready, head, old);
         self.pending.retire(Kind::Pending, head, old);

@@ -1,11 +1,12 @@
 //! The entries of a queue with an index.
 
-ghost use Rattle.std.specs.Prelude.{◌≡◌, ℕ, ◌+◌, ◌<◌, ◌≤◌, ◌^◌, ◌==◌, ◌&&◌, ◌++◌, ◌∷◌, [], None, Some, cond, true, length, option_map, IfOk, MatchOption};
+ghost use Rattle.std.specs.Prelude.{◌≡◌, ℕ, ◌+◌, ◌<◌, ◌≤◌, ◌^◌, ◌==◌, ◌&&◌, ◌++◌, ◌∷◌, [], None, Some, cond, true, false, not, is_some, length, option_map, IfOk, MatchOption};
 ghost use Rattle.std.specs.List.{find, list_all};
-ghost use Rattle.lsq_core.specs.Acts.{first_changed, is_nil, executes, last_such, waiting, lets, source_ok, order_ok, rest, fresh_entry};
+ghost use Rattle.lsq_core.specs.Acts.{first_changed, is_nil, executes, last_such, waiting, lets, source_ok, order_ok, rest, fresh_entry, same};
 ghost use Rattle.lsq_core.specs.Views.{InOrder, InPorts, no_entries, oldest_of, front_of, entry_at, count_of};
 ghost use Rattle.lsq_core.specs.Parts.{none_from, IsPartOf};
-ghost use Rattle.lsq_core.specs.Wants.{wanted, changed_by, asks, allows_at, nearer, IsFirst, HasNone, NoneBelow, HasNoPort, IsNextPort, HasNoAddr, IsNextAddr, HasNoData, IsNextData};
+ghost use Rattle.lsq_core.specs.Wants.{wanted, changed_by, asks, allows_at, nearer, IsFirst, HasNone, NoneBelow, HasNoPort, IsNextPort, HasNoAddr, IsNextAddr, HasNoData, IsNextData, HasNoReply, IsNextReply};
+ghost use Rattle.lsq_core.specs.Behind.{FailsBefore};
 ghost use Rattle.lsq_core.specs.Index.{filled, clear, reached, runs, wrapped, IsClearBelow};
 ghost use Rattle.lsq_core.specs.declared.entry.Want.TheVariants as want;
 
@@ -236,7 +237,7 @@ impl Indexed {
         match act {
             PortAct::Addr => self.next_addr_port(from, ports),
             PortAct::Data => self.next_data_port(from, ports),
-            PortAct::Reply => self.next_by_ports(PortAct::Reply, from, ports),
+            PortAct::Reply => self.next_reply_port(from, ports),
         }
     }
 
@@ -268,19 +269,22 @@ impl Indexed {
         }
     }
 
-    /// The least port from a number on at which an act is allowed, by the ports.
+    /// The least port from a number on at which a reply is allowed: of those with an entry that is executed and has not replied, the
+    /// first whose oldest entry without a reply is executed.
     #[inline(always)]
-    fn next_by_ports(&self, act: PortAct, from: u32, ports: u32) -> Option<u32>
+    fn next_reply_port(&self, from: u32, ports: u32) -> Option<u32>
         requires { ports ≡ self.now.ports }
-        ensures { MatchOption result (HasNoPort (allows_at act self.now.queue.items) from)
-            (IsNextPort (allows_at act self.now.queue.items) from) }
+        ensures { MatchOption result (HasNoReply self.now.queue.items from)
+            (IsNextReply self.now.queue.items from) }
     {
-        for port in from..ports {
-            if self.allows_at(act, port) {
-                return Some(port);
-            }
-        }
         let _ = self.len();
+        let mut at = from as usize;
+        while let Some(row) = self.index.answer.next_row(at, ports as usize) {
+            if self.allows_at(PortAct::Reply, row as u32) {
+                return Some(row as u32);
+            }
+            at = row + 1;
+        }
         None
     }
 
@@ -435,7 +439,20 @@ impl Indexed {
 
     /// Whether a load may have its value from its source: it has none, or the queue forwards and the source has
     /// its data.
+    #[inline(always)]
     fn has_source(&self, load: &Entry) -> bool
+        ensures { result
+            ≡ source_ok self.now.queue.forward (last_such (waiting load.now) self.now.queue.items) }
+    {
+        if !self.entries.forwards() {
+            return self.is_clear(true, load);
+        }
+        self.has_forwarding_source(load)
+    }
+
+    /// The same of a queue that forwards.
+    fn has_forwarding_source(&self, load: &Entry) -> bool
+        requires { self.now.queue.forward ≡ true }
         ensures { result
             ≡ source_ok self.now.queue.forward (last_such (waiting load.now) self.now.queue.items) }
     {
@@ -504,14 +521,56 @@ impl Indexed {
     {
         match self.index.ready.next(self.head, row_of_side(side), 0) {
             None => None,
-            Some(first) => self.first_from(side, first),
+            Some(first) => {
+                let entry = self.at(first);
+                if self.executes(&entry) {
+                    return Some(first);
+                }
+                if !self.is_reached(side, &entry) {
+                    return None;
+                }
+                self.first_from(side, first + 1)
+            }
         }
+    }
+
+    /// Whether an entry is behind another that has its address, in a queue that does not forward.
+    #[inline(always)]
+    fn is_behind(&self, other: &Entry, entry: &Entry) -> bool
+        ensures { result
+            ≡ (not self.now.queue.forward && same other.now.addr entry.now.addr) }
+    {
+        !self.entries.forwards() && other.has_address_of(entry)
+    }
+
+    /// Whether an entry may execute, where another that has an address is an older one of its side that may not.
+    #[inline(always)]
+    fn executes_after(&self, other: &Entry, entry: &Entry) -> bool
+        requires { is_some other.now.addr ≡ true
+            → FailsBefore self.now.queue other.now entry.now }
+        ensures { result ≡ executes self.now.queue.forward self.now.queue.items entry.now }
+    {
+        if self.is_behind(other, entry) {
+            return false;
+        }
+        self.executes(entry)
+    }
+
+    /// Whether the addresses before an entry of a side may be known, so far as it waits for them. Behind another they are not looked at.
+    #[inline(always)]
+    fn may_be_reached(&self, side: bool, other: &Entry, entry: &Entry) -> bool
+        ensures { result ≡ false → reached side self.now.queue.items entry.now ≡ false }
+    {
+        if self.is_behind(other, entry) {
+            return true;
+        }
+        self.is_reached(side, entry)
     }
 
     /// The place of the first entry of a side that may execute, where none does before a number.
     #[inline(never)]
     fn first_from(&self, side: bool, first: usize) -> Option<usize>
-        requires within { first < length self.now.queue.items }
+        requires within { first ≤ length self.now.queue.items }
         requires none { NoneBelow (runs side self.now.queue.forward self.now.queue.items)
             self.now.queue.items first }
         ensures { MatchOption result
@@ -521,14 +580,16 @@ impl Indexed {
     {
         let row = row_of_side(side);
         let mut from = first;
+        let mut last = Entry::fresh(0, 0, side);
         while let Some(at) = self.index.ready.next(self.head, row, from) {
             let entry = self.at(at);
-            if self.executes(&entry) {
+            if self.executes_after(&last, &entry) {
                 return Some(at);
             }
-            if !self.is_reached(side, &entry) {
+            if !self.may_be_reached(side, &last, &entry) {
                 return None;
             }
+            last = entry;
             from = at + 1;
         }
         None

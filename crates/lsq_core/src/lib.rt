@@ -13,6 +13,7 @@ mod marks;
 mod part;
 mod queue;
 mod runs;
+mod words;
 
 pub use bits::Bits;
 pub use entry::Entry;

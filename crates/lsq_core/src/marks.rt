@@ -7,8 +7,9 @@ ghost use Rattle.lsq_core.specs.Views.{entry_at, front_of};
 ghost use Rattle.lsq_core.specs.Bits.{IsSet, IsNext};
 ghost use Rattle.lsq_core.specs.Index.{bucket, row_of, stands, wrapped, HasRoom, Shows, KeepsShape, IsMarks, IsNextIn, HasNoMoreIn, IsNextRow, HasNoRow};
 
-use crate::bits::{Bits, WORD};
+use crate::bits::{Bits, FEW_WORDS};
 use crate::entry::Entry;
+use crate::words::WORD;
 use net_types::Memory;
 use std::alloc::Global;
 
@@ -24,6 +25,8 @@ pub(crate) enum Kind {
     Data,
     /// They have not replied, at a port.
     Reply,
+    /// They are executed and have not replied, at a port.
+    Answer,
     /// Their address is not known; of loads, or of stores.
     Blank,
     /// They have what they need to execute, and have not; of loads, or of stores.
@@ -64,6 +67,7 @@ impl Kind {
             Kind::Addr => port,
             Kind::Data => port,
             Kind::Reply => port,
+            Kind::Answer => port,
             Kind::Blank => side,
             Kind::Ready => side,
             Kind::Pending => 2 * bucket((rows / 2).max(1), entry.address()) + side,
@@ -79,6 +83,7 @@ impl Kind {
             Kind::Addr => entry.addr.is_none(),
             Kind::Data => entry.store && entry.datum.is_none(),
             Kind::Reply => !entry.store && !entry.replied,
+            Kind::Answer => entry.done && !entry.store && !entry.replied,
             Kind::Blank => entry.addr.is_none(),
             Kind::Ready => entry.is_ready(),
             Kind::Pending => entry.addr.is_some() && !entry.done,
@@ -308,7 +313,7 @@ impl Marks {
             → MatchOption result (HasNoRow self.now from to items)
             (λ row. IsNextRow self.now from to row items) }
     {
-        if self.width == WORD {
+        if self.width == WORD && to <= FEW_WORDS {
             self.next_row_of_word(from, to)
         } else {
             self.next_row_of_words(from, to)

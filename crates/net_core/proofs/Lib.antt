@@ -42,3 +42,5 @@ pub mod SearchLemmas
 pub mod FindLemmas
 pub mod QueueFindLemmas
 pub mod NumberedLemmas
+pub mod ExchangeLemmas
+pub mod PropLemmas

@@ -70,7 +70,7 @@ shape_at net s u of = at (kind_of net u) refl (of.shaped u)
     at k is h = tt
 
 -- an array that lies elsewhere stays
-elsewhere : (cells : List Cell) (h : Home) (u : ℕ) (c : Cell) → ((v : ℕ) → h ≡ home.Queue v → v ≢ u) → array_in (set cells u c) h ≡ array_in cells h
+pub elsewhere : (cells : List Cell) (h : Home) (u : ℕ) (c : Cell) → ((v : ℕ) → h ≡ home.Queue v → v ≢ u) → array_in (set cells u c) h ≡ array_in cells h
 elsewhere cells (home.Here xs) u c apart = refl
 elsewhere cells (home.Queue v) u c apart = ap queue_array (get_or-set_other cells u v c Plain (apart v refl))
 

@@ -9,6 +9,7 @@ pub mod Unchecked
 pub mod Held
 pub mod Plans
 pub mod States
+pub mod Exchanges
 pub mod Parts
 pub mod Finds
 pub mod private

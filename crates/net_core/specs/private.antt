@@ -5,3 +5,4 @@ pub mod Openings
 pub mod Restores
 pub mod Searches
 pub mod Channels
+pub mod Exchanges

@@ -2,11 +2,13 @@
 
 ghost use Rattle.std.specs.Prelude.{◌≡◌, ◌<◌, length, get_or};
 ghost use Rattle.std.specs.List.{slice_get};
+ghost use Rattle.lsq_core.specs.Views.{oldest_of};
 ghost use Rattle.net_types.specs.Nets.{kind_of};
 ghost use Rattle.net_core.specs.Fire.{idle};
 ghost use Rattle.net_core.specs.States.{IsOf, state_of};
 ghost use Rattle.net_core.specs.Finds.{exec_of, queue_acts, unit_acts};
 
+use crate::cell::UnitQueue;
 use crate::state::State;
 use lsq_core::Queue;
 use net_check::Checked;
@@ -29,16 +31,17 @@ impl State {
             Unit::Lsq { ports, groups, .. } => {
                 let ports = u32::try_from(ports.as_slice().len()).ok()?;
                 let groups = u32::try_from(groups.as_slice().len()).ok()?;
-                queue_act(self.queue(net, unit)?.oldest(), ports, groups, number)
+                queue_act(self.queue(net, unit)?, ports, groups, number)
             }
             _ => (number == 0).then_some(Act::Go),
         }
     }
 }
 
-/// The act of a queue with this number, where `oldest` is the serial number of the oldest entry that may execute.
-fn queue_act(oldest: Option<u64>, ports: u32, groups: u32, number: u32) -> Option<Act>
-    ensures { result ≡ slice_get (queue_acts ports groups oldest) number }
+/// The act of a queue with this number. The oldest entry that may execute is looked for only where the number is that of an execution.
+fn queue_act(queue: &UnitQueue, ports: u32, groups: u32, number: u32) -> Option<Act>
+    ensures { result
+        ≡ slice_get (queue_acts ports groups (oldest_of queue.now.queue)) number }
 {
     if number < groups {
         return Some(Act::Alloc(number));
@@ -53,7 +56,7 @@ fn queue_act(oldest: Option<u64>, ports: u32, groups: u32, number: u32) -> Optio
     }
     let number = number - ports;
     if number == 0 {
-        return Some(exec_of(oldest));
+        return Some(exec_of(queue.oldest()));
     }
     let number = number - 1;
     if number < ports {

@@ -7,6 +7,7 @@
 mod acts;
 mod cell;
 mod channel;
+mod exchange;
 mod find;
 mod inputs;
 mod laws;

@@ -35,7 +35,7 @@ pub struct State {
     pub(crate) tokens: Tokens,
     pub(crate) cells: Vec<Cell>,
     homes: Vec<Home>,
-    strays: Vec<u64>,
+    pub(crate) strays: Vec<u64>,
     exit: u32,
 }
 

@@ -4,6 +4,7 @@ ghost use Rattle.std.specs.Prelude.{◌≡◌, ◌<◌, ◌≤◌, ◌^◌, ◌�
 ghost use Rattle.circular_buffer.specs.Buffer.{last_item};
 ghost use Rattle.net_core.specs.Fire.{first};
 ghost use Rattle.net_core.specs.Held.{AllWithin, HasRoom, dated_laid, held_of, laid_on, lane, put_at_end, take_at, taken_all};
+ghost use Rattle.net_core.specs.Exchanges.{chan_from};
 ghost use Rattle.net_core.specs.Plans.{chans_of};
 ghost use Rattle.net_core.specs.private.Channels.{zeros_for};
 ghost use Rattle.net_types.specs.declared.net.Chan.{Chan as ChanValue};
@@ -13,6 +14,7 @@ use crate::plan::{Moves, Taken};
 use net_types::{Chan, List, Memory};
 use std::alloc::Global;
 use std::marker::Model;
+use std::mem::swap;
 
 /// The tokens of each channel with their dates, and its slots.
 #[derive(Drop)]
@@ -154,6 +156,23 @@ impl Tokens {
         ensures dates { self.new.dates ≡ put_at_end chan date self.old.dates }
     {
         self.channels[chan as usize].put(value, date);
+    }
+
+    /// Exchanges the tokens of a channel, with their dates, with those of other channels of the same slots.
+    pub(crate) fn exchange(&mut self, other: &mut Tokens, chan: u32)
+        requires within { chan < length self.old.tokens }
+        requires both { length other.old.tokens ≡ length self.old.tokens }
+        requires slots { other.old.slots ≡ self.old.slots }
+        ensures tokens { self.new.tokens ≡ chan_from chan other.old.tokens self.old.tokens }
+        ensures slots { self.new.slots ≡ self.old.slots }
+        ensures dates { self.new.dates ≡ chan_from chan other.old.dates self.old.dates }
+        ensures other_tokens { other.new.tokens
+            ≡ chan_from chan self.old.tokens other.old.tokens }
+        ensures other_slots { other.new.slots ≡ other.old.slots }
+        ensures other_dates { other.new.dates ≡ chan_from chan self.old.dates other.old.dates }
+    {
+        let at = chan as usize;
+        swap(&mut self.channels[at], &mut other.channels[at]);
     }
 
     /// Takes the oldest tokens of channels.

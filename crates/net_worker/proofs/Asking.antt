@@ -1,5 +1,5 @@
 -- Ends that were asked, and what that leaves of a worker.
-use Rattle.std.proofs.Common.{◌≡◌, ℕ, suc, ◌+◌, ◌^◌, ◌≤◌, max, Bool, true, false, Option, Some, None, IsSome, List, [], ◌∷◌, ◌++◌, length, get_or, refl, ap, ◌∙◌, sym, subst, arith, append-nil, append_assoc}
+use Rattle.std.proofs.Common.{◌≡◌, ℕ, ◌≤◌, Bool, true, false, Option, Some, None, IsSome, List, [], ◌∷◌, ◌++◌, get_or, refl, ap, ◌∙◌, sym, subst, arith, append-nil, append_assoc}
 use mathlib.Core.List.{IsPrefix}
 use Rattle.elastic_link.specs.declared.put_end.PutEnd.{PutEnd}
 use Rattle.elastic_link.specs.declared.take_end.TakeEnd.{TakeEnd}
@@ -11,7 +11,7 @@ use Rattle.net_worker.specs.Ends.{IsUnspent}
 use Rattle.net_worker.specs.Ends as ends
 use Rattle.net_worker.specs.Fires.{PutStep, TakeStep}
 use Rattle.net_worker.specs.Keeps.{IsKept}
-use Rattle.net_worker.specs.Workers.{IsMadeOf, IsWhole, put_end, take_end, held_by}
+use Rattle.net_worker.specs.Workers.{IsMadeOf, put_end, take_end, held_by}
 use Rattle.net_worker.specs.declared.tables.Tables.{Tables}
 use Rattle.net_worker.specs.declared.worker.Worker.{Worker}
 use Rattle.net_worker.proofs.Keeping.{made_keeps}
@@ -126,6 +126,8 @@ asked_self a = record {
   outs = refl;
   ins = refl;
   closed = refl;
+  resting = refl;
+  waits = λ _ h. h;
   puts = puts_asked_self a.puts.items;
   takes = takes_asked_self a.takes.items;
 }
@@ -140,6 +142,8 @@ asked_trans a b c h k = record {
   outs = k.outs ∙ h.outs;
   ins = k.ins ∙ h.ins;
   closed = k.closed ∙ h.closed;
+  resting = k.resting ∙ h.resting;
+  waits = λ d w. k.waits d (h.waits d w);
   puts = puts_asked_trans a.puts.items b.puts.items c.puts.items h.puts k.puts;
   takes = takes_asked_trans a.takes.items b.takes.items c.takes.items h.takes k.takes;
 }
@@ -200,6 +204,7 @@ asked_keeps t a b h = record {
   outs = h.outs;
   ins = h.ins;
   closed = h.closed;
+  rests = λ r. (sym h.resting ∙ r, h.waits);
   puts = λ c. put_asked_step 0 (put_end a c) (put_end b c) (h.puts.each c);
   takes = λ c. take_asked_step 0 (take_end a c) (take_end b c) (h.takes.each c);
 }

@@ -2,7 +2,7 @@
 use Rattle.std.proofs.Common.{◌≡◌, ◌≢◌, ◌⊎◌, inl, inr, ℕ, suc, ◌+◌, ◌*◌, ◌^◌, ◌<◌, ◌≤◌, max, Bool, true, false, cond, Option, Some, None, IsSome, List, [], ◌∷◌, ◌++◌, length, get_or, refl, ap, ◌∙◌, sym, subst, arith, append-nil, get_or-set_same, get_or-set_other}
 use Rattle.std.specs.List.{AllByRecursion}
 use Rattle.std.proofs.lemmas.Bool.{cases_lt, cases_eq}
-use Rattle.std.proofs.lemmas.List.{get_or_past, length-append}
+use Rattle.std.proofs.lemmas.List.{get_or_past}
 use Rattle.el_base.specs.Limits.{max_depth}
 use Rattle.elastic_link.specs.declared.message.Token.{Token}
 use Rattle.elastic_link.specs.declared.message.Credit.{Credit}
@@ -10,10 +10,10 @@ use Rattle.elastic_link.specs.declared.put_end.PutEnd.{PutEnd}
 use Rattle.elastic_link.specs.declared.take_end.TakeEnd.{TakeEnd}
 use Rattle.elastic_link.specs.Credits.{credits_in, owed_message}
 use Rattle.elastic_link.specs.Held.{tokens_of}
-use Rattle.elastic_link.specs.Ends.{tokens_taken, token_held, messages_sent, messages_repaid, credits_owed, credits_repaid, repaid_stamp}
+use Rattle.elastic_link.specs.Ends.{token_held, messages_sent, messages_repaid, credits_owed, credits_repaid, repaid_stamp}
 use Rattle.net_types.specs.declared.net.Net.{Net}
 use Rattle.net_types.specs.declared.firing.Firing.{Firing}
-use Rattle.net_types.specs.Nets.{into, out_of, chan_at, kind_of, nowhere}
+use Rattle.net_types.specs.Nets.{into, out_of, chan_at, nowhere}
 use Rattle.net_check.specs.Checks.{IsChecked}
 use Rattle.net_core.specs.declared.plan.Put.{Put}
 use Rattle.net_core.specs.Fire.{State, Effect, effect, after, applied, first, tokens_at, head_at, takes_from, puts_on, taken, added, has_room}
@@ -21,23 +21,23 @@ use Rattle.net_core.specs.Held.{take_at}
 use Rattle.net_core.specs.States.{IsOf, CountsWithin, CountsRise, state_of, with_tokens}
 use Rattle.net_core.specs.Uses.{used}
 use Rattle.net_core.proofs.RowLemmas.{Has}
-use Rattle.net_core.proofs.ApartLemmas.{is_at-inv, into-at, out_of-at, first_within}
+use Rattle.net_core.proofs.ApartLemmas.{is_at-inv, out_of-at}
 use Rattle.net_worker.specs.Plays.{putter, taker, HasRoomIn}
 use Rattle.net_worker.specs.Local.{values, StandFor, fed_opening}
 use Rattle.net_worker.specs.Plays.{take_stamps, takes_by}
-use Rattle.net_worker.specs.Mays.{IsEarlyAt, MayBeMade}
+use Rattle.net_worker.specs.Mays.{IsEarlyAt}
 use Rattle.net_worker.specs.Sights.{IsMadeHere}
 use Rattle.net_worker.specs.Asking.{TakesAsked}
-use Rattle.net_worker.specs.Firings.{AreTaken, HoldsIfAny, CanPay, IsPayable, OutAt, IsHandedOver, IsFiredExactly}
+use Rattle.net_worker.specs.Firings.{AreTaken, HoldsIfAny, IsPayable, OutAt, IsHandedOver, IsFiredExactly}
 use Rattle.net_worker.specs.Fires.{TakeStep, IsFired}
 use Rattle.net_worker.specs.Going.{base_of}
 use Rattle.net_worker.specs.Offers.{held_stamp, greatest_in, RoomAt, RoomFor, IsOffered}
-use Rattle.net_worker.specs.Workers.{owner_in, IsMadeOf, IsWhole, IsInto, IsOutOf, shown, put_end, take_end, held_by, handed_by, repaid_by}
+use Rattle.net_worker.specs.Workers.{owner_in, IsMadeOf, IsWhole, put_end, take_end, held_by, handed_by, repaid_by}
 use Rattle.net_worker.specs.declared.entry.Entry.{Entry}
 use Rattle.net_worker.specs.declared.tables.Tables.{Tables}
 use Rattle.net_worker.specs.declared.worker.Worker.{Worker}
 use Rattle.net_worker.proofs.Asking.{take_step_later, none_some}
-use Rattle.net_worker.proofs.Moves.{tokens_after, not_taken_there, not_put_there}
+use Rattle.net_worker.proofs.Moves.{tokens_after, not_taken_there}
 
 -- ---- one list
 
@@ -193,6 +193,7 @@ module _ (t : Tables) (a : Worker) (m : IsMadeOf t a) (f : Firing) (x : Effect) 
     scalars = refl;
     own = refl;
     arrays = refl;
+    strays = refl;
     into = λ c q. refl;
     out = λ c l q. tokens_here c l ∙ (ap (λ o. added (puts_on t.net f.unit o c) (taken (takes_from t.net f.unit x c) (tokens_at s c))) is ∙ others_empty c l q);
   })
@@ -217,6 +218,7 @@ module _ (t : Tables) (a : Worker) (m : IsMadeOf t a) (f : Firing) (x : Effect) 
         scalars = refl;
         own = refl;
         arrays = refl;
+        strays = refl;
         into = λ c q. refl;
         out = λ c l q. elsewhere c l q (λ z. none_some PutEnd (subst IsSome e (whole.puts d (inside, from, λ k. q (ap (taker t.net (owner_in t)) z ∙ k)))));
       })
@@ -224,6 +226,7 @@ module _ (t : Tables) (a : Worker) (m : IsMadeOf t a) (f : Firing) (x : Effect) 
         scalars = refl;
         own = refl;
         arrays = refl;
+        strays = refl;
         into = λ c q. get_or-set_other s1.tokens d c (taken true (tokens_at s1 d)) [] (λ z. (m.puts_out d p e).0.2 (ap (taker t.net (owner_in t)) (sym z) ∙ q));
         out = λ c l q. out c l q (cases_eq c d);
       })
@@ -281,6 +284,7 @@ pub record IsMadeUp (t : Tables) (a b : Worker) (f : Firing) (x : Effect) (n : �
   pub outs : b.outs ≡ a.outs
   pub ins : b.ins ≡ a.ins
   pub closed : b.closed ≡ a.closed
+  pub resting : b.resting ≡ false
 
 module _ (t : Tables) (a b : Worker) (m : IsMadeOf t a) (w : IsWhole t a) (f : Firing) (x : Effect) (n : ℕ) (es : List (Option TakeEnd)) (s1 : State) (o : IsMadeUp t a b f x n es s1) where
   over_old : (p : Option Put) → x.put ≡ p → IsHandedOver t.net f.unit p a.puts.items s1 (state_of b.state)
@@ -320,6 +324,7 @@ module _ (t : Tables) (a b : Worker) (m : IsMadeOf t a) (w : IsWhole t a) (f : F
       outs = o.outs;
       ins = o.ins;
       closed = o.closed;
+      resting = o.resting;
       puts = λ c. o.offered.puts c;
       takes = λ c. take_step_later (takes_from t.net f.unit x c) n (take_end a c) (get_or es c None) (take_end b c) (o.asked.each c) (o.taken.each c);
     };

@@ -114,6 +114,7 @@ module _ (net : Net) (inputs : Inputs) (owner : ℕ → ℕ) (j : ℕ) (h g m : 
     scalars = refl;
     own = refl;
     arrays = refl;
+    strays = refl;
     tokens = λ c. tokens c (cases_lt c (length net.chans));
     stamps = λ c. stamps c (cases_lt c (length net.chans));
     long = (fed_measures net inputs h).tokens;

@@ -1,6 +1,7 @@
 -- A firing that a worker made.
 use Rattle.std.proofs.Common.{◌≡◌, ◌≢◌, ◌⊎◌, ◌↔◌, inl, inr, ℕ, ◌+◌, ◌*◌, ◌<◌, ◌≤◌, max, Bool, true, false, cond, nat_lt, Option, Some, None, IsSome, List, [], ◌∷◌, ◌++◌, length, get_or, map, refl, ap, ◌∙◌, sym, subst, arith, append-nil, append_assoc}
 use Rattle.std.specs.List.{All, Contains}
+use Rattle.std.proofs.lemmas.Bool.{false≢true}
 use mathlib.Core.Path.{fun_ext}
 use mathlib.Core.List.{IsPrefix}
 use Rattle.std.proofs.lemmas.Grind.{common_steps}
@@ -202,6 +203,7 @@ module _ (t : Tables) (a b : Worker) (f : Firing) (x : Effect) (n : ℕ) (m : Is
     ins = λ c i. subst (λ v. Contains v.items c) (sym o.ins) (m.ins c (subst (λ k. IsInto t k c) o.number i));
     ins_only = subst (λ v. All (IsInto t b.number) v.items) (sym o.ins) (subst (λ k. All (IsInto t k) a.ins.items) (sym o.number) m.ins_only);
     repaid = λ c q is. (let p = took_before (takes_from t.net f.unit x c) n a.clock (take_end a c) q (subst (TakeStep (takes_from t.net f.unit x c) n (take_end a c)) is (o.takes c)) in let k = m.repaid c p.end p.is in (p.repaid k.0, subst (λ i. repaid_stamp q ≤ i) (sym o.clock) (p.stamp k.1 o.may.later)));
+    rests = λ r. absurd (false≢true (sym o.resting ∙ r));
   }
 
 pub made_fires : MadeFires

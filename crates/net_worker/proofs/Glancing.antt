@@ -8,13 +8,13 @@ use Rattle.elastic_link.specs.declared.put_end.PutEnd.{PutEnd}
 use Rattle.elastic_link.specs.declared.take_end.TakeEnd.{TakeEnd}
 use Rattle.elastic_link.specs.Held.{tokens_of}
 use Rattle.elastic_link.specs.Ends.{tokens_taken, token_held, SameTakeEnd, SameCredits}
-use Rattle.net_worker.specs.Asking.{PutAsked, TakeAsked, TakesAsked, IsAsked}
+use Rattle.net_worker.specs.Asking.{PutAsked, TakeAsked, PutsAsked, IsAsked}
 use Rattle.net_worker.specs.Fires.{PutStep, TakeStep}
-use Rattle.net_worker.specs.Glances.{NoTokenAt, HoldsNone, IsSeen, IsHanded, LookedTake, TakeLooked, TakesLooked, IsLooked}
+use Rattle.net_worker.specs.Glances.{NoTokenAt, HoldsNone, IsSeen, IsHanded, TakeLooked, TakesLooked, PutLooked, PutsLooked, IsLooked}
 use Rattle.net_worker.specs.Workers.{IsWhole, SamePut, SameTake, SameWorker, put_end, take_end, handed_by, received_by}
 use Rattle.net_worker.specs.declared.tables.Tables.{Tables}
 use Rattle.net_worker.specs.declared.worker.Worker.{Worker}
-use Rattle.net_worker.proofs.Asking.{prefix_self, prefix_trans, same_put, same_put_trans, same_take, same_take_trans, puts_asked_self, puts_asked_trans, take_asked_self}
+use Rattle.net_worker.proofs.Asking.{prefix_self, prefix_trans, same_put, same_put_trans, same_take, same_take_trans, take_asked_self}
 
 kept_trans : (o q r : Option Token) → IfSome o (λ x. q ≡ Some x) → IfSome q (λ x. r ≡ Some x) → IfSome o (λ x. r ≡ Some x)
 kept_trans None q r h k = tt
@@ -45,6 +45,41 @@ take_asked_looked None (Some q) h = h
 take_asked_looked (Some p) None h = h
 take_asked_looked (Some p) (Some q) h = record { same = h.same; taken = h.taken; messages = h.messages; repaid = h.repaid; stamp = h.stamp; tokens_shown = h.tokens_shown; kept = kept_same (token_held p) (token_held q) h.held }
 
+pub put_looked_self : (o : Option PutEnd) → PutLooked o o
+put_looked_self None = tt
+put_looked_self (Some p) = record { same = same_put p; received = prefix_self _; put = refl; slots_shown = omega arith; messages_shown = omega arith }
+
+put_asked_looked : (o q : Option PutEnd) → PutAsked o q → PutLooked o q
+put_asked_looked None None h = tt
+put_asked_looked None (Some q) h = h
+put_asked_looked (Some p) None h = h
+put_asked_looked (Some p) (Some q) h = record { same = h.same; received = h.received; put = h.put; slots_shown = h.slots_shown; messages_shown = h.messages_shown }
+
+put_looked_trans : (o q r : Option PutEnd) → PutLooked o q → PutLooked q r → PutLooked o r
+put_looked_trans None None r h k = k
+put_looked_trans None (Some q) r h k = absurd h
+put_looked_trans (Some p) None r h k = absurd h
+put_looked_trans (Some p) (Some q) None h k = absurd k
+put_looked_trans (Some p) (Some q) (Some r) h k = record {
+  same = same_put_trans p q r h.same k.same;
+  received = prefix_trans _ _ _ h.received k.received;
+  put = k.put ∙ h.put;
+  slots_shown = omega (arith, h.slots_shown, k.slots_shown);
+  messages_shown = omega (arith, h.messages_shown, k.messages_shown);
+}
+
+pub puts_looked_self : (ps : List (Option PutEnd)) → PutsLooked ps ps
+puts_looked_self ps = record { long = refl; each = λ c. put_looked_self (get_or ps c None) }
+
+pub puts_asked_looked : (ps qs : List (Option PutEnd)) → PutsAsked ps qs → PutsLooked ps qs
+puts_asked_looked ps qs h = record { long = h.long; each = λ c. put_asked_looked (get_or ps c None) (get_or qs c None) (h.each c) }
+
+pub puts_looked_trans : (ps qs rs : List (Option PutEnd)) → PutsLooked ps qs → PutsLooked qs rs → PutsLooked ps rs
+puts_looked_trans ps qs rs h k = record { long = k.long ∙ h.long; each = λ c. put_looked_trans (get_or ps c None) (get_or qs c None) (get_or rs c None) (h.each c) (k.each c) }
+
+pub takes_looked_self : (ps : List (Option TakeEnd)) → TakesLooked ps ps
+takes_looked_self ps = record { long = refl; each = λ c. take_asked_looked (get_or ps c None) (get_or ps c None) (take_asked_self (get_or ps c None)) }
+
 pub asked_looked : (a b : Worker) → IsAsked a b → IsLooked a b
 asked_looked a b h = record {
   number = h.number;
@@ -54,7 +89,7 @@ asked_looked a b h = record {
   outs = h.outs;
   ins = h.ins;
   closed = h.closed;
-  puts = h.puts;
+  puts = puts_asked_looked a.puts.items b.puts.items h.puts;
   takes = record { long = h.takes.long; each = λ c. take_asked_looked (take_end a c) (take_end b c) (h.takes.each c) };
 }
 
@@ -67,7 +102,7 @@ looked_trans a b c h k = record {
   outs = k.outs ∙ h.outs;
   ins = k.ins ∙ h.ins;
   closed = k.closed ∙ h.closed;
-  puts = puts_asked_trans a.puts.items b.puts.items c.puts.items h.puts k.puts;
+  puts = puts_looked_trans a.puts.items b.puts.items c.puts.items h.puts k.puts;
   takes = record { long = k.takes.long ∙ h.takes.long; each = λ d. take_looked_trans (take_end a d) (take_end b d) (take_end c d) (h.takes.each d) (k.takes.each d) };
 }
 
@@ -129,11 +164,11 @@ handed_looked (Some p) (Some q) h = subst (λ ts. IsPrefix (handed_by (Some p)) 
 
 -- ---- the same worker
 
-put_asked_same : (o q : Option PutEnd) → PutAsked o q → SamePut o q
-put_asked_same None None h = tt
-put_asked_same None (Some q) h = h
-put_asked_same (Some p) None h = h
-put_asked_same (Some p) (Some q) h = (h.same, h.received)
+put_looked_same : (o q : Option PutEnd) → PutLooked o q → SamePut o q
+put_looked_same None None h = tt
+put_looked_same None (Some q) h = h
+put_looked_same (Some p) None h = h
+put_looked_same (Some p) (Some q) h = (h.same, h.received)
 
 put_step_same : (n : ℕ) (v : Option ℕ) (o q : Option PutEnd) → PutStep n v o q → SamePut o q
 put_step_same n v None None h = tt
@@ -195,7 +230,7 @@ looked_same a b h = record {
   share = h.share;
   closed = h.closed;
   log = ([], append-nil _ ∙ ap (λ g. g.items) (sym h.log));
-  puts = λ c. put_asked_same (put_end a c) (put_end b c) (h.puts.each c);
+  puts = λ c. put_looked_same (put_end a c) (put_end b c) (h.puts.each c);
   takes = λ c. take_looked_same (take_end a c) (take_end b c) (h.takes.each c);
 }
 

@@ -1,5 +1,5 @@
 -- What holds the firings of an idle sweep back.
-use Rattle.std.proofs.Common.{◌≡◌, ◌≢◌, ◌⊎◌, inl, inr, ℕ, suc, ◌+◌, ◌^◌, ◌<◌, ◌≤◌, max, min, Option, Some, None, IsSome, IsSomeAnd, List, [], ◌∷◌, length, get_or, refl, ap, ◌∙◌, sym, subst, arith}
+use Rattle.std.proofs.Common.{◌≡◌, ◌⊎◌, inl, inr, ℕ, suc, ◌^◌, ◌<◌, ◌≤◌, max, true, Option, Some, None, IsSome, IsSomeAnd, List, [], ◌∷◌, length, get_or, refl, ap, ◌∙◌, sym, subst, arith}
 use Rattle.std.proofs.lemmas.Bool.{cases_lt, cases_eq}
 use Rattle.elastic_link.specs.declared.message.Token.{Token}
 use Rattle.elastic_link.specs.declared.put_end.PutEnd.{PutEnd}
@@ -16,22 +16,23 @@ use Rattle.net_core.specs.Fire.{State, Row, Stop, Look, Take, Fires, Effect, row
 use Rattle.net_core.specs.States.{state_of}
 use Rattle.net_core.specs.Uses.{used}
 use Rattle.net_worker.specs.Local.{values}
-use Rattle.net_worker.specs.Asking.{PutAsked, TakeAsked, PutsAsked, TakesAsked, IsAsked}
+use Rattle.net_worker.specs.Asking.{PutAsked, PutsAsked, TakesAsked, IsAsked}
 use Rattle.net_worker.specs.Ends.{IsUnspent}
 use Rattle.net_worker.specs.Ends as ends
-use Rattle.net_worker.specs.Glances.{NoTokenAt, HoldsNone, IsLooked, IsSeen}
+use Rattle.net_worker.specs.Glances.{NoTokenAt, HoldsNone, PutLooked, PutsLooked, IsLooked, IsSeen}
 use Rattle.net_worker.specs.Going.{base_of, IsRefused, IsAllHeld}
 use Rattle.net_worker.specs.Offers.{greatest_in, held_stamp, ToldAt, ToldFor, NoCreditAt, NoSlotAt, IsNotOffered}
 use Rattle.net_worker.specs.Offers as refusal
 use Rattle.net_worker.specs.Plays.{putter, taker}
 use Rattle.net_worker.specs.Sweeps.{asked, waits_at, waits, IsHeldBack, AllHeldBack}
 use Rattle.net_worker.specs.Sweeps as cause
-use Rattle.net_worker.specs.Workers.{owner_in, IsMadeOf, IsWhole, IsInto, IsOutOf, put_end, take_end, held_by}
+use Rattle.net_worker.specs.Waits.{IsLookedAll}
+use Rattle.net_worker.specs.Workers.{owner_in, IsMadeOf, IsWhole, IsInto, IsOutOf, PutWaits, put_end, take_end, held_by}
 use Rattle.net_worker.specs.declared.tables.Tables.{Tables}
 use Rattle.net_worker.specs.declared.worker.Worker.{Worker}
-use Rattle.net_worker.proofs.Asking.{asked_trans, asked_made, puts_asked_trans, held_asked, prefix_self, prefix_trans, none_some}
+use Rattle.net_worker.proofs.Asking.{held_asked, prefix_self, prefix_trans, none_some}
 use Rattle.net_worker.proofs.Assembly.{room_held}
-use Rattle.net_worker.proofs.Glancing.{asked_looked, looked_same, looked_trans, same_whole}
+use Rattle.net_worker.proofs.Glancing.{asked_looked, puts_asked_looked, looked_same, looked_trans, same_whole, seen_later}
 
 -- ---- rows without a head
 
@@ -57,40 +58,29 @@ waits_effect (Fires put own array strays) h p w = cc
 
 -- ---- ends later
 
-no_credit_since : (z o q : Option PutEnd) → PutAsked z o → NoCreditAt o q → NoCreditAt z q
+pub no_credit_since : (z o q : Option PutEnd) → PutLooked z o → NoCreditAt o q → NoCreditAt z q
 no_credit_since None None q h k = absurd k
 no_credit_since None (Some o) q h k = absurd h
 no_credit_since (Some z) None q h k = absurd h
 no_credit_since (Some z) (Some o) None h k = absurd k
 no_credit_since (Some z) (Some o) (Some q) h (none, rose) = (none, omega (arith, h.messages_shown))
 
-no_slot_since : (z o q : Option PutEnd) → PutAsked z o → NoSlotAt o q → NoSlotAt z q
+no_slot_since : (z o q : Option PutEnd) → PutLooked z o → NoSlotAt o q → NoSlotAt z q
 no_slot_since None None q h k = absurd k
 no_slot_since None (Some o) q h k = absurd h
 no_slot_since (Some z) None q h k = absurd h
 no_slot_since (Some z) (Some o) None h k = absurd k
 no_slot_since (Some z) (Some o) (Some q) h k = omega (arith, h.slots_shown)
 
-told_at_since : (z o q : Option PutEnd) (r : ℕ) → PutAsked z o → ToldAt o q r → ToldAt z q r
+told_at_since : (z o q : Option PutEnd) (r : ℕ) → PutLooked z o → ToldAt o q r → ToldAt z q r
 told_at_since None None q r h k = k
 told_at_since None (Some o) q r h k = absurd h
 told_at_since (Some z) None q r h k = absurd h
 told_at_since (Some z) (Some o) q r h (ms, a, b, is) = (ms, prefix_trans _ _ ms h.received a, b, is)
 
-told_for_since : (net : Net) (u : ℕ) (put : Option Put) (zs os qs : List (Option PutEnd)) (r : ℕ) → PutsAsked zs os → ToldFor net u put os qs r → ToldFor net u put zs qs r
+told_for_since : (net : Net) (u : ℕ) (put : Option Put) (zs os qs : List (Option PutEnd)) (r : ℕ) → PutsLooked zs os → ToldFor net u put os qs r → ToldFor net u put zs qs r
 told_for_since net u None zs os qs r h k = k
 told_for_since net u (Some w) zs os qs r h k = told_at_since (get_or zs (out_of u w.place net.chans) None) (get_or os (out_of u w.place net.chans) None) (get_or qs (out_of u w.place net.chans) None) r (h.each (out_of u w.place net.chans)) k
-
-no_token_on : (z o q : Option TakeEnd) → TakeAsked o q → NoTokenAt z o → NoTokenAt z q
-no_token_on None o q h k = absurd k
-no_token_on (Some z) None q h k = absurd k
-no_token_on (Some z) (Some o) None h k = absurd h
-no_token_on (Some z) (Some o) (Some q) h k = (k.0, omega (arith, k.1, h.tokens_shown))
-
-held_none_back : (o q : Option TakeEnd) → TakeAsked o q → HoldsNone q → HoldsNone o
-held_none_back None q h k = tt
-held_none_back (Some o) None h k = absurd h
-held_none_back (Some o) (Some q) h k = sym h.held ∙ k
 
 greatest_asked : (net : Net) (es es' : List (Option TakeEnd)) (u : ℕ) (ps : List ℕ) → TakesAsked es es' → greatest_in net es' u ps ≡ greatest_in net es u ps
 greatest_asked net es es' u [] h = refl
@@ -130,76 +120,40 @@ into_or t j c = by (cases_lt c (length t.net.chans)) (cases_eq (taker t.net (own
 
 -- ---- an idle sweep
 
-module _ (t : Tables) (a m n b : Worker) (checked : IsChecked t.net) (made : IsMadeOf t a) (whole : IsWhole t a) (now : IsMadeOf t b) (looked : IsLooked a m) (seen : (c : ℕ) → IsInto t a.number c → IsSeen c a m) (first_asked : IsAsked m n) (all : IsAllHeld t n b) where
+not_out : (t : Tables) (a b : Worker) → b.number ≡ a.number → IsWhole t b → (c : ℕ) → put_end b c ≡ None → IsOutOf t a.number c → ⊥
+not_out t a b number whole c is o = none_some PutEnd (subst IsSome is (whole.puts c (subst (λ k. IsOutOf t k c) (sym number) o)))
+
+is_out : (t : Tables) (a b : Worker) → b.number ≡ a.number → IsMadeOf t b → (c : ℕ) (o : Option PutEnd) → put_end b c ≡ o → IsSome o → IsOutOf t a.number c
+is_out t a b number now c None is k = cc
+is_out t a b number now c (Some p) is k = subst (λ i. IsOutOf t i c) number (now.puts_out c p is).0
+
+none_b : (b : Worker) (c : ℕ) (o q : Option PutEnd) → o ≡ None → put_end b c ≡ q → PutAsked o q → put_end b c ≡ None
+none_b b c o None e is k = is
+none_b b c None (Some q) e is k = absurd k
+none_b b c (Some p) (Some q) e is k = cc
+
+-- the worker looked at all channels from others, and each enabled firing was held back
+module _ (t : Tables) (a b : Worker) (checked : IsChecked t.net) (whole : IsWhole t a) (now : IsMadeOf t b) (looked : IsLooked a b) (seen : (c : ℕ) → IsInto t a.number c → IsSeen c a b)
+    (barred : (f : Firing) → owner_in t f.unit ≡ a.number → enabled t.net (state_of b.state) f → (x : Effect) → effect t.net (state_of b.state) f ≡ Some x → IsHeldBack t a b f) where
   abbrev s : State
   s = state_of b.state
 
-  since_m : IsAsked m b
-  since_m = asked_trans m n b first_asked all.asked
-
-  puts_n : PutsAsked a.puts.items n.puts.items
-  puts_n = puts_asked_trans a.puts.items m.puts.items n.puts.items looked.puts first_asked.puts
-
-  number_n : n.number ≡ a.number
-  number_n = first_asked.number ∙ looked.number
-
-  number_b : b.number ≡ a.number
-  number_b = since_m.number ∙ looked.number
-
-  state_n : state_of n.state ≡ s
-  state_n = ap state_of (sym all.asked.state)
-
   whole_b : IsWhole t b
-  whole_b = same_whole t a b (looked_same a b (looked_trans a m b looked (asked_looked m b since_m))) whole
-
-  not_out : (c : ℕ) → put_end b c ≡ None → IsOutOf t a.number c → ⊥
-  not_out c is o = none_some PutEnd (subst IsSome is (whole_b.puts c (subst (λ k. IsOutOf t k c) (sym number_b) o)))
-
-  is_out : (c : ℕ) (o : Option PutEnd) → put_end b c ≡ o → IsSome o → IsOutOf t a.number c
-  is_out c None is k = cc
-  is_out c (Some p) is k = subst (λ i. IsOutOf t i c) number_b (now.puts_out c p is).0
-
-  none_b : (c : ℕ) (o q : Option PutEnd) → o ≡ None → put_end b c ≡ q → PutAsked o q → put_end b c ≡ None
-  none_b c o None e is k = is
-  none_b c None (Some q) e is k = absurd k
-  none_b c (Some p) (Some q) e is k = cc
+  whole_b = same_whole t a b (looked_same a b looked) whole
 
   no_token : (f : Firing) → owner_in t f.unit ≡ a.number → (p : ℕ) → head_at t.net s f.unit p ≡ None → IsInto t a.number (into f.unit p t.net.chans) → NoTokenAt (take_end a (into f.unit p t.net.chans)) (take_end b (into f.unit p t.net.chans))
   no_token f mine p h i =
       let c = into f.unit p t.net.chans in
-      let ib = subst (λ k. IsInto t k c) (sym number_b) i in
+      let ib = subst (λ k. IsInto t k c) (sym looked.number) i in
       let q : first (values (held_by (take_end b c))) ≡ None = ap first (sym (now.held c ib) ∙ now.sees.into c ib.1) ∙ h in
-      let z = held_none_back (take_end m c) (take_end b c) (since_m.takes.each c) (none_held (take_end b c) q) in
-      no_token_on (take_end a c) (take_end m c) (take_end b c) (since_m.takes.each c) (seen c i z)
+      seen c i (none_held (take_end b c) q)
 
   module _ (f : Firing) (mine : owner_in t f.unit ≡ a.number) where
     abbrev Cause : Type 0
     Cause = IsHeldBack t a b f
 
-    base_is : base_of t n f ≡ max b.clock (greatest_in t.net b.takes.items f.unit (used t.net s f))
-    base_is =
-        let x = greatest_asked t.net n.takes.items b.takes.items f.unit (used t.net s f) all.asked.takes in
-        let y : base_of t n f ≡ max n.clock (greatest_in t.net n.takes.items f.unit (used t.net s f)) = ap (λ k. max n.clock (greatest_in t.net n.takes.items f.unit (used t.net k f))) state_n in
-        omega (arith, all.asked.clock)
-
-    of_refusal : (x : Effect) → effect t.net s f ≡ Some x → IsNotOffered t.net s f.unit x.put (base_of t n f) n.puts.items b.puts.items → Cause
-    of_refusal x does (refusal.no_room w is e l) =
-        let c = out_of f.unit w.place t.net.chans in
-        cause.inner_output x w does is (not_out c (none_b c (put_end n c) (put_end b c) e refl (all.asked.puts.each c))) l
-    of_refusal x does (refusal.no_credit w is k) =
-        let c = out_of f.unit w.place t.net.chans in
-        cause.no_credit x w does is (is_out c (put_end b c) refl (no_credit_end (put_end n c) (put_end b c) k)) (no_credit_since (put_end a c) (put_end n c) (put_end b c) (puts_n.each c) k)
-    of_refusal x does (refusal.no_slot w is k) =
-        let c = out_of f.unit w.place t.net.chans in
-        cause.no_slot x w does is (is_out c (put_end b c) refl (no_slot_end (put_end n c) (put_end b c) k)) (no_slot_since (put_end a c) (put_end n c) (put_end b c) (puts_n.each c) k)
-    of_refusal x does (refusal.late r told l) =
-        cause.late x r does (told_for_since t.net f.unit x.put a.puts.items n.puts.items b.puts.items r puts_n told) (omega (arith, base_is))
-
     of_enabled : (x : Effect) → effect t.net s f ≡ Some x → has_room t.net s f.unit x.put → Cause
-    of_enabled x does room =
-        let e : enabled t.net s f = subst (λ o. IsSomeAnd o (λ y. has_room t.net s f.unit y.put)) (sym does) room in
-        let r = all.refused f (mine ∙ sym number_n) (subst (λ k. enabled t.net k f) (sym state_n) e) x (ap (λ k. effect t.net k f) state_n ∙ does) in
-        of_refusal x does (subst (λ k. IsNotOffered t.net k f.unit x.put (base_of t n f) n.puts.items b.puts.items) state_n r)
+    of_enabled x does room = barred f mine (subst (λ o. IsSomeAnd o (λ y. has_room t.net s f.unit y.put)) (sym does) room) x does
 
     of_effect : (x : Effect) → effect t.net s f ≡ Some x → (o : Option Put) → x.put ≡ o → Cause
     of_effect x does None is = of_enabled x does (subst (has_room t.net s f.unit) (sym is) tt)
@@ -209,14 +163,14 @@ module _ (t : Tables) (a m n b : Worker) (checked : IsChecked t.net) (made : IsM
         c = out_of f.unit w.place t.net.chans
 
         room : (o : Option PutEnd) → put_end b c ≡ o → Rattle.net_worker.specs.Offers.RoomAt t.net s c o → Cause
-        room o e r = of_enabled x does (room_held t b now checked f.unit (mine ∙ sym number_b) x.put (subst (λ p. Rattle.net_worker.specs.Offers.RoomFor t.net s f.unit p b.puts.items) (sym is) (subst (Rattle.net_worker.specs.Offers.RoomAt t.net s c) (sym e) r)))
+        room o e r = of_enabled x does (room_held t b now checked f.unit (mine ∙ sym looked.number) x.put (subst (λ p. Rattle.net_worker.specs.Offers.RoomFor t.net s f.unit p b.puts.items) (sym is) (subst (Rattle.net_worker.specs.Offers.RoomAt t.net s c) (sym e) r)))
 
         by : (o : Option PutEnd) → put_end b c ≡ o → Cause
         by (Some p) e = room (Some p) e tt
         by None e =
             elim (cases_lt (length (tokens_at s c)) (chan_at t.net c).slots) [
               | inl l ↦ room None e l
-              | inr l ↦ cause.inner_output x w does is (not_out c e) l
+              | inr l ↦ cause.inner_output x w does is (not_out t a b looked.number whole_b c e) l
             ]
 
     of_waits : effect t.net s f ≡ None → (o : Option ℕ) → waits t.net s f ≡ o → Cause
@@ -232,8 +186,93 @@ module _ (t : Tables) (a m n b : Worker) (checked : IsChecked t.net) (made : IsM
     held_back None is = of_waits is (waits t.net s f) refl
     held_back (Some x) is = of_effect x is x.put refl
 
-pub all_held_back : (t : Tables) (a m n b : Worker) → IsChecked t.net → IsMadeOf t a → IsWhole t a → IsMadeOf t b → IsLooked a m → ((c : ℕ) → IsInto t a.number c → IsSeen c a m) → IsAsked m n → IsAllHeld t n b → AllHeldBack t a b
-all_held_back t a m n b checked made whole now looked seen first_asked all f mine = held_back t a m n b checked made whole now looked seen first_asked all f mine (effect t.net (state_of b.state) f) refl
+  all_barred : AllHeldBack t a b
+  all_barred f mine = held_back f mine (effect t.net (state_of b.state) f) refl
+
+-- each enabled firing was tried and refused
+module _ (t : Tables) (a n b : Worker) (checked : IsChecked t.net) (whole : IsWhole t a) (now : IsMadeOf t b) (looked : IsLooked a n) (seen : (c : ℕ) → IsInto t a.number c → IsSeen c a n) (all : IsAllHeld t n b) where
+  looked_b : IsLooked a b
+  looked_b = looked_trans a n b looked (asked_looked n b all.asked)
+
+  whole_n : IsWhole t b
+  whole_n = same_whole t a b (looked_same a b looked_b) whole
+
+  state_n : state_of n.state ≡ state_of b.state
+  state_n = ap state_of (sym all.asked.state)
+
+  module _ (f : Firing) (mine : owner_in t f.unit ≡ a.number) (x : Effect) (does : effect t.net (state_of b.state) f ≡ Some x) where
+    base_is : base_of t n f ≡ max b.clock (greatest_in t.net b.takes.items f.unit (used t.net (state_of b.state) f))
+    base_is =
+        let x = greatest_asked t.net n.takes.items b.takes.items f.unit (used t.net (state_of b.state) f) all.asked.takes in
+        let y : base_of t n f ≡ max n.clock (greatest_in t.net n.takes.items f.unit (used t.net (state_of b.state) f)) = ap (λ k. max n.clock (greatest_in t.net n.takes.items f.unit (used t.net k f))) state_n in
+        omega (arith, all.asked.clock)
+
+    of_refusal : IsNotOffered t.net (state_of b.state) f.unit x.put (base_of t n f) n.puts.items b.puts.items → IsHeldBack t a b f
+    of_refusal (refusal.no_room w is e l) =
+        let c = out_of f.unit w.place t.net.chans in
+        cause.inner_output x w does is (not_out t a b looked_b.number whole_n c (none_b b c (put_end n c) (put_end b c) e refl (all.asked.puts.each c))) l
+    of_refusal (refusal.no_credit w is k) =
+        let c = out_of f.unit w.place t.net.chans in
+        cause.no_credit x w does is (is_out t a b looked_b.number now c (put_end b c) refl (no_credit_end (put_end n c) (put_end b c) k)) (no_credit_since (put_end a c) (put_end n c) (put_end b c) (looked.puts.each c) k)
+    of_refusal (refusal.no_slot w is k) =
+        let c = out_of f.unit w.place t.net.chans in
+        cause.no_slot x w does is (is_out t a b looked_b.number now c (put_end b c) refl (no_slot_end (put_end n c) (put_end b c) k)) (no_slot_since (put_end a c) (put_end n c) (put_end b c) (looked.puts.each c) k)
+    of_refusal (refusal.late r told l) =
+        cause.late x r does (told_for_since t.net f.unit x.put a.puts.items n.puts.items b.puts.items r looked.puts told) (omega (arith, base_is))
+
+    refused : enabled t.net (state_of b.state) f → IsHeldBack t a b f
+    refused e =
+        let r = all.refused f (mine ∙ sym looked.number) (subst (λ k. enabled t.net k f) (sym state_n) e) x (ap (λ k. effect t.net k f) state_n ∙ does) in
+        of_refusal (subst (λ k. IsNotOffered t.net k f.unit x.put (base_of t n f) n.puts.items b.puts.items) state_n r)
+
+  pub all_held_back : AllHeldBack t a b
+  all_held_back = all_barred t a b checked whole now looked_b (λ c i. seen_later c a n b (seen c i) (asked_looked n b all.asked)) (λ f mine e x does. refused f mine x does e)
+
+-- each enabled firing waits for a credit that was denied
+pub rested_held_back : (t : Tables) (a b : Worker) → IsChecked t.net → IsWhole t a → IsMadeOf t b → IsLookedAll t a b → b.resting ≡ true → AllHeldBack t a b
+rested_held_back t a b checked whole now l rests = all_barred t a b checked whole now l.looked l.seen (λ f mine e x does. by f x does x.put refl (now.rests rests f (mine ∙ sym l.looked.number) e x does))
+  where
+    by : (f : Firing) (x : Effect) → effect t.net (state_of b.state) f ≡ Some x → (o : Option Put) → x.put ≡ o → PutWaits t b f.unit x.put → IsHeldBack t a b f
+    by f x does None is h = absurd (subst (PutWaits t b f.unit) is h)
+    by f x does (Some w) is h =
+        let k = subst (PutWaits t b f.unit) is h in
+        let out = subst (λ i. IsOutOf t i (out_of f.unit w.place t.net.chans)) l.looked.number k.0 in
+        cause.no_credit x w does is out (l.denied rests (out_of f.unit w.place t.net.chans) out k.1)
+
+-- what held a worker back holds one back that is the same but for its notes
+pub record IsSameStill (b c : Worker) : Type 0 where
+  pub clock : c.clock ≡ b.clock
+  pub state : c.state ≡ b.state
+  pub puts : c.puts ≡ b.puts
+  pub takes : c.takes ≡ b.takes
+
+module _ (t : Tables) (a b c : Worker) (f : Firing) (h : IsSameStill b c) where
+  does_still : (o : Option Effect) → effect t.net (state_of b.state) f ≡ o → effect t.net (state_of c.state) f ≡ o
+  does_still o x = subst (λ s. effect t.net (state_of s) f ≡ o) (sym h.state) x
+
+  waits_still : (o : Option ℕ) → waits t.net (state_of b.state) f ≡ o → waits t.net (state_of c.state) f ≡ o
+  waits_still o x = subst (λ s. waits t.net (state_of s) f ≡ o) (sym h.state) x
+
+  still_held_back : IsHeldBack t a b f → IsHeldBack t a c f
+  still_held_back (cause.stops x y) = cause.stops (does_still None x) (waits_still None y)
+  still_held_back (cause.inner_input p x y) = cause.inner_input p (waits_still (Some p) x) y
+  still_held_back (cause.inner_output x w y z k l) =
+      cause.inner_output x w (does_still (Some x) y) z k
+      (subst (λ s. (chan_at t.net (out_of f.unit w.place t.net.chans)).slots ≤ length (tokens_at (state_of s) (out_of f.unit w.place t.net.chans))) (sym h.state) l)
+  still_held_back (cause.no_token p x y z) =
+      cause.no_token p (waits_still (Some p) x) y (subst (λ v. NoTokenAt (take_end a (into f.unit p t.net.chans)) (get_or v.items (into f.unit p t.net.chans) None)) (sym h.takes) z)
+  still_held_back (cause.no_credit x w y z k l) =
+      cause.no_credit x w (does_still (Some x) y) z k (subst (λ v. NoCreditAt (put_end a (out_of f.unit w.place t.net.chans)) (get_or v.items (out_of f.unit w.place t.net.chans) None)) (sym h.puts) l)
+  still_held_back (cause.no_slot x w y z k l) =
+      cause.no_slot x w (does_still (Some x) y) z k (subst (λ v. NoSlotAt (put_end a (out_of f.unit w.place t.net.chans)) (get_or v.items (out_of f.unit w.place t.net.chans) None)) (sym h.puts) l)
+  still_held_back (cause.late x r y z l) =
+      cause.late x r (does_still (Some x) y) (subst (λ v. ToldFor t.net f.unit x.put a.puts.items v.items r) (sym h.puts) z)
+      (subst (λ s. 2 ^ 62 ≤ suc (max c.clock (max (greatest_in t.net c.takes.items f.unit (used t.net (state_of s) f)) r))) (sym h.state)
+      (subst (λ v. 2 ^ 62 ≤ suc (max c.clock (max (greatest_in t.net v.items f.unit (used t.net (state_of b.state) f)) r))) (sym h.takes)
+      (subst (λ n. 2 ^ 62 ≤ suc (max n (max (greatest_in t.net b.takes.items f.unit (used t.net (state_of b.state) f)) r))) (sym h.clock) l)))
+
+pub all_still_held : (t : Tables) (a b c : Worker) → IsSameStill b c → AllHeldBack t a b → AllHeldBack t a c
+all_still_held t a b c h k f mine = still_held_back t a b c f h (k f mine)
 
 -- ---- refusals over more asking
 
@@ -298,9 +337,9 @@ not_offered_on net s u put above os qs rs before h (refusal.late r told l) = ref
 
 not_offered_since : (net : Net) (s : State) (u : ℕ) (put : Option Put) (above : ℕ) (zs os qs : List (Option PutEnd)) → PutsAsked zs os → IsNotOffered net s u put above os qs → IsNotOffered net s u put above zs qs
 not_offered_since net s u put above zs os qs h (refusal.no_room w is e l) = refusal.no_room w is (none_since (get_or zs (out_of u w.place net.chans) None) (get_or os (out_of u w.place net.chans) None) (h.each (out_of u w.place net.chans)) e) l
-not_offered_since net s u put above zs os qs h (refusal.no_credit w is k) = refusal.no_credit w is (no_credit_since (get_or zs (out_of u w.place net.chans) None) (get_or os (out_of u w.place net.chans) None) (get_or qs (out_of u w.place net.chans) None) (h.each (out_of u w.place net.chans)) k)
-not_offered_since net s u put above zs os qs h (refusal.no_slot w is k) = refusal.no_slot w is (no_slot_since (get_or zs (out_of u w.place net.chans) None) (get_or os (out_of u w.place net.chans) None) (get_or qs (out_of u w.place net.chans) None) (h.each (out_of u w.place net.chans)) k)
-not_offered_since net s u put above zs os qs h (refusal.late r told l) = refusal.late r (told_for_since net u put zs os qs r h told) l
+not_offered_since net s u put above zs os qs h (refusal.no_credit w is k) = refusal.no_credit w is (no_credit_since (get_or zs (out_of u w.place net.chans) None) (get_or os (out_of u w.place net.chans) None) (get_or qs (out_of u w.place net.chans) None) ((puts_asked_looked zs os h).each (out_of u w.place net.chans)) k)
+not_offered_since net s u put above zs os qs h (refusal.no_slot w is k) = refusal.no_slot w is (no_slot_since (get_or zs (out_of u w.place net.chans) None) (get_or os (out_of u w.place net.chans) None) (get_or qs (out_of u w.place net.chans) None) ((puts_asked_looked zs os h).each (out_of u w.place net.chans)) k)
+not_offered_since net s u put above zs os qs h (refusal.late r told l) = refusal.late r (told_for_since net u put zs os qs r (puts_asked_looked zs os h) told) l
 
 pub refused_on : (t : Tables) (a b c : Worker) (f : Firing) → IsAsked a b → IsAsked b c → IsRefused t a b f → IsRefused t a c f
 refused_on t a b c f before h r x q = not_offered_on t.net (state_of a.state) f.unit x.put (base_of t a f) a.puts.items b.puts.items c.puts.items before.puts h.puts (r x q)

@@ -20,6 +20,7 @@ use Rattle.net_worker.specs.declared.tables.Tables.{Tables}
 use Rattle.net_worker.specs.declared.worker.Worker.{Worker}
 use Rattle.net_worker.proofs.Exits.{exit_kept}
 use Rattle.net_worker.proofs.Locals.{room_later}
+use Rattle.net_worker.proofs.Waits.{waits_on}
 use Rattle.net_worker.proofs.Fires.{handed_kept, repaid_kept, put_before, took_before, got_more}
 
 held_kept : (o q : Option TakeEnd) → TakeStep false 0 o q → held_by q ≡ held_by o
@@ -82,6 +83,7 @@ module _ (t : Tables) (a b : Worker) (m : IsMadeOf t a) (k : IsKept t a b) where
     ins = λ c i. subst (λ v. Contains v.items c) (sym k.ins) (m.ins c (subst (λ n. IsInto t n c) k.number i));
     ins_only = subst (λ v. All (IsInto t b.number) v.items) (sym k.ins) (subst (λ n. All (IsInto t n) a.ins.items) (sym k.number) m.ins_only);
     repaid = λ c q is. (let s = subst (TakeStep false 0 (take_end a c)) is (k.takes c) in let p = took_before false 0 0 (take_end a c) q s in let z = stamp_kept (take_end a c) q s in (p.repaid (m.repaid c p.end p.is).0, omega (arith, (m.repaid c z.0 z.1).1, z.2, k.clock)));
+    rests = λ r. waits_on t a b k.number (ap state_of k.state) (k.rests r).1 (m.rests (k.rests r).0);
   }
 
 pub made_keeps : MadeKeeps

@@ -1,10 +1,14 @@
+pub mod EndPlaces
+pub mod Entries
 pub mod Lists
 pub mod Moves
 pub mod Steps
+pub mod Strays
 pub mod Merging
 pub mod Opening
 pub mod Logs
 pub mod Ascending
+pub mod Together
 pub mod Gathering
 pub mod More
 pub mod Locals
@@ -13,6 +17,9 @@ pub mod Looks
 pub mod Mays
 pub mod Exits
 pub mod Fires
+pub mod Waits
+pub mod Tries
+pub mod Turning
 pub mod Keeping
 pub mod Settling
 pub mod Asking
@@ -30,4 +37,6 @@ pub mod NewEnds
 pub mod NewWorkers
 pub mod Resting
 pub mod Edges
+pub mod Drains
 pub mod Inside
+pub mod Turns

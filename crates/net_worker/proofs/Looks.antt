@@ -3,7 +3,7 @@ use Rattle.std.proofs.Common.{◌≡◌, ◌≢◌, ◌⊎◌, inl, inr, ℕ, �
 use Rattle.std.specs.List.{All, Contains}
 use mathlib.Core.Path.{fun_ext}
 use mathlib.Core.List.{IsPrefix}
-use Rattle.std.proofs.lemmas.Bool.{cases_eq}
+use Rattle.std.proofs.lemmas.Bool.{cases_eq, false≢true}
 use Rattle.el_base.specs.Limits.{max_depth}
 use Rattle.elastic_link.specs.declared.message.Token.{Token}
 use Rattle.elastic_link.specs.declared.message.Credit.{Credit}
@@ -114,6 +114,7 @@ module _ (t : Tables) (a b : Worker) (c : ℕ) (e e' : TakeEnd) (x : Token) (m :
     into = λ d q. at_in d q (cases_eq d c);
     out = λ d b q. laid_there d (λ z. q (ap (taker t.net owner) z ∙ l.into.1)) ∙ m.sees.out d b q;
     arrays_long = ap length on.fuller.arrays ∙ m.sees.arrays_long;
+    strays = on.fuller.strays ∙ m.sees.strays;
   }
     where
       at_in : (d : ℕ) → taker t.net owner d ≡ j → (d ≡ c) ⊎ (d ≡ c → ⊥) → tokens_at on.to.state d ≡ tokens_at s' d
@@ -147,6 +148,7 @@ module _ (t : Tables) (a b : Worker) (c : ℕ) (e e' : TakeEnd) (x : Token) (m :
     ins = λ d i. subst (λ v. Contains v.items d) (sym l.ins) (m.ins d (subst (λ k. IsInto t k d) l.number i));
     ins_only = subst (λ v. All (IsInto t b.number) v.items) (sym l.ins) (subst (λ k. All (IsInto t k) a.ins.items) (sym l.number) m.ins_only);
     repaid = λ d y q. repaid_is d y q (cases_eq d c);
+    rests = λ r. absurd (false≢true (sym l.resting ∙ r));
   }
     where
       mine : (d : ℕ) → IsInto t b.number d → IsInto t j d

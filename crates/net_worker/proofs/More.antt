@@ -8,7 +8,7 @@ use Rattle.net_types.specs.declared.net.Net.{Net}
 use Rattle.net_types.specs.declared.firing.Firing.{Firing}
 use Rattle.net_types.specs.Nets.{into, out_of, chan_at, kind_of, uses, owns}
 use Rattle.net_core.specs.declared.plan.Put.{Put}
-use Rattle.net_core.specs.Fire.{State, Effect, Row, Stop, Look, Take, Fires, effect, effect_of, first, tokens_at, head_at, takes_from, puts_on, taken, added, applied, moved, row, at_array, setting, idle, changed_from}
+use Rattle.net_core.specs.Fire.{State, Effect, Row, Stop, Look, Take, Fires, effect, effect_of, first, tokens_at, head_at, takes_from, puts_on, taken, added, counted, applied, moved, row, at_array, setting, idle, changed_from}
 use Rattle.net_core.specs.Uses.{used_by, then_used, AllSame, used}
 use Rattle.net_core.proofs.UsesLemmas.{rows_use_only}
 use Rattle.net_core.proofs.RowLemmas.{Has, length-changed}
@@ -184,6 +184,7 @@ module _ (net : Net) (owner : ℕ → ℕ) (j : ℕ) (xs ns : ℕ → List ℕ) 
     scalars = w.scalars;
     own = ap (λ l. Rattle.std.proofs.Common.set l f.unit does.0.own) w.own;
     arrays = ap (λ l. Rattle.net_core.specs.Fire.written (owns (kind_of net f.unit)) does.0.array l) w.arrays;
+    strays = ap (counted (uses (kind_of net f.unit)) does.0.strays) w.strays;
     tokens = λ c. tokens c (cases_lt c (length net.chans));
     stamps = λ c. stamps c (cases_lt c (length net.chans));
     long = length-changed (moved net f.unit does.0) 0 s.state.tokens ∙ w.long;

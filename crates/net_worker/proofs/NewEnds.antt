@@ -2,7 +2,7 @@
 use Rattle.std.proofs.Common.{◌≡◌, ◌≢◌, ◌⊎◌, inl, inr, ℕ, ◌+◌, ◌<◌, ◌≤◌, ◌*◌, Option, Some, None, List, [], ◌∷◌, ◌++◌, length, get_or, map, set, refl, ap, ◌∙◌, sym, subst, arith, get_or-set_same, get_or-set_other, length-set}
 use mathlib.Core.Path.{fun_ext}
 use Rattle.std.specs.List.{All, Contains}
-use Rattle.std.proofs.lemmas.Bool.{cases_lt, cases_eq}
+use Rattle.std.proofs.lemmas.Bool.{cases_eq}
 use Rattle.el_base.specs.Limits.{max_depth}
 use Rattle.elastic_link.specs.declared.message.Token.{Token}
 use Rattle.elastic_link.specs.declared.message.Credit.{Credit}
@@ -12,7 +12,6 @@ use Rattle.elastic_link.specs.Ends.{IsNewPut, IsNewTake, slots_of}
 use Rattle.net_types.specs.declared.net.Chan.{Chan}
 use Rattle.net_types.specs.Nets.{chan_at}
 use Rattle.net_core.specs.States.{IsOf, CountsWithin, state_of}
-use Rattle.net_worker.specs.Stamped.{Stamped}
 use Rattle.net_worker.specs.Local.{values, stamps_of, Shown, IsLocal}
 use Rattle.net_worker.specs.Steps.{last_stamp}
 use Rattle.net_worker.specs.Workers.{owner_in, IsMadeOf, IsInto, IsOutOf, Sees, shown, put_end, take_end, held_by, handed_by, put_by, received_by, repaid_by}
@@ -20,6 +19,7 @@ use Rattle.net_worker.specs.declared.entry.Entry.{Entry}
 use Rattle.net_worker.specs.declared.tables.Tables.{Tables}
 use Rattle.net_worker.specs.declared.worker.Worker.{Worker}
 use Rattle.net_worker.proofs.Exits.{exit_kept}
+use Rattle.net_worker.proofs.Waits.{waits_on}
 
 -- two tables of which one worker was made have the same channels to others, with the same slots
 same_out : (s t : Tables) (w : Worker) (c : ℕ) → IsMadeOf s w → IsMadeOf t w → IsOutOf s w.number c → IsOutOf t w.number c
@@ -60,6 +60,8 @@ pub record SameElse (a b : Worker) : Type 0 where
   pub state : b.state ≡ a.state
   pub outs : b.outs ≡ a.outs
   pub ins : b.ins ≡ a.ins
+  pub resting : b.resting ≡ a.resting
+  pub waits : b.waits ≡ a.waits
 
 module _ (s t : Tables) (a b : Worker) (c : ℕ) (p : PutEnd) (m : IsMadeOf s a) (o : IsOutOf s a.number c) (new : IsNewPut (chan_at s.net c).slots p) (none : put_end a c ≡ None) (k : IsMadeOf t a) (e : SameElse a b) (takes : b.takes ≡ a.takes) (puts : b.puts.items ≡ set a.puts.items c (Some p)) where
   inside : c < length a.puts.items
@@ -124,6 +126,7 @@ module _ (s t : Tables) (a b : Worker) (c : ℕ) (p : PutEnd) (m : IsMadeOf s a)
     ins = λ d i. subst (λ v. Contains v.items d) (sym e.ins) (k.ins d (subst (λ n. IsInto t n d) e.number i));
     ins_only = subst (λ v. All (IsInto t b.number) v.items) (sym e.ins) (subst (λ n. All (IsInto t n) a.ins.items) (sym e.number) k.ins_only);
     repaid = λ d q is. (let r = k.repaid d q (ap (λ v. get_or v.items d None) (sym takes) ∙ is) in (r.0, subst (λ n. Rattle.elastic_link.specs.Ends.repaid_stamp q ≤ n) (sym e.clock) r.1));
+    rests = λ r. waits_on t a b e.number (ap state_of e.state) (λ d w. ap (λ (v : _). get_or v.items d Rattle.std.proofs.Common.false) e.waits ∙ w) (k.rests (sym e.resting ∙ r));
   }
 
 pub give_put_made : (s t : Tables) (a b : Worker) (c : ℕ) (p : PutEnd) → IsMadeOf s a → IsOutOf s a.number c → IsNewPut (chan_at s.net c).slots p → put_end a c ≡ None → IsMadeOf t a → SameElse a b → b.takes ≡ a.takes → b.puts.items ≡ set a.puts.items c (Some p) → IsMadeOf t b
@@ -205,6 +208,7 @@ module _ (s t : Tables) (a b : Worker) (c : ℕ) (p : TakeEnd) (m : IsMadeOf s a
     ins = λ d i. subst (λ v. Contains v.items d) (sym e.ins) (k.ins d (subst (λ n. IsInto t n d) e.number i));
     ins_only = subst (λ v. All (IsInto t b.number) v.items) (sym e.ins) (subst (λ n. All (IsInto t n) a.ins.items) (sym e.number) k.ins_only);
     repaid = λ d q is. repaid_in_b d q is (cases_eq d c);
+    rests = λ r. waits_on t a b e.number (ap state_of e.state) (λ d w. ap (λ (v : _). get_or v.items d Rattle.std.proofs.Common.false) e.waits ∙ w) (k.rests (sym e.resting ∙ r));
   }
 
 pub give_take_made : (s t : Tables) (a b : Worker) (c : ℕ) (p : TakeEnd) → IsMadeOf s a → IsInto s a.number c → IsNewTake p → p.slots ≡ (chan_at s.net c).slots → take_end a c ≡ None → IsMadeOf t a → SameElse a b → b.puts ≡ a.puts → b.takes.items ≡ set a.takes.items c (Some p) → IsMadeOf t b

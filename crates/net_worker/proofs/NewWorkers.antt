@@ -1,16 +1,14 @@
 -- A new worker.
-use Rattle.std.proofs.Common.{◌≡◌, ◌≢◌, ◌⊎◌, inl, inr, ℕ, ◌+◌, ◌<◌, ◌≤◌, ◌*◌, Option, Some, None, List, [], ◌∷◌, length, get_or, replicate, refl, ap, ◌∙◌, sym, subst, arith}
+use Rattle.std.proofs.Common.{◌≡◌, ◌≢◌, ◌⊎◌, inl, inr, ℕ, ◌+◌, ◌<◌, ◌≤◌, ◌*◌, false, Option, Some, None, List, [], ◌∷◌, length, get_or, replicate, refl, ap, ◌∙◌, sym, subst, arith}
 use Rattle.std.specs.List.{All, Contains}
-use Rattle.std.proofs.lemmas.Bool.{cases_lt}
+use Rattle.std.proofs.lemmas.Bool.{cases_lt, false≢true}
 use Rattle.el_base.specs.Limits.{max_depth}
-use Rattle.elastic_link.specs.declared.put_end.PutEnd.{PutEnd}
-use Rattle.elastic_link.specs.declared.take_end.TakeEnd.{TakeEnd}
 use Rattle.net_types.specs.Nets.{chan_at, kind_of, uses}
 use Rattle.net_core.specs.Fire.{idle, at_array, tokens_at}
 use Rattle.net_core.specs.Runs.{opening}
 use Rattle.net_core.specs.States.{IsOf, CountsWithin, state_of}
 use Rattle.net_worker.specs.Stamped.{Stamped, stamps_at}
-use Rattle.net_worker.specs.Plays.{Plays, take_stamps, putter, taker}
+use Rattle.net_worker.specs.Plays.{Plays, take_stamps}
 use Rattle.net_worker.specs.Local.{values, stamps_of, StandFor, HadRoom, IsLocal, fed_opening}
 use Rattle.net_worker.specs.Steps.{last_stamp}
 use Rattle.net_worker.specs.Workers.{owner_in, IsMadeOf, IsInto, IsOutOf, Sees, shown, put_end, take_end, held_by, handed_by, put_by, received_by, repaid_by}
@@ -18,13 +16,9 @@ use Rattle.net_worker.specs.declared.entry.Entry.{Entry}
 use Rattle.net_worker.specs.declared.tables.Tables.{Tables}
 use Rattle.net_worker.specs.declared.worker.Worker.{Worker}
 use Rattle.net_core.proofs.RegularLemmas.{opening_tokens}
+use Rattle.net_worker.proofs.EndPlaces.{nothing_there}
 use Rattle.net_worker.proofs.Exits.{exit_opening}
 use Rattle.net_worker.proofs.Opening.{fed_tokens, fed_stamps, fed_past}
-
-none_at : {X : Type 0} (n c : ℕ) → get_or {A = Option X} (replicate n None) c None ≡ None
-none_at Rattle.std.proofs.Common.zero c = refl
-none_at (Rattle.std.proofs.Common.suc n) Rattle.std.proofs.Common.zero = refl
-none_at (Rattle.std.proofs.Common.suc n) (Rattle.std.proofs.Common.suc c) = none_at n c
 
 none_is : {X : Type 0} (o : Option X) (x : X) → o ≡ None → o ≡ Some x → ⊥
 none_is o x p q = cc
@@ -40,6 +34,7 @@ pub record IsBegun (t : Tables) (w : Worker) : Type 0 where
   pub log : w.log.items ≡ []
   pub room : w.log.room ≡ w.share
   pub clock : w.clock ≡ 0
+  pub resting : w.resting ≡ false
   pub puts : w.puts.items ≡ replicate (length t.net.chans) None
   pub takes : w.takes.items ≡ replicate (length t.net.chans) None
   pub outs : (c : ℕ) → IsOutOf t w.number c → Contains w.outs.items c
@@ -49,10 +44,10 @@ pub record IsBegun (t : Tables) (w : Worker) : Type 0 where
 
 module _ (t : Tables) (w : Worker) (b : IsBegun t w) where
   no_put : (c : ℕ) → put_end w c ≡ None
-  no_put c = ap (λ l. get_or l c None) b.puts ∙ none_at (length t.net.chans) c
+  no_put c = ap (λ l. get_or l c None) b.puts ∙ nothing_there (length t.net.chans) c
 
   no_take : (c : ℕ) → take_end w c ≡ None
-  no_take c = ap (λ l. get_or l c None) b.takes ∙ none_at (length t.net.chans) c
+  no_take c = ap (λ l. get_or l c None) b.takes ∙ nothing_there (length t.net.chans) c
 
   abbrev after : Stamped
   after = fed_opening t.net t.inputs (λ c. handed_by (take_end w c))
@@ -89,6 +84,7 @@ module _ (t : Tables) (w : Worker) (b : IsBegun t w) where
     into = λ c q. empty c ∙ sym (here_empty c);
     out = λ c l q. here_empty c;
     arrays_long = ap (λ s. length s.arrays) (sym b.state);
+    strays = ap (λ s. s.strays) (sym b.state);
   }
 
   begun : IsMadeOf t w
@@ -112,6 +108,7 @@ module _ (t : Tables) (w : Worker) (b : IsBegun t w) where
     ins = b.ins;
     ins_only = b.ins_only;
     repaid = λ c e is. absurd (none_is (take_end w c) e (no_take c) is);
+    rests = λ r. absurd (false≢true (sym b.resting ∙ r));
   }
 
 pub begun_made : (t : Tables) (w : Worker) → IsBegun t w → IsMadeOf t w

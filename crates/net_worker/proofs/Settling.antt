@@ -1,23 +1,20 @@
 -- Two workers whose link was settled, and what keeps a link sound.
-use Rattle.std.proofs.Common.{rules, ◌≡◌, ◌≢◌, ◌⊎◌, inl, inr, ℕ, zero, suc, ◌+◌, ◌<◌, ◌≤◌, Option, Some, None, IsSome, List, [], ◌∷◌, ◌++◌, length, get_or, set, refl, ap, ◌∙◌, sym, subst, arith, append-nil, false}
+use Rattle.std.proofs.Common.{rules, ◌≡◌, ◌⊎◌, inl, inr, ℕ, ◌<◌, ◌≤◌, Option, Some, None, IsSome, List, [], ◌++◌, length, get_or, set, refl, ap, ◌∙◌, sym, subst, arith, append-nil, false}
 use Rattle.std.proofs.lemmas.Bool.{cases_eq, cases_lt}
 use Rattle.std.proofs.lemmas.Grind.{get_or-set_at}
 use Rattle.std.proofs.lemmas.List.{get_or-set_other, get_or_past, get_or_default}
 use Rattle.std.proofs.Math.ListN.{length-set}
 use mathlib.Core.List.{IsPrefix}
-use Rattle.elastic_link.specs.declared.message.Token.{Token}
-use Rattle.elastic_link.specs.declared.message.Credit.{Credit}
 use Rattle.elastic_link.specs.declared.put_end.PutEnd.{PutEnd}
 use Rattle.elastic_link.specs.declared.take_end.TakeEnd.{TakeEnd}
 use Rattle.elastic_link.specs.Held.{tokens_of}
-use Rattle.elastic_link.specs.Credits.{credits_in, owed_message, never_falls}
-use Rattle.elastic_link.specs.Ends.{SamePutEnd, SameTakeEnd, KeptPutEnd, KeptTakeEnd, IsSound, IsLink, tokens_put, messages_received, slots_of, messages_sent, credits_owed, repaid_stamp, tokens_taken, token_held, credits_repaid}
+use Rattle.elastic_link.specs.Credits.{credits_in, never_falls}
+use Rattle.elastic_link.specs.Ends.{SamePutEnd, SameTakeEnd, KeptPutEnd, KeptTakeEnd, IsSound, IsLink, tokens_put, messages_received, messages_sent, repaid_stamp, tokens_taken, token_held}
 use Rattle.net_worker.specs.Fires.{Puts, PutStep, Keeps, TakeStep}
-use Rattle.net_worker.specs.Given.{SameWork}
 use Rattle.net_worker.specs.Keeps.{IsKept}
 use Rattle.net_worker.specs.Settles.{KeptPut, KeptTake, IsKeptWith}
 use Rattle.net_worker.specs.Views.{put_end, take_end}
-use Rattle.net_worker.specs.Workers.{IsMadeOf, IsSoundAt, AreLinkedAt}
+use Rattle.net_worker.specs.Workers.{IsSoundAt, AreLinkedAt}
 use Rattle.net_worker.specs.declared.tables.Tables.{Tables}
 use Rattle.net_worker.specs.declared.worker.Worker.{Worker}
 use Rattle.net_worker.proofs.Keeping.{made_keeps}
@@ -256,6 +253,8 @@ pub record IsMended (a b : Worker) : Type 0 where
   pub outs : b.outs ≡ a.outs
   pub ins : b.ins ≡ a.ins
   pub closed : b.closed ≡ a.closed
+  pub resting : b.resting ≡ a.resting
+  pub waits : b.waits ≡ a.waits
   pub puts : (c : ℕ) → KeptPut (put_end a c) (put_end b c)
   pub takes : (c : ℕ) → KeptTake (take_end a c) (take_end b c)
 
@@ -271,6 +270,7 @@ mended_kept t a b m = record {
   outs = m.outs;
   ins = m.ins;
   closed = m.closed;
+  rests = λ r. (sym m.resting ∙ r, λ c w. ap (λ (v : _). get_or v.items c false) m.waits ∙ w);
   puts = λ c. put_step (put_end a c) (put_end b c) (m.puts c);
   takes = λ c. take_step (take_end a c) (take_end b c) (m.takes c);
 }
@@ -291,19 +291,13 @@ mended a b m = record {
   takes = m.takes;
 }
 
--- ---- the ends that are lent
-
-pub put_found : (w : Worker) (c : ℕ) (o : Option PutEnd) (p : PutEnd) → IsSome (put_end w c) → o ≡ get_or w.puts.items c o → o ≡ Some p → put_end w c ≡ Some p
-put_found w c o p some is found = get_or_default w.puts.items c None o (put_within w c some) ∙ (sym is ∙ found)
-
-pub take_found : (w : Worker) (c : ℕ) (o : Option TakeEnd) (e : TakeEnd) → IsSome (take_end w c) → o ≡ get_or w.takes.items c o → o ≡ Some e → take_end w c ≡ Some e
-take_found w c o e some is found = get_or_default w.takes.items c None o (take_within w c some) ∙ (sym is ∙ found)
+-- ---- one end
 
 -- nothing but one end has changed, and this is kept
 pub mended_put : (a b : Worker) (c : ℕ) (p q : PutEnd) → IsSome (put_end a c) → put_end a c ≡ Some p → KeptPutEnd p q
-    → b.number ≡ a.number → b.share ≡ a.share → b.log ≡ a.log → b.clock ≡ a.clock → b.state ≡ a.state → b.outs ≡ a.outs → b.ins ≡ a.ins → b.closed ≡ a.closed
+    → b.number ≡ a.number → b.share ≡ a.share → b.log ≡ a.log → b.clock ≡ a.clock → b.state ≡ a.state → b.outs ≡ a.outs → b.ins ≡ a.ins → b.closed ≡ a.closed → b.resting ≡ a.resting → b.waits ≡ a.waits
     → b.puts.items ≡ set a.puts.items c (Some q) → b.takes.items ≡ a.takes.items → IsKeptWith a b
-mended_put a b c p q some is k number share log clock state outs ins closed puts takes = mended a b (record {
+mended_put a b c p q some is k number share log clock state outs ins closed resting waits puts takes = mended a b (record {
   number = number;
   share = share;
   log = log;
@@ -314,14 +308,16 @@ mended_put a b c p q some is k number share log clock state outs ins closed puts
   outs = outs;
   ins = ins;
   closed = closed;
+  resting = resting;
+  waits = waits;
   puts = λ i. subst (λ xs. KeptPut (put_end a i) (get_or xs i None)) (sym puts) (puts_set a.puts.items c p q (put_within a c some) is k i);
   takes = λ i. subst (λ xs. KeptTake (take_end a i) (get_or xs i None)) (sym takes) (kept_take_same (take_end a i));
 })
 
 pub mended_take : (a b : Worker) (c : ℕ) (p q : TakeEnd) → IsSome (take_end a c) → take_end a c ≡ Some p → KeptTakeEnd p q
-    → b.number ≡ a.number → b.share ≡ a.share → b.log ≡ a.log → b.clock ≡ a.clock → b.state ≡ a.state → b.outs ≡ a.outs → b.ins ≡ a.ins → b.closed ≡ a.closed
+    → b.number ≡ a.number → b.share ≡ a.share → b.log ≡ a.log → b.clock ≡ a.clock → b.state ≡ a.state → b.outs ≡ a.outs → b.ins ≡ a.ins → b.closed ≡ a.closed → b.resting ≡ a.resting → b.waits ≡ a.waits
     → b.puts.items ≡ a.puts.items → b.takes.items ≡ set a.takes.items c (Some q) → IsKeptWith a b
-mended_take a b c p q some is k number share log clock state outs ins closed puts takes = mended a b (record {
+mended_take a b c p q some is k number share log clock state outs ins closed resting waits puts takes = mended a b (record {
   number = number;
   share = share;
   log = log;
@@ -332,6 +328,8 @@ mended_take a b c p q some is k number share log clock state outs ins closed put
   outs = outs;
   ins = ins;
   closed = closed;
+  resting = resting;
+  waits = waits;
   puts = λ i. subst (λ xs. KeptPut (put_end a i) (get_or xs i None)) (sym puts) (kept_put_same (put_end a i));
   takes = λ i. subst (λ xs. KeptTake (take_end a i) (get_or xs i None)) (sym takes) (takes_set a.takes.items c p q (take_within a c some) is k i);
 })

@@ -4,7 +4,7 @@ use Rattle.std.specs.List.{AllByRecursion}
 use Rattle.std.proofs.lemmas.Bool.{cases_lt}
 use Rattle.std.proofs.lemmas.List.{get_or_past}
 use Rattle.net_types.specs.Nets.{into, chan_at, kind_of, uses}
-use Rattle.net_core.specs.Fire.{applied, tokens_at, head_at, first, idle, at_array, added, taken, puts_on, takes_from, moved}
+use Rattle.net_core.specs.Fire.{applied, tokens_at, head_at, first, idle, at_array, added, counted, taken, puts_on, takes_from, moved}
 use Rattle.net_core.proofs.ApartLemmas.{is_at-inv, into-at}
 use Rattle.net_core.specs.Uses.{used}
 use Rattle.net_worker.specs.Merge.{Alike}
@@ -26,6 +26,7 @@ sees_fires net owner n j f e s s' t ms mt mine v is made = record {
     into = λ c q. channel c (cases_lt c (length net.chans)) (v.into c q) ∙ sym (made.into c q);
     out = made.out;
     arrays_long = (measures_after net n f.unit e t mt).arrays ∙ (sym (measures_after net n f.unit e s ms).arrays ∙ ap length (sym made.arrays));
+    strays = ap (counted (uses (kind_of net f.unit)) e.strays) v.strays ∙ sym made.strays;
   };
 }
   where

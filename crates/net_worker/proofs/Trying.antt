@@ -1,18 +1,13 @@
 -- Acts of a unit, tried one after another.
-use Rattle.std.proofs.Common.{◌≡◌, ◌⊎◌, inl, inr, ℕ, ◌<◌, ◌≤◌, Some, None, refl, ap, ◌∙◌, sym, subst, arith}
+use Rattle.std.proofs.Common.{◌≡◌, ◌⊎◌, inl, inr, ℕ, ◌<◌, ◌≤◌, refl, ap, sym, subst, arith}
 use Rattle.std.proofs.lemmas.Bool.{cases_lt, cases_eq}
 use Rattle.net_types.specs.declared.firing.Act.{Act}
 use Rattle.net_types.specs.declared.firing.Act.TheVariants.{Go, From, Send, Alloc, Addr, Data, Exec, Reply, Retire, End}
 use Rattle.net_types.specs.Nets.{firing}
 use Rattle.net_types.specs.Order.{ActFits, ActLe, IsNextAct, act_rank, act_number}
-use Rattle.net_core.specs.Fire.{enabled}
+use Rattle.net_types.specs.declared.net.Net.{Net}
+use Rattle.net_core.specs.Fire.{State, enabled}
 use Rattle.net_core.specs.Finds.{IsLeastAct, IsQuiet}
-use Rattle.net_core.specs.States.{state_of}
-use Rattle.net_worker.specs.Asking.{IsAsked}
-use Rattle.net_worker.specs.Going.{IsRefused}
-use Rattle.net_worker.specs.declared.tables.Tables.{Tables}
-use Rattle.net_worker.specs.declared.worker.Worker.{Worker}
-use Rattle.net_worker.proofs.HeldBack.{refused_on, refused_since}
 
 act_same : (a b : Act) → act_rank a ≡ act_rank b → act_number a ≡ act_number b → a ≡ b
 act_same Go Go r n = refl
@@ -62,34 +57,26 @@ le_or a b = by (cases_lt (act_rank a) (act_rank b)) (cases_eq (act_rank a) (act_
         not_le (inl x) = absurd (omega arith)
         not_le (inr x) = n x.0
 
-module _ (t : Tables) (a m b : Worker) (u : ℕ) (from act : Act) (first : IsAsked a m) (then : IsAsked m b)
-    (sofar : (x : Act) → enabled t.net (state_of a.state) (firing u x) → (ActLe from x → ⊥) → IsRefused t a m (firing u x))
-    (least : IsLeastAct t.net (state_of m.state) u from act) (now : IsRefused t m b (firing u act)) where
-  in_m : (x : Act) → enabled t.net (state_of a.state) (firing u x) → enabled t.net (state_of m.state) (firing u x)
-  in_m x e = subst (λ s. enabled t.net (state_of s) (firing u x)) (sym first.state) e
-
-  before : (x : Act) → enabled t.net (state_of a.state) (firing u x) → (ActLe from x → ⊥) → IsRefused t a b (firing u x)
-  before x e n = refused_on t a m b (firing u x) first then (sofar x e n)
-
-  here : IsRefused t a b (firing u act)
-  here = refused_since t a m b (firing u act) first now
-
+-- a property of all acts before `from` that are enabled, and of the least one from there on
+module _ (net : Net) (s : State) (u : ℕ) (from act : Act) (P : Act → Type 0) (sofar : (x : Act) → enabled net s (firing u x) → (ActLe from x → ⊥) → P x)
+    (least : IsLeastAct net s u from act) (now : P act) where
   -- all up to the act
-  pub up_to : (x : Act) → enabled t.net (state_of a.state) (firing u x) → ActLe x act → IsRefused t a b (firing u x)
+  pub up_to : (x : Act) → enabled net s (firing u x) → ActLe x act → P x
   up_to x e l = by (le_or from x)
     where
-      by : ActLe from x ⊎ (ActLe from x → ⊥) → IsRefused t a b (firing u x)
-      by (inr n) = before x e n
-      by (inl k) = subst (λ y. IsRefused t a b (firing u y)) (sym (both_le x act l (least.least x (in_m x e) k))) here
+      by : ActLe from x ⊎ (ActLe from x → ⊥) → P x
+      by (inr n) = sofar x e n
+      by (inl k) = subst P (sym (both_le x act l (least.least x e k))) now
 
   -- all before the next act
-  pub before_next : (next : Act) → IsNextAct act next → (x : Act) → ActFits x → enabled t.net (state_of a.state) (firing u x) → (ActLe next x → ⊥) → IsRefused t a b (firing u x)
+  pub before_next : (next : Act) → IsNextAct act next → (x : Act) → ActFits x → enabled net s (firing u x) → (ActLe next x → ⊥) → P x
   before_next next i x fits e n = by (le_or x act)
     where
-      by : ActLe x act ⊎ (ActLe x act → ⊥) → IsRefused t a b (firing u x)
+      by : ActLe x act ⊎ (ActLe x act → ⊥) → P x
       by (inl l) = up_to x e l
       by (inr k) = absurd (n (i.least x fits k))
 
-pub all_quiet : (t : Tables) (a m : Worker) (u : ℕ) (from : Act) → IsAsked a m → ((x : Act) → enabled t.net (state_of a.state) (firing u x) → (ActLe from x → ⊥) → IsRefused t a m (firing u x)) → IsQuiet t.net (state_of m.state) u from
-    → (x : Act) → enabled t.net (state_of a.state) (firing u x) → IsRefused t a m (firing u x)
-all_quiet t a m u from h sofar quiet x e = sofar x e (λ k. quiet x (subst (λ s. enabled t.net (state_of s) (firing u x)) (sym h.state) e) k)
+-- where none is enabled from there on
+pub all_quiet : (net : Net) (s : State) (u : ℕ) (from : Act) (P : Act → Type 0) → ((x : Act) → enabled net s (firing u x) → (ActLe from x → ⊥) → P x) → IsQuiet net s u from
+    → (x : Act) → enabled net s (firing u x) → P x
+all_quiet net s u from P sofar quiet x e = sofar x e (quiet x e)

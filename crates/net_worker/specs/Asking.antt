@@ -5,7 +5,7 @@ use Rattle.elastic_link.specs.declared.put_end.PutEnd.{PutEnd}
 use Rattle.elastic_link.specs.declared.take_end.TakeEnd.{TakeEnd}
 use Rattle.elastic_link.specs.Ends.{tokens_put, messages_received, tokens_taken, token_held, messages_repaid, credits_repaid, repaid_stamp, SamePutEnd, SameTakeEnd, no_slot_count, no_message_count, no_token_count}
 use Rattle.net_worker.specs.Ends.{IsUnspent}
-use Rattle.net_worker.specs.Views.{put_end, take_end}
+use Rattle.net_worker.specs.Workers.{WaitsStay}
 use Rattle.net_worker.specs.declared.worker.Worker.{Worker}
 
 pub record AskedPut (p q : PutEnd) : Type 0 where
@@ -56,5 +56,7 @@ pub record IsAsked (a b : Worker) : Type 0 where
   pub outs : b.outs ≡ a.outs
   pub ins : b.ins ≡ a.ins
   pub closed : b.closed ≡ a.closed
+  pub resting : b.resting ≡ a.resting
+  pub waits : WaitsStay a b
   pub puts : PutsAsked a.puts.items b.puts.items
   pub takes : TakesAsked a.takes.items b.takes.items

@@ -76,6 +76,7 @@ pub record IsFired (t : Tables) (a b : Worker) (f : Firing) (x : Effect) (n : �
   pub outs : b.outs ≡ a.outs
   pub ins : b.ins ≡ a.ins
   pub closed : b.closed ≡ a.closed
+  pub resting : b.resting ≡ false
   pub puts : (c : ℕ) → PutStep n (puts_on t.net f.unit x.put c) (put_end a c) (put_end b c)
   pub takes : (c : ℕ) → TakeStep (takes_from t.net f.unit x c) n (take_end a c) (take_end b c)
 

@@ -1,12 +1,12 @@
 -- What looking at channels from other workers leaves: tokens that were handed out lie in the worker's state.
-use Rattle.std.specs.Prelude.{◌≡◌, ℕ, ◌≤◌, Option, Some, None, IfSome, List, [], length, get_or, set}
+use Rattle.std.specs.Prelude.{◌≡◌, ℕ, ◌≤◌, Option, Some, None, IfSome, List, length, get_or, set}
+use mathlib.Core.List.{IsPrefix}
 use Rattle.el_base.specs.Rises.{Rose}
 use Rattle.elastic_link.specs.declared.message.Token.{Token}
+use Rattle.elastic_link.specs.declared.put_end.PutEnd.{PutEnd}
 use Rattle.elastic_link.specs.declared.take_end.TakeEnd.{TakeEnd}
-use Rattle.elastic_link.specs.Ends.{tokens_taken, token_held, messages_repaid, credits_repaid, repaid_stamp, SameTakeEnd, SameCredits, no_token_count}
-use Rattle.net_worker.specs.Asking.{PutsAsked}
+use Rattle.elastic_link.specs.Ends.{tokens_put, messages_received, SamePutEnd, no_slot_count, no_message_count, tokens_taken, token_held, messages_repaid, credits_repaid, repaid_stamp, SameTakeEnd, SameCredits, no_token_count}
 use Rattle.net_worker.specs.Views.{take_end}
-use Rattle.net_worker.specs.Workers.{held_by}
 use Rattle.net_worker.specs.declared.worker.Worker.{Worker}
 
 -- ---- one end
@@ -54,6 +54,24 @@ pub record TakesLooked (ps qs : List (Option TakeEnd)) : Type 0 where
   pub long : length qs ≡ length ps
   pub each : (c : ℕ) → TakeLooked (get_or ps c None) (get_or qs c None)
 
+-- no token was put; credits may have come
+pub record LookedPut (p q : PutEnd) : Type 0 where
+  pub same : SamePutEnd p q
+  pub received : IsPrefix (messages_received p) (messages_received q)
+  pub put : tokens_put q ≡ tokens_put p
+  pub slots_shown : no_slot_count p ≤ no_slot_count q
+  pub messages_shown : no_message_count p ≤ no_message_count q
+
+abbrev pub PutLooked : Option PutEnd → Option PutEnd → Type 0
+PutLooked None None = Unit {0}
+PutLooked None (Some q) = ⊥
+PutLooked (Some p) None = ⊥
+PutLooked (Some p) (Some q) = LookedPut p q
+
+pub record PutsLooked (ps qs : List (Option PutEnd)) : Type 0 where
+  pub long : length qs ≡ length ps
+  pub each : (c : ℕ) → PutLooked (get_or ps c None) (get_or qs c None)
+
 -- ---- the worker
 
 -- tokens may have been handed out, and else nothing has changed but ends that were asked
@@ -65,7 +83,7 @@ pub record IsLooked (a b : Worker) : Type 0 where
   pub outs : b.outs ≡ a.outs
   pub ins : b.ins ≡ a.ins
   pub closed : b.closed ≡ a.closed
-  pub puts : PutsAsked a.puts.items b.puts.items
+  pub puts : PutsLooked a.puts.items b.puts.items
   pub takes : TakesLooked a.takes.items b.takes.items
 
 -- where the channel's end holds no token now, it held none before, and its ring showed none

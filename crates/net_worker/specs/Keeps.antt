@@ -1,7 +1,7 @@
 -- A worker whose ends took in messages, sent what they owed or were only asked.
-use Rattle.std.specs.Prelude.{◌≡◌, ℕ, false, None, length}
+use Rattle.std.specs.Prelude.{◌≡◌, ℕ, true, false, None, length}
 use Rattle.net_worker.specs.Fires.{PutStep, TakeStep}
-use Rattle.net_worker.specs.Workers.{IsMadeOf, put_end, take_end}
+use Rattle.net_worker.specs.Workers.{IsMadeOf, WaitsStay, put_end, take_end}
 use Rattle.net_worker.specs.declared.tables.Tables.{Tables}
 use Rattle.net_worker.specs.declared.worker.Worker.{Worker}
 
@@ -17,6 +17,7 @@ pub record IsKept (t : Tables) (a b : Worker) : Type 0 where
   pub outs : b.outs ≡ a.outs
   pub ins : b.ins ≡ a.ins
   pub closed : b.closed ≡ a.closed
+  pub rests : b.resting ≡ true → (a.resting ≡ true) × WaitsStay a b
   pub puts : (c : ℕ) → PutStep 0 None (put_end a c) (put_end b c)
   pub takes : (c : ℕ) → TakeStep false 0 (take_end a c) (take_end b c)
 

@@ -1,5 +1,5 @@
 -- A token that is handed to a worker and laid into its state.
-use Rattle.std.specs.Prelude.{◌≡◌, ℕ, Some, None, set}
+use Rattle.std.specs.Prelude.{◌≡◌, ℕ, false, Some, None, set}
 use Rattle.elastic_link.specs.declared.message.Token.{Token}
 use Rattle.elastic_link.specs.declared.take_end.TakeEnd.{TakeEnd}
 use Rattle.elastic_link.specs.Ends.{tokens_taken, token_held, SameTakeEnd, SameCredits}
@@ -27,6 +27,7 @@ pub record IsLaid (t : Tables) (a b : Worker) (c : ℕ) (e e' : TakeEnd) (x : To
   pub outs : b.outs ≡ a.outs
   pub ins : b.ins ≡ a.ins
   pub closed : b.closed ≡ a.closed
+  pub resting : b.resting ≡ false
   pub of : IsOf t.net b.state
   pub state : state_of b.state ≡ with_tokens (put_at_end c x.value (state_of a.state).tokens) (state_of a.state)
 

@@ -1,5 +1,5 @@
 -- A worker as the definitions see it: what holds of it, whatever the others do.
-use Rattle.std.specs.Prelude.{◌≡◌, ◌≢◌, ◌⊎◌, ◌↔◌, ℕ, ◌+◌, ◌*◌, ◌^◌, ◌<◌, ◌≤◌, false, Option, Some, None, IsSome, List, [], ◌++◌, length, get_or}
+use Rattle.std.specs.Prelude.{◌≡◌, ◌≢◌, ◌⊎◌, ◌↔◌, ℕ, ◌+◌, ◌*◌, ◌^◌, ◌<◌, ◌≤◌, true, false, Option, Some, None, IsSome, List, [], ◌++◌, length, get_or}
 use Rattle.std.specs.List.{All, Any, Contains}
 use mathlib.Core.List.{IsPrefix}
 use Rattle.el_base.specs.Limits.{max_depth}
@@ -11,8 +11,10 @@ use Rattle.elastic_link.specs.Held.{tokens_of}
 use Rattle.elastic_link.specs.Ends.{tokens_put, messages_received, slots_of, tokens_taken, token_held, messages_repaid, repaid_stamp, credits_repaid, SamePutEnd, SameTakeEnd, IsLink, IsSound}
 use Rattle.net_types.specs.declared.net.Net.{Net}
 use Rattle.net_types.specs.declared.net.Unit.TheVariants.{Exit}
-use Rattle.net_types.specs.Nets.{chan_at, kind_of, uses}
-use Rattle.net_core.specs.Fire.{State, idle, at_array, tokens_at}
+use Rattle.net_types.specs.declared.firing.Firing.{Firing}
+use Rattle.net_types.specs.Nets.{chan_at, out_of, kind_of, uses}
+use Rattle.net_core.specs.declared.plan.Put.{Put}
+use Rattle.net_core.specs.Fire.{State, Effect, effect, enabled, idle, at_array, tokens_at}
 use Rattle.net_core.specs.Runs.{HasExited}
 use Rattle.net_core.specs.States.{IsOf, CountsWithin, state_of}
 pub use Rattle.net_worker.specs.Views.{owner_in, put_end, take_end}
@@ -67,8 +69,8 @@ shown w after = record {
 
 -- ---- the worker's own state
 
--- The state s that worker j holds is the state t after its log: in its units, and on the channels into them. On channels to other
--- workers s has no token, for their tokens are in the links.
+-- The state s that worker j holds is the state t after its log: in its units, on the channels into them, and in the counts of strays.
+-- On channels to other workers s has no token, for their tokens are in the links.
 pub record Sees (net : Net) (owner : ℕ → ℕ) (j : ℕ) (s t : State) : Type 0 where
   pub scalars : t.scalars ≡ s.scalars
   pub own : (u : ℕ) → owner u ≡ j → get_or t.own u idle ≡ get_or s.own u idle
@@ -76,6 +78,32 @@ pub record Sees (net : Net) (owner : ℕ → ℕ) (j : ℕ) (s t : State) : Type
   pub into : (c : ℕ) → taker net owner c ≡ j → tokens_at t c ≡ tokens_at s c
   pub out : (c : ℕ) → c < length net.chans → taker net owner c ≢ j → tokens_at s c ≡ []
   pub arrays_long : length t.arrays ≡ length s.arrays
+  pub strays : t.strays ≡ s.strays
+
+-- ---- firings that wait for credits
+
+-- a firing of the worker waits for a credit of the channel
+abbrev pub IsAwaited : Worker → ℕ → Type 0
+IsAwaited w c = get_or w.waits.items c false ≡ true
+
+-- each channel that was waited for is waited for still
+abbrev pub WaitsStay : Worker → Worker → Type 0
+WaitsStay a b = (c : ℕ) → IsAwaited a c → IsAwaited b c
+
+-- this token of the unit u goes to another worker, and its credit is waited for
+abbrev pub PutWaits : Tables → Worker → ℕ → Option Put → Type 0
+PutWaits t w u None = ⊥
+PutWaits t w u (Some p) = IsOutOf t w.number (out_of u p.place t.net.chans) × IsAwaited w (out_of u p.place t.net.chans)
+
+-- so does the token of the firing, where it has an effect
+abbrev pub IsWaiting : Tables → Worker → Firing → Type 0
+IsWaiting t w f = (x : Effect) → effect t.net (state_of w.state) f ≡ Some x → PutWaits t w f.unit x.put
+
+-- so of each firing of the worker's units that is enabled in the state that it holds
+abbrev pub AllWait : Tables → Worker → Type 0
+AllWait t w = (f : Firing) → owner_in t f.unit ≡ w.number → enabled t.net (state_of w.state) f → IsWaiting t w f
+
+-- ---- the exit
 
 -- an entry of the list is a firing of the exit
 abbrev pub HasExitAmong : Net → List Entry → Type 0
@@ -112,6 +140,8 @@ pub record IsMadeOf (t : Tables) (w : Worker) : Type 0 where
   pub ins_only : All (IsInto t w.number) w.ins.items
   -- each take was repaid, with a stamp of the log
   pub repaid : (c : ℕ) (e : TakeEnd) → take_end w c ≡ Some e → (credits_repaid e ≡ length (tokens_taken e)) × (repaid_stamp e ≤ w.clock)
+  -- where it rests all enabled firings wait for credits
+  pub rests : w.resting ≡ true → AllWait t w
 
 -- ---- whole, full
 

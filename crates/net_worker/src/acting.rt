@@ -52,7 +52,8 @@ impl Worker {
         hand_over(&mut self.state, &self.puts, net, unit, plan.put);
         take_all(&mut self.takes, net, unit, plan.takes, stamp);
         self.clock = stamp;
-        self.log.add(Entry { stamp, firing });
+        self.resting = false;
+        self.log.add(Entry::new(stamp, firing));
         Some(plan)
     }
 
@@ -72,7 +73,8 @@ impl Worker {
         let stamp = offer_inside(&self.state, net, firing.unit, plan.put, self.clock)?;
         self.state.make(net, firing, plan);
         self.clock = stamp;
-        self.log.add(Entry { stamp, firing });
+        self.resting = false;
+        self.log.add(Entry::new(stamp, firing));
         Some(plan)
     }
 

@@ -22,7 +22,7 @@ impl Worker {
         ensures others { (c : ℕ) → c ≢ chan → put_end self.new c ≡ put_end self.old c }
         ensures rest { SameButPuts self.old self.new }
     {
-        self.puts[chan as usize] = Some(end);
+        self.puts.lay(chan, end);
     }
 
     /// Gives the worker the end that takes from a channel from another worker. Takes no memory.
@@ -35,7 +35,7 @@ impl Worker {
         ensures others { (c : ℕ) → c ≢ chan → take_end self.new c ≡ take_end self.old c }
         ensures rest { SameButTakes self.old self.new }
     {
-        self.takes[chan as usize] = Some(end);
+        self.takes.lay(chan, end);
     }
 
     /// Whether each channel to or from another worker has its end, and the worker was not gathered. Takes no memory.
@@ -79,16 +79,14 @@ impl Worker {
     fn has_put(&self, chan: u32) -> bool
         ensures { IsTrue result ↔ IsSome (put_end self.now chan) }
     {
-        let at = chan as usize;
-        at < self.puts.len() && self.puts[at].is_some()
+        self.puts.has(chan)
     }
 
     /// Whether the worker has the end that takes from a channel.
     fn has_take(&self, chan: u32) -> bool
         ensures { IsTrue result ↔ IsSome (take_end self.now chan) }
     {
-        let at = chan as usize;
-        at < self.takes.len() && self.takes[at].is_some()
+        self.takes.has(chan)
     }
 
     /// The worker is no longer whole, and else as it was.

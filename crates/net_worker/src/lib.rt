@@ -2,10 +2,13 @@
 #![tactic(auto)]
 
 mod acting;
+mod channel_ends;
 mod crossing;
 mod ends;
 mod entry;
 mod giving;
+mod handing;
+mod inner;
 mod laws;
 mod looking;
 mod making;
@@ -13,9 +16,12 @@ mod parts;
 mod passes;
 mod ready;
 mod settle;
+mod skips;
+mod spans;
 mod sweep;
 mod tables;
 mod viewing;
+mod waiting;
 mod waking;
 mod worker;
 

@@ -3,25 +3,24 @@ ghost use Rattle.std.specs.Prelude.{◌≡◌, ◌<◌, IsSome, IfNone, IfSome, 
 ghost use Rattle.net_worker.specs.Asking.{TakesAsked};
 ghost use Rattle.net_worker.specs.Glances.{NoTokenAt, HoldsNone, IsHanded};
 
+use crate::channel_ends::ChannelEnds;
 use crate::tables::Tables;
 use crate::worker::Worker;
 use elastic_link::{TakeEnd, Token};
 use net_core::Takes;
 
 /// Sends what the end of a channel owes, where it has one.
-fn flush_at(takes: &mut Vec<Option<TakeEnd>>, chan: u32)
-    ensures { TakesAsked takes.old.items takes.new.items }
+fn flush_at(takes: &mut ChannelEnds<TakeEnd>, chan: u32)
+    ensures asked { TakesAsked takes.old.items takes.new.items }
+    ensures chans { takes.new.chans ≡ takes.old.chans }
 {
-    let at = chan as usize;
-    if at < takes.len() {
-        if let Some(end) = &mut takes[at] {
-            end.flush();
-        }
+    if let Some(end) = takes.get_mut(chan) {
+        end.flush();
     }
 }
 
 /// The next token of a channel from another worker, where its end shows one; it is held then.
-fn peek_at(takes: &mut Vec<Option<TakeEnd>>, chan: u32) -> Option<Token>
+fn peek_at(takes: &mut ChannelEnds<TakeEnd>, chan: u32) -> Option<Token>
     requires within { chan < length takes.old.items }
     requires end { IsSome (get_or takes.old.items chan None) }
     requires free { HoldsNone (get_or takes.old.items chan None) }
@@ -29,8 +28,9 @@ fn peek_at(takes: &mut Vec<Option<TakeEnd>>, chan: u32) -> Option<Token>
     ensures shown { IfNone result
         (NoTokenAt (get_or takes.old.items chan None) (get_or takes.new.items chan None)) }
     ensures some { IfSome result (λ x. IsHanded chan x takes.old.items takes.new.items) }
+    ensures chans { takes.new.chans ≡ takes.old.chans }
 {
-    match &mut takes[chan as usize] {
+    match takes.get_mut(chan) {
         Some(end) => end.peek(),
         None => None,
     }
@@ -60,8 +60,9 @@ impl Worker {
             return;
         };
         self.state.put_token(&tables.net, chan, token.value);
+        self.resting = false;
         self.ready
-            .mark(tables.net.net().chans.as_slice()[chan as usize].to.unit);
+            .mark_fed(chan, &tables.net.net().chans.as_slice()[chan as usize]);
     }
 
     /// Looks at all channels from other workers.
@@ -118,8 +119,7 @@ impl Worker {
         ensures looked { IsLooked self.old self.new }
     {
         let chan = tables.net.into_place(unit, place);
-        let at = chan as usize;
-        if at < self.takes.len() && self.takes[at].is_some() {
+        if self.takes.has(chan) {
             self.look_at(tables, chan);
         }
     }

@@ -1,13 +1,15 @@
 //! Workers are made.
-ghost use Rattle.std.specs.Prelude.{◌≡◌, ℕ, ◌<◌, ◌≤◌, ◌↔◌, IsTrue, cond, [], ◌∷◌, ◌++◌, None, IfOk, OnOk, length, replicate, All};
+ghost use Rattle.std.specs.Prelude.{◌≡◌, ℕ, ◌<◌, ◌≤◌, ◌↔◌, IsTrue, cond, [], ◌∷◌, ◌++◌, None, IfOk, OnOk, length, All};
 ghost use Rattle.std.specs.List.{Contains};
 ghost use Rattle.el_base.specs.Limits.{max_workers};
 ghost use Rattle.net_types.specs.Inputs.{InputsFit};
+ghost use Rattle.net_worker.specs.ChannelEnds.{AreChannels};
 ghost use Rattle.net_worker.specs.Given.{IsFresh};
 ghost use Rattle.net_worker.specs.Shares.{max_share};
 ghost use Rattle.net_worker.specs.Views.{net_of, inputs_of, put_end, take_end};
 ghost use Rattle.net_worker.specs.Workers.{IsMadeOf, IsOutOf, IsInto};
 
+use crate::channel_ends::ChannelEnds;
 use crate::ready::Ready;
 use crate::tables::Tables;
 use crate::worker::Worker;
@@ -36,8 +38,9 @@ impl Worker {
         let ins = channels_in(alloc, tables, number)?;
         let ready = own_units(alloc, tables, number)?;
         let log = Log::with_room(alloc, share)?;
-        let puts = nothing(alloc, chans)?;
-        let takes = nothing(alloc, chans)?;
+        let puts = ChannelEnds::new(alloc, outs.as_slice(), chans)?;
+        let takes = ChannelEnds::new(alloc, ins.as_slice(), chans)?;
+        let waits = vec![in alloc; false; chans]?;
         let state = State::new(alloc, &tables.net, &tables.inputs)?;
         Ok(Worker {
             number,
@@ -50,20 +53,12 @@ impl Worker {
             outs,
             ins,
             ready,
+            waits,
+            resting: false,
             closed: false,
+            apart: [0; 16],
         })
     }
-}
-
-/// So many places without anything.
-fn nothing<T: Drop>(alloc: Global, count: usize) -> Result<Vec<Option<T>>, Memory>
-    ensures { IfOk result (λ v. v.items ≡ replicate count None) }
-{
-    let mut places = Vec::new(alloc);
-    for _ in 0..count {
-        places.push(None)?;
-    }
-    Ok(places)
 }
 
 /// Whether a channel goes from a unit of a worker to that of another.
@@ -97,6 +92,8 @@ fn note_if(chans: &mut Vec<u32>, chan: u32, noted: bool) -> Result<(), Memory>
 fn channels_out(alloc: Global, tables: &Tables, number: u32) -> Result<Vec<u32>, Memory>
     ensures all { IfOk result (λ v. (c : ℕ) → IsOutOf tables.now number c → Contains v.items c) }
     ensures only { IfOk result (λ v. All (IsOutOf tables.now number) v.items) }
+    ensures ascending { IfOk result
+        (λ v. AreChannels (length (net_of tables.now).chans) v.items) }
 {
     let count = tables.net.net().chans.len();
     let mut outs = Vec::new(alloc);
@@ -111,6 +108,8 @@ fn channels_out(alloc: Global, tables: &Tables, number: u32) -> Result<Vec<u32>,
 fn channels_in(alloc: Global, tables: &Tables, number: u32) -> Result<Vec<u32>, Memory>
     ensures all { IfOk result (λ v. (c : ℕ) → IsInto tables.now number c → Contains v.items c) }
     ensures only { IfOk result (λ v. All (IsInto tables.now number) v.items) }
+    ensures ascending { IfOk result
+        (λ v. AreChannels (length (net_of tables.now).chans) v.items) }
 {
     let count = tables.net.net().chans.len();
     let mut ins = Vec::new(alloc);

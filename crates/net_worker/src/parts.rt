@@ -13,6 +13,7 @@ ghost use Rattle.net_worker.specs.Inside.{IsOfferedInside, IsNotOfferedInside};
 ghost use Rattle.net_worker.specs.Offers.{held_stamp, greatest_in, IsOffered, IsNotOffered};
 ghost use Rattle.net_worker.specs.Workers.{held_by};
 
+use crate::channel_ends::ChannelEnds;
 use crate::ends::{put_above, take_with};
 use elastic_link::{PutEnd, TakeEnd};
 use net_check::Checked;
@@ -20,17 +21,14 @@ use net_core::{Put, State, Takes};
 use net_types::Unit;
 
 /// The stamp of the token that the end of a channel holds; 0 where the channel has no end.
-fn stamp_at(takes: &mut Vec<Option<TakeEnd>>, chan: u32) -> u64
+fn stamp_at(takes: &mut ChannelEnds<TakeEnd>, chan: u32) -> u64
     requires { HoldsIfAny (get_or takes.old.items chan None) }
     ensures asked { TakesAsked takes.old.items takes.new.items }
+    ensures chans { takes.new.chans ≡ takes.old.chans }
     ensures stamp { result ≡ held_stamp (held_by (get_or takes.old.items chan None)) }
     ensures fits { IsStamp result }
 {
-    let at = chan as usize;
-    if at >= takes.len() {
-        return 0;
-    }
-    match &mut takes[at] {
+    match takes.get_mut(chan) {
         Some(end) => match end.peek() {
             Some(token) => token.stamp,
             None => 0,
@@ -41,7 +39,7 @@ fn stamp_at(takes: &mut Vec<Option<TakeEnd>>, chan: u32) -> u64
 
 /// The greatest of a stamp and those of the tokens that are held at places of a unit.
 pub(crate) fn above(
-    takes: &mut Vec<Option<TakeEnd>>,
+    takes: &mut ChannelEnds<TakeEnd>,
     net: &Checked,
     unit: u32,
     places: Takes,
@@ -50,6 +48,7 @@ pub(crate) fn above(
     requires held { AllHold net.now unit takes.old.items (places_of places) }
     requires clock { IsStamp clock }
     ensures asked { TakesAsked takes.old.items takes.new.items }
+    ensures chans { takes.new.chans ≡ takes.old.chans }
     ensures greatest { result
         ≡ max clock (greatest_in net.now takes.old.items unit (places_of places)) }
     ensures fits { IsStamp result }
@@ -95,7 +94,7 @@ fn one_above(stamp: u64) -> Option<u64>
 /// Puts the token of a firing where its output goes to another worker, with a stamp one above `above` and the newest
 /// credit, and answers the stamp; else one above `above`. `None` where there is no room, no credit, no slot or no stamp.
 pub(crate) fn offer(
-    puts: &mut Vec<Option<PutEnd>>,
+    puts: &mut ChannelEnds<PutEnd>,
     state: &State,
     net: &Checked,
     unit: u32,
@@ -107,6 +106,7 @@ pub(crate) fn offer(
     ensures some { IfSome result (λ n. IsOffered net.now (state_of state.now) unit put above n
         puts.old.items puts.new.items) }
     ensures asked { IfNone result (PutsAsked puts.old.items puts.new.items) }
+    ensures chans { puts.new.chans ≡ puts.old.chans }
     ensures none { IfNone result (IsNotOffered net.now (state_of state.now) unit put above
         puts.old.items puts.new.items) }
 {
@@ -114,11 +114,7 @@ pub(crate) fn offer(
         return one_above(above);
     };
     let chan = net.out_of_place(unit, put.place);
-    let at = chan as usize;
-    if at >= puts.len() {
-        return offer_inner(state, net, chan, above);
-    }
-    match &mut puts[at] {
+    match puts.get_mut(chan) {
         Some(end) => put_above(end, put.value, above),
         None => offer_inner(state, net, chan, above),
     }
@@ -168,26 +164,24 @@ pub(crate) fn offer_inside(
 }
 
 /// Takes the token of a channel from another worker, and repays its credit.
-fn take_at(takes: &mut Vec<Option<TakeEnd>>, chan: u32, stamp: u64)
+fn take_at(takes: &mut ChannelEnds<TakeEnd>, chan: u32, stamp: u64)
     requires stamp { IsStamp stamp }
     requires payable { IsPayable stamp (get_or takes.old.items chan None) }
     ensures long { length takes.new.items ≡ length takes.old.items }
+    ensures chans { takes.new.chans ≡ takes.old.chans }
     ensures taken { TakeStep true stamp
         (get_or takes.old.items chan None) (get_or takes.new.items chan None) }
     ensures others { (c : ℕ) → c ≢ chan
         → get_or takes.new.items c None ≡ get_or takes.old.items c None }
 {
-    let at = chan as usize;
-    if at < takes.len() {
-        if let Some(end) = &mut takes[at] {
-            take_with(end, stamp);
-        }
+    if let Some(end) = takes.get_mut(chan) {
+        take_with(end, stamp);
     }
 }
 
 /// Takes the tokens at places of a unit that come from other workers.
 pub(crate) fn take_all(
-    takes: &mut Vec<Option<TakeEnd>>,
+    takes: &mut ChannelEnds<TakeEnd>,
     net: &Checked,
     unit: u32,
     places: Takes,
@@ -196,7 +190,9 @@ pub(crate) fn take_all(
     requires stamp { IsStamp stamp }
     requires payable { AllPayable net.now unit stamp takes.old.items (places_of places) }
     requires distinct { AllDistinct (chans_into net.now unit (places_of places)) }
-    ensures { AreTaken net.now unit stamp (places_of places) takes.old.items takes.new.items }
+    ensures taken { AreTaken net.now unit stamp (places_of places)
+        takes.old.items takes.new.items }
+    ensures chans { takes.new.chans ≡ takes.old.chans }
 {
     match places {
         Takes::None => {}
@@ -216,7 +212,7 @@ pub(crate) fn take_all(
 /// Takes the token that a firing has put out of the state again, where it went to another worker.
 pub(crate) fn hand_over(
     state: &mut State,
-    puts: &Vec<Option<PutEnd>>,
+    puts: &ChannelEnds<PutEnd>,
     net: &Checked,
     unit: u32,
     put: Option<Put>,
@@ -231,8 +227,7 @@ pub(crate) fn hand_over(
         return;
     };
     let chan = net.out_of_place(unit, put.place);
-    let at = chan as usize;
-    if at < puts.len() && puts[at].is_some() {
+    if puts.has(chan) {
         state.take_token(net, chan);
     }
 }

@@ -1,15 +1,89 @@
 //! Marks at units.
 ghost use Rattle.std.specs.Prelude.{◌≡◌, ◌≤◌, ◌<◌, IfSome};
 
-use net_types::Memory;
+use net_types::{Chan, Memory};
 use std::alloc::Global;
 
-/// A set of units, by bits, which are taken in ascending order, going round.
+/// A set of units, by bits, which are taken in ascending order, going round; and the channel on which control is.
+///
+/// It says where to look first, and no contract says what is in it: a worker that finds nothing there looks at all its units.
 #[derive(Drop)]
 pub struct Ready {
+    /// A bit for each unit.
     words: Vec<u64>,
+    /// A bit for each word, set where the word has a bit.
+    blocks: Vec<u64>,
+    /// A bit for each block of 64 words, set where one of them has a bit.
+    tops: Vec<u64>,
     /// The unit from which on the next one is looked for.
-    at: u32,
+    at: usize,
+    /// The channel for control on which a token was put last.
+    control: u32,
+}
+
+/// The least bit that is set in the word of a bit, from that bit on.
+#[inline(always)]
+fn next_in_word(words: &[u64], bit: usize) -> Option<usize> {
+    let word = bit / 64;
+    if word >= words.len() {
+        return None;
+    }
+    let rest = words[word] & (u64::MAX << (bit % 64));
+    if rest == 0 {
+        return None;
+    }
+    Some(lowest(word, rest))
+}
+
+/// The least bit of a word with this number that is not 0.
+#[inline(always)]
+fn lowest(number: usize, word: u64) -> usize {
+    number
+        .wrapping_mul(64)
+        .wrapping_add(word.trailing_zeros() as usize)
+}
+
+/// The least bit of the word with this number; the first past it where there is none.
+fn first_in(words: &[u64], number: usize) -> usize {
+    if number < words.len() {
+        lowest(number, words[number])
+    } else {
+        number.wrapping_mul(64)
+    }
+}
+
+/// The first word from one on that has a bit.
+fn next_word(words: &[u64], from: usize) -> Option<usize> {
+    for number in from..words.len() {
+        if words[number] != 0 {
+            return Some(number);
+        }
+    }
+    None
+}
+
+/// Sets a bit, and tells whether its word had none.
+#[inline(always)]
+fn set_bit(words: &mut Vec<u64>, bit: usize) -> bool {
+    let word = bit / 64;
+    if word >= words.len() {
+        return false;
+    }
+    let old = words[word];
+    words[word] = old | 1 << (bit % 64);
+    old == 0
+}
+
+/// Takes a bit away, and tells whether its word has none now.
+#[inline(always)]
+fn clear_bit(words: &mut Vec<u64>, bit: usize) -> bool {
+    let word = bit / 64;
+    if word >= words.len() {
+        return false;
+    }
+    let new = words[word] & !(1 << (bit % 64));
+    words[word] = new;
+    new == 0
 }
 
 impl Ready {
@@ -17,42 +91,109 @@ impl Ready {
 
     /// No marks, and room for those of so many units.
     pub(crate) fn new(alloc: Global, units: usize) -> Result<Ready, Memory> {
+        let words = units / 64 + 1;
+        let blocks = words / 64 + 1;
         Ok(Ready {
-            words: vec![in alloc; 0; units / 64 + 1]?,
+            words: vec![in alloc; 0; words]?,
+            blocks: vec![in alloc; 0; blocks]?,
+            tops: vec![in alloc; 0; blocks / 64 + 1]?,
             at: 0,
+            control: 0,
         })
     }
 
+    /// The channel for control on which a token was put last.
+    pub(crate) fn control(&self) -> u32 {
+        self.control
+    }
+
+    /// Marks a unit.
+    #[inline(always)]
     pub(crate) fn mark(&mut self, unit: u32) {
-        let word = unit as usize / 64;
-        if word < self.words.len() {
-            self.words[word] |= 1 << (unit % 64);
+        let unit = unit as usize;
+        if set_bit(&mut self.words, unit) {
+            self.mark_block(unit / 64);
         }
     }
 
-    /// The least marked unit from a unit on, whose mark is taken away.
-    fn take_from(&mut self, unit: u32) -> Option<u32> {
-        let first = unit as usize / 64;
-        for word in first..self.words.len() {
-            let from = if word == first { unit % 64 } else { 0 };
-            let rest = self.words[word] & (u64::MAX << from);
-            if rest != 0 {
-                let bit = rest.trailing_zeros();
-                self.words[word] &= !(1 << (bit % 64));
-                let block = u32::try_from(word).ok()?;
-                return block.checked_mul(64)?.checked_add(bit);
-            }
+    /// Sets the bits of a word that had none. It stands apart so that what marks among other marks stays small.
+    #[inline(never)]
+    fn mark_block(&mut self, word: usize) {
+        if set_bit(&mut self.blocks, word) {
+            set_bit(&mut self.tops, word / 64);
         }
-        None
+    }
+
+    /// Marks the unit to which a channel goes on which a token was put, and notes the channel where it is for control.
+    #[inline(always)]
+    pub(crate) fn mark_fed(&mut self, number: u32, chan: &Chan) {
+        self.note(number, chan);
+        self.mark(chan.to.unit);
+    }
+
+    /// Notes a channel on which a token was put, where it is for control.
+    #[inline(always)]
+    pub(crate) fn note(&mut self, number: u32, chan: &Chan) {
+        if chan.ctl {
+            self.control = number;
+        }
+    }
+
+    /// Takes the mark of a unit away.
+    #[inline(always)]
+    fn unmark(&mut self, unit: usize) {
+        if clear_bit(&mut self.words, unit) {
+            self.unmark_block(unit / 64);
+        }
+    }
+
+    /// Takes the bits of a word away that has no marks left.
+    fn unmark_block(&mut self, word: usize) {
+        if clear_bit(&mut self.blocks, word) {
+            clear_bit(&mut self.tops, word / 64);
+        }
+    }
+
+    /// The least marked unit from a unit on.
+    #[inline(always)]
+    fn next(&self, unit: usize) -> Option<usize> {
+        match next_in_word(self.words.as_slice(), unit) {
+            Some(unit) => Some(unit),
+            None => self.next_after_word(unit / 64),
+        }
+    }
+
+    /// The least marked unit past those of a word.
+    #[inline(never)]
+    fn next_after_word(&self, word: usize) -> Option<usize> {
+        let next = match next_in_word(self.blocks.as_slice(), word.wrapping_add(1)) {
+            Some(next) => next,
+            None => self.word_after_block(word.wrapping_add(1) / 64)?,
+        };
+        Some(first_in(self.words.as_slice(), next))
+    }
+
+    /// The least word with a mark past those of a block.
+    fn word_after_block(&self, block: usize) -> Option<usize> {
+        let after = block.wrapping_add(1);
+        let next = match next_in_word(self.tops.as_slice(), after) {
+            Some(next) => next,
+            None => {
+                let top = next_word(self.tops.as_slice(), (after / 64).wrapping_add(1))?;
+                first_in(self.tops.as_slice(), top)
+            }
+        };
+        Some(first_in(self.blocks.as_slice(), next))
     }
 
     /// The next marked unit after the one that was taken last, going round, whose mark is taken away.
     pub(crate) fn take(&mut self) -> Option<u32> {
-        let unit = match self.take_from(self.at) {
+        let unit = match self.next(self.at) {
             Some(unit) => unit,
-            None => self.take_from(0)?,
+            None => self.next(0)?,
         };
+        self.unmark(unit);
         self.at = unit.wrapping_add(1);
-        Some(unit)
+        u32::try_from(unit).ok()
     }
 }

@@ -16,9 +16,8 @@ impl Worker {
         ensures this { IsKeptWith self.old self.new }
         ensures that { IsKeptWith other.old other.new }
     {
-        let at = chan as usize;
-        if let Some(put) = &mut self.puts[at] {
-            if let Some(take) = &mut other.takes[at] {
+        if let Some(put) = self.puts.get_mut(chan) {
+            if let Some(take) = other.takes.get_mut(chan) {
                 put.settle(take);
             }
         }

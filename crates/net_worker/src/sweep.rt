@@ -3,12 +3,17 @@ ghost use Rattle.std.specs.Prelude.{◌≡◌, ◌<◌, ◌↔◌, IsTrue};
 ghost use Rattle.net_worker.specs.Going.{GoesOn, HasAdded};
 ghost use Rattle.net_worker.specs.Sweeps.{SweptAs, SweptExactly, AllHeldBack};
 ghost use Rattle.net_worker.specs.Views.{log_room};
+ghost use Rattle.net_worker.specs.Waits.{IsLookedAll};
 ghost use Rattle.net_worker.specs.Workers.{IsMadeOf, IsWhole, IsFull, SameWorker, HasLoggedExit};
 ghost use Rattle.net_worker.specs.declared.entry.Swept.TheVariants as swept;
 
 use crate::entry::Swept;
+use crate::passes::Tried;
 use crate::tables::Tables;
 use crate::worker::Worker;
+
+/// How often a sweep looks before it tries all its units.
+const LOOKS: u32 = 32;
 
 impl Worker {
     /// Looks at the channels from other workers and makes firings of the worker's own units: some 4,096 where it sees as
@@ -45,7 +50,7 @@ impl Worker {
         self.log.room() == 0 || self.clock + 1 == 1 << 62
     }
 
-    /// Looks, and passes over the units; answers how many firings it made.
+    /// Goes on in a sweep; answers how many firings it made.
     fn go(&mut self, tables: &Tables) -> u32
         requires made { IsMadeOf tables.now self.old }
         requires whole { IsWhole tables.now self.old }
@@ -57,14 +62,59 @@ impl Worker {
         ensures held { result ≡ 0 → AllHeldBack tables.now self.old self.new }
     {
         let _ = tables.net.net();
-        self.look(tables);
-        let fired = self.pass(tables);
+        let fired = self.turns(tables);
         if fired > 0 {
             return fired;
         }
-        if self.exact_pass(tables) {
-            return 1;
+        if self.resting {
+            return 0;
         }
-        0
+        match self.exact_pass(tables) {
+            Tried::Made => 1,
+            Tried::Held => 0,
+            Tried::Waiting => {
+                self.resting = true;
+                0
+            }
+        }
+    }
+
+    /// Looks and passes so often as a sweep does, until it makes a firing or rests; answers how many firings it made.
+    fn turns(&mut self, tables: &Tables) -> u32
+        requires made { IsMadeOf tables.now self.old }
+        requires whole { IsWhole tables.now self.old }
+        ensures made { IsMadeOf tables.now self.new }
+        ensures later { GoesOn tables.now self.old self.new }
+        ensures added { HasAdded result self.old self.new }
+        ensures none { result ≡ 0 → IsLookedAll tables.now self.old self.new }
+    {
+        let mut fired = self.turn(tables);
+        for _ in 1..LOOKS {
+            if fired > 0 {
+                return fired;
+            }
+            if self.resting {
+                return 0;
+            }
+            fired = self.turn(tables);
+        }
+        fired
+    }
+
+    /// Looks, and passes over the marked units, where it does not rest; answers how many firings it made.
+    fn turn(&mut self, tables: &Tables) -> u32
+        requires made { IsMadeOf tables.now self.old }
+        requires whole { IsWhole tables.now self.old }
+        ensures made { IsMadeOf tables.now self.new }
+        ensures later { GoesOn tables.now self.old self.new }
+        ensures added { HasAdded result self.old self.new }
+        ensures none { result ≡ 0 → IsLookedAll tables.now self.old self.new }
+    {
+        self.look(tables);
+        self.ask(tables);
+        if self.resting {
+            return 0;
+        }
+        self.pass(tables)
     }
 }

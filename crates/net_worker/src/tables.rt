@@ -2,8 +2,10 @@
 ghost use Rattle.std.specs.Prelude.{◌≡◌, ◌<◌, length, All, IfOk};
 ghost use Rattle.el_base.specs.Limits.{max_workers};
 ghost use Rattle.net_worker.specs.Crossing.{AreMarked};
+ghost use Rattle.net_worker.specs.Spans.{AreWithin};
 
 use crate::crossing::crossing_units;
+use crate::spans::{NOWHERE, Span, spans_of};
 use net_check::Checked;
 use net_types::{Inputs, List, Memory};
 use std::alloc::Global;
@@ -15,9 +17,12 @@ pub struct Tables {
     pub(crate) owners: List<u32>,
     /// Whether a channel goes from or to another worker, by unit.
     pub(crate) crossing: Vec<bool>,
+    /// By worker: where its units lie.
+    pub(crate) spans: Vec<Span>,
     pub ghost owned: { length owners ≡ length net.units },
     pub ghost few: { All (λ o. o < max_workers) owners },
     pub ghost marked: { AreMarked net.chans owners crossing.items },
+    pub ghost lie: { AreWithin owners spans.items },
 }
 
 // By hand, so that to let go of one is a call.
@@ -28,6 +33,7 @@ impl Drop for Tables {
             inputs: _inputs,
             owners: _owners,
             crossing: _crossing,
+            spans: _spans,
         } = self;
     }
 }
@@ -48,11 +54,12 @@ fn copy_owners(alloc: Global, owners: &[u32]) -> Result<List<u32>, Memory>
 }
 
 impl Tables {
-    ghost use Rattle.std.specs.Prelude.{◌≡◌, ◌<◌, length, IfOk, All, IsFalse};
+    ghost use Rattle.std.specs.Prelude.{◌≡◌, ◌<◌, ℕ, length, IfOk, All, IsFalse};
     ghost use Rattle.el_base.specs.Limits.{max_workers};
     ghost use Rattle.net_types.specs.Inputs.{InputsFit};
     ghost use Rattle.net_worker.specs.Inside.{IsInnerUnit};
     ghost use Rattle.net_worker.specs.Plays.{putter, taker};
+    ghost use Rattle.net_worker.specs.Spans.{IsWithin};
     ghost use Rattle.net_worker.specs.Views.{net_of, inputs_of, unit_owners, owner_in};
 
     /// Copies of a net, of inputs that fit it, and of one owner for each unit.
@@ -74,6 +81,7 @@ impl Tables {
         ensures owners { IfOk result (λ t. unit_owners t ≡ owners.now) }
     {
         let crossing = crossing_units(alloc, net, owners)?;
+        let spans = spans_of(alloc, owners)?;
         let owners = copy_owners(alloc, owners)?;
         let inputs = inputs.copy(alloc)?;
         let net = net.copy(alloc)?;
@@ -82,6 +90,7 @@ impl Tables {
             inputs,
             owners,
             crossing,
+            spans,
         })
     }
 
@@ -92,6 +101,19 @@ impl Tables {
     {
         let at = unit as usize;
         at >= self.crossing.len() || self.crossing[at]
+    }
+
+    /// A span in which all units of a worker lie. Takes no memory.
+    pub(crate) fn span(&self, number: u32) -> Span
+        ensures { (u : ℕ) → u < length (net_of self.now).units → owner_in self.now u ≡ number
+            → IsWithin u result }
+    {
+        let at = number as usize;
+        if at < self.spans.len() {
+            self.spans[at]
+        } else {
+            NOWHERE
+        }
     }
 
     /// The worker that owns a unit of the net. Takes no memory.

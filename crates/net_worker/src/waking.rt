@@ -5,7 +5,8 @@ ghost use Rattle.net_worker.specs.Views.{net_of};
 
 use crate::ready::Ready;
 use crate::tables::Tables;
-use net_core::{Change, Plan, State, Takes};
+use net_check::{Checked, Pins};
+use net_core::{Change, Moves, Plan, State, Taken, Takes};
 
 /// Marks the units of a worker that a firing may have let fire.
 pub(crate) fn wake(
@@ -45,8 +46,13 @@ fn wake_put(ready: &mut Ready, state: &State, tables: &Tables, number: u32, unit
 {
     let at = tables.net.out_of_place(unit, place);
     let chans = tables.net.net().chans.as_slice();
-    if (at as usize) < chans.len() && state.held(&tables.net, at) <= 1 {
-        mark_own(ready, tables, number, chans[at as usize].to.unit);
+    if (at as usize) >= chans.len() {
+        return;
+    }
+    let chan = &chans[at as usize];
+    ready.note(at, chan);
+    if state.held(&tables.net, at) <= 1 {
+        mark_own(ready, tables, number, chan.to.unit);
     }
 }
 
@@ -74,5 +80,81 @@ fn mark_own(ready: &mut Ready, tables: &Tables, number: u32, unit: u32)
 {
     if tables.owner(unit) == number {
         ready.mark(unit);
+    }
+}
+
+/// Marks the units that the firing of a unit may have let fire all of whose channels stay in the worker: the unit itself where it
+/// took and another token lies at its first place, the sources of the channels that it took from where those were full, and
+/// the target of the one on which it laid a token where that is the first. No owner is asked.
+#[inline(always)]
+pub(crate) fn wake_inside(
+    ready: &mut Ready,
+    state: &State,
+    net: &Checked,
+    unit: u32,
+    pins: Pins,
+    moves: Moves,
+)
+    requires { IsOf net.now state.now }
+{
+    match moves.taken {
+        Taken::None => {}
+        Taken::One(c) => {
+            wake_again(ready, state, net, unit, c);
+            wake_source(ready, state, net, c);
+        }
+        Taken::Two(c, d) => {
+            wake_again(ready, state, net, unit, pins.first);
+            wake_source(ready, state, net, c);
+            wake_source(ready, state, net, d);
+        }
+        Taken::Three(c, d, e) => {
+            wake_again(ready, state, net, unit, pins.first);
+            wake_source(ready, state, net, c);
+            wake_source(ready, state, net, d);
+            wake_source(ready, state, net, e);
+        }
+    }
+    if let Some(laid) = moves.laid {
+        wake_target(ready, state, net, laid.chan);
+    }
+}
+
+/// Marks a unit again, where a token lies on a channel into it.
+#[inline(always)]
+fn wake_again(ready: &mut Ready, state: &State, net: &Checked, unit: u32, chan: u32)
+    requires { IsOf net.now state.now }
+{
+    if state.head(net, chan).is_some() {
+        ready.mark(unit);
+    }
+}
+
+/// Marks the unit from which a channel comes, where it was full before a token was taken.
+#[inline(always)]
+fn wake_source(ready: &mut Ready, state: &State, net: &Checked, at: u32)
+    requires { IsOf net.now state.now }
+{
+    let chans = net.net().chans.as_slice();
+    if (at as usize) < chans.len() {
+        let chan = &chans[at as usize];
+        if state.held(net, at).saturating_add(1) >= chan.slots {
+            ready.mark(chan.from.unit);
+        }
+    }
+}
+
+/// Marks the unit to which a channel goes, where the token that was laid there is the first.
+#[inline(always)]
+fn wake_target(ready: &mut Ready, state: &State, net: &Checked, at: u32)
+    requires { IsOf net.now state.now }
+{
+    let chans = net.net().chans.as_slice();
+    if (at as usize) < chans.len() {
+        let chan = &chans[at as usize];
+        ready.note(at, chan);
+        if state.held(net, at) <= 1 {
+            ready.mark(chan.to.unit);
+        }
     }
 }

@@ -3,6 +3,7 @@ ghost use Rattle.std.specs.Prelude.{◌≡◌, ◌≤◌, ◌<◌};
 ghost use Rattle.elastic_link.specs.Credits.{IsStamp};
 ghost use Rattle.net_worker.specs.Shares.{max_share};
 
+use crate::channel_ends::ChannelEnds;
 use crate::entry::Entry;
 use crate::ready::Ready;
 use el_base::Log;
@@ -20,14 +21,22 @@ pub struct Worker {
     /// that the end holds, and of a channel to another worker none.
     pub(crate) state: State,
     /// By channel.
-    pub(crate) puts: Vec<Option<PutEnd>>,
-    pub(crate) takes: Vec<Option<TakeEnd>>,
+    pub(crate) puts: ChannelEnds<PutEnd>,
+    pub(crate) takes: ChannelEnds<TakeEnd>,
     /// The channels to other workers, and those from others.
     pub(crate) outs: Vec<u32>,
     pub(crate) ins: Vec<u32>,
     /// The units that may be able to fire.
     pub(crate) ready: Ready,
+    /// By channel: whether a firing waits for a credit of its end.
+    pub(crate) waits: Vec<bool>,
+    /// Each firing of its units that is enabled in its state waits so.
+    pub(crate) resting: bool,
     pub(crate) closed: bool,
+    /// Keeps what two workers of a list write in cache lines of their own.
+    pub(crate) apart: [u64; 16],
     pub ghost most: { share ≤ max_share },
     pub ghost stamp: { IsStamp clock },
+    pub ghost put_places: { puts.chans ≡ outs.items },
+    pub ghost take_places: { takes.chans ≡ ins.items },
 }

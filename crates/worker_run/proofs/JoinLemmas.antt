@@ -276,7 +276,7 @@ made_of t count limit n ws tables h = record {
   fit = tables.fit;
   below = λ i d l. (let b = tables.below i d l in omega (arith, b, h.long));
   numbered = λ j d l. (h.each j d l).fresh.number_is;
-  made = λ j d l. (h.each j d l).made;
+  made = λ j d l nc. (h.each j d l).made;
 }
 
 pub linked_of : (t : Tables) (count limit : ℕ) (ws : List Worker) → AreJoinedTo t count limit (length (net_of t).chans) ws → AreLinked t ws

@@ -1,5 +1,5 @@
 -- Workers of which nothing has moved.
-use Rattle.std.proofs.Common.{◌≡◌, ◌≢◌, ◌⊎◌, inl, inr, ℕ, zero, suc, ◌+◌, ◌<◌, ◌≤◌, Bool, Option, Some, None, IsSome, List, [], ◌∷◌, length, get_or, set, map, refl, ap, ◌∙◌, sym, subst, arith}
+use Rattle.std.proofs.Common.{◌≡◌, ◌≢◌, ◌⊎◌, inl, inr, ℕ, suc, ◌+◌, ◌<◌, ◌≤◌, true, false, Option, Some, None, IsSome, List, [], ◌∷◌, length, get_or, set, refl, ap, ◌∙◌, sym, subst, arith}
 use Rattle.std.proofs.Math.Logic.{∥∥₁_elim}
 use Rattle.std.proofs.Math.Bridge.{le_prop}
 use Rattle.std.proofs.lemmas.Bool.{cases_eq}
@@ -10,12 +10,11 @@ use Rattle.net_check.specs.Checks.{IsChecked}
 use Rattle.net_worker.specs.declared.entry.Entry.{Entry}
 use Rattle.net_worker.specs.declared.tables.Tables.{Tables}
 use Rattle.net_worker.specs.declared.worker.Worker.{Worker}
-use Rattle.net_worker.specs.Given.{SameWork, SameButClosed}
-use Rattle.net_worker.specs.Merged.{entries_of}
+use Rattle.net_worker.specs.Handed.{SameLogged}
 use Rattle.net_worker.specs.Plays.{putter, taker}
 use Rattle.net_worker.specs.Settles.{IsKeptWith}
-use Rattle.net_worker.specs.Views.{net_of, inputs_of, unit_owners, owner_in, number_of, log_of, held_state, put_end, take_end}
-use Rattle.net_worker.specs.Workers.{IsMadeOf, IsWhole, IsOutOf, IsInto, AreLinkedAt, IsSoundAt}
+use Rattle.net_worker.specs.Views.{net_of, owner_in, log_of, is_closed, put_end, take_end}
+use Rattle.net_worker.specs.Workers.{IsWhole, IsOutOf, IsInto, AreLinkedAt, IsSoundAt}
 use Rattle.net_worker.proofs.Settling.{kept_with_same, kept_with_then, sound_kept, linked_kept, put_stays, take_stays}
 use Rattle.worker_run.specs.Crews.{AreMade, AreLinked, AllWhole, logs_of}
 use Rattle.worker_run.specs.private.Settlings.{AreKept, IsSettled, AreSettled, AreClosed, IsClosedFrom}
@@ -52,7 +51,7 @@ made_kept t a b k m = record {
   fit = m.fit;
   below = λ i d l. (let h = m.below i d l in omega (arith, h, k.long));
   numbered = λ j d l. (let h : j < length a = omega (arith, l, k.long) in (k.each j d h).work.number ∙ m.numbered j d h);
-  made = λ j d l. (let h : j < length a = omega (arith, l, k.long) in (k.each j d h).made t (m.made j d h));
+  made = λ j d l nc. (let h : j < length a = omega (arith, l, k.long) in (k.each j d h).made t (m.made j d h (sym (k.each j d h).closed ∙ nc)));
 }
 
 pub made_hidden : (t : Tables) (a b : List Worker) → AreKept a b → ∥ AreMade t a ∥₁ → ∥ AreMade t b ∥₁
@@ -140,13 +139,15 @@ linked_closed t a b k linked c d e l ne p q =
     let hw : w < length a = omega (arith, q, k.long) in
     closed_linked c (get_or a v d) (get_or a w e) (get_or b v d) (get_or b w e) (linked c d e l ne hv hw) (k.each v d hv) (k.each w e hw)
 
-pub made_closed : (t : Tables) (a b : List Worker) → AreClosed a b → AreMade t a → AreMade t b
-made_closed t a b k m = record {
-  few = omega (arith, k.long, m.few);
+-- workers that are all closed are still a crew
+pub made_logged : (t : Tables) (a b : List Worker) → length b ≡ length a → ((j : ℕ) (d : Worker) → j < length a → SameLogged (get_or a j d) (get_or b j d))
+    → ((j : ℕ) (d : Worker) → j < length b → is_closed (get_or b j d) ≡ true) → AreMade t a → AreMade t b
+made_logged t a b long same closed m = record {
+  few = omega (arith, long, m.few);
   fit = m.fit;
-  below = λ i d l. (let h = m.below i d l in omega (arith, h, k.long));
-  numbered = λ j d l. (let h : j < length a = omega (arith, l, k.long) in (k.each j d h).rest.work.number ∙ m.numbered j d h);
-  made = λ j d l. (let h : j < length a = omega (arith, l, k.long) in (k.each j d h).made t (m.made j d h));
+  below = λ i d l. (let h = m.below i d l in omega (arith, h, long));
+  numbered = λ j d l. (let h : j < length a = omega (arith, l, long) in (same j d h).number ∙ m.numbered j d h);
+  made = λ j d l nc. (let e : true ≡ false = sym (closed j d l) ∙ nc in absurd (cc));
 }
 
 -- ---- a channel whose workers are found

@@ -7,4 +7,6 @@ pub mod ShareLemmas
 pub mod JoinLemmas
 pub mod RestLemmas
 pub mod GatherLemmas
+pub mod HandLemmas
+pub mod AssembleLemmas
 pub mod RunLemmas

@@ -62,3 +62,12 @@ pub length_of_two : {X : Type 0} (xs low high : List X) (i : ℕ) (a b : X) → 
 length_of_two xs low high i a b is =
     Rattle.std.proofs.Common.length-append (set low i a) (set high 0 b)
     ∙ (ap (λ n. n + length (set high 0 b)) (length-set low i a) ∙ (ap (λ n. length low + n) (length-set high 0 b) ∙ (sym (Rattle.std.proofs.Common.length-append low high) ∙ sym (ap length is))))
+
+-- and where they stood
+pub first_was : {X : Type 0} (xs low high : List X) (n i : ℕ) (d x : X) → xs ≡ low ++ high → length low ≡ n → i < n → get_or xs i d ≡ get_or low i x
+first_was xs low high n i d x is len in_low = ap (λ l. get_or l i d) is ∙ (get_or_append_left low high d i (omega (arith, in_low, len)) ∙ get_or_default low i d x (omega (arith, in_low, len)))
+
+pub second_was : {X : Type 0} (xs low high : List X) (n : ℕ) (d y : X) → xs ≡ low ++ high → length low ≡ n → 0 < length high → get_or xs n d ≡ get_or high 0 y
+second_was xs low high n d y is len some =
+    let zero_at : n - n ≡ 0 = omega arith in
+    ap (λ l. get_or l n d) is ∙ (get_or-append_right low high n n d len (omega arith) ∙ (ap (λ k. get_or high k d) zero_at ∙ get_or_default high 0 d y some))

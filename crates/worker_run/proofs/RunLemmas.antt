@@ -15,7 +15,7 @@ use Rattle.net_replay.specs.declared.fault.RunFault.TheVariants as fault
 use Rattle.net_replay.specs.Judgements.{IsFault, IsSound}
 use Rattle.net_worker.specs.declared.tables.Tables.{Tables}
 use Rattle.net_worker.specs.declared.worker.Worker.{Worker}
-use Rattle.net_worker.specs.Given.{SameWork}
+use Rattle.net_worker.specs.Handed.{SameLogged}
 use Rattle.net_worker.specs.Merged.{IsRested, entries_of}
 use Rattle.net_worker.specs.Plays.{putter, taker}
 use Rattle.net_worker.specs.Views.{net_of, inputs_of, owner_in, number_of, log_share, log_of, log_room, clock_of, held_state, put_end, take_end}
@@ -116,7 +116,7 @@ made_swept t a b k m = record {
   fit = m.fit;
   below = λ i d l. (let h = m.below i d l in omega (arith, h, k.long));
   numbered = λ j d l. (let h : j < length a = omega (arith, l, k.long) in (k.each j d h).same.number ∙ m.numbered j d h);
-  made = λ j d l. (let h : j < length a = omega (arith, l, k.long) in (k.each j d h).made);
+  made = λ j d l nc. (let h : j < length a = omega (arith, l, k.long) in (k.each j d h).made);
 }
 
 pub linked_swept : (t : Tables) (a b : List Worker) → AreSwept t a b → AreLinked t a → AreLinked t b
@@ -152,13 +152,14 @@ log_within : (t : Tables) (w : Worker) (n : ℕ) → IsMadeOf t w → log_share 
 log_within t w n m is = omega (arith, m.room, is)
 
 -- the workers keep to the limit
-entries_within : (net : Net) (inputs : Inputs) (count limit : ℕ) (t : Tables) (ws : List Worker) → 0 < count → IsCrewOf net inputs count limit t ws → AreMade t ws → entries_of (logs_of ws) ≤ limit
+entries_within : (net : Net) (inputs : Inputs) (count limit : ℕ) (t : Tables) (ws : List Worker) → 0 < count → IsCrewOf net inputs count limit t ws
+    → ((j : ℕ) (d : Worker) → j < length ws → IsMadeOf t (get_or ws j d)) → entries_of (logs_of ws) ≤ limit
 entries_within net inputs count limit t ws some c m =
-    within_limit limit count ws some c.count_is (λ j d l. log_within t (get_or ws j d) (share_of limit count j) (m.made j d l) (c.shares j d (omega (arith, l, c.count_is))))
+    within_limit limit count ws some c.count_is (λ j d l. log_within t (get_or ws j d) (share_of limit count j) (m j d l) (c.shares j d (omega (arith, l, c.count_is))))
 
 -- ---- why a worker ended
 
-ended_by : (t : Tables) (s : State) (j : ℕ) (a b : Worker) → SameWork a b → number_of a ≡ j → (HasRested t a → IsRested (net_of t) (owner_in t) j s) → HasStopped t a → HasEnded t s b
+ended_by : (t : Tables) (s : State) (j : ℕ) (a b : Worker) → SameLogged a b → number_of a ≡ j → (HasRested t a → IsRested (net_of t) (owner_in t) j s) → HasStopped t a → HasEnded t s b
 ended_by t s j a b w n rests (inl exit) = inl (subst (HasExitAmong (net_of t)) (sym w.log) exit)
 ended_by t s j a b w n rests (inr (inl (inl full))) = inr (inl (inl (w.room ∙ full)))
 ended_by t s j a b w n rests (inr (inl (inr last))) = inr (inl (inr (ap (λ k. k + 1) w.clock ∙ last)))
@@ -193,7 +194,7 @@ swept_of t Opened a b h = record { long = h.long; each = λ j d l. (h.each j d l
 pub swept_within : (net : Net) (inputs : Inputs) (count limit : ℕ) (t : Tables) (Opened : Type 0) (a b : List Worker) → 0 < count → IsCrewOf net inputs count limit t a → AreMade t a → AreSweptBy t Opened a b → entries_of (logs_of b) ≤ limit
 swept_within net inputs count limit t Opened a b some crew made h =
     let swept = swept_of t Opened a b h in
-    entries_within net inputs count limit t b some (crew_swept net inputs count limit t a b swept crew) (made_swept t a b swept made)
+    entries_within net inputs count limit t b some (crew_swept net inputs count limit t a b swept crew) (λ j d l. (swept.each j d (omega (arith, l, swept.long))).made)
 
 -- ---- why a run has no report
 

@@ -3,3 +3,4 @@ pub mod Orders
 pub mod Settlings
 pub mod Makings
 pub mod Sweepings
+pub mod Handings

@@ -1,27 +1,25 @@
 //! A crew's logs become one run.
 
 ghost use Rattle.std.specs.Prelude.{◌≡◌, ◌+◌, ◌≤◌, ◌^◌, All, IfOk, [], cond, length, true};
-ghost use Rattle.el_base.specs.Limits.{max_workers};
 ghost use Rattle.net_core.specs.Runs.{Run, opening};
 ghost use Rattle.net_core.specs.States.{CountsWithin, IsOf, state_of};
 ghost use Rattle.net_worker.specs.Merged.{entries_of};
 ghost use Rattle.net_worker.specs.Views.{inputs_of, is_closed, net_of};
 ghost use Rattle.worker_run.specs.Crews.{AllWhole, AreSameWork, SameLogs, logs_of, merged_of};
 ghost use Rattle.worker_run.specs.Gathers.{RestsIn};
-ghost use Rattle.worker_run.specs.private.Settlings.{AreAllMade, CanAll};
 
 use crate::crew::Crew;
+use crate::handing::{count_entries, hand_over};
 use crate::order::Rests;
-use crate::settling::{close, settle};
+use crate::settling::settle;
 use el_base::Log;
 use net_check::Checked;
 use net_core::State;
 use net_types::{Firing, List, Memory};
-use net_worker::Worker;
 use std::alloc::Global;
 
-/// Fires the merged log on the opening state, and gives how many firings it has. It settles all links and closes the workers
-/// before, and takes no memory.
+/// Turns the opening state into the one after the merged log, and gives how many firings the log has. It settles all links,
+/// lets the workers hand over what they hold, and closes them. It makes no firing, and takes no memory.
 pub fn gather(net: &Checked, crew: &mut Crew, into: &mut State) -> u64
     requires net { net_of crew.old.tables ≡ net.now }
     requires whole { AllWhole crew.old.tables crew.old.workers.items }
@@ -41,26 +39,8 @@ pub fn gather(net: &Checked, crew: &mut Crew, into: &mut State) -> u64
 {
     let workers = crew.workers.as_mut_slice();
     settle(net, &crew.tables, workers);
-    close(workers);
-    fire_all(net, workers, into)
-}
-
-/// Fires the merged log of workers whose merged log is a list of firings that are enabled in turn.
-fn fire_all(net: &Checked, workers: &[Worker], into: &mut State) -> u64
-    requires few { length workers.now ≤ max_workers }
-    requires entries { entries_of (logs_of workers.now) ≤ 2 ^ 40 }
-    requires of { IsOf net.now into.old }
-    requires can { CanAll net.now (state_of into.old) (merged_of workers.now) }
-    requires counts { CountsWithin 0 (state_of into.old) }
-    ensures { AreAllMade net.now (state_of into.old) workers.now result into.new }
-{
-    let mut rests = Rests::new(workers);
-    let mut made = 0;
-    'entries: while let Some(firing) = rests.next_firing() {
-        into.fire(net, firing);
-        made += 1;
-    }
-    made
+    hand_over(net, &crew.tables, workers, into);
+    count_entries(workers)
 }
 
 /// The firings of all logs, in the order of their stamps, and then of their workers.

@@ -6,6 +6,7 @@
 
 mod crew;
 mod gathering;
+mod handing;
 mod laws;
 mod making;
 mod order;

@@ -29,7 +29,7 @@ fn earlier(first: Option<Left>, second: Left) -> Option<Left>
     ensures { IsEarlierOf result first second }
 {
     match first {
-        Some(first) if first.entry.stamp <= second.entry.stamp => Some(first),
+        Some(first) if first.entry.stamp() <= second.entry.stamp() => Some(first),
         _ => Some(second),
     }
 }
@@ -71,6 +71,6 @@ impl<'a> Rests<'a> {
     {
         let first = self.first()?;
         self.gone[first.worker] += 1;
-        Some(first.entry.firing)
+        Some(first.entry.firing())
     }
 }

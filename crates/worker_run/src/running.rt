@@ -22,11 +22,22 @@ use net_replay::{Ended, RunFault, finish, judge};
 use net_types::Inputs;
 use net_worker::{Swept, Tables, Worker};
 use std::alloc::Global;
-use std::thread;
 use std::thread::Threads;
+use std::{hint, thread};
 
 /// Idle sweeps in a row after which a worker ends.
 const MOST_IDLE: u32 = 10_000;
+
+/// An idle worker gives its turn away after each so many idle sweeps in a row, at first and later.
+const FIRST_TURNS: u32 = 16;
+
+const LATER_TURNS: u32 = 256;
+
+/// The first idle sweeps in a row.
+const FIRST_IDLE: u32 = 512;
+
+/// How often it spins after each other idle sweep.
+const IDLE_SPINS: u32 = 4;
 
 /// Runs a net on inputs that fit it by 1 to 64 workers, each in a thread of its own, gathers them, and goes on to rest. It
 /// makes `limit` firings at most. Where `keep` is true the report has all firings in their order.
@@ -144,7 +155,7 @@ fn sweep_on<G: Gate>(worker: &mut Worker, tables: &Tables, gate: &G, stop: &Atom
                 if idle >= MOST_IDLE || stop.load() {
                     return;
                 }
-                thread::yield_now();
+                pause(idle);
             }
             Swept::Exited => {
                 stop.store(true);
@@ -152,5 +163,21 @@ fn sweep_on<G: Gate>(worker: &mut Worker, tables: &Tables, gate: &G, stop: &Atom
             }
             Swept::Full => return,
         }
+    }
+}
+
+/// Waits a little after so many idle sweeps in a row.
+fn pause(idle: u32) {
+    let turns = if idle < FIRST_IDLE {
+        FIRST_TURNS
+    } else {
+        LATER_TURNS
+    };
+    if idle % turns == 0 {
+        thread::yield_now();
+        return;
+    }
+    for _ in 0..IDLE_SPINS {
+        hint::spin_loop();
     }
 }

@@ -1,5 +1,5 @@
 -- Private: only contracts of this crate cite it. Marks at the units that may fire, and what is noted for the next cycle.
-use Rattle.std.specs.Prelude.{◌≡◌, ◌≢◌, ◌⊎◌, ℕ, zero, suc, ◌+◌, ◌-◌, ◌<◌, ◌≤◌, ◌++◌, ◌∷◌, ◌%◌, nat_lt, cond, set, Bool, true, false, Option, Some, None, List, [], map, reverse, length, get_or, IfSome, IsSomeAnd}
+use Rattle.std.specs.Prelude.{◌≡◌, ◌≢◌, ◌⊎◌, ℕ, zero, suc, ◌+◌, ◌-◌, ◌<◌, ◌≤◌, ◌++◌, ◌∷◌, ◌%◌, nat_lt, cond, set, Bool, true, false, Option, Some, None, List, [], reverse, length, get_or, IfSome, IsSomeAnd}
 use Rattle.std.specs.Int.{IsPowerOfTwo}
 use Rattle.std.specs.List.{AllByRecursion}
 use Rattle.std.specs.List.Sorted.{IsPermutation, IsNonDecreasing}
@@ -22,7 +22,6 @@ use Rattle.cycle_engine.specs.declared.notes.Notes.{Notes}
 use Rattle.cycle_engine.specs.declared.feeds.Feeds.{Feeds}
 use Rattle.cycle_engine.specs.declared.freed.Freed.{Freed}
 use Rattle.net_core.specs.Uses.{is_fork}
-use Rattle.cycle_engine.specs.private.Stacks.{Stacked}
 
 -- ---- lists
 
@@ -254,11 +253,8 @@ entries_at s u = length (get_or s.own u idle).queue.items
 
 -- ---- what is noted
 
-abbrev pub lists_of : List (Stacked ℕ) → List (List ℕ)
-lists_of cells = map (λ (v : Stacked ℕ). v.items) cells
-
 abbrev pub cells_of : Notes → List (List ℕ)
-cells_of n = lists_of n.coming.items
+cells_of n = n.coming
 
 -- the channels that are noted in a cell
 abbrev pub cell : Notes → ℕ → List ℕ

@@ -125,16 +125,16 @@ pub record AreNumbered (net : Net) (base : List ℕ) (n : ℕ) : Type 0 where
   pub most : (f : Firing) → HasPlace net f → place_number base f < n
   pub rising : (f g : Firing) → HasPlace net f → HasPlace net g → f.unit < g.unit → own_number f.act ≢ 0 → own_number g.act ≢ 0 → place_number base f < place_number base g
 
--- the own numbers of the acts of a unit of this kind are below n
+-- the own numbers of the acts of a unit of this kind are below n, but for 0, which asks for no room
 pub record HasNumbersBelow (k : Kind) (n : ℕ) : Type 0 where
-  pub below : (a : Act) → Fits k a → own_number a < n
+  pub below : (a : Act) → Fits k a → own_number a ≢ 0 → own_number a < n
 
 -- so far as units have where the numbers of their places begin: the numbers are below n, and those of a unit before the next unit's
 pub record AreLaid (net : Net) (base : List ℕ) (n : ℕ) : Type 0 where
   pub long : length net.units ≤ n
   pub least : (u : ℕ) → u < length base → length net.units ≤ get_or base u 0
-  pub most : (u : ℕ) (a : Act) → u < length base → Fits (kind_of net u) a → get_or base u 0 + own_number a < n
-  pub rising : (u v : ℕ) (a : Act) → u < v → v < length base → Fits (kind_of net u) a → get_or base u 0 + own_number a < get_or base v 0
+  pub most : (u : ℕ) (a : Act) → u < length base → Fits (kind_of net u) a → own_number a ≢ 0 → get_or base u 0 + own_number a < n
+  pub rising : (u v : ℕ) (a : Act) → u < v → v < length base → Fits (kind_of net u) a → own_number a ≢ 0 → get_or base u 0 + own_number a < get_or base v 0
 
 -- ---- which have fired
 

@@ -1,23 +1,16 @@
 -- Private: only contracts of this crate cite it. What settling and gathering leave of the workers, and a run of a list of firings.
-use Rattle.std.specs.Prelude.{◌≡◌, ◌≢◌, ℕ, ◌+◌, ◌*◌, ◌<◌, true, List, [], ◌∷◌, length, get_or}
-use Rattle.el_base.specs.Limits.{max_depth}
+use Rattle.std.specs.Prelude.{◌≡◌, ◌≢◌, ℕ, ◌<◌, true, List, [], ◌∷◌, length, get_or}
 use Rattle.net_types.specs.declared.net.Net.{Net}
 use Rattle.net_types.specs.declared.firing.Firing.{Firing}
-use Rattle.net_core.specs.declared.state.State.{State as Stored}
 use Rattle.net_core.specs.Fire.{State, after}
 use Rattle.net_core.specs.Runs.{Leads}
-use Rattle.net_core.specs.States.{IsOf, CountsWithin, state_of}
 use Rattle.net_worker.specs.Plays.{putter, taker}
-use Rattle.net_worker.specs.Merged.{merged, entries_of}
 use Rattle.net_worker.specs.Settles.{IsKeptWith}
 use Rattle.net_worker.specs.Given.{SameButClosed}
 use Rattle.net_worker.specs.Views.{net_of, owner_in, is_closed}
 use Rattle.net_worker.specs.Workers.{IsMadeOf, IsSoundAt}
 use Rattle.net_worker.specs.declared.tables.Tables.{Tables}
 use Rattle.net_worker.specs.declared.worker.Worker.{Worker}
-use Rattle.worker_run.specs.Crews.{logs_of, merged_of}
-use Rattle.worker_run.specs.private.Orders.{rests_of}
-use Rattle.worker_run.specs.declared.order.Rests.{Rests}
 
 -- nothing of any worker has moved
 pub record AreKept (a b : List Worker) : Type 0 where
@@ -47,21 +40,6 @@ after_all net s (f ∷ fs) = after_all net (after net s f) fs
 -- from the state on the firings are enabled in turn
 abbrev pub CanAll : Net → State → List Firing → Type 0
 CanAll net s fs = Leads net s fs (after_all net s fs)
-
--- so far the first of the firings of the workers are made from the state s, and the others can follow
-pub record AreMadeFrom (net : Net) (s : State) (ws : List Worker) (r : Rests) (made : ℕ) (now : Stored) : Type 0 where
-  pub workers : r.workers.now ≡ ws
-  pub of : IsOf net now
-  pub leads : Leads net (state_of now) (merged (rests_of r)) (after_all net s (merged_of ws))
-  pub counted : made + entries_of (rests_of r) ≡ entries_of (logs_of ws)
-  pub counts : CountsWithin (max_depth * made) (state_of now)
-
--- all firings of the workers are made from the state s
-pub record AreAllMade (net : Net) (s : State) (ws : List Worker) (made : ℕ) (now : Stored) : Type 0 where
-  pub of : IsOf net now
-  pub state : state_of now ≡ after_all net s (merged_of ws)
-  pub counted : made ≡ entries_of (logs_of ws)
-  pub counts : CountsWithin (max_depth * made) (state_of now)
 
 -- each worker is closed, and else as it was
 pub record AreClosed (a b : List Worker) : Type 0 where

@@ -1,6 +1,6 @@
-use Rattle.std.proofs.Common.{length, take, refl, sym, ap, subst, ◌∙◌, rules, arith}
+use Rattle.std.proofs.Common.{length, take, refl, sym, ap, subst, rules, arith}
 use Rattle.c_types.proofs.FirstFaults.{item_more}
-use Rattle.c_types.proofs.CastStatements.{opening, leaving}
+use Rattle.c_types.proofs.ContextLemmas.{opening, leaving}
 use Rattle.c_types.proofs.ProgramCastStatements.{act_made, block_arm, if_arm, while_arm, do_arm, for_arm, break_arm, continue_arm, empty_arm, inside_arm, none_held, one_held, held_is, no_stmts, one_more_stmt}
 use Rattle.c_types.proofs.ProgramStatementParts.{assigned_target, assigned_value, stepped_target, returned_value, returned_type, block_part, declared_new, declared_value, if_cond, if_then, if_other, while_cond, while_body, do_cond, do_body, for_first, for_cond, for_step, for_body, first_item, other_items}
 use Rattle.c_types.specs.ProgramContexts.{IsProgExpr}

@@ -1,10 +1,12 @@
 use Rattle.std.proofs.Common.{◌<◌, ◌≤◌, length, ap, arith}
 use Rattle.net_worker.specs.Workers.{IsInto}
 use Rattle.net_worker.proofs.Givings.{listed_if, only_if}
+use Rattle.net_worker.proofs.EndPlaces.{channels_if}
 use Rattle.net_worker.proofs.making.channels_in.Goals as goal
 
 pub loop-at-preserved : goal.loop-at-preserved
 loop-at-preserved c = record {
   all = listed_if (IsInto c.args.tables.now c.args.number) c.loop-at.at c.loop-at.ins.items c.note_if.new.chans.items c.is_into-crosses.result c.is_into-crosses.ensures.0 c.is_into-crosses.ensures.1 c.in_ok-note_if.ensures c.loop-at.invariant.all;
   only = only_if (IsInto c.args.tables.now c.args.number) c.loop-at.at c.loop-at.ins.items c.note_if.new.chans.items c.is_into-crosses.result c.is_into-crosses.ensures.0 c.in_ok-note_if.ensures c.loop-at.invariant.only;
+  ascending = channels_if c.loop-at.at c.loop-at.ins.items c.note_if.new.chans.items c.is_into-crosses.result c.in_ok-note_if.ensures c.loop-at.invariant.ascending;
 }

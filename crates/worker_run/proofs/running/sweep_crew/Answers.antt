@@ -1,10 +1,18 @@
-use Rattle.std.proofs.Common.{◌≡◌, List, sym, subst}
+use Rattle.std.proofs.Common.{List, sym, subst}
+use Rattle.std.specs.List.{All}
+use Rattle.net_worker.specs.Workers.{IsMadeOf}
 use Rattle.net_worker.specs.declared.worker.Worker.{Worker}
 use Rattle.worker_run.specs.Crews.{AreMade, AreLinked}
 use Rattle.worker_run.specs.private.Sweepings.{AreSweptBy}
 use Rattle.worker_run.proofs.GatherLemmas.{slice_back}
 use Rattle.worker_run.proofs.RunLemmas.{swept_of, made_swept, linked_swept}
 use Rattle.worker_run.proofs.running.sweep_crew.Goals as goal
+
+pub sweep_all-requires-clause-made : goal.sweep_all-requires-clause-made
+sweep_all-requires-clause-made g c _ _ k d l =
+    let t = c.args.crew.now.tables in
+    let all : All (IsMadeOf t) c.as_mut_slice.result.now = subst (All (IsMadeOf t)) (sym c.as_mut_slice.ensures.value) (λ j e h. c.requires.made.made j e h (c.requires.whole j e h).not_closed) in
+    all k d l
 
 pub invariant_of-crew : goal.invariant_of-crew
 invariant_of-crew g c =

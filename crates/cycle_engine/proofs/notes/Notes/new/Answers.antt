@@ -2,8 +2,8 @@ use Rattle.std.proofs.Common.{◌≡◌, ◌<◌, ◌≤◌, ◌⊎◌, ◌^◌,
 use Rattle.std.proofs.lemmas.Bool.{cases_lt}
 use Rattle.cycle_engine.proofs.notes.Notes.new.Goals as goal
 
-pub empty_lists-requires : goal.empty_lists-requires
-empty_lists-requires c = by (cases_lt 32 k)
+pub new-requires : goal.new-requires
+new-requires c = by (cases_lt 32 k)
   where
     k : ℕ
     k = c.next_power_of_two-count.ensures.power.0

@@ -5,9 +5,9 @@ use Rattle.net_types.specs.Nets.{chan_at}
 use Rattle.cycle_engine.specs.private.Marking.{cells_of}
 use Rattle.cycle_engine.proofs.notes.Notes.note_put.Goals as goal
 
-pub returns-in_ok-note_at : goal.returns-in_ok-note_at
-returns-in_ok-note_at c =
-    c.in_ok-note_at.ensures ∙ (ap with_at place ∙ sym (ap (λ (b : Bool). cond b (with_at ((c.args.now + delay) % length cells)) cells) (lt-ltb 0 delay (omega (arith, c.delay_of-delay.ensures.delay, c.if-delay-gt0.true)))))
+pub returns-in_ok-add : goal.returns-in_ok-add
+returns-in_ok-add c =
+    c.in_ok-add.ensures ∙ (ap with_at place ∙ sym (ap (λ (b : Bool). cond b (with_at ((c.args.now + delay) % length cells)) cells) (lt-ltb 0 delay (omega (arith, c.delay_of-delay.ensures.delay, c.if-delay-gt0.true)))))
   where
     cells : List (List ℕ)
     cells = cells_of c.args.self.now

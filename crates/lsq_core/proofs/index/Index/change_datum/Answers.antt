@@ -10,6 +10,7 @@ returns-clause-shows g c = λ head at items pe l is h. record {
   addr = still_shows c.args.self.now.addr kind.Addr g.shape.0 g.shape.1 head at items c.args.old.now (with_data c.args.datum c.args.old.now) c.requires.0.addr (λ r. refl) refl l is h.addr;
   «data» = now_shows c.args.self.now.«data» c.change.new.self kind.Data g.shape.0 g.shape.1 c.args.place head at items c.args.old.now c.with-new.result (with_data c.args.datum c.args.old.now) c.requires.0.«data» pe l is c.with-new.ensures refl c.change.ensures.shows h.«data»;
   reply = still_shows c.args.self.now.reply kind.Reply g.shape.0 g.shape.1 head at items c.args.old.now (with_data c.args.datum c.args.old.now) c.requires.0.reply (λ r. refl) refl l is h.reply;
+  answer = still_shows c.args.self.now.answer kind.Answer g.shape.0 g.shape.1 head at items c.args.old.now (with_data c.args.datum c.args.old.now) c.requires.0.answer (λ r. refl) refl l is h.answer;
   blank = still_shows c.args.self.now.blank kind.Blank 2 g.shape.1 head at items c.args.old.now (with_data c.args.datum c.args.old.now) c.requires.0.blank (λ r. refl) refl l is h.blank;
   ready = now_shows c.args.self.now.ready c.change-2.new.self kind.Ready 2 g.shape.1 c.args.place head at items c.args.old.now c.with-new.result (with_data c.args.datum c.args.old.now) c.requires.0.ready pe l is c.with-new.ensures refl c.change-2.ensures.shows h.ready;
   pending = still_shows c.args.self.now.pending kind.Pending (2 * buckets g.shape.1) g.shape.1 head at items c.args.old.now (with_data c.args.datum c.args.old.now) c.requires.0.pending (λ r. refl) refl l is h.pending;

@@ -21,4 +21,5 @@ returns-clause-made c t m = record {
   ins = m.ins;
   ins_only = m.ins_only;
   repaid = m.repaid;
+  rests = m.rests;
 }

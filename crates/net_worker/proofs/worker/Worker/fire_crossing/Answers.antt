@@ -10,12 +10,13 @@ use Rattle.net_core.proofs.MoveLemmas.{distinct_of}
 use Rattle.net_core.proofs.PlanUses.{plans_use}
 use Rattle.net_core.proofs.StateLemmas.{unit_is, plan_within}
 use Rattle.net_core.specs.private.Moves.{taken_chans}
-use Rattle.net_worker.specs.Firings.{AllHold, IsFiredExactly}
+use Rattle.net_worker.specs.Firings.{AllHold}
 use Rattle.net_worker.specs.Going.{base_of}
 use Rattle.net_worker.specs.Offers.{greatest_in, IsOffered, IsNotOffered}
 use Rattle.net_worker.proofs.Assembly.{made_up, room_held, few_counts}
 use Rattle.net_worker.proofs.Mays.{used_there}
 use Rattle.net_worker.proofs.Paying.{all_hold, all_payable, all_distinct}
+use Rattle.net_worker.proofs.Entries.{one_entry}
 use Rattle.net_worker.proofs.worker.Worker.fire_crossing.Goals as goal
 
 pub above-base-requires-clause-held : goal.above-base-requires-clause-held
@@ -74,7 +75,7 @@ returns-in_err-stamp-clause-held c =
     plans_use t.net (state_of a.state) f.unit f.act e p.takes does refl ∙ (ap (λ z. places_used (is_fork z) p.takes) k ∙ sym c.used_places-used.ensures) in
     let base : c.above-base.result ≡ base_of t a f = c.above-base.ensures.greatest ∙ ap (λ ps. Rattle.std.proofs.Common.max a.clock (greatest_in t.net a.takes.items f.unit ps)) (sym u) in
     rw c.from_residual-in_err-stamp.ensures (record {
-      asked = record { number = refl; share = refl; log = refl; clock = refl; state = refl; outs = refl; ins = refl; closed = refl; puts = c.in_err-stamp.ensures.asked; takes = c.above-base.ensures.asked };
+      asked = record { number = refl; share = refl; log = refl; clock = refl; state = refl; outs = refl; ins = refl; closed = refl; resting = refl; waits = λ _ h. h; puts = c.in_err-stamp.ensures.asked; takes = c.above-base.ensures.asked };
       refused = λ x q.
           (let same : e ≡ x = (let z : Some e ≡ Some x = sym does ∙ q in cc) in
           subst (λ y. IsNotOffered t.net (state_of a.state) f.unit y.put (base_of t a f) a.puts.items c.offer.new.puts.items) same
@@ -102,14 +103,15 @@ returns-clause-fired c =
       made = c.make.ensures.state ∙ ap (after_effect t.net (state_of a.state) f.unit) does;
       rise = c.make.ensures.counts;
       over = c.hand_over.ensures.state;
-      taken = c.take_all.ensures;
+      taken = c.take_all.ensures.taken;
       number = refl;
       share = refl;
-      items = c.add.ensures.items;
+      items = c.add.ensures.items ∙ one_entry a.log.items c.new.result c.in_ok-stamp.stamp f c.new.ensures.stamp c.new.ensures.firing;
       log_room = c.add.ensures.room;
       clock = refl;
       of = c.hand_over.ensures.of;
       outs = refl;
       ins = refl;
       closed = refl;
+      resting = refl;
     })

@@ -6,8 +6,9 @@ use Rattle.net_core.specs.States.{state_of, own_at, array_at}
 use Rattle.net_worker.specs.Going.{base_of}
 use Rattle.net_worker.specs.Offers.{IsOffered, IsNotOffered}
 use Rattle.net_worker.proofs.Asking.{puts_asked_self, takes_asked_self}
-use Rattle.net_worker.proofs.Assembly.{made_up, few_counts}
+use Rattle.net_worker.proofs.Assembly.{made_up}
 use Rattle.net_worker.proofs.Inside.{no_put, taken_inside, base_inside, handed_inside}
+use Rattle.net_worker.proofs.Entries.{one_entry}
 use Rattle.net_worker.proofs.worker.Worker.fire_inner.Goals as goal
 
 pub returns-in_err-stamp-clause-held : goal.returns-in_err-stamp-clause-held
@@ -19,7 +20,7 @@ returns-in_err-stamp-clause-held c =
     let e = effect_by (kind_of t.net f.unit) (own_at a.state f.unit) (array_at t.net a.state f.unit) p in
     let does : effect t.net (state_of a.state) f ≡ Some e = sym c.in_ok-plan.ensures.effect in
     rw c.from_residual-in_err-stamp.ensures (record {
-      asked = record { number = refl; share = refl; log = refl; clock = refl; state = refl; outs = refl; ins = refl; closed = refl; puts = puts_asked_self a.puts.items; takes = takes_asked_self a.takes.items };
+      asked = record { number = refl; share = refl; log = refl; clock = refl; state = refl; outs = refl; ins = refl; closed = refl; resting = refl; waits = λ _ h. h; puts = puts_asked_self a.puts.items; takes = takes_asked_self a.takes.items };
       refused = λ x q.
           (let same : e ≡ x = (let z : Some e ≡ Some x = sym does ∙ q in cc) in
           subst (λ y. IsNotOffered t.net (state_of a.state) f.unit y.put (base_of t a f) a.puts.items a.puts.items) same
@@ -48,11 +49,12 @@ returns-clause-fired c =
       taken = taken_inside t a c.requires.made f.unit c.requires.inner c.in_ok-stamp.stamp (places_of p.takes);
       number = refl;
       share = refl;
-      items = c.add.ensures.items;
+      items = c.add.ensures.items ∙ one_entry a.log.items c.new.result c.in_ok-stamp.stamp f c.new.ensures.stamp c.new.ensures.firing;
       log_room = c.add.ensures.room;
       clock = refl;
       of = c.make.ensures.of;
       outs = refl;
       ins = refl;
       closed = refl;
+      resting = refl;
     })

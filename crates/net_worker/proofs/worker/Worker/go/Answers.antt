@@ -1,46 +1,82 @@
-use Rattle.std.proofs.Common.{◌≡◌, ◌∙◌, ◌+◌, length, ap, refl, subst, arith}
-use Rattle.net_worker.proofs.Asking.{asked_trans}
+use Rattle.std.proofs.Common.{◌≡◌, refl, subst, arith}
+use Rattle.net_worker.specs.Going.{TriedAs}
 use Rattle.net_worker.proofs.Firing.{later_same, goes_looked}
-use Rattle.net_worker.proofs.Glancing.{same_whole}
-use Rattle.net_worker.proofs.HeldBack.{all_held_back}
+use Rattle.net_worker.proofs.Glancing.{same_whole, puts_looked_self, takes_looked_self}
+use Rattle.net_worker.proofs.HeldBack.{all_held_back, rested_held_back, all_still_held}
 use Rattle.net_worker.proofs.worker.Worker.go.Goals as goal
 
-pub returns-then-fired-gt0 : goal.returns-then-fired-gt0
-returns-then-fired-gt0 c = record {
-  made = c.pass-fired.ensures.made;
-  later = λ z l. c.pass-fired.ensures.later z (goes_looked c.args.tables.now c.args.self.now c.look.new.self c.requires.made c.look.ensures.made c.look.ensures.looked z l);
-  added = subst (λ l. length c.pass-fired.new.self.log.items ≡ length l.items + c.pass-fired.result) c.look.ensures.looked.log c.pass-fired.ensures.added;
-  none = λ e. absurd (omega arith);
-  held = λ e. absurd (omega arith);
-}
-
-pub returns-then-exact_pass : goal.returns-then-exact_pass
-returns-then-exact_pass c =
-    let x : c.pass-fired.result ≡ 0 = omega arith in
-    record {
-      made = c.exact_pass.ensures.made;
-      later = λ z l. c.exact_pass.ensures.later z (c.pass-fired.ensures.later z (goes_looked c.args.tables.now c.args.self.now c.look.new.self c.requires.made c.look.ensures.made c.look.ensures.looked z l));
-      added = subst (λ l. length c.exact_pass.new.self.log.items ≡ length l.items + 1) ((c.pass-fired.ensures.none x).log ∙ c.look.ensures.looked.log) (c.if-exact_pass.ensures.fired refl);
-      none = λ e. absurd (omega arith);
-      held = λ e. absurd (omega arith);
-    }
-
-pub returns : goal.returns
-returns c =
-    let x : c.pass-fired.result ≡ 0 = omega arith in
-    let none : c.exact_pass.new.self.log ≡ c.args.self.now.log = (c.if-exact_pass.ensures.held refl).asked.log ∙ (c.pass-fired.ensures.none x).log ∙ c.look.ensures.looked.log in
-    record {
-      made = c.exact_pass.ensures.made;
-      later = λ z l. c.exact_pass.ensures.later z (c.pass-fired.ensures.later z (goes_looked c.args.tables.now c.args.self.now c.look.new.self c.requires.made c.look.ensures.made c.look.ensures.looked z l));
-      added = omega (arith, ap (λ l. length l.items) none);
-      none = λ _. none;
-      held = λ _. all_held_back c.args.tables.now c.args.self.now c.look.new.self c.pass-fired.new.self c.exact_pass.new.self c.net.ensures.checked c.requires.made c.requires.whole c.exact_pass.ensures.made c.look.ensures.looked
-          c.look.ensures.seen (c.pass-fired.ensures.none x) (c.if-exact_pass.ensures.held refl);
-    }
+pub returns-then-self-clause-held : goal.returns-then-self-clause-held
+returns-then-self-clause-held c = λ _.
+    (let x : c.turns-fired.result ≡ 0 = omega arith in
+    rested_held_back c.args.tables.now c.args.self.now c.turns-fired.new.self c.net.ensures.checked c.requires.whole c.turns-fired.ensures.made (c.turns-fired.ensures.none x) c.if-self.true)
 
 pub exact_pass-requires-clause-whole : goal.exact_pass-requires-clause-whole
-exact_pass-requires-clause-whole c =
-    same_whole c.args.tables.now c.args.self.now c.pass-fired.new.self
-    (later_same c.args.tables.now c.args.self.now c.pass-fired.new.self c.requires.made
-    (λ z l. c.pass-fired.ensures.later z (goes_looked c.args.tables.now c.args.self.now c.look.new.self c.requires.made c.look.ensures.made c.look.ensures.looked z l)))
-    c.requires.whole
+exact_pass-requires-clause-whole c = same_whole c.args.tables.now c.args.self.now c.turns-fired.new.self (later_same c.args.tables.now c.args.self.now c.turns-fired.new.self c.requires.made c.turns-fired.ensures.later) c.requires.whole
+
+pub returns-in-Made-clause-later : goal.returns-in-Made-clause-later
+returns-in-Made-clause-later c = λ z l. c.exact_pass.ensures.later z (c.turns-fired.ensures.later z l)
+
+pub returns-in-Held-clause-later : goal.returns-in-Held-clause-later
+returns-in-Held-clause-later c = λ z l. c.exact_pass.ensures.later z (c.turns-fired.ensures.later z l)
+
+pub returns-in-Held-clause-held : goal.returns-in-Held-clause-held
+returns-in-Held-clause-held c = λ _.
+    (let t = c.args.tables.now in
+    let a = c.args.self.now in
+    let n = c.turns-fired.new.self in
+    let b = c.exact_pass.new.self in
+    let x : c.turns-fired.result ≡ 0 = omega arith in
+    let l = c.turns-fired.ensures.none x in
+    all_held_back t a n b c.net.ensures.checked c.requires.whole c.exact_pass.ensures.made l.looked l.seen (subst (λ r. TriedAs t r n b) c.in-Held.is c.exact_pass.ensures.tried))
+
+pub returns-in-Waiting-clause-made : goal.returns-in-Waiting-clause-made
+returns-in-Waiting-clause-made c =
+    let m = c.exact_pass.ensures.made in
+    record {
+      of = m.of;
+      counts = m.counts;
+      room = m.room;
+      ends = m.ends;
+      ends_too = m.ends_too;
+      clock = m.clock;
+      after = m.after;
+      local = m.local;
+      sees = m.sees;
+      exit = m.exit;
+      held = m.held;
+      held_stamps = m.held_stamps;
+      puts_out = m.puts_out;
+      takes_in = m.takes_in;
+      outs = m.outs;
+      outs_only = m.outs_only;
+      ins = m.ins;
+      ins_only = m.ins_only;
+      repaid = m.repaid;
+      rests = λ _. (subst (λ r. TriedAs c.args.tables.now r c.turns-fired.new.self c.exact_pass.new.self) c.in-Waiting.is c.exact_pass.ensures.tried).1;
+    }
+
+pub returns-in-Waiting-clause-later : goal.returns-in-Waiting-clause-later
+returns-in-Waiting-clause-later c = λ z l.
+    goes_looked c.args.tables.now c.exact_pass.new.self _ c.exact_pass.ensures.made (returns-in-Waiting-clause-made c)
+    (record {
+      number = refl;
+      share = refl;
+      log = refl;
+      clock = refl;
+      outs = refl;
+      ins = refl;
+      closed = refl;
+      puts = puts_looked_self c.exact_pass.new.self.puts.items;
+      takes = takes_looked_self c.exact_pass.new.self.takes.items;
+    }) z (c.exact_pass.ensures.later z (c.turns-fired.ensures.later z l))
+
+pub returns-in-Waiting-clause-held : goal.returns-in-Waiting-clause-held
+returns-in-Waiting-clause-held c = λ _.
+    (let t = c.args.tables.now in
+    let a = c.args.self.now in
+    let n = c.turns-fired.new.self in
+    let b = c.exact_pass.new.self in
+    let x : c.turns-fired.result ≡ 0 = omega arith in
+    let l = c.turns-fired.ensures.none x in
+    all_still_held t a b _ (record { clock = refl; state = refl; puts = refl; takes = refl })
+    (all_held_back t a n b c.net.ensures.checked c.requires.whole c.exact_pass.ensures.made l.looked l.seen (subst (λ r. TriedAs t r n b) c.in-Waiting.is c.exact_pass.ensures.tried).0))

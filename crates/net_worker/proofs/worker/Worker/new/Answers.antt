@@ -1,4 +1,4 @@
-use Rattle.std.proofs.Common.{◌∙◌, ap, refl, length, replicate, None, arith}
+use Rattle.std.proofs.Common.{◌∙◌, ap, refl, length, replicate, None}
 use Rattle.net_worker.proofs.NewWorkers.{begun_made}
 use Rattle.net_worker.proofs.worker.Worker.new.Goals as goal
 
@@ -12,8 +12,9 @@ returns-clause-made c =
       log = c.in_ok-log.ensures.items;
       room = c.in_ok-log.ensures.room;
       clock = refl;
-      puts = c.in_ok-puts.ensures ∙ ap (λ k. replicate k None) n;
-      takes = c.in_ok-takes.ensures ∙ ap (λ k. replicate k None) n;
+      resting = refl;
+      puts = c.in_ok-puts.ensures.items ∙ ap (λ k. replicate k None) n;
+      takes = c.in_ok-takes.ensures.items ∙ ap (λ k. replicate k None) n;
       outs = c.in_ok-outs.ensures.all;
       outs_only = c.in_ok-outs.ensures.only;
       ins = c.in_ok-ins.ensures.all;

@@ -1,0 +1,15 @@
+use Rattle.std.proofs.Common.{refl}
+use Rattle.net_worker.proofs.Asking.{asked_self, puts_asked_self, takes_asked_self}
+use Rattle.net_worker.proofs.Turns.{made_none, made_one}
+use Rattle.net_worker.proofs.worker.Worker.try_plan.Goals as goal
+
+pub returns-in_default : goal.returns-in_default
+returns-in_default c = made_none c.args.tables.now c.args.self.now c.args.self.now c.requires.own.made (asked_self c.args.self.now)
+
+pub returns-then-not-fire_moves : goal.returns-then-not-fire_moves
+returns-then-not-fire_moves c = made_none c.args.tables.now c.args.self.now c.fire_moves.new.self c.requires.own.made (c.fire_moves.ensures.kept c.if-not-fire_moves.true)
+
+pub returns : goal.returns
+returns c =
+    made_one c.args.tables.now c.args.self.now c.fire_moves.new.self _ c.args.firing c.requires.own (c.fire_moves.ensures.fired c.if-not-fire_moves.false)
+    (record { number = refl; share = refl; log = refl; clock = refl; state = refl; outs = refl; ins = refl; closed = refl; resting = refl; waits = λ _ h. h; puts = puts_asked_self c.fire_moves.new.self.puts.items; takes = takes_asked_self c.fire_moves.new.self.takes.items })

@@ -1,0 +1,116 @@
+//! Firings that wait for credits of channels to other workers.
+ghost use Rattle.std.specs.Prelude.{◌≡◌, ◌≢◌, ◌↔◌, ◌<◌, ℕ, true, length, IsFalse, IsTrue, IsSome, None, get_or};
+ghost use Rattle.net_worker.specs.Asking.{IsAsked};
+ghost use Rattle.net_worker.specs.Glances.{PutsLooked, IsLooked};
+ghost use Rattle.net_worker.specs.Offers.{NoCreditAt};
+ghost use Rattle.net_worker.specs.Views.{net_of, number_of, put_end};
+ghost use Rattle.net_worker.specs.Waits.{IsDenied, AllDenied};
+ghost use Rattle.net_worker.specs.Workers.{IsMadeOf, IsOutOf, IsAwaited, IsWaiting};
+
+use crate::channel_ends::ChannelEnds;
+use crate::tables::Tables;
+use crate::worker::Worker;
+use elastic_link::PutEnd;
+use net_types::Firing;
+
+/// Whether the end of a channel shows a credit.
+fn has_credit(puts: &mut ChannelEnds<PutEnd>, chan: u32) -> bool
+    requires { chan < length puts.old.items }
+    ensures looked { PutsLooked puts.old.items puts.new.items }
+    ensures none { IsFalse result
+        → NoCreditAt (get_or puts.old.items chan None) (get_or puts.new.items chan None) }
+    ensures others { (c : ℕ) → c ≢ chan
+        → get_or puts.new.items c None ≡ get_or puts.old.items c None }
+    ensures chans { puts.new.chans ≡ puts.old.chans }
+{
+    match puts.get_mut(chan) {
+        Some(end) => end.ready().is_some(),
+        None => true,
+    }
+}
+
+impl Worker {
+    /// Notes the channel for whose credit a firing that was refused waits; tells whether it is one to another worker.
+    pub(crate) fn note(&mut self, tables: &Tables, firing: Firing) -> bool
+        requires made { IsMadeOf tables.now self.old }
+        requires within { firing.unit < length (net_of tables.now).units }
+        ensures asked { IsAsked self.old self.new }
+        ensures waiting { IsTrue result → IsWaiting tables.now self.new firing }
+    {
+        if !tables.crosses(firing.unit) {
+            return false;
+        }
+        let Some(plan) = self.state.plan(&tables.net, firing) else {
+            return true;
+        };
+        let Some(put) = plan.put else {
+            return false;
+        };
+        let chan = tables.net.out_of_place(firing.unit, put.place);
+        if !self.has_out(chan) {
+            return false;
+        }
+        self.wait_at(chan);
+        true
+    }
+
+    /// Notes that a firing waits for a credit of a channel.
+    fn wait_at(&mut self, chan: u32)
+        requires { chan < length self.old.waits.items }
+        ensures asked { IsAsked self.old self.new }
+        ensures awaited { IsAwaited self.new chan }
+    {
+        self.waits[chan as usize] = true;
+    }
+
+    /// Asks for credits where firings wait for one, and marks the units for which one came.
+    pub(crate) fn ask(&mut self, tables: &Tables)
+        requires made { IsMadeOf tables.now self.old }
+        ensures made { IsMadeOf tables.now self.new }
+        ensures looked { IsLooked self.old self.new }
+        ensures denied { self.new.resting ≡ true → AllDenied tables.now self.old self.new }
+    {
+        for at in 0..self.outs.len() {
+            let chan = self.outs[at];
+            self.ask_at(tables, chan);
+        }
+    }
+
+    /// The same for one channel to another worker.
+    fn ask_at(&mut self, tables: &Tables, chan: u32)
+        requires made { IsMadeOf tables.now self.old }
+        requires out { IsOutOf tables.now (number_of self.old) chan }
+        ensures made { IsMadeOf tables.now self.new }
+        ensures looked { IsLooked self.old self.new }
+        ensures denied { self.new.resting ≡ true → IsDenied chan self.old self.new }
+    {
+        if !self.awaits(chan) {
+            return;
+        }
+        if has_credit(&mut self.puts, chan) {
+            let at = chan as usize;
+            self.waits[at] = false;
+            self.resting = false;
+            self.ready
+                .mark(tables.net.net().chans.as_slice()[at].from.unit);
+        }
+    }
+
+    /// Whether a firing waits for a credit of a channel.
+    fn awaits(&self, chan: u32) -> bool
+        ensures awaited { IsTrue result ↔ IsAwaited self.now chan }
+        ensures within { IsTrue result → chan < length self.now.waits.items }
+    {
+        let at = chan as usize;
+        at < self.waits.len() && self.waits[at]
+    }
+
+    /// Whether the worker has an end for the tokens of a channel, and a place for its note.
+    fn has_out(&self, chan: u32) -> bool
+        ensures end { IsTrue result → IsSome (put_end self.now chan) }
+        ensures within { IsTrue result → chan < length self.now.waits.items }
+    {
+        let at = chan as usize;
+        at < self.waits.len() && self.puts.has(chan)
+    }
+}
