@@ -19,6 +19,8 @@ pub struct ChannelEnds<T> {
     /// The channels with places, ascending, and what stands there.
     chans: Vec<u32>,
     ends: Vec<Option<T>>,
+    /// The place that was found last: the next one asked for is mostly that, or the one behind it.
+    last: usize,
 }
 
 impl<T> Model for ChannelEnds<T> {
@@ -34,12 +36,27 @@ impl<T> Model for ChannelEnds<T> {
     ghost invariant = { λ e. ArePlaces e.count e.chans.items e.ends.items };
 }
 
-/// The place of a channel among ascending ones, where it is one of them.
-fn place_of(chans: &[u32], chan: u32) -> Option<usize>
+/// Whether a channel stands at a place.
+fn stands_at(chans: &[u32], at: usize, chan: u32) -> bool
+    ensures { IsTrue result → StandsAt chans.now chan at }
+{
+    at < chans.len() && chans[at] == chan
+}
+
+/// The place of a channel among ascending ones, where it is one of them. It is looked for first at the place that was found
+/// last, and behind that.
+fn place_of(chans: &[u32], last: usize, chan: u32) -> Option<usize>
     requires { (n : ℕ) × AreChannels n chans.now }
     ensures some { IfSome result (λ i. StandsAt chans.now chan i) }
     ensures none { IfNone result (IsNotAmong chans.now chan) }
 {
+    if stands_at(chans, last, chan) {
+        return Some(last);
+    }
+    let next = last.saturating_add(1);
+    if stands_at(chans, next, chan) {
+        return Some(next);
+    }
     match chans.binary_search(&chan) {
         Ok(at) => Some(at),
         Err(_) => None,
@@ -63,11 +80,14 @@ impl<T> ChannelEnds<T> {
         ensures* writes_back { sem 𝓛 (lends_end T.row self.entry chan result) }
         ensures value { option_copied_mut result ≡ get_or self.old.items chan None }
     {
-        match place_of(&self.chans, chan) {
-            Some(at) => match &mut self.ends[at] {
-                Some(end) => Some(end),
-                None => None,
-            },
+        match place_of(&self.chans, self.last, chan) {
+            Some(at) => {
+                self.last = at;
+                match &mut self.ends[at] {
+                    Some(end) => Some(end),
+                    None => None,
+                }
+            }
             None => None,
         }
     }
@@ -77,7 +97,7 @@ impl<T> ChannelEnds<T> {
         ensures end { IsTrue result ↔ IsSome (get_or self.now.items chan None) }
         ensures within { IsTrue result → chan < length self.now.items }
     {
-        match place_of(&self.chans, chan) {
+        match place_of(&self.chans, self.last, chan) {
             Some(at) => self.ends[at].is_some(),
             None => false,
         }
@@ -97,7 +117,12 @@ impl<T: Drop> ChannelEnds<T> {
     {
         let ends = nothing(alloc, chans.len())?;
         let chans = Vec::from_slice(alloc, chans)?;
-        Ok(ChannelEnds { count, chans, ends })
+        Ok(ChannelEnds {
+            count,
+            chans,
+            ends,
+            last: 0,
+        })
     }
 
     /// Lays an end at the place of a channel.
@@ -106,7 +131,7 @@ impl<T: Drop> ChannelEnds<T> {
         ensures items { self.new.items ≡ set self.old.items chan (Some end) }
         ensures chans { self.new.chans ≡ self.old.chans }
     {
-        if let Some(at) = place_of(&self.chans, chan) {
+        if let Some(at) = place_of(&self.chans, self.last, chan) {
             self.ends[at] = Some(end);
         }
     }
