@@ -18,6 +18,7 @@ use Rattle.c_ast.specs.declared.program.ProgStmtKind.{ProgStmtKind, Row_of-ProgS
 use Rattle.c_ast.specs.declared.program.ProgStmtKind as act
 use Rattle.c_ast.specs.declared.program.TypedHelper.{TypedHelper}
 use Rattle.c_calls.specs.Lawful.{row_length}
+use Rattle.c_inline.specs.declared.walk.Inliner.{Inliner}
 use Rattle.c_calls.specs.Inlined.{writing, Out, Outs, OutOption, OutStmt, OutStmts, OutHeld, Writing, Written, inline_of, inline_all, inline_option, inline_stmt, inline_list, writings, written_by}
 
 -- ---- numbers that fit
@@ -187,6 +188,10 @@ pub record IsOut (o : Out) (ty : Ty) (at : Span) (before : List TypedStmt) (vars
   pub set : before2 ≡ before ++ o.before
   pub made : vars2 ≡ vars ++ o.types
 
+-- x is what an inliner leaves of e
+abbrev pub Leaves : Inliner → ProgExpr → List TypedStmt → List Ty → List TypedStmt → List Ty → TypedExpr → Type 0
+Leaves w e before vars before2 vars2 x = IsOut (out_of w.helpers.now w.base (length vars) e) e.ty e.at before vars before2 vars2 x
+
 pub record AreOut (o : Outs) (before : List TypedStmt) (vars : List Ty) (before2 : List TypedStmt) (vars2 : List Ty) (xs : List TypedExpr) : Type 0 where
   pub rest : xs ≡ o.exprs
   pub set : before2 ≡ before ++ o.before
@@ -218,6 +223,10 @@ pub record GoesOn (left all : Outs) (before0 : List TypedStmt) (vars0 : List Ty)
 pub record IsStmt (o : OutStmt) (at : Span) (vars vars2 : List Ty) (x : TypedStmt) : Type 0 where
   pub rest : x ≡ act_at o.kind at
   pub made : vars2 ≡ vars ++ o.types
+
+-- an inliner makes x of s
+abbrev pub Becomes : Inliner → ProgStmt → List Ty → List Ty → TypedStmt → Type 0
+Becomes w s vars vars2 x = IsStmt (stmt_of w.helpers.now w.base (length vars) s) s.at vars vars2 x
 
 pub record IsHeld (o : OutHeld) (vars vars2 : List Ty) (r : Option TypedStmt) : Type 0 where
   pub rest : r ≡ o.stmt

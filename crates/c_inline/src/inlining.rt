@@ -10,7 +10,7 @@ ghost use Rattle.c_inline.specs.Refusals.{IsGrown};
 
 use crate::count::inlined_nodes;
 use crate::refusal::InlineRefusal;
-use crate::walk::stmts;
+use crate::walk::Inliner;
 use c_ast::{ArrayOf, Param, Typed, TypedProgram};
 use c_calls::laws::{inlined_is_lawful, inlined_nodes_are_counted};
 use c_meaning::size_laws::variables_are_few;
@@ -61,14 +61,12 @@ fn made(alloc: Global, program: &TypedProgram) -> Result<Typed, Memory>
     let helpers = program.helpers.as_slice();
     let mut vars = kernel.vars.copy()?;
     let mut body = List::new(alloc);
-    stmts(
+    let inliner = Inliner {
         alloc,
         helpers,
-        0,
-        kernel.body.as_slice(),
-        &mut body,
-        &mut vars,
-    )?;
+        base: 0,
+    };
+    inliner.stmts(kernel.body.as_slice(), &mut body, &mut vars)?;
     let name = kernel.name.copy()?;
     let params = copy_params(alloc, kernel.params.as_slice())?;
     let arrays = copy_arrays(alloc, kernel.arrays.as_slice())?;
