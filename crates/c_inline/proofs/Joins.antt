@@ -1,5 +1,7 @@
 -- What each call made joins to what the whole makes: expressions, calls and the blocks of calls.
-use Rattle.std.proofs.Common.{◌≡◌, ℕ, ◌+◌, ◌<◌, ◌≤◌, List, [], ◌∷◌, ◌++◌, length, get_or, drop, take, refl, sym, ◌∙◌, ap, subst, arith, append_assoc, append-nil, length-append, length-drop, Option, Some, None}
+use Rattle.std.proofs.Common.{◌≡◌, ℕ, ◌+◌, ◌<◌, ◌≤◌, List, [], ◌∷◌, ◌++◌, length, get_or, drop, take, refl, sym, ◌∙◌, ap, subst, arith, append_assoc, append-nil, length-append, Option, Some, None}
+use Rattle.std.proofs.Math.ListN.{drop_of_length-le}
+use Rattle.std.proofs.lemmas.List.{nil_from_length}
 use Rattle.std.specs.Prelude.{Bool, true, false, ◌==◌, slice_get}
 use Rattle.el_base.specs.declared.span.Span.{Span}
 use Rattle.el_base.specs.declared.ty.Ty.{Ty}
@@ -17,7 +19,7 @@ use Rattle.c_ast.specs.declared.program.ProgExprKind.TheVariants as prog
 use Rattle.c_ast.specs.declared.program.ProgStmt.{ProgStmt}
 use Rattle.c_ast.specs.declared.program.TypedHelper.{TypedHelper}
 use Rattle.c_calls.specs.Inlined.{Out, Outs, OutStmts, Written, whole, with_call, rest_of, written_by, writing, declaring, behind, fresh_target}
-use Rattle.c_inline.specs.Making.{writings_of, out_of, outs_of, option_of, call_of, stmt_of, stmts_of, IsOut, AreOut, IsOption, IsWritten, IsCall, GoesOn, AreStmts}
+use Rattle.c_inline.specs.Making.{writings_of, out_of, outs_of, option_of, call_of, stmt_of, stmts_of, IsOut, Makes, AreOut, IsOption, IsWritten, IsCall, GoesOn, AreStmts}
 use Rattle.c_inline.proofs.Parts.{element_out, unary_out, cast_out, two_out, three_out, out_number, out_var, out_element, out_unary, out_cast, out_binary, out_choice, out_call}
 use Rattle.c_inline.proofs.Fits.{longer, from_place, own_types, written_is}
 use Rattle.c_inline.proofs.Tables.{no_writing}
@@ -35,10 +37,6 @@ pub at_number : (hs : List TypedHelper) (b n : ℕ) (e : ProgExpr) (b1 : List Ty
 at_number hs b n e b1 v1 b2 v2 x h p = subst (λ n. IsOut (out_of hs b n e) e.ty e.at b1 v1 b2 v2 x) h p
 
 -- ---- expressions
-
--- an expression was made into x
-abbrev pub Makes : List TypedHelper → ℕ → ProgExpr → List TypedStmt → List Ty → List TypedStmt → List Ty → TypedExpr → Type 0
-Makes hs b e b1 v1 b2 v2 x = IsOut (out_of hs b (length v1) e) e.ty e.at b1 v1 b2 v2 x
 
 pub number_makes : (hs : List TypedHelper) (b : ℕ) (e : ProgExpr) (n : ℕ) (b1 : List TypedStmt) (v1 : List Ty) (r : TypedExpr) → e.kind ≡ prog.Number n → r ≡ of_type (expr.Number n) e.ty e.at → Makes hs b e b1 v1 b1 v1 r
 number_makes hs b e n b1 v1 r is re = as_out _ (whole (expr.Number n)) e.ty e.at b1 v1 b1 v1 r (out_number hs b (length v1) e n is) (record { rest = re; set = sym (append-nil b1); made = sym (append-nil v1) })
@@ -98,13 +96,6 @@ call_makes hs b e h es s w b1 v1 b2 v2 r is at p re =
 
 -- ---- lists and what may be absent
 
-none_left : {A : Type 0} (xs : List A) → length xs ≤ 0 → xs ≡ []
-none_left [] h = refl
-none_left (x ∷ xs) h = absurd (omega (arith, h))
-
-pub past : {A : Type 0} (xs : List A) (i : ℕ) → length xs ≤ i → drop i xs ≡ []
-past xs i h = none_left (drop i xs) (omega (arith, length-drop i xs))
-
 pub goes_first : (all : Outs) (b : List TypedStmt) (v : List Ty) (xs : List TypedExpr) → xs ≡ [] → GoesOn all all b v b v xs
 goes_first all b v xs e = record { rest = ap (λ l. l ++ all.exprs) e; set = refl; made = refl }
 
@@ -122,7 +113,7 @@ goes_next hs n es i e all b0 v0 b v b2 v2 xs xs2 x h is g p eq =
 
 pub goes_end : (hs : List TypedHelper) (n : ℕ) (es : List ProgExpr) (i m : ℕ) (all : Outs) (b0 : List TypedStmt) (v0 : List Ty) (b : List TypedStmt) (v : List Ty) (xs : List TypedExpr) → length es ≤ i → GoesOn (outs_of hs n m (drop i es)) all b0 v0 b v xs → AreOut all b0 v0 b v xs
 goes_end hs n es i m all b0 v0 b v xs h g =
-    let none : outs_of hs n m (drop i es) ≡ record { before = []; exprs = []; types = [] } = ap (outs_of hs n m) (past es i h) in
+    let none : outs_of hs n m (drop i es) ≡ record { before = []; exprs = []; types = [] } = ap (outs_of hs n m) (drop_of_length-le es h) in
     record {
       rest = sym (append-nil xs) ∙ ap (λ (o : Outs). xs ++ o.exprs) (sym none) ∙ g.rest;
       set = sym (append-nil b) ∙ ap (λ (o : Outs). b ++ o.before) (sym none) ∙ g.set;
@@ -195,7 +186,7 @@ declared_next args i e w s all ss ss2 x y h is g ye xe se =
     ap (λ l. l ++ r) se ∙ append_assoc ss (x ∷ []) r ∙ ap (λ z. ss ++ z ∷ r) (xe ∙ ap (λ z. act_at (stmt.Declare w (Some z)) s) ye) ∙ ap (λ l. ss ++ declaring w l s) (sym (from_place args i e h is)) ∙ g
 
 pub declared_end : (args : List TypedExpr) (i : ℕ) (w : ℕ) (s : Span) (all ss : List TypedStmt) → length args ≤ i → ss ++ declaring w (drop i args) s ≡ all → ss ≡ all
-declared_end args i w s all ss h g = sym (append-nil ss) ∙ ap (λ l. ss ++ declaring w l s) (sym (past args i h)) ∙ g
+declared_end args i w s all ss h g = sym (append-nil ss) ∙ ap (λ l. ss ++ declaring w l s) (sym (drop_of_length-le args h)) ∙ g
 
 -- ---- a statement behind blocks
 
@@ -203,7 +194,7 @@ zero_of : (n : ℕ) → (n == 0) ≡ true → n ≡ 0
 zero_of n h = grind (arith)
 
 no_items : {A : Type 0} (xs : List A) → (length xs == 0) ≡ true → xs ≡ []
-no_items xs h = none_left xs (let n = zero_of (length xs) h in omega (arith, n))
+no_items xs h = nil_from_length xs (zero_of (length xs) h)
 
 pub behind_none : (b : List TypedStmt) (k : TypedStmtKind) (s : Span) → (length b == 0) ≡ true → behind b k s ≡ k
 behind_none b k s h = ap (λ l. behind l k s) (no_items b h)

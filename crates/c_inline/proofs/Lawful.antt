@@ -30,7 +30,7 @@ use Rattle.c_ast.specs.declared.typed.ArrayOf.{ArrayOf}
 use Rattle.c_ast.specs.declared.typed.TypedStmt.{TypedStmt}
 use Rattle.c_calls.specs.Inlined.{OutStmts, inlined, body_of}
 use Rattle.c_calls.specs.Lawful.{Signature, signature_of, row_length, row_types, IsCall, may_right, LawfulCallKind, LawfulCallRow, LawfulCallExpr, IfAnyExpr, LawfulCallTarget, LawfulCallReturn, LawfulCallDeclaration, LawfulCallStmt, LawfulCallHeld, LawfulCallStmts, LawfulHelper, LawfulHelpers, LawfulProgram}
-use Rattle.c_inline.proofs.Tables.{get_taken}
+use Rattle.c_inline.proofs.Tables.{get_taken, same_some}
 use Rattle.c_inline.specs.Making.{KindNumbers, RowNumbers, ExprNumbers, ExprsNumbers, OptionNumbers, ObjectNumbers, ActNumbers, ActsNumbers, HeldActNumbers, StmtNumbers, StmtsNumbers, FewArguments, HelperNumbers, AllNumbers, StmtsFit, AreStmts, stmts_of}
 
 -- no helper has more parameters than variables
@@ -44,13 +44,10 @@ row_long (more_of-ProgExpr e u at row) = omega (arith, row_long row)
 var_numbers : (k : Objects) (b v : ℕ) (t : Ty) → IsNumbered (b + length k.vars) → IsVar k v t → IsNumbered (b + v)
 var_numbers k b v t room is = omega (arith, room, slice_get_within k.vars v t is)
 
-some_two : {A : Type 0} (x y : A) → Some x ≡ Some y → x ≡ y
-some_two x y e = cc
-
 few_arguments : (hs : List TypedHelper) (i : ℕ) (g : Signature) (n : ℕ) (o : Option TypedHelper) → slice_get hs i ≡ o → FewParams hs → option_map signature_of o ≡ Some g → n ≡ length g.params → FewArguments o n
 unfolding FewParams
 few_arguments hs i g n None is few e l = tt
-few_arguments hs i g n (Some h) is few e l = omega (arith, few i h is, l, ap (λ (s : Signature). length s.params) (some_two (signature_of h) g e), length-map h.params (λ (q : Param). q.ty))
+few_arguments hs i g n (Some h) is few e l = omega (arith, few i h is, l, ap (λ (s : Signature). length s.params) (same_some (signature_of h) g e), length-map h.params (λ (q : Param). q.ty))
 
 call_few : (hs : List TypedHelper) → FewParams hs → (may : Bool) (i : ℕ) (ts : List Ty) (t : Ty) (n : ℕ) → IsCall (map signature_of hs) may i ts t → n ≡ length ts → FewArguments (slice_get hs i) n
 call_few hs few may i ts t n (stands, (g, e, p, r)) l = few_arguments hs i g n (slice_get hs i) refl few (sym (slice_get-map signature_of hs i) ∙ e) (l ∙ ap length p)
@@ -130,7 +127,7 @@ module _ (hs : List TypedHelper) (few : FewParams hs) (k : Objects) (b : ℕ) (r
 
 lawful_at : (gs : List Signature) (hs : List TypedHelper) (i : ℕ) (h : TypedHelper) → LawfulHelpers gs hs → slice_get hs i ≡ Some h → LawfulHelper (gs ++ map signature_of (take i hs)) h
 lawful_at gs [] i h l is = absurd (omega (arith, slice_get_within [] i h is))
-lawful_at gs (g ∷ hs) zero h l is = subst (λ z. LawfulHelper z h) (sym (append-nil gs)) (subst (LawfulHelper gs) (some_two g h is) l.0)
+lawful_at gs (g ∷ hs) zero h l is = subst (λ z. LawfulHelper z h) (sym (append-nil gs)) (subst (LawfulHelper gs) (same_some g h is) l.0)
 lawful_at gs (g ∷ hs) (suc i) h l is = subst (λ z. LawfulHelper z h) (append_assoc gs (signature_of g ∷ []) (map signature_of (take i hs))) (lawful_at (gs ++ signature_of g ∷ []) hs i h l.1 is)
 
 few_params : (hs : List TypedHelper) → LawfulHelpers [] hs → FewParams hs

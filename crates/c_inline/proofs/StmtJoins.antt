@@ -1,5 +1,6 @@
 -- What each call made joins to what the whole makes: statements.
 use Rattle.std.proofs.Common.{◌≡◌, ℕ, ◌+◌, ◌<◌, ◌≤◌, List, [], ◌∷◌, ◌++◌, length, get_or, drop, refl, sym, ◌∙◌, ap, subst, arith, append_assoc, append-nil, Option, Some, None}
+use Rattle.std.proofs.Math.ListN.{drop_of_length-le}
 use Rattle.std.specs.Prelude.{Bool}
 use Rattle.el_base.specs.declared.span.Span.{Span}
 use Rattle.el_base.specs.declared.ty.Ty.{Ty}
@@ -16,14 +17,10 @@ use Rattle.c_ast.specs.declared.program.ProgStmt.{ProgStmt}
 use Rattle.c_ast.specs.declared.program.ProgStmtKind.TheVariants as act
 use Rattle.c_ast.specs.declared.program.TypedHelper.{TypedHelper}
 use Rattle.c_calls.specs.Inlined.{OutStmt, OutStmts, rest_of, behind, target_to}
-use Rattle.c_inline.specs.Making.{out_of, outs_of, option_of, stmt_of, stmts_of, held_of, AreOut, IsOption, IsStmt, IsHeld, AreStmts, StmtsGoOn}
+use Rattle.c_inline.specs.Making.{out_of, outs_of, option_of, stmt_of, stmts_of, held_of, Makes, AreOut, IsOption, IsStmt, Becomes, IsHeld, AreStmts, StmtsGoOn}
 use Rattle.c_inline.proofs.Parts.{block_stmt, declare_stmt, return_stmt, assign_stmt, step_stmt, if_stmt, while_stmt, do_stmt, for_stmt, alone, stmt_block, stmt_declare, stmt_return, stmt_assign, stmt_step, stmt_if, stmt_while, stmt_do, stmt_for}
 use Rattle.c_inline.proofs.Fits.{longer, from_place}
-use Rattle.c_inline.proofs.Joins.{Makes, then, past, at_number}
-
--- a statement was made into x
-abbrev pub Becomes : List TypedHelper → ℕ → ProgStmt → List Ty → List Ty → TypedStmt → Type 0
-Becomes hs b s v v2 x = IsStmt (stmt_of hs b (length v) s) s.at v v2 x
+use Rattle.c_inline.proofs.Joins.{then, at_number}
 
 as_stmt : (o o2 : OutStmt) (at : Span) (v v2 : List Ty) (x : TypedStmt) → o ≡ o2 → IsStmt o2 at v v2 x → IsStmt o at v v2 x
 as_stmt o o2 at v v2 x e p = subst (λ z. IsStmt z at v v2 x) (sym e) p
@@ -174,7 +171,7 @@ stmts_next hs n ss i s all b0 v0 b v x b2 v2 h is g p be =
 
 pub stmts_end : (hs : List TypedHelper) (n : ℕ) (ss : List ProgStmt) (i m : ℕ) (all : OutStmts) (b0 : List TypedStmt) (v0 : List Ty) (b : List TypedStmt) (v : List Ty) → length ss ≤ i → StmtsGoOn (stmts_of hs n m (drop i ss)) all b0 v0 b v → AreStmts all b0 v0 b v
 stmts_end hs n ss i m all b0 v0 b v h g =
-    let none : stmts_of hs n m (drop i ss) ≡ record { stmts = []; types = [] } = ap (stmts_of hs n m) (past ss i h) in
+    let none : stmts_of hs n m (drop i ss) ≡ record { stmts = []; types = [] } = ap (stmts_of hs n m) (drop_of_length-le ss h) in
     record {
       set = sym (append-nil b) ∙ ap (λ (m : OutStmts). b ++ m.stmts) (sym none) ∙ g.set;
       made = sym (append-nil v) ∙ ap (λ (m : OutStmts). v ++ m.types) (sym none) ∙ g.made;

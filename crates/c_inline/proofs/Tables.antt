@@ -3,21 +3,18 @@ use Rattle.std.proofs.Common.{◌≡◌, ℕ, zero, suc, ◌+◌, ◌<◌, ◌�
 use Rattle.std.specs.Prelude.{slice_get}
 use Rattle.std.proofs.lemmas.Option.{slice_get_within, slice_get_past, none-some}
 use Rattle.c_ast.specs.declared.program.TypedHelper.{TypedHelper}
+use Rattle.c_meaning.proofs.LawfulExpressions.{get_last}
 use Rattle.c_calls.specs.Inlined.{Writing, writing, writings, written_by}
 use Rattle.c_inline.specs.Making.{AllNumbers, HelperNumbers, writings_of}
 use Rattle.c_inline.proofs.Weights.{helper_weight, weights, weights_of}
 
-some_one : {A : Type 0} (x y : A) → Some x ≡ Some y → x ≡ y
-some_one x y e = cc
+pub same_some : {A : Type 0} (x y : A) → Some x ≡ Some y → x ≡ y
+same_some x y e = cc
 
 get_first : {A : Type 0} (xs ys : List A) (i : ℕ) → i < length xs → slice_get (xs ++ ys) i ≡ slice_get xs i
 get_first [] ys i h = absurd (omega (arith, h))
 get_first (x ∷ xs) ys zero h = refl
 get_first (x ∷ xs) ys (suc i) h = get_first xs ys i (omega (arith, h))
-
-get_last : {A : Type 0} (xs : List A) (x : A) → slice_get (xs ++ x ∷ []) (length xs) ≡ Some x
-get_last [] x = refl
-get_last (y ∷ xs) x = let e : length (y ∷ xs) ≡ suc (length xs) = omega arith in ap (slice_get (y ∷ (xs ++ x ∷ []))) e ∙ get_last xs x
 
 none_past : {A : Type 0} (xs : List A) (i : ℕ) → slice_get xs i ≡ None → length xs ≤ i
 none_past [] i e = omega arith
@@ -36,7 +33,7 @@ module _ {A : Type 0} (step : List A → TypedHelper → A) (table : List A → 
       let next = ps ++ step ps g ∷ [] in
       let e : length ps + 0 ≡ length ps = omega arith in
       ap (slice_get (table ps (g ∷ hs))) e ∙ ap (λ l. slice_get l (length ps)) (more ps g hs) ∙ kept next hs (length ps) (omega (arith, length-append ps (step ps g ∷ []))) ∙ get_last ps (step ps g)
-      ∙ ap (λ x. Some (step ps x)) (some_one g h is) ∙ ap (λ l. Some (step l h)) (sym (end ps))
+      ∙ ap (λ x. Some (step ps x)) (same_some g h is) ∙ ap (λ l. Some (step l h)) (sym (end ps))
   entry ps (g ∷ hs) (suc i) h is =
       let next = ps ++ step ps g ∷ [] in
       let e : length ps + suc i ≡ length next + i = omega (arith, length-append ps (step ps g ∷ [])) in

@@ -18,7 +18,6 @@ use Rattle.c_ast.specs.declared.program.ProgStmtKind.{ProgStmtKind, Row_of-ProgS
 use Rattle.c_ast.specs.declared.program.ProgStmtKind as act
 use Rattle.c_ast.specs.declared.program.TypedHelper.{TypedHelper}
 use Rattle.c_calls.specs.Lawful.{row_length}
-use Rattle.c_inline.specs.declared.walk.Inliner.{Inliner}
 use Rattle.c_calls.specs.Inlined.{writing, Out, Outs, OutOption, OutStmt, OutStmts, OutHeld, Writing, Written, inline_of, inline_all, inline_option, inline_stmt, inline_list, writings, written_by}
 
 -- ---- numbers that fit
@@ -188,9 +187,9 @@ pub record IsOut (o : Out) (ty : Ty) (at : Span) (before : List TypedStmt) (vars
   pub set : before2 ≡ before ++ o.before
   pub made : vars2 ≡ vars ++ o.types
 
--- x is what an inliner leaves of e
-abbrev pub Leaves : Inliner → ProgExpr → List TypedStmt → List Ty → List TypedStmt → List Ty → TypedExpr → Type 0
-Leaves w e before vars before2 vars2 x = IsOut (out_of w.helpers.now w.base (length vars) e) e.ty e.at before vars before2 vars2 x
+-- x is what is left of e
+abbrev pub Makes : List TypedHelper → ℕ → ProgExpr → List TypedStmt → List Ty → List TypedStmt → List Ty → TypedExpr → Type 0
+Makes hs b e before vars before2 vars2 x = IsOut (out_of hs b (length vars) e) e.ty e.at before vars before2 vars2 x
 
 pub record AreOut (o : Outs) (before : List TypedStmt) (vars : List Ty) (before2 : List TypedStmt) (vars2 : List Ty) (xs : List TypedExpr) : Type 0 where
   pub rest : xs ≡ o.exprs
@@ -224,9 +223,9 @@ pub record IsStmt (o : OutStmt) (at : Span) (vars vars2 : List Ty) (x : TypedStm
   pub rest : x ≡ act_at o.kind at
   pub made : vars2 ≡ vars ++ o.types
 
--- an inliner makes x of s
-abbrev pub Becomes : Inliner → ProgStmt → List Ty → List Ty → TypedStmt → Type 0
-Becomes w s vars vars2 x = IsStmt (stmt_of w.helpers.now w.base (length vars) s) s.at vars vars2 x
+-- s becomes x
+abbrev pub Becomes : List TypedHelper → ℕ → ProgStmt → List Ty → List Ty → TypedStmt → Type 0
+Becomes hs b s vars vars2 x = IsStmt (stmt_of hs b (length vars) s) s.at vars vars2 x
 
 pub record IsHeld (o : OutHeld) (vars vars2 : List Ty) (r : Option TypedStmt) : Type 0 where
   pub rest : r ≡ o.stmt

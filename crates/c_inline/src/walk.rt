@@ -19,7 +19,7 @@ ghost use Rattle.c_inline.specs.Making.{
   IsHeld,
   IsOption,
   IsWritten,
-  Leaves,
+  Makes,
   ObjectNumbers,
   OptionFits,
   StmtFits,
@@ -63,7 +63,8 @@ impl<'a> Inliner<'a> {
     ) -> Result<TypedExpr, Memory>
         requires { ExprFits self.now.helpers.now self.now.base vars.old e.now }
         ensures { IfOk result
-            (Leaves self.now e.now before.old vars.old before.new vars.new) }
+            (Makes self.now.helpers.now self.now.base e.now
+            before.old vars.old before.new vars.new) }
     {
         match &e.kind {
             ProgExprKind::Number(value) => Ok(left_of(e, TypedExprKind::Number(*value))),
@@ -139,7 +140,8 @@ impl<'a> Inliner<'a> {
     ) -> Result<Boxed<TypedExpr>, Memory>
         requires { ExprFits self.now.helpers.now self.now.base vars.old e.now }
         ensures { IfOk result
-            (Leaves self.now e.now before.old vars.old before.new vars.new) }
+            (Makes self.now.helpers.now self.now.base e.now
+            before.old vars.old before.new vars.new) }
     {
         let rest = self.expr(e, before, vars)?;
         let boxed = Boxed::new(self.alloc, rest)?;
@@ -336,7 +338,8 @@ impl<'a> Inliner<'a> {
     #[cycle(walk)]
     fn stmt(&self, stmt: &ProgStmt, vars: &mut List<Ty>) -> Result<TypedStmt, Memory>
         requires { StmtFits self.now.helpers.now self.now.base vars.old stmt.now }
-        ensures { IfOk result (Becomes self.now stmt.now vars.old vars.new) }
+        ensures { IfOk result
+            (Becomes self.now.helpers.now self.now.base stmt.now vars.old vars.new) }
     {
         match &stmt.kind {
             ProgStmtKind::Block(list) => {
@@ -393,7 +396,8 @@ impl<'a> Inliner<'a> {
     #[cycle(walk)]
     fn boxed_stmt(&self, one: &ProgStmt, vars: &mut List<Ty>) -> Result<Boxed<TypedStmt>, Memory>
         requires { StmtFits self.now.helpers.now self.now.base vars.old one.now }
-        ensures { IfOk result (Becomes self.now one.now vars.old vars.new) }
+        ensures { IfOk result
+            (Becomes self.now.helpers.now self.now.base one.now vars.old vars.new) }
     {
         let made = self.stmt(one, vars)?;
         let boxed = Boxed::new(self.alloc, made)?;
@@ -430,7 +434,8 @@ impl<'a> Inliner<'a> {
     ) -> Result<TypedStmt, Memory>
         requires is { stmt.now.kind ≡ act.Declare var init.now }
         requires fits { StmtFits self.now.helpers.now self.now.base vars.old stmt.now }
-        ensures { IfOk result (Becomes self.now stmt.now vars.old vars.new) }
+        ensures { IfOk result
+            (Becomes self.now.helpers.now self.now.base stmt.now vars.old vars.new) }
     {
         let mut before = List::new(self.alloc);
         let init = self.option(init, &mut before, vars)?;
@@ -448,7 +453,8 @@ impl<'a> Inliner<'a> {
     ) -> Result<TypedStmt, Memory>
         requires is { stmt.now.kind ≡ act.Return value.now }
         requires fits { StmtFits self.now.helpers.now self.now.base vars.old stmt.now }
-        ensures { IfOk result (Becomes self.now stmt.now vars.old vars.new) }
+        ensures { IfOk result
+            (Becomes self.now.helpers.now self.now.base stmt.now vars.old vars.new) }
     {
         let mut before = List::new(self.alloc);
         let value = self.option(value, &mut before, vars)?;
@@ -467,7 +473,8 @@ impl<'a> Inliner<'a> {
     ) -> Result<TypedStmt, Memory>
         requires is { stmt.now.kind ≡ act.Assign target.now op value.now }
         requires fits { StmtFits self.now.helpers.now self.now.base vars.old stmt.now }
-        ensures { IfOk result (Becomes self.now stmt.now vars.old vars.new) }
+        ensures { IfOk result
+            (Becomes self.now.helpers.now self.now.base stmt.now vars.old vars.new) }
     {
         let mut before = List::new(self.alloc);
         let list = target.indices.as_slice();
@@ -488,7 +495,8 @@ impl<'a> Inliner<'a> {
     ) -> Result<TypedStmt, Memory>
         requires is { stmt.now.kind ≡ act.Step target.now up }
         requires fits { StmtFits self.now.helpers.now self.now.base vars.old stmt.now }
-        ensures { IfOk result (Becomes self.now stmt.now vars.old vars.new) }
+        ensures { IfOk result
+            (Becomes self.now.helpers.now self.now.base stmt.now vars.old vars.new) }
     {
         let mut before = List::new(self.alloc);
         let list = target.indices.as_slice();
@@ -532,7 +540,8 @@ impl<'a> Inliner<'a> {
     ) -> Result<TypedStmt, Memory>
         requires is { stmt.now.kind ≡ act.If cond.now then.now other.now }
         requires fits { StmtFits self.now.helpers.now self.now.base vars.old stmt.now }
-        ensures { IfOk result (Becomes self.now stmt.now vars.old vars.new) }
+        ensures { IfOk result
+            (Becomes self.now.helpers.now self.now.base stmt.now vars.old vars.new) }
     {
         let mut before = List::new(self.alloc);
         let cond = self.expr(cond, &mut before, vars)?;
@@ -553,7 +562,8 @@ impl<'a> Inliner<'a> {
     ) -> Result<TypedStmt, Memory>
         requires is { stmt.now.kind ≡ act.While cond.now body.now }
         requires fits { StmtFits self.now.helpers.now self.now.base vars.old stmt.now }
-        ensures { IfOk result (Becomes self.now stmt.now vars.old vars.new) }
+        ensures { IfOk result
+            (Becomes self.now.helpers.now self.now.base stmt.now vars.old vars.new) }
     {
         let mut before = List::new(self.alloc);
         let cond = self.expr(cond, &mut before, vars)?;
@@ -571,7 +581,8 @@ impl<'a> Inliner<'a> {
     ) -> Result<TypedStmt, Memory>
         requires is { stmt.now.kind ≡ act.DoWhile body.now cond.now }
         requires fits { StmtFits self.now.helpers.now self.now.base vars.old stmt.now }
-        ensures { IfOk result (Becomes self.now stmt.now vars.old vars.new) }
+        ensures { IfOk result
+            (Becomes self.now.helpers.now self.now.base stmt.now vars.old vars.new) }
     {
         let body = self.boxed_stmt(body, vars)?;
         let mut before = List::new(self.alloc);
@@ -591,7 +602,8 @@ impl<'a> Inliner<'a> {
     ) -> Result<TypedStmt, Memory>
         requires is { stmt.now.kind ≡ act.For first.now cond.now step.now body.now }
         requires fits { StmtFits self.now.helpers.now self.now.base vars.old stmt.now }
-        ensures { IfOk result (Becomes self.now stmt.now vars.old vars.new) }
+        ensures { IfOk result
+            (Becomes self.now.helpers.now self.now.base stmt.now vars.old vars.new) }
     {
         let mut opening = List::new(self.alloc);
         self.stmts(first, &mut opening, vars)?;
