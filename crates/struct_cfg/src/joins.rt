@@ -8,30 +8,24 @@ ghost use Rattle.struct_cfg.specs.Operators.{converted, is_narrow, both_laid, ei
 ghost use Rattle.struct_cfg.specs.Code.{IsLaid, HasRoom};
 
 use crate::operators::{
-    both_narrow, both_wide, by_type2, convert, either_narrow, either_wide, is_narrow, put,
+    Operand, both_narrow, both_wide, by_type2, convert, either_narrow, either_wide, is_narrow, put,
 };
 use c_ast::Binary;
 use el_base::{List, Memory, Op2, Ty};
 use ir::Instr;
 
 /// `a && b`.
-fn both(
-    steps: &mut List<Instr>,
-    env: &[u32],
-    left: Ty,
-    right: Ty,
-    a: u32,
-    b: u32,
-) -> Result<u32, Memory>
+fn both(steps: &mut List<Instr>, env: &[u32], left: Operand, right: Operand) -> Result<u32, Memory>
     requires { HasRoom env.now steps.old 10 }
     ensures { IfOk result
-        (IsLaid (both_laid (is_narrow left && is_narrow right) left right a b)
+        (IsLaid (both_laid (is_narrow left.ty && is_narrow right.ty)
+        left.ty right.ty left.value right.value)
         env.now steps.old steps.new) }
 {
-    if is_narrow(left) && is_narrow(right) {
-        both_narrow(steps, env, left, right, a, b)
+    if is_narrow(left.ty) && is_narrow(right.ty) {
+        both_narrow(steps, env, left, right)
     } else {
-        both_wide(steps, env, left, right, a, b)
+        both_wide(steps, env, left, right)
     }
 }
 
@@ -39,20 +33,19 @@ fn both(
 fn either(
     steps: &mut List<Instr>,
     env: &[u32],
-    left: Ty,
-    right: Ty,
-    a: u32,
-    b: u32,
+    left: Operand,
+    right: Operand,
 ) -> Result<u32, Memory>
     requires { HasRoom env.now steps.old 10 }
     ensures { IfOk result
-        (IsLaid (either_laid (is_narrow left && is_narrow right) left right a b)
+        (IsLaid (either_laid (is_narrow left.ty && is_narrow right.ty)
+        left.ty right.ty left.value right.value)
         env.now steps.old steps.new) }
 {
-    if is_narrow(left) && is_narrow(right) {
-        either_narrow(steps, env, left, right, a, b)
+    if is_narrow(left.ty) && is_narrow(right.ty) {
+        either_narrow(steps, env, left, right)
     } else {
-        either_wide(steps, env, left, right, a, b)
+        either_wide(steps, env, left, right)
     }
 }
 
@@ -61,18 +54,17 @@ fn shift(
     steps: &mut List<Instr>,
     env: &[u32],
     op: Op2,
-    left: Ty,
-    right: Ty,
-    a: u32,
-    b: u32,
+    left: Operand,
+    right: Operand,
 ) -> Result<u32, Memory>
     requires { HasRoom env.now steps.old 2 }
     ensures { IfOk result
-        (IsLaid (after (converted right left b) (λ c. one_step (instr.Two op a c)))
+        (IsLaid (after (converted right.ty left.ty right.value)
+        (λ c. one_step (instr.Two op left.value c)))
         env.now steps.old steps.new) }
 {
-    let amount = convert(steps, env, right, left, b)?;
-    let value = put(steps, env, Instr::Two(op, a, amount))?;
+    let amount = convert(steps, env, right.ty, left.ty, right.value)?;
+    let value = put(steps, env, Instr::Two(op, left.value, amount))?;
     Ok(value)
 }
 
@@ -89,16 +81,21 @@ pub(crate) fn join(
     requires { HasRoom env.now steps.old (2 * (1 + operator_price op)) }
     ensures { IfOk result (IsLaid (joined op left right a b) env.now steps.old steps.new) }
 {
+    let first = Operand { ty: left, value: a };
+    let second = Operand {
+        ty: right,
+        value: b,
+    };
     match op {
-        Binary::Both => both(steps, env, left, right, a, b),
-        Binary::Either => either(steps, env, left, right, a, b),
+        Binary::Both => both(steps, env, first, second),
+        Binary::Either => either(steps, env, first, second),
         Binary::Shl => {
             let op = by_type2(left, Op2::Shl32, Op2::Shl32, Op2::Shl64, Op2::Shl64);
-            shift(steps, env, op, left, right, a, b)
+            shift(steps, env, op, first, second)
         }
         Binary::Shr => {
             let op = by_type2(left, Op2::Shrs32, Op2::Shru32, Op2::Shrs64, Op2::Shru64);
-            shift(steps, env, op, left, right, a, b)
+            shift(steps, env, op, first, second)
         }
         Binary::Gt => {
             let op = by_type2(left, Op2::Lts32, Op2::Ltu32, Op2::Lts64, Op2::Ltu64);

@@ -11,6 +11,13 @@ use c_ast::{Binary, Unary};
 use el_base::{List, Memory, Op1, Op2, Ty};
 use ir::Instr;
 
+/// A value that is there, and its type.
+#[derive(Clone, Copy)]
+pub(crate) struct Operand {
+    pub ty: Ty,
+    pub value: u32,
+}
+
 /// Puts one step behind the others: its value is the next one.
 pub(crate) fn put(steps: &mut List<Instr>, env: &[u32], step: Instr) -> Result<u32, Memory>
     requires { HasRoom env.now steps.old 1 }
@@ -178,18 +185,16 @@ pub(crate) fn is_narrow(ty: Ty) -> bool
 pub(crate) fn both_narrow(
     steps: &mut List<Instr>,
     env: &[u32],
-    left: Ty,
-    right: Ty,
-    a: u32,
-    b: u32,
+    left: Operand,
+    right: Operand,
 ) -> Result<u32, Memory>
     requires { HasRoom env.now steps.old 7 }
     ensures laid { IfOk result
-        (IsLaid (both_laid true left right a b)
+        (IsLaid (both_laid true left.ty right.ty left.value right.value)
         env.now steps.old steps.new) }
 {
-    let f = flag(steps, env, left, a)?;
-    let g = flag(steps, env, right, b)?;
+    let f = flag(steps, env, left.ty, left.value)?;
+    let g = flag(steps, env, right.ty, right.value)?;
     let chosen = put(
         steps,
         env,
@@ -208,18 +213,16 @@ pub(crate) fn both_narrow(
 pub(crate) fn either_narrow(
     steps: &mut List<Instr>,
     env: &[u32],
-    left: Ty,
-    right: Ty,
-    a: u32,
-    b: u32,
+    left: Operand,
+    right: Operand,
 ) -> Result<u32, Memory>
     requires { HasRoom env.now steps.old 7 }
     ensures laid { IfOk result
-        (IsLaid (either_laid true left right a b)
+        (IsLaid (either_laid true left.ty right.ty left.value right.value)
         env.now steps.old steps.new) }
 {
-    let f = flag(steps, env, left, a)?;
-    let g = flag(steps, env, right, b)?;
+    let f = flag(steps, env, left.ty, left.value)?;
+    let g = flag(steps, env, right.ty, right.value)?;
     let chosen = put(
         steps,
         env,
@@ -238,18 +241,16 @@ pub(crate) fn either_narrow(
 pub(crate) fn both_wide(
     steps: &mut List<Instr>,
     env: &[u32],
-    left: Ty,
-    right: Ty,
-    a: u32,
-    b: u32,
+    left: Operand,
+    right: Operand,
 ) -> Result<u32, Memory>
     requires { HasRoom env.now steps.old 6 }
     ensures laid { IfOk result
-        (IsLaid (both_laid false left right a b)
+        (IsLaid (both_laid false left.ty right.ty left.value right.value)
         env.now steps.old steps.new) }
 {
-    let f = zero_test(steps, env, left, a)?;
-    let g = zero_test(steps, env, right, b)?;
+    let f = zero_test(steps, env, left.ty, left.value)?;
+    let g = zero_test(steps, env, right.ty, right.value)?;
     let chosen = put(
         steps,
         env,
@@ -268,18 +269,16 @@ pub(crate) fn both_wide(
 pub(crate) fn either_wide(
     steps: &mut List<Instr>,
     env: &[u32],
-    left: Ty,
-    right: Ty,
-    a: u32,
-    b: u32,
+    left: Operand,
+    right: Operand,
 ) -> Result<u32, Memory>
     requires { HasRoom env.now steps.old 6 }
     ensures laid { IfOk result
-        (IsLaid (either_laid false left right a b)
+        (IsLaid (either_laid false left.ty right.ty left.value right.value)
         env.now steps.old steps.new) }
 {
-    let f = zero_test(steps, env, left, a)?;
-    let g = zero_test(steps, env, right, b)?;
+    let f = zero_test(steps, env, left.ty, left.value)?;
+    let g = zero_test(steps, env, right.ty, right.value)?;
     let chosen = put(
         steps,
         env,

@@ -7,4 +7,4 @@ use Rattle.struct_cfg.proofs.operators.either_wide.Goals as goal
 
 pub returns : goal.returns
 returns c =
-    record { laid = sides_laid (zero_test c.args.left c.args.a) (zero_test c.args.right c.args.b) first_then (λ s. one_step (One Zero32 s)) c.args.env.now c.args.steps.now _ _ _ _ _ _ _ _ c.in_ok-f.ensures.laid c.in_ok-g.ensures.laid c.in_ok-chosen.ensures.laid c.in_ok-truth.ensures.laid }
+    record { laid = sides_laid (zero_test c.args.left.ty c.args.left.value) (zero_test c.args.right.ty c.args.right.value) first_then (λ s. one_step (One Zero32 s)) c.args.env.now c.args.steps.now _ _ _ _ _ _ _ _ c.in_ok-f.ensures.laid c.in_ok-g.ensures.laid c.in_ok-chosen.ensures.laid c.in_ok-truth.ensures.laid }
