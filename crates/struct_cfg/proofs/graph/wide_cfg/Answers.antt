@@ -47,48 +47,18 @@ returns-clause-graph c =
 pub returns-clause-fit : goal.returns-clause-fit
 returns-clause-fit c =
     let f = c.args.normal.now in
-    let g : VarGraph = record {
-      name = c.in_ok-copy.field-0;
-      scalars = c.in_ok-scalars.field-0;
-      arrays = c.in_ok-flat_arrays.field-0;
-      result = f.result;
-      vars = c.in_ok-widths.field-0;
-      blocks = c.in_ok-blocks.field-0;
-    } in
-    let made : g ≡ form_graph f =
-    graph_made f g c.in_ok-copy.ensures (c.in_ok-scalars.ensures ∙ ap scalars_of c.as_slice.ensures) (c.in_ok-flat_arrays.ensures ∙ ap (map flat) c.as_slice-2.ensures) refl
-    (c.in_ok-widths.ensures ∙ ap (map ty_width) c.as_slice-3.ensures) c.in_ok-blocks.ensures in
+    let made = returns-clause-graph c in
     subst IsVarGraph (sym made) (form_fits f c.requires.lawful)
 
 pub returns-clause-share : goal.returns-clause-share
 returns-clause-share c =
     let f = c.args.normal.now in
-    let g : VarGraph = record {
-      name = c.in_ok-copy.field-0;
-      scalars = c.in_ok-scalars.field-0;
-      arrays = c.in_ok-flat_arrays.field-0;
-      result = f.result;
-      vars = c.in_ok-widths.field-0;
-      blocks = c.in_ok-blocks.field-0;
-    } in
-    let made : g ≡ form_graph f =
-    graph_made f g c.in_ok-copy.ensures (c.in_ok-scalars.ensures ∙ ap scalars_of c.as_slice.ensures) (c.in_ok-flat_arrays.ensures ∙ ap (map flat) c.as_slice-2.ensures) refl
-    (c.in_ok-widths.ensures ∙ ap (map ty_width) c.as_slice-3.ensures) c.in_ok-blocks.ensures in
+    let made = returns-clause-graph c in
     let laws = c.graphs_follow_their_forms.ensures in
-    shared f g made c.requires.lawful laws.header laws.vars laws.runs laws.variables
+    shared f _ made c.requires.lawful laws.header laws.vars laws.runs laws.variables
 
 pub returns-clause-sizes : goal.returns-clause-sizes
 returns-clause-sizes c =
     let f = c.args.normal.now in
-    let g : VarGraph = record {
-      name = c.in_ok-copy.field-0;
-      scalars = c.in_ok-scalars.field-0;
-      arrays = c.in_ok-flat_arrays.field-0;
-      result = f.result;
-      vars = c.in_ok-widths.field-0;
-      blocks = c.in_ok-blocks.field-0;
-    } in
-    let made : g ≡ form_graph f =
-    graph_made f g c.in_ok-copy.ensures (c.in_ok-scalars.ensures ∙ ap scalars_of c.as_slice.ensures) (c.in_ok-flat_arrays.ensures ∙ ap (map flat) c.as_slice-2.ensures) refl
-    (c.in_ok-widths.ensures ∙ ap (map ty_width) c.as_slice-3.ensures) c.in_ok-blocks.ensures in
+    let made = returns-clause-graph c in
     subst (λ (x : VarGraph). CfgSizes x (form_sizes f)) (sym made) (sizes_kept f)
