@@ -1,8 +1,10 @@
 #!/usr/bin/env python3
-"""Times the proved program by cycles, by the plain runner and by workers, and tells the most memory of each run: a kernel of 20
-recurrences in one loop, each with a loop of units of its own, `examples/matrix`, a loop over an array of 2^20 elements, and a net
-of 983,044 units. Then it counts, where valgrind is there, what sweeping and gathering cost. A run by the plain runner is `resume`
-of the state before the first firing.
+"""Times runs by cycles, by the plain runner and by workers: nets of 100 and of 1,000 recurrences of 100 operations each in one loop,
+one chain of 10,000 operations behind a loop, a kernel of 20 recurrences, 20 loops in a row, a histogram, `examples/matrix`, a loop
+over an array of 2^20 elements, and a net of 983,044 units. It tells how many channels go between two and between four workers, the
+seconds of a run by cycles, and how many times as long each other way takes, the least of some runs each; and the most memory of
+each. Then it counts, where valgrind is there, what sweeping and gathering cost. A run by the plain runner is `resume` of the state
+before the first firing.
 
 usage: tools/measure/workers.py [PROGRAM]"""
 import pathlib
@@ -14,10 +16,12 @@ import tempfile
 import time
 
 import load
+import nets
 
 TOP = pathlib.Path(__file__).resolve().parents[2]
 RECURRENCES, TURNS, ELEMENTS, OUTPUTS, EACH = 20, 16_000, 1 << 20, 65_536, 14
 LIMIT = "16000000"
+HISTOGRAM = "void hist(int32_t n, int32_t x[1024], int32_t h[64]) { for (int32_t i = 0; i < n; i++) h[x[i]] += 1; }\n"
 
 
 def recurrences():
@@ -26,6 +30,14 @@ def recurrences():
     turn = " ".join(f"x{k} = x{k} * {2 * k + 3} + 1;" for k in range(RECURRENCES))
     total = " ^ ".join(f"x{k}" for k in range(RECURRENCES))
     return f"#include <stdint.h>\nuint32_t f(uint32_t n) {{ {first}\n for (uint32_t i = 0; i < n; i++) {{ {turn} }}\n return {total}; }}\n"
+
+
+def loops():
+    """A kernel of 20 loops, one after another."""
+    rows = "\n".join(f" for (uint32_t i{k} = 0; i{k} < n; i{k}++) s{k} = s{k} * {2 * k + 3} + i{k};" for k in range(20))
+    first = " ".join(f"uint32_t s{k} = {k};" for k in range(20))
+    total = " ^ ".join(f"s{k}" for k in range(20))
+    return f"#include <stdint.h>\nuint32_t f(uint32_t n) {{ {first}\n{rows}\n return {total}; }}\n"
 
 
 def compiled(elastic, folder, name, kernel):
@@ -59,16 +71,20 @@ def put_row(elastic, folder, name, what, numbers, runs):
     net, inputs = f"{name}.net", f"{name}.in"
     ways = [["run", net, inputs], plain(elastic, folder, net, inputs, name)]
     ways += [["run", net, inputs, "--workers", str(number)] for number in numbers]
-    wanted, cells = None, []
+    wanted, cells, by_cycles = None, [], None
     for words in ways:
         ran = [measured(elastic, [*words, "--count", "--limit", LIMIT], folder) for _ in range(runs)]
         wanted = wanted or ran[0][0]
         if any(out != wanted for out, _, _ in ran):
             sys.exit(f"{name}: {' '.join(words)} prints something else")
-        cells.append(f"{min(seconds for _, seconds, _ in ran):.2f} s, {max(memory for _, _, memory in ran):,.0f} MB")
+        seconds, memory = min(seconds for _, seconds, _ in ran), max(memory for _, _, memory in ran)
+        cells.append(f"{seconds / by_cycles:.2f}, {memory:,.0f} MB" if by_cycles else f"{seconds:.2f} s, {memory:,.0f} MB")
+        by_cycles = by_cycles or seconds
     firings = int(re.search(rb"# firings (\d+)", wanted).group(1))
+    text = (folder / net).read_text()
+    between = ", ".join(f"{nets.crossing_channels(text, number):,}" for number in (2, 4))
     cells += ["not tried"] * (6 - len(cells))
-    print(f"| {what} | {firings:,} | {' | '.join(cells)} |", flush=True)
+    print(f"| {what} | {firings:,} | {between} | {' | '.join(cells)} |", flush=True)
 
 
 def counted(elastic, folder, words, *flags):
@@ -102,6 +118,14 @@ def tell(elastic):
     """Prints the tables."""
     with tempfile.TemporaryDirectory() as name:
         folder = pathlib.Path(name)
+        for name, text, inputs in (("rec100", nets.recurrences(100, 100), "n = 900\nc = 7\n"), ("rec1000", nets.recurrences(1_000, 100), "n = 90\nc = 7\n"),
+                                   ("chain", nets.pipeline(10_000), "n = 900\n")):
+            (folder / f"{name}.net").write_text(text)
+            (folder / f"{name}.in").write_text(inputs)
+        compiled(elastic, folder, "loops", loops())
+        (folder / "loops.in").write_text(f"n = {TURNS // 20}\n")
+        compiled(elastic, folder, "hist", HISTOGRAM)
+        (folder / "hist.in").write_text(nets.histogram_inputs((folder / "hist.net").read_text(), 1_024))
         compiled(elastic, folder, "twenty", recurrences())
         (folder / "twenty.in").write_text(f"n = {TURNS}\n")
         compiled(elastic, folder, "matrix", (TOP / "examples/matrix/kernel.c").read_text())
@@ -110,7 +134,12 @@ def tell(elastic):
         (folder / "array.in").write_text(f"n = 1000\na = {' '.join('1' * ELEMENTS)}\n")
         (folder / "wide.net").write_text(load.wide_net(OUTPUTS, EACH, load.NETLIST))
         (folder / "wide.in").write_text("a = 5\n")
-        print("| Net | Firings | By cycles | Plain runner | 1 worker | 2 | 4 | 64 |\n|---|---|---|---|---|---|---|---|")
+        print("| Net | Firings | Channels between 2, 4 | By cycles | Plain runner | 1 worker | 2 | 4 | 64 |\n|---|---|---|---|---|---|---|---|---|")
+        put_row(elastic, folder, "rec100", "100 recurrences of 100 operations", (1, 2, 4, 64), 5)
+        put_row(elastic, folder, "rec1000", "1,000 recurrences of 100 operations", (1, 2, 4, 64), 5)
+        put_row(elastic, folder, "chain", "a chain of 10,000 operations", (1, 2, 4, 64), 5)
+        put_row(elastic, folder, "loops", f"20 loops of {TURNS // 20:,} turns in a row", (1, 2, 4, 64), 5)
+        put_row(elastic, folder, "hist", "a histogram of 1,024 turns", (1, 2, 4, 64), 5)
         put_row(elastic, folder, "twenty", f"{RECURRENCES} recurrences in a loop of {TURNS:,} turns", (1, 2, 4, 64), 3)
         put_row(elastic, folder, "matrix", "`examples/matrix`", (1, 2, 4, 64), 5)
         put_row(elastic, folder, "array", "1,000 turns of a loop over 2^20 elements", (1, 2, 4, 64), 3)
