@@ -1,14 +1,14 @@
 -- The merged log is the one list of all entries in ascending order.
-use Rattle.std.proofs.Common.{◌≡◌, ◌≢◌, ◌⊎◌, inl, inr, ℕ, zero, suc, ◌+◌, ◌<◌, ◌≤◌, ◌==◌, Bool, true, false, cond, nat_lt, List, [], ◌∷◌, length, get_or, set, map, Option, Some, None, refl, ap, ◌∙◌, sym, subst, arith, eq-eqb, ne_eqb, get_or-set_same, get_or-set_other}
+use Rattle.std.proofs.Common.{◌≡◌, ◌⊎◌, inl, inr, ℕ, zero, suc, ◌+◌, ◌<◌, ◌≤◌, ◌==◌, Bool, true, false, cond, nat_lt, List, [], ◌∷◌, length, get_or, set, map, Option, Some, None, refl, ap, ◌∙◌, sym, subst, arith, eq-eqb, ne_eqb, get_or-set_same, get_or-set_other}
 use Rattle.std.specs.List.{All, AllPairs, filter}
 use Rattle.std.proofs.lemmas.Grind.{common_steps}
 use Rattle.std.proofs.lemmas.Bool.{cases_eq, cases_lt}
 use Rattle.std.proofs.lemmas.List.Kept.{AllPairs-cons}
 use Rattle.net_types.specs.declared.firing.Firing.{Firing}
-use Rattle.net_worker.specs.Merged.{Head, earlier, head_of, earliest, go_on, merged_in, entries_of, merged, RisesFrom}
-use Rattle.net_worker.specs.Ascending.{LoggedEntry, entries_by, IsNotAfter, IsInOrder, IsMergedInOrder, MergedAscends}
+use Rattle.net_worker.specs.Merged.{Head, earlier, earliest, go_on, merged_in, entries_of, RisesFrom}
+use Rattle.net_worker.specs.Ascending.{LoggedEntry, entries_by, IsNotAfter, IsInOrder, MergedAscends}
 use Rattle.net_worker.specs.declared.entry.Entry.{Entry}
-use Rattle.net_worker.proofs.Logs.{IsEarliest, earliest_none, earliest_is, entries_set, none_left, rises_later}
+use Rattle.net_worker.proofs.Logs.{earliest_none, earliest_is, entries_set, none_left, rises_later}
 
 abbrev of : ℕ → Entry → LoggedEntry
 of w e = record { worker = w; entry = e }

@@ -1,11 +1,10 @@
 -- Ends in their places.
-use Rattle.std.proofs.Common.{◌≡◌, ◌≢◌, ℕ, zero, suc, ◌+◌, ◌<◌, ◌≤◌, Bool, true, false, cond, Option, Some, None, List, [], ◌∷◌, ◌++◌, length, get_or, set, replicate, Result, Ok, Err, IfOk, IfErr, refl, sym, ap, subst, arith, inl, inr, ◌∙◌}
-use Rattle.std.specs.Result.{MatchResult}
+use Rattle.std.proofs.Common.{◌≡◌, ℕ, zero, suc, ◌+◌, ◌<◌, ◌≤◌, Bool, true, false, cond, Option, None, List, [], ◌∷◌, ◌++◌, length, get_or, set, replicate, Ok, Err, refl, sym, ap, subst, arith, inl, inr, ◌∙◌}
 use Rattle.std.specs.Ordering.{nat_cmp}
 use Rattle.std.specs.List.Sorted.{IsBinarySearchResult}
 use Rattle.std.proofs.lemmas.List.Sorted.{searched}
-use Rattle.std.proofs.lemmas.Bool.{cases_lt, cases_eq}
-use Rattle.std.proofs.lemmas.List.{length-set, length-replicate, get_or-replicate, get_or-set_same, get_or-set_other, get_or_past, get_or_default, set-set, set_comm, length-append, get_or_append_left, get_or_at}
+use Rattle.std.proofs.lemmas.Bool.{cases_lt}
+use Rattle.std.proofs.lemmas.List.{length-set, length-replicate, get_or-set_same, get_or-set_other, set-set, set_comm, length-append, get_or_append_left, get_or_at}
 use Rattle.net_worker.specs.ChannelEnds.{spread, AreChannels, ArePlaces, StandsAt, IsNotAmong}
 
 pub length-spread : {A : Type 0} (n : ℕ) (cs : List ℕ) (es : List (Option A)) → length (spread n cs es) ≡ n

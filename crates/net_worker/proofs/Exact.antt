@@ -1,37 +1,31 @@
 -- Exact stamps over a sweep.
 use Rattle.std.proofs.Common.{◌≡◌, ◌≢◌, ◌⊎◌, inl, inr, ℕ, suc, ◌+◌, ◌<◌, ◌≤◌, max, Option, Some, None, IsSomeAnd, List, [], ◌∷◌, ◌++◌, length, get_or, drop, refl, ap, ◌∙◌, sym, subst, arith, append-nil, append_assoc}
-use mathlib.Core.Path.{fun_ext}
-use mathlib.Core.List.{IsPrefix}
 use Rattle.std.specs.List.{AllByRecursion}
-use Rattle.std.proofs.lemmas.Bool.{cases_lt, cases_eq}
+use Rattle.std.proofs.lemmas.Bool.{cases_lt}
 use Rattle.elastic_link.specs.declared.message.Token.{Token}
-use Rattle.elastic_link.specs.declared.message.Credit.{Credit}
 use Rattle.elastic_link.specs.declared.put_end.PutEnd.{PutEnd}
 use Rattle.elastic_link.specs.declared.take_end.TakeEnd.{TakeEnd}
-use Rattle.elastic_link.specs.Ends.{messages_received}
 use Rattle.net_types.specs.declared.net.Net.{Net}
 use Rattle.net_types.specs.declared.firing.Inputs.{Inputs}
 use Rattle.net_types.specs.declared.firing.Firing.{Firing}
-use Rattle.net_types.specs.Nets.{into, out_of, chan_at}
+use Rattle.net_types.specs.Nets.{into, out_of}
 use Rattle.net_core.specs.declared.plan.Put.{Put}
 use Rattle.net_core.specs.Fire.{Effect, effect, first, tokens_at}
 use Rattle.net_core.specs.Uses.{used}
 use Rattle.net_worker.specs.Stamped.{Stamped, stamps_at, after_at}
-use Rattle.net_worker.specs.Plays.{putter, taker, MayIn, Plays}
+use Rattle.net_worker.specs.Plays.{putter, MayIn, Plays}
 use Rattle.net_worker.specs.Local.{values, stamps_of, fed_opening}
 use Rattle.net_worker.specs.Steps.{last_stamp, IsFuller, FromOthers}
-use Rattle.net_worker.specs.Offers.{ToldAt, ToldFor}
+use Rattle.net_worker.specs.Offers.{ToldAt}
 use Rattle.net_worker.specs.Sweeps.{greatest, stamp_or_0, ToldBy, AreExact, SweptExactly}
 use Rattle.net_worker.specs.Workers.{owner_in, IsMadeOf, SamePut, SameWorker, put_end, take_end, handed_by, received_by}
 use Rattle.net_worker.specs.declared.entry.Entry.{Entry}
 use Rattle.net_worker.specs.declared.tables.Tables.{Tables}
 use Rattle.net_worker.specs.declared.worker.Worker.{Worker}
-use Rattle.net_worker.proofs.Asking.{prefix_self, prefix_trans}
-use Rattle.net_worker.proofs.Glancing.{handed_looked, looked_same, fired_same, same_worker_self, same_worker_trans}
-use Rattle.net_worker.proofs.Fires.{handed_kept}
+use Rattle.net_worker.proofs.Asking.{prefix_trans}
+use Rattle.net_worker.proofs.Glancing.{handed_looked, looked_same}
 use Rattle.net_worker.proofs.Merging.{some_of}
 use Rattle.net_worker.proofs.Opening.{map_append, fed_tokens, fed_stamps, fed_past, fed_stamps_past, fed_measures, fed_stamps_long, fed_paired}
-use Rattle.net_worker.proofs.Mays as mays
 use Rattle.net_worker.proofs.More as more
 
 -- ---- what ends told, by more messages

@@ -1,26 +1,25 @@
 -- The stamp of a firing that a worker made is exact, and so are those of all entries of a sweep.
-use Rattle.std.proofs.Common.{◌≡◌, ◌≢◌, ◌⊎◌, inl, inr, ℕ, suc, ◌+◌, ◌<◌, ◌≤◌, max, Option, Some, None, List, [], ◌∷◌, ◌++◌, length, get_or, refl, ap, ◌∙◌, sym, subst, arith, append-nil, append_assoc}
+use Rattle.std.proofs.Common.{◌≡◌, ◌⊎◌, inl, inr, ℕ, suc, ◌<◌, max, Option, Some, None, List, [], ◌∷◌, ◌++◌, length, get_or, refl, ap, ◌∙◌, sym, subst, arith, append_assoc}
 use mathlib.Core.Path.{fun_ext}
-use mathlib.Core.List.{IsPrefix}
 use Rattle.std.specs.List.{AllByRecursion}
-use Rattle.std.proofs.lemmas.Bool.{cases_lt, cases_eq}
+use Rattle.std.proofs.lemmas.Bool.{cases_eq}
 use Rattle.elastic_link.specs.declared.message.Token.{Token}
 use Rattle.elastic_link.specs.declared.take_end.TakeEnd.{TakeEnd}
 use Rattle.net_types.specs.declared.firing.Firing.{Firing}
 use Rattle.net_types.specs.Nets.{into, chan_at, kind_of, uses}
-use Rattle.net_core.specs.Fire.{Effect, effect, first, tokens_at, takes_from, head_at, row, idle, at_array, setting}
+use Rattle.net_core.specs.Fire.{effect, first, tokens_at, takes_from, head_at, row, idle, at_array, setting}
 use Rattle.net_core.specs.States.{state_of}
 use Rattle.net_core.specs.Uses.{used}
 use Rattle.net_core.proofs.RowLemmas.{Has}
 use Rattle.net_core.proofs.ApartLemmas.{is_at-inv, into-at, first_within}
-use Rattle.net_worker.specs.Stamped.{Stamped, stamps_at}
+use Rattle.net_worker.specs.Stamped.{stamps_at}
 use Rattle.net_worker.specs.Plays.{putter, taker, Plays}
 use Rattle.net_worker.specs.Local.{stamps_of, fed_opening}
 use Rattle.net_worker.specs.Steps.{last_stamp}
 use Rattle.net_worker.specs.Firings.{IsFiredExactly}
 use Rattle.net_worker.specs.Going.{IsLater, GoesOn}
 use Rattle.net_worker.specs.Offers.{held_stamp, greatest_in}
-use Rattle.net_worker.specs.Sweeps.{greatest, stamp_or_0, AreExact, SweptExactly}
+use Rattle.net_worker.specs.Sweeps.{greatest, stamp_or_0, SweptExactly}
 use Rattle.net_worker.specs.Workers.{owner_in, IsMadeOf, IsInto, SameWorker, put_end, take_end, handed_by, held_by}
 use Rattle.net_worker.specs.declared.entry.Entry.{Entry}
 use Rattle.net_worker.specs.declared.tables.Tables.{Tables}

@@ -7,14 +7,14 @@ use Rattle.net_types.specs.declared.net.Unit.TheVariants.{Entry, Param, Const, O
 use Rattle.net_types.specs.declared.firing.Act.{Act}
 use Rattle.net_types.specs.declared.firing.Act.TheVariants.{Go, From, Send, Alloc, Addr, Data, Exec, Reply, Retire, End}
 use Rattle.net_types.specs.Nets.{kind_of, firing}
-use Rattle.net_types.specs.Order.{ActFits, ActLe, act_rank, act_number}
+use Rattle.net_types.specs.Order.{ActFits}
 use Rattle.net_check.specs.Checks.{IsChecked}
 use Rattle.net_check.specs.Shapes.{HasShape}
 use Rattle.net_check.specs.Ends.{is_lsq}
-use Rattle.lsq_core.specs.Views.{QueueView, InOrder, InPorts, oldest_of, entry_at}
+use Rattle.lsq_core.specs.Views.{QueueView, InOrder, InPorts, oldest_of}
 use Rattle.net_core.specs.Fire.{State, Effect, idle, at_array, setting, row, on_go, go_row, effect, enabled, head_at, effect_of}
 use Rattle.net_core.specs.private.Searches.{queue_families, serials_from}
-use Rattle.net_core.proofs.ActLemmas.{fork_act, plain_act, merge_inv}
+use Rattle.net_core.proofs.ActLemmas.{plain_act, merge_inv}
 use Rattle.net_core.proofs.GoesLemmas.{goes}
 use Rattle.net_core.proofs.QueueFindLemmas.{below_first, queue_range, serial_below}
 

@@ -1,6 +1,9 @@
 pub mod EndPlaces
 pub mod Entries
 pub mod Lists
+pub mod Crossings
+pub mod ForkKinds
+pub mod Moved
 pub mod Moves
 pub mod Steps
 pub mod Strays

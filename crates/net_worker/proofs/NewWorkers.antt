@@ -1,5 +1,5 @@
 -- A new worker.
-use Rattle.std.proofs.Common.{◌≡◌, ◌≢◌, ◌⊎◌, inl, inr, ℕ, ◌+◌, ◌<◌, ◌≤◌, ◌*◌, false, Option, Some, None, List, [], ◌∷◌, length, get_or, replicate, refl, ap, ◌∙◌, sym, subst, arith}
+use Rattle.std.proofs.Common.{◌≡◌, ◌⊎◌, inl, inr, ℕ, ◌<◌, ◌≤◌, ◌*◌, false, Option, Some, None, List, [], length, get_or, replicate, refl, ap, ◌∙◌, sym, subst, arith}
 use Rattle.std.specs.List.{All, Contains}
 use Rattle.std.proofs.lemmas.Bool.{cases_lt, false≢true}
 use Rattle.el_base.specs.Limits.{max_depth}

@@ -1,5 +1,5 @@
 -- A token that is offered to an output.
-use Rattle.std.proofs.Common.{◌≡◌, ◌≢◌, ◌⊎◌, inl, inr, ℕ, suc, ◌+◌, ◌<◌, ◌≤◌, ◌^◌, max, cond, Option, Some, None, IfSome, IfNone, List, [], ◌∷◌, length, get_or, set, refl, ap, ◌∙◌, sym, subst, arith, eq-eqb, ne_eqb, get_or-set_same, get_or-set_other, length-set}
+use Rattle.std.proofs.Common.{◌≡◌, ◌≢◌, ◌⊎◌, inl, inr, ℕ, suc, ◌<◌, ◌≤◌, ◌^◌, cond, Option, Some, None, IfSome, IfNone, List, length, get_or, set, refl, ap, ◌∙◌, sym, subst, arith, eq-eqb, ne_eqb, get_or-set_same, get_or-set_other, length-set}
 use mathlib.Core.List.{IsPrefix}
 use Rattle.std.proofs.lemmas.Bool.{cases_lt, cases_eq}
 use Rattle.std.proofs.lemmas.List.{get_or_past}
@@ -16,7 +16,7 @@ use Rattle.net_worker.specs.Ends as unput
 use Rattle.net_worker.specs.Fires.{PutStep}
 use Rattle.net_worker.specs.Offers.{ToldAt, RoomAt, IsOffered, NoCreditAt, NoSlotAt, IsNotOffered}
 use Rattle.net_worker.specs.Offers as refusal
-use Rattle.net_worker.proofs.Asking.{prefix_self, put_asked_self, put_asked_step, puts_asked_self}
+use Rattle.net_worker.proofs.Asking.{prefix_self, put_asked_self, put_asked_step}
 
 pub offered_none : (net : Net) (s : State) (u above n : ℕ) (ps : List (Option PutEnd)) → n ≡ suc above → IsStamp n → IsOffered net s u None above n ps ps
 offered_none net s u above n ps is fits = record {

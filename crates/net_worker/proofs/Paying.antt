@@ -12,9 +12,9 @@ use Rattle.net_core.proofs.MoveLemmas.{Distinct}
 use Rattle.net_core.proofs.RowLemmas.{Has, Each}
 use Rattle.net_worker.specs.Asking.{TakesAsked}
 use Rattle.net_worker.specs.Fires.{Takes, TakeStep}
-use Rattle.net_worker.specs.Firings.{HoldsIfAny, AllHold, IsPayable, AllPayable, AllDistinct, chans_into, AreTaken}
+use Rattle.net_worker.specs.Firings.{AllHold, AllPayable, AllDistinct, chans_into}
 use Rattle.net_worker.specs.Offers.{held_stamp, greatest_in}
-use Rattle.net_worker.specs.Workers.{owner_in, IsMadeOf, take_end, held_by}
+use Rattle.net_worker.specs.Workers.{owner_in, IsMadeOf, held_by}
 use Rattle.net_worker.specs.declared.tables.Tables.{Tables}
 use Rattle.net_worker.specs.declared.worker.Worker.{Worker}
 use Rattle.net_worker.proofs.Asking.{held_asked, take_asked_self, take_asked_step}
@@ -43,20 +43,20 @@ pub all_distinct : (cs : List ℕ) → Distinct cs → AllDistinct cs
 all_distinct [] h = tt
 all_distinct (c ∷ cs) h = (h.0, all_distinct cs h.1)
 
-not_among : (a b : ℕ) (cs : List ℕ) → among a (b ∷ cs) ≡ false → (a ≢ b) × (among a cs ≡ false)
+pub not_among : (a b : ℕ) (cs : List ℕ) → among a (b ∷ cs) ≡ false → (a ≢ b) × (among a cs ≡ false)
 not_among a b cs h = by (cases_eq a b)
   where
     by : (a ≡ b) ⊎ (a ≡ b → ⊥) → (a ≢ b) × (among a cs ≡ false)
     by (inl q) = (let z : (a == b) ≡ true = eq-eqb a b q in let y : true ≡ false = sym (ap (λ g. g || among a cs) z) ∙ h in cc)
     by (inr n) = (n, (let z : (a == b) ≡ false = ne_eqb a b n in sym (ap (λ g. g || among a cs) z) ∙ h))
 
-among_here : (c a : ℕ) (cs : List ℕ) → c ≡ a → among c (a ∷ cs) ≡ true
+pub among_here : (c a : ℕ) (cs : List ℕ) → c ≡ a → among c (a ∷ cs) ≡ true
 among_here c a cs q = ap (λ g. g || among c cs) (eq-eqb c a q)
 
 pub among_there : (c a : ℕ) (cs : List ℕ) → c ≢ a → among c (a ∷ cs) ≡ among c cs
 among_there c a cs n = ap (λ g. g || among c cs) (ne_eqb c a n)
 
-same_step : (n : ℕ) (o q : Option TakeEnd) → q ≡ o → TakeStep false n o q
+pub same_step : (n : ℕ) (o q : Option TakeEnd) → q ≡ o → TakeStep false n o q
 same_step n o q e = subst (TakeStep false n o) (sym e) (take_asked_step n o o (take_asked_self o))
 
 module _ (n a b d : ℕ) (es e1 e2 e3 : List (Option TakeEnd)) (distinct : AllDistinct (a ∷ b ∷ d ∷ []))

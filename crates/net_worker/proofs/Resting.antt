@@ -1,11 +1,11 @@
 -- After an idle sweep the worker's inner units rest.
-use Rattle.std.proofs.Common.{◌≡◌, ◌⊎◌, inl, inr, ℕ, suc, ◌+◌, ◌^◌, ◌<◌, ◌≤◌, max, Option, Some, None, IsSomeAnd, List, [], ◌∷◌, length, get_or, refl, ap, ◌∙◌, sym, subst, arith}
+use Rattle.std.proofs.Common.{◌≡◌, inl, inr, ℕ, ◌+◌, ◌^◌, Option, Some, None, IsSomeAnd, List, [], ◌∷◌, get_or, refl, ap, ◌∙◌, sym, subst, arith}
 use Rattle.elastic_link.specs.declared.put_end.PutEnd.{PutEnd}
 use Rattle.elastic_link.specs.declared.take_end.TakeEnd.{TakeEnd}
 use Rattle.net_types.specs.declared.firing.Firing.{Firing}
 use Rattle.net_types.specs.Nets.{into, out_of, chan_at, kind_of, uses}
 use Rattle.net_core.specs.declared.plan.Put.{Put}
-use Rattle.net_core.specs.Fire.{Effect, row, idle, at_array, setting, head_at, tokens_at, effect, has_room, enabled}
+use Rattle.net_core.specs.Fire.{Effect, row, idle, at_array, setting, head_at, effect, has_room, enabled}
 use Rattle.net_core.specs.States.{state_of}
 use Rattle.net_core.specs.Uses.{used}
 use Rattle.net_core.proofs.ApartLemmas.{is_at-inv, into-at, out_of-at}

@@ -2,7 +2,7 @@
 use Rattle.std.proofs.Common.{rules, ◌≡◌, ◌⊎◌, inl, inr, ℕ, ◌<◌, ◌≤◌, Option, Some, None, IsSome, List, [], ◌++◌, length, get_or, set, refl, ap, ◌∙◌, sym, subst, arith, append-nil, false}
 use Rattle.std.proofs.lemmas.Bool.{cases_eq, cases_lt}
 use Rattle.std.proofs.lemmas.Grind.{get_or-set_at}
-use Rattle.std.proofs.lemmas.List.{get_or-set_other, get_or_past, get_or_default}
+use Rattle.std.proofs.lemmas.List.{get_or-set_other, get_or_past}
 use Rattle.std.proofs.Math.ListN.{length-set}
 use mathlib.Core.List.{IsPrefix}
 use Rattle.elastic_link.specs.declared.put_end.PutEnd.{PutEnd}

@@ -9,12 +9,13 @@ use Rattle.net_core.specs.declared.plan.Moves.{Moves}
 use Rattle.net_core.specs.Plans.{laid_of, moves_of}
 use Rattle.net_worker.specs.Asking.{IsAsked}
 use Rattle.net_worker.specs.Firings.{IsFiredExactly}
+use Rattle.net_worker.specs.Glances.{IsLooked}
 use Rattle.net_worker.specs.Turns.{HasUnit, HasMade, HasRoomToLay}
 use Rattle.net_worker.specs.Workers.{IsMadeOf}
 use Rattle.net_worker.specs.declared.tables.Tables.{Tables}
 use Rattle.net_worker.specs.declared.worker.Worker.{Worker}
 use Rattle.net_worker.proofs.Asking.{asked_trans, asked_made}
-use Rattle.net_worker.proofs.Firing.{later_same, goes_asked, goes_fired, fired_made}
+use Rattle.net_worker.proofs.Firing.{later_same, goes_again, goes_asked, goes_fired, fired_made}
 use Rattle.net_worker.proofs.Glancing.{same_whole}
 
 pub laid_room : (net : Net) (s : State) (u : ℕ) (put : Option Put) → HasRoomToLay net s (laid_of net u put) → has_room net s u put
@@ -43,6 +44,17 @@ made_one t a m b f own o h =
           omega arith);
       none = λ q. absurd (omega arith);
     }
+
+-- a firing was made, marks were set, and it looked again
+pub made_looked : (t : Tables) (a m w b : Worker) (f : Firing) → HasUnit t a f.unit → IsFiredExactly t a m f → IsAsked m w → IsLooked w b → IsMadeOf t b → HasMade t 1 a b
+made_looked t a m w b f own o h l k = record {
+  made = k;
+  later = goes_again t a m w b f l k own.made own.whole o h;
+  added = (let s : length w.log.items ≡ length a.log.items + 1 = (made_one t a m w f own o h).added in
+      let e = ap (λ (l : Rattle.el_base.specs.Logs.Logged Rattle.net_worker.specs.declared.entry.Entry.Entry). length l.items) l.log in
+      omega arith);
+  none = λ q. absurd (omega arith);
+}
 
 -- firings were made, and then more
 pub made_more : (t : Tables) (n k : ℕ) (a m b : Worker) → HasMade t n a m → HasMade t k m b → HasMade t (n + k) a b

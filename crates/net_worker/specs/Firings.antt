@@ -1,5 +1,5 @@
 -- The parts of one firing, over lists of ends and over states.
-use Rattle.std.specs.Prelude.{◌≡◌, ℕ, suc, ◌+◌, ◌<◌, ◌≤◌, ◌^◌, max, false, Option, Some, None, IsSome, List, [], ◌∷◌, length, get_or, map}
+use Rattle.std.specs.Prelude.{◌≡◌, ℕ, suc, ◌<◌, ◌≤◌, ◌^◌, max, false, Option, Some, None, IsSome, List, [], ◌∷◌, length, get_or, map}
 use Rattle.elastic_link.specs.declared.take_end.TakeEnd.{TakeEnd}
 use Rattle.elastic_link.specs.declared.put_end.PutEnd.{PutEnd}
 use Rattle.elastic_link.specs.Ends.{tokens_taken, token_held, credits_repaid, repaid_stamp}

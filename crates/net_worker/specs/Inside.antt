@@ -7,6 +7,8 @@ use Rattle.net_core.specs.declared.plan.Put.{Put}
 use Rattle.net_core.specs.Fire.{State}
 use Rattle.net_worker.specs.Offers.{IsOffered, IsNotOffered}
 use Rattle.net_worker.specs.Plays.{putter, taker}
+use Rattle.net_worker.specs.Views.{owner_in}
+use Rattle.net_worker.specs.declared.tables.Tables.{Tables}
 
 -- each channel from or to the unit has one owner
 abbrev pub IsInnerUnit : Net → (ℕ → ℕ) → ℕ → Type 0
@@ -23,3 +25,11 @@ IsOfferedInside net s u put above n = (ps : List (Option PutEnd)) → HasNoEnd n
 
 abbrev pub IsNotOfferedInside : Net → State → ℕ → Option Put → ℕ → Type 0
 IsNotOfferedInside net s u put above = (ps : List (Option PutEnd)) → HasNoEnd net u put ps → IsNotOffered net s u put above ps ps
+
+-- where the channel is one of the net, both its units have one owner
+abbrev pub StaysInside : Tables → ℕ → Type 0
+StaysInside t c = c < length t.net.chans → putter t.net (owner_in t) c ≡ taker t.net (owner_in t) c
+
+-- a channel both of whose units have one owner has no end among these
+abbrev pub AreBetween : {A : Type 0} → Tables → List (Option A) → Type 0
+AreBetween t es = (c : ℕ) → StaysInside t c → get_or es c None ≡ None

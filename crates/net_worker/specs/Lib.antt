@@ -34,4 +34,5 @@ pub mod Sweeps
 pub mod Going
 pub mod Turns
 pub mod Firings
+pub mod Moved
 pub mod Rests

@@ -1,5 +1,5 @@
 -- What offering the token of a firing to its output leaves, and why it may be refused.
-use Rattle.std.specs.Prelude.{◌≡◌, ◌⊎◌, ℕ, suc, ◌+◌, ◌<◌, ◌≤◌, ◌^◌, max, Option, Some, None, List, [], ◌∷◌, length, get_or}
+use Rattle.std.specs.Prelude.{◌≡◌, ℕ, suc, ◌<◌, ◌≤◌, ◌^◌, max, Option, Some, None, List, [], ◌∷◌, length, get_or}
 use mathlib.Core.List.{IsPrefix}
 use Rattle.el_base.specs.Rises.{Rose}
 use Rattle.elastic_link.specs.declared.message.Credit.{Credit}
@@ -12,7 +12,6 @@ use Rattle.net_types.specs.declared.net.Net.{Net}
 use Rattle.net_types.specs.Nets.{into, out_of, chan_at}
 use Rattle.net_core.specs.declared.plan.Put.{Put}
 use Rattle.net_core.specs.Fire.{State, tokens_at, puts_on}
-use Rattle.net_worker.specs.Asking.{PutsAsked}
 use Rattle.net_worker.specs.Fires.{PutStep}
 use Rattle.net_worker.specs.Workers.{held_by, received_by}
 

@@ -1,13 +1,5 @@
 -- What a sweep answers, which stamps it gives, and what held the firings of an idle sweep back.
-use Rattle.std.specs.Prelude.{◌≡◌, ◌⊎◌, ℕ, suc, ◌+◌, ◌<◌, ◌≤◌, ◌^◌, max, Option, Some, None, List, [], ◌∷◌, ◌++◌, length, get_or}
-use mathlib.Core.List.{IsPrefix}
-use Rattle.el_base.specs.Rises.{Rose}
-use Rattle.elastic_link.specs.declared.message.Credit.{Credit}
-use Rattle.elastic_link.specs.declared.message.Token.{Token}
-use Rattle.elastic_link.specs.declared.put_end.PutEnd.{PutEnd}
-use Rattle.elastic_link.specs.declared.take_end.TakeEnd.{TakeEnd}
-use Rattle.elastic_link.specs.Credits.{newest_stamp}
-use Rattle.elastic_link.specs.Ends.{credits_in_hand, token_held, no_slot_count, no_message_count, no_token_count}
+use Rattle.std.specs.Prelude.{◌≡◌, ℕ, suc, ◌+◌, ◌<◌, ◌≤◌, ◌^◌, max, Option, Some, None, List, [], ◌∷◌, ◌++◌, length, get_or}
 use Rattle.net_types.specs.declared.net.Net.{Net}
 use Rattle.net_types.specs.declared.firing.Firing.{Firing}
 use Rattle.net_types.specs.Nets.{into, out_of, chan_at, kind_of, uses}

@@ -37,23 +37,35 @@ impl<T> Model for ChannelEnds<T> {
 }
 
 /// Whether a channel stands at a place.
+#[inline(always)]
 fn stands_at(chans: &[u32], at: usize, chan: u32) -> bool
     ensures { IsTrue result → StandsAt chans.now chan at }
 {
     at < chans.len() && chans[at] == chan
 }
 
-/// The place of a channel among ascending ones, where it is one of them. It is looked for first at the place that was found
-/// last, and behind that.
-fn place_of(chans: &[u32], last: usize, chan: u32) -> Option<usize>
+/// The place of a channel among ascending ones, where it is one of them. It is looked for first at a place near which it may
+/// stand.
+#[inline(always)]
+fn place_of(chans: &[u32], near: usize, chan: u32) -> Option<usize>
     requires { (n : ℕ) × AreChannels n chans.now }
     ensures some { IfSome result (λ i. StandsAt chans.now chan i) }
     ensures none { IfNone result (IsNotAmong chans.now chan) }
 {
-    if stands_at(chans, last, chan) {
-        return Some(last);
+    if stands_at(chans, near, chan) {
+        return Some(near);
     }
-    let next = last.saturating_add(1);
+    place_beyond(chans, near, chan)
+}
+
+/// The place of a channel among ascending ones, where it is one of them. It is looked for first behind a place.
+#[inline(never)]
+fn place_beyond(chans: &[u32], near: usize, chan: u32) -> Option<usize>
+    requires { (n : ℕ) × AreChannels n chans.now }
+    ensures some { IfSome result (λ i. StandsAt chans.now chan i) }
+    ensures none { IfNone result (IsNotAmong chans.now chan) }
+{
+    let next = near.saturating_add(1);
     if stands_at(chans, next, chan) {
         return Some(next);
     }
@@ -75,12 +87,18 @@ fn nothing<T: Drop>(alloc: Global, count: usize) -> Result<Vec<Option<T>>, Memor
 }
 
 impl<T> ChannelEnds<T> {
-    /// The end of a channel, where it has one.
-    pub(crate) fn get_mut(&mut self, chan: u32) -> Option<&mut T>
+    /// The place that was found last.
+    pub(crate) fn last(&self) -> usize {
+        self.last
+    }
+
+    /// The end of a channel, where it has one. It is looked for first at a place near which it may stand.
+    #[inline(always)]
+    pub(crate) fn get_mut(&mut self, chan: u32, near: usize) -> Option<&mut T>
         ensures* writes_back { sem 𝓛 (lends_end T.row self.entry chan result) }
         ensures value { option_copied_mut result ≡ get_or self.old.items chan None }
     {
-        match place_of(&self.chans, self.last, chan) {
+        match place_of(&self.chans, near, chan) {
             Some(at) => {
                 self.last = at;
                 match &mut self.ends[at] {
@@ -97,7 +115,16 @@ impl<T> ChannelEnds<T> {
         ensures end { IsTrue result ↔ IsSome (get_or self.now.items chan None) }
         ensures within { IsTrue result → chan < length self.now.items }
     {
-        match place_of(&self.chans, self.last, chan) {
+        self.has_near(chan, self.last)
+    }
+
+    /// Whether a channel has an end. It is looked for first at a place near which it may stand.
+    #[inline(always)]
+    pub(crate) fn has_near(&self, chan: u32, near: usize) -> bool
+        ensures end { IsTrue result ↔ IsSome (get_or self.now.items chan None) }
+        ensures within { IsTrue result → chan < length self.now.items }
+    {
+        match place_of(&self.chans, near, chan) {
             Some(at) => self.ends[at].is_some(),
             None => false,
         }

@@ -4,6 +4,9 @@
 mod acting;
 mod channel_ends;
 mod crossing;
+mod crossing_parts;
+mod crossing_turns;
+mod end_places;
 mod ends;
 mod entry;
 mod giving;

@@ -7,20 +7,22 @@ use crate::channel_ends::ChannelEnds;
 use crate::tables::Tables;
 use crate::worker::Worker;
 use elastic_link::{TakeEnd, Token};
-use net_core::Takes;
+use net_core::{Taken, Takes};
 
 /// Sends what the end of a channel owes, where it has one.
-fn flush_at(takes: &mut ChannelEnds<TakeEnd>, chan: u32)
+#[inline(always)]
+fn flush_at(takes: &mut ChannelEnds<TakeEnd>, chan: u32, near: usize)
     ensures asked { TakesAsked takes.old.items takes.new.items }
     ensures chans { takes.new.chans ≡ takes.old.chans }
 {
-    if let Some(end) = takes.get_mut(chan) {
+    if let Some(end) = takes.get_mut(chan, near) {
         end.flush();
     }
 }
 
 /// The next token of a channel from another worker, where its end shows one; it is held then.
-fn peek_at(takes: &mut ChannelEnds<TakeEnd>, chan: u32) -> Option<Token>
+#[inline(always)]
+fn peek_at(takes: &mut ChannelEnds<TakeEnd>, chan: u32, near: usize) -> Option<Token>
     requires within { chan < length takes.old.items }
     requires end { IsSome (get_or takes.old.items chan None) }
     requires free { HoldsNone (get_or takes.old.items chan None) }
@@ -30,7 +32,7 @@ fn peek_at(takes: &mut ChannelEnds<TakeEnd>, chan: u32) -> Option<Token>
     ensures some { IfSome result (λ x. IsHanded chan x takes.old.items takes.new.items) }
     ensures chans { takes.new.chans ≡ takes.old.chans }
 {
-    match takes.get_mut(chan) {
+    match takes.get_mut(chan, near) {
         Some(end) => end.peek(),
         None => None,
     }
@@ -43,8 +45,9 @@ impl Worker {
     ghost use Rattle.net_worker.specs.Workers.{IsMadeOf, IsInto, IsWhole};
 
     /// Looks at a channel from another worker: sends what its end owes, and lays the next token into the state where none
-    /// lies there.
-    fn look_at(&mut self, tables: &Tables, chan: u32)
+    /// lies there. The end is looked for first at a place near which it may stand.
+    #[inline(always)]
+    fn look_at(&mut self, tables: &Tables, chan: u32, near: usize)
         requires made { IsMadeOf tables.now self.old }
         requires into { IsInto tables.now (number_of self.old) chan }
         requires end { IsSome (take_end self.old chan) }
@@ -52,11 +55,11 @@ impl Worker {
         ensures looked { IsLooked self.old self.new }
         ensures seen { IsSeen chan self.old self.new }
     {
-        flush_at(&mut self.takes, chan);
+        flush_at(&mut self.takes, chan, near);
         if self.state.held(&tables.net, chan) > 0 {
             return;
         }
-        let Some(token) = peek_at(&mut self.takes, chan) else {
+        let Some(token) = peek_at(&mut self.takes, chan, near) else {
             return;
         };
         self.state.put_token(&tables.net, chan, token.value);
@@ -76,7 +79,7 @@ impl Worker {
     {
         for at in 0..self.ins.len() {
             let chan = self.ins[at];
-            self.look_at(tables, chan);
+            self.look_at(tables, chan, at);
         }
     }
 
@@ -119,8 +122,53 @@ impl Worker {
         ensures looked { IsLooked self.old self.new }
     {
         let chan = tables.net.into_place(unit, place);
-        if self.takes.has(chan) {
-            self.look_at(tables, chan);
+        self.look_on(tables, chan);
+    }
+
+    /// Looks at a channel, where it comes from another worker.
+    #[inline(always)]
+    fn look_on(&mut self, tables: &Tables, chan: u32)
+        requires made { IsMadeOf tables.now self.old }
+        ensures made { IsMadeOf tables.now self.new }
+        ensures looked { IsLooked self.old self.new }
+    {
+        let Some(places) = tables.end_places(chan) else {
+            return;
+        };
+        self.look_near(tables, chan, places.take as usize);
+    }
+
+    /// The same, where its end is looked for first at a place near which it may stand.
+    #[inline(always)]
+    fn look_near(&mut self, tables: &Tables, chan: u32, near: usize)
+        requires made { IsMadeOf tables.now self.old }
+        ensures made { IsMadeOf tables.now self.new }
+        ensures looked { IsLooked self.old self.new }
+    {
+        if self.takes.has_near(chan, near) {
+            self.look_at(tables, chan, near);
+        }
+    }
+
+    /// Looks at the channels from which a firing took, where they come from other workers.
+    #[inline(always)]
+    pub(crate) fn look_taken(&mut self, tables: &Tables, taken: Taken)
+        requires made { IsMadeOf tables.now self.old }
+        ensures made { IsMadeOf tables.now self.new }
+        ensures looked { IsLooked self.old self.new }
+    {
+        match taken {
+            Taken::None => {}
+            Taken::One(c) => self.look_on(tables, c),
+            Taken::Two(c, d) => {
+                self.look_on(tables, c);
+                self.look_on(tables, d);
+            }
+            Taken::Three(c, d, e) => {
+                self.look_on(tables, c);
+                self.look_on(tables, d);
+                self.look_on(tables, e);
+            }
         }
     }
 }

@@ -28,7 +28,20 @@ fn stamp_at(takes: &mut ChannelEnds<TakeEnd>, chan: u32) -> u64
     ensures stamp { result ≡ held_stamp (held_by (get_or takes.old.items chan None)) }
     ensures fits { IsStamp result }
 {
-    match takes.get_mut(chan) {
+    let near = takes.last();
+    stamp_near(takes, chan, near)
+}
+
+/// The same, where the end is looked for first at a place near which it may stand.
+#[inline(always)]
+pub(crate) fn stamp_near(takes: &mut ChannelEnds<TakeEnd>, chan: u32, near: usize) -> u64
+    requires { HoldsIfAny (get_or takes.old.items chan None) }
+    ensures asked { TakesAsked takes.old.items takes.new.items }
+    ensures chans { takes.new.chans ≡ takes.old.chans }
+    ensures stamp { result ≡ held_stamp (held_by (get_or takes.old.items chan None)) }
+    ensures fits { IsStamp result }
+{
+    match takes.get_mut(chan, near) {
         Some(end) => match end.peek() {
             Some(token) => token.stamp,
             None => 0,
@@ -81,7 +94,7 @@ pub(crate) fn used_places(unit: &Unit, takes: Takes) -> Takes
 }
 
 /// One above a stamp; `None` where that is 2^62.
-fn one_above(stamp: u64) -> Option<u64>
+pub(crate) fn one_above(stamp: u64) -> Option<u64>
     requires { IsStamp stamp }
     ensures some { IfSome result (λ n. n ≡ suc stamp) }
     ensures fits { IfSome result (λ n. IsStamp n) }
@@ -114,14 +127,15 @@ pub(crate) fn offer(
         return one_above(above);
     };
     let chan = net.out_of_place(unit, put.place);
-    match puts.get_mut(chan) {
+    let near = puts.last();
+    match puts.get_mut(chan, near) {
         Some(end) => put_above(end, put.value, above),
         None => offer_inner(state, net, chan, above),
     }
 }
 
 /// One above `above`, where a channel of the state has room and a stamp is left.
-fn offer_inner(state: &State, net: &Checked, chan: u32, above: u64) -> Option<u64>
+pub(crate) fn offer_inner(state: &State, net: &Checked, chan: u32, above: u64) -> Option<u64>
     requires of { IsOf net.now state.now }
     requires above { IsStamp above }
     ensures some { IfSome result (λ n. (n ≡ suc above) × IsStamp n) }
@@ -174,7 +188,23 @@ fn take_at(takes: &mut ChannelEnds<TakeEnd>, chan: u32, stamp: u64)
     ensures others { (c : ℕ) → c ≢ chan
         → get_or takes.new.items c None ≡ get_or takes.old.items c None }
 {
-    if let Some(end) = takes.get_mut(chan) {
+    let near = takes.last();
+    take_near(takes, chan, near, stamp);
+}
+
+/// The same, where the end is looked for first at a place near which it may stand.
+#[inline(always)]
+pub(crate) fn take_near(takes: &mut ChannelEnds<TakeEnd>, chan: u32, near: usize, stamp: u64)
+    requires stamp { IsStamp stamp }
+    requires payable { IsPayable stamp (get_or takes.old.items chan None) }
+    ensures long { length takes.new.items ≡ length takes.old.items }
+    ensures chans { takes.new.chans ≡ takes.old.chans }
+    ensures taken { TakeStep true stamp
+        (get_or takes.old.items chan None) (get_or takes.new.items chan None) }
+    ensures others { (c : ℕ) → c ≢ chan
+        → get_or takes.new.items c None ≡ get_or takes.old.items c None }
+{
+    if let Some(end) = takes.get_mut(chan, near) {
         take_with(end, stamp);
     }
 }

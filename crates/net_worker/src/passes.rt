@@ -87,10 +87,11 @@ impl Worker {
         if unit as usize >= units.len() || tables.owner(unit) != self.number {
             return 0;
         }
+        let kind = &units[unit as usize];
         if tables.crosses(unit) {
-            return self.visit_each(tables, unit);
+            return self.visit_crossing(tables, unit, kind);
         }
-        self.visit_inner(tables, unit, &units[unit as usize])
+        self.visit_inner(tables, unit, kind)
     }
 
     /// Tries the acts of one of its own units, one after another, but those of which its queue or the place of the control token

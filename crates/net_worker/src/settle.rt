@@ -16,8 +16,10 @@ impl Worker {
         ensures this { IsKeptWith self.old self.new }
         ensures that { IsKeptWith other.old other.new }
     {
-        if let Some(put) = self.puts.get_mut(chan) {
-            if let Some(take) = other.takes.get_mut(chan) {
+        let put_near = self.puts.last();
+        let take_near = other.takes.last();
+        if let Some(put) = self.puts.get_mut(chan, put_near) {
+            if let Some(take) = other.takes.get_mut(chan, take_near) {
                 put.settle(take);
             }
         }

@@ -1,5 +1,5 @@
 //! One sweep of a worker.
-ghost use Rattle.std.specs.Prelude.{◌≡◌, ◌<◌, ◌↔◌, IsTrue};
+ghost use Rattle.std.specs.Prelude.{◌≡◌, ◌<◌, ◌↔◌, ◌⊎◌, IsTrue};
 ghost use Rattle.net_worker.specs.Going.{GoesOn, HasAdded};
 ghost use Rattle.net_worker.specs.Sweeps.{SweptAs, SweptExactly, AllHeldBack};
 ghost use Rattle.net_worker.specs.Views.{log_room};
@@ -41,6 +41,16 @@ impl Worker {
             return Swept::Idle;
         }
         Swept::Fired(fired)
+    }
+
+    /// Whether the exit has fired, or the log holds its share, or no stamp is left: no sweep adds an entry then. Takes no
+    /// memory.
+    pub fn has_ended(&self, tables: &Tables) -> bool
+        requires { IsMadeOf tables.now self.now }
+        ensures { IsTrue result ↔ (HasLoggedExit tables.now self.now ⊎ IsFull self.now) }
+    {
+        let _ = tables;
+        self.state.exited() || self.is_full()
     }
 
     /// Whether the log holds its share, or no stamp is left.

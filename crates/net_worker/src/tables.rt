@@ -1,10 +1,11 @@
 //! What all workers of a net read.
 ghost use Rattle.std.specs.Prelude.{◌≡◌, ◌<◌, length, All, IfOk};
 ghost use Rattle.el_base.specs.Limits.{max_workers};
-ghost use Rattle.net_worker.specs.Crossing.{AreMarked};
+ghost use Rattle.net_worker.specs.Crossing.{AreMarked, ArePlaced};
 ghost use Rattle.net_worker.specs.Spans.{AreWithin};
 
 use crate::crossing::crossing_units;
+use crate::end_places::{EndPlaces, places_of_ends};
 use crate::spans::{NOWHERE, Span, spans_of};
 use net_check::Checked;
 use net_types::{Inputs, List, Memory};
@@ -19,10 +20,13 @@ pub struct Tables {
     pub(crate) crossing: Vec<bool>,
     /// By worker: where its units lie.
     pub(crate) spans: Vec<Span>,
+    /// By channel: where its ends stand, where it goes from one worker to another.
+    pub(crate) places: Vec<Option<EndPlaces>>,
     pub ghost owned: { length owners ≡ length net.units },
     pub ghost few: { All (λ o. o < max_workers) owners },
     pub ghost marked: { AreMarked net.chans owners crossing.items },
     pub ghost lie: { AreWithin owners spans.items },
+    pub ghost placed: { ArePlaced net.chans owners places.items },
 }
 
 // By hand, so that to let go of one is a call.
@@ -34,6 +38,7 @@ impl Drop for Tables {
             owners: _owners,
             crossing: _crossing,
             spans: _spans,
+            places: _places,
         } = self;
     }
 }
@@ -54,10 +59,10 @@ fn copy_owners(alloc: Global, owners: &[u32]) -> Result<List<u32>, Memory>
 }
 
 impl Tables {
-    ghost use Rattle.std.specs.Prelude.{◌≡◌, ◌<◌, ℕ, length, IfOk, All, IsFalse};
+    ghost use Rattle.std.specs.Prelude.{◌≡◌, ◌<◌, ℕ, length, IfNone, IfOk, All, IsFalse};
     ghost use Rattle.el_base.specs.Limits.{max_workers};
     ghost use Rattle.net_types.specs.Inputs.{InputsFit};
-    ghost use Rattle.net_worker.specs.Inside.{IsInnerUnit};
+    ghost use Rattle.net_worker.specs.Inside.{IsInnerUnit, StaysInside};
     ghost use Rattle.net_worker.specs.Plays.{putter, taker};
     ghost use Rattle.net_worker.specs.Spans.{IsWithin};
     ghost use Rattle.net_worker.specs.Views.{net_of, inputs_of, unit_owners, owner_in};
@@ -82,6 +87,7 @@ impl Tables {
     {
         let crossing = crossing_units(alloc, net, owners)?;
         let spans = spans_of(alloc, owners)?;
+        let places = places_of_ends(alloc, net, owners)?;
         let owners = copy_owners(alloc, owners)?;
         let inputs = inputs.copy(alloc)?;
         let net = net.copy(alloc)?;
@@ -91,6 +97,7 @@ impl Tables {
             owners,
             crossing,
             spans,
+            places,
         })
     }
 
@@ -101,6 +108,19 @@ impl Tables {
     {
         let at = unit as usize;
         at >= self.crossing.len() || self.crossing[at]
+    }
+
+    /// Where the ends of a channel may stand, where it goes from one worker to another. Takes no memory.
+    #[inline(always)]
+    pub(crate) fn end_places(&self, chan: u32) -> Option<EndPlaces>
+        ensures { IfNone result (StaysInside self.now chan) }
+    {
+        let at = chan as usize;
+        if at < self.places.len() {
+            self.places[at]
+        } else {
+            None
+        }
     }
 
     /// A span in which all units of a worker lie. Takes no memory.

@@ -11,10 +11,11 @@ use crate::channel_ends::ChannelEnds;
 use crate::tables::Tables;
 use crate::worker::Worker;
 use elastic_link::PutEnd;
+use net_core::Laid;
 use net_types::Firing;
 
 /// Whether the end of a channel shows a credit.
-fn has_credit(puts: &mut ChannelEnds<PutEnd>, chan: u32) -> bool
+fn has_credit(puts: &mut ChannelEnds<PutEnd>, chan: u32, near: usize) -> bool
     requires { chan < length puts.old.items }
     ensures looked { PutsLooked puts.old.items puts.new.items }
     ensures none { IsFalse result
@@ -23,7 +24,7 @@ fn has_credit(puts: &mut ChannelEnds<PutEnd>, chan: u32) -> bool
         → get_or puts.new.items c None ≡ get_or puts.old.items c None }
     ensures chans { puts.new.chans ≡ puts.old.chans }
 {
-    match puts.get_mut(chan) {
+    match puts.get_mut(chan, near) {
         Some(end) => end.ready().is_some(),
         None => true,
     }
@@ -54,6 +55,18 @@ impl Worker {
         true
     }
 
+    /// Notes that a firing waits for a credit of the channel on which it lays a token, where that goes to another worker.
+    pub(crate) fn await_laid(&mut self, tables: &Tables, laid: Option<Laid>)
+        ensures { IsAsked self.old self.new }
+    {
+        let Some(laid) = laid else {
+            return;
+        };
+        if tables.end_places(laid.chan).is_some() && (laid.chan as usize) < self.waits.len() {
+            self.wait_at(laid.chan);
+        }
+    }
+
     /// Notes that a firing waits for a credit of a channel.
     fn wait_at(&mut self, chan: u32)
         requires { chan < length self.old.waits.items }
@@ -72,12 +85,13 @@ impl Worker {
     {
         for at in 0..self.outs.len() {
             let chan = self.outs[at];
-            self.ask_at(tables, chan);
+            self.ask_at(tables, chan, at);
         }
     }
 
-    /// The same for one channel to another worker.
-    fn ask_at(&mut self, tables: &Tables, chan: u32)
+    /// The same for one channel to another worker, whose end may stand near a place.
+    #[inline(always)]
+    fn ask_at(&mut self, tables: &Tables, chan: u32, near: usize)
         requires made { IsMadeOf tables.now self.old }
         requires out { IsOutOf tables.now (number_of self.old) chan }
         ensures made { IsMadeOf tables.now self.new }
@@ -87,7 +101,7 @@ impl Worker {
         if !self.awaits(chan) {
             return;
         }
-        if has_credit(&mut self.puts, chan) {
+        if has_credit(&mut self.puts, chan, near) {
             let at = chan as usize;
             self.waits[at] = false;
             self.resting = false;

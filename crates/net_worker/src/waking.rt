@@ -158,3 +158,52 @@ fn wake_target(ready: &mut Ready, state: &State, net: &Checked, at: u32)
         }
     }
 }
+
+/// Marks the units that the firing of a unit with channels from or to other workers may have let fire, as [`wake_inside`], but
+/// for the sources and the target that are others' units.
+#[inline(always)]
+pub(crate) fn wake_crossing(
+    ready: &mut Ready,
+    state: &State,
+    tables: &Tables,
+    unit: u32,
+    pins: Pins,
+    moves: Moves,
+)
+    requires { IsOf (net_of tables.now) state.now }
+{
+    let net = &tables.net;
+    match moves.taken {
+        Taken::None => {}
+        Taken::One(c) => {
+            wake_again(ready, state, net, unit, c);
+            wake_own_source(ready, state, tables, c);
+        }
+        Taken::Two(c, d) => {
+            wake_again(ready, state, net, unit, pins.first);
+            wake_own_source(ready, state, tables, c);
+            wake_own_source(ready, state, tables, d);
+        }
+        Taken::Three(c, d, e) => {
+            wake_again(ready, state, net, unit, pins.first);
+            wake_own_source(ready, state, tables, c);
+            wake_own_source(ready, state, tables, d);
+            wake_own_source(ready, state, tables, e);
+        }
+    }
+    if let Some(laid) = moves.laid {
+        if tables.end_places(laid.chan).is_none() {
+            wake_target(ready, state, net, laid.chan);
+        }
+    }
+}
+
+/// As [`wake_source`], where the channel stays in the worker.
+#[inline(always)]
+fn wake_own_source(ready: &mut Ready, state: &State, tables: &Tables, at: u32)
+    requires { IsOf (net_of tables.now) state.now }
+{
+    if tables.end_places(at).is_none() {
+        wake_source(ready, state, &tables.net, at);
+    }
+}

@@ -1,4 +1,4 @@
-use Rattle.std.proofs.Common.{◌≡◌, ◌<◌, ◌∙◌, length, arith}
+use Rattle.std.proofs.Common.{arith}
 use Rattle.net_worker.proofs.Edges.{marked_more}
 use Rattle.net_worker.proofs.crossing.crossing_units.Goals as goal
 

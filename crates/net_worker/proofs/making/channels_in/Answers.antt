@@ -1,4 +1,3 @@
-use Rattle.std.proofs.Common.{◌<◌, ◌≤◌, length, ap, arith}
 use Rattle.net_worker.specs.Workers.{IsInto}
 use Rattle.net_worker.proofs.Givings.{listed_if, only_if}
 use Rattle.net_worker.proofs.EndPlaces.{channels_if}

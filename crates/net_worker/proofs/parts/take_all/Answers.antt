@@ -1,4 +1,4 @@
-use Rattle.std.proofs.Common.{◌∙◌, [], ◌∷◌, ap, sym, subst, arith}
+use Rattle.std.proofs.Common.{◌∙◌, subst}
 use Rattle.net_worker.specs.Firings.{AllDistinct, chans_into}
 use Rattle.net_core.specs.Plans.{places_of}
 use Rattle.net_worker.proofs.Paying.{three_taken}

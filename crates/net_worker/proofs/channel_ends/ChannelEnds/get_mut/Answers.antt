@@ -1,4 +1,4 @@
-use Rattle.std.proofs.Common.{◌≡◌, ◌⊎◌, ◌<◌, ◌∙◌, length, Some, None, get_or, set, sym, ap, subst, inl, inr}
+use Rattle.std.proofs.Common.{◌≡◌, ◌⊎◌, ◌<◌, ◌∙◌, length, Some, None, set, sym, ap, subst, inl, inr}
 use Rattle.std.proofs.lemmas.List.{get_or_read, set-get_or}
 use Rattle.net_worker.specs.ChannelEnds.{spread, StandsAt, IsNotAmong}
 use Rattle.net_worker.proofs.EndPlaces.{some_at, set_at, spread_none}

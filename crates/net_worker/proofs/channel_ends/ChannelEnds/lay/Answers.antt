@@ -1,4 +1,4 @@
-use Rattle.std.proofs.Common.{◌≡◌, ◌∙◌, Some, set, sym, ap, subst}
+use Rattle.std.proofs.Common.{◌∙◌, Some, set, sym, ap, subst}
 use Rattle.std.specs.List.{Contains}
 use Rattle.std.proofs.lemmas.List.{get_or_default}
 use Rattle.net_worker.specs.ChannelEnds.{StandsAt, IsNotAmong}

@@ -1,4 +1,4 @@
-use Rattle.std.proofs.Common.{◌∙◌, ap, length}
+use Rattle.std.proofs.Common.{◌∙◌, ap}
 use Rattle.net_worker.specs.ChannelEnds.{spread}
 use Rattle.net_worker.proofs.EndPlaces.{spread_new}
 use Rattle.net_worker.proofs.channel_ends.ChannelEnds.new.Goals as goal

@@ -1,5 +1,5 @@
-use Rattle.std.proofs.Common.{◌<◌, ◌≤◌, length, arith, refl}
-use Rattle.net_worker.proofs.Givings.{puts_all, puts_lack}
+use Rattle.std.proofs.Common.{arith, refl}
+use Rattle.net_worker.proofs.Givings.{puts_all}
 use Rattle.net_worker.proofs.worker.Worker.has_puts.Goals as goal
 
 pub returns : goal.returns

@@ -1,5 +1,5 @@
-use Rattle.std.proofs.Common.{◌<◌, ◌≤◌, length, arith, refl}
-use Rattle.net_worker.proofs.Givings.{takes_all, takes_lack}
+use Rattle.std.proofs.Common.{arith, refl}
+use Rattle.net_worker.proofs.Givings.{takes_all}
 use Rattle.net_worker.proofs.worker.Worker.has_takes.Goals as goal
 
 pub returns : goal.returns

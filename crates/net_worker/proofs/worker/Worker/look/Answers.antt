@@ -1,7 +1,6 @@
-use Rattle.std.proofs.Common.{◌≡◌, ◌<◌, ◌≤◌, ◌∙◌, ℕ, length, get_or, ap, sym, subst, arith, below_more, rules}
+use Rattle.std.proofs.Common.{◌≡◌, ◌<◌, ◌∙◌, length, get_or, ap, subst, arith, below_more}
 use Rattle.std.proofs.lemmas.List.{get_or_default, get_or_read}
 use Rattle.net_worker.specs.Glances.{IsSeen}
-use Rattle.net_worker.specs.Workers.{IsInto}
 use Rattle.net_worker.proofs.Asking.{asked_self}
 use Rattle.net_worker.proofs.Glancing.{asked_looked, looked_trans, seen_later, seen_since}
 use Rattle.net_worker.proofs.worker.Worker.look.Goals as goal

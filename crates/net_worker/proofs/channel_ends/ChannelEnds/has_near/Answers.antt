@@ -1,9 +1,9 @@
-use Rattle.std.proofs.Common.{◌≡◌, ◌<◌, ◌∙◌, length, Option, None, IsSome, IsTrue, get_or, sym, subst}
+use Rattle.std.proofs.Common.{◌≡◌, ◌<◌, ◌∙◌, length, None, IsSome, IsTrue, get_or, sym, subst}
 use Rattle.std.proofs.lemmas.Bool.{false≢true}
 use Rattle.std.proofs.lemmas.List.{get_or_read}
-use Rattle.net_worker.specs.ChannelEnds.{spread, StandsAt, IsNotAmong}
+use Rattle.net_worker.specs.ChannelEnds.{StandsAt, IsNotAmong}
 use Rattle.net_worker.proofs.EndPlaces.{some_at, spread_none, length-spread}
-use Rattle.net_worker.proofs.channel_ends.ChannelEnds.has.Goals as goal
+use Rattle.net_worker.proofs.channel_ends.ChannelEnds.has_near.Goals as goal
 
 pub place_of-requires : goal.place_of-requires
 place_of-requires g c = (c.self.inside.count, rw c.deref.ensures.value c.self.invariant.channels)

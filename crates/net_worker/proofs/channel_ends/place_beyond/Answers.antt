@@ -1,5 +1,5 @@
 use Rattle.net_worker.proofs.EndPlaces.{found_at, found_not}
-use Rattle.net_worker.proofs.channel_ends.place_of.Goals as goal
+use Rattle.net_worker.proofs.channel_ends.place_beyond.Goals as goal
 
 pub returns-in-Ok : goal.returns-in-Ok
 returns-in-Ok c = record { some = found_at c.requires.0 c.args.chans.now c.args.chan c.in-Ok.at c.requires.1 c.in-Ok.ensures.position; none = tt }

@@ -2,7 +2,7 @@ use Rattle.std.proofs.Common.{◌∙◌, sym, ap, refl}
 use Rattle.std.specs.Option.{option_copied_mut}
 use Rattle.elastic_link.specs.Ends.{messages_sent, credits_owed, repaid_stamp}
 use Rattle.net_worker.proofs.Paying.{take_step_set}
-use Rattle.net_worker.proofs.parts.take_at.Goals as goal
+use Rattle.net_worker.proofs.parts.take_near.Goals as goal
 
 pub returns-in-Some-clause-taken : goal.returns-in-Some-clause-taken
 returns-in-Some-clause-taken c =

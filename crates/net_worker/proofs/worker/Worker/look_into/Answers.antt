@@ -1,5 +1,0 @@
-use Rattle.net_worker.proofs.Glancing.{into_end}
-use Rattle.net_worker.proofs.worker.Worker.look_into.Goals as goal
-
-pub look_at-requires-clause-into : goal.look_at-requires-clause-into
-look_at-requires-clause-into c = into_end c.args.tables.now c.args.self.now c.requires.made c.into_place-chan.result (c.has.ensures.end.0 c.if-has.true)
