@@ -10,3 +10,4 @@ pub mod GatherLemmas
 pub mod HandLemmas
 pub mod AssembleLemmas
 pub mod RunLemmas
+pub mod SweepLemmas

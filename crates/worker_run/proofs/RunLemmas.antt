@@ -185,15 +185,12 @@ pub kept_log : (keep : Bool) (old new : List Firing) (fs gs : List Firing) → o
 kept_log true old new fs gs a b = b ∙ ap (λ l. l ++ gs) a
 kept_log false old new fs gs a b = b ∙ (ap (λ l. l ++ []) a)
 
--- ---- the workers that threads swept
-
-pub swept_of : (t : Tables) (Opened : Type 0) (a b : List Worker) → AreSweptBy t Opened a b → AreSwept t a b
-swept_of t Opened a b h = record { long = h.long; each = λ j d l. (h.each j d l).swept }
+-- ---- the workers that were swept
 
 -- they keep to the limit too
 pub swept_within : (net : Net) (inputs : Inputs) (count limit : ℕ) (t : Tables) (Opened : Type 0) (a b : List Worker) → 0 < count → IsCrewOf net inputs count limit t a → AreMade t a → AreSweptBy t Opened a b → entries_of (logs_of b) ≤ limit
 swept_within net inputs count limit t Opened a b some crew made h =
-    let swept = swept_of t Opened a b h in
+    let swept = h.swept in
     entries_within net inputs count limit t b some (crew_swept net inputs count limit t a b swept crew) (λ j d l. (swept.each j d (omega (arith, l, swept.long))).made)
 
 -- ---- why a run has no report

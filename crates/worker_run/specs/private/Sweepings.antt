@@ -1,5 +1,7 @@
--- Private: only contracts of this crate cite it. Workers that threads have swept.
+-- Private: only contracts of this crate cite it. Workers that were swept, in threads or in turn.
 use Rattle.std.specs.Prelude.{◌≡◌, ◌⊎◌, ℕ, ◌<◌, List, length, get_or}
+use Rattle.std.specs.List.{sum_by}
+use Rattle.net_worker.specs.Views.{log_room}
 use Rattle.net_worker.specs.declared.tables.Tables.{Tables}
 use Rattle.net_worker.specs.declared.worker.Worker.{Worker}
 use Rattle.net_worker.specs.Workers.{IsMadeOf, SameWorker, IsFull, HasLoggedExit, HasRested}
@@ -18,12 +20,29 @@ pub record AreSwept (t : Tables) (a b : List Worker) : Type 0 where
   pub long : length b ≡ length a
   pub each : (j : ℕ) (d : Worker) → j < length a → IsSweptFrom t (get_or a j d) (get_or b j d)
 
--- the worker later, which has stopped by itself where the gate is open
-pub record IsSweptBy (t : Tables) (Opened : Type 0) (a b : Worker) : Type 0 where
-  pub swept : IsSweptFrom t a b
-  pub stopped : Opened → HasStopped t b
+-- so of each worker
+abbrev pub AllStopped : Tables → List Worker → Type 0
+AllStopped t ws = (j : ℕ) (d : Worker) → j < length ws → HasStopped t (get_or ws j d)
 
--- so each worker
+-- each worker later, which has stopped by itself where the gate is open
 pub record AreSweptBy (t : Tables) (Opened : Type 0) (a b : List Worker) : Type 0 where
-  pub long : length b ≡ length a
-  pub each : (j : ℕ) (d : Worker) → j < length a → IsSweptBy t Opened (get_or a j d) (get_or b j d)
+  pub swept : AreSwept t a b
+  pub stopped : Opened → AllStopped t b
+
+-- a gate that answered false is not open
+abbrev pub IsShut : Type 0 → Type 0
+IsShut Opened = Opened → ⊥
+
+-- how many entries more the logs have room for
+abbrev pub rooms_of : List Worker → ℕ
+rooms_of ws = sum_by log_room ws
+
+-- a worker that made so many firings in a sweep has stopped where that is none, and else has less room in its log
+pub record IsTurnOf (t : Tables) (n : ℕ) (a b : Worker) : Type 0 where
+  pub none : n ≡ 0 → HasStopped t b
+  pub some : 0 < n → log_room b < log_room a
+
+-- so of all workers
+pub record AreTurnsOf (t : Tables) (n : ℕ) (a b : List Worker) : Type 0 where
+  pub none : n ≡ 0 → AllStopped t b
+  pub some : 0 < n → rooms_of b < rooms_of a

@@ -7,7 +7,7 @@ use Rattle.net_worker.specs.Merged.{entries_of}
 use Rattle.worker_run.specs.Crews.{AllWhole, merged_of}
 use Rattle.worker_run.specs.Gathers.{RestsIn}
 use Rattle.worker_run.specs.Reports.{IsCrewOf, IsRunFault, HasEnded}
-use Rattle.worker_run.proofs.RunLemmas.{swept_of, made_swept, whole_swept, crew_swept, crew_same, swept_within, all_ended, longer, kept_log, judged_fault, err_by}
+use Rattle.worker_run.proofs.RunLemmas.{made_swept, whole_swept, crew_swept, crew_same, swept_within, all_ended, longer, kept_log, judged_fault, err_by}
 use Rattle.worker_run.proofs.running.run_workers.Goals as goal
 
 pub gather-made-requires-clause-whole : goal.gather-made-requires-clause-whole
@@ -15,7 +15,7 @@ gather-made-requires-clause-whole g c =
     let t = c.in_ok-crew.crew.tables in
     let a = c.in_ok-crew.crew.workers.items in
     let y = c.sweep_crew.new.crew.workers.items in
-    let swept = swept_of t (g.G.Gate.is_open c.args.gate.now) a y c.sweep_crew.ensures.swept in
+    let swept = c.sweep_crew.ensures.swept.swept in
     subst (λ u. AllWhole u y) (sym c.sweep_crew.ensures.tables) (whole_swept t a y swept c.in_ok-crew.ensures.whole)
 
 pub add_merged-requires-clause-room : goal.add_merged-requires-clause-room
@@ -61,7 +61,7 @@ returns-in_ok-judge-in-Rest-clause-report g c =
     let t = c.in_ok-crew.crew.tables in
     let a = c.in_ok-crew.crew.workers.items in
     let y = c.sweep_crew.new.crew.workers.items in
-    let swept = swept_of t (g.G.Gate.is_open c.args.gate.now) a y c.sweep_crew.ensures.swept in
+    let swept = c.sweep_crew.ensures.swept.swept in
     let made = made_swept t a y swept c.in_ok-crew.ensures.made.0 in
     let x = c.gather-made.new.crew.workers.items in
     let net = c.args.net.now in
@@ -89,5 +89,5 @@ returns-in_ok-judge-in-Rest-clause-report g c =
       ended = λ opened j d l. (
           let in_y : j < length y = subst (λ n. j < n) (sym crew.count_is) l in
           subst (λ u. HasEnded u gathered (get_or x j d)) (sym kept)
-          (all_ended t gathered y x made same (λ i e h. rests i e h) (λ i e h. (c.sweep_crew.ensures.swept.each i e (omega (arith, h, swept.long))).stopped opened) j d in_y));
+          (all_ended t gathered y x made same (λ i e h. rests i e h) (c.sweep_crew.ensures.swept.stopped opened) j d in_y));
     }

@@ -1,13 +1,14 @@
-use Rattle.std.proofs.Common.{◌<◌, ◌+◌, ◌-◌, ◌*◌, length}
+use Rattle.std.proofs.Common.{◌<◌, ◌≤◌, ◌+◌, ◌-◌, ◌*◌, length}
 use Rattle.net_worker.specs.Views.{log_share, log_of}
-use Rattle.net_worker.specs.Workers.{IsMadeOf, SameWorker}
-use Rattle.worker_run.proofs.running.sweep_on.Given as goal
+use Rattle.net_worker.specs.Workers.{IsMadeOf}
+use Rattle.worker_run.specs.private.Sweepings.{IsSweptFrom}
+use Rattle.worker_run.proofs.sweeping.sweep_on.Given as goal
 
 abbrev pub invariant-loop-worker : goal.invariant-loop-worker
 invariant-loop-worker g l = record {
-  made : IsMadeOf l.tables l.worker;
-  same : SameWorker l.fn.worker l.worker;
+  swept : IsSweptFrom l.tables l.fn.worker l.worker;
   idle : l.idle < 10000;
+  debt : l.debt ≤ 4096;
 }
 
 -- the share that is left counts for more than all idle sweeps in a row

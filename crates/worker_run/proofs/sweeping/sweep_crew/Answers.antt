@@ -5,8 +5,8 @@ use Rattle.net_worker.specs.declared.worker.Worker.{Worker}
 use Rattle.worker_run.specs.Crews.{AreMade, AreLinked}
 use Rattle.worker_run.specs.private.Sweepings.{AreSweptBy}
 use Rattle.worker_run.proofs.GatherLemmas.{slice_back}
-use Rattle.worker_run.proofs.RunLemmas.{swept_of, made_swept, linked_swept}
-use Rattle.worker_run.proofs.running.sweep_crew.Goals as goal
+use Rattle.worker_run.proofs.RunLemmas.{made_swept, linked_swept}
+use Rattle.worker_run.proofs.sweeping.sweep_crew.Goals as goal
 
 pub sweep_all-requires-clause-made : goal.sweep_all-requires-clause-made
 sweep_all-requires-clause-made g c _ _ k d l =
@@ -20,7 +20,7 @@ invariant_of-crew g c =
     let a = c.args.crew.now.workers in
     let y = c.sweep_all.new.workers in
     let by = subst (λ (l : List Worker). AreSweptBy t (g.G.Gate.is_open c.args.gate.now) l y) c.as_mut_slice.ensures.value c.sweep_all.ensures in
-    let swept = swept_of t (g.G.Gate.is_open c.args.gate.now) a.items y by in
+    let swept = by.swept in
     let back = slice_back a.items y a.len a.ok.0 swept.long in
     record {
       made = subst (λ l. ∥ AreMade t l ∥₁) (sym back) (∣ made_swept t a.items y swept c.requires.made ∣₁);
@@ -33,6 +33,5 @@ returns-clause-swept g c =
     let a = c.args.crew.now.workers in
     let y = c.sweep_all.new.workers in
     let by = subst (λ (l : List Worker). AreSweptBy t (g.G.Gate.is_open c.args.gate.now) l y) c.as_mut_slice.ensures.value c.sweep_all.ensures in
-    let swept = swept_of t (g.G.Gate.is_open c.args.gate.now) a.items y by in
-    let back = slice_back a.items y a.len a.ok.0 swept.long in
+    let back = slice_back a.items y a.len a.ok.0 by.swept.long in
     subst (λ (l : List Worker). AreSweptBy t (g.G.Gate.is_open c.args.gate.now) a.items l) (sym back) by

@@ -1,0 +1,5 @@
+use Rattle.worker_run.proofs.SweepLemmas.{AreSweptTo}
+use Rattle.worker_run.proofs.sweeping.sweep_each.Given as goal
+
+abbrev pub invariant-loop-worker : goal.invariant-loop-worker
+invariant-loop-worker g l = AreSweptTo l.tables l.fn.workers l.workers l.round.made l.worker-index

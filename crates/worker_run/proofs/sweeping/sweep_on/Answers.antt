@@ -1,0 +1,35 @@
+use Rattle.std.proofs.Common.{◌<◌, ◌≤◌, arith}
+use Rattle.worker_run.proofs.SweepLemmas.{swept_self, swept_then}
+use Rattle.worker_run.proofs.sweeping.sweep_on.Goals as goal
+
+pub loop-worker-init : goal.loop-worker-init
+loop-worker-init g c = record { swept = swept_self c.args.tables.now c.args.worker.now c.requires.made; idle = omega arith; debt = omega arith }
+
+pub loop-worker-preserved-else-debt-gt-MOST_DEBT : goal.loop-worker-preserved-else-debt-gt-MOST_DEBT
+loop-worker-preserved-else-debt-gt-MOST_DEBT g c = record {
+  swept = swept_then c.args.tables.now c.args.worker.now c.loop-worker.worker c.sweep.new.self c.loop-worker.invariant.swept (record { made = c.sweep.ensures.made; same = c.sweep.ensures.same });
+  idle = omega arith;
+  debt = omega (arith, c.if-debt-gt-MOST_DEBT.false);
+}
+
+pub loop-worker-preserved : goal.loop-worker-preserved
+loop-worker-preserved g c = record {
+  swept = swept_then c.args.tables.now c.args.worker.now c.loop-worker.worker c.sweep.new.self c.loop-worker.invariant.swept (record { made = c.sweep.ensures.made; same = c.sweep.ensures.same });
+  idle = omega (arith, c.if-idle-ge-MOST_IDLE.false);
+  debt = c.loop-worker.invariant.debt;
+}
+
+pub returns-then-debt-gt-MOST_DEBT : goal.returns-then-debt-gt-MOST_DEBT
+returns-then-debt-gt-MOST_DEBT g c = swept_then c.args.tables.now c.args.worker.now c.loop-worker.worker c.sweep.new.self c.loop-worker.invariant.swept (record { made = c.sweep.ensures.made; same = c.sweep.ensures.same })
+
+pub returns-then-idle-ge-MOST_IDLE : goal.returns-then-idle-ge-MOST_IDLE
+returns-then-idle-ge-MOST_IDLE g c = swept_then c.args.tables.now c.args.worker.now c.loop-worker.worker c.sweep.new.self c.loop-worker.invariant.swept (record { made = c.sweep.ensures.made; same = c.sweep.ensures.same })
+
+pub returns-then-load : goal.returns-then-load
+returns-then-load g c = swept_then c.args.tables.now c.args.worker.now c.loop-worker.worker c.sweep.new.self c.loop-worker.invariant.swept (record { made = c.sweep.ensures.made; same = c.sweep.ensures.same })
+
+pub returns-in-Exited : goal.returns-in-Exited
+returns-in-Exited g c = swept_then c.args.tables.now c.args.worker.now c.loop-worker.worker c.sweep.new.self c.loop-worker.invariant.swept (record { made = c.sweep.ensures.made; same = c.sweep.ensures.same })
+
+pub returns-in-Full : goal.returns-in-Full
+returns-in-Full g c = swept_then c.args.tables.now c.args.worker.now c.loop-worker.worker c.sweep.new.self c.loop-worker.invariant.swept (record { made = c.sweep.ensures.made; same = c.sweep.ensures.same })

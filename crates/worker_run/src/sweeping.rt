@@ -1,0 +1,269 @@
+//! The workers of a crew are swept until each has ended: in threads of their own while that pays, and in turn by the caller.
+//!
+//! A token that goes from thread to thread takes as long as many firings. Where the sweeps of a worker make few firings each,
+//! all leave their threads, and the caller sweeps one after another, until it sees that their sweeps make many firings again.
+
+ghost use Rattle.std.specs.Prelude.{◌≡◌, ◌<◌, All, IfNone, IfSome, IsFalse, IsTrue};
+ghost use Rattle.net_worker.specs.Workers.{IsMadeOf, IsWhole};
+ghost use Rattle.worker_run.specs.Crews.{AllWhole, AreMade};
+ghost use Rattle.worker_run.specs.private.Sweepings.{AreSwept, AreSweptBy, AreTurnsOf, IsShut, IsSweptFrom, IsTurnOf, rooms_of};
+
+use crate::crew::Crew;
+use crossbeam_utils::atomic::AtomicCell;
+use el_io::Gate;
+use net_worker::{Swept, Tables, Worker};
+use std::thread::Threads;
+use std::{hint, thread};
+
+/// Idle sweeps in a row after which a worker leaves its thread.
+const MOST_IDLE: u32 = 10_000;
+
+/// An idle worker gives its turn away after each so many idle sweeps in a row.
+const IDLE_TURN: u32 = 64;
+
+/// How often it spins after each other idle sweep.
+const IDLE_SPINS: u32 = 4;
+
+/// How many firings of a sweep pay for the way of its tokens between threads.
+const PAID: u32 = 64;
+
+/// How many firings fewer than that the sweeps of a worker may have made before it leaves its thread.
+const MOST_DEBT: u32 = 4096;
+
+/// How many firings the caller lets workers make in turn before it looks whether threads pay.
+const BOUT: u32 = 100_000;
+
+/// How many firings a sweep in turn makes on the average where threads pay.
+const PAYS: u32 = 256;
+
+/// What sweeping workers in turn came to.
+#[derive(Clone, Copy)]
+struct Bout {
+    /// How many firings were made; 2^32 - 1 stands for more.
+    made: u32,
+    /// How many sweeps made some; 2^32 - 1 stands for more.
+    sweeps: u32,
+}
+
+impl Bout {
+    ghost use Rattle.std.specs.Prelude.{◌≡◌, ◌↔◌};
+
+    /// None was made.
+    fn none() -> Bout
+        ensures { result.made ≡ 0 }
+    {
+        Bout { made: 0, sweeps: 0 }
+    }
+
+    /// The same, and one sweep more that made so many.
+    fn and_sweep(self, made: u32) -> Bout
+        ensures { result.made ≡ 0 ↔ (self.made ≡ 0) × (made ≡ 0) }
+    {
+        if made == 0 {
+            return self;
+        }
+        Bout {
+            made: self.made.saturating_add(made),
+            sweeps: self.sweeps.saturating_add(1),
+        }
+    }
+
+    /// This one, and then another.
+    fn and(self, other: Bout) -> Bout {
+        Bout {
+            made: self.made.saturating_add(other.made),
+            sweeps: self.sweeps.saturating_add(other.sweeps),
+        }
+    }
+
+    /// Whether it is long enough to tell whether threads pay.
+    fn is_long(self) -> bool {
+        self.made >= BOUT
+    }
+
+    /// Whether threads pay for workers that make so many firings in so many sweeps.
+    fn pays(self) -> bool {
+        self.sweeps > 0 && self.made / self.sweeps >= PAYS
+    }
+}
+
+/// Sweeps all workers of a crew until each has ended.
+pub(crate) fn sweep_crew<R: Threads + Sync, G: Gate + Sync>(rt: &R, crew: &mut Crew, gate: &G)
+    requires made { AreMade crew.old.tables crew.old.workers.items }
+    requires whole { AllWhole crew.old.tables crew.old.workers.items }
+    ensures swept { AreSweptBy crew.old.tables (G.is_open gate.now) crew.old.workers.items
+        crew.new.workers.items }
+    ensures tables { crew.new.tables ≡ crew.old.tables }
+{
+    sweep_all(rt, &crew.tables, crew.workers.as_mut_slice(), gate);
+}
+
+/// Sweeps all workers, in threads or in turn, until each has ended.
+fn sweep_all<R: Threads + Sync, G: Gate + Sync>(
+    rt: &R,
+    tables: &Tables,
+    workers: &mut [Worker],
+    gate: &G,
+)
+    requires made { All (IsMadeOf tables.now) workers.old }
+    requires whole { All (IsWhole tables.now) workers.old }
+    ensures { AreSweptBy tables.now (G.is_open gate.now) workers.old workers.new }
+{
+    'phases: loop {
+        sweep_in_threads(rt, tables, workers, gate);
+        if sweep_in_turn(tables, workers, gate) {
+            return;
+        }
+    }
+}
+
+/// Sweeps all workers in turn until each has ended, or threads pay; tells whether each has ended.
+fn sweep_in_turn<G: Gate>(tables: &Tables, workers: &mut [Worker], gate: &G) -> bool
+    requires made { All (IsMadeOf tables.now) workers.old }
+    requires whole { All (IsWhole tables.now) workers.old }
+    ensures swept { AreSwept tables.now workers.old workers.new }
+    ensures over { IsTrue result
+        → AreSweptBy tables.now (G.is_open gate.now) workers.old workers.new }
+    ensures fewer { IsFalse result → rooms_of workers.new < rooms_of workers.old }
+{
+    let mut bout = Bout::none();
+    'rounds: loop {
+        let Some(round) = sweep_each(tables, workers, gate) else {
+            return true;
+        };
+        if round.made == 0 {
+            return true;
+        }
+        bout = bout.and(round);
+        if bout.is_long() {
+            if bout.pays() {
+                return false;
+            }
+            bout = Bout::none();
+        }
+    }
+}
+
+/// Sweeps each worker once that has not ended; `None` where the gate ends one.
+fn sweep_each<G: Gate>(tables: &Tables, workers: &mut [Worker], gate: &G) -> Option<Bout>
+    requires made { All (IsMadeOf tables.now) workers.old }
+    requires whole { All (IsWhole tables.now) workers.old }
+    ensures swept { AreSwept tables.now workers.old workers.new }
+    ensures shut { IfNone result (IsShut (G.is_open gate.now)) }
+    ensures turns { IfSome result
+        (λ b. AreTurnsOf tables.now b.made workers.old workers.new) }
+{
+    let mut round = Bout::none();
+    for worker in workers.iter_mut() {
+        let made = sweep_once(worker, tables, gate)?;
+        round = round.and_sweep(made);
+    }
+    Some(round)
+}
+
+/// Sweeps a worker once that has not ended, and answers how many firings it made before the exit; `None` where the gate ends
+/// it.
+fn sweep_once<G: Gate>(worker: &mut Worker, tables: &Tables, gate: &G) -> Option<u32>
+    requires made { IsMadeOf tables.now worker.old }
+    requires whole { IsWhole tables.now worker.old }
+    ensures swept { IsSweptFrom tables.now worker.old worker.new }
+    ensures shut { IfNone result (IsShut (G.is_open gate.now)) }
+    ensures turn { IfSome result (λ n. IsTurnOf tables.now n worker.old worker.new) }
+{
+    if worker.has_ended(tables) {
+        return Some(0);
+    }
+    if !gate.turn(worker.number()) {
+        return None;
+    }
+    match worker.sweep(tables) {
+        Swept::Fired(made) => Some(made),
+        Swept::Idle => Some(0),
+        Swept::Exited => Some(0),
+        Swept::Full => Some(0),
+    }
+}
+
+/// Sweeps all workers, each in a thread of its own, until each has ended or leaves its thread.
+fn sweep_in_threads<R: Threads + Sync, G: Gate + Sync>(
+    rt: &R,
+    tables: &Tables,
+    workers: &mut [Worker],
+    gate: &G,
+)
+    requires made { All (IsMadeOf tables.now) workers.old }
+    requires whole { All (IsWhole tables.now) workers.old }
+    ensures { AreSwept tables.now workers.old workers.new }
+{
+    if workers.is_empty() {
+        return;
+    }
+    let leave = AtomicCell::new(false);
+    let threads = workers.len();
+    thread::for_each_mut(
+        rt,
+        workers,
+        threads,
+        &|_, worker| sweep_out(worker, tables, gate, &leave),
+    );
+}
+
+/// Sweeps one worker in its thread.
+fn sweep_out<G: Gate>(worker: &mut Worker, tables: &Tables, gate: &G, leave: &AtomicCell<bool>)
+    requires made { IsMadeOf tables.now worker.old }
+    requires whole { IsWhole tables.now worker.old }
+    ensures { IsSweptFrom tables.now worker.old worker.new }
+{
+    sweep_on(worker, tables, gate, leave);
+}
+
+/// Sweeps one worker until the gate ends it, or it has logged its exit, or its log is full; or until it leaves its thread: it
+/// was idle when another had told to leave, or idle so often in a row, or its sweeps do not pay for threads. It tells the others
+/// to leave where it logged the exit, was idle so often, or does not pay.
+fn sweep_on<G: Gate>(worker: &mut Worker, tables: &Tables, gate: &G, leave: &AtomicCell<bool>)
+    requires made { IsMadeOf tables.now worker.old }
+    requires whole { IsWhole tables.now worker.old }
+    ensures { IsSweptFrom tables.now worker.old worker.new }
+{
+    let mut idle = 0u32;
+    let mut debt = 0u32;
+    while gate.turn(worker.number()) {
+        match worker.sweep(tables) {
+            Swept::Fired(made) => {
+                idle = 0;
+                debt = (debt + PAID).saturating_sub(made);
+                if debt > MOST_DEBT {
+                    leave.store(true);
+                    return;
+                }
+            }
+            Swept::Idle => {
+                idle += 1;
+                if idle >= MOST_IDLE {
+                    leave.store(true);
+                    return;
+                }
+                if leave.load() {
+                    return;
+                }
+                pause(idle);
+            }
+            Swept::Exited => {
+                leave.store(true);
+                return;
+            }
+            Swept::Full => return,
+        }
+    }
+}
+
+/// Waits a little after so many idle sweeps in a row.
+fn pause(idle: u32) {
+    if idle % IDLE_TURN == 0 {
+        thread::yield_now();
+        return;
+    }
+    for _ in 0..IDLE_SPINS {
+        hint::spin_loop();
+    }
+}
