@@ -1,9 +1,10 @@
 -- Expansions, call by call: what each call made joins to what the whole makes.
 use Rattle.std.proofs.Common.{◌≡◌, ℕ, ◌+◌, ◌≤◌, ◌<◌, List, [], ◌∷◌, ◌++◌, length, get_or, drop, refl, sym, ◌∙◌, ap, subst, arith, append_assoc, append-nil, length-append, add-one, length-drop}
-use Rattle.std.specs.Prelude.{Bool, true, false, ◌&&◌, ◌==◌, Option, Some, None}
+use Rattle.std.specs.Prelude.{sum_by, Bool, true, false, ◌&&◌, ◌==◌, Option, Some, None}
 use Rattle.std.proofs.Math.Seq.{drop-cons}
+use Rattle.std.proofs.lemmas.List.{nil_from_length}
 use Rattle.std.proofs.lemmas.Bool.{ne_eqb}
-use Rattle.std.proofs.lemmas.List.Sums.{sum_by-cons}
+use Rattle.std.proofs.lemmas.List.Sums.{sum_by-drop_more}
 use Rattle.el_base.specs.declared.span.Span.{Span}
 use Rattle.el_base.specs.declared.ty.Ty.{Ty}
 use Rattle.el_base.specs.declared.ty.Ty.TheVariants.{I32}
@@ -18,6 +19,7 @@ use Rattle.c_ast.specs.Nodes.{typed_expr_nodes, typed_exprs_nodes}
 use Rattle.c_meaning.specs.Sizes.{reads}
 use Rattle.c_norm.specs.Expand.{Out, Outs, whole, setting, side, choice, decided_by, logical, joined_out, logical_out, binary_out, choose_out, expand, expand_expr, rest_of, expand_all, set_all}
 use Rattle.c_norm.specs.Code.{HasRoom, IsOut, AreOut, IsExpanded, GoesOn, set_out}
+use Rattle.c_norm.specs.declared.expand.Rest.{Rest}
 use Rattle.c_norm.proofs.SizedExprs.{sized, all_sized, set_sized}
 use Rattle.c_norm.proofs.Parts.{reads_element, reads_unary, reads_cast, reads_binary, reads_choice, element_out, unary_out, cast_out, expand_element, expand_unary, expand_cast, expand_binary, expand_choice, plain_whole}
 
@@ -56,51 +58,48 @@ as_out o o2 ty at b v b2 v2 x e p = subst (λ z. IsOut z ty at b v b2 v2 x) (sym
 pub second_out : (o : Out) (e : TypedExpr) (b : List NormalStmt) (v v1 : List Ty) (b2 : List NormalStmt) (v2 : List Ty) (x : TypedExpr) → v1 ≡ v ++ o.types → IsOut (expand_expr (length v1) e) e.ty e.at b v1 b2 v2 x → IsOut (expand_expr (length v + length o.types) e) e.ty e.at b v1 b2 v2 x
 second_out o e b v v1 b2 v2 x h p = subst (λ n. IsOut (expand_expr n e) e.ty e.at b v1 b2 v2 x) (longer v v1 o.types h) p
 
+-- what is left of an expression, by its kind
+pub left_is : (e : TypedExpr) (k k2 : TypedExprKind) (p : Bool) (b : List NormalStmt) (v : List Ty) (b2 : List NormalStmt) (v2 : List Ty) (r : Rest) → r ≡ record { expr = of_type k e.ty e.at; plain = p } → k ≡ k2 → IsExpanded e b v b2 v2 (of_type k2 e.ty e.at) p → IsExpanded e b v b2 v2 r.expr r.plain
+left_is e k k2 p b v b2 v2 r h g i = subst (λ (q : Rest). IsExpanded e b v b2 v2 q.expr q.plain) (sym (h ∙ ap (λ z. record { expr = of_type z e.ty e.at; plain = p }) g)) i
+
 -- ---- no operand
 
-pub whole_number : (e : TypedExpr) (n : ℕ) (b : List NormalStmt) (v : List Ty) (r : TypedExpr) (p : Bool) → e.kind ≡ expr.Number n → r ≡ of_type (expr.Number n) e.ty e.at → p ≡ true → IsExpanded e b v b v r p
-whole_number e n b v r p is re pe = record {
-  out = as_out (expand_expr (length v) e) (whole (expr.Number n)) e.ty e.at b v b v r (ap (λ k. expand (length v) k e.ty e.at) is) (record { rest = re; set = sym (append-nil b); made = sym (append-nil v) });
-  plain = pe ∙ ap (λ k. reads k == 0) (sym is);
-}
-
-pub whole_var : (e : TypedExpr) (n : ℕ) (b : List NormalStmt) (v : List Ty) (r : TypedExpr) (p : Bool) → e.kind ≡ expr.Var n → r ≡ of_type (expr.Var n) e.ty e.at → p ≡ true → IsExpanded e b v b v r p
-whole_var e n b v r p is re pe = record {
-  out = as_out (expand_expr (length v) e) (whole (expr.Var n)) e.ty e.at b v b v r (ap (λ k. expand (length v) k e.ty e.at) is) (record { rest = re; set = sym (append-nil b); made = sym (append-nil v) });
-  plain = pe ∙ ap (λ k. reads k == 0) (sym is);
+pub whole_arm : (e : TypedExpr) (k : TypedExprKind) (b : List NormalStmt) (v : List Ty) → e.kind ≡ k → expand (length v) k e.ty e.at ≡ whole k → reads k ≡ 0 → IsExpanded e b v b v (of_type k e.ty e.at) true
+whole_arm e k b v is w n = record {
+  out = as_out (expand_expr (length v) e) (whole k) e.ty e.at b v b v (of_type k e.ty e.at) (ap (λ k. expand (length v) k e.ty e.at) is ∙ w) (record { rest = refl; set = sym (append-nil b); made = sym (append-nil v) });
+  plain = sym (ap (λ k. reads k == 0) is ∙ ap (λ i. i == 0) n);
 }
 
 -- ---- one operand
 
-pub element_arm : (e : TypedExpr) (a : ℕ) (es xs : List TypedExpr) (b : List NormalStmt) (v : List Ty) (b2 : List NormalStmt) (v2 : List Ty) (r : TypedExpr) (p : Bool) → e.kind ≡ expr.Element a es → AreOut (expand_all (length v) es) b v b2 v2 xs → r ≡ of_type (expr.Element a xs) e.ty e.at → p ≡ false → IsExpanded e b v b2 v2 r p
-element_arm e a es xs b v b2 v2 r p is h re pe = record {
-  out = as_out (expand_expr (length v) e) (element_out a (expand_all (length v) es)) e.ty e.at b v b2 v2 r (expand_element (length v) e a es is) (record {
-    rest = re ∙ ap (λ z. of_type (expr.Element a z) e.ty e.at) h.rest;
+pub element_arm : (e : TypedExpr) (a : ℕ) (es xs : List TypedExpr) (b : List NormalStmt) (v : List Ty) (b2 : List NormalStmt) (v2 : List Ty) → e.kind ≡ expr.Element a es → AreOut (expand_all (length v) es) b v b2 v2 xs → IsExpanded e b v b2 v2 (of_type (expr.Element a xs) e.ty e.at) false
+element_arm e a es xs b v b2 v2 is h = record {
+  out = as_out (expand_expr (length v) e) (element_out a (expand_all (length v) es)) e.ty e.at b v b2 v2 (of_type (expr.Element a xs) e.ty e.at) (expand_element (length v) e a es is) (record {
+    rest = ap (λ z. of_type (expr.Element a z) e.ty e.at) h.rest;
     set = h.set;
     made = h.made;
   });
-  plain = pe ∙ reads_element e a es is;
+  plain = reads_element e a es is;
 }
 
-pub unary_arm : (e : TypedExpr) (op : Unary) (x y z : TypedExpr) (q : Bool) (b : List NormalStmt) (v : List Ty) (b2 : List NormalStmt) (v2 : List Ty) (r : TypedExpr) (p : Bool) → e.kind ≡ expr.Unary op x → IsExpanded x b v b2 v2 y q → z ≡ y → r ≡ of_type (expr.Unary op z) e.ty e.at → p ≡ q → IsExpanded e b v b2 v2 r p
-unary_arm e op x y z q b v b2 v2 r p is h ze re pe = record {
-  out = as_out (expand_expr (length v) e) (unary_out op x.ty x.at (expand_expr (length v) x)) e.ty e.at b v b2 v2 r (expand_unary (length v) e op x is) (record {
-    rest = re ∙ ap (λ z. of_type (expr.Unary op z) e.ty e.at) (ze ∙ h.out.rest);
+pub unary_arm : (e : TypedExpr) (op : Unary) (x y : TypedExpr) (q : Bool) (b : List NormalStmt) (v : List Ty) (b2 : List NormalStmt) (v2 : List Ty) → e.kind ≡ expr.Unary op x → IsExpanded x b v b2 v2 y q → IsExpanded e b v b2 v2 (of_type (expr.Unary op y) e.ty e.at) q
+unary_arm e op x y q b v b2 v2 is h = record {
+  out = as_out (expand_expr (length v) e) (unary_out op x.ty x.at (expand_expr (length v) x)) e.ty e.at b v b2 v2 (of_type (expr.Unary op y) e.ty e.at) (expand_unary (length v) e op x is) (record {
+    rest = ap (λ z. of_type (expr.Unary op z) e.ty e.at) h.out.rest;
     set = h.out.set;
     made = h.out.made;
   });
-  plain = pe ∙ h.plain ∙ reads_unary e op x is;
+  plain = h.plain ∙ reads_unary e op x is;
 }
 
-pub cast_arm : (e : TypedExpr) (implied : Bool) (x y z : TypedExpr) (q : Bool) (b : List NormalStmt) (v : List Ty) (b2 : List NormalStmt) (v2 : List Ty) (r : TypedExpr) (p : Bool) → e.kind ≡ expr.Cast implied x → IsExpanded x b v b2 v2 y q → z ≡ y → r ≡ of_type (expr.Cast implied z) e.ty e.at → p ≡ q
-    → IsExpanded e b v b2 v2 r p
-cast_arm e implied x y z q b v b2 v2 r p is h ze re pe = record {
-  out = as_out (expand_expr (length v) e) (cast_out implied x.ty x.at (expand_expr (length v) x)) e.ty e.at b v b2 v2 r (expand_cast (length v) e implied x is) (record {
-    rest = re ∙ ap (λ z. of_type (expr.Cast implied z) e.ty e.at) (ze ∙ h.out.rest);
+pub cast_arm : (e : TypedExpr) (implied : Bool) (x y : TypedExpr) (q : Bool) (b : List NormalStmt) (v : List Ty) (b2 : List NormalStmt) (v2 : List Ty) → e.kind ≡ expr.Cast implied x → IsExpanded x b v b2 v2 y q → IsExpanded e b v b2 v2 (of_type (expr.Cast implied y) e.ty e.at) q
+cast_arm e implied x y q b v b2 v2 is h = record {
+  out = as_out (expand_expr (length v) e) (cast_out implied x.ty x.at (expand_expr (length v) x)) e.ty e.at b v b2 v2 (of_type (expr.Cast implied y) e.ty e.at) (expand_cast (length v) e implied x is) (record {
+    rest = ap (λ z. of_type (expr.Cast implied z) e.ty e.at) h.out.rest;
     set = h.out.set;
     made = h.out.made;
   });
-  plain = pe ∙ h.plain ∙ reads_cast e implied x is;
+  plain = h.plain ∙ reads_cast e implied x is;
 }
 
 -- ---- two operands
@@ -117,9 +116,9 @@ out_none d plain kind op v o o2 t t2 at at2 s e = ap (λ i. binary_out i plain k
 out_some : (d : Option Bool) (c : Bool) (plain : Bool) (kind : TypedExprKind) (op : Binary) (v : ℕ) (o o2 : Out) (t t2 : Ty) (at at2 s : Span) → d ≡ Some c → plain ≡ false → binary_out d plain kind op v o t at o2 t2 at2 s ≡ logical_out c v o t at o2 t2 at2 s
 out_some d c plain kind op v o o2 t t2 at at2 s e h = ap (λ i. binary_out i plain kind op v o t at o2 t2 at2 s) e ∙ ap (λ i. binary_out (Some c) i kind op v o t at o2 t2 at2 s) h
 
-pub joined_arm : (e : TypedExpr) (op : Binary) (x y x1 y1 x2 y2 : TypedExpr) (p1 p2 : Bool) (b0 : List NormalStmt) (v0 : List Ty) (b1 : List NormalStmt) (v1 : List Ty) (b2 : List NormalStmt) (v2 : List Ty) (r : TypedExpr) (p : Bool)
-    → e.kind ≡ expr.Binary op x y → decided_by op ≡ None → IsExpanded x b0 v0 b1 v1 x1 p1 → IsExpanded y b1 v1 b2 v2 y1 p2 → x2 ≡ x1 → y2 ≡ y1 → r ≡ of_type (expr.Binary op x2 y2) e.ty e.at → p ≡ (p1 && p2) → IsExpanded e b0 v0 b2 v2 r p
-joined_arm e op x y x1 y1 x2 y2 p1 p2 b0 v0 b1 v1 b2 v2 r p is none h i xe ye re pe =
+pub joined_arm : (e : TypedExpr) (op : Binary) (x y x1 y1 : TypedExpr) (p1 p2 q : Bool) (b0 : List NormalStmt) (v0 : List Ty) (b1 : List NormalStmt) (v1 : List Ty) (b2 : List NormalStmt) (v2 : List Ty)
+    → e.kind ≡ expr.Binary op x y → decided_by op ≡ None → IsExpanded x b0 v0 b1 v1 x1 p1 → IsExpanded y b1 v1 b2 v2 y1 p2 → q ≡ (p1 && p2) → IsExpanded e b0 v0 b2 v2 (of_type (expr.Binary op x1 y1) e.ty e.at) q
+joined_arm e op x y x1 y1 p1 p2 q b0 v0 b1 v1 b2 v2 is none h i qe =
     let f = length v0 in
     let o = expand_expr f x in
     let g = f + length o.types in
@@ -127,12 +126,12 @@ joined_arm e op x y x1 y1 x2 y2 p1 p2 b0 v0 b1 v1 b2 v2 r p is none h i xe ye re
     let j = second_out o y b1 v0 v1 b2 v2 y1 h.out.made i.out in
     let e1 = expand_binary f e op x y is ∙ out_none (decided_by op) (reads x.kind + reads y.kind == 0) (expr.Binary op x y) op (g + length o2.types) o o2 x.ty y.ty x.at y.at e.at none in
     record {
-      out = as_out (expand_expr f e) (joined_out op o x.ty x.at o2 y.ty y.at) e.ty e.at b0 v0 b2 v2 r e1 (record {
-        rest = re ∙ ap (λ z. of_type (expr.Binary op z y2) e.ty e.at) (xe ∙ h.out.rest) ∙ ap (λ z. of_type (expr.Binary op (of_type o.kind x.ty x.at) z) e.ty e.at) (ye ∙ j.rest);
+      out = as_out (expand_expr f e) (joined_out op o x.ty x.at o2 y.ty y.at) e.ty e.at b0 v0 b2 v2 (of_type (expr.Binary op x1 y1) e.ty e.at) e1 (record {
+        rest = ap (λ z. of_type (expr.Binary op z y1) e.ty e.at) h.out.rest ∙ ap (λ z. of_type (expr.Binary op (of_type o.kind x.ty x.at) z) e.ty e.at) j.rest;
         set = behind b0 b1 b2 o.before o2.before h.out.set j.set;
         made = behind v0 v1 v2 o.types o2.types h.out.made j.made;
       });
-      plain = pe ∙ both_zero p1 p2 (reads x.kind) (reads y.kind) h.plain i.plain ∙ reads_binary e op x y is;
+      plain = qe ∙ both_zero p1 p2 (reads x.kind) (reads y.kind) h.plain i.plain ∙ reads_binary e op x y is;
     }
 
 zero_of : (n : ℕ) → (n == 0) ≡ true → n ≡ 0
@@ -142,46 +141,45 @@ zero_of n h = grind (arith)
 pub plain_out : (e : TypedExpr) (f : ℕ) (b : List NormalStmt) (v : List Ty) (b2 : List NormalStmt) (v2 : List Ty) (x : TypedExpr) → reads e.kind ≡ 0 → IsOut (expand_expr f e) e.ty e.at b v b2 v2 x → IsOut (whole e.kind) e.ty e.at b v b2 v2 x
 plain_out e f b v b2 v2 x h p = subst (λ z. IsOut z e.ty e.at b v b2 v2 x) (plain_whole f e h) p
 
-pub plain_arm : (e : TypedExpr) (op : Binary) (x y x1 y1 x2 y2 : TypedExpr) (p1 p2 q : Bool) (b0 : List NormalStmt) (v0 : List Ty) (b1 : List NormalStmt) (v1 : List Ty) (i0 i1 : List NormalStmt) (v2 : List Ty) (r : TypedExpr) (p : Bool)
-    → e.kind ≡ expr.Binary op x y → IsExpanded x b0 v0 b1 v1 x1 p1 → IsExpanded y i0 v1 i1 v2 y1 p2 → q ≡ (p1 && p2) → q ≡ true → x2 ≡ x1 → y2 ≡ y1 → r ≡ of_type (expr.Binary op x2 y2) e.ty e.at → p ≡ true → IsExpanded e b0 v0 b1 v2 r p
-plain_arm e op x y x1 y1 x2 y2 p1 p2 q b0 v0 b1 v1 i0 i1 v2 r p is h i qe qt xe ye re pe =
+pub plain_arm : (e : TypedExpr) (op : Binary) (x y x1 y1 : TypedExpr) (p1 p2 : Bool) (b0 : List NormalStmt) (v0 : List Ty) (b1 : List NormalStmt) (v1 : List Ty) (i0 i1 : List NormalStmt) (v2 : List Ty)
+    → e.kind ≡ expr.Binary op x y → IsExpanded x b0 v0 b1 v1 x1 p1 → IsExpanded y i0 v1 i1 v2 y1 p2 → (p1 && p2) ≡ true → IsExpanded e b0 v0 b1 v2 (of_type (expr.Binary op x1 y1) e.ty e.at) true
+plain_arm e op x y x1 y1 p1 p2 b0 v0 b1 v1 i0 i1 v2 is h i qt =
     let f = length v0 in
-    let sum = zero_of (reads x.kind + reads y.kind) (sym (both_zero p1 p2 (reads x.kind) (reads y.kind) h.plain i.plain) ∙ sym qe ∙ qt) in
+    let sum = zero_of (reads x.kind + reads y.kind) (sym (both_zero p1 p2 (reads x.kind) (reads y.kind) h.plain i.plain) ∙ qt) in
     let none : reads e.kind ≡ 0 = zero_of (reads e.kind) (sym (reads_binary e op x y is) ∙ ap (λ n. n == 0) sum) in
     let m = plain_out x f b0 v0 b1 v1 x1 (omega (arith, sum)) h.out in
     let n = plain_out y (length v1) i0 v1 i1 v2 y1 (omega (arith, sum)) i.out in
     record {
-      out = as_out (expand_expr f e) (whole e.kind) e.ty e.at b0 v0 b1 v2 r (plain_whole f e none) (record {
-        rest = re ∙ ap (λ z. of_type (expr.Binary op z y2) e.ty e.at) (xe ∙ m.rest) ∙ ap (λ z. of_type (expr.Binary op x z) e.ty e.at) (ye ∙ n.rest) ∙ ap (λ k. of_type k e.ty e.at) (sym is);
+      out = as_out (expand_expr f e) (whole e.kind) e.ty e.at b0 v0 b1 v2 (of_type (expr.Binary op x1 y1) e.ty e.at) (plain_whole f e none) (record {
+        rest = ap (λ z. of_type (expr.Binary op z y1) e.ty e.at) m.rest ∙ ap (λ z. of_type (expr.Binary op x z) e.ty e.at) n.rest ∙ ap (λ k. of_type k e.ty e.at) (sym is);
         set = m.set;
         made = behind v0 v1 v2 [] [] m.made n.made;
       });
-      plain = pe ∙ sym (ap (λ n. n == 0) none);
+      plain = sym (ap (λ n. n == 0) none);
     }
 
-pub logical_arm : (e : TypedExpr) (op : Binary) (d : Bool) (x y x1 y1 : TypedExpr) (p1 p2 q : Bool) (b0 : List NormalStmt) (v0 : List Ty) (b1 : List NormalStmt) (v1 : List Ty) (i0 i1 : List NormalStmt) (v2 v3 : List Ty) (b2 : List NormalStmt) (w : ℕ) (s : NormalStmt) (r : TypedExpr) (p : Bool)
-    → e.kind ≡ expr.Binary op x y → decided_by op ≡ Some d → IsExpanded x b0 v0 b1 v1 x1 p1 → i0 ≡ [] → IsExpanded y i0 v1 i1 v2 y1 p2 → q ≡ (p1 && p2) → q ≡ false → w ≡ length v2 → v3 ≡ v2 ++ I32 ∷ [] → s ≡ logical d w x1 i1 y1 e.at → b2 ≡ b1 ++ s ∷ []
-    → r ≡ of_type (expr.Var w) e.ty e.at → p ≡ false → IsExpanded e b0 v0 b2 v3 r p
-logical_arm e op d x y x1 y1 p1 p2 q b0 v0 b1 v1 i0 i1 v2 v3 b2 w s r p is some h ie i qe qf we ve se be re pe =
+pub logical_arm : (e : TypedExpr) (op : Binary) (d : Bool) (x y x1 y1 : TypedExpr) (p1 p2 : Bool) (b0 : List NormalStmt) (v0 : List Ty) (b1 : List NormalStmt) (v1 : List Ty) (i0 i1 : List NormalStmt) (v2 v3 : List Ty) (b2 : List NormalStmt) (w : ℕ) (s : NormalStmt) (t : Ty)
+    → e.kind ≡ expr.Binary op x y → decided_by op ≡ Some d → IsExpanded x b0 v0 b1 v1 x1 p1 → i0 ≡ [] → IsExpanded y i0 v1 i1 v2 y1 p2 → (p1 && p2) ≡ false → w ≡ length v2 → v3 ≡ v2 ++ t ∷ [] → t ≡ I32 → s ≡ logical d w x1 i1 y1 e.at → b2 ≡ b1 ++ s ∷ [] → IsExpanded e b0 v0 b2 v3 (of_type (expr.Var w) e.ty e.at) false
+logical_arm e op d x y x1 y1 p1 p2 b0 v0 b1 v1 i0 i1 v2 v3 b2 w s t is some h ie i qf we ve te se be =
     let f = length v0 in
     let o = expand_expr f x in
     let g = f + length o.types in
     let o2 = expand_expr g y in
     let u = g + length o2.types in
     let j = second_out o y i0 v0 v1 i1 v2 y1 h.out.made i.out in
-    let test : (reads x.kind + reads y.kind == 0) ≡ false = sym (both_zero p1 p2 (reads x.kind) (reads y.kind) h.plain i.plain) ∙ sym qe ∙ qf in
+    let test : (reads x.kind + reads y.kind == 0) ≡ false = sym (both_zero p1 p2 (reads x.kind) (reads y.kind) h.plain i.plain) ∙ qf in
     let e1 = expand_binary f e op x y is ∙ out_some (decided_by op) d (reads x.kind + reads y.kind == 0) (expr.Binary op x y) op u o o2 x.ty y.ty x.at y.at e.at some test in
     let number : w ≡ u = omega (arith, we, longer v1 v2 o2.types j.made, longer v0 v1 o.types h.out.made) in
     let inside : i1 ≡ o2.before = j.set ∙ ap (λ l. l ++ o2.before) ie in
     let stmt : s ≡ logical d u (of_type o.kind x.ty x.at) o2.before (of_type o2.kind y.ty y.at) e.at =
     se ∙ ap (λ n. logical d n x1 i1 y1 e.at) number ∙ ap (λ z. logical d u z i1 y1 e.at) h.out.rest ∙ ap (λ z. logical d u (of_type o.kind x.ty x.at) z y1 e.at) inside ∙ ap (λ z. logical d u (of_type o.kind x.ty x.at) o2.before z e.at) j.rest in
     record {
-      out = as_out (expand_expr f e) (logical_out d u o x.ty x.at o2 y.ty y.at e.at) e.ty e.at b0 v0 b2 v3 r e1 (record {
-        rest = re ∙ ap (λ n. of_type (expr.Var n) e.ty e.at) number;
+      out = as_out (expand_expr f e) (logical_out d u o x.ty x.at o2 y.ty y.at e.at) e.ty e.at b0 v0 b2 v3 (of_type (expr.Var w) e.ty e.at) e1 (record {
+        rest = ap (λ n. of_type (expr.Var n) e.ty e.at) number;
         set = behind b0 b1 b2 o.before (logical d u (of_type o.kind x.ty x.at) o2.before (of_type o2.kind y.ty y.at) e.at ∷ []) h.out.set (be ∙ ap (λ z. b1 ++ z ∷ []) stmt);
-        made = behind v0 v1 v3 o.types (o2.types ++ I32 ∷ []) h.out.made (behind v1 v2 v3 o2.types (I32 ∷ []) j.made ve);
+        made = behind v0 v1 v3 o.types (o2.types ++ I32 ∷ []) h.out.made (behind v1 v2 v3 o2.types (I32 ∷ []) j.made (ve ∙ ap (λ u. v2 ++ u ∷ []) te));
       });
-      plain = pe ∙ sym test ∙ reads_binary e op x y is;
+      plain = sym test ∙ reads_binary e op x y is;
     }
 
 -- ---- a condition and two sides
@@ -198,16 +196,16 @@ no_sides e x y z t is = omega (arith, zero_of (reads x.kind + reads y.kind + rea
 true_false : false ≡ true → ⊥
 true_false e = cc
 
-pub kept_arm : (e x y z x1 y1 z1 x2 y2 z2 : TypedExpr) (p1 p2 p3 q : Bool) (b0 : List NormalStmt) (v0 : List Ty) (b1 : List NormalStmt) (v1 : List Ty) (i0 i1 : List NormalStmt) (v2 : List Ty) (j0 j1 : List NormalStmt) (v3 : List Ty) (r : TypedExpr) (p : Bool)
-    → e.kind ≡ expr.Choose x y z → IsExpanded x b0 v0 b1 v1 x1 p1 → IsExpanded y i0 v1 i1 v2 y1 p2 → IsExpanded z j0 v2 j1 v3 z1 p3 → q ≡ (p2 && p3) → q ≡ true → x2 ≡ x1 → y2 ≡ y1 → z2 ≡ z1 → r ≡ of_type (expr.Choose x2 y2 z2) e.ty e.at → p ≡ p1 → IsExpanded e b0 v0 b1 v3 r p
-kept_arm e x y z x1 y1 z1 x2 y2 z2 p1 p2 p3 q b0 v0 b1 v1 i0 i1 v2 j0 j1 v3 r p is h i j qe qt xe ye ze re pe =
+pub kept_arm : (e x y z x1 y1 z1 : TypedExpr) (p1 p2 p3 : Bool) (b0 : List NormalStmt) (v0 : List Ty) (b1 : List NormalStmt) (v1 : List Ty) (i0 i1 : List NormalStmt) (v2 : List Ty) (j0 j1 : List NormalStmt) (v3 : List Ty)
+    → e.kind ≡ expr.Choose x y z → IsExpanded x b0 v0 b1 v1 x1 p1 → IsExpanded y i0 v1 i1 v2 y1 p2 → IsExpanded z j0 v2 j1 v3 z1 p3 → (p2 && p3) ≡ true → IsExpanded e b0 v0 b1 v3 (of_type (expr.Choose x1 y1 z1) e.ty e.at) p1
+kept_arm e x y z x1 y1 z1 p1 p2 p3 b0 v0 b1 v1 i0 i1 v2 j0 j1 v3 is h i j qt =
     let f = length v0 in
     let o = expand_expr f x in
     let g = f + length o.types in
     let o2 = expand_expr g y in
     let k = g + length o2.types in
     let o3 = expand_expr k z in
-    let test : (reads y.kind + reads z.kind == 0) ≡ true = sym (both_zero p2 p3 (reads y.kind) (reads z.kind) i.plain j.plain) ∙ sym qe ∙ qt in
+    let test : (reads y.kind + reads z.kind == 0) ≡ true = sym (both_zero p2 p3 (reads y.kind) (reads z.kind) i.plain j.plain) ∙ qt in
     let sum = zero_of (reads y.kind + reads z.kind) test in
     let m = plain_out y (length v1) i0 v1 i1 v2 y1 (omega (arith, sum)) i.out in
     let n = plain_out z (length v2) j0 v2 j1 v3 z1 (omega (arith, sum)) j.out in
@@ -215,18 +213,18 @@ kept_arm e x y z x1 y1 z1 x2 y2 z2 p1 p2 p3 q b0 v0 b1 v1 i0 i1 v2 j0 j1 v3 r p 
     let same : v3 ≡ v1 = n.made ∙ append-nil v2 ∙ m.made ∙ append-nil v1 in
     let count : reads x.kind ≡ reads x.kind + reads y.kind + reads z.kind = omega (arith, sum) in
     record {
-      out = as_out (expand_expr f e) (record { before = o.before; kind = expr.Choose (of_type o.kind x.ty x.at) y z; types = o.types }) e.ty e.at b0 v0 b1 v3 r e1 (record {
-        rest = re ∙ ap (λ w. of_type (expr.Choose w y2 z2) e.ty e.at) (xe ∙ h.out.rest) ∙ ap (λ w. of_type (expr.Choose (of_type o.kind x.ty x.at) w z2) e.ty e.at) (ye ∙ m.rest) ∙ ap (λ w. of_type (expr.Choose (of_type o.kind x.ty x.at) y w) e.ty e.at) (ze ∙ n.rest);
+      out = as_out (expand_expr f e) (record { before = o.before; kind = expr.Choose (of_type o.kind x.ty x.at) y z; types = o.types }) e.ty e.at b0 v0 b1 v3 (of_type (expr.Choose x1 y1 z1) e.ty e.at) e1 (record {
+        rest = ap (λ w. of_type (expr.Choose w y1 z1) e.ty e.at) h.out.rest ∙ ap (λ w. of_type (expr.Choose (of_type o.kind x.ty x.at) w z1) e.ty e.at) m.rest ∙ ap (λ w. of_type (expr.Choose (of_type o.kind x.ty x.at) y w) e.ty e.at) n.rest;
         set = h.out.set;
         made = same ∙ h.out.made;
       });
-      plain = pe ∙ h.plain ∙ ap (λ n. n == 0) count ∙ reads_choice e x y z is;
+      plain = h.plain ∙ ap (λ n. n == 0) count ∙ reads_choice e x y z is;
     }
 
-pub choice_arm : (e x y z x1 y1 z1 : TypedExpr) (p1 p2 p3 q : Bool) (b0 : List NormalStmt) (v0 : List Ty) (b1 : List NormalStmt) (v1 : List Ty) (i0 i1 : List NormalStmt) (v2 : List Ty) (j0 j1 : List NormalStmt) (v3 v4 : List Ty) (b2 : List NormalStmt) (w : ℕ) (s1 s2 s : NormalStmt) (r : TypedExpr) (p : Bool)
-    → e.kind ≡ expr.Choose x y z → IsExpanded x b0 v0 b1 v1 x1 p1 → i0 ≡ [] → IsExpanded y i0 v1 i1 v2 y1 p2 → j0 ≡ [] → IsExpanded z j0 v2 j1 v3 z1 p3 → q ≡ (p2 && p3) → q ≡ false → w ≡ length v3 → v4 ≡ v3 ++ e.ty ∷ []
-    → s1 ≡ side w i1 y1 e.at → s2 ≡ side w j1 z1 e.at → s ≡ choice 0 x1 s1 s2 e.at → b2 ≡ b1 ++ s ∷ [] → r ≡ of_type (expr.Var w) e.ty e.at → p ≡ false → IsExpanded e b0 v0 b2 v4 r p
-choice_arm e x y z x1 y1 z1 p1 p2 p3 q b0 v0 b1 v1 i0 i1 v2 j0 j1 v3 v4 b2 w s1 s2 s r p is h ie i je j qe qf we ve se1 se2 se be re pe =
+pub choice_arm : (e x y z x1 y1 z1 : TypedExpr) (p1 p2 p3 : Bool) (b0 : List NormalStmt) (v0 : List Ty) (b1 : List NormalStmt) (v1 : List Ty) (i0 i1 : List NormalStmt) (v2 : List Ty) (j0 j1 : List NormalStmt) (v3 v4 : List Ty) (b2 : List NormalStmt) (w : ℕ)
+    → e.kind ≡ expr.Choose x y z → IsExpanded x b0 v0 b1 v1 x1 p1 → i0 ≡ [] → IsExpanded y i0 v1 i1 v2 y1 p2 → j0 ≡ [] → IsExpanded z j0 v2 j1 v3 z1 p3 → (p2 && p3) ≡ false → w ≡ length v3 → v4 ≡ v3 ++ e.ty ∷ []
+    → b2 ≡ b1 ++ choice w x1 (side w i1 y1 e.at) (side w j1 z1 e.at) e.at ∷ [] → IsExpanded e b0 v0 b2 v4 (of_type (expr.Var w) e.ty e.at) false
+choice_arm e x y z x1 y1 z1 p1 p2 p3 b0 v0 b1 v1 i0 i1 v2 j0 j1 v3 v4 b2 w is h ie i je j qf we ve be =
     let f = length v0 in
     let o = expand_expr f x in
     let g = f + length o.types in
@@ -236,34 +234,30 @@ choice_arm e x y z x1 y1 z1 p1 p2 p3 q b0 v0 b1 v1 i0 i1 v2 j0 j1 v3 v4 b2 w s1 
     let u = k + length o3.types in
     let m = second_out o y i0 v0 v1 i1 v2 y1 h.out.made i.out in
     let n = subst (λ l. IsOut (expand_expr l z) z.ty z.at j0 v2 j1 v3 z1) (longer v1 v2 o2.types m.made ∙ ap (λ l. l + length o2.types) (longer v0 v1 o.types h.out.made)) j.out in
-    let test : (reads y.kind + reads z.kind == 0) ≡ false = sym (both_zero p2 p3 (reads y.kind) (reads z.kind) i.plain j.plain) ∙ sym qe ∙ qf in
+    let test : (reads y.kind + reads z.kind == 0) ≡ false = sym (both_zero p2 p3 (reads y.kind) (reads z.kind) i.plain j.plain) ∙ qf in
     let e1 = expand_choice f e x y z is ∙ out_false (reads y.kind + reads z.kind == 0) y z u o o2 o3 x.ty y.ty z.ty e.ty x.at y.at z.at e.at test in
     let number : w ≡ u = omega (arith, we, longer v2 v3 o3.types n.made, longer v1 v2 o2.types m.made, longer v0 v1 o.types h.out.made) in
     let inside : i1 ≡ o2.before = m.set ∙ ap (λ l. l ++ o2.before) ie in
     let inside2 : j1 ≡ o3.before = n.set ∙ ap (λ l. l ++ o3.before) je in
     let yes_side = side u o2.before (of_type o2.kind y.ty y.at) e.at in
     let no_side = side u o3.before (of_type o3.kind z.ty z.at) e.at in
-    let first : s1 ≡ yes_side = se1 ∙ ap (λ n. side n i1 y1 e.at) number ∙ ap (λ l. side u l y1 e.at) inside ∙ ap (λ t. side u o2.before t e.at) m.rest in
-    let second : s2 ≡ no_side = se2 ∙ ap (λ n. side n j1 z1 e.at) number ∙ ap (λ l. side u l z1 e.at) inside2 ∙ ap (λ t. side u o3.before t e.at) n.rest in
-    let stmt : s ≡ choice u (of_type o.kind x.ty x.at) yes_side no_side e.at =
-    se ∙ ap (λ t. choice 0 t s1 s2 e.at) h.out.rest ∙ ap (λ t. choice 0 (of_type o.kind x.ty x.at) t s2 e.at) first ∙ ap (λ t. choice 0 (of_type o.kind x.ty x.at) yes_side t e.at) second in
+    let first : side w i1 y1 e.at ≡ yes_side = ap (λ n. side n i1 y1 e.at) number ∙ ap (λ l. side u l y1 e.at) inside ∙ ap (λ t. side u o2.before t e.at) m.rest in
+    let second : side w j1 z1 e.at ≡ no_side = ap (λ n. side n j1 z1 e.at) number ∙ ap (λ l. side u l z1 e.at) inside2 ∙ ap (λ t. side u o3.before t e.at) n.rest in
+    let stmt : choice w x1 (side w i1 y1 e.at) (side w j1 z1 e.at) e.at ≡ choice u (of_type o.kind x.ty x.at) yes_side no_side e.at =
+    ap (λ t. choice 0 t (side w i1 y1 e.at) (side w j1 z1 e.at) e.at) h.out.rest ∙ ap (λ t. choice 0 (of_type o.kind x.ty x.at) t (side w j1 z1 e.at) e.at) first ∙ ap (λ t. choice 0 (of_type o.kind x.ty x.at) yes_side t e.at) second in
     record {
-      out = as_out (expand_expr f e) (choose_out false y z u o x.ty x.at o2 y.ty y.at o3 z.ty z.at e.ty e.at) e.ty e.at b0 v0 b2 v4 r e1 (record {
-        rest = re ∙ ap (λ n. of_type (expr.Var n) e.ty e.at) number;
+      out = as_out (expand_expr f e) (choose_out false y z u o x.ty x.at o2 y.ty y.at o3 z.ty z.at e.ty e.at) e.ty e.at b0 v0 b2 v4 (of_type (expr.Var w) e.ty e.at) e1 (record {
+        rest = ap (λ n. of_type (expr.Var n) e.ty e.at) number;
         set = behind b0 b1 b2 o.before (choice u (of_type o.kind x.ty x.at) yes_side no_side e.at ∷ []) h.out.set (be ∙ ap (λ t. b1 ++ t ∷ []) stmt);
         made = behind v0 v1 v4 o.types (o2.types ++ (o3.types ++ e.ty ∷ [])) h.out.made (behind v1 v2 v4 o2.types (o3.types ++ e.ty ∷ []) m.made (behind v2 v3 v4 o3.types (e.ty ∷ []) n.made ve));
       });
-      plain = pe ∙ sym (ne_eqb (reads e.kind) 0 (λ t. true_false (sym test ∙ ap (λ n. n == 0) (no_sides e x y z t is))));
+      plain = sym (ne_eqb (reads e.kind) 0 (λ t. true_false (sym test ∙ ap (λ n. n == 0) (no_sides e x y z t is))));
     }
 
 -- ---- several expressions, one by one
 
-none_left : {A : Type 0} (xs : List A) → length xs ≡ 0 → xs ≡ []
-none_left [] h = refl
-none_left (x ∷ xs) h = absurd (omega arith)
-
 pub past : {A : Type 0} (xs : List A) (i : ℕ) → length xs ≤ i → drop i xs ≡ []
-past xs i h = none_left (drop i xs) (omega (arith, length-drop i xs))
+past xs i h = nil_from_length (drop i xs) (omega (arith, length-drop i xs))
 
 -- the items from a place on
 pub from_place : {A : Type 0} (xs : List A) (i : ℕ) (x : A) → i < length xs → x ≡ get_or xs i x → drop i xs ≡ x ∷ drop (i + 1) xs
@@ -283,22 +277,25 @@ goes_next o r all ty at b0 v0 b v b2 v2 xs xs2 x g p e = record {
   made = ap (λ l. l ++ r.types) p.made ∙ append_assoc v o.types r.types ∙ g.made;
 }
 
-goes_end : (r all : Outs) (b0 : List NormalStmt) (v0 : List Ty) (b : List NormalStmt) (v : List Ty) (xs : List TypedExpr) → r ≡ record { before = []; exprs = []; types = [] } → GoesOn r all b0 v0 b v xs → AreOut all b0 v0 b v xs
-goes_end r all b0 v0 b v xs e g = record {
-  rest = sym (append-nil xs) ∙ ap (λ (o : Outs). xs ++ o.exprs) (sym e) ∙ g.rest;
-  set = sym (append-nil b) ∙ ap (λ (o : Outs). b ++ o.before) (sym e) ∙ g.set;
-  made = sym (append-nil v) ∙ ap (λ (o : Outs). v ++ o.types) (sym e) ∙ g.made;
-}
+-- nothing is left of what is made for the items from a place on
+pub goes_end : (made : List TypedExpr → Outs) (es : List TypedExpr) (i : ℕ) (all : Outs) (b0 : List NormalStmt) (v0 : List Ty) (b : List NormalStmt) (v : List Ty) (xs : List TypedExpr) → made [] ≡ record { before = []; exprs = []; types = [] } → length es ≤ i → GoesOn (made (drop i es)) all b0 v0 b v xs → AreOut all b0 v0 b v xs
+goes_end made es i all b0 v0 b v xs none h g =
+    let e = ap made (past es i h) ∙ none in
+    record {
+      rest = sym (append-nil xs) ∙ ap (λ (o : Outs). xs ++ o.exprs) (sym e) ∙ g.rest;
+      set = sym (append-nil b) ∙ ap (λ (o : Outs). b ++ o.before) (sym e) ∙ g.set;
+      made = sym (append-nil v) ∙ ap (λ (o : Outs). v ++ o.types) (sym e) ∙ g.made;
+    }
 
-nodes_from : (es : List TypedExpr) (i : ℕ) (e : TypedExpr) → i < length es → e ≡ get_or es i e → typed_exprs_nodes (drop i es) ≡ typed_expr_nodes e + typed_exprs_nodes (drop (i + 1) es)
-nodes_from es i e h is = ap typed_exprs_nodes (from_place es i e h is) ∙ sum_by-cons typed_expr_nodes e (drop (i + 1) es)
+sum_from : {X : Type 0} (f : X → ℕ) (xs : List X) (i : ℕ) (x : X) → i < length xs → x ≡ get_or xs i x → sum_by f (drop i xs) ≡ f x + sum_by f (drop (i + 1) xs)
+sum_from f xs i x h is = sum_by-drop_more f xs i x h ∙ ap (λ y. f y + sum_by f (drop (i + 1) xs)) (sym is)
 
-pub part_room : (es : List TypedExpr) (i : ℕ) (e : TypedExpr) (v0 v : List Ty) → i < length es → e ≡ get_or es i e → length v + typed_exprs_nodes (drop i es) ≤ length v0 + typed_exprs_nodes es → HasRoom v0 (typed_exprs_nodes es) → HasRoom v (typed_expr_nodes e)
-part_room es i e v0 v h is r room = omega (arith, nodes_from es i e h is)
+-- room for the next item, and then for the others
+pub part_room : {X : Type 0} (f : X → ℕ) (xs : List X) (i : ℕ) (x : X) (v0 v : List Ty) → i < length xs → x ≡ get_or xs i x → length v + sum_by f (drop i xs) ≤ length v0 + sum_by f xs → HasRoom v0 (sum_by f xs) → HasRoom v (f x)
+part_room f xs i x v0 v h is r room = omega (arith, sum_from f xs i x h is)
 
-pub room_next : (es : List TypedExpr) (i : ℕ) (e : TypedExpr) (v0 v v2 : List Ty) → i < length es → e ≡ get_or es i e → length v + typed_exprs_nodes (drop i es) ≤ length v0 + typed_exprs_nodes es → length v2 ≤ length v + typed_expr_nodes e
-    → length v2 + typed_exprs_nodes (drop (i + 1) es) ≤ length v0 + typed_exprs_nodes es
-room_next es i e v0 v v2 h is r few = omega (arith, nodes_from es i e h is)
+pub room_next : {X : Type 0} (f : X → ℕ) (xs : List X) (i : ℕ) (x : X) (v0 v v2 : List Ty) → i < length xs → x ≡ get_or xs i x → length v + sum_by f (drop i xs) ≤ length v0 + sum_by f xs → length v2 ≤ length v + f x → length v2 + sum_by f (drop (i + 1) xs) ≤ length v0 + sum_by f xs
+room_next f xs i x v0 v v2 h is r few = omega (arith, sum_from f xs i x h is)
 
 pub expand_next : (es : List TypedExpr) (i : ℕ) (e : TypedExpr) (all : Outs) (b0 : List NormalStmt) (v0 : List Ty) (b : List NormalStmt) (v : List Ty) (b2 : List NormalStmt) (v2 : List Ty) (xs xs2 : List TypedExpr) (x : TypedExpr) (p : Bool)
     → i < length es → e ≡ get_or es i e → GoesOn (expand_all (length v) (drop i es)) all b0 v0 b v xs → IsExpanded e b v b2 v2 x p → xs2 ≡ xs ++ x ∷ [] → GoesOn (expand_all (length v2) (drop (i + 1) es)) all b0 v0 b2 v2 xs2
@@ -307,9 +304,6 @@ expand_next es i e all b0 v0 b v b2 v2 xs xs2 x p h is g q eq =
     let r = expand_all (length v + length o.types) (drop (i + 1) es) in
     let now = subst (λ l. GoesOn (expand_all (length v) l) all b0 v0 b v xs) (from_place es i e h is) g in
     subst (λ n. GoesOn (expand_all n (drop (i + 1) es)) all b0 v0 b2 v2 xs2) (sym (longer v v2 o.types q.out.made)) (goes_next o r all e.ty e.at b0 v0 b v b2 v2 xs xs2 x now q.out eq)
-
-pub expand_end : (es : List TypedExpr) (i n : ℕ) (all : Outs) (b0 : List NormalStmt) (v0 : List Ty) (b : List NormalStmt) (v : List Ty) (xs : List TypedExpr) → length es ≤ i → GoesOn (expand_all n (drop i es)) all b0 v0 b v xs → AreOut all b0 v0 b v xs
-expand_end es i n all b0 v0 b v xs h g = goes_end (expand_all n (drop i es)) all b0 v0 b v xs (ap (expand_all n) (past es i h)) g
 
 -- an expression with what sets it
 pub set_arm : (e : TypedExpr) (b0 : List NormalStmt) (v0 : List Ty) (b1 : List NormalStmt) (v1 : List Ty) (b2 : List NormalStmt) (v2 : List Ty) (x : TypedExpr) (p : Bool) (w : ℕ) (s : NormalStmt) → IsExpanded e b0 v0 b1 v1 x p → w ≡ length v1 → v2 ≡ v1 ++ e.ty ∷ [] → s ≡ setting w x e.at → b2 ≡ b1 ++ s ∷ []
@@ -341,9 +335,6 @@ set_next es i e all b0 v0 b v b2 v2 xs xs2 x h is g q eq =
     let r = set_all (length v + length o.types) (drop (i + 1) es) in
     let now = subst (λ l. GoesOn l all b0 v0 b v xs) (ap (set_all (length v)) (from_place es i e h is) ∙ set_cons (length v) e (drop (i + 1) es)) g in
     subst (λ n. GoesOn (set_all n (drop (i + 1) es)) all b0 v0 b2 v2 xs2) (sym (longer v v2 o.types q.made)) (goes_next o r all e.ty e.at b0 v0 b v b2 v2 xs xs2 x now q eq)
-
-pub set_end : (es : List TypedExpr) (i n : ℕ) (all : Outs) (b0 : List NormalStmt) (v0 : List Ty) (b : List NormalStmt) (v : List Ty) (xs : List TypedExpr) → length es ≤ i → GoesOn (set_all n (drop i es)) all b0 v0 b v xs → AreOut all b0 v0 b v xs
-set_end es i n all b0 v0 b v xs h g = goes_end (set_all n (drop i es)) all b0 v0 b v xs (ap (set_all n) (past es i h)) g
 
 pub few_one : (e : TypedExpr) (b : List NormalStmt) (v : List Ty) (b2 : List NormalStmt) (v2 : List Ty) (x : TypedExpr) → IsOut (set_out (length v) e) e.ty e.at b v b2 v2 x → length v2 ≤ length v + typed_expr_nodes e
 few_one e b v b2 v2 x h = omega (arith, longer v v2 (set_out (length v) e).types h.made, length-append (expand_expr (length v) e).types (e.ty ∷ []), few_made (length v) e)

@@ -101,9 +101,11 @@ module _ (k : Objects) (all price : ℕ) (le : length k.vars ≤ all) where
 
   -- ---- one after another
 
-  go_first : (h : How) (s1 : Store) (l m : ℕ) (a2 : Run) (b1 b2 : ℕ → Run) (c1 c2 : ℕ → Counting) (t : Store) → Imitates 0 0 (record { how = h; store = s1; left = l }) m b1 c1 t → Sims 0 0 a2 b2 c2 → IsDefined (go_on h a2 s1 l).how
-      → Imitates 0 0 (go_on h a2 s1 l) m (λ i. both_runs (b1 i) (b2 i)) (λ i. counts_both (b1 i) (c1 i) (c2 i)) t
-  go_first normally s1 l m a2 b1 b2 c1 c2 t i sim end =
+  -- two that follow each other, by how they are joined
+  in_turn : (join : Run → Run → Run) (count : Run → Counting → Counting → Counting) (h : How) (s1 : Store) (l m : ℕ) (a2 : Run) (b1 b2 : ℕ → Run) (c1 c2 : ℕ → Counting) (t : Store)
+      → ((a b : Run) (c d : Counting) (s t u : Store) (g : How) (m n j l p q : ℕ) → Takes a c s h t m j p → Takes b d t g u n l q → Takes (join a b) (count a c d) s g u (m + n) (j + l) (p + q))
+      → Imitates 0 0 (record { how = h; store = s1; left = l }) m b1 c1 t → Sims 0 0 a2 b2 c2 → IsDefined (a2 s1 l).how → Imitates 0 0 (a2 s1 l) m (λ i. join (b1 i) (b2 i)) (λ i. count (b1 i) (c1 i) (c2 i)) t
+  in_turn join count h s1 l m a2 b1 b2 c1 c2 t takes i sim end =
       let j = sim s1 i.last l i.same end in
       record {
         least = i.least + j.least;
@@ -115,13 +117,17 @@ module _ (k : Objects) (all price : ℕ) (le : length k.vars ≤ all) where
         takes = λ q.
             let e : i.least + (j.least + q) ≡ i.least + j.least + q = omega arith in
             let f : j.least + (i.least + q) ≡ i.least + j.least + q = omega arith in
-            let x = subst (λ n. Takes (b1 n) (c1 n) t normally i.last i.turns i.jumps i.cost) e (i.takes (j.least + q)) in
+            let x = subst (λ n. Takes (b1 n) (c1 n) t h i.last i.turns i.jumps i.cost) e (i.takes (j.least + q)) in
             let y = subst (λ n. Takes (b2 n) (c2 n) i.last (a2 s1 l).how j.last j.turns j.jumps j.cost) f (j.takes (i.least + q)) in
-            takes_both (b1 (i.least + j.least + q)) (b2 (i.least + j.least + q)) (c1 (i.least + j.least + q)) (c2 (i.least + j.least + q)) t i.last j.last (a2 s1 l).how i.turns j.turns i.jumps j.jumps i.cost j.cost x y;
+            takes (b1 (i.least + j.least + q)) (b2 (i.least + j.least + q)) (c1 (i.least + j.least + q)) (c2 (i.least + j.least + q)) t i.last j.last (a2 s1 l).how i.turns j.turns i.jumps j.jumps i.cost j.cost x y;
         same = j.same;
         few = let x = i.few in let y = j.few in omega arith;
         cheap = let x = i.cheap in let y = j.cheap in omega arith;
       }
+
+  go_first : (h : How) (s1 : Store) (l m : ℕ) (a2 : Run) (b1 b2 : ℕ → Run) (c1 c2 : ℕ → Counting) (t : Store) → Imitates 0 0 (record { how = h; store = s1; left = l }) m b1 c1 t → Sims 0 0 a2 b2 c2 → IsDefined (go_on h a2 s1 l).how
+      → Imitates 0 0 (go_on h a2 s1 l) m (λ i. both_runs (b1 i) (b2 i)) (λ i. counts_both (b1 i) (c1 i) (c2 i)) t
+  go_first normally s1 l m a2 b1 b2 c1 c2 t i sim end = in_turn both_runs counts_both normally s1 l m a2 b1 b2 c1 c2 t takes_both i sim end
   go_first by_break s1 l m a2 b1 b2 c1 c2 t i sim end = record { least = i.least; last = i.last; turns = i.turns; jumps = i.jumps; cost = i.cost; within = i.within; takes = λ q. takes_stop (b1 (i.least + q)) (b2 (i.least + q)) (c1 (i.least + q)) (c2 (i.least + q)) t i.last by_break i.turns i.jumps i.cost tt (i.takes q); same = i.same; few = i.few; cheap = i.cheap }
   go_first by_continue s1 l m a2 b1 b2 c1 c2 t i sim end = record { least = i.least; last = i.last; turns = i.turns; jumps = i.jumps; cost = i.cost; within = i.within; takes = λ q. takes_stop (b1 (i.least + q)) (b2 (i.least + q)) (c1 (i.least + q)) (c2 (i.least + q)) t i.last by_continue i.turns i.jumps i.cost tt (i.takes q); same = i.same; few = i.few; cheap = i.cheap }
   go_first (by_return v) s1 l m a2 b1 b2 c1 c2 t i sim end = record { least = i.least; last = i.last; turns = i.turns; jumps = i.jumps; cost = i.cost; within = i.within; takes = λ q. takes_stop (b1 (i.least + q)) (b2 (i.least + q)) (c1 (i.least + q)) (c2 (i.least + q)) t i.last (by_return v) i.turns i.jumps i.cost tt (i.takes q); same = i.same; few = i.few; cheap = i.cheap }
@@ -241,25 +247,7 @@ module _ (k : Objects) (all price : ℕ) (le : length k.vars ≤ all) where
 
   goes_again : (h : How) (s1 : Store) (l m : ℕ) (a2 : Run) (b1 b2 : ℕ → Run) (c1 c2 : ℕ → Counting) (t : Store) → GoesOn h → Imitates 0 0 (record { how = h; store = s1; left = l }) m b1 c1 t → Sims 0 0 a2 b2 c2 → IsDefined (a2 s1 l).how
       → Imitates 0 0 (a2 s1 l) m (λ i. looped (b1 i) (b2 i)) (λ i. counts_after_body (b1 i) (c1 i) (c2 i)) t
-  goes_again h s1 l m a2 b1 b2 c1 c2 t go i sim end =
-      let j = sim s1 i.last l i.same end in
-      record {
-        least = i.least + j.least;
-        last = j.last;
-        turns = i.turns + j.turns;
-        jumps = i.jumps + j.jumps;
-        cost = i.cost + j.cost;
-        within = let x = i.within in let y = j.within in omega arith;
-        takes = λ q.
-            let e : i.least + (j.least + q) ≡ i.least + j.least + q = omega arith in
-            let f : j.least + (i.least + q) ≡ i.least + j.least + q = omega arith in
-            let x = subst (λ n. Takes (b1 n) (c1 n) t h i.last i.turns i.jumps i.cost) e (i.takes (j.least + q)) in
-            let y = subst (λ n. Takes (b2 n) (c2 n) i.last (a2 s1 l).how j.last j.turns j.jumps j.cost) f (j.takes (i.least + q)) in
-            takes_again (b1 (i.least + j.least + q)) (b2 (i.least + j.least + q)) (c1 (i.least + j.least + q)) (c2 (i.least + j.least + q)) t i.last j.last h (a2 s1 l).how i.turns j.turns i.jumps j.jumps i.cost j.cost go x y;
-        same = j.same;
-        few = let x = i.few in let y = j.few in omega arith;
-        cheap = let x = i.cheap in let y = j.cheap in omega arith;
-      }
+  goes_again h s1 l m a2 b1 b2 c1 c2 t go i sim end = in_turn looped counts_after_body h s1 l m a2 b1 b2 c1 c2 t (λ a b c d s t u g m n j l p q x y. takes_again a b c d s t u h g m n j l p q go x y) i sim end
 
   after_first : (h : How) (s1 : Store) (l m : ℕ) (a2 : Run) (b1 b2 : ℕ → Run) (c1 c2 : ℕ → Counting) (t : Store) → Imitates 0 0 (record { how = h; store = s1; left = l }) m b1 c1 t → Sims 0 0 a2 b2 c2 → IsDefined (after_body h a2 s1 l).how
       → Imitates 0 0 (after_body h a2 s1 l) m (λ i. looped (b1 i) (b2 i)) (λ i. counts_after_body (b1 i) (c1 i) (c2 i)) t

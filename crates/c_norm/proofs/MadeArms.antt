@@ -1,7 +1,6 @@
 -- Statements, call by call: what each call made joins to what the whole makes.
 use Rattle.std.proofs.Common.{◌≡◌, ℕ, zero, suc, ◌+◌, ◌≤◌, ◌<◌, List, [], ◌∷◌, ◌++◌, length, get_or, drop, Option, Some, None, refl, sym, ◌∙◌, ap, subst, arith, append_assoc, append-nil}
 use Rattle.std.specs.Prelude.{Bool, slice_get, ◌^◌}
-use Rattle.std.proofs.lemmas.List.Sums.{sum_by-cons}
 use Rattle.std.proofs.lemmas.Option.{none-some}
 use Rattle.el_base.specs.declared.span.Span.{Span}
 use Rattle.el_base.specs.declared.ty.Ty.{Ty}
@@ -13,6 +12,7 @@ use Rattle.c_ast.specs.declared.typed.TypedTarget.{TypedTarget}
 use Rattle.c_ast.specs.declared.typed.TypedExpr.{TypedExpr}
 use Rattle.c_ast.specs.declared.typed.TypedExprKind.TheVariants as expr
 use Rattle.c_ast.specs.declared.typed.TypedStmt.{TypedStmt}
+use Rattle.c_ast.specs.declared.typed.TypedStmtKind.{TypedStmtKind}
 use Rattle.c_ast.specs.declared.typed.TypedStmtKind.TheVariants as act
 use Rattle.c_ast.specs.declared.tree.Param.{Param}
 use Rattle.c_ast.specs.declared.normal.Normal.{Normal}
@@ -28,27 +28,38 @@ use Rattle.c_norm.specs.Kernels.{body_form, normal_form}
 use Rattle.c_meaning.specs.declared.profile.Profile.TheVariants.{Plain}
 use Rattle.c_meaning.specs.Statements.{objects, array_type, object_type, step_operator}
 use Rattle.c_norm.specs.Expand.{expand_expr, rest_of, set_all, expand_all}
-use Rattle.c_norm.specs.Forms.{Made, normal_at, made, block_of, optional, rest_if_any, assignment_form, step_form, target_with}
-use Rattle.c_norm.specs.Code.{HasRoom, IsOut, AreOut, IsExpanded, stmt_form, stmts_form, held_stmt, IsMade, IsOptional, IsBlock, IsHeld, StmtsGoOn, plain_form, update_of}
+use Rattle.c_norm.specs.Forms.{Made, normal_at, made, block_of, optional, rest_if_any, target_with, form_of}
+use Rattle.c_norm.specs.Code.{HasRoom, IsOut, AreOut, IsExpanded, stmt_form, stmts_form, held_stmt, IsMade, IsLast, IsAlone, IsOptional, IsBlock, IsHeld, StmtsGoOn, plain_form, update_form, update_of}
 use Rattle.c_norm.proofs.Coded.{behind, longer, past, from_place}
-use Rattle.c_norm.proofs.MadeParts.{form_block, form_declare, form_assign, form_step, if_form, form_if, while_form, form_while, do_form, form_do, for_form, form_for, form_return, few_optional, few_form, few_forms, few_held_stmt}
+use Rattle.c_norm.proofs.MadeParts.{form_block, if_form, form_if, while_form, form_while, do_form, form_do, for_form, form_for, few_optional, few_form, few_forms, few_held_stmt}
 
-as_made : (m m2 : Made) (b : List NormalStmt) (v : List Ty) (b2 : List NormalStmt) (v2 : List Ty) → m ≡ m2 → IsMade m2 b v b2 v2 → IsMade m b v b2 v2
-as_made m m2 b v b2 v2 e p = subst (λ z. IsMade z b v b2 v2) (sym e) p
+as_last : (m m2 : Made) (s : Span) (b : List NormalStmt) (v : List Ty) (b2 : List NormalStmt) (v2 : List Ty) (r : NormalStmtKind) → m ≡ m2 → IsLast m2 s b v b2 v2 r → IsLast m s b v b2 v2 r
+as_last m m2 s b v b2 v2 r e p = subst (λ z. IsLast z s b v b2 v2 r) (sym e) p
 
 -- what is set first, and one statement
-one_made : (before : List NormalStmt) (types : List Ty) (kind kind2 : NormalStmtKind) (s : Span) (b0 : List NormalStmt) (v0 : List Ty) (b1 b2 : List NormalStmt) (v1 : List Ty) → b1 ≡ b0 ++ before → v1 ≡ v0 ++ types → kind2 ≡ kind → b2 ≡ b1 ++ normal_at kind2 s ∷ [] → IsMade (made before kind s types) b0 v0 b2 v1
-one_made before types kind kind2 s b0 v0 b1 b2 v1 p q e h = record {
-  set = behind b0 b1 b2 before (normal_at kind s ∷ []) p (h ∙ ap (λ c. b1 ++ normal_at c s ∷ []) e);
+one_last : (before : List NormalStmt) (types : List Ty) (kind r : NormalStmtKind) (s : Span) (b : List NormalStmt) (v : List Ty) (b2 : List NormalStmt) (v2 : List Ty) → b2 ≡ b ++ before → v2 ≡ v ++ types → r ≡ kind → IsLast (made before kind s types) s b v b2 v2 r
+one_last before types kind r s b v b2 v2 p q e = record {
+  set = behind b b2 (b2 ++ normal_at r s ∷ []) before (normal_at kind s ∷ []) p (ap (λ c. b2 ++ normal_at c s ∷ []) e);
   made = q;
 }
 
 -- one statement alone
-alone : (types : List Ty) (kind kind2 : NormalStmtKind) (s : Span) (b0 : List NormalStmt) (v0 : List Ty) (b2 : List NormalStmt) (v1 : List Ty) → v1 ≡ v0 ++ types → kind2 ≡ kind → b2 ≡ b0 ++ normal_at kind2 s ∷ [] → IsMade (record { stmts = normal_at kind s ∷ []; types = types }) b0 v0 b2 v1
-alone types kind kind2 s b0 v0 b2 v1 q e h = record { set = h ∙ ap (λ c. b0 ++ normal_at c s ∷ []) e; made = q }
+alone : (types : List Ty) (kind r : NormalStmtKind) (s : Span) (b : List NormalStmt) (v v2 : List Ty) → v2 ≡ v ++ types → r ≡ kind → IsLast (record { stmts = normal_at kind s ∷ []; types = types }) s b v b v2 r
+alone types kind r s b v v2 q e = record { set = ap (λ c. b ++ normal_at c s ∷ []) e; made = q }
 
-pub left_alone : (k : Typed) (x : TypedStmt) (kind : NormalStmtKind) (b0 : List NormalStmt) (v0 : List Ty) (b2 : List NormalStmt) → stmt_form k (length v0) x ≡ made [] kind x.at [] → b2 ≡ b0 ++ normal_at kind x.at ∷ [] → IsMade (stmt_form k (length v0) x) b0 v0 b2 v0
-left_alone k x kind b0 v0 b2 e h = as_made (stmt_form k (length v0) x) (made [] kind x.at []) b0 v0 b2 v0 e (alone [] kind kind x.at b0 v0 b2 v0 (sym (append-nil v0)) refl h)
+at_kind : (k : Typed) (x : TypedStmt) (kind : TypedStmtKind) (b : List NormalStmt) (v : List Ty) (b2 : List NormalStmt) (v2 : List Ty) (r : NormalStmtKind) → x.kind ≡ kind → IsLast (form_of (objects Plain k) (length v) kind x.at) x.at b v b2 v2 r → IsLast (stmt_form k (length v) x) x.at b v b2 v2 r
+at_kind k x kind b v b2 v2 r is h = subst (λ z. IsLast (form_of (objects Plain k) (length v) z x.at) x.at b v b2 v2 r) (sym is) h
+
+-- a statement that makes nothing
+pub left_alone : (k : Typed) (x : TypedStmt) (kind : TypedStmtKind) (r : NormalStmtKind) (b : List NormalStmt) (v : List Ty) → x.kind ≡ kind → form_of (objects Plain k) (length v) kind x.at ≡ made [] r x.at [] → IsLast (stmt_form k (length v) x) x.at b v b v r
+left_alone k x kind r b v is e = at_kind k x kind b v b v r is (as_last (form_of (objects Plain k) (length v) kind x.at) (made [] r x.at []) x.at b v b v r e (alone [] r r x.at b v v (sym (append-nil v)) refl))
+
+pub stands_alone : (k : Typed) (x : TypedStmt) (kind : TypedStmtKind) (b : List NormalStmt) (v v2 : List Ty) (r : NormalStmtKind) → x.kind ≡ kind → IsAlone k kind v v2 r → IsLast (stmt_form k (length v) x) x.at b v b v2 r
+stands_alone k x kind b v v2 r is h = at_kind k x kind b v b v2 r is (h x.at b)
+
+-- the last statement, behind the others
+pub last_made : (m : Made) (s : Span) (b : List NormalStmt) (v : List Ty) (b2 : List NormalStmt) (v2 : List Ty) (r : NormalStmtKind) (b3 : List NormalStmt) → IsLast m s b v b2 v2 r → b3 ≡ b2 ++ normal_at r s ∷ [] → IsMade m b v b3 v2
+last_made m s b v b2 v2 r b3 h e = subst (λ z. IsMade m b v z v2) (sym e) h
 
 -- ---- how many variables
 
@@ -104,30 +115,25 @@ out_at e b v1 b2 v2 y p n h q = subst (λ i. IsOut (expand_expr i e) e.ty e.at b
 
 -- ---- statements
 
-pub block_arm : (k : Typed) (x : TypedStmt) (xs : List TypedStmt) (b : List NormalStmt) (v : List Ty) (i0 i1 : List NormalStmt) (v2 : List Ty) (b2 : List NormalStmt) → x.kind ≡ act.Block xs → i0 ≡ [] → IsMade (stmts_form k (length v) xs) i0 v i1 v2 → b2 ≡ b ++ normal_at (normal.Block i1) x.at ∷ []
-    → IsMade (stmt_form k (length v) x) b v b2 v2
-block_arm k x xs b v i0 i1 v2 b2 is ie h e =
+pub block_arm : (k : Typed) (xs : List TypedStmt) (v : List Ty) (i0 i1 : List NormalStmt) (v2 : List Ty) → i0 ≡ [] → IsMade (stmts_form k (length v) xs) i0 v i1 v2 → IsAlone k (act.Block xs) v v2 (normal.Block i1)
+block_arm k xs v i0 i1 v2 ie h s b =
     let m = stmts_form k (length v) xs in
-    as_made (stmt_form k (length v) x) (record { stmts = normal_at (normal.Block m.stmts) x.at ∷ []; types = m.types }) b v b2 v2 (form_block k (length v) x xs is)
-    (alone m.types (normal.Block m.stmts) (normal.Block i1) x.at b v b2 v2 h.made (ap normal.Block (h.set ∙ ap (λ l. l ++ m.stmts) ie)) e)
+    as_last (form_of (objects Plain k) (length v) (act.Block xs) s) (record { stmts = normal_at (normal.Block m.stmts) s ∷ []; types = m.types }) s b v b v2 (normal.Block i1) (form_block k (length v) xs s)
+    (alone m.types (normal.Block m.stmts) (normal.Block i1) s b v v2 h.made (ap normal.Block (h.set ∙ ap (λ l. l ++ m.stmts) ie)))
 
-pub declare_arm : (k : Typed) (x : TypedStmt) (w : ℕ) (e : Option TypedExpr) (b : List NormalStmt) (v : List Ty) (b1 : List NormalStmt) (v1 : List Ty) (b2 : List NormalStmt) (r : Option TypedExpr) → x.kind ≡ act.Declare w e → IsOptional e b v b1 v1 r → b2 ≡ b1 ++ normal_at (normal.Declare w r) x.at ∷ []
-    → IsMade (stmt_form k (length v) x) b v b2 v1
-declare_arm k x w e b v b1 v1 b2 r is h q =
+pub declare_arm : (k : Typed) (x : TypedStmt) (w : ℕ) (e : Option TypedExpr) (b : List NormalStmt) (v : List Ty) (b2 : List NormalStmt) (v2 : List Ty) (r : Option TypedExpr) → x.kind ≡ act.Declare w e → IsOptional e b v b2 v2 r → IsLast (stmt_form k (length v) x) x.at b v b2 v2 (normal.Declare w r)
+declare_arm k x w e b v b2 v2 r is h =
     let o = optional (length v) e in
-    as_made (stmt_form k (length v) x) (made o.before (normal.Declare w (rest_if_any o e)) x.at o.types) b v b2 v1 (form_declare k (length v) x w e is)
-    (one_made o.before o.types (normal.Declare w (rest_if_any o e)) (normal.Declare w r) x.at b v b1 b2 v1 h.set h.made (ap (normal.Declare w) h.rest) q)
+    at_kind k x (act.Declare w e) b v b2 v2 (normal.Declare w r) is (one_last o.before o.types (normal.Declare w (rest_if_any o e)) (normal.Declare w r) x.at b v b2 v2 h.set h.made (ap (normal.Declare w) h.rest))
 
-pub return_arm : (k : Typed) (x : TypedStmt) (e : Option TypedExpr) (b : List NormalStmt) (v : List Ty) (b1 : List NormalStmt) (v1 : List Ty) (b2 : List NormalStmt) (r : Option TypedExpr) → x.kind ≡ act.Return e → IsOptional e b v b1 v1 r → b2 ≡ b1 ++ normal_at (normal.Return r) x.at ∷ []
-    → IsMade (stmt_form k (length v) x) b v b2 v1
-return_arm k x e b v b1 v1 b2 r is h q =
+pub return_arm : (k : Typed) (x : TypedStmt) (e : Option TypedExpr) (b : List NormalStmt) (v : List Ty) (b2 : List NormalStmt) (v2 : List Ty) (r : Option TypedExpr) → x.kind ≡ act.Return e → IsOptional e b v b2 v2 r → IsLast (stmt_form k (length v) x) x.at b v b2 v2 (normal.Return r)
+return_arm k x e b v b2 v2 r is h =
     let o = optional (length v) e in
-    as_made (stmt_form k (length v) x) (made o.before (normal.Return (rest_if_any o e)) x.at o.types) b v b2 v1 (form_return k (length v) x e is)
-    (one_made o.before o.types (normal.Return (rest_if_any o e)) (normal.Return r) x.at b v b1 b2 v1 h.set h.made (ap normal.Return h.rest) q)
+    at_kind k x (act.Return e) b v b2 v2 (normal.Return r) is (one_last o.before o.types (normal.Return (rest_if_any o e)) (normal.Return r) x.at b v b2 v2 h.set h.made (ap normal.Return h.rest))
 
-pub if_arm : (k : Typed) (x : TypedStmt) (e : TypedExpr) (y : TypedStmt) (o : Option TypedStmt) (b : List NormalStmt) (v : List Ty) (i0 i1 : List NormalStmt) (v1 v2 v3 : List Ty) (c : TypedExpr) (p : Bool) (r : NormalStmt) (n : Option NormalStmt) (b2 : List NormalStmt)
-    → x.kind ≡ act.If e y o → i0 ≡ [] → IsExpanded e i0 v i1 v1 c p → IsBlock k y v1 v2 r → IsHeld k o v2 v3 n → b2 ≡ b ++ normal_at (normal.If i1 c r n) x.at ∷ [] → IsMade (stmt_form k (length v) x) b v b2 v3
-if_arm k x e y o b v i0 i1 v1 v2 v3 c p r n b2 is ie h i j q =
+pub if_arm : (k : Typed) (e : TypedExpr) (y : TypedStmt) (o : Option TypedStmt) (v : List Ty) (i0 i1 : List NormalStmt) (v1 v2 v3 : List Ty) (c : TypedExpr) (p : Bool) (r : NormalStmt) (n : Option NormalStmt)
+    → i0 ≡ [] → IsExpanded e i0 v i1 v1 c p → IsBlock k y v1 v2 r → IsHeld k o v2 v3 n → IsAlone k (act.If e y o) v v3 (normal.If i1 c r n)
+if_arm k e y o v i0 i1 v1 v2 v3 c p r n ie h i j s b =
     let f = length v in
     let z = expand_expr f e in
     let m = stmt_form k (f + length z.types) y in
@@ -135,39 +141,36 @@ if_arm k x e y o b v i0 i1 v1 v2 v3 c p r n b2 is ie h i j q =
     let yb = block_at k y v1 v2 r (f + length z.types) a i in
     let t = held_stmt k (f + length z.types + length m.types) o in
     let hb = held_at k o v2 v3 n (f + length z.types + length m.types) (longer v1 v2 m.types yb.1 ∙ ap (λ l. l + length m.types) a) j in
-    let w = if_form k f e y o x.at in
     let kind : normal.If i1 c r n ≡ normal.If z.before (rest_of z e) (block_of m y.at) t.stmt =
     ap (λ l. normal.If l c r n) (h.out.set ∙ ap (λ l. l ++ z.before) ie) ∙ ap (λ u. normal.If z.before u r n) h.out.rest ∙ ap (λ u. normal.If z.before (rest_of z e) u n) yb.0 ∙ ap (λ u. normal.If z.before (rest_of z e) (block_of m y.at) u) hb.0 in
-    as_made (stmt_form k f x) w b v b2 v3 (form_if k f x e y o is)
-    (alone (z.types ++ (m.types ++ t.types)) (normal.If z.before (rest_of z e) (block_of m y.at) t.stmt) (normal.If i1 c r n) x.at b v b2 v3 (behind v v1 v3 z.types (m.types ++ t.types) h.out.made (behind v1 v2 v3 m.types t.types yb.1 hb.1)) kind q)
+    as_last (form_of (objects Plain k) f (act.If e y o) s) (if_form k f e y o s) s b v b v3 (normal.If i1 c r n) (form_if k f e y o s)
+    (alone (z.types ++ (m.types ++ t.types)) (normal.If z.before (rest_of z e) (block_of m y.at) t.stmt) (normal.If i1 c r n) s b v v3 (behind v v1 v3 z.types (m.types ++ t.types) h.out.made (behind v1 v2 v3 m.types t.types yb.1 hb.1)) kind)
 
-pub while_arm : (k : Typed) (x : TypedStmt) (e : TypedExpr) (y : TypedStmt) (b : List NormalStmt) (v : List Ty) (i0 i1 : List NormalStmt) (v1 v2 : List Ty) (c : TypedExpr) (p : Bool) (r : NormalStmt) (b2 : List NormalStmt)
-    → x.kind ≡ act.While e y → i0 ≡ [] → IsExpanded e i0 v i1 v1 c p → IsBlock k y v1 v2 r → b2 ≡ b ++ normal_at (normal.While i1 c r) x.at ∷ [] → IsMade (stmt_form k (length v) x) b v b2 v2
-while_arm k x e y b v i0 i1 v1 v2 c p r b2 is ie h i q =
+pub while_arm : (k : Typed) (e : TypedExpr) (y : TypedStmt) (v : List Ty) (i0 i1 : List NormalStmt) (v1 v2 : List Ty) (c : TypedExpr) (p : Bool) (r : NormalStmt) → i0 ≡ [] → IsExpanded e i0 v i1 v1 c p → IsBlock k y v1 v2 r → IsAlone k (act.While e y) v v2 (normal.While i1 c r)
+while_arm k e y v i0 i1 v1 v2 c p r ie h i s b =
     let f = length v in
     let z = expand_expr f e in
     let m = stmt_form k (f + length z.types) y in
     let yb = block_at k y v1 v2 r (f + length z.types) (longer v v1 z.types h.out.made) i in
     let kind : normal.While i1 c r ≡ normal.While z.before (rest_of z e) (block_of m y.at) =
     ap (λ l. normal.While l c r) (h.out.set ∙ ap (λ l. l ++ z.before) ie) ∙ ap (λ u. normal.While z.before u r) h.out.rest ∙ ap (λ u. normal.While z.before (rest_of z e) u) yb.0 in
-    as_made (stmt_form k f x) (while_form k f e y x.at) b v b2 v2 (form_while k f x e y is)
-    (alone (z.types ++ m.types) (normal.While z.before (rest_of z e) (block_of m y.at)) (normal.While i1 c r) x.at b v b2 v2 (behind v v1 v2 z.types m.types h.out.made yb.1) kind q)
+    as_last (form_of (objects Plain k) f (act.While e y) s) (while_form k f e y s) s b v b v2 (normal.While i1 c r) (form_while k f e y s)
+    (alone (z.types ++ m.types) (normal.While z.before (rest_of z e) (block_of m y.at)) (normal.While i1 c r) s b v v2 (behind v v1 v2 z.types m.types h.out.made yb.1) kind)
 
-pub do_arm : (k : Typed) (x : TypedStmt) (y : TypedStmt) (e : TypedExpr) (b : List NormalStmt) (v : List Ty) (i0 i1 : List NormalStmt) (v1 v2 : List Ty) (c : TypedExpr) (p : Bool) (r : NormalStmt) (b2 : List NormalStmt)
-    → x.kind ≡ act.DoWhile y e → IsBlock k y v v1 r → i0 ≡ [] → IsExpanded e i0 v1 i1 v2 c p → b2 ≡ b ++ normal_at (normal.DoWhile r i1 c) x.at ∷ [] → IsMade (stmt_form k (length v) x) b v b2 v2
-do_arm k x y e b v i0 i1 v1 v2 c p r b2 is i ie h q =
+pub do_arm : (k : Typed) (y : TypedStmt) (e : TypedExpr) (v : List Ty) (i0 i1 : List NormalStmt) (v1 v2 : List Ty) (c : TypedExpr) (p : Bool) (r : NormalStmt) → IsBlock k y v v1 r → i0 ≡ [] → IsExpanded e i0 v1 i1 v2 c p → IsAlone k (act.DoWhile y e) v v2 (normal.DoWhile r i1 c)
+do_arm k y e v i0 i1 v1 v2 c p r i ie h s b =
     let f = length v in
     let m = stmt_form k f y in
     let z = expand_expr (f + length m.types) e in
     let o = out_at e i0 v1 i1 v2 c p (f + length m.types) (longer v v1 m.types i.made) h in
     let kind : normal.DoWhile r i1 c ≡ normal.DoWhile (block_of m y.at) z.before (rest_of z e) =
     ap (λ u. normal.DoWhile u i1 c) i.rest ∙ ap (λ l. normal.DoWhile (block_of m y.at) l c) (o.set ∙ ap (λ l. l ++ z.before) ie) ∙ ap (λ u. normal.DoWhile (block_of m y.at) z.before u) o.rest in
-    as_made (stmt_form k f x) (do_form k f y e x.at) b v b2 v2 (form_do k f x y e is)
-    (alone (m.types ++ z.types) (normal.DoWhile (block_of m y.at) z.before (rest_of z e)) (normal.DoWhile r i1 c) x.at b v b2 v2 (behind v v1 v2 m.types z.types i.made o.made) kind q)
+    as_last (form_of (objects Plain k) f (act.DoWhile y e) s) (do_form k f y e s) s b v b v2 (normal.DoWhile r i1 c) (form_do k f y e s)
+    (alone (m.types ++ z.types) (normal.DoWhile (block_of m y.at) z.before (rest_of z e)) (normal.DoWhile r i1 c) s b v v2 (behind v v1 v2 m.types z.types i.made o.made) kind)
 
-pub for_arm : (k : Typed) (x : TypedStmt) (first : List TypedStmt) (e : Option TypedExpr) (o : Option TypedStmt) (y : TypedStmt) (b : List NormalStmt) (v : List Ty) (a0 a1 : List NormalStmt) (v1 : List Ty) (i0 i1 : List NormalStmt) (v2 v3 v4 : List Ty) (c : Option TypedExpr) (n : Option NormalStmt) (r : NormalStmt) (b2 : List NormalStmt)
-    → x.kind ≡ act.For first e o y → a0 ≡ [] → IsMade (stmts_form k (length v) first) a0 v a1 v1 → i0 ≡ [] → IsOptional e i0 v1 i1 v2 c → IsHeld k o v2 v3 n → IsBlock k y v3 v4 r → b2 ≡ b ++ normal_at (normal.For a1 i1 c n r) x.at ∷ [] → IsMade (stmt_form k (length v) x) b v b2 v4
-for_arm k x first e o y b v a0 a1 v1 i0 i1 v2 v3 v4 c n r b2 is ae h ie i j l q =
+pub for_arm : (k : Typed) (first : List TypedStmt) (e : Option TypedExpr) (o : Option TypedStmt) (y : TypedStmt) (v : List Ty) (a0 a1 : List NormalStmt) (v1 : List Ty) (i0 i1 : List NormalStmt) (v2 v3 v4 : List Ty) (c : Option TypedExpr) (n : Option NormalStmt) (r : NormalStmt)
+    → a0 ≡ [] → IsMade (stmts_form k (length v) first) a0 v a1 v1 → i0 ≡ [] → IsOptional e i0 v1 i1 v2 c → IsHeld k o v2 v3 n → IsBlock k y v3 v4 r → IsAlone k (act.For first e o y) v v4 (normal.For a1 i1 c n r)
+for_arm k first e o y v a0 a1 v1 i0 i1 v2 v3 v4 c n r ae h ie i j l s b =
     let f = length v in
     let a = stmts_form k f first in
     let g = f + length a.types in
@@ -185,62 +188,58 @@ for_arm k x first e o y b v a0 a1 v1 i0 i1 v2 v3 v4 c n r b2 is ae h ie i j l q 
     let kind : normal.For a1 i1 c n r ≡ normal.For a.stmts z.before (rest_if_any z e) t.stmt (block_of m y.at) =
     ap (λ u. normal.For u i1 c n r) (h.set ∙ ap (λ u. u ++ a.stmts) ae) ∙ ap (λ u. normal.For a.stmts u c n r) (zb.1 ∙ ap (λ u. u ++ z.before) ie) ∙ ap (λ u. normal.For a.stmts z.before u n r) zb.0 ∙ ap (λ u. normal.For a.stmts z.before (rest_if_any z e) u r) tb.0
     ∙ ap (λ u. normal.For a.stmts z.before (rest_if_any z e) t.stmt u) mb.0 in
-    as_made (stmt_form k f x) (for_form k f first e o y x.at) b v b2 v4 (form_for k f x first e o y is)
-    (alone (a.types ++ (z.types ++ (t.types ++ m.types))) (normal.For a.stmts z.before (rest_if_any z e) t.stmt (block_of m y.at)) (normal.For a1 i1 c n r) x.at b v b2 v4
-    (behind v v1 v4 a.types (z.types ++ (t.types ++ m.types)) h.made (behind v1 v2 v4 z.types (t.types ++ m.types) zb.2 (behind v2 v3 v4 t.types m.types tb.1 mb.1))) kind q)
+    as_last (form_of (objects Plain k) f (act.For first e o y) s) (for_form k f first e o y s) s b v b v4 (normal.For a1 i1 c n r) (form_for k f first e o y s)
+    (alone (a.types ++ (z.types ++ (t.types ++ m.types))) (normal.For a.stmts z.before (rest_if_any z e) t.stmt (block_of m y.at)) (normal.For a1 i1 c n r) s b v v4
+    (behind v v1 v4 a.types (z.types ++ (t.types ++ m.types)) h.made (behind v1 v2 v4 z.types (t.types ++ m.types) zb.2 (behind v2 v3 v4 t.types m.types tb.1 mb.1))) kind)
 
 -- ---- assignments
 
-pub plain_assignment_arm : (t t2 : TypedTarget) (es : List TypedExpr) (e : TypedExpr) (s : Span) (b : List NormalStmt) (v : List Ty) (b1 : List NormalStmt) (v1 : List Ty) (b2 : List NormalStmt) (v2 : List Ty) (b3 : List NormalStmt) (xs : List TypedExpr) (y : TypedExpr) (p : Bool)
-    → es ≡ t.indices → AreOut (expand_all (length v) es) b v b1 v1 xs → IsExpanded e b1 v1 b2 v2 y p → t2 ≡ target_with t xs → b3 ≡ b2 ++ normal_at (normal.Assign t2 y) s ∷ [] → IsMade (plain_form (length v) t e s) b v b3 v2
-plain_assignment_arm t t2 es e s b v b1 v1 b2 v2 b3 xs y p ese h0 i te q =
+pub plain_arm : (t t2 : TypedTarget) (es : List TypedExpr) (e : TypedExpr) (b : List NormalStmt) (v : List Ty) (b1 : List NormalStmt) (v1 : List Ty) (b2 : List NormalStmt) (v2 : List Ty) (xs : List TypedExpr) (y : TypedExpr) (p : Bool)
+    → es ≡ t.indices → AreOut (expand_all (length v) es) b v b1 v1 xs → IsExpanded e b1 v1 b2 v2 y p → t2 ≡ target_with t xs → (s : Span) → IsLast (plain_form (length v) t e s) s b v b2 v2 (normal.Assign t2 y)
+plain_arm t t2 es e b v b1 v1 b2 v2 xs y p ese h0 i te s =
     let h = subst (λ l. AreOut (expand_all (length v) l) b v b1 v1 xs) ese h0 in
     let a = expand_all (length v) t.indices in
     let g = length v + length a.types in
     let z = expand_expr g e in
     let o = out_at e b1 v1 b2 v2 y p g (longer v v1 a.types h.made) i in
     let kind : normal.Assign t2 y ≡ normal.Assign (target_with t a.exprs) (rest_of z e) = ap (λ u. normal.Assign u y) (te ∙ ap (target_with t) h.rest) ∙ ap (λ u. normal.Assign (target_with t a.exprs) u) o.rest in
-    one_made (a.before ++ z.before) (a.types ++ z.types) (normal.Assign (target_with t a.exprs) (rest_of z e)) (normal.Assign t2 y) s b v b2 b3 v2 (behind b b1 b2 a.before z.before h.set o.set) (behind v v1 v2 a.types z.types h.made o.made) kind q
+    one_last (a.before ++ z.before) (a.types ++ z.types) (normal.Assign (target_with t a.exprs) (rest_of z e)) (normal.Assign t2 y) s b v b2 v2 (behind b b1 b2 a.before z.before h.set o.set) (behind v v1 v2 a.types z.types h.made o.made) kind
 
-pub compound_arm : (k : Typed) (t t2 : TypedTarget) (es : List TypedExpr) (op : Binary) (e : TypedExpr) (s : Span) (b : List NormalStmt) (v : List Ty) (b1 : List NormalStmt) (v1 : List Ty) (b2 : List NormalStmt) (v2 : List Ty) (b3 : List NormalStmt) (xs : List TypedExpr) (y : TypedExpr) (p : Bool) (ty j : Ty) (kind : NormalStmtKind)
-    → es ≡ t.indices → AreOut (set_all (length v) es) b v b1 v1 xs → IsExpanded e b1 v1 b2 v2 y p → t2 ≡ target_with t xs → ty ≡ object_type (objects Plain k) t.to → j ≡ joint_type op ty e.ty → kind ≡ update_of t2 op ty j y s → b3 ≡ b2 ++ normal_at kind s ∷ []
-    → IsMade (assignment_form (objects Plain k) (length v) t (Some op) e s) b v b3 v2
-compound_arm k t t2 es op e s b v b1 v1 b2 v2 b3 xs y p ty j kind ese h0 i te tye je ke q =
+pub update_arm : (t t2 : TypedTarget) (es : List TypedExpr) (op : Binary) (ty j : Ty) (e : TypedExpr) (s : Span) (b : List NormalStmt) (v : List Ty) (b1 : List NormalStmt) (v1 : List Ty) (b2 : List NormalStmt) (v2 : List Ty) (xs : List TypedExpr) (y : TypedExpr) (p : Bool) (r : NormalStmtKind)
+    → es ≡ t.indices → AreOut (set_all (length v) es) b v b1 v1 xs → IsExpanded e b1 v1 b2 v2 y p → t2 ≡ target_with t xs → r ≡ update_of t2 op ty j y s → IsLast (update_form (length v) t op ty j e s) s b v b2 v2 r
+update_arm t t2 es op ty j e s b v b1 v1 b2 v2 xs y p r ese h0 i te re =
     let h = subst (λ l. AreOut (set_all (length v) l) b v b1 v1 xs) ese h0 in
     let a = set_all (length v) t.indices in
     let g = length v + length a.types in
     let z = expand_expr g e in
     let o = out_at e b1 v1 b2 v2 y p g (longer v v1 a.types h.made) i in
+    let same : r ≡ update_of (target_with t a.exprs) op ty j (rest_of z e) s = re ∙ ap (λ l. update_of l op ty j y s) (te ∙ ap (target_with t) h.rest) ∙ ap (λ l. update_of (target_with t a.exprs) op ty j l s) o.rest in
+    one_last (a.before ++ z.before) (a.types ++ z.types) (update_of (target_with t a.exprs) op ty j (rest_of z e) s) r s b v b2 v2 (behind b b1 b2 a.before z.before h.set o.set) (behind v v1 v2 a.types z.types h.made o.made) same
+
+-- an update by a value that may rest on the joint type and the place
+update_same : (f : ℕ) (t2 t : TypedTarget) (op2 op : Binary) (ty2 ty j2 j : Ty) (value : Ty → Span → TypedExpr) (s2 s : Span) (b : List NormalStmt) (v : List Ty) (b2 : List NormalStmt) (v2 : List Ty) (r : NormalStmtKind) → t2 ≡ t → op2 ≡ op → ty2 ≡ ty → j2 ≡ j → s2 ≡ s
+    → IsLast (update_form f t2 op2 ty2 j2 (value j2 s2) s2) s2 b v b2 v2 r → IsLast (update_form f t op ty j (value j s) s) s b v b2 v2 r
+update_same f t2 t op2 op ty2 ty j2 j value s2 s b v b2 v2 r te oe tye je se h =
+    let same : update_form f t2 op2 ty2 j2 (value j2 s2) s2 ≡ update_form f t op ty j (value j s2) s2 =
+    ap (λ z. update_form f z op2 ty2 j2 (value j2 s2) s2) te ∙ ap (λ z. update_form f t z ty2 j2 (value j2 s2) s2) oe ∙ ap (λ z. update_form f t op z j2 (value j2 s2) s2) tye ∙ ap (λ z. update_form f t op ty z (value z s2) s2) je in
+    subst (λ z. IsLast (update_form f t op ty j (value j z) z) z b v b2 v2 r) se (subst (λ m. IsLast m s2 b v b2 v2 r) same h)
+
+pub plain_made : (k : Typed) (x : TypedStmt) (t : TypedTarget) (op : Option Binary) (e : TypedExpr) (b : List NormalStmt) (v : List Ty) (b2 : List NormalStmt) (v2 : List Ty) (r : NormalStmtKind) → x.kind ≡ act.Assign t op e → op ≡ None → ((s : Span) → IsLast (plain_form (length v) t e s) s b v b2 v2 r)
+    → IsLast (stmt_form k (length v) x) x.at b v b2 v2 r
+plain_made k x t op e b v b2 v2 r is none h = at_kind k x (act.Assign t None e) b v b2 v2 r (is ∙ ap (λ o. act.Assign t o e) none) (h x.at)
+
+pub compound_made : (k : Typed) (x : TypedStmt) (t t2 : TypedTarget) (op : Option Binary) (o op2 : Binary) (ty j : Ty) (e : TypedExpr) (s : Span) (b : List NormalStmt) (v : List Ty) (b2 : List NormalStmt) (v2 : List Ty) (r : NormalStmtKind)
+    → x.kind ≡ act.Assign t op e → op ≡ Some o → t2 ≡ t → op2 ≡ o → ty ≡ object_type (objects Plain k) t.to → j ≡ joint_type o (object_type (objects Plain k) t.to) e.ty → s ≡ x.at → IsLast (update_form (length v) t2 op2 ty j e s) s b v b2 v2 r → IsLast (stmt_form k (length v) x) x.at b v b2 v2 r
+compound_made k x t t2 op o op2 ty j e s b v b2 v2 r is some te oe tye je se h =
     let u = object_type (objects Plain k) t.to in
-    let w = joint_type op u e.ty in
-    let same : kind ≡ update_of (target_with t a.exprs) op u w (rest_of z e) s =
-    ke ∙ ap (λ l. update_of l op ty j y s) (te ∙ ap (target_with t) h.rest) ∙ ap (λ l. update_of (target_with t a.exprs) op l j y s) tye ∙ ap (λ l. update_of (target_with t a.exprs) op u l y s) (je ∙ ap (λ l. joint_type op l e.ty) tye) ∙ ap (λ l. update_of (target_with t a.exprs) op u w l s) o.rest in
-    one_made (a.before ++ z.before) (a.types ++ z.types) (update_of (target_with t a.exprs) op u w (rest_of z e) s) kind s b v b2 b3 v2 (behind b b1 b2 a.before z.before h.set o.set) (behind v v1 v2 a.types z.types h.made o.made) same q
+    at_kind k x (act.Assign t (Some o) e) b v b2 v2 r (is ∙ ap (λ q. act.Assign t q e) some) (update_same (length v) t2 t op2 o ty u j (joint_type o u e.ty) (λ _ _. e) s x.at b v b2 v2 r te oe tye je se h)
 
-pub step_made : (k : Typed) (t t2 : TypedTarget) (es : List TypedExpr) (op : Binary) (s : Span) (b : List NormalStmt) (v : List Ty) (b1 : List NormalStmt) (v1 : List Ty) (b2 : List NormalStmt) (xs : List TypedExpr) (y : TypedExpr) (ty j : Ty) (kind : NormalStmtKind)
-    → es ≡ t.indices → AreOut (set_all (length v) es) b v b1 v1 xs → t2 ≡ target_with t xs → ty ≡ object_type (objects Plain k) t.to → j ≡ joint_type op ty I32 → y ≡ of_type (expr.Number 1) j s → kind ≡ update_of t2 op ty j y s → b2 ≡ b1 ++ normal_at kind s ∷ [] → IsMade (step_form (objects Plain k) (length v) t op s) b v b2 v1
-step_made k t t2 es op s b v b1 v1 b2 xs y ty j kind ese h0 te tye je ye ke q =
-    let h = subst (λ l. AreOut (set_all (length v) l) b v b1 v1 xs) ese h0 in
-    let a = set_all (length v) t.indices in
+pub step_made : (k : Typed) (x : TypedStmt) (t t2 : TypedTarget) (up : Bool) (op op2 : Binary) (ty j : Ty) (s : Span) (b : List NormalStmt) (v : List Ty) (b2 : List NormalStmt) (v2 : List Ty) (r : NormalStmtKind)
+    → x.kind ≡ act.Step t up → op ≡ step_operator up → t2 ≡ t → op2 ≡ op → ty ≡ object_type (objects Plain k) t.to → j ≡ joint_type op (object_type (objects Plain k) t.to) I32 → s ≡ x.at → IsLast (update_form (length v) t2 op2 ty j (of_type (expr.Number 1) j s) s) s b v b2 v2 r
+    → IsLast (stmt_form k (length v) x) x.at b v b2 v2 r
+step_made k x t t2 up op op2 ty j s b v b2 v2 r is ope te oe tye je se h =
     let u = object_type (objects Plain k) t.to in
-    let w = joint_type op u I32 in
-    let same : kind ≡ update_of (target_with t a.exprs) op u w (of_type (expr.Number 1) w s) s =
-    ke ∙ ap (λ l. update_of l op ty j y s) (te ∙ ap (target_with t) h.rest) ∙ ap (λ l. update_of (target_with t a.exprs) op ty j l s) ye ∙ ap (λ l. update_of (target_with t a.exprs) op l j (of_type (expr.Number 1) j s) s) tye
-    ∙ ap (λ l. update_of (target_with t a.exprs) op u l (of_type (expr.Number 1) l s) s) (je ∙ ap (λ l. joint_type op l I32) tye) in
-    one_made (a.before ++ []) (a.types ++ []) (update_of (target_with t a.exprs) op u w (of_type (expr.Number 1) w s) s) kind s b v b1 b2 v1 (h.set ∙ ap (λ l. b ++ l) (sym (append-nil a.before))) (h.made ∙ ap (λ l. v ++ l) (sym (append-nil a.types))) same q
-
-pub plain_as : (k : Typed) (op : Option Binary) (f : ℕ) (t : TypedTarget) (e : TypedExpr) (s : Span) (b : List NormalStmt) (v : List Ty) (b2 : List NormalStmt) (v2 : List Ty) → op ≡ None → IsMade (plain_form f t e s) b v b2 v2 → IsMade (assignment_form (objects Plain k) f t op e s) b v b2 v2
-plain_as k op f t e s b v b2 v2 is h = subst (λ o. IsMade (assignment_form (objects Plain k) f t o e s) b v b2 v2) (sym is) h
-
-pub some_as : (k : Typed) (op : Option Binary) (o : Binary) (f : ℕ) (t : TypedTarget) (e : TypedExpr) (s : Span) (b : List NormalStmt) (v : List Ty) (b2 : List NormalStmt) (v2 : List Ty) → op ≡ Some o → IsMade (assignment_form (objects Plain k) f t (Some o) e s) b v b2 v2 → IsMade (assignment_form (objects Plain k) f t op e s) b v b2 v2
-some_as k op o f t e s b v b2 v2 is h = subst (λ z. IsMade (assignment_form (objects Plain k) f t z e s) b v b2 v2) (sym is) h
-
-pub assign_arm : (k : Typed) (x : TypedStmt) (t : TypedTarget) (op : Option Binary) (e : TypedExpr) (b : List NormalStmt) (v : List Ty) (b2 : List NormalStmt) (v2 : List Ty) → x.kind ≡ act.Assign t op e → IsMade (assignment_form (objects Plain k) (length v) t op e x.at) b v b2 v2 → IsMade (stmt_form k (length v) x) b v b2 v2
-assign_arm k x t op e b v b2 v2 is h = as_made (stmt_form k (length v) x) (assignment_form (objects Plain k) (length v) t op e x.at) b v b2 v2 (form_assign k (length v) x t op e is) h
-
-pub step_arm : (k : Typed) (x : TypedStmt) (t : TypedTarget) (up : Bool) (op : Binary) (b : List NormalStmt) (v : List Ty) (b2 : List NormalStmt) (v2 : List Ty) → x.kind ≡ act.Step t up → op ≡ step_operator up → IsMade (step_form (objects Plain k) (length v) t op x.at) b v b2 v2 → IsMade (stmt_form k (length v) x) b v b2 v2
-step_arm k x t up op b v b2 v2 is oe h =
-    as_made (stmt_form k (length v) x) (step_form (objects Plain k) (length v) t (step_operator up) x.at) b v b2 v2 (form_step k (length v) x t up is) (subst (λ o. IsMade (step_form (objects Plain k) (length v) t o x.at) b v b2 v2) oe h)
+    at_kind k x (act.Step t up) b v b2 v2 r is (update_same (length v) t2 t op2 (step_operator up) ty u j (joint_type (step_operator up) u I32) (of_type (expr.Number 1)) s x.at b v b2 v2 r te (oe ∙ ope) tye (je ∙ ap (λ q. joint_type q u I32) ope) se h)
 
 pub array_some : (xs : List ArrayOf) (a : ℕ) (x : ArrayOf) → slice_get xs a ≡ Some x → x.ty ≡ array_type xs a
 array_some [] a x e = absurd (none-some x e)
@@ -256,16 +255,6 @@ array_none (y ∷ ys) (suc a) e = array_none ys a e
 
 pub stmts_first : (all : Made) (b : List NormalStmt) (v : List Ty) → StmtsGoOn all all b v b v
 stmts_first all b v = record { set = refl; made = refl }
-
-nodes_from : (xs : List TypedStmt) (i : ℕ) (x : TypedStmt) → i < length xs → x ≡ get_or xs i x → typed_stmts_nodes (drop i xs) ≡ typed_stmt_nodes x + typed_stmts_nodes (drop (i + 1) xs)
-nodes_from xs i x h is = ap typed_stmts_nodes (from_place xs i x h is) ∙ sum_by-cons typed_stmt_nodes x (drop (i + 1) xs)
-
-pub stmt_room : (xs : List TypedStmt) (i : ℕ) (x : TypedStmt) (v0 v : List Ty) → i < length xs → x ≡ get_or xs i x → length v + typed_stmts_nodes (drop i xs) ≤ length v0 + typed_stmts_nodes xs → HasRoom v0 (typed_stmts_nodes xs) → HasRoom v (typed_stmt_nodes x)
-stmt_room xs i x v0 v h is r room = omega (arith, nodes_from xs i x h is)
-
-pub stmts_room : (xs : List TypedStmt) (i : ℕ) (x : TypedStmt) (v0 v v2 : List Ty) → i < length xs → x ≡ get_or xs i x → length v + typed_stmts_nodes (drop i xs) ≤ length v0 + typed_stmts_nodes xs → length v2 ≤ length v + typed_stmt_nodes x
-    → length v2 + typed_stmts_nodes (drop (i + 1) xs) ≤ length v0 + typed_stmts_nodes xs
-stmts_room xs i x v0 v v2 h is r few = omega (arith, nodes_from xs i x h is)
 
 pub stmts_next : (k : Typed) (xs : List TypedStmt) (i : ℕ) (x : TypedStmt) (all : Made) (b0 : List NormalStmt) (v0 : List Ty) (b : List NormalStmt) (v : List Ty) (b2 : List NormalStmt) (v2 : List Ty)
     → i < length xs → x ≡ get_or xs i x → StmtsGoOn (stmts_form k (length v) (drop i xs)) all b0 v0 b v → IsMade (stmt_form k (length v) x) b v b2 v2 → StmtsGoOn (stmts_form k (length v2) (drop (i + 1) xs)) all b0 v0 b2 v2

@@ -15,6 +15,7 @@ use Rattle.c_ast.specs.declared.typed.TypedStmtKind as tree
 use Rattle.c_ast.specs.declared.typed.TypedStmtKind.TheVariants as act
 use Rattle.c_ast.specs.declared.typed.TypedStmtKind.TheBlock.{shape-the_row-TypedStmt-0, hidden-the_row-TypedStmt-0, shape-the_row-TypedStmt-1, hidden-the_row-TypedStmt-1, back-TypedStmtKind-If-2}
 use Rattle.c_ast.specs.declared.normal.NormalStmtKind.TheVariants as normal
+use Rattle.c_ast.proofs.TypedNodeEquations.{act_block, act_choice, act_while_loop, act_do_loop, act_for_loop}
 use Rattle.c_ast.specs.Nodes.{typed_expr_nodes, typed_exprs_nodes, typed_opt_nodes, act_nodes, held_act_nodes, acts_nodes, typed_stmt_nodes, typed_stmts_nodes, typed_held_nodes}
 use Rattle.c_meaning.specs.declared.profile.Profile.TheVariants.{Plain}
 use Rattle.c_meaning.specs.Stores.{Objects}
@@ -26,19 +27,8 @@ use Rattle.c_norm.proofs.Coded.{few_made, few_exprs, few_set}
 
 -- ---- nodes
 
-row_count : (xs : List TypedStmt) → acts_nodes (hidden-the_row-TypedStmt-0 xs) ≡ typed_stmts_nodes xs
-unfolding shape-the_row-TypedStmt-0 hidden-the_row-TypedStmt-0 shape-the_row-TypedStmt-1 hidden-the_row-TypedStmt-1 hidden
-row_count [] = refl
-row_count (x ∷ xs) = ap (λ n. typed_stmt_nodes x + n) (row_count xs) ∙ sym (sum_by-cons typed_stmt_nodes x xs)
-
-held_count : (o : Option TypedStmt) → held_act_nodes (back-TypedStmtKind-If-2 o) ≡ typed_held_nodes o
-unfolding shape-the_row-TypedStmt-0 hidden-the_row-TypedStmt-0 shape-the_row-TypedStmt-1 hidden-the_row-TypedStmt-1 hidden
-held_count None = refl
-held_count (Some x) = refl
-
 pub nodes_block : (x : TypedStmt) (xs : List TypedStmt) → x.kind ≡ act.Block xs → typed_stmt_nodes x ≡ 1 + typed_stmts_nodes xs
-unfolding shape-the_row-TypedStmt-0 hidden-the_row-TypedStmt-0 shape-the_row-TypedStmt-1 hidden-the_row-TypedStmt-1 hidden
-nodes_block x xs is = ap act_nodes is ∙ ap (λ n. 1 + n) (row_count xs)
+nodes_block x xs is = ap act_nodes is ∙ act_block xs
 
 pub nodes_declare : (x : TypedStmt) (v : ℕ) (e : Option TypedExpr) → x.kind ≡ act.Declare v e → typed_stmt_nodes x ≡ 1 + typed_opt_nodes e
 nodes_declare x v e is = ap act_nodes is
@@ -50,20 +40,16 @@ pub nodes_step : (x : TypedStmt) (t : TypedTarget) (up : Bool) → x.kind ≡ ac
 nodes_step x t up is = omega (arith, ap act_nodes is)
 
 pub nodes_if : (x : TypedStmt) (e : TypedExpr) (y : TypedStmt) (o : Option TypedStmt) → x.kind ≡ act.If e y o → typed_stmt_nodes x ≡ 1 + typed_expr_nodes e + typed_stmt_nodes y + typed_held_nodes o
-unfolding shape-the_row-TypedStmt-0 hidden-the_row-TypedStmt-0 shape-the_row-TypedStmt-1 hidden-the_row-TypedStmt-1 hidden
-nodes_if x e y o is = ap act_nodes is ∙ ap (λ n. 1 + typed_expr_nodes e + typed_stmt_nodes y + n) (held_count o)
+nodes_if x e y o is = ap act_nodes is ∙ act_choice e y o
 
 pub nodes_while : (x : TypedStmt) (e : TypedExpr) (y : TypedStmt) → x.kind ≡ act.While e y → typed_stmt_nodes x ≡ 1 + typed_expr_nodes e + typed_stmt_nodes y
-unfolding shape-the_row-TypedStmt-0 hidden-the_row-TypedStmt-0 shape-the_row-TypedStmt-1 hidden-the_row-TypedStmt-1 hidden
-nodes_while x e y is = ap act_nodes is
+nodes_while x e y is = ap act_nodes is ∙ act_while_loop e y
 
 pub nodes_do : (x : TypedStmt) (y : TypedStmt) (e : TypedExpr) → x.kind ≡ act.DoWhile y e → typed_stmt_nodes x ≡ 1 + typed_stmt_nodes y + typed_expr_nodes e
-unfolding shape-the_row-TypedStmt-0 hidden-the_row-TypedStmt-0 shape-the_row-TypedStmt-1 hidden-the_row-TypedStmt-1 hidden
-nodes_do x y e is = ap act_nodes is
+nodes_do x y e is = ap act_nodes is ∙ act_do_loop y e
 
 pub nodes_for : (x : TypedStmt) (first : List TypedStmt) (e : Option TypedExpr) (o : Option TypedStmt) (y : TypedStmt) → x.kind ≡ act.For first e o y → typed_stmt_nodes x ≡ 1 + typed_stmts_nodes first + typed_opt_nodes e + typed_held_nodes o + typed_stmt_nodes y
-unfolding shape-the_row-TypedStmt-0 hidden-the_row-TypedStmt-0 shape-the_row-TypedStmt-1 hidden-the_row-TypedStmt-1 hidden
-nodes_for x first e o y is = omega (arith, ap act_nodes is, row_count first, held_count o)
+nodes_for x first e o y is = ap act_nodes is ∙ act_for_loop first e o y
 
 pub nodes_return : (x : TypedStmt) (e : Option TypedExpr) → x.kind ≡ act.Return e → typed_stmt_nodes x ≡ 1 + typed_opt_nodes e
 nodes_return x e is = ap act_nodes is
@@ -82,21 +68,9 @@ unfolding shape-the_row-TypedStmt-0 hidden-the_row-TypedStmt-0 shape-the_row-Typ
 held_is k f None = refl
 held_is k f (Some x) = refl
 
-by_kind : (k : Typed) (f : ℕ) (x : TypedStmt) (kind : TypedStmtKind) → x.kind ≡ kind → stmt_form k f x ≡ form_of (objects Plain k) f kind x.at
-by_kind k f x kind is = ap (λ c. form_of (objects Plain k) f c x.at) is
-
-pub form_block : (k : Typed) (f : ℕ) (x : TypedStmt) (xs : List TypedStmt) → x.kind ≡ act.Block xs → stmt_form k f x ≡ record { stmts = normal_at (normal.Block (stmts_form k f xs).stmts) x.at ∷ []; types = (stmts_form k f xs).types }
+pub form_block : (k : Typed) (f : ℕ) (xs : List TypedStmt) (s : Span) → form_of (objects Plain k) f (act.Block xs) s ≡ record { stmts = normal_at (normal.Block (stmts_form k f xs).stmts) s ∷ []; types = (stmts_form k f xs).types }
 unfolding shape-the_row-TypedStmt-0 hidden-the_row-TypedStmt-0 shape-the_row-TypedStmt-1 hidden-the_row-TypedStmt-1 hidden
-form_block k f x xs is = by_kind k f x (act.Block xs) is ∙ ap (λ (b : Made). record { stmts = normal_at (normal.Block b.stmts) x.at ∷ []; types = b.types }) (row_all (objects Plain k) f xs)
-
-pub form_declare : (k : Typed) (f : ℕ) (x : TypedStmt) (v : ℕ) (e : Option TypedExpr) → x.kind ≡ act.Declare v e → stmt_form k f x ≡ made (optional f e).before (normal.Declare v (rest_if_any (optional f e) e)) x.at (optional f e).types
-form_declare k f x v e is = by_kind k f x (act.Declare v e) is
-
-pub form_assign : (k : Typed) (f : ℕ) (x : TypedStmt) (t : TypedTarget) (op : Option Binary) (e : TypedExpr) → x.kind ≡ act.Assign t op e → stmt_form k f x ≡ assignment_form (objects Plain k) f t op e x.at
-form_assign k f x t op e is = by_kind k f x (act.Assign t op e) is
-
-pub form_step : (k : Typed) (f : ℕ) (x : TypedStmt) (t : TypedTarget) (up : Bool) → x.kind ≡ act.Step t up → stmt_form k f x ≡ step_form (objects Plain k) f t (step_operator up) x.at
-form_step k f x t up is = by_kind k f x (act.Step t up) is
+form_block k f xs s = ap (λ (b : Made). record { stmts = normal_at (normal.Block b.stmts) s ∷ []; types = b.types }) (row_all (objects Plain k) f xs)
 
 abbrev pub if_form : Typed → ℕ → TypedExpr → TypedStmt → Option TypedStmt → Span → Made
 if_form k f e y o s =
@@ -105,12 +79,12 @@ if_form k f e y o s =
     let n = held_stmt k (f + length c.types + length m.types) o in
     record { stmts = normal_at (normal.If c.before (rest_of c e) (block_of m y.at) n.stmt) s ∷ []; types = c.types ++ (m.types ++ n.types) }
 
-pub form_if : (k : Typed) (f : ℕ) (x : TypedStmt) (e : TypedExpr) (y : TypedStmt) (o : Option TypedStmt) → x.kind ≡ act.If e y o → stmt_form k f x ≡ if_form k f e y o x.at
+pub form_if : (k : Typed) (f : ℕ) (e : TypedExpr) (y : TypedStmt) (o : Option TypedStmt) (s : Span) → form_of (objects Plain k) f (act.If e y o) s ≡ if_form k f e y o s
 unfolding shape-the_row-TypedStmt-0 hidden-the_row-TypedStmt-0 shape-the_row-TypedStmt-1 hidden-the_row-TypedStmt-1 hidden
-form_if k f x e y o is =
+form_if k f e y o s =
     let c = expand_expr f e in
     let m = stmt_form k (f + length c.types) y in
-    by_kind k f x (act.If e y o) is ∙ ap (λ (n : MadeIfAny). record { stmts = normal_at (normal.If c.before (rest_of c e) (block_of m y.at) n.stmt) x.at ∷ []; types = c.types ++ (m.types ++ n.types) }) (held_is k (f + length c.types + length m.types) o)
+    ap (λ (n : MadeIfAny). record { stmts = normal_at (normal.If c.before (rest_of c e) (block_of m y.at) n.stmt) s ∷ []; types = c.types ++ (m.types ++ n.types) }) (held_is k (f + length c.types + length m.types) o)
 
 abbrev pub while_form : Typed → ℕ → TypedExpr → TypedStmt → Span → Made
 while_form k f e y s =
@@ -118,9 +92,9 @@ while_form k f e y s =
     let m = stmt_form k (f + length c.types) y in
     record { stmts = normal_at (normal.While c.before (rest_of c e) (block_of m y.at)) s ∷ []; types = c.types ++ m.types }
 
-pub form_while : (k : Typed) (f : ℕ) (x : TypedStmt) (e : TypedExpr) (y : TypedStmt) → x.kind ≡ act.While e y → stmt_form k f x ≡ while_form k f e y x.at
+pub form_while : (k : Typed) (f : ℕ) (e : TypedExpr) (y : TypedStmt) (s : Span) → form_of (objects Plain k) f (act.While e y) s ≡ while_form k f e y s
 unfolding shape-the_row-TypedStmt-0 hidden-the_row-TypedStmt-0 shape-the_row-TypedStmt-1 hidden-the_row-TypedStmt-1 hidden
-form_while k f x e y is = by_kind k f x (act.While e y) is
+form_while k f e y s = refl
 
 abbrev pub do_form : Typed → ℕ → TypedStmt → TypedExpr → Span → Made
 do_form k f y e s =
@@ -128,9 +102,9 @@ do_form k f y e s =
     let c = expand_expr (f + length m.types) e in
     record { stmts = normal_at (normal.DoWhile (block_of m y.at) c.before (rest_of c e)) s ∷ []; types = m.types ++ c.types }
 
-pub form_do : (k : Typed) (f : ℕ) (x : TypedStmt) (y : TypedStmt) (e : TypedExpr) → x.kind ≡ act.DoWhile y e → stmt_form k f x ≡ do_form k f y e x.at
+pub form_do : (k : Typed) (f : ℕ) (y : TypedStmt) (e : TypedExpr) (s : Span) → form_of (objects Plain k) f (act.DoWhile y e) s ≡ do_form k f y e s
 unfolding shape-the_row-TypedStmt-0 hidden-the_row-TypedStmt-0 shape-the_row-TypedStmt-1 hidden-the_row-TypedStmt-1 hidden
-form_do k f x y e is = by_kind k f x (act.DoWhile y e) is
+form_do k f y e s = refl
 
 abbrev for_by : Typed → Made → ℕ → Option TypedExpr → MadeIfAny → TypedStmt → Span → ℕ → Made
 for_by k i f e p y s h =
@@ -146,27 +120,14 @@ for_form k f first e o y s =
     let p = held_stmt k h o in
     for_by k i g e p y s (h + length p.types)
 
-pub form_for : (k : Typed) (f : ℕ) (x : TypedStmt) (first : List TypedStmt) (e : Option TypedExpr) (o : Option TypedStmt) (y : TypedStmt) → x.kind ≡ act.For first e o y → stmt_form k f x ≡ for_form k f first e o y x.at
+pub form_for : (k : Typed) (f : ℕ) (first : List TypedStmt) (e : Option TypedExpr) (o : Option TypedStmt) (y : TypedStmt) (s : Span) → form_of (objects Plain k) f (act.For first e o y) s ≡ for_form k f first e o y s
 unfolding shape-the_row-TypedStmt-0 hidden-the_row-TypedStmt-0 shape-the_row-TypedStmt-1 hidden-the_row-TypedStmt-1 hidden
-form_for k f x first e o y is =
+form_for k f first e o y s =
     let i = stmts_form k f first in
     let g = f + length i.types in
     let h = g + length (optional g e).types in
-    by_kind k f x (act.For first e o y) is
-    ∙ ap (λ (i : Made). let g = f + length i.types in let h = g + length (optional g e).types in let p = held_form (objects Plain k) h (back-TypedStmtKind-If-2 o) in for_by k i g e p y x.at (h + length p.types)) (row_all (objects Plain k) f first)
-    ∙ ap (λ (p : MadeIfAny). for_by k i g e p y x.at (h + length p.types)) (held_is k h o)
-
-pub form_return : (k : Typed) (f : ℕ) (x : TypedStmt) (e : Option TypedExpr) → x.kind ≡ act.Return e → stmt_form k f x ≡ made (optional f e).before (normal.Return (rest_if_any (optional f e) e)) x.at (optional f e).types
-form_return k f x e is = by_kind k f x (act.Return e) is
-
-pub form_break : (k : Typed) (f : ℕ) (x : TypedStmt) → x.kind ≡ act.Break → stmt_form k f x ≡ made [] normal.Break x.at []
-form_break k f x is = by_kind k f x act.Break is
-
-pub form_continue : (k : Typed) (f : ℕ) (x : TypedStmt) → x.kind ≡ act.Continue → stmt_form k f x ≡ made [] normal.Continue x.at []
-form_continue k f x is = by_kind k f x act.Continue is
-
-pub form_empty : (k : Typed) (f : ℕ) (x : TypedStmt) → x.kind ≡ act.Empty → stmt_form k f x ≡ made [] normal.Empty x.at []
-form_empty k f x is = by_kind k f x act.Empty is
+    ap (λ (i : Made). let g = f + length i.types in let h = g + length (optional g e).types in let p = held_form (objects Plain k) h (back-TypedStmtKind-If-2 o) in for_by k i g e p y s (h + length p.types)) (row_all (objects Plain k) f first)
+    ∙ ap (λ (p : MadeIfAny). for_by k i g e p y s (h + length p.types)) (held_is k h o)
 
 -- ---- few variables are made
 

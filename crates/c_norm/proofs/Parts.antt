@@ -5,7 +5,6 @@ use Rattle.std.proofs.lemmas.Bool.{ne_eqb}
 use Rattle.el_base.specs.declared.span.Span.{Span}
 use Rattle.el_base.specs.declared.ty.Ty.{Ty}
 use denote.Hole.Carrier.{hidden}
-use Rattle.std.proofs.lemmas.List.Sums.{sum_by-cons}
 use Rattle.c_ast.specs.declared.tree.Unary.{Unary}
 use Rattle.c_ast.specs.declared.tree.Binary.{Binary}
 use Rattle.c_ast.specs.declared.typed.TypedExpr.{TypedExpr}
@@ -14,41 +13,32 @@ use Rattle.c_ast.specs.declared.typed.TypedExprKind.TheBlock.{shape-the_row-Type
 use Rattle.c_ast.specs.declared.typed.TypedExprKind.{TypedExprKind, end_of-TypedExpr, more_of-TypedExpr}
 use Rattle.c_ast.specs.declared.typed.TypedExprKind as tree
 use Rattle.c_ast.specs.Casts.{of_type}
-use Rattle.c_ast.specs.Nodes.{typed_kind_nodes, typed_row_nodes, typed_expr_nodes, typed_exprs_nodes}
+use Rattle.c_ast.specs.Nodes.{typed_kind_nodes, typed_expr_nodes, typed_exprs_nodes}
+use Rattle.c_ast.proofs.TypedNodeEquations.{typed_element, typed_unary, typed_implied, typed_written, typed_binary, typed_choice}
 use Rattle.c_meaning.specs.Sizes.{reads}
 use Rattle.c_norm.specs.Expand.{Out, Outs, whole, decided_by, joined_out, binary_out, choose_out, expand, expand_row, expand_expr, expand_all}
 
 -- ---- nodes
 
-row_count : (es : List TypedExpr) → typed_row_nodes (hidden-the_row-TypedExpr-0 es) ≡ typed_exprs_nodes es
-unfolding shape-the_row-TypedExpr-0 hidden-the_row-TypedExpr-0 shape-the_row-TypedExpr-1 hidden-the_row-TypedExpr-1 hidden
-row_count [] = refl
-row_count (e ∷ es) = ap (λ n. typed_expr_nodes e + n) (row_count es) ∙ sym (sum_by-cons typed_expr_nodes e es)
-
 pub nodes_element : (e : TypedExpr) (a : ℕ) (es : List TypedExpr) → e.kind ≡ expr.Element a es → typed_expr_nodes e ≡ 1 + typed_exprs_nodes es
-unfolding shape-the_row-TypedExpr-0 hidden-the_row-TypedExpr-0 shape-the_row-TypedExpr-1 hidden-the_row-TypedExpr-1 hidden
-nodes_element e a es is = ap typed_kind_nodes is ∙ ap (λ n. 1 + n) (row_count es)
+nodes_element e a es is = ap typed_kind_nodes is ∙ typed_element a es
 
 pub nodes_unary : (e : TypedExpr) (op : Unary) (x : TypedExpr) → e.kind ≡ expr.Unary op x → typed_expr_nodes e ≡ 1 + typed_expr_nodes x
-unfolding shape-the_row-TypedExpr-0 hidden-the_row-TypedExpr-0 shape-the_row-TypedExpr-1 hidden-the_row-TypedExpr-1 hidden
-nodes_unary e op x is = ap typed_kind_nodes is
+nodes_unary e op x is = ap typed_kind_nodes is ∙ typed_unary op x
 
 cast_count : (implied : Bool) (x : TypedExpr) → typed_expr_nodes x ≤ typed_kind_nodes (expr.Cast implied x)
-unfolding shape-the_row-TypedExpr-0 hidden-the_row-TypedExpr-0 shape-the_row-TypedExpr-1 hidden-the_row-TypedExpr-1 hidden
-cast_count true x = omega arith
-cast_count false x = omega arith
+cast_count true x = omega (arith, typed_implied x)
+cast_count false x = omega (arith, typed_written x)
 
 -- a cast that is implied is no node
 pub nodes_cast : (e : TypedExpr) (implied : Bool) (x : TypedExpr) → e.kind ≡ expr.Cast implied x → typed_expr_nodes x ≤ typed_expr_nodes e
 nodes_cast e implied x is = omega (arith, ap typed_kind_nodes is, cast_count implied x)
 
 pub nodes_binary : (e : TypedExpr) (op : Binary) (x y : TypedExpr) → e.kind ≡ expr.Binary op x y → typed_expr_nodes e ≡ 1 + typed_expr_nodes x + typed_expr_nodes y
-unfolding shape-the_row-TypedExpr-0 hidden-the_row-TypedExpr-0 shape-the_row-TypedExpr-1 hidden-the_row-TypedExpr-1 hidden
-nodes_binary e op x y is = ap typed_kind_nodes is
+nodes_binary e op x y is = ap typed_kind_nodes is ∙ typed_binary op x y
 
 pub nodes_choice : (e : TypedExpr) (x y z : TypedExpr) → e.kind ≡ expr.Choose x y z → typed_expr_nodes e ≡ 1 + typed_expr_nodes x + typed_expr_nodes y + typed_expr_nodes z
-unfolding shape-the_row-TypedExpr-0 hidden-the_row-TypedExpr-0 shape-the_row-TypedExpr-1 hidden-the_row-TypedExpr-1 hidden
-nodes_choice e x y z is = ap typed_kind_nodes is
+nodes_choice e x y z is = ap typed_kind_nodes is ∙ typed_choice x y z
 
 -- ---- what reads no array
 

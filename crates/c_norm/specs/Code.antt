@@ -8,6 +8,7 @@ use Rattle.c_ast.specs.declared.typed.TypedExprKind.TheVariants as expr
 use Rattle.c_ast.specs.declared.tree.Binary.{Binary as BinaryOp}
 use Rattle.c_ast.specs.declared.typed.Typed.{Typed}
 use Rattle.c_ast.specs.declared.typed.TypedStmt.{TypedStmt}
+use Rattle.c_ast.specs.declared.typed.TypedStmtKind.{TypedStmtKind}
 use Rattle.c_ast.specs.declared.typed.TypedTarget.{TypedTarget}
 use Rattle.c_ast.specs.declared.normal.NormalStmt.{NormalStmt}
 use Rattle.c_ast.specs.declared.normal.NormalStmtKind.{NormalStmtKind}
@@ -15,8 +16,9 @@ use Rattle.c_ast.specs.declared.normal.NormalStmtKind.TheVariants as normal
 use Rattle.c_meaning.specs.declared.profile.Profile.TheVariants.{Plain}
 use Rattle.c_meaning.specs.Statements.{objects}
 use Rattle.c_meaning.specs.Sizes.{reads}
-use Rattle.c_norm.specs.Expand.{Out, Outs, setting, decided_by, expand_expr, expand_all, rest_of}
-use Rattle.c_norm.specs.Forms.{Made, MadeIfAny, made, target_with, block_of, optional, rest_if_any, object_kind, new_value, form_of, all_forms}
+use Rattle.c_norm.specs.Expand.{Out, Outs, setting, side, choice, decided_by, expand_expr, expand_all, set_all, rest_of}
+use Rattle.c_norm.specs.Forms.{Made, MadeIfAny, normal_at, made, target_with, compound, block_of, optional, rest_if_any, object_kind, new_value, form_of, all_forms}
+use Rattle.c_norm.specs.declared.settings.Choice.{Choice}
 
 -- so many variables more may be numbered
 abbrev pub HasRoom : List Ty → ℕ → Type 0
@@ -52,6 +54,10 @@ pub record GoesOn (left all : Outs) (before0 : List NormalStmt) (vars0 : List Ty
   pub set : before ++ left.before ≡ before0 ++ all.before
   pub made : vars ++ left.types ≡ vars0 ++ all.types
 
+-- the statement that sets a variable to the value of a side
+abbrev pub chosen : Choice → ℕ → NormalStmt
+chosen c v = choice v c.cond (side v c.then.before c.then.value c.at) (side v c.other.before c.other.value c.at) c.at
+
 -- ---- statements
 
 abbrev pub stmt_form : Typed → ℕ → TypedStmt → Made
@@ -69,6 +75,14 @@ held_stmt k f (Some x) = record { stmt = Some (block_of (stmt_form k f x) x.at);
 pub record IsMade (m : Made) (out : List NormalStmt) (vars : List Ty) (out2 : List NormalStmt) (vars2 : List Ty) : Type 0 where
   pub set : out2 ≡ out ++ m.stmts
   pub made : vars2 ≡ vars ++ m.types
+
+-- the last statement of what is made is of a kind, and the others stand behind those that stood there, as the variables do
+abbrev pub IsLast : Made → Span → List NormalStmt → List Ty → List NormalStmt → List Ty → NormalStmtKind → Type 0
+IsLast m s out vars out2 vars2 kind = IsMade m out vars (out2 ++ normal_at kind s ∷ []) vars2
+
+-- a statement becomes one alone, of a kind
+abbrev pub IsAlone : Typed → TypedStmtKind → List Ty → List Ty → NormalStmtKind → Type 0
+IsAlone k x vars vars2 kind = (s : Span) (out : List NormalStmt) → IsLast (form_of (objects Plain k) (length vars) x s) s out vars out vars2 kind
 
 -- what may be absent was expanded
 pub record IsOptional (e : Option TypedExpr) (before : List NormalStmt) (vars : List Ty) (before2 : List NormalStmt) (vars2 : List Ty) (r : Option TypedExpr) : Type 0 where
@@ -97,6 +111,12 @@ plain_form f target e s =
     let o = expand_expr (f + length i.types) e in
     made (i.before ++ o.before) (normal.Assign (target_with target i.exprs) (rest_of o e)) s (i.types ++ o.types)
 
--- target op= value, where the indices are variables of their own
+-- target op= value, by the type of the target and the joint one
+abbrev pub update_form : ℕ → TypedTarget → BinaryOp → Ty → Ty → TypedExpr → Span → Made
+update_form f target op t j e s =
+    let i = set_all f target.indices in
+    compound i target op t j (expand_expr (f + length i.types) e) e s
+
+-- the same, where the indices are variables of their own
 abbrev pub update_of : TypedTarget → BinaryOp → Ty → Ty → TypedExpr → Span → NormalStmtKind
 update_of target op t j e s = normal.Assign target (new_value (decided_by op) op t j (of_type (object_kind target.to target.indices) t target.at) e s)

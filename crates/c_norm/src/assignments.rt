@@ -1,16 +1,27 @@
 //! Assignments: a compound one becomes a plain one, and each index is evaluated once.
-ghost use Rattle.std.specs.Prelude.{◌≡◌, ◌+◌, ◌≤◌, length, Some, None, IfOk, OnOk};
+ghost use Rattle.std.specs.Prelude.{◌≡◌, ◌+◌, ◌≤◌, length, None, IfOk, OnOk};
+ghost use Rattle.el_base.specs.declared.span.Span.{Span};
 ghost use Rattle.c_ast.specs.declared.typed.TypedExprKind.TheVariants as expr;
 ghost use Rattle.c_ast.specs.Casts.{of_type};
 ghost use Rattle.c_ast.specs.Nodes.{typed_expr_nodes, typed_exprs_nodes};
+ghost use Rattle.c_ast.specs.ResultTypes.{joint_type};
 ghost use Rattle.c_meaning.specs.declared.profile.Profile.TheVariants.{Plain};
-ghost use Rattle.c_meaning.specs.Statements.{objects};
-ghost use Rattle.c_norm.specs.Code.{HasRoom, IsOut, AreOut, set_out, IsMade, plain_form, update_of};
+ghost use Rattle.c_meaning.specs.Statements.{objects, object_type};
+ghost use Rattle.c_norm.specs.Code.{
+  HasRoom,
+  IsOut,
+  AreOut,
+  IsLast,
+  set_out,
+  plain_form,
+  update_form,
+  update_of,
+};
 ghost use Rattle.c_norm.specs.Expand.{decided_by, set_all};
-ghost use Rattle.c_norm.specs.Forms.{object_kind, cast_to, new_value, target_with, assignment_form, step_form};
+ghost use Rattle.c_norm.specs.Forms.{object_kind, cast_to, new_value, target_with};
 
 use crate::expand::{decided_by, expand, expand_all, operation};
-use crate::settings::{fresh, put, setting};
+use crate::settings::{fresh, setting};
 use crate::types::object_type;
 use c_ast::{
     Binary, NormalStmt, NormalStmtKind, Object, Typed, TypedExpr, TypedExprKind, TypedTarget,
@@ -61,113 +72,27 @@ fn set_all(
     Ok(rests)
 }
 
-/// The statement for `target = value` or `target op= value`, behind what is set for it.
-#[tactic(auto, using(crate::proofs::MadeArms::plain_as, crate::proofs::MadeArms::some_as))]
-pub(crate) fn assignment(
-    alloc: Global,
-    typed: &Typed,
-    target: &TypedTarget,
-    op: Option<Binary>,
-    value: &TypedExpr,
-    at: Span,
-    out: &mut List<NormalStmt>,
-    vars: &mut List<Ty>,
-) -> Result<(), Memory>
-    requires { HasRoom vars.old
-        (typed_exprs_nodes target.now.indices + typed_expr_nodes value.now) }
-    ensures { OnOk result (IsMade
-        (assignment_form (objects Plain typed.now) (length vars.old) target.now op value.now at)
-        out.old vars.old out.new vars.new) }
-{
-    match op {
-        None => {
-            plain(alloc, target, value, at, out, vars)?;
-            Ok(())
-        }
-        Some(op) => {
-            compound(alloc, typed, target, op, value, at, out, vars)?;
-            Ok(())
-        }
-    }
-}
-
 /// `target = value`. The indices are left where they are.
-fn plain(
+pub(crate) fn plain(
     alloc: Global,
     target: &TypedTarget,
     value: &TypedExpr,
-    at: Span,
     out: &mut List<NormalStmt>,
     vars: &mut List<Ty>,
-) -> Result<(), Memory>
+) -> Result<NormalStmtKind, Memory>
     requires { HasRoom vars.old
         (typed_exprs_nodes target.now.indices + typed_expr_nodes value.now) }
-    ensures { OnOk result (IsMade
-        (plain_form (length vars.old) target.now value.now at)
-        out.old vars.old out.new vars.new) }
+    ensures { IfOk result (λ k. (at : Span) → IsLast
+        (plain_form (length vars.old) target.now value.now at) at
+        out.old vars.old out.new vars.new k) }
 {
     let indices = expand_all(alloc, target.indices.as_slice(), out, vars)?;
     let rest = expand(alloc, value, out, vars)?;
     let target = target_with(target, indices);
-    let kind = NormalStmtKind::Assign {
+    Ok(NormalStmtKind::Assign {
         target,
         value: rest.expr,
-    };
-    put(out, kind, at)?;
-    Ok(())
-}
-
-/// `target op= value`. Each index is set to a variable first, so that it is evaluated once.
-fn compound(
-    alloc: Global,
-    typed: &Typed,
-    target: &TypedTarget,
-    op: Binary,
-    value: &TypedExpr,
-    at: Span,
-    out: &mut List<NormalStmt>,
-    vars: &mut List<Ty>,
-) -> Result<(), Memory>
-    requires { HasRoom vars.old
-        (typed_exprs_nodes target.now.indices + typed_expr_nodes value.now) }
-    ensures { OnOk result (IsMade
-        (assignment_form (objects Plain typed.now) (length vars.old)
-        target.now (Some op) value.now at)
-        out.old vars.old out.new vars.new) }
-{
-    let indices = set_all(alloc, target.indices.as_slice(), out, vars)?;
-    let rest = expand(alloc, value, out, vars)?;
-    let ty = object_type(typed, target.to);
-    let joint = joint_type(op, ty, value.ty);
-    let target = target_with(target, indices);
-    let kind = update(alloc, target, op, ty, joint, rest.expr, at)?;
-    put(out, kind, at)?;
-    Ok(())
-}
-
-/// `target++` and `target--` are `target += 1` and `target -= 1`, with the 1 in the joint type.
-pub(crate) fn step(
-    alloc: Global,
-    typed: &Typed,
-    target: &TypedTarget,
-    op: Binary,
-    at: Span,
-    out: &mut List<NormalStmt>,
-    vars: &mut List<Ty>,
-) -> Result<(), Memory>
-    requires { HasRoom vars.old (typed_exprs_nodes target.now.indices) }
-    ensures { OnOk result (IsMade
-        (step_form (objects Plain typed.now) (length vars.old) target.now op at)
-        out.old vars.old out.new vars.new) }
-{
-    let indices = set_all(alloc, target.indices.as_slice(), out, vars)?;
-    let ty = object_type(typed, target.to);
-    let joint = joint_type(op, ty, Ty::I32);
-    let one = number(1, joint, at);
-    let target = target_with(target, indices);
-    let kind = update(alloc, target, op, ty, joint, one, at)?;
-    put(out, kind, at)?;
-    Ok(())
+    })
 }
 
 fn target_with(target: &TypedTarget, indices: List<TypedExpr>) -> TypedTarget
@@ -177,6 +102,129 @@ fn target_with(target: &TypedTarget, indices: List<TypedExpr>) -> TypedTarget
         to: target.to,
         at: target.at,
         indices,
+    }
+}
+
+/// `target op= value`: the old value of a target of type `ty` and another are joined in the type `joint`.
+#[derive(Drop)]
+pub(crate) struct Update<'a> {
+    target: &'a TypedTarget,
+    op: Binary,
+    ty: Ty,
+    joint: Ty,
+    at: Span,
+}
+
+impl<'a> Update<'a> {
+    /// The update of a target of a kernel by a value of the type `by`.
+    pub(crate) fn new(typed: &Typed, target: &'a TypedTarget, op: Binary, by: Ty, at: Span) -> Self
+        ensures target { result.target.now ≡ target.now }
+        ensures op { result.op ≡ op }
+        ensures ty { result.ty ≡ object_type (objects Plain typed.now) target.now.to }
+        ensures joint { result.joint
+            ≡ joint_type op (object_type (objects Plain typed.now) target.now.to) by }
+        ensures at { result.at ≡ at }
+    {
+        let ty = object_type(typed, target.to);
+        let joint = joint_type(op, ty, by);
+        Update {
+            target,
+            op,
+            ty,
+            joint,
+            at,
+        }
+    }
+
+    /// `target op= value`. Each index is set to a variable first, so that it is evaluated once.
+    pub(crate) fn compound(
+        &self,
+        alloc: Global,
+        value: &TypedExpr,
+        out: &mut List<NormalStmt>,
+        vars: &mut List<Ty>,
+    ) -> Result<NormalStmtKind, Memory>
+        requires { HasRoom vars.old
+            (typed_exprs_nodes self.now.target.now.indices + typed_expr_nodes value.now) }
+        ensures { IfOk result (IsLast
+            (update_form (length vars.old) self.now.target.now self.now.op self.now.ty self.now.joint
+            value.now self.now.at) self.now.at
+            out.old vars.old out.new vars.new) }
+    {
+        let indices = set_all(alloc, self.target.indices.as_slice(), out, vars)?;
+        let rest = expand(alloc, value, out, vars)?;
+        let target = target_with(self.target, indices);
+        let kind = self.kind(alloc, target, rest.expr)?;
+        Ok(kind)
+    }
+
+    /// `target++` and `target--` are `target += 1` and `target -= 1`, with the 1 in the joint type.
+    pub(crate) fn step(
+        &self,
+        alloc: Global,
+        out: &mut List<NormalStmt>,
+        vars: &mut List<Ty>,
+    ) -> Result<NormalStmtKind, Memory>
+        requires { HasRoom vars.old (typed_exprs_nodes self.now.target.now.indices + 1) }
+        ensures { IfOk result (IsLast
+            (update_form (length vars.old) self.now.target.now self.now.op self.now.ty self.now.joint
+            (of_type (expr.Number 1) self.now.joint self.now.at) self.now.at) self.now.at
+            out.old vars.old out.new vars.new) }
+    {
+        let one = number(1, self.joint, self.at);
+        let kind = self.compound(alloc, &one, out, vars)?;
+        Ok(kind)
+    }
+
+    /// The plain assignment of the new value to a target.
+    fn kind(
+        &self,
+        alloc: Global,
+        target: TypedTarget,
+        value: TypedExpr,
+    ) -> Result<NormalStmtKind, Memory>
+        ensures { IfOk result (λ k. k ≡
+            update_of target self.now.op self.now.ty self.now.joint value self.now.at) }
+    {
+        let old = object_value(target.copy(alloc)?, self.ty);
+        let value = self.new_value(alloc, old, value)?;
+        Ok(NormalStmtKind::Assign { target, value })
+    }
+
+    /// The new value of a target: the old one is converted to the joint type, and the result to the target's type.
+    fn new_value(
+        &self,
+        alloc: Global,
+        old: TypedExpr,
+        value: TypedExpr,
+    ) -> Result<TypedExpr, Memory>
+        ensures { IfOk result (λ e. e ≡ new_value (decided_by self.now.op)
+            self.now.op self.now.ty self.now.joint old value self.now.at) }
+    {
+        match decided_by(self.op) {
+            Some(_) => Ok(number(0, self.ty, self.at)),
+            None => self.joined_value(alloc, old, value),
+        }
+    }
+
+    /// The new value by an operator that evaluates both its operands.
+    fn joined_value(
+        &self,
+        alloc: Global,
+        old: TypedExpr,
+        value: TypedExpr,
+    ) -> Result<TypedExpr, Memory>
+        ensures { IfOk result (λ e. e ≡ new_value None
+            self.now.op self.now.ty self.now.joint old value self.now.at) }
+    {
+        let old = cast_to(alloc, self.joint, old)?;
+        let kind = operation(alloc, self.op, old, value)?;
+        let joined = TypedExpr {
+            kind,
+            ty: result_type(self.op, self.joint),
+            at: self.at,
+        };
+        cast_to(alloc, self.ty, joined)
     }
 }
 
@@ -190,39 +238,6 @@ fn number(value: u64, ty: Ty, at: Span) -> TypedExpr
     }
 }
 
-/// The plain assignment of the old value of a target of type `ty`, joined with another value in the type `joint`.
-fn update(
-    alloc: Global,
-    target: TypedTarget,
-    op: Binary,
-    ty: Ty,
-    joint: Ty,
-    value: TypedExpr,
-    at: Span,
-) -> Result<NormalStmtKind, Memory>
-    ensures { IfOk result (λ k. k ≡ update_of target op ty joint value at) }
-{
-    let value = updated(alloc, &target, op, ty, joint, value, at)?;
-    Ok(NormalStmtKind::Assign { target, value })
-}
-
-/// The old value of a target of type `ty`, joined with another value in the type `joint`.
-fn updated(
-    alloc: Global,
-    target: &TypedTarget,
-    op: Binary,
-    ty: Ty,
-    joint: Ty,
-    value: TypedExpr,
-    at: Span,
-) -> Result<TypedExpr, Memory>
-    ensures { IfOk result (λ e. e ≡ new_value (decided_by op) op ty joint
-        (of_type (object_kind target.now.to target.now.indices) ty target.now.at) value at) }
-{
-    let old = object_value(target.copy(alloc)?, ty);
-    new_value(alloc, op, ty, joint, old, value, at)
-}
-
 /// The value of an object.
 fn object_value(target: TypedTarget, ty: Ty) -> TypedExpr
     ensures { result ≡ of_type (object_kind target.to target.indices) ty target.at }
@@ -233,46 +248,6 @@ fn object_value(target: TypedTarget, ty: Ty) -> TypedExpr
         Object::Array(array) => TypedExprKind::Element { array, indices },
     };
     TypedExpr { kind, ty, at }
-}
-
-/// The new value of a target: the old one is converted to the joint type, and the result to the target's type.
-fn new_value(
-    alloc: Global,
-    op: Binary,
-    ty: Ty,
-    joint: Ty,
-    old: TypedExpr,
-    value: TypedExpr,
-    at: Span,
-) -> Result<TypedExpr, Memory>
-    ensures { IfOk result (λ e. e ≡ new_value (decided_by op) op ty joint old value at) }
-{
-    match decided_by(op) {
-        Some(_) => Ok(number(0, ty, at)),
-        None => joined_value(alloc, op, ty, joint, old, value, at),
-    }
-}
-
-/// The new value of a target by an operator that evaluates both its operands.
-fn joined_value(
-    alloc: Global,
-    op: Binary,
-    ty: Ty,
-    joint: Ty,
-    old: TypedExpr,
-    value: TypedExpr,
-    at: Span,
-) -> Result<TypedExpr, Memory>
-    ensures { IfOk result (λ e. e ≡ new_value None op ty joint old value at) }
-{
-    let old = cast_to(alloc, joint, old)?;
-    let kind = operation(alloc, op, old, value)?;
-    let joined = TypedExpr {
-        kind,
-        ty: result_type(op, joint),
-        at,
-    };
-    cast_to(alloc, ty, joined)
 }
 
 /// A conversion that is written.

@@ -1,15 +1,14 @@
 //! Expressions are expanded: what must be set for them is set before, and what is left stays an expression.
-ghost use Rattle.std.specs.Prelude.{◌≡◌, ◌+◌, ◌≤◌, ◌&&◌, [], ◌∷◌, ◌++◌, length, Some, None, IfOk, OnOk};
-ghost use Rattle.el_base.specs.declared.ty.Ty.TheVariants.{I32};
+ghost use Rattle.std.specs.Prelude.{◌≡◌, ◌+◌, ◌≤◌, ◌&&◌, length, IfOk, OnOk};
 ghost use Rattle.c_ast.specs.declared.typed.TypedExprKind.TheVariants as expr;
 ghost use Rattle.c_ast.specs.Nodes.{typed_expr_nodes, typed_exprs_nodes};
 ghost use Rattle.c_ast.specs.Casts.{of_type};
 ghost use Rattle.c_norm.specs.Code.{HasRoom, IsExpanded, AreOut};
-ghost use Rattle.c_norm.specs.Expand.{decided_by, expand_all, side, choice, logical};
+ghost use Rattle.c_norm.specs.Expand.{decided_by, expand_all};
 
-use crate::settings::{choice, fresh, logical, side};
-use c_ast::{Binary, NormalStmt, TypedExpr, TypedExprKind, Unary};
-use el_base::{Boxed, List, Memory, Span, Ty};
+use crate::settings::{Choice, Side, set_logical};
+use c_ast::{Binary, NormalStmt, TypedExpr, TypedExprKind};
+use el_base::{Boxed, List, Memory, Ty};
 use std::alloc::Global;
 
 /// What is left of an expression, and whether the expression reads no array: then nothing is set for it, and all of it is left.
@@ -51,11 +50,20 @@ fn kind(
         TypedExprKind::Number(value) => Ok(left_of(e, TypedExprKind::Number(*value), true)),
         TypedExprKind::Var(var) => Ok(left_of(e, TypedExprKind::Var(*var), true)),
         TypedExprKind::Element { array, indices } => {
-            element(alloc, e, *array, indices.as_slice(), before, vars)
+            let indices = expand_all(alloc, indices.as_slice(), before, vars)?;
+            let array = *array;
+            Ok(left_of(e, TypedExprKind::Element { array, indices }, false))
         }
-        TypedExprKind::Unary(op, arg) => unary(alloc, e, *op, arg.get(), before, vars),
+        TypedExprKind::Unary(op, arg) => {
+            let inner = expand(alloc, arg.get(), before, vars)?;
+            let arg = Boxed::new(alloc, inner.expr)?;
+            Ok(left_of(e, TypedExprKind::Unary(*op, arg), inner.plain))
+        }
         TypedExprKind::Cast { implied, arg } => {
-            cast(alloc, e, *implied, arg.get(), before, vars)
+            let inner = expand(alloc, arg.get(), before, vars)?;
+            let arg = Boxed::new(alloc, inner.expr)?;
+            let implied = *implied;
+            Ok(left_of(e, TypedExprKind::Cast { implied, arg }, inner.plain))
         }
         TypedExprKind::Binary(op, left, right) => {
             binary(alloc, e, *op, left.get(), right.get(), before, vars)
@@ -80,76 +88,10 @@ fn left_of(e: &TypedExpr, kind: TypedExprKind, plain: bool) -> Rest
     }
 }
 
-/// A side of a choice: what is set for its value, and the value.
-#[derive(Drop)]
-struct Side {
-    before: List<NormalStmt>,
-    value: TypedExpr,
-}
-
 fn neither_reads(first: &Rest, second: &Rest) -> bool
     ensures { result ≡ (first.now.plain && second.now.plain) }
 {
     first.plain && second.plain
-}
-
-#[cycle(expand)]
-#[inline(never)]
-fn unary(
-    alloc: Global,
-    e: &TypedExpr,
-    op: Unary,
-    arg: &TypedExpr,
-    before: &mut List<NormalStmt>,
-    vars: &mut List<Ty>,
-) -> Result<Rest, Memory>
-    requires is { e.now.kind ≡ expr.Unary op arg.now }
-    requires room { HasRoom vars.old (1 + typed_expr_nodes arg.now) }
-    ensures { IfOk result (λ r.
-        IsExpanded e.now before.old vars.old before.new vars.new r.expr r.plain) }
-{
-    let inner = expand(alloc, arg, before, vars)?;
-    let arg = Boxed::new(alloc, inner.expr)?;
-    Ok(left_of(e, TypedExprKind::Unary(op, arg), inner.plain))
-}
-
-#[cycle(expand)]
-#[inline(never)]
-fn cast(
-    alloc: Global,
-    e: &TypedExpr,
-    implied: bool,
-    arg: &TypedExpr,
-    before: &mut List<NormalStmt>,
-    vars: &mut List<Ty>,
-) -> Result<Rest, Memory>
-    requires is { e.now.kind ≡ expr.Cast implied arg.now }
-    requires room { HasRoom vars.old (typed_expr_nodes arg.now) }
-    ensures { IfOk result (λ r.
-        IsExpanded e.now before.old vars.old before.new vars.new r.expr r.plain) }
-{
-    let inner = expand(alloc, arg, before, vars)?;
-    let arg = Boxed::new(alloc, inner.expr)?;
-    Ok(left_of(e, TypedExprKind::Cast { implied, arg }, inner.plain))
-}
-
-#[cycle(expand)]
-#[inline(never)]
-fn element(
-    alloc: Global,
-    e: &TypedExpr,
-    array: u32,
-    indices: &[TypedExpr],
-    before: &mut List<NormalStmt>,
-    vars: &mut List<Ty>,
-) -> Result<Rest, Memory>
-    requires is { e.now.kind ≡ expr.Element array indices.now }
-    requires room { HasRoom vars.old (1 + typed_exprs_nodes indices.now) }
-    ensures { IfOk result (λ r.
-        IsExpanded e.now before.old vars.old before.new vars.new r.expr r.plain) }
-{
-    let indices = expand_all(alloc, indices, before, vars)?;
-    Ok(left_of(e, TypedExprKind::Element { array, indices }, false))
 }
 
 /// Expands several expressions, from left to right.
@@ -175,7 +117,9 @@ pub(crate) fn expand_all(
     Ok(rests)
 }
 
+/// An operator. For `&&` or `||` what is set for the right operand is kept apart: it is set where that operand is evaluated.
 #[cycle(expand)]
+#[inline(never)]
 fn binary(
     alloc: Global,
     e: &TypedExpr,
@@ -190,9 +134,29 @@ fn binary(
     ensures { IfOk result (λ r.
         IsExpanded e.now before.old vars.old before.new vars.new r.expr r.plain) }
 {
+    let first = expand(alloc, left, before, vars)?;
     match decided_by(op) {
-        None => joined(alloc, e, op, left, right, before, vars),
-        Some(decided) => decided_out(alloc, e, op, decided, left, right, before, vars),
+        None => {
+            let second = expand(alloc, right, before, vars)?;
+            let plain = neither_reads(&first, &second);
+            let kind = operation(alloc, op, first.expr, second.expr)?;
+            Ok(left_of(e, kind, plain))
+        }
+        Some(decided) => {
+            let mut inside = List::new(alloc);
+            let second = expand(alloc, right, &mut inside, vars)?;
+            let plain = neither_reads(&first, &second);
+            if plain {
+                let kind = operation(alloc, op, first.expr, second.expr)?;
+                return Ok(left_of(e, kind, true));
+            }
+            let right = Side {
+                before: inside,
+                value: second.expr,
+            };
+            let var = set_logical(alloc, decided, first.expr, right, e.at, before, vars)?;
+            Ok(left_of(e, TypedExprKind::Var(var), false))
+        }
     }
 }
 
@@ -222,31 +186,6 @@ pub(crate) fn decided_by(op: Binary) -> Option<bool>
     }
 }
 
-/// An operator that evaluates both its operands.
-#[cycle(expand)]
-#[inline(never)]
-fn joined(
-    alloc: Global,
-    e: &TypedExpr,
-    op: Binary,
-    left: &TypedExpr,
-    right: &TypedExpr,
-    before: &mut List<NormalStmt>,
-    vars: &mut List<Ty>,
-) -> Result<Rest, Memory>
-    requires is { e.now.kind ≡ expr.Binary op left.now right.now }
-    requires both { decided_by op ≡ None }
-    requires room { HasRoom vars.old (1 + typed_expr_nodes left.now + typed_expr_nodes right.now) }
-    ensures { IfOk result (λ r.
-        IsExpanded e.now before.old vars.old before.new vars.new r.expr r.plain) }
-{
-    let first = expand(alloc, left, before, vars)?;
-    let second = expand(alloc, right, before, vars)?;
-    let plain = neither_reads(&first, &second);
-    let kind = operation(alloc, op, first.expr, second.expr)?;
-    Ok(left_of(e, kind, plain))
-}
-
 /// An operator with both its operands.
 #[inline(never)]
 pub(crate) fn operation(
@@ -260,70 +199,6 @@ pub(crate) fn operation(
     let left = Boxed::new(alloc, left)?;
     let right = Boxed::new(alloc, right)?;
     Ok(TypedExprKind::Binary(op, left, right))
-}
-
-/// `&&` or `||`. What is set for the right operand is kept apart: it is set where that operand is evaluated.
-#[cycle(expand)]
-#[inline(never)]
-fn decided_out(
-    alloc: Global,
-    e: &TypedExpr,
-    op: Binary,
-    decided: bool,
-    left: &TypedExpr,
-    right: &TypedExpr,
-    before: &mut List<NormalStmt>,
-    vars: &mut List<Ty>,
-) -> Result<Rest, Memory>
-    requires is { e.now.kind ≡ expr.Binary op left.now right.now }
-    requires decides { decided_by op ≡ Some decided }
-    requires room { HasRoom vars.old (1 + typed_expr_nodes left.now + typed_expr_nodes right.now) }
-    ensures { IfOk result (λ r.
-        IsExpanded e.now before.old vars.old before.new vars.new r.expr r.plain) }
-{
-    let first = expand(alloc, left, before, vars)?;
-    let mut inside = List::new(alloc);
-    let second = expand(alloc, right, &mut inside, vars)?;
-    let plain = neither_reads(&first, &second);
-    if plain {
-        let kind = operation(alloc, op, first.expr, second.expr)?;
-        return Ok(left_of(e, kind, true));
-    }
-    let var = set_logical(
-        alloc,
-        decided,
-        first.expr,
-        inside,
-        second.expr,
-        e.at,
-        before,
-        vars,
-    )?;
-    Ok(left_of(e, TypedExprKind::Var(var), false))
-}
-
-/// Sets a new variable to the truth of `&&` or `||`.
-#[inline(never)]
-fn set_logical(
-    alloc: Global,
-    decided: bool,
-    left: TypedExpr,
-    inside: List<NormalStmt>,
-    right: TypedExpr,
-    at: Span,
-    before: &mut List<NormalStmt>,
-    vars: &mut List<Ty>,
-) -> Result<u32, Memory>
-    requires { HasRoom vars.old 1 }
-    ensures number { IfOk result (λ v. v ≡ length vars.old) }
-    ensures set { IfOk result (λ v.
-        before.new ≡ before.old ++ logical decided v left inside right at ∷ []) }
-    ensures made { OnOk result (vars.new ≡ vars.old ++ I32 ∷ []) }
-{
-    let var = fresh(vars, Ty::I32)?;
-    let set = logical(alloc, decided, var, left, inside, right, at)?;
-    before.push(set)?;
-    Ok(var)
 }
 
 /// `?:`. What is set for a side is kept apart: it is set where that side is evaluated.
@@ -354,15 +229,20 @@ fn choose(
         let kind = kept(alloc, test.expr, first.expr, second.expr)?;
         return Ok(left_of(e, kind, test.plain));
     }
-    let then = Side {
-        before: inside,
-        value: first.expr,
+    let choice = Choice {
+        cond: test.expr,
+        then: Side {
+            before: inside,
+            value: first.expr,
+        },
+        other: Side {
+            before: inside_other,
+            value: second.expr,
+        },
+        ty: e.ty,
+        at: e.at,
     };
-    let other = Side {
-        before: inside_other,
-        value: second.expr,
-    };
-    let var = set_choice(alloc, e, test.expr, then, other, before, vars)?;
+    let var = choice.set(alloc, before, vars)?;
     Ok(left_of(e, TypedExprKind::Var(var), false))
 }
 
@@ -380,51 +260,4 @@ fn kept(
     let then = Boxed::new(alloc, then)?;
     let other = Boxed::new(alloc, other)?;
     Ok(TypedExprKind::Choose(cond, then, other))
-}
-
-/// Sets a new variable to the value of the side of `?:` that is evaluated.
-#[inline(never)]
-fn set_choice(
-    alloc: Global,
-    e: &TypedExpr,
-    cond: TypedExpr,
-    then: Side,
-    other: Side,
-    before: &mut List<NormalStmt>,
-    vars: &mut List<Ty>,
-) -> Result<u32, Memory>
-    requires { HasRoom vars.old 1 }
-    ensures number { IfOk result (λ v. v ≡ length vars.old) }
-    ensures set { IfOk result (λ v. before.new ≡ before.old
-        ++ choice v cond (side v then.before then.value e.now.at)
-        (side v other.before other.value e.now.at) e.now.at ∷ []) }
-    ensures made { OnOk result (vars.new ≡ vars.old ++ e.now.ty ∷ []) }
-{
-    let var = fresh(vars, e.ty)?;
-    let set = choice_of(alloc, var, cond, then, other, e.at)?;
-    before.push(set)?;
-    Ok(var)
-}
-
-/// The choice that sets a variable to the value of a side.
-fn choice_of(
-    alloc: Global,
-    var: u32,
-    cond: TypedExpr,
-    then: Side,
-    other: Side,
-    at: Span,
-) -> Result<NormalStmt, Memory>
-    ensures { IfOk result (λ s. s ≡ choice var cond (side var then.before then.value at)
-        (side var other.before other.value at) at) }
-{
-    let then = side_of(alloc, var, then, at)?;
-    let other = side_of(alloc, var, other, at)?;
-    Ok(choice(alloc, cond, then, other, at))
-}
-
-fn side_of(alloc: Global, var: u32, of: Side, at: Span) -> Result<Boxed<NormalStmt>, Memory>
-    ensures { IfOk result (λ s. s ≡ side var of.before of.value at) }
-{
-    side(alloc, var, of.before, of.value, at)
 }

@@ -1,5 +1,5 @@
 //! Statements: each becomes a list of statements, and each part of `if` and of a loop a block.
-ghost use Rattle.std.specs.Prelude.{◌≡◌, ◌+◌, ◌≤◌, [], length, IfOk, OnOk};
+ghost use Rattle.std.specs.Prelude.{◌≡◌, ◌+◌, ◌≤◌, length, IfOk, OnOk};
 ghost use Rattle.c_ast.specs.declared.typed.TypedStmtKind.TheVariants as act;
 ghost use Rattle.c_ast.specs.Nodes.{
   typed_expr_nodes,
@@ -10,8 +10,9 @@ ghost use Rattle.c_ast.specs.Nodes.{
 };
 ghost use Rattle.c_norm.specs.Code.{
   HasRoom,
-  IsExpanded,
   IsMade,
+  IsLast,
+  IsAlone,
   IsOptional,
   IsBlock,
   IsHeld,
@@ -19,165 +20,254 @@ ghost use Rattle.c_norm.specs.Code.{
   stmts_form,
 };
 
-use crate::assignments::{assignment, step};
-use crate::expand::{Rest, expand};
+use crate::assignments::{Update, plain};
+use crate::expand::expand;
 use crate::settings::put;
 use crate::types::step_operator;
 use c_ast::{NormalStmt, NormalStmtKind, Typed, TypedExpr, TypedStmt, TypedStmtKind};
 use el_base::{Boxed, List, Memory, Ty};
 use std::alloc::Global;
 
-/// A condition: what is set for it, and what is left of it.
+/// What the statements of a kernel are brought to normal form by.
 #[derive(Drop)]
-struct Condition {
-    before: List<NormalStmt>,
-    rest: Rest,
+pub(crate) struct Normalizer<'a> {
+    pub(crate) alloc: Global,
+    /// The kernel, which has the types of objects.
+    pub(crate) typed: &'a Typed,
 }
 
-/// The same of a condition that may be absent.
-#[derive(Drop)]
-struct OptionalCondition {
-    before: List<NormalStmt>,
-    left: Option<TypedExpr>,
-}
+impl<'a> Normalizer<'a> {
+    /// The statements that one is made of go behind `out`, and the variables that are made for them behind `vars`.
+    #[cycle(form)]
+    fn form(
+        &self,
+        stmt: &TypedStmt,
+        out: &mut List<NormalStmt>,
+        vars: &mut List<Ty>,
+    ) -> Result<(), Memory>
+        requires { HasRoom vars.old (typed_stmt_nodes stmt.now) }
+        ensures made { OnOk result
+            (IsMade (stmt_form self.now.typed.now (length vars.old) stmt.now)
+            out.old vars.old out.new vars.new) }
+        ensures few { OnOk result (length vars.new ≤ length vars.old + typed_stmt_nodes stmt.now) }
+    {
+        let kind = self.kind(stmt, out, vars)?;
+        put(out, kind, stmt.at)?;
+        Ok(())
+    }
 
-/// The statements that one is made of go behind `out`, and the variables that are made for them behind `vars`.
-#[cycle(form)]
-fn form(
-    alloc: Global,
-    typed: &Typed,
-    stmt: &TypedStmt,
-    out: &mut List<NormalStmt>,
-    vars: &mut List<Ty>,
-) -> Result<(), Memory>
-    requires { HasRoom vars.old (typed_stmt_nodes stmt.now) }
-    ensures made { OnOk result
-        (IsMade (stmt_form typed.now (length vars.old) stmt.now)
-        out.old vars.old out.new vars.new) }
-    ensures few { OnOk result (length vars.new ≤ length vars.old + typed_stmt_nodes stmt.now) }
-{
-    kind(alloc, typed, stmt, out, vars)?;
-    Ok(())
-}
+    /// The last of the statements that one is made of. The others go behind `out`.
+    #[cycle(form)]
+    fn kind(
+        &self,
+        stmt: &TypedStmt,
+        out: &mut List<NormalStmt>,
+        vars: &mut List<Ty>,
+    ) -> Result<NormalStmtKind, Memory>
+        requires { HasRoom vars.old (typed_stmt_nodes stmt.now) }
+        ensures { IfOk result
+            (IsLast (stmt_form self.now.typed.now (length vars.old) stmt.now) stmt.now.at
+            out.old vars.old out.new vars.new) }
+    {
+        match &stmt.kind {
+            TypedStmtKind::Block(stmts) => self.block(stmts.as_slice(), vars),
+            TypedStmtKind::Declare { var, init } => {
+                let init = optional(self.alloc, init, out, vars)?;
+                let var = *var;
+                Ok(NormalStmtKind::Declare { var, init })
+            }
+            TypedStmtKind::Assign { target, op, value } => match op {
+                None => plain(self.alloc, target, value, out, vars),
+                Some(op) => {
+                    let update = Update::new(self.typed, target, *op, value.ty, stmt.at);
+                    update.compound(self.alloc, value, out, vars)
+                }
+            },
+            TypedStmtKind::Step { target, up } => {
+                let update = Update::new(self.typed, target, step_operator(*up), Ty::I32, stmt.at);
+                update.step(self.alloc, out, vars)
+            }
+            TypedStmtKind::If { cond, then, other } => self.choice(cond, then.get(), other, vars),
+            TypedStmtKind::While { cond, body } => self.while_loop(cond, body.get(), vars),
+            TypedStmtKind::DoWhile { body, cond } => self.do_loop(body.get(), cond, vars),
+            TypedStmtKind::For {
+                first,
+                cond,
+                step,
+                body,
+            } => self.for_loop(first.as_slice(), cond, step, body.get(), vars),
+            TypedStmtKind::Break => Ok(NormalStmtKind::Break),
+            TypedStmtKind::Continue => Ok(NormalStmtKind::Continue),
+            TypedStmtKind::Return(value) => {
+                let value = optional(self.alloc, value, out, vars)?;
+                Ok(NormalStmtKind::Return(value))
+            }
+            TypedStmtKind::Empty => Ok(NormalStmtKind::Empty),
+        }
+    }
 
-#[cycle(form)]
-fn kind(
-    alloc: Global,
-    typed: &Typed,
-    stmt: &TypedStmt,
-    out: &mut List<NormalStmt>,
-    vars: &mut List<Ty>,
-) -> Result<(), Memory>
-    requires { HasRoom vars.old (typed_stmt_nodes stmt.now) }
-    ensures { OnOk result
-        (IsMade (stmt_form typed.now (length vars.old) stmt.now)
-        out.old vars.old out.new vars.new) }
-{
-    match &stmt.kind {
-        TypedStmtKind::Block(stmts) => block(alloc, typed, stmt, stmts.as_slice(), out, vars),
-        TypedStmtKind::Declare { var, init } => declare(alloc, typed, stmt, *var, init, out, vars),
-        TypedStmtKind::Assign { target, op, value } => {
-            assignment(alloc, typed, target, *op, value, stmt.at, out, vars)
+    /// The statements that several are made of, in order.
+    #[cycle(form)]
+    #[tactic(auto, using(crate::proofs::MadeArms::few_stmts))]
+    pub(crate) fn forms(
+        &self,
+        stmts: &[TypedStmt],
+        out: &mut List<NormalStmt>,
+        vars: &mut List<Ty>,
+    ) -> Result<(), Memory>
+        requires { HasRoom vars.old (typed_stmts_nodes stmts.now) }
+        ensures made { OnOk result
+            (IsMade (stmts_form self.now.typed.now (length vars.old) stmts.now)
+            out.old vars.old out.new vars.new) }
+        ensures few { OnOk result
+            (length vars.new ≤ length vars.old + typed_stmts_nodes stmts.now) }
+    {
+        for stmt in stmts {
+            self.form(stmt, out, vars)?;
         }
-        TypedStmtKind::Step { target, up } => {
-            step(alloc, typed, target, step_operator(*up), stmt.at, out, vars)
+        Ok(())
+    }
+
+    /// A part of `if`, the body of a loop or the step of a `for`, as a block.
+    #[cycle(form)]
+    #[tactic(auto, using(crate::proofs::MadeArms::few_block))]
+    fn inside(&self, stmt: &TypedStmt, vars: &mut List<Ty>) -> Result<Boxed<NormalStmt>, Memory>
+        requires { HasRoom vars.old (typed_stmt_nodes stmt.now) }
+        ensures made { IfOk result (IsBlock self.now.typed.now stmt.now vars.old vars.new) }
+        ensures few { OnOk result (length vars.new ≤ length vars.old + typed_stmt_nodes stmt.now) }
+    {
+        let mut stmts = List::new(self.alloc);
+        self.form(stmt, &mut stmts, vars)?;
+        let block = NormalStmt {
+            kind: NormalStmtKind::Block(stmts),
+            at: stmt.at,
+        };
+        let boxed = Boxed::new(self.alloc, block)?;
+        Ok(boxed)
+    }
+
+    /// The same of one that may be absent.
+    #[cycle(form)]
+    #[tactic(auto, using(crate::proofs::MadeArms::few_held_made))]
+    fn held(
+        &self,
+        stmt: &Option<Boxed<TypedStmt>>,
+        vars: &mut List<Ty>,
+    ) -> Result<Option<Boxed<NormalStmt>>, Memory>
+        requires { HasRoom vars.old (typed_held_nodes stmt.now) }
+        ensures made { IfOk result (IsHeld self.now.typed.now stmt.now vars.old vars.new) }
+        ensures few { OnOk result (length vars.new ≤ length vars.old + typed_held_nodes stmt.now) }
+    {
+        match stmt {
+            None => Ok(None),
+            Some(stmt) => {
+                let block = self.inside(stmt.get(), vars)?;
+                Ok(Some(block))
+            }
         }
-        TypedStmtKind::If { cond, then, other } => {
-            choice(alloc, typed, stmt, cond, then.get(), other, out, vars)
-        }
-        TypedStmtKind::While { cond, body } => {
-            while_loop(alloc, typed, stmt, cond, body.get(), out, vars)
-        }
-        TypedStmtKind::DoWhile { body, cond } => {
-            do_loop(alloc, typed, stmt, body.get(), cond, out, vars)
-        }
-        TypedStmtKind::For {
-            first,
+    }
+
+    #[cycle(form)]
+    fn block(&self, stmts: &[TypedStmt], vars: &mut List<Ty>) -> Result<NormalStmtKind, Memory>
+        requires { HasRoom vars.old (typed_stmts_nodes stmts.now) }
+        ensures { IfOk result
+            (IsAlone self.now.typed.now (act.Block stmts.now) vars.old vars.new) }
+    {
+        let mut made = List::new(self.alloc);
+        self.forms(stmts, &mut made, vars)?;
+        Ok(NormalStmtKind::Block(made))
+    }
+
+    /// `if`. What is set for the condition stands before it.
+    #[cycle(form)]
+    fn choice(
+        &self,
+        cond: &TypedExpr,
+        then: &TypedStmt,
+        other: &Option<Boxed<TypedStmt>>,
+        vars: &mut List<Ty>,
+    ) -> Result<NormalStmtKind, Memory>
+        requires { HasRoom vars.old
+            (typed_expr_nodes cond.now + typed_stmt_nodes then.now + typed_held_nodes other.now) }
+        ensures { IfOk result
+            (IsAlone self.now.typed.now (act.If cond.now then.now other.now) vars.old vars.new) }
+    {
+        let mut before = List::new(self.alloc);
+        let test = expand(self.alloc, cond, &mut before, vars)?;
+        let then = self.inside(then, vars)?;
+        let other = self.held(other, vars)?;
+        let cond = test.expr;
+        Ok(NormalStmtKind::If {
+            before,
+            cond,
+            then,
+            other,
+        })
+    }
+
+    #[cycle(form)]
+    fn while_loop(
+        &self,
+        cond: &TypedExpr,
+        body: &TypedStmt,
+        vars: &mut List<Ty>,
+    ) -> Result<NormalStmtKind, Memory>
+        requires { HasRoom vars.old (typed_expr_nodes cond.now + typed_stmt_nodes body.now) }
+        ensures { IfOk result
+            (IsAlone self.now.typed.now (act.While cond.now body.now) vars.old vars.new) }
+    {
+        let mut before = List::new(self.alloc);
+        let test = expand(self.alloc, cond, &mut before, vars)?;
+        let body = self.inside(body, vars)?;
+        let cond = test.expr;
+        Ok(NormalStmtKind::While { before, cond, body })
+    }
+
+    #[cycle(form)]
+    fn do_loop(
+        &self,
+        body: &TypedStmt,
+        cond: &TypedExpr,
+        vars: &mut List<Ty>,
+    ) -> Result<NormalStmtKind, Memory>
+        requires { HasRoom vars.old (typed_stmt_nodes body.now + typed_expr_nodes cond.now) }
+        ensures { IfOk result
+            (IsAlone self.now.typed.now (act.DoWhile body.now cond.now) vars.old vars.new) }
+    {
+        let body = self.inside(body, vars)?;
+        let mut before = List::new(self.alloc);
+        let test = expand(self.alloc, cond, &mut before, vars)?;
+        let cond = test.expr;
+        Ok(NormalStmtKind::DoWhile { body, before, cond })
+    }
+
+    #[cycle(form)]
+    fn for_loop(
+        &self,
+        first: &[TypedStmt],
+        cond: &Option<TypedExpr>,
+        step: &Option<Boxed<TypedStmt>>,
+        body: &TypedStmt,
+        vars: &mut List<Ty>,
+    ) -> Result<NormalStmtKind, Memory>
+        requires { HasRoom vars.old (typed_stmts_nodes first.now + typed_opt_nodes cond.now
+            + typed_held_nodes step.now + typed_stmt_nodes body.now) }
+        ensures { IfOk result (IsAlone self.now.typed.now
+            (act.For first.now cond.now step.now body.now) vars.old vars.new) }
+    {
+        let mut opening = List::new(self.alloc);
+        self.forms(first, &mut opening, vars)?;
+        let mut before = List::new(self.alloc);
+        let cond = optional(self.alloc, cond, &mut before, vars)?;
+        let step = self.held(step, vars)?;
+        let body = self.inside(body, vars)?;
+        Ok(NormalStmtKind::For {
+            first: opening,
+            before,
             cond,
             step,
             body,
-        } => for_loop(
-            alloc,
-            typed,
-            stmt,
-            first.as_slice(),
-            cond,
-            step,
-            body.get(),
-            out,
-            vars,
-        ),
-        TypedStmtKind::Break => put(out, NormalStmtKind::Break, stmt.at),
-        TypedStmtKind::Continue => put(out, NormalStmtKind::Continue, stmt.at),
-        TypedStmtKind::Return(value) => give(alloc, typed, stmt, value, out, vars),
-        TypedStmtKind::Empty => put(out, NormalStmtKind::Empty, stmt.at),
-    }
-}
-
-/// The statements that several are made of, in order.
-#[cycle(form)]
-#[tactic(auto, using(crate::proofs::MadeArms::few_stmts))]
-pub(crate) fn forms(
-    alloc: Global,
-    typed: &Typed,
-    stmts: &[TypedStmt],
-    out: &mut List<NormalStmt>,
-    vars: &mut List<Ty>,
-) -> Result<(), Memory>
-    requires { HasRoom vars.old (typed_stmts_nodes stmts.now) }
-    ensures made { OnOk result
-        (IsMade (stmts_form typed.now (length vars.old) stmts.now)
-        out.old vars.old out.new vars.new) }
-    ensures few { OnOk result (length vars.new ≤ length vars.old + typed_stmts_nodes stmts.now) }
-{
-    for stmt in stmts {
-        form(alloc, typed, stmt, out, vars)?;
-    }
-    Ok(())
-}
-
-/// A part of `if`, the body of a loop or the step of a `for`, as a block.
-#[cycle(form)]
-#[tactic(auto, using(crate::proofs::MadeArms::few_block))]
-fn inside(
-    alloc: Global,
-    typed: &Typed,
-    stmt: &TypedStmt,
-    vars: &mut List<Ty>,
-) -> Result<Boxed<NormalStmt>, Memory>
-    requires { HasRoom vars.old (typed_stmt_nodes stmt.now) }
-    ensures made { IfOk result (IsBlock typed.now stmt.now vars.old vars.new) }
-    ensures few { OnOk result (length vars.new ≤ length vars.old + typed_stmt_nodes stmt.now) }
-{
-    let mut stmts = List::new(alloc);
-    form(alloc, typed, stmt, &mut stmts, vars)?;
-    let block = NormalStmt {
-        kind: NormalStmtKind::Block(stmts),
-        at: stmt.at,
-    };
-    let boxed = Boxed::new(alloc, block)?;
-    Ok(boxed)
-}
-
-/// The same of one that may be absent.
-#[cycle(form)]
-#[tactic(auto, using(crate::proofs::MadeArms::few_held_made))]
-fn held(
-    alloc: Global,
-    typed: &Typed,
-    stmt: &Option<Boxed<TypedStmt>>,
-    vars: &mut List<Ty>,
-) -> Result<Option<Boxed<NormalStmt>>, Memory>
-    requires { HasRoom vars.old (typed_held_nodes stmt.now) }
-    ensures made { IfOk result (IsHeld typed.now stmt.now vars.old vars.new) }
-    ensures few { OnOk result (length vars.new ≤ length vars.old + typed_held_nodes stmt.now) }
-{
-    match stmt {
-        None => Ok(None),
-        Some(stmt) => {
-            let block = inside(alloc, typed, stmt.get(), vars)?;
-            Ok(Some(block))
-        }
+        })
     }
 }
 
@@ -201,217 +291,4 @@ fn optional(
             Ok(Some(rest.expr))
         }
     }
-}
-
-/// Expands a condition: what is set for it is kept apart.
-fn expand_condition(
-    alloc: Global,
-    cond: &TypedExpr,
-    vars: &mut List<Ty>,
-) -> Result<Condition, Memory>
-    requires { HasRoom vars.old (typed_expr_nodes cond.now) }
-    ensures expanded { IfOk result (λ c.
-        IsExpanded cond.now [] vars.old c.before vars.new c.rest.expr c.rest.plain) }
-    ensures few { OnOk result (length vars.new + 1 ≤ length vars.old + typed_expr_nodes cond.now) }
-{
-    let mut before = List::new(alloc);
-    let rest = expand(alloc, cond, &mut before, vars)?;
-    Ok(Condition { before, rest })
-}
-
-/// Expands a condition that may be absent: what is set for it is kept apart.
-fn expand_optional_condition(
-    alloc: Global,
-    cond: &Option<TypedExpr>,
-    vars: &mut List<Ty>,
-) -> Result<OptionalCondition, Memory>
-    requires { HasRoom vars.old (typed_opt_nodes cond.now) }
-    ensures expanded { IfOk result (λ c.
-        IsOptional cond.now [] vars.old c.before vars.new c.left) }
-    ensures few { OnOk result (length vars.new ≤ length vars.old + typed_opt_nodes cond.now) }
-{
-    let mut before = List::new(alloc);
-    let left = optional(alloc, cond, &mut before, vars)?;
-    Ok(OptionalCondition { before, left })
-}
-
-#[cycle(form)]
-fn block(
-    alloc: Global,
-    typed: &Typed,
-    stmt: &TypedStmt,
-    stmts: &[TypedStmt],
-    out: &mut List<NormalStmt>,
-    vars: &mut List<Ty>,
-) -> Result<(), Memory>
-    requires is { stmt.now.kind ≡ act.Block stmts.now }
-    requires room { HasRoom vars.old (typed_stmts_nodes stmts.now) }
-    ensures { OnOk result
-        (IsMade (stmt_form typed.now (length vars.old) stmt.now)
-        out.old vars.old out.new vars.new) }
-{
-    let mut made = List::new(alloc);
-    forms(alloc, typed, stmts, &mut made, vars)?;
-    put(out, NormalStmtKind::Block(made), stmt.at)?;
-    Ok(())
-}
-
-fn declare(
-    alloc: Global,
-    typed: &Typed,
-    stmt: &TypedStmt,
-    var: u32,
-    init: &Option<TypedExpr>,
-    out: &mut List<NormalStmt>,
-    vars: &mut List<Ty>,
-) -> Result<(), Memory>
-    requires is { stmt.now.kind ≡ act.Declare var init.now }
-    requires room { HasRoom vars.old (typed_opt_nodes init.now) }
-    ensures { OnOk result
-        (IsMade (stmt_form typed.now (length vars.old) stmt.now)
-        out.old vars.old out.new vars.new) }
-{
-    let init = optional(alloc, init, out, vars)?;
-    put(out, NormalStmtKind::Declare { var, init }, stmt.at)?;
-    Ok(())
-}
-
-fn give(
-    alloc: Global,
-    typed: &Typed,
-    stmt: &TypedStmt,
-    value: &Option<TypedExpr>,
-    out: &mut List<NormalStmt>,
-    vars: &mut List<Ty>,
-) -> Result<(), Memory>
-    requires is { stmt.now.kind ≡ act.Return value.now }
-    requires room { HasRoom vars.old (typed_opt_nodes value.now) }
-    ensures { OnOk result
-        (IsMade (stmt_form typed.now (length vars.old) stmt.now)
-        out.old vars.old out.new vars.new) }
-{
-    let value = optional(alloc, value, out, vars)?;
-    put(out, NormalStmtKind::Return(value), stmt.at)?;
-    Ok(())
-}
-
-/// `if`. What is set for the condition stands before it.
-#[cycle(form)]
-fn choice(
-    alloc: Global,
-    typed: &Typed,
-    stmt: &TypedStmt,
-    cond: &TypedExpr,
-    then: &TypedStmt,
-    other: &Option<Boxed<TypedStmt>>,
-    out: &mut List<NormalStmt>,
-    vars: &mut List<Ty>,
-) -> Result<(), Memory>
-    requires is { stmt.now.kind ≡ act.If cond.now then.now other.now }
-    requires room { HasRoom vars.old
-        (typed_expr_nodes cond.now + typed_stmt_nodes then.now + typed_held_nodes other.now) }
-    ensures { OnOk result
-        (IsMade (stmt_form typed.now (length vars.old) stmt.now)
-        out.old vars.old out.new vars.new) }
-{
-    let test = expand_condition(alloc, cond, vars)?;
-    let then = inside(alloc, typed, then, vars)?;
-    let other = held(alloc, typed, other, vars)?;
-    let kind = NormalStmtKind::If {
-        before: test.before,
-        cond: test.rest.expr,
-        then,
-        other,
-    };
-    put(out, kind, stmt.at)?;
-    Ok(())
-}
-
-#[cycle(form)]
-fn while_loop(
-    alloc: Global,
-    typed: &Typed,
-    stmt: &TypedStmt,
-    cond: &TypedExpr,
-    body: &TypedStmt,
-    out: &mut List<NormalStmt>,
-    vars: &mut List<Ty>,
-) -> Result<(), Memory>
-    requires is { stmt.now.kind ≡ act.While cond.now body.now }
-    requires room { HasRoom vars.old (typed_expr_nodes cond.now + typed_stmt_nodes body.now) }
-    ensures { OnOk result
-        (IsMade (stmt_form typed.now (length vars.old) stmt.now)
-        out.old vars.old out.new vars.new) }
-{
-    let test = expand_condition(alloc, cond, vars)?;
-    let body = inside(alloc, typed, body, vars)?;
-    let kind = NormalStmtKind::While {
-        before: test.before,
-        cond: test.rest.expr,
-        body,
-    };
-    put(out, kind, stmt.at)?;
-    Ok(())
-}
-
-#[cycle(form)]
-fn do_loop(
-    alloc: Global,
-    typed: &Typed,
-    stmt: &TypedStmt,
-    body: &TypedStmt,
-    cond: &TypedExpr,
-    out: &mut List<NormalStmt>,
-    vars: &mut List<Ty>,
-) -> Result<(), Memory>
-    requires is { stmt.now.kind ≡ act.DoWhile body.now cond.now }
-    requires room { HasRoom vars.old (typed_stmt_nodes body.now + typed_expr_nodes cond.now) }
-    ensures { OnOk result
-        (IsMade (stmt_form typed.now (length vars.old) stmt.now)
-        out.old vars.old out.new vars.new) }
-{
-    let body = inside(alloc, typed, body, vars)?;
-    let test = expand_condition(alloc, cond, vars)?;
-    let kind = NormalStmtKind::DoWhile {
-        body,
-        before: test.before,
-        cond: test.rest.expr,
-    };
-    put(out, kind, stmt.at)?;
-    Ok(())
-}
-
-#[cycle(form)]
-fn for_loop(
-    alloc: Global,
-    typed: &Typed,
-    stmt: &TypedStmt,
-    first: &[TypedStmt],
-    cond: &Option<TypedExpr>,
-    step: &Option<Boxed<TypedStmt>>,
-    body: &TypedStmt,
-    out: &mut List<NormalStmt>,
-    vars: &mut List<Ty>,
-) -> Result<(), Memory>
-    requires is { stmt.now.kind ≡ act.For first.now cond.now step.now body.now }
-    requires room { HasRoom vars.old (typed_stmts_nodes first.now + typed_opt_nodes cond.now
-        + typed_held_nodes step.now + typed_stmt_nodes body.now) }
-    ensures { OnOk result
-        (IsMade (stmt_form typed.now (length vars.old) stmt.now)
-        out.old vars.old out.new vars.new) }
-{
-    let mut opening = List::new(alloc);
-    forms(alloc, typed, first, &mut opening, vars)?;
-    let test = expand_optional_condition(alloc, cond, vars)?;
-    let step = held(alloc, typed, step, vars)?;
-    let body = inside(alloc, typed, body, vars)?;
-    let kind = NormalStmtKind::For {
-        first: opening,
-        before: test.before,
-        cond: test.left,
-        step,
-        body,
-    };
-    put(out, kind, stmt.at)?;
-    Ok(())
 }

@@ -6,7 +6,7 @@ ghost use Rattle.c_meaning.specs.Sizes.{form_sizes};
 ghost use Rattle.c_norm.specs.Kernels.{normal_form};
 ghost use Rattle.c_norm.specs.Shares.{NormalShare, NormalSizes};
 
-use crate::forms::forms;
+use crate::forms::Normalizer;
 use crate::laws::{normal_forms_are_small, normal_forms_share};
 use c_ast::{ArrayOf, Normal, Param, Typed};
 use el_base::{List, Memory};
@@ -30,7 +30,8 @@ pub fn normal(alloc: Global, typed: &Typed) -> Result<Normal, Memory>
     normal_forms_are_small();
     let mut vars = typed.vars.copy()?;
     let mut body = List::new(alloc);
-    forms(alloc, typed, typed.body.as_slice(), &mut body, &mut vars)?;
+    let normalizer = Normalizer { alloc, typed };
+    normalizer.forms(typed.body.as_slice(), &mut body, &mut vars)?;
     let name = typed.name.copy()?;
     let params = copy_params(alloc, typed.params.as_slice())?;
     let arrays = copy_arrays(alloc, typed.arrays.as_slice())?;

@@ -1,7 +1,7 @@
 //! The statements that set what is made for a choice.
-ghost use Rattle.std.specs.Prelude.{◌≡◌, [], ◌∷◌, ◌++◌, length, Some, IfOk, OnOk};
-ghost use Rattle.c_ast.specs.declared.normal.NormalStmtKind.TheVariants as normal;
-ghost use Rattle.c_norm.specs.Code.{HasRoom};
+ghost use Rattle.std.specs.Prelude.{◌≡◌, ℕ, [], ◌∷◌, ◌++◌, length, IfOk, OnOk};
+ghost use Rattle.el_base.specs.declared.ty.Ty.TheVariants.{I32};
+ghost use Rattle.c_norm.specs.Code.{HasRoom, chosen};
 ghost use Rattle.c_norm.specs.Expand.{setting, constant, truth_of, side, logical};
 ghost use Rattle.c_norm.specs.Forms.{normal_at};
 
@@ -67,91 +67,126 @@ fn truth_of(alloc: Global, expr: TypedExpr, at: Span) -> Result<TypedExpr, Memor
     })
 }
 
-/// A side of a choice: what is set for its value, and then the variable.
-pub(crate) fn side(
-    alloc: Global,
-    var: u32,
-    before: List<NormalStmt>,
-    value: TypedExpr,
-    at: Span,
-) -> Result<Boxed<NormalStmt>, Memory>
-    ensures { IfOk result (λ s. s ≡ side var before value at) }
-{
-    let mut stmts = before;
-    stmts.push(setting(alloc, var, value, at))?;
-    let block = NormalStmt {
-        kind: NormalStmtKind::Block(stmts),
-        at,
-    };
-    let boxed = Boxed::new(alloc, block)?;
-    Ok(boxed)
+/// A side of a choice: what is set for its value, and the value.
+#[derive(Drop)]
+pub(crate) struct Side {
+    pub(crate) before: List<NormalStmt>,
+    pub(crate) value: TypedExpr,
 }
 
-/// `if (cond) then else other`.
-pub(crate) fn choice(
-    alloc: Global,
-    cond: TypedExpr,
-    then: Boxed<NormalStmt>,
-    other: Boxed<NormalStmt>,
-    at: Span,
-) -> NormalStmt
-    ensures { result ≡ normal_at (normal.If [] cond then (Some other)) at }
-{
-    NormalStmt {
-        kind: NormalStmtKind::If {
+impl Side {
+    /// The block of a side: what is set for its value, and then the variable.
+    fn block(self, alloc: Global, var: u32, at: Span) -> Result<Boxed<NormalStmt>, Memory>
+        ensures { IfOk result (λ s. s ≡ side var self.before self.value at) }
+    {
+        let mut stmts = self.before;
+        stmts.push(setting(alloc, var, self.value, at))?;
+        let block = NormalStmt {
+            kind: NormalStmtKind::Block(stmts),
+            at,
+        };
+        let boxed = Boxed::new(alloc, block)?;
+        Ok(boxed)
+    }
+}
+
+/// A choice between two values of a type.
+#[derive(Drop)]
+pub(crate) struct Choice {
+    pub(crate) cond: TypedExpr,
+    pub(crate) then: Side,
+    pub(crate) other: Side,
+    pub(crate) ty: Ty,
+    pub(crate) at: Span,
+}
+
+impl Choice {
+    /// Sets a new variable to the value of the side that is evaluated.
+    #[inline(never)]
+    pub(crate) fn set(
+        self,
+        alloc: Global,
+        before: &mut List<NormalStmt>,
+        vars: &mut List<Ty>,
+    ) -> Result<u32, Memory>
+        requires { HasRoom vars.old 1 }
+        ensures number { IfOk result (λ v. v ≡ length vars.old) }
+        ensures set { IfOk result (λ v. before.new ≡ before.old ++ chosen self v ∷ []) }
+        ensures made { OnOk result (vars.new ≡ vars.old ++ self.ty ∷ []) }
+    {
+        let var = fresh(vars, self.ty)?;
+        let then = self.then.block(alloc, var, self.at)?;
+        let other = self.other.block(alloc, var, self.at)?;
+        let kind = NormalStmtKind::If {
             before: List::new(alloc),
-            cond,
+            cond: self.cond,
             then,
             other: Some(other),
-        },
-        at,
+        };
+        put(before, kind, self.at)?;
+        Ok(var)
     }
 }
 
-/// The choice for `&&`, or for `||` where the left operand is `decided` by being true: where it does not decide, the
-/// variable is set to the truth of the right operand, after what is set `before` that.
-pub(crate) fn logical(
+/// The choice for `&&`, or for `||` where the left operand is `decided` by being true: where it does not decide, the value is
+/// the truth of the right operand, after what is set for that.
+fn logical(
     alloc: Global,
     decided: bool,
-    var: u32,
     left: TypedExpr,
-    before: List<NormalStmt>,
-    right: TypedExpr,
+    right: Side,
     at: Span,
-) -> Result<NormalStmt, Memory>
-    ensures { IfOk result (λ s. s ≡ logical decided var left before right at) }
+) -> Result<Choice, Memory>
+    ensures ty { IfOk result (λ c. c.ty ≡ I32) }
+    ensures set { IfOk result (λ c.
+        (v : ℕ) → chosen c v ≡ logical decided v left right.before right.value at) }
 {
-    let evaluated = evaluated_side(alloc, var, before, right, at)?;
-    let given = constant_side(alloc, var, u64::from(decided), at)?;
+    let truth = truth_of(alloc, right.value, at)?;
+    let evaluated = Side {
+        before: right.before,
+        value: truth,
+    };
+    let given = Side {
+        before: List::new(alloc),
+        value: constant(u64::from(decided), at),
+    };
     if decided {
-        Ok(choice(alloc, left, given, evaluated, at))
+        Ok(int_choice(left, given, evaluated, at))
     } else {
-        Ok(choice(alloc, left, evaluated, given, at))
+        Ok(int_choice(left, evaluated, given, at))
     }
 }
 
-/// The side of `&&` or `||` that evaluates the right operand.
-fn evaluated_side(
+/// Sets a new variable to the truth of `&&` or `||`. It stands apart so that the frame of what expands operators stays small.
+#[inline(never)]
+pub(crate) fn set_logical(
     alloc: Global,
-    var: u32,
-    before: List<NormalStmt>,
-    right: TypedExpr,
+    decided: bool,
+    left: TypedExpr,
+    right: Side,
     at: Span,
-) -> Result<Boxed<NormalStmt>, Memory>
-    ensures { IfOk result (λ s. s ≡ side var before (truth_of right at) at) }
+    before: &mut List<NormalStmt>,
+    vars: &mut List<Ty>,
+) -> Result<u32, Memory>
+    requires { HasRoom vars.old 1 }
+    ensures number { IfOk result (λ v. v ≡ length vars.old) }
+    ensures set { IfOk result (λ v. before.new
+        ≡ before.old ++ logical decided v left right.before right.value at ∷ []) }
+    ensures made { OnOk result (vars.new ≡ vars.old ++ I32 ∷ []) }
 {
-    let truth = truth_of(alloc, right, at)?;
-    side(alloc, var, before, truth, at)
+    let choice = logical(alloc, decided, left, right, at)?;
+    choice.set(alloc, before, vars)
 }
 
-/// The side of `&&` or `||` that evaluates nothing: the variable is set to a number.
-fn constant_side(
-    alloc: Global,
-    var: u32,
-    number: u64,
-    at: Span,
-) -> Result<Boxed<NormalStmt>, Memory>
-    ensures { IfOk result (λ s. s ≡ side var [] (constant number at) at) }
+fn int_choice(cond: TypedExpr, then: Side, other: Side, at: Span) -> Choice
+    ensures { result ≡
+        record { cond = cond; then = then; other = other; ty = I32; at = at } }
 {
-    side(alloc, var, List::new(alloc), constant(number, at), at)
+    Choice {
+        cond,
+        then,
+        other,
+        ty: Ty::I32,
+        at,
+    }
 }
