@@ -11,3 +11,4 @@ pub mod Parts
 pub mod Statements
 pub mod Targets
 pub mod Turns
+pub mod Runs

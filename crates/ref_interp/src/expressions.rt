@@ -1,134 +1,189 @@
 //! Expressions, evaluated on cells: an evaluation gives a pattern, and leaves what was undefined and the turns in a trace.
 ghost use Rattle.std.specs.Prelude.{◌≡◌, ◌==◌, if◌then◌else◌};
-ghost use Rattle.c_meaning.specs.Statements.{objects};
 ghost use Rattle.ref_interp.specs.Evaluations.{EvalGives, BinaryGives, ChoiceGives, ReadGives, UnaryGives, StrictGives, Enters, PlaceGives, ElementGives};
+ghost use Rattle.ref_interp.specs.Runs.{objects_of};
 
 use crate::cells::{Cells, Trace};
-use crate::operators::{converted, is_defined, is_defined_on, is_within, joined, made};
+use crate::operators::{Operand, converted, is_defined, is_defined_on, is_within, joined, made};
 use c_ast::{ArrayOf, Binary, Span, Ty, Typed, TypedExpr, TypedExprKind, Unary};
 use c_meaning::Profile;
 
-/// The pattern of an expression; where the trace has failed then, any number.
-#[cycle(eval)]
-pub(crate) fn eval(
-    typed: &Typed,
-    profile: Profile,
-    cells: &Cells,
-    trace: &mut Trace,
-    e: &TypedExpr,
-) -> u64
-    ensures { EvalGives (objects profile typed.now) cells.now e.now trace.old trace.new result }
-{
-    match &e.kind {
-        TypedExprKind::Number(n) => *n,
-        TypedExprKind::Var(var) => read(cells, trace, *var, e.at),
-        TypedExprKind::Element { array, indices } => {
-            let indices = indices.as_slice();
-            let place = place_of(typed, profile, cells, trace, indices, *array, e.at);
-            element(cells, trace, *array, place, e.at)
-        }
-        TypedExprKind::Unary(op, arg) => {
-            let arg = arg.get();
-            let x = eval(typed, profile, cells, trace, arg);
-            unary(profile, trace, *op, arg.ty, x, e.at)
-        }
-        TypedExprKind::Cast { implied: _, arg } => {
-            let arg = arg.get();
-            let x = eval(typed, profile, cells, trace, arg);
-            converted(arg.ty, e.ty, x)
-        }
-        TypedExprKind::Binary(_, _, _) => binary(typed, profile, cells, trace, e),
-        TypedExprKind::Choose(_, _, _) => choice(typed, profile, cells, trace, e),
-    }
+/// What a run goes by.
+#[derive(Drop)]
+pub(crate) struct Interpreter<'a> {
+    /// The kernel, which has the types of objects.
+    pub(crate) typed: &'a Typed,
+    pub(crate) profile: Profile,
 }
 
-/// The pattern of an expression of two operands: of `&&` and `||` the right one is evaluated where the left one does not
-/// decide.
-#[cycle(eval)]
-fn binary(typed: &Typed, profile: Profile, cells: &Cells, trace: &mut Trace, e: &TypedExpr) -> u64
-    ensures { BinaryGives (objects profile typed.now) cells.now e.now trace.old trace.new result }
-{
-    let TypedExprKind::Binary(op, a, b) = &e.kind else {
-        return 0;
-    };
-    let a = a.get();
-    let b = b.get();
-    let x = eval(typed, profile, cells, trace, a);
-    if trace.failed {
-        return 0;
-    }
-    match op {
-        Binary::Both => {
-            trace.add_turn();
-            if x == 0 {
-                return 0;
+impl<'a> Interpreter<'a> {
+    /// The pattern of an expression; where the trace has failed then, any number.
+    #[cycle(eval)]
+    pub(crate) fn eval(&self, cells: &Cells, trace: &mut Trace, e: &TypedExpr) -> u64
+        ensures { EvalGives (objects_of self.now) cells.now e.now trace.old trace.new result }
+    {
+        match &e.kind {
+            TypedExprKind::Number(n) => *n,
+            TypedExprKind::Var(var) => read(cells, trace, *var, e.at),
+            TypedExprKind::Element { array, indices } => {
+                let indices = indices.as_slice();
+                let place = self.place_of(cells, trace, indices, *array, e.at);
+                element(cells, trace, *array, place, e.at)
             }
-            truth(eval(typed, profile, cells, trace, b))
-        }
-        Binary::Either => {
-            trace.add_turn();
-            if x != 0 {
-                return 1;
+            TypedExprKind::Unary(op, arg) => {
+                let arg = arg.get();
+                let x = self.eval(cells, trace, arg);
+                let arg = Operand {
+                    ty: arg.ty,
+                    pattern: x,
+                };
+                self.unary(trace, *op, arg, e.at)
             }
-            truth(eval(typed, profile, cells, trace, b))
+            TypedExprKind::Cast { implied: _, arg } => {
+                let arg = arg.get();
+                let x = self.eval(cells, trace, arg);
+                converted(arg.ty, e.ty, x)
+            }
+            TypedExprKind::Binary(_, _, _) => self.binary(cells, trace, e),
+            TypedExprKind::Choose(_, _, _) => self.choice(cells, trace, e),
         }
-        _ => {
-            let y = eval(typed, profile, cells, trace, b);
-            strict(profile, trace, *op, a.ty, b.ty, x, y, e.at)
-        }
     }
-}
 
-/// The pattern of a `?:`: of its second and third part one is evaluated.
-#[cycle(eval)]
-fn choice(typed: &Typed, profile: Profile, cells: &Cells, trace: &mut Trace, e: &TypedExpr) -> u64
-    ensures { ChoiceGives (objects profile typed.now) cells.now e.now trace.old trace.new result }
-{
-    let TypedExprKind::Choose(c, a, b) = &e.kind else {
-        return 0;
-    };
-    let x = eval(typed, profile, cells, trace, c.get());
-    if trace.failed {
-        return 0;
-    }
-    trace.add_turn();
-    if x == 0 {
-        eval(typed, profile, cells, trace, b.get())
-    } else {
-        eval(typed, profile, cells, trace, a.get())
-    }
-}
-
-/// The place of an element by its indices, all of which are evaluated before the trace fails by one that is outside its dimension.
-#[cycle(eval)]
-pub(crate) fn place_of(
-    typed: &Typed,
-    profile: Profile,
-    cells: &Cells,
-    trace: &mut Trace,
-    indices: &[TypedExpr],
-    array: u32,
-    at: Span,
-) -> u64
-    ensures { PlaceGives (objects profile typed.now) cells.now indices.now array at trace.old
-        trace.new result }
-{
-    let mut spot = Spot {
-        inside: true,
-        place: 0,
-    };
-    for i in 0..indices.len() {
-        let index = &indices[i];
-        let x = eval(typed, profile, cells, trace, index);
+    /// The pattern of an expression of two operands: of `&&` and `||` the right one is evaluated where the left one does not
+    /// decide.
+    #[cycle(eval)]
+    fn binary(&self, cells: &Cells, trace: &mut Trace, e: &TypedExpr) -> u64
+        ensures { BinaryGives (objects_of self.now) cells.now e.now trace.old trace.new result }
+    {
+        let TypedExprKind::Binary(op, a, b) = &e.kind else {
+            return 0;
+        };
+        let a = a.get();
+        let b = b.get();
+        let x = self.eval(cells, trace, a);
         if trace.failed {
             return 0;
         }
-        spot.enter(typed.arrays.as_slice(), array, i, index.ty, x);
+        match op {
+            Binary::Both => {
+                trace.add_turn();
+                if x == 0 {
+                    return 0;
+                }
+                truth(self.eval(cells, trace, b))
+            }
+            Binary::Either => {
+                trace.add_turn();
+                if x != 0 {
+                    return 1;
+                }
+                truth(self.eval(cells, trace, b))
+            }
+            _ => {
+                let y = self.eval(cells, trace, b);
+                let left = Operand {
+                    ty: a.ty,
+                    pattern: x,
+                };
+                let right = Operand {
+                    ty: b.ty,
+                    pattern: y,
+                };
+                self.strict(trace, *op, left, right, e.at)
+            }
+        }
     }
-    if !spot.inside {
-        trace.fail(at);
+
+    /// The pattern of a `?:`: of its second and third part one is evaluated.
+    #[cycle(eval)]
+    fn choice(&self, cells: &Cells, trace: &mut Trace, e: &TypedExpr) -> u64
+        ensures { ChoiceGives (objects_of self.now) cells.now e.now trace.old trace.new result }
+    {
+        let TypedExprKind::Choose(c, a, b) = &e.kind else {
+            return 0;
+        };
+        let x = self.eval(cells, trace, c.get());
+        if trace.failed {
+            return 0;
+        }
+        trace.add_turn();
+        if x == 0 {
+            self.eval(cells, trace, b.get())
+        } else {
+            self.eval(cells, trace, a.get())
+        }
     }
-    spot.place
+
+    /// The place of an element by its indices, all of which are evaluated before the trace fails by one that is outside its dimension.
+    #[cycle(eval)]
+    pub(crate) fn place_of(
+        &self,
+        cells: &Cells,
+        trace: &mut Trace,
+        indices: &[TypedExpr],
+        array: u32,
+        at: Span,
+    ) -> u64
+        ensures { PlaceGives (objects_of self.now) cells.now indices.now array at trace.old
+            trace.new result }
+    {
+        let mut spot = Spot {
+            inside: true,
+            place: 0,
+        };
+        for i in 0..indices.len() {
+            let index = &indices[i];
+            let x = self.eval(cells, trace, index);
+            if trace.failed {
+                return 0;
+            }
+            let index = Operand {
+                ty: index.ty,
+                pattern: x,
+            };
+            spot.enter(self.typed.arrays.as_slice(), array, i, index);
+        }
+        if !spot.inside {
+            trace.fail(at);
+        }
+        spot.place
+    }
+
+    /// An operator on a value that was made before.
+    fn unary(&self, trace: &mut Trace, op: Unary, arg: Operand, at: Span) -> u64
+        ensures { UnaryGives self.now.profile op arg.ty at arg.pattern trace.old trace.new result }
+    {
+        if trace.failed {
+            return 0;
+        }
+        if !is_defined_on(self.profile, op, arg.ty, arg.pattern) {
+            trace.fail(at);
+            return 0;
+        }
+        made(op, arg.ty, arg.pattern)
+    }
+
+    /// An operator on two values that were made before, the right one last.
+    pub(crate) fn strict(
+        &self,
+        trace: &mut Trace,
+        op: Binary,
+        left: Operand,
+        right: Operand,
+        at: Span,
+    ) -> u64
+        ensures { StrictGives self.now.profile op left.ty right.ty at left.pattern right.pattern
+            trace.old trace.new result }
+    {
+        if trace.failed {
+            return 0;
+        }
+        if !is_defined(self.profile, op, left, right) {
+            trace.fail(at);
+            return 0;
+        }
+        joined(op, left.ty, left.pattern, right.pattern)
+    }
 }
 
 /// A place in the dimensions of an array whose indices have been looked at, or the greatest number of 64 bits where it is more;
@@ -141,13 +196,16 @@ pub(crate) struct Spot {
 
 impl Spot {
     /// Looks at the next index.
-    fn enter(&mut self, arrays: &[ArrayOf], array: u32, i: usize, ty: Ty, x: u64)
-        ensures { Enters arrays.now array i ty x self.old self.new }
+    fn enter(&mut self, arrays: &[ArrayOf], array: u32, i: usize, index: Operand)
+        ensures { Enters arrays.now array i index.ty index.pattern self.old self.new }
     {
         if let Some(array) = arrays.get(array as usize) {
             if let Some(dim) = array.dims.as_slice().get(i) {
-                if self.inside && is_within(*dim, ty, x) {
-                    self.place = self.place.saturating_mul(*dim).saturating_add(x);
+                if self.inside && is_within(*dim, index.ty, index.pattern) {
+                    self.place = self
+                        .place
+                        .saturating_mul(*dim)
+                        .saturating_add(index.pattern);
                 } else {
                     self.inside = false;
                 }
@@ -195,43 +253,6 @@ pub(crate) fn element(cells: &Cells, trace: &mut Trace, array: u32, place: u64, 
             0
         }
     }
-}
-
-/// An operator on a value that was made before.
-fn unary(profile: Profile, trace: &mut Trace, op: Unary, ty: Ty, x: u64, at: Span) -> u64
-    ensures { UnaryGives profile op ty at x trace.old trace.new result }
-{
-    if trace.failed {
-        return 0;
-    }
-    if !is_defined_on(profile, op, ty, x) {
-        trace.fail(at);
-        return 0;
-    }
-    made(op, ty, x)
-}
-
-/// An operator on two values that were made before, the right one last.
-pub(crate) fn strict(
-    profile: Profile,
-    trace: &mut Trace,
-    op: Binary,
-    ty: Ty,
-    by: Ty,
-    x: u64,
-    y: u64,
-    at: Span,
-) -> u64
-    ensures { StrictGives profile op ty by at x y trace.old trace.new result }
-{
-    if trace.failed {
-        return 0;
-    }
-    if !is_defined(profile, op, ty, by, x, y) {
-        trace.fail(at);
-        return 0;
-    }
-    joined(op, ty, x, y)
 }
 
 fn truth(x: u64) -> u64

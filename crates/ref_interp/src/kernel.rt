@@ -7,9 +7,10 @@ ghost use Rattle.ref_interp.specs.Outcomes.{InputsFit, input_numbers, Says, IsOn
 ghost use Rattle.ref_interp.specs.Kernels.{BodyGives, IsOpening, OutcomeGives, opened};
 
 use crate::cells::{Cells, Trace};
+use crate::expressions::Interpreter;
 use crate::laws::{parts_are_known, patterns_follow_numbers};
 use crate::machine::{Ending, Machine};
-use crate::statements::{enter, exec_all};
+use crate::statements::enter;
 use crate::turn_laws::ends_need_only_their_turns;
 use c_ast::Typed;
 use c_meaning::Profile;
@@ -137,7 +138,8 @@ fn run_body(typed: &Typed, profile: Profile, m: &mut Machine) -> Ending
         return Ending::OutOfTurns;
     }
     enter(m, typed.body.as_slice());
-    exec_all(typed, profile, m, typed.body.as_slice())
+    let interpreter = Interpreter { typed, profile };
+    interpreter.exec_all(m, typed.body.as_slice())
 }
 
 /// What a run of the block comes to, that ended so with a bound of turns.

@@ -14,6 +14,13 @@ use c_meaning::Profile;
 use el_base::{Op1, Op2, number};
 use word_ops::{apply1, apply2};
 
+/// A pattern with its type.
+#[derive(Clone, Copy)]
+pub(crate) struct Operand {
+    pub(crate) ty: Ty,
+    pub(crate) pattern: u64,
+}
+
 /// Whether a result of any size is a number: reduced where the type is unsigned, and under `Wrap`.
 fn is_lenient(profile: Profile, ty: Ty) -> bool
     ensures { result ≡ is_lenient profile ty }
@@ -109,11 +116,14 @@ fn left_shift_is_defined(profile: Profile, ty: Ty, by: Ty, x: u64, y: u64) -> bo
     is_amount(ty, by, y) && shift_fits(profile, ty, x, y)
 }
 
-/// Whether an operator has a value for patterns of a type; `by` is the type of the right one, which is the same but for shifts.
-pub(crate) fn is_defined(profile: Profile, op: Binary, ty: Ty, by: Ty, x: u64, y: u64) -> bool
-    ensures { y < 2 ^ ty_width by → IsRightType op ty by
-        → result ≡ is_some (binary_value profile op ty (number ty x) (number by y)) }
+/// Whether an operator has a value for two patterns, which are of one type but for shifts.
+pub(crate) fn is_defined(profile: Profile, op: Binary, left: Operand, right: Operand) -> bool
+    ensures { right.pattern < 2 ^ ty_width right.ty → IsRightType op left.ty right.ty
+        → result ≡ is_some (binary_value profile op left.ty
+        (number left.ty left.pattern) (number right.ty right.pattern)) }
 {
+    let (ty, x) = (left.ty, left.pattern);
+    let (by, y) = (right.ty, right.pattern);
     match op {
         Binary::Add => is_lenient(profile, ty) || sum_fits(ty, x, y),
         Binary::Sub => is_lenient(profile, ty) || difference_fits(ty, x, y),

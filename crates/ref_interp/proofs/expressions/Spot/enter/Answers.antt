@@ -18,9 +18,9 @@ returns-then-is_within c is lt len below spot =
     let a : slice_get c.args.arrays.now c.args.array ≡ Some c.in-Some.array.now = grind (arith, common_steps, gets) in
     let dims = dims_is c.args.arrays.now c.args.array c.in-Some.array.now a in
     let d : get_or c.in-Some.array.now.dims c.args.i 0 ≡ c.in-Some-get.dim.now = grind (arith, common_steps, gets) in
-    let z = number c.args.ty c.args.x in
-    let w = inside_is c.is_within.result c.in-Some-get.dim.now c.args.x z c.if-is_within.true (c.is_within.ensures below) in
-    spot_in (dims_of c.args.arrays.now c.args.array) is c.args.i c.args.x c.in-Some-get.dim.now z c.args.self.now _ lt len (ap (λ ds. get_or ds c.args.i 0) dims ∙ d) spot c.if-self.true c.if-self.true w (within_below _ _ z w)
+    let z = number c.args.index.ty c.args.index.pattern in
+    let w = inside_is c.is_within.result c.in-Some-get.dim.now c.args.index.pattern z c.if-is_within.true (c.is_within.ensures below) in
+    spot_in (dims_of c.args.arrays.now c.args.array) is c.args.i c.args.index.pattern c.in-Some-get.dim.now z c.args.self.now _ lt len (ap (λ ds. get_or ds c.args.i 0) dims ∙ d) spot c.if-self.true c.if-self.true w (within_below _ _ z w)
     (let p = c.saturating_add-self.ensures in let q = c.saturating_mul.ensures in omega (arith, p, q))
 
 pub returns-else-self : goal.returns-else-self
@@ -30,10 +30,10 @@ returns-else-self c is lt len below spot =
     let a : slice_get c.args.arrays.now c.args.array ≡ Some c.in-Some.array.now = grind (arith, common_steps, gets) in
     let dims = dims_is c.args.arrays.now c.args.array c.in-Some.array.now a in
     let d : get_or c.in-Some.array.now.dims c.args.i 0 ≡ c.in-Some-get.dim.now = grind (arith, common_steps, gets) in
-    let z = number c.args.ty c.args.x in
+    let z = number c.args.index.ty c.args.index.pattern in
     spot_out (dims_of c.args.arrays.now c.args.array) is c.args.i c.in-Some-get.dim.now z c.args.self.now (record { inside = false; place = c.args.self.now.place }) lt len (ap (λ ds. get_or ds c.args.i 0) dims ∙ d) spot refl
     (λ was. elim c.else-self.branch [
-      | else-self-via-then-self+else-is_within w ↦ outside_is w.is_within.result c.in-Some-get.dim.now c.args.x z w.if-is_within.false (w.is_within.ensures below)
+      | else-self-via-then-self+else-is_within w ↦ outside_is w.is_within.result c.in-Some-get.dim.now c.args.index.pattern z w.if-is_within.false (w.is_within.ensures below)
       | else-self-via-else-self w ↦ absurd (never c.args.self.now.inside was w.if-self.false)
     ])
 

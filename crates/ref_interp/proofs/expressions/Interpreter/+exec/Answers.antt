@@ -6,14 +6,15 @@ use Rattle.c_meaning.specs.Expressions.{meaning}
 use Rattle.c_meaning.specs.Runs.{Run, both_runs, branch, looped, rounds, loop}
 use Rattle.c_meaning.specs.Statements.{Act, kind_act, objects, act, part, in_order, block, entering, nothing, condition, meant_if_any, run_if_any}
 use Rattle.c_meaning.specs.PartLaws.{LawfulAt}
+use Rattle.ref_interp.specs.Runs.{objects_of}
 use Rattle.ref_interp.specs.declared.machine.Ending.TheVariants as ending
 use Rattle.ref_interp.specs.declared.machine.Machine.{Machine}
 use Rattle.ref_interp.specs.Machines.{CanRun, Ran, goes_on}
 use Rattle.ref_interp.specs.Statements.{EnterGives, AllGive}
 use Rattle.ref_interp.proofs.Running.{still_can, then_can, kind_goes, after_turn, kind_starved, both_stop, both_ran, loop_goes, gone_start, gone_more, gone_stops, gone_all, the_stmt, rounded_start, rounded_fails, rounded_undefined, rounded_starved, rounded_leaves, rounded_stops, rounded_more, rounded_over, no_step, Rounded}
 use Rattle.ref_interp.proofs.ByParts.{lawful_of, entered_can, entered_run, if_holds, if_fails, if_undefined, if_starved, loop_ran, for_loop_is, some_step, absent_step, some_lawful}
-use Rattle.ref_interp.proofs.statements.+exec.Goals as goal
-use Rattle.ref_interp.proofs.statements.+exec.Goals.{for_rounds-in-Some+else-not-is_normal, for_rounds-in_default-step}
+use Rattle.ref_interp.proofs.expressions.Interpreter.+exec.Goals as goal
+use Rattle.ref_interp.proofs.expressions.Interpreter.+exec.Goals.{for_rounds-in-Some+else-not-is_normal, for_rounds-in_default-step}
 
 -- after the turn of a statement
 taken : (k : Objects) (m m1 : Machine) → CanRun k m → m1.left + 1 ≡ m.left → m1.cells ≡ m.cells → CanRun k m1
@@ -22,12 +23,12 @@ taken k m m1 can l same = still_can k m m1 can same (omega (arith, l))
 pub exec-returns-then-not-take : goal.exec-returns-then-not-take
 exec-returns-then-not-take t c l h can =
     let short = c.take.ensures.no c.if-not-take.true in
-    kind_starved (objects c.args.profile c.args.typed.now) c.args.typed.now.result c.args.s.now.kind c.args.m.now c.take.new.self can short.0 c.take.ensures.cells short.1
+    kind_starved (objects_of c.args.self.now) c.args.self.now.typed.now.result c.args.s.now.kind c.args.m.now c.take.new.self can short.0 c.take.ensures.cells short.1
 
 pub exec-returns-in-Block : goal.exec-returns-in-Block
 exec-returns-in-Block t c l h can =
-    let k = objects c.args.profile c.args.typed.now in
-    let r = c.args.typed.now.result in
+    let k = objects_of c.args.self.now in
+    let r = c.args.self.now.typed.now.result in
     let m1 = c.take.new.self in
     let left = c.take.ensures.yes c.if-not-take.false in
     let can1 = taken k c.args.m.now m1 can left c.take.ensures.cells in
@@ -39,8 +40,8 @@ exec-returns-in-Block t c l h can =
 
 pub exec-returns-in-If : goal.exec-returns-in-If
 exec-returns-in-If t c l h can =
-    let k = objects c.args.profile c.args.typed.now in
-    let r = c.args.typed.now.result in
+    let k = objects_of c.args.self.now in
+    let r = c.args.self.now.typed.now.result in
     let m1 = c.take.new.self in
     let left = c.take.ensures.yes c.if-not-take.false in
     let can1 = taken k c.args.m.now m1 can left c.take.ensures.cells in
@@ -50,8 +51,8 @@ exec-returns-in-If t c l h can =
 
 pub if_else-returns-in-Holds : goal.if_else-returns-in-Holds
 if_else-returns-in-Holds t c d a o l is h can w0 eq =
-    let k = objects c.args.profile c.args.typed.now in
-    let r = c.args.typed.now.result in
+    let k = objects_of c.args.self.now in
+    let r = c.args.self.now.typed.now.result in
     let m1 = c.args.m.now in
     let w = (can.parts.lawful_choice c.in-If.cond c.in-If.then c.in-If.other k r l).0 (lawful_of k r l _ _ c.in-If.is h) in
     let test = c.in-Holds.ensures w.0 can in
@@ -62,8 +63,8 @@ if_else-returns-in-Holds t c d a o l is h can w0 eq =
 
 pub if_else-returns-in-None : goal.if_else-returns-in-None
 if_else-returns-in-None t c d a o l is h can w0 eq =
-    let k = objects c.args.profile c.args.typed.now in
-    let r = c.args.typed.now.result in
+    let k = objects_of c.args.self.now in
+    let r = c.args.self.now.typed.now.result in
     let m1 = c.args.m.now in
     let w = (can.parts.lawful_choice c.in-If.cond c.in-If.then c.in-If.other k r l).0 (lawful_of k r l _ _ c.in-If.is h) in
     let test = c.in-Fails.ensures w.0 can in
@@ -73,8 +74,8 @@ if_else-returns-in-None t c d a o l is h can w0 eq =
 
 pub if_else-returns-in-Some : goal.if_else-returns-in-Some
 if_else-returns-in-Some t c d a o l is h can w0 eq =
-    let k = objects c.args.profile c.args.typed.now in
-    let r = c.args.typed.now.result in
+    let k = objects_of c.args.self.now in
+    let r = c.args.self.now.typed.now.result in
     let m1 = c.args.m.now in
     let w = (can.parts.lawful_choice c.in-If.cond c.in-If.then c.in-If.other k r l).0 (lawful_of k r l _ _ c.in-If.is h) in
     let test = c.in-Fails.ensures w.0 can in
@@ -87,8 +88,8 @@ if_else-returns-in-Some t c d a o l is h can w0 eq =
 
 pub if_else-returns-in-Undefined : goal.if_else-returns-in-Undefined
 if_else-returns-in-Undefined t c d a o l is h can w0 eq =
-    let k = objects c.args.profile c.args.typed.now in
-    let r = c.args.typed.now.result in
+    let k = objects_of c.args.self.now in
+    let r = c.args.self.now.typed.now.result in
     let m1 = c.args.m.now in
     let w = (can.parts.lawful_choice c.in-If.cond c.in-If.then c.in-If.other k r l).0 (lawful_of k r l _ _ c.in-If.is h) in
     after_turn k r c.args.s.now.kind _ _ (branch (in_order []) (meaning k c.in-If.cond) (part (act k c.in-If.then)) (run_if_any (option_map (act k) c.in-If.other))) w0 m1 c.tested.new.m ending.Undefined c.in-If.is (can.parts.choice c.in-If.cond c.in-If.then c.in-If.other k) refl eq
@@ -96,8 +97,8 @@ if_else-returns-in-Undefined t c d a o l is h can w0 eq =
 
 pub if_else-returns-in-OutOfTurns : goal.if_else-returns-in-OutOfTurns
 if_else-returns-in-OutOfTurns t c d a o l is h can w0 eq =
-    let k = objects c.args.profile c.args.typed.now in
-    let r = c.args.typed.now.result in
+    let k = objects_of c.args.self.now in
+    let r = c.args.self.now.typed.now.result in
     let m1 = c.args.m.now in
     let w = (can.parts.lawful_choice c.in-If.cond c.in-If.then c.in-If.other k r l).0 (lawful_of k r l _ _ c.in-If.is h) in
     after_turn k r c.args.s.now.kind _ _ (branch (in_order []) (meaning k c.in-If.cond) (part (act k c.in-If.then)) (run_if_any (option_map (act k) c.in-If.other))) w0 m1 c.tested.new.m ending.OutOfTurns c.in-If.is (can.parts.choice c.in-If.cond c.in-If.then c.in-If.other k) refl eq
@@ -105,8 +106,8 @@ if_else-returns-in-OutOfTurns t c d a o l is h can w0 eq =
 
 pub exec-returns-in-While : goal.exec-returns-in-While
 exec-returns-in-While t c l h can =
-    let k = objects c.args.profile c.args.typed.now in
-    let r = c.args.typed.now.result in
+    let k = objects_of c.args.self.now in
+    let r = c.args.self.now.typed.now.result in
     let m1 = c.take.new.self in
     let left = c.take.ensures.yes c.if-not-take.false in
     let can1 = taken k c.args.m.now m1 can left c.take.ensures.cells in
@@ -118,8 +119,8 @@ exec-returns-in-While t c l h can =
 
 pub exec-returns-else-not-goes_on : goal.exec-returns-else-not-goes_on
 exec-returns-else-not-goes_on t c l h can =
-    let k = objects c.args.profile c.args.typed.now in
-    let r = c.args.typed.now.result in
+    let k = objects_of c.args.self.now in
+    let r = c.args.self.now.typed.now.result in
     let m1 = c.take.new.self in
     let left = c.take.ensures.yes c.if-not-take.false in
     let can1 = taken k c.args.m.now m1 can left c.take.ensures.cells in
@@ -137,8 +138,8 @@ exec-returns-else-not-goes_on t c l h can =
 
 pub exec-returns-in-For : goal.exec-returns-in-For
 exec-returns-in-For t c l h can =
-    let k = objects c.args.profile c.args.typed.now in
-    let r = c.args.typed.now.result in
+    let k = objects_of c.args.self.now in
+    let r = c.args.self.now.typed.now.result in
     let m1 = c.take.new.self in
     let left = c.take.ensures.yes c.if-not-take.false in
     let can1 = taken k c.args.m.now m1 can left c.take.ensures.cells in
@@ -148,8 +149,8 @@ exec-returns-in-For t c l h can =
 
 pub for_loop-returns-then-not-is_normal : goal.for_loop-returns-then-not-is_normal
 for_loop-returns-then-not-is_normal t c f0 c0 o0 b0 l is h can w0 eq =
-    let k = objects c.args.profile c.args.typed.now in
-    let r = c.args.typed.now.result in
+    let k = objects_of c.args.self.now in
+    let r = c.args.self.now.typed.now.result in
     let m1 = c.args.m.now in
     let first = c.in-For.first in
     let w = (can.parts.lawful_for first c.in-For.cond c.in-For.step c.in-For.body k r l).0 (lawful_of k r l _ _ c.in-For.is h) in
@@ -164,8 +165,8 @@ for_loop-returns-then-not-is_normal t c f0 c0 o0 b0 l is h can w0 eq =
 
 pub for_loop-returns : goal.for_loop-returns
 for_loop-returns t c f0 c0 o0 b0 l is h can w0 eq =
-    let k = objects c.args.profile c.args.typed.now in
-    let r = c.args.typed.now.result in
+    let k = objects_of c.args.self.now in
+    let r = c.args.self.now.typed.now.result in
     let m1 = c.args.m.now in
     let first = c.in-For.first in
     let w = (can.parts.lawful_for first c.in-For.cond c.in-For.step c.in-For.body k r l).0 (lawful_of k r l _ _ c.in-For.is h) in
@@ -188,26 +189,26 @@ for_loop-returns t c f0 c0 o0 b0 l is h can w0 eq =
 -- ---- statements in order
 
 pub exec_all-loop-stmt-init : goal.exec_all-loop-stmt-init
-exec_all-loop-stmt-init t c = λ b all can. gone_start (objects c.args.profile c.args.typed.now) c.args.stmts.now c.args.m.now can
+exec_all-loop-stmt-init t c = λ b all can. gone_start (objects_of c.args.self.now) c.args.stmts.now c.args.m.now can
 
 pub exec_all-loop-stmt-preserved : goal.exec_all-loop-stmt-preserved
 exec_all-loop-stmt-preserved t c = λ b all can.
-    let k = objects c.args.profile c.args.typed.now in
-    let r = c.args.typed.now.result in
+    let k = objects_of c.args.self.now in
+    let r = c.args.self.now.typed.now.result in
     let g = c.loop-stmt.invariant b all can in
     let ran = c.exec-ending.ensures b (the_stmt k r b c.args.stmts.now c.loop-stmt.stmt-index c.stmt-item.result c.loop-stmt-test.true c.stmt-item.is all) g.can in
     gone_more k r c.args.stmts.now c.loop-stmt.stmt-index c.stmt-item.result c.args.m.now c.loop-stmt.m c.exec-ending.new.m c.exec-ending.result c.loop-stmt-test.true c.stmt-item.is g ran (sym c.is_normal.ensures ∙ c.if-not-is_normal.false)
 
 pub exec_all-returns-then-not-is_normal : goal.exec_all-returns-then-not-is_normal
 exec_all-returns-then-not-is_normal t c b all can =
-    let k = objects c.args.profile c.args.typed.now in
-    let r = c.args.typed.now.result in
+    let k = objects_of c.args.self.now in
+    let r = c.args.self.now.typed.now.result in
     let g = c.loop-stmt.invariant b all can in
     let ran = c.exec-ending.ensures b (the_stmt k r b c.args.stmts.now c.loop-stmt.stmt-index c.stmt-item.result c.loop-stmt-test.true c.stmt-item.is all) g.can in
     gone_stops k r c.args.stmts.now c.loop-stmt.stmt-index c.stmt-item.result c.args.m.now c.loop-stmt.m c.exec-ending.new.m c.exec-ending.result c.loop-stmt-test.true c.stmt-item.is g ran (sym c.is_normal.ensures ∙ c.if-not-is_normal.true)
 
 pub exec_all-returns : goal.exec_all-returns
-exec_all-returns t c b all can = gone_all (objects c.args.profile c.args.typed.now) c.args.typed.now.result c.args.stmts.now c.loop-stmt.stmt-index c.args.m.now c.loop-stmt.m c.loop-stmt-test.false (c.loop-stmt.invariant b all can)
+exec_all-returns t c b all can = gone_all (objects_of c.args.self.now) c.args.self.now.typed.now.result c.args.stmts.now c.loop-stmt.stmt-index c.args.m.now c.loop-stmt.m c.loop-stmt-test.false (c.loop-stmt.invariant b all can)
 
 -- ---- while
 
@@ -216,30 +217,30 @@ rest_of : (i most_rounds l : ℕ) → most_rounds ≡ l + 1 → i < most_rounds 
 rest_of i n l e lt = omega (arith, e, lt)
 
 pub rounds-loop-i-init : goal.rounds-loop-i-init
-rounds-loop-i-init t c = λ b e can. rounded_start (objects c.args.profile c.args.typed.now) (meaning (objects c.args.profile c.args.typed.now) c.args.cond.now) (part (act (objects c.args.profile c.args.typed.now) c.args.body.now)) nothing c.args.m.now can
+rounds-loop-i-init t c = λ b e can. rounded_start (objects_of c.args.self.now) (meaning (objects_of c.args.self.now) c.args.cond.now) (part (act (objects_of c.args.self.now) c.args.body.now)) nothing c.args.m.now can
 
 pub rounds-returns-in-Fails : goal.rounds-returns-in-Fails
 rounds-returns-in-Fails t c b e can =
-    let k = objects c.args.profile c.args.typed.now in
+    let k = objects_of c.args.self.now in
     let g = c.loop-i.invariant b e can in
-    rounded_fails k c.args.typed.now.result (meaning k c.args.cond.now) (part (act k c.args.body.now)) nothing c.args.m.now c.loop-i.m c.tested.new.m c.loop-i.i (c.args.m.now.left - c.loop-i.i) g (let w = c.saturating_add-most_rounds.ensures in let few = can.few in omega (arith, w, few, c.loop-i-test.true)) (c.in-Fails.ensures e g.can)
+    rounded_fails k c.args.self.now.typed.now.result (meaning k c.args.cond.now) (part (act k c.args.body.now)) nothing c.args.m.now c.loop-i.m c.tested.new.m c.loop-i.i (c.args.m.now.left - c.loop-i.i) g (let w = c.saturating_add-most_rounds.ensures in let few = can.few in omega (arith, w, few, c.loop-i-test.true)) (c.in-Fails.ensures e g.can)
 
 pub rounds-returns-in-Undefined : goal.rounds-returns-in-Undefined
 rounds-returns-in-Undefined t c b e can =
-    let k = objects c.args.profile c.args.typed.now in
+    let k = objects_of c.args.self.now in
     let g = c.loop-i.invariant b e can in
-    rounded_undefined k c.args.typed.now.result (meaning k c.args.cond.now) (part (act k c.args.body.now)) nothing c.args.m.now c.loop-i.m c.tested.new.m c.loop-i.i (c.args.m.now.left - c.loop-i.i) g (let w = c.saturating_add-most_rounds.ensures in let few = can.few in omega (arith, w, few, c.loop-i-test.true)) (c.in-Undefined.ensures e g.can)
+    rounded_undefined k c.args.self.now.typed.now.result (meaning k c.args.cond.now) (part (act k c.args.body.now)) nothing c.args.m.now c.loop-i.m c.tested.new.m c.loop-i.i (c.args.m.now.left - c.loop-i.i) g (let w = c.saturating_add-most_rounds.ensures in let few = can.few in omega (arith, w, few, c.loop-i-test.true)) (c.in-Undefined.ensures e g.can)
 
 pub rounds-returns-in-OutOfTurns : goal.rounds-returns-in-OutOfTurns
 rounds-returns-in-OutOfTurns t c b e can =
-    let k = objects c.args.profile c.args.typed.now in
+    let k = objects_of c.args.self.now in
     let g = c.loop-i.invariant b e can in
-    rounded_starved k c.args.typed.now.result (meaning k c.args.cond.now) (part (act k c.args.body.now)) nothing c.args.m.now c.loop-i.m c.tested.new.m c.loop-i.i (c.args.m.now.left - c.loop-i.i) g (let w = c.saturating_add-most_rounds.ensures in let few = can.few in omega (arith, w, few, c.loop-i-test.true)) (c.in-OutOfTurns.ensures e g.can)
+    rounded_starved k c.args.self.now.typed.now.result (meaning k c.args.cond.now) (part (act k c.args.body.now)) nothing c.args.m.now c.loop-i.m c.tested.new.m c.loop-i.i (c.args.m.now.left - c.loop-i.i) g (let w = c.saturating_add-most_rounds.ensures in let few = can.few in omega (arith, w, few, c.loop-i-test.true)) (c.in-OutOfTurns.ensures e g.can)
 
 pub rounds-returns-then-not-goes_on : goal.rounds-returns-then-not-goes_on
 rounds-returns-then-not-goes_on t c b e can =
-    let k = objects c.args.profile c.args.typed.now in
-    let r = c.args.typed.now.result in
+    let k = objects_of c.args.self.now in
+    let r = c.args.self.now.typed.now.result in
     let g = c.loop-i.invariant b e can in
     let test = c.in-Holds.ensures e g.can in
     let ran = c.part-ending.ensures true b (still_can k c.loop-i.m c.tested.new.m g.can test.cells test.fewer) in
@@ -249,8 +250,8 @@ rounds-returns-then-not-goes_on t c b e can =
 
 pub rounds-loop-i-preserved : goal.rounds-loop-i-preserved
 rounds-loop-i-preserved t c = λ b e can.
-    let k = objects c.args.profile c.args.typed.now in
-    let r = c.args.typed.now.result in
+    let k = objects_of c.args.self.now in
+    let r = c.args.self.now.typed.now.result in
     let g = c.loop-i.invariant b e can in
     let test = c.in-Holds.ensures e g.can in
     let can2 = still_can k c.loop-i.m c.tested.new.m g.can test.cells test.fewer in
@@ -261,20 +262,20 @@ rounds-loop-i-preserved t c = λ b e can.
 
 pub rounds-returns : goal.rounds-returns
 rounds-returns t c b e can =
-    let k = objects c.args.profile c.args.typed.now in
-    rounded_over k c.args.typed.now.result (meaning k c.args.cond.now) (part (act k c.args.body.now)) nothing c.args.m.now c.loop-i.m c.loop-i.i (c.loop-i.invariant b e can) (let w = c.saturating_add-most_rounds.ensures in let few = can.few in omega (arith, w, few, c.loop-i.auto.i-end, c.loop-i-test.false))
+    let k = objects_of c.args.self.now in
+    rounded_over k c.args.self.now.typed.now.result (meaning k c.args.cond.now) (part (act k c.args.body.now)) nothing c.args.m.now c.loop-i.m c.loop-i.i (c.loop-i.invariant b e can) (let w = c.saturating_add-most_rounds.ensures in let few = can.few in omega (arith, w, few, c.loop-i.auto.i-end, c.loop-i-test.false))
 
 -- ---- for
 
 pub for_rounds-loop-i-init : goal.for_rounds-loop-i-init
 for_rounds-loop-i-init t c = λ lc lo lb can.
-    let k = objects c.args.profile c.args.typed.now in
+    let k = objects_of c.args.self.now in
     rounded_start k (condition (meant_if_any k c.in-For.cond)) (part (act k c.in-For.body)) (run_if_any (option_map (act k) c.in-For.step)) c.args.m.now can
 
 pub for_rounds-returns-in-Fails : goal.for_rounds-returns-in-Fails
 for_rounds-returns-in-Fails t c f0 c0 o0 b0 l is h can =
-    let k = objects c.args.profile c.args.typed.now in
-    let r = c.args.typed.now.result in
+    let k = objects_of c.args.self.now in
+    let r = c.args.self.now.typed.now.result in
     let w = (can.parts.lawful_for c.in-For.first c.in-For.cond c.in-For.step c.in-For.body k r l).0 (lawful_of k r l _ _ c.in-For.is h) in
     let g = c.loop-i.invariant w.1 w.2 w.3 can in
     subst (λ (run : Run). Ran k r run c.args.m.now ending.Normally c.tested_if_any.new.m) (sym (for_loop_is k c.args.s.now.kind c.in-For.first c.in-For.cond c.in-For.step c.in-For.body (c.args.m.now.left + 1) c.in-For.is))
@@ -282,8 +283,8 @@ for_rounds-returns-in-Fails t c f0 c0 o0 b0 l is h can =
 
 pub for_rounds-returns-in-Undefined : goal.for_rounds-returns-in-Undefined
 for_rounds-returns-in-Undefined t c f0 c0 o0 b0 l is h can =
-    let k = objects c.args.profile c.args.typed.now in
-    let r = c.args.typed.now.result in
+    let k = objects_of c.args.self.now in
+    let r = c.args.self.now.typed.now.result in
     let w = (can.parts.lawful_for c.in-For.first c.in-For.cond c.in-For.step c.in-For.body k r l).0 (lawful_of k r l _ _ c.in-For.is h) in
     let g = c.loop-i.invariant w.1 w.2 w.3 can in
     subst (λ (run : Run). Ran k r run c.args.m.now ending.Undefined c.tested_if_any.new.m) (sym (for_loop_is k c.args.s.now.kind c.in-For.first c.in-For.cond c.in-For.step c.in-For.body (c.args.m.now.left + 1) c.in-For.is))
@@ -291,8 +292,8 @@ for_rounds-returns-in-Undefined t c f0 c0 o0 b0 l is h can =
 
 pub for_rounds-returns-in-OutOfTurns : goal.for_rounds-returns-in-OutOfTurns
 for_rounds-returns-in-OutOfTurns t c f0 c0 o0 b0 l is h can =
-    let k = objects c.args.profile c.args.typed.now in
-    let r = c.args.typed.now.result in
+    let k = objects_of c.args.self.now in
+    let r = c.args.self.now.typed.now.result in
     let w = (can.parts.lawful_for c.in-For.first c.in-For.cond c.in-For.step c.in-For.body k r l).0 (lawful_of k r l _ _ c.in-For.is h) in
     let g = c.loop-i.invariant w.1 w.2 w.3 can in
     subst (λ (run : Run). Ran k r run c.args.m.now ending.OutOfTurns c.tested_if_any.new.m) (sym (for_loop_is k c.args.s.now.kind c.in-For.first c.in-For.cond c.in-For.step c.in-For.body (c.args.m.now.left + 1) c.in-For.is))
@@ -300,8 +301,8 @@ for_rounds-returns-in-OutOfTurns t c f0 c0 o0 b0 l is h can =
 
 pub for_rounds-returns-then-not-goes_on : goal.for_rounds-returns-then-not-goes_on
 for_rounds-returns-then-not-goes_on t c f0 c0 o0 b0 l is h can =
-    let k = objects c.args.profile c.args.typed.now in
-    let r = c.args.typed.now.result in
+    let k = objects_of c.args.self.now in
+    let r = c.args.self.now.typed.now.result in
     let w = (can.parts.lawful_for c.in-For.first c.in-For.cond c.in-For.step c.in-For.body k r l).0 (lawful_of k r l _ _ c.in-For.is h) in
     let g = c.loop-i.invariant w.1 w.2 w.3 can in
     let test = c.in-Holds.ensures w.1 g.can in
@@ -313,8 +314,8 @@ for_rounds-returns-then-not-goes_on t c f0 c0 o0 b0 l is h can =
 
 pub for_rounds-returns-then-not-is_normal : goal.for_rounds-returns-then-not-is_normal
 for_rounds-returns-then-not-is_normal t c f0 c0 o0 b0 l is h can =
-    let k = objects c.args.profile c.args.typed.now in
-    let r = c.args.typed.now.result in
+    let k = objects_of c.args.self.now in
+    let r = c.args.self.now.typed.now.result in
     let w = (can.parts.lawful_for c.in-For.first c.in-For.cond c.in-For.step c.in-For.body k r l).0 (lawful_of k r l _ _ c.in-For.is h) in
     let g = c.loop-i.invariant w.1 w.2 w.3 can in
     let test = c.in-Holds.ensures w.1 g.can in
@@ -333,8 +334,8 @@ for_rounds-returns-then-not-is_normal t c f0 c0 o0 b0 l is h can =
 
 pub for_rounds-loop-i-preserved : goal.for_rounds-loop-i-preserved
 for_rounds-loop-i-preserved t c = λ lc lo lb can.
-    let k = objects c.args.profile c.args.typed.now in
-    let r = c.args.typed.now.result in
+    let k = objects_of c.args.self.now in
+    let r = c.args.self.now.typed.now.result in
     let g = c.loop-i.invariant lc lo lb can in
     let test = c.in-Holds.ensures lc g.can in
     let cond = condition (meant_if_any k c.in-For.cond) in
@@ -360,8 +361,8 @@ for_rounds-loop-i-preserved t c = λ lc lo lb can.
 
 pub for_rounds-returns : goal.for_rounds-returns
 for_rounds-returns t c f0 c0 o0 b0 l is h can =
-    let k = objects c.args.profile c.args.typed.now in
-    let r = c.args.typed.now.result in
+    let k = objects_of c.args.self.now in
+    let r = c.args.self.now.typed.now.result in
     let w = (can.parts.lawful_for c.in-For.first c.in-For.cond c.in-For.step c.in-For.body k r l).0 (lawful_of k r l _ _ c.in-For.is h) in
     let g = c.loop-i.invariant w.1 w.2 w.3 can in
     subst (λ (run : Run). Ran k r run c.args.m.now ending.OutOfTurns c.loop-i.m) (sym (for_loop_is k c.args.s.now.kind c.in-For.first c.in-For.cond c.in-For.step c.in-For.body (c.args.m.now.left + 1) c.in-For.is))
