@@ -109,9 +109,13 @@ fn cast_helper(alloc: Global, helpers: &[Helper], helper: &Helper) -> Result<Typ
     let params = copy_params(alloc, helper.params.as_slice())?;
     let mut known = Known::new(alloc);
     declare_params(alloc, &mut known, helper.params.as_slice())?;
-    let returned = Some(helper.result);
-    let body = cast_stmts(alloc, helpers, &mut known, returned, helper.body.as_slice())?;
-    let value = cast_to(alloc, helpers, &known.scopes, helper.result, &helper.value)?;
+    let caster = Caster {
+        alloc,
+        helpers,
+        returned: Some(helper.result),
+    };
+    let body = caster.cast_stmts(&mut known, helper.body.as_slice())?;
+    let value = caster.cast_to(&known.scopes, helper.result, &helper.value)?;
     Ok(TypedHelper {
         name,
         at: helper.at,
@@ -136,13 +140,12 @@ pub(crate) fn cast_kernel(
     let params = copy_params(alloc, kernel.params.as_slice())?;
     let mut known = Known::new(alloc);
     let arrays = declare_params(alloc, &mut known, kernel.params.as_slice())?;
-    let body = cast_stmts(
+    let caster = Caster {
         alloc,
         helpers,
-        &mut known,
-        kernel.result,
-        kernel.body.as_slice(),
-    )?;
+        returned: kernel.result,
+    };
+    let body = caster.cast_stmts(&mut known, kernel.body.as_slice())?;
     Ok(ProgTree {
         name,
         at: kernel.at,
@@ -154,275 +157,449 @@ pub(crate) fn cast_kernel(
     })
 }
 
-// ---- statements
+// ---- statements and expressions
 
-#[cycle(cast_stmt)]
-fn cast_stmts(
+// What the parts of a helper, or of the kernel, become typed by.
+#[derive(Drop)]
+struct Caster<'a> {
     alloc: Global,
-    helpers: &[Helper],
-    known: &mut Known,
+    // The helpers that may be called.
+    helpers: &'a [Helper],
+    // The type of the result, where there is one.
     returned: Option<Ty>,
-    stmts: &[Stmt],
-) -> Result<List<ProgStmt>, Memory>
-    requires { TypingListWith helpers.now returned known.old.scopes (length known.old.types)
-        stmts.now }
-    ensures { IfOk result (λ ts.
-        AreProgStmts helpers.now returned known.old stmts.now ts known.new) }
-{
-    let mut items = List::new(alloc);
-    for stmt in stmts {
-        items.push(cast_stmt(alloc, helpers, known, returned, stmt)?)?;
-    }
-    Ok(items)
 }
 
-#[cycle(cast_stmt)]
-fn cast_stmt(
-    alloc: Global,
-    helpers: &[Helper],
-    known: &mut Known,
-    returned: Option<Ty>,
-    stmt: &Stmt,
-) -> Result<ProgStmt, Memory>
-    requires { TypingStmtWith helpers.now returned known.old.scopes (length known.old.types)
-        stmt.now }
-    ensures { IfOk result (λ t. IsProgStmt helpers.now returned known.old stmt.now t known.new) }
-{
-    match &stmt.kind {
-        StmtKind::Block(body) => cast_block(alloc, helpers, known, returned, stmt, body),
-        StmtKind::Declare { name, ty, init } => {
-            cast_declaration(alloc, helpers, known, stmt, name, *ty, init)
+impl<'a> Caster<'a> {
+    #[cycle(cast_stmt)]
+    fn cast_stmts(&self, known: &mut Known, stmts: &[Stmt]) -> Result<List<ProgStmt>, Memory>
+        requires { TypingListWith self.now.helpers.now self.now.returned known.old.scopes
+            (length known.old.types) stmts.now }
+        ensures { IfOk result (λ ts.
+            AreProgStmts self.now.helpers.now self.now.returned known.old stmts.now ts known.new) }
+    {
+        let mut items = List::new(self.alloc);
+        for stmt in stmts {
+            items.push(self.cast_stmt(known, stmt)?)?;
         }
-        StmtKind::Assign { target, op, value } => {
-            cast_assignment(alloc, helpers, known, stmt, target, *op, value)
+        Ok(items)
+    }
+
+    #[cycle(cast_stmt)]
+    fn cast_stmt(&self, known: &mut Known, stmt: &Stmt) -> Result<ProgStmt, Memory>
+        requires { TypingStmtWith self.now.helpers.now self.now.returned known.old.scopes
+            (length known.old.types) stmt.now }
+        ensures { IfOk result (λ t. IsProgStmt self.now.helpers.now self.now.returned known.old
+            stmt.now t known.new) }
+    {
+        match &stmt.kind {
+            StmtKind::Block(body) => self.cast_block(known, stmt, body),
+            StmtKind::Declare { name, ty, init } => {
+                self.cast_declaration(known, stmt, name, *ty, init)
+            }
+            StmtKind::Assign { target, op, value } => {
+                self.cast_assignment(known, stmt, target, *op, value)
+            }
+            StmtKind::Step { target, up } => self.cast_step(known, stmt, target, *up),
+            StmtKind::If { cond, then, other } => { self.cast_if(known, stmt, cond, then, other) }
+            StmtKind::While { cond, body } => { self.cast_while(known, stmt, cond, body) }
+            StmtKind::DoWhile { body, cond } => { self.cast_do(known, stmt, body, cond) }
+            StmtKind::For {
+                first,
+                cond,
+                step,
+                body,
+            } => self.cast_for(known, stmt, first, cond, step, body),
+            StmtKind::Break => Ok(act(ProgStmtKind::Break, stmt.at)),
+            StmtKind::Continue => Ok(act(ProgStmtKind::Continue, stmt.at)),
+            StmtKind::Return(value) => self.cast_return(known, stmt, value),
+            StmtKind::Empty => Ok(act(ProgStmtKind::Empty, stmt.at)),
         }
-        StmtKind::Step { target, up } => cast_step(alloc, helpers, known, stmt, target, *up),
-        StmtKind::If { cond, then, other } => {
-            cast_if(alloc, helpers, known, returned, stmt, cond, then, other)
-        }
-        StmtKind::While { cond, body } => {
-            cast_while(alloc, helpers, known, returned, stmt, cond, body)
-        }
-        StmtKind::DoWhile { body, cond } => {
-            cast_do(alloc, helpers, known, returned, stmt, body, cond)
-        }
-        StmtKind::For {
+    }
+
+    // A block, in a scope of its own.
+    #[cycle(cast_stmt)]
+    fn cast_block(
+        &self,
+        known: &mut Known,
+        stmt: &Stmt,
+        body: &List<Stmt>,
+    ) -> Result<ProgStmt, Memory>
+        requires is { stmt.now.kind ≡ kind.Block body.now }
+        requires typing { TypingStmtWith self.now.helpers.now self.now.returned known.old.scopes
+            (length known.old.types) stmt.now }
+        ensures { IfOk result (λ t. IsProgStmt self.now.helpers.now self.now.returned known.old
+            stmt.now t known.new) }
+    {
+        known.enter()?;
+        let stmts = self.cast_stmts(known, body.as_slice())?;
+        known.leave();
+        Ok(act(ProgStmtKind::Block(stmts), stmt.at))
+    }
+
+    // An `if`, with a scope for each branch.
+    #[cycle(cast_stmt)]
+    fn cast_if(
+        &self,
+        known: &mut Known,
+        stmt: &Stmt,
+        cond: &Boxed<Expr>,
+        then: &Boxed<Stmt>,
+        other: &Option<Boxed<Stmt>>,
+    ) -> Result<ProgStmt, Memory>
+        requires is { stmt.now.kind ≡ kind.If cond.now then.now other.now }
+        requires typing { TypingStmtWith self.now.helpers.now self.now.returned known.old.scopes
+            (length known.old.types) stmt.now }
+        ensures { IfOk result (λ t. IsProgStmt self.now.helpers.now self.now.returned known.old
+            stmt.now t known.new) }
+    {
+        let cond = self.cast_boxed(&known.scopes, cond)?;
+        let then = self.cast_inside(known, then)?;
+        let other = self.cast_held(known, other)?;
+        let cond = cond.into_inner();
+        Ok(act(ProgStmtKind::If { cond, then, other }, stmt.at))
+    }
+
+    // A `while` loop.
+    #[cycle(cast_stmt)]
+    fn cast_while(
+        &self,
+        known: &mut Known,
+        stmt: &Stmt,
+        cond: &Boxed<Expr>,
+        body: &Boxed<Stmt>,
+    ) -> Result<ProgStmt, Memory>
+        requires is { stmt.now.kind ≡ kind.While cond.now body.now }
+        requires typing { TypingStmtWith self.now.helpers.now self.now.returned known.old.scopes
+            (length known.old.types) stmt.now }
+        ensures { IfOk result (λ t. IsProgStmt self.now.helpers.now self.now.returned known.old
+            stmt.now t known.new) }
+    {
+        let cond = self.cast_boxed(&known.scopes, cond)?;
+        let body = self.cast_inside(known, body)?;
+        let cond = cond.into_inner();
+        Ok(act(ProgStmtKind::While { cond, body }, stmt.at))
+    }
+
+    // A `do` loop.
+    #[cycle(cast_stmt)]
+    fn cast_do(
+        &self,
+        known: &mut Known,
+        stmt: &Stmt,
+        body: &Boxed<Stmt>,
+        cond: &Boxed<Expr>,
+    ) -> Result<ProgStmt, Memory>
+        requires is { stmt.now.kind ≡ kind.DoWhile body.now cond.now }
+        requires typing { TypingStmtWith self.now.helpers.now self.now.returned known.old.scopes
+            (length known.old.types) stmt.now }
+        ensures { IfOk result (λ t. IsProgStmt self.now.helpers.now self.now.returned known.old
+            stmt.now t known.new) }
+    {
+        let cond = self.cast_boxed(&known.scopes, cond)?;
+        let body = self.cast_inside(known, body)?;
+        let cond = cond.into_inner();
+        Ok(act(ProgStmtKind::DoWhile { body, cond }, stmt.at))
+    }
+
+    // A `for` loop, in a scope of its own.
+    #[cycle(cast_stmt)]
+    fn cast_for(
+        &self,
+        known: &mut Known,
+        stmt: &Stmt,
+        first: &List<Stmt>,
+        cond: &Option<Boxed<Expr>>,
+        step: &Option<Boxed<Stmt>>,
+        body: &Boxed<Stmt>,
+    ) -> Result<ProgStmt, Memory>
+        requires is { stmt.now.kind ≡ kind.For first.now cond.now step.now body.now }
+        requires typing { TypingStmtWith self.now.helpers.now self.now.returned known.old.scopes
+            (length known.old.types) stmt.now }
+        ensures { IfOk result (λ t. IsProgStmt self.now.helpers.now self.now.returned known.old
+            stmt.now t known.new) }
+    {
+        known.enter()?;
+        let first = self.cast_stmts(known, first.as_slice())?;
+        let cond = self.cast_option(&known.scopes, cond)?;
+        let step = self.cast_held(known, step)?;
+        let body = self.cast_inside(known, body)?;
+        known.leave();
+        let kind = ProgStmtKind::For {
             first,
             cond,
             step,
             body,
-        } => cast_for(
-            alloc, helpers, known, returned, stmt, first, cond, step, body,
-        ),
-        StmtKind::Break => Ok(act(ProgStmtKind::Break, stmt.at)),
-        StmtKind::Continue => Ok(act(ProgStmtKind::Continue, stmt.at)),
-        StmtKind::Return(value) => cast_return(alloc, helpers, known, returned, stmt, value),
-        StmtKind::Empty => Ok(act(ProgStmtKind::Empty, stmt.at)),
+        };
+        Ok(act(kind, stmt.at))
     }
-}
 
-// A block, in a scope of its own.
-#[cycle(cast_stmt)]
-fn cast_block(
-    alloc: Global,
-    helpers: &[Helper],
-    known: &mut Known,
-    returned: Option<Ty>,
-    stmt: &Stmt,
-    body: &List<Stmt>,
-) -> Result<ProgStmt, Memory>
-    requires is { stmt.now.kind ≡ kind.Block body.now }
-    requires typing { TypingStmtWith helpers.now returned known.old.scopes
-        (length known.old.types) stmt.now }
-    ensures { IfOk result (λ t. IsProgStmt helpers.now returned known.old stmt.now t known.new) }
-{
-    known.enter()?;
-    let stmts = cast_stmts(alloc, helpers, known, returned, body.as_slice())?;
-    known.leave();
-    Ok(act(ProgStmtKind::Block(stmts), stmt.at))
-}
+    // The declaration of a variable.
+    #[inline(never)]
+    fn cast_declaration(
+        &self,
+        known: &mut Known,
+        stmt: &Stmt,
+        name: &Name,
+        ty: Ty,
+        init: &Option<Boxed<Expr>>,
+    ) -> Result<ProgStmt, Memory>
+        requires is { stmt.now.kind ≡ kind.Declare name.now ty init.now }
+        requires new { is_new_in known.old.scopes name.now ≡ true }
+        requires numbered { IsNumbered (length known.old.types) }
+        requires typing { IfSome init.now (TypingExprWith self.now.helpers.now
+            (with_entry name.now (binding.Var (length known.old.types) ty) known.old.scopes)) }
+        ensures { IfOk result (λ t. IsProgAct self.now.helpers.now known.old stmt.now t known.new) }
+    {
+        let var = known.declare_var(name, ty)?;
+        let init = self.cast_value(&known.scopes, Some(ty), init)?;
+        Ok(act(ProgStmtKind::Declare { var, init }, stmt.at))
+    }
 
-// An `if`, with a scope for each branch.
-#[cycle(cast_stmt)]
-fn cast_if(
-    alloc: Global,
-    helpers: &[Helper],
-    known: &mut Known,
-    returned: Option<Ty>,
-    stmt: &Stmt,
-    cond: &Boxed<Expr>,
-    then: &Boxed<Stmt>,
-    other: &Option<Boxed<Stmt>>,
-) -> Result<ProgStmt, Memory>
-    requires is { stmt.now.kind ≡ kind.If cond.now then.now other.now }
-    requires typing { TypingStmtWith helpers.now returned known.old.scopes
-        (length known.old.types) stmt.now }
-    ensures { IfOk result (λ t. IsProgStmt helpers.now returned known.old stmt.now t known.new) }
-{
-    let cond = cast_boxed(alloc, helpers, &known.scopes, cond)?;
-    let then = cast_inside(alloc, helpers, known, returned, then)?;
-    let other = cast_held(alloc, helpers, known, returned, other)?;
-    let cond = cond.into_inner();
-    Ok(act(ProgStmtKind::If { cond, then, other }, stmt.at))
-}
+    // An assignment.
+    #[inline(never)]
+    fn cast_assignment(
+        &self,
+        known: &Known,
+        stmt: &Stmt,
+        target: &Boxed<Target>,
+        op: Option<Binary>,
+        value: &Boxed<Expr>,
+    ) -> Result<ProgStmt, Memory>
+        requires is { stmt.now.kind ≡ kind.Assign target.now op value.now }
+        requires target { TypingTargetWith self.now.helpers.now known.now.scopes target.now }
+        requires value { TypingExprWith self.now.helpers.now known.now.scopes value.now }
+        ensures { IfOk result (λ t. IsProgAct self.now.helpers.now known.now stmt.now t known.now) }
+    {
+        let (target, ty) = self.cast_target(&known.scopes, target)?;
+        let value = self.cast_boxed(&known.scopes, value)?;
+        let value = assigned(self.alloc, op, ty, value)?.into_inner();
+        Ok(act(ProgStmtKind::Assign { target, op, value }, stmt.at))
+    }
 
-// A `while` loop.
-#[cycle(cast_stmt)]
-fn cast_while(
-    alloc: Global,
-    helpers: &[Helper],
-    known: &mut Known,
-    returned: Option<Ty>,
-    stmt: &Stmt,
-    cond: &Boxed<Expr>,
-    body: &Boxed<Stmt>,
-) -> Result<ProgStmt, Memory>
-    requires is { stmt.now.kind ≡ kind.While cond.now body.now }
-    requires typing { TypingStmtWith helpers.now returned known.old.scopes
-        (length known.old.types) stmt.now }
-    ensures { IfOk result (λ t. IsProgStmt helpers.now returned known.old stmt.now t known.new) }
-{
-    let cond = cast_boxed(alloc, helpers, &known.scopes, cond)?;
-    let body = cast_inside(alloc, helpers, known, returned, body)?;
-    let cond = cond.into_inner();
-    Ok(act(ProgStmtKind::While { cond, body }, stmt.at))
-}
+    // A step up or down.
+    #[inline(never)]
+    fn cast_step(
+        &self,
+        known: &Known,
+        stmt: &Stmt,
+        target: &Boxed<Target>,
+        up: bool,
+    ) -> Result<ProgStmt, Memory>
+        requires is { stmt.now.kind ≡ kind.Step target.now up }
+        requires target { TypingTargetWith self.now.helpers.now known.now.scopes target.now }
+        ensures { IfOk result (λ t. IsProgAct self.now.helpers.now known.now stmt.now t known.now) }
+    {
+        let (target, _) = self.cast_target(&known.scopes, target)?;
+        Ok(act(ProgStmtKind::Step { target, up }, stmt.at))
+    }
 
-// A `do` loop.
-#[cycle(cast_stmt)]
-fn cast_do(
-    alloc: Global,
-    helpers: &[Helper],
-    known: &mut Known,
-    returned: Option<Ty>,
-    stmt: &Stmt,
-    body: &Boxed<Stmt>,
-    cond: &Boxed<Expr>,
-) -> Result<ProgStmt, Memory>
-    requires is { stmt.now.kind ≡ kind.DoWhile body.now cond.now }
-    requires typing { TypingStmtWith helpers.now returned known.old.scopes
-        (length known.old.types) stmt.now }
-    ensures { IfOk result (λ t. IsProgStmt helpers.now returned known.old stmt.now t known.new) }
-{
-    let cond = cast_boxed(alloc, helpers, &known.scopes, cond)?;
-    let body = cast_inside(alloc, helpers, known, returned, body)?;
-    let cond = cond.into_inner();
-    Ok(act(ProgStmtKind::DoWhile { body, cond }, stmt.at))
-}
+    // A return, with or without a value.
+    #[inline(never)]
+    fn cast_return(
+        &self,
+        known: &Known,
+        stmt: &Stmt,
+        value: &Option<Boxed<Expr>>,
+    ) -> Result<ProgStmt, Memory>
+        requires is { stmt.now.kind ≡ kind.Return value.now }
+        requires typing { IfSome value.now (TypingExprWith self.now.helpers.now known.now.scopes) }
+        requires typed { IfSome value.now (λ e. IsSome self.now.returned) }
+        ensures { IfOk result (λ t. IsProgStmt self.now.helpers.now self.now.returned known.now
+            stmt.now t known.now) }
+    {
+        let value = self.cast_value(&known.scopes, self.returned, value)?;
+        Ok(act(ProgStmtKind::Return(value), stmt.at))
+    }
 
-// A `for` loop, in a scope of its own.
-#[cycle(cast_stmt)]
-fn cast_for(
-    alloc: Global,
-    helpers: &[Helper],
-    known: &mut Known,
-    returned: Option<Ty>,
-    stmt: &Stmt,
-    first: &List<Stmt>,
-    cond: &Option<Boxed<Expr>>,
-    step: &Option<Boxed<Stmt>>,
-    body: &Boxed<Stmt>,
-) -> Result<ProgStmt, Memory>
-    requires is { stmt.now.kind ≡ kind.For first.now cond.now step.now body.now }
-    requires typing { TypingStmtWith helpers.now returned known.old.scopes
-        (length known.old.types) stmt.now }
-    ensures { IfOk result (λ t. IsProgStmt helpers.now returned known.old stmt.now t known.new) }
-{
-    known.enter()?;
-    let first = cast_stmts(alloc, helpers, known, returned, first.as_slice())?;
-    let cond = cast_option(alloc, helpers, &known.scopes, cond)?;
-    let step = cast_held(alloc, helpers, known, returned, step)?;
-    let body = cast_inside(alloc, helpers, known, returned, body)?;
-    known.leave();
-    let kind = ProgStmtKind::For {
-        first,
-        cond,
-        step,
-        body,
-    };
-    Ok(act(kind, stmt.at))
-}
+    // A statement inside a statement, which may be absent.
+    #[cycle(cast_stmt)]
+    fn cast_held(
+        &self,
+        known: &mut Known,
+        stmt: &Option<Boxed<Stmt>>,
+    ) -> Result<Option<Boxed<ProgStmt>>, Memory>
+        requires { IfSome stmt.now
+            (TypingStmtWith self.now.helpers.now self.now.returned ([] ∷ known.old.scopes)
+            (length known.old.types)) }
+        ensures { IfOk result (λ t. IsProgHeld self.now.helpers.now self.now.returned known.old
+            stmt.now t known.new) }
+    {
+        match stmt {
+            None => Ok(None),
+            Some(stmt) => {
+                known.enter()?;
+                let typed = self.cast_stmt(known, stmt.get())?;
+                known.leave();
+                let boxed = Boxed::new(self.alloc, typed)?;
+                Ok(Some(boxed))
+            }
+        }
+    }
 
-// The declaration of a variable.
-#[inline(never)]
-fn cast_declaration(
-    alloc: Global,
-    helpers: &[Helper],
-    known: &mut Known,
-    stmt: &Stmt,
-    name: &Name,
-    ty: Ty,
-    init: &Option<Boxed<Expr>>,
-) -> Result<ProgStmt, Memory>
-    requires is { stmt.now.kind ≡ kind.Declare name.now ty init.now }
-    requires new { is_new_in known.old.scopes name.now ≡ true }
-    requires numbered { IsNumbered (length known.old.types) }
-    requires typing { IfSome init.now (TypingExprWith helpers.now
-        (with_entry name.now (binding.Var (length known.old.types) ty) known.old.scopes)) }
-    ensures { IfOk result (λ t. IsProgAct helpers.now known.old stmt.now t known.new) }
-{
-    let var = known.declare_var(name, ty)?;
-    let init = cast_value(alloc, helpers, &known.scopes, Some(ty), init)?;
-    Ok(act(ProgStmtKind::Declare { var, init }, stmt.at))
-}
+    // A statement inside a statement, in a scope of its own.
+    #[cycle(cast_stmt)]
+    fn cast_inside(&self, known: &mut Known, stmt: &Boxed<Stmt>) -> Result<Boxed<ProgStmt>, Memory>
+        requires { TypingStmtWith self.now.helpers.now self.now.returned ([] ∷ known.old.scopes)
+            (length known.old.types) stmt.now }
+        ensures { IfOk result (λ t. IsProgInside self.now.helpers.now self.now.returned known.old
+            stmt.now t known.new) }
+    {
+        known.enter()?;
+        let typed = self.cast_stmt(known, stmt.get())?;
+        known.leave();
+        let boxed = Boxed::new(self.alloc, typed)?;
+        Ok(boxed)
+    }
 
-// An assignment.
-#[inline(never)]
-fn cast_assignment(
-    alloc: Global,
-    helpers: &[Helper],
-    known: &Known,
-    stmt: &Stmt,
-    target: &Boxed<Target>,
-    op: Option<Binary>,
-    value: &Boxed<Expr>,
-) -> Result<ProgStmt, Memory>
-    requires is { stmt.now.kind ≡ kind.Assign target.now op value.now }
-    requires target { TypingTargetWith helpers.now known.now.scopes target.now }
-    requires value { TypingExprWith helpers.now known.now.scopes value.now }
-    ensures { IfOk result (λ t. IsProgAct helpers.now known.now stmt.now t known.now) }
-{
-    let (target, ty) = cast_target(alloc, helpers, &known.scopes, target)?;
-    let value = cast_boxed(alloc, helpers, &known.scopes, value)?;
-    let value = assigned(alloc, op, ty, value)?.into_inner();
-    Ok(act(ProgStmtKind::Assign { target, op, value }, stmt.at))
-}
+    // What is assigned to, with the type of its object.
+    fn cast_target(
+        &self,
+        scopes: &Scopes<Binding>,
+        target: &Boxed<Target>,
+    ) -> Result<(ProgTarget, Ty), Memory>
+        requires { TypingTargetWith self.now.helpers.now scopes.now target.now }
+        ensures { IfOk result (λ t. IsProgTarget self.now.helpers.now scopes.now target.now t.0
+            t.1) }
+    {
+        let target = target.get();
+        let at = target.at;
+        let (to, ty) = object(scopes, &target.name, target.indices.len());
+        let indices = self.cast_exprs(scopes, target.indices.as_slice())?;
+        Ok((ProgTarget { to, at, indices }, ty))
+    }
 
-// A step up or down.
-#[inline(never)]
-fn cast_step(
-    alloc: Global,
-    helpers: &[Helper],
-    known: &Known,
-    stmt: &Stmt,
-    target: &Boxed<Target>,
-    up: bool,
-) -> Result<ProgStmt, Memory>
-    requires is { stmt.now.kind ≡ kind.Step target.now up }
-    requires target { TypingTargetWith helpers.now known.now.scopes target.now }
-    ensures { IfOk result (λ t. IsProgAct helpers.now known.now stmt.now t known.now) }
-{
-    let (target, _) = cast_target(alloc, helpers, &known.scopes, target)?;
-    Ok(act(ProgStmtKind::Step { target, up }, stmt.at))
-}
+    // A value that may be absent, converted to a type; there is none where there is no type.
+    fn cast_value(
+        &self,
+        scopes: &Scopes<Binding>,
+        to: Option<Ty>,
+        value: &Option<Boxed<Expr>>,
+    ) -> Result<Option<ProgExpr>, Memory>
+        requires typing { IfSome value.now (TypingExprWith self.now.helpers.now scopes.now) }
+        requires typed { IfSome value.now (λ e. IsSome to) }
+        ensures { IfOk result (λ f. IsProgValue self.now.helpers.now to scopes.now value.now f) }
+    {
+        match (value, to) {
+            (None, _) => Ok(None),
+            (Some(value), Some(ty)) => {
+                let value = self.cast_to(scopes, ty, value.get())?;
+                Ok(Some(value))
+            }
+            (Some(_), None) => unreachable!(),
+        }
+    }
 
-// A return, with or without a value.
-#[inline(never)]
-fn cast_return(
-    alloc: Global,
-    helpers: &[Helper],
-    known: &Known,
-    returned: Option<Ty>,
-    stmt: &Stmt,
-    value: &Option<Boxed<Expr>>,
-) -> Result<ProgStmt, Memory>
-    requires is { stmt.now.kind ≡ kind.Return value.now }
-    requires typing { IfSome value.now (TypingExprWith helpers.now known.now.scopes) }
-    requires typed { IfSome value.now (λ e. IsSome returned) }
-    ensures { IfOk result (λ t. IsProgStmt helpers.now returned known.now stmt.now t known.now) }
-{
-    let value = cast_value(alloc, helpers, &known.scopes, returned, value)?;
-    Ok(act(ProgStmtKind::Return(value), stmt.at))
+    // An expression, converted to a type.
+    fn cast_to(&self, scopes: &Scopes<Binding>, to: Ty, expr: &Expr) -> Result<ProgExpr, Memory>
+        requires { TypingExprWith self.now.helpers.now scopes.now expr.now }
+        ensures { IfOk result (λ f. IsProgConverted self.now.helpers.now to scopes.now expr.now f) }
+    {
+        let value = self.cast_expr(scopes, expr)?;
+        Ok(converted(self.alloc, to, value)?.into_inner())
+    }
+
+    fn cast_option(
+        &self,
+        scopes: &Scopes<Binding>,
+        expr: &Option<Boxed<Expr>>,
+    ) -> Result<Option<ProgExpr>, Memory>
+        requires { IfSome expr.now (TypingExprWith self.now.helpers.now scopes.now) }
+        ensures { IfOk result (λ f. IsProgOption self.now.helpers.now scopes.now expr.now f) }
+    {
+        match expr {
+            None => Ok(None),
+            Some(expr) => Ok(Some(self.cast_boxed(scopes, expr)?.into_inner())),
+        }
+    }
+
+    fn cast_boxed(
+        &self,
+        scopes: &Scopes<Binding>,
+        expr: &Boxed<Expr>,
+    ) -> Result<Boxed<ProgExpr>, Memory>
+        requires { TypingExprWith self.now.helpers.now scopes.now expr.now }
+        ensures { IfOk result (λ f. IsProgExpr self.now.helpers.now scopes.now expr.now f) }
+    {
+        self.cast_expr(scopes, expr.get())
+    }
+
+    #[cycle(cast_expr)]
+    fn cast_exprs(&self, scopes: &Scopes<Binding>, exprs: &[Expr]) -> Result<List<ProgExpr>, Memory>
+        requires { All (TypingExprWith self.now.helpers.now scopes.now) exprs.now }
+        ensures { IfOk result (λ fs. AreProgExprs self.now.helpers.now scopes.now exprs.now fs) }
+    {
+        let mut items = List::new(self.alloc);
+        for expr in exprs {
+            items.push(self.cast_expr(scopes, expr)?.into_inner())?;
+        }
+        Ok(items)
+    }
+
+    #[cycle(cast_expr)]
+    fn cast_expr(&self, scopes: &Scopes<Binding>, expr: &Expr) -> Result<Boxed<ProgExpr>, Memory>
+        requires { TypingExprWith self.now.helpers.now scopes.now expr.now }
+        ensures { IfOk result (λ f. IsProgExpr self.now.helpers.now scopes.now expr.now f) }
+    {
+        let at = expr.at;
+        match &expr.kind {
+            ExprKind::Number { value, ty } => {
+                prog_node(self.alloc, ProgExprKind::Number(*value), *ty, at)
+            }
+            ExprKind::Name(name) => cast_name(self.alloc, scopes, name, at),
+            ExprKind::Element { name, indices } => {
+                let indices = self.cast_exprs(scopes, indices.as_slice())?;
+                cast_element(self.alloc, scopes, name, indices, at)
+            }
+            ExprKind::Call { name, args } => {
+                let (helper, callee) = callee(self.helpers, name);
+                let params = callee.params.as_slice();
+                let args = self.cast_args(scopes, params, args.as_slice())?;
+                let kind = ProgExprKind::Call { helper, args };
+                prog_node(self.alloc, kind, callee.result, at)
+            }
+            ExprKind::Unary(op, arg) => {
+                let arg = self.cast_expr(scopes, arg.get())?;
+                unary(self.alloc, *op, arg, at)
+            }
+            ExprKind::Cast(ty, arg) => {
+                let arg = self.cast_expr(scopes, arg.get())?;
+                cast(self.alloc, false, *ty, arg, at)
+            }
+            ExprKind::Binary(op, left, right) => {
+                let left = self.cast_expr(scopes, left.get())?;
+                let right = self.cast_expr(scopes, right.get())?;
+                binary(self.alloc, *op, left, right, at)
+            }
+            ExprKind::Choose(cond, then, other) => {
+                let cond = self.cast_expr(scopes, cond.get())?;
+                let then = self.cast_expr(scopes, then.get())?;
+                let other = self.cast_expr(scopes, other.get())?;
+                choose(self.alloc, cond, then, other, at)
+            }
+        }
+    }
+
+    // Arguments, each converted to the type of its parameter.
+    #[cycle(cast_expr)]
+    fn cast_args(
+        &self,
+        scopes: &Scopes<Binding>,
+        params: &[Param],
+        args: &[Expr],
+    ) -> Result<List<ProgExpr>, Memory>
+        requires typing { All (TypingExprWith self.now.helpers.now scopes.now) args.now }
+        requires one_for_each { length args.now ≡ length params.now }
+        ensures { IfOk result (λ gs. AreArguments self.now.helpers.now scopes.now params.now
+            args.now gs) }
+    {
+        let mut items = List::new(self.alloc);
+        for (place, arg) in args.iter().enumerate() {
+            let value = self.cast_expr(scopes, arg)?;
+            let arg = converted(self.alloc, params[place].ty, value)?;
+            items.push(arg.into_inner())?;
+        }
+        Ok(items)
+    }
 }
 
 fn act(kind: ProgStmtKind, at: Span) -> ProgStmt
@@ -430,54 +607,6 @@ fn act(kind: ProgStmtKind, at: Span) -> ProgStmt
 {
     ProgStmt { kind, at }
 }
-
-// A statement inside a statement, which may be absent.
-#[cycle(cast_stmt)]
-fn cast_held(
-    alloc: Global,
-    helpers: &[Helper],
-    known: &mut Known,
-    returned: Option<Ty>,
-    stmt: &Option<Boxed<Stmt>>,
-) -> Result<Option<Boxed<ProgStmt>>, Memory>
-    requires { IfSome stmt.now
-        (TypingStmtWith helpers.now returned ([] ∷ known.old.scopes)
-        (length known.old.types)) }
-    ensures { IfOk result (λ t. IsProgHeld helpers.now returned known.old stmt.now t known.new) }
-{
-    match stmt {
-        None => Ok(None),
-        Some(stmt) => {
-            known.enter()?;
-            let typed = cast_stmt(alloc, helpers, known, returned, stmt.get())?;
-            known.leave();
-            let boxed = Boxed::new(alloc, typed)?;
-            Ok(Some(boxed))
-        }
-    }
-}
-
-// A statement inside a statement, in a scope of its own.
-#[cycle(cast_stmt)]
-fn cast_inside(
-    alloc: Global,
-    helpers: &[Helper],
-    known: &mut Known,
-    returned: Option<Ty>,
-    stmt: &Boxed<Stmt>,
-) -> Result<Boxed<ProgStmt>, Memory>
-    requires { TypingStmtWith helpers.now returned ([] ∷ known.old.scopes)
-        (length known.old.types) stmt.now }
-    ensures { IfOk result (λ t. IsProgInside helpers.now returned known.old stmt.now t known.new) }
-{
-    known.enter()?;
-    let typed = cast_stmt(alloc, helpers, known, returned, stmt.get())?;
-    known.leave();
-    let boxed = Boxed::new(alloc, typed)?;
-    Ok(boxed)
-}
-
-// ---- expressions
 
 // The variable or array that a name stands for where it has so many indices, with the type of it
 // or of its elements.
@@ -490,175 +619,6 @@ fn object(scopes: &Scopes<Binding>, name: &Name, indices: usize) -> (Object, Ty)
         Some(Binding::Array { array, ty }) => (Object::Array(array), ty),
         None => unreachable!(),
     }
-}
-
-// What is assigned to, with the type of its object.
-fn cast_target(
-    alloc: Global,
-    helpers: &[Helper],
-    scopes: &Scopes<Binding>,
-    target: &Boxed<Target>,
-) -> Result<(ProgTarget, Ty), Memory>
-    requires { TypingTargetWith helpers.now scopes.now target.now }
-    ensures { IfOk result (λ t. IsProgTarget helpers.now scopes.now target.now t.0 t.1) }
-{
-    let target = target.get();
-    let at = target.at;
-    let (to, ty) = object(scopes, &target.name, target.indices.len());
-    let indices = cast_exprs(alloc, helpers, scopes, target.indices.as_slice())?;
-    Ok((ProgTarget { to, at, indices }, ty))
-}
-
-// A value that may be absent, converted to a type; there is none where there is no type.
-fn cast_value(
-    alloc: Global,
-    helpers: &[Helper],
-    scopes: &Scopes<Binding>,
-    to: Option<Ty>,
-    value: &Option<Boxed<Expr>>,
-) -> Result<Option<ProgExpr>, Memory>
-    requires typing { IfSome value.now (TypingExprWith helpers.now scopes.now) }
-    requires typed { IfSome value.now (λ e. IsSome to) }
-    ensures { IfOk result (λ f. IsProgValue helpers.now to scopes.now value.now f) }
-{
-    match (value, to) {
-        (None, _) => Ok(None),
-        (Some(value), Some(ty)) => {
-            let value = cast_to(alloc, helpers, scopes, ty, value.get())?;
-            Ok(Some(value))
-        }
-        (Some(_), None) => unreachable!(),
-    }
-}
-
-// An expression, converted to a type.
-fn cast_to(
-    alloc: Global,
-    helpers: &[Helper],
-    scopes: &Scopes<Binding>,
-    to: Ty,
-    expr: &Expr,
-) -> Result<ProgExpr, Memory>
-    requires { TypingExprWith helpers.now scopes.now expr.now }
-    ensures { IfOk result (λ f. IsProgConverted helpers.now to scopes.now expr.now f) }
-{
-    let value = cast_expr(alloc, helpers, scopes, expr)?;
-    Ok(converted(alloc, to, value)?.into_inner())
-}
-
-fn cast_option(
-    alloc: Global,
-    helpers: &[Helper],
-    scopes: &Scopes<Binding>,
-    expr: &Option<Boxed<Expr>>,
-) -> Result<Option<ProgExpr>, Memory>
-    requires { IfSome expr.now (TypingExprWith helpers.now scopes.now) }
-    ensures { IfOk result (λ f. IsProgOption helpers.now scopes.now expr.now f) }
-{
-    match expr {
-        None => Ok(None),
-        Some(expr) => Ok(Some(cast_boxed(alloc, helpers, scopes, expr)?.into_inner())),
-    }
-}
-
-fn cast_boxed(
-    alloc: Global,
-    helpers: &[Helper],
-    scopes: &Scopes<Binding>,
-    expr: &Boxed<Expr>,
-) -> Result<Boxed<ProgExpr>, Memory>
-    requires { TypingExprWith helpers.now scopes.now expr.now }
-    ensures { IfOk result (λ f. IsProgExpr helpers.now scopes.now expr.now f) }
-{
-    cast_expr(alloc, helpers, scopes, expr.get())
-}
-
-#[cycle(cast_expr)]
-fn cast_exprs(
-    alloc: Global,
-    helpers: &[Helper],
-    scopes: &Scopes<Binding>,
-    exprs: &[Expr],
-) -> Result<List<ProgExpr>, Memory>
-    requires { All (TypingExprWith helpers.now scopes.now) exprs.now }
-    ensures { IfOk result (λ fs. AreProgExprs helpers.now scopes.now exprs.now fs) }
-{
-    let mut items = List::new(alloc);
-    for expr in exprs {
-        items.push(cast_expr(alloc, helpers, scopes, expr)?.into_inner())?;
-    }
-    Ok(items)
-}
-
-#[cycle(cast_expr)]
-fn cast_expr(
-    alloc: Global,
-    helpers: &[Helper],
-    scopes: &Scopes<Binding>,
-    expr: &Expr,
-) -> Result<Boxed<ProgExpr>, Memory>
-    requires { TypingExprWith helpers.now scopes.now expr.now }
-    ensures { IfOk result (λ f. IsProgExpr helpers.now scopes.now expr.now f) }
-{
-    let at = expr.at;
-    match &expr.kind {
-        ExprKind::Number { value, ty } => {
-            prog_node(alloc, ProgExprKind::Number(*value), *ty, at)
-        }
-        ExprKind::Name(name) => cast_name(alloc, scopes, name, at),
-        ExprKind::Element { name, indices } => {
-            let indices = cast_exprs(alloc, helpers, scopes, indices.as_slice())?;
-            cast_element(alloc, scopes, name, indices, at)
-        }
-        ExprKind::Call { name, args } => {
-            let (helper, callee) = callee(helpers, name);
-            let params = callee.params.as_slice();
-            let args = cast_args(alloc, helpers, scopes, params, args.as_slice())?;
-            let kind = ProgExprKind::Call { helper, args };
-            prog_node(alloc, kind, callee.result, at)
-        }
-        ExprKind::Unary(op, arg) => {
-            let arg = cast_expr(alloc, helpers, scopes, arg.get())?;
-            unary(alloc, *op, arg, at)
-        }
-        ExprKind::Cast(ty, arg) => {
-            let arg = cast_expr(alloc, helpers, scopes, arg.get())?;
-            cast(alloc, false, *ty, arg, at)
-        }
-        ExprKind::Binary(op, left, right) => {
-            let left = cast_expr(alloc, helpers, scopes, left.get())?;
-            let right = cast_expr(alloc, helpers, scopes, right.get())?;
-            binary(alloc, *op, left, right, at)
-        }
-        ExprKind::Choose(cond, then, other) => {
-            let cond = cast_expr(alloc, helpers, scopes, cond.get())?;
-            let then = cast_expr(alloc, helpers, scopes, then.get())?;
-            let other = cast_expr(alloc, helpers, scopes, other.get())?;
-            choose(alloc, cond, then, other, at)
-        }
-    }
-}
-
-// Arguments, each converted to the type of its parameter.
-#[cycle(cast_expr)]
-fn cast_args(
-    alloc: Global,
-    helpers: &[Helper],
-    scopes: &Scopes<Binding>,
-    params: &[Param],
-    args: &[Expr],
-) -> Result<List<ProgExpr>, Memory>
-    requires typing { All (TypingExprWith helpers.now scopes.now) args.now }
-    requires one_for_each { length args.now ≡ length params.now }
-    ensures { IfOk result (λ gs. AreArguments helpers.now scopes.now params.now args.now gs) }
-{
-    let mut items = List::new(alloc);
-    for (place, arg) in args.iter().enumerate() {
-        let value = cast_expr(alloc, helpers, scopes, arg)?;
-        let arg = converted(alloc, params[place].ty, value)?;
-        items.push(arg.into_inner())?;
-    }
-    Ok(items)
 }
 
 // The helper of a name, by its place.

@@ -1,5 +1,0 @@
-use Rattle.c_types.proofs.ProgramCastStatements.{return_arm}
-use Rattle.c_types.proofs.program_casts.cast_return.Goals as goal
-
-pub returns : goal.returns
-returns c = return_arm c.args.helpers.now c.args.returned c.args.known.now c.args.stmt.now _ _ _ c.requires.is c.in_ok-value.ensures c.act.ensures
