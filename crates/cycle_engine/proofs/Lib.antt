@@ -16,6 +16,7 @@ mod SendLemmas
 mod FromLemmas
 mod RunLemmas
 mod UsedLemmas
+mod FedLemmas
 mod FeedLemmas
 mod MakeLemmas
 mod StartLemmas
@@ -30,3 +31,5 @@ mod UnitTurnLemmas
 mod SwapLemmas
 pub mod SameLemmas
 mod TokenLemmas
+mod ShutLemmas
+mod PendingLemmas

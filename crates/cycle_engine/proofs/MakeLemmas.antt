@@ -30,8 +30,12 @@ use Rattle.cycle_engine.specs.Cuts.{joined}
 use Rattle.cycle_engine.specs.private.Trials.{dated_of, IsEngine, IsBegun, dates_after}
 use Rattle.cycle_engine.specs.private.Goings.{Past, IsReady, InCycle, MayFollow, IsMade, all_made}
 use Rattle.cycle_engine.specs.private.Control.{HasControl, control_after}
+use Rattle.cycle_engine.specs.private.Fed.{HasFed}
 use Rattle.cycle_engine.specs.private.Used.{AreNumbered, AreTold, HasPlace, IsStamped, place_number}
 use Rattle.cycle_engine.specs.private.Marking.{IsListed, IsMarkedWhere, IsNoted, IsFreed, AreFeeds}
+use Rattle.cycle_engine.specs.declared.pending.Pending.{Pending}
+use Rattle.cycle_engine.specs.private.Pending.{HasPlaces, IsForgotten}
+use Rattle.cycle_engine.proofs.ShutLemmas.{opened_same, places_kept, shut_made}
 use Rattle.cycle_engine.proofs.NoteLemmas.{after_is, cells_kept, coming_after}
 use Rattle.cycle_engine.proofs.FollowLemmas.{followed_after}
 use Rattle.cycle_engine.proofs.RousingLemmas.{slots_within}
@@ -143,6 +147,8 @@ pub record Makes1 (net : Net) (b : Bounds) (c : ℕ) (old new : Engine) (f : Fir
   pub notes : IsNoted net m.laid c old.notes new.notes
   pub freed : IsFreed net old.state c (chans_of m.taken) old.freed new.freed
   pub control : new.control ≡ control_after net m.laid old.control
+  pub pending : new.pending ≡ old.pending
+  pub base : new.used.base ≡ old.used.base
 
 -- where it was one firing that the limit allows, the engine is ready for the next
 pub made_more : (old new : Engine) (f : Firing) → new.made ≡ old.made → new.fired.items ≡ old.fired.items ++ f ∷ [] → all_made new ≡ all_made old + 1
@@ -172,8 +178,8 @@ made_told net old new f place numbers stamped made fired told =
 
 pub made_ready : (net : Net) (b : Bounds) (c : ℕ) (old new : Engine) (f : Firing) (m : Moves) (rouses : Bool) → IsReady net b old → all_made old < b.limit → IsEngine net new → CountsRise max_depth (state_of old.state) (state_of new.state)
     → HasPlace net f → IsStamped (place_number old.used.base.items f) (all_made old) old.used new.used → IsMarkedWhere rouses net (state_of new.state) m.laid old.marks new.marks → new.feeds ≡ old.feeds → Makes1 net b c old new f m
-    → IsReady net b new
-made_ready net b c old new f m rouses ready less engine rise place stamped marked feeds one =
+    → HasFed net (state_of new.state) new.used new.fed → IsReady net b new
+made_ready net b c old new f m rouses ready less engine rise place stamped marked feeds one fed =
     let n = made_more old new f one.made one.fired in
     let w = marks_where rouses net (state_of new.state) m.laid old.marks new.marks marked in
     let Q : Feeds → Type 0 = AreFeeds net in
@@ -191,6 +197,9 @@ made_ready net b c old new f m rouses ready less engine rise place stamped marke
       told = made_told net old new f place ready.places stamped one.made one.fired ready.told;
       places = numbered_stamped net (place_number old.used.base.items f) (all_made old) old.used new.used ready.places stamped;
       feeds = subst Q (sym feeds) ready.feeds;
+      pending = (let P : Pending → Type 0 = λ x. HasPlaces net (length new.used.last.items) x in
+          subst P (sym one.pending) (places_kept net (length old.used.last.items) (length new.used.last.items) old.pending old.pending stamped.long (opened_same old.pending) ready.pending));
+      fed = fed;
     }
 
 made_begun : (net : Net) (b : Bounds) (c : ℕ) (start : Dated) (old new : Engine) (f : Firing) (p : Plan) (m : Moves) → IsReady net b old → IsPlanOf net old.state f (Some p) → m ≡ moves_of net f.unit p → May net c start (dated_of old) f
@@ -205,8 +214,8 @@ made_begun net b c start old new f p m ready is s may one began = record {
 
 pub made_going : (net : Net) (past : Past) (b : Bounds) (c : ℕ) (start : Dated) (old new : Engine) (f : Firing) (p : Plan) (m : Moves) → IsReady net b old → IsPlanOf net old.state f (Some p) → m ≡ moves_of net f.unit p
     → InCycle net past b c start old → MayFollow net old f → IsUnused old.fired.items f → May net c start (dated_of old) f → Makes1 net b c old new f m
-    → HasControl net (state_of new.state) new.control → IsMade net past b c start old new f
-made_going net past b c start old new f p m ready is s going follow un may one control = record {
+    → HasControl net (state_of new.state) new.control → IsForgotten net old.pending f.unit m.taken → IsMade net past b c start old new f
+made_going net past b c start old new f p m ready is s going follow un may one control forgotten = record {
   may = may;
   after = one.after;
   fired = one.fired;
@@ -225,5 +234,6 @@ made_going net past b c start old new f p m ready is s going follow un may one c
     coming = (let Q : Moves → Type 0 = λ x. IsNoted net x.laid c old.notes new.notes in
         coming_after net c old new f p ready.engine (after_is net c old new f p is one.after) (subst Q s one.notes) going.coming);
     control = control;
+    shut = shut_made net c start old new f p m is s one.after forgotten one.pending one.base going.shut;
   };
 }

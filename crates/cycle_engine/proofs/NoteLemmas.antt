@@ -1,5 +1,5 @@
 -- What is noted of a firing, and what is known from it.
-use Rattle.std.proofs.Common.{◌≡◌, ◌≢◌, ℕ, suc, zero, ◌+◌, ◌-◌, ◌*◌, ◌/◌, ◌%◌, ◌<◌, ◌≤◌, ◌⊎◌, ◌==◌, ◌||◌, inl, inr, nat_lt, Bool, true, false, cond, Option, Some, None, List, [], ◌∷◌, ◌++◌, length, map, get_or, set, refl, sym, ap, subst, ◌∙◌, arith, IfSome, bit_and, length-set, get_or-set_same, get_or-set_other, eqb-true}
+use Rattle.std.proofs.Common.{◌≡◌, ◌≢◌, ℕ, ◌+◌, ◌-◌, ◌*◌, ◌/◌, ◌%◌, ◌<◌, ◌≤◌, ◌⊎◌, ◌==◌, ◌||◌, inl, inr, nat_lt, Bool, true, false, cond, Option, Some, None, List, [], ◌∷◌, ◌++◌, length, map, get_or, set, refl, sym, ap, subst, ◌∙◌, arith, IfSome, bit_and, length-set, get_or-set_same, get_or-set_other, eqb-true}
 use Rattle.std.proofs.Common.{mod-eq_of_lt, div-add-mod'}
 use native.Mathlib.Nat.{add-mod_left, mod-add-mod, mul-add-mod_self_right}
 use Rattle.std.specs.List.{AllByRecursion}
@@ -23,7 +23,6 @@ use Rattle.cycle_engine.specs.declared.notes.Notes.{Notes}
 use Rattle.cycle_engine.specs.Cycles.{Dated, dated, after_by, after_in}
 use Rattle.cycle_engine.specs.private.Trials.{dated_of, IsEngine}
 use Rattle.cycle_engine.specs.private.Marking.{Holds, AreCells, HasCells, around, cell, coming_in, cells_of, cells_with, IsNoted}
-use Rattle.cycle_engine.specs.private.Stacks.{Stacked}
 use Rattle.cycle_engine.specs.private.Goings.{AreComing}
 use Rattle.cycle_engine.proofs.BeforeLemmas.{after_of, dated_put}
 use Rattle.cycle_engine.proofs.DateLemmas.{each_as, each_taken, each_added}

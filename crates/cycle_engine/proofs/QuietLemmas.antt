@@ -4,13 +4,14 @@ use Rattle.el_base.specs.Limits.{max_delay}
 use Rattle.net_types.specs.declared.net.Net.{Net}
 use Rattle.net_types.specs.declared.firing.Firing.{Firing}
 use Rattle.net_types.specs.declared.firing.Inputs.{Inputs}
-use Rattle.net_types.specs.Nets.{chan_at}
+use Rattle.net_types.specs.Nets.{chan_at, out_of}
 use Rattle.net_core.specs.States.{state_of, dates_of}
 use Rattle.cycle_engine.specs.declared.engine.Engine.{Engine}
 use Rattle.cycle_engine.specs.declared.engine.Bounds.{Bounds}
 use Rattle.cycle_engine.specs.private.Marking.{Holds, HasUnit, IsMarked, IsAwaited, coming_in, entries_at}
 use Rattle.cycle_engine.specs.private.Trials.{dated_of}
-use Rattle.cycle_engine.specs.private.Goings.{Past, IsReady, AreComing, HasDone, IsStirred, IsQuiet, IsNextCycle}
+use Rattle.cycle_engine.specs.private.Pending.{IsHeldBack}
+use Rattle.cycle_engine.specs.private.Goings.{Past, IsReady, AreComing, AreShut, HasDone, IsStirred, IsQuiet, IsNextCycle}
 use Rattle.cycle_engine.specs.private.Places.{IsFull, HasRun, trimmed}
 use Rattle.cycle_engine.proofs.DateLemmas.{each_as}
 use Rattle.cycle_engine.proofs.MarkLemmas.{none_held}
@@ -48,6 +49,13 @@ module _ (net : Net) (past : Past) (b : Bounds) (c : ℕ) (e : Engine) (ready : 
   settled u (inl k) = k
   settled u (inr h) = absurd (none_held e.again.items u quiet.again h)
 
+  shut : AreShut net (dated_of e) e
+  shut u outs j within fork l s = by (done.shut u outs j within fork l s)
+    where
+      by : IsHeldBack net (state_of e.state) (state_of e.state) u j ⊎ Holds (out_of u j net.chans) e.freed.list.items → IsHeldBack net (state_of e.state) (state_of e.state) u j
+      by (inl h) = h
+      by (inr h) = absurd (none_held e.freed.list.items (out_of u j net.chans) quiet.freed h)
+
   coming : AreComing net (c + 1) e
   coming d = each_as (λ x. (x < c) × (c ≤ x + (chan_at net d).delay → Holds d (coming_in e.notes (x + (chan_at net d).delay)))) (λ x. (x < c + 1) × (c + 1 ≤ x + (chan_at net d).delay → Holds d (coming_in e.notes (x + (chan_at net d).delay))))
       (λ x k. (omega (arith, k.0), λ l. k.1 (omega arith))) (get_or (dates_of e.state) d []) (done.coming d)
@@ -56,7 +64,7 @@ module _ (net : Net) (past : Past) (b : Bounds) (c : ℕ) (e : Engine) (ready : 
   full = record {
     going = begun_going net past b c e e done
         (record { chans = begun_followed net c e e refl unfreed done.coming; queues = λ u l. settled u (done.entries u l) })
-        refl quiet.fired (let l = ap length quiet.fired in omega arith) refl done.listed coming done.control;
+        refl quiet.fired (let l = ap length quiet.fired in omega arith) refl done.listed coming done.control shut;
     full = λ g un m. done.next g m (unstirred g.unit);
     kept = λ g h k. absurd (unfired g.unit h);
     again = λ v l h. absurd (unfired v h);

@@ -27,6 +27,7 @@ use Rattle.cycle_engine.specs.private.Marking.{Holds, cells_of, coming_in}
 use Rattle.cycle_engine.specs.private.Trials.{dated_of, IsEngine}
 use Rattle.cycle_engine.specs.private.Goings.{Past, IsReady, AreComing, HasNoneComing, HasDone, IsBroken, fault_of, all_made}
 use Rattle.cycle_engine.specs.private.Places.{IsFull, IsCycled, kept_before, trimmed, HasRun}
+use Rattle.cycle_engine.proofs.ShutLemmas.{shut_now}
 use Rattle.cycle_engine.proofs.DateLemmas.{AllBy, AllRipe, each_as, makes_dates}
 use Rattle.cycle_engine.proofs.BoundLemmas.{RipeFrom, from_ripe, empty_rests, cycles_bound}
 use Rattle.cycle_engine.proofs.StartLemmas.{opening_are}
@@ -81,6 +82,7 @@ cycle_done net past b c start e eng f =
       entries = entries_now net past b c start e eng f;
       coming = f.going.coming;
       control = f.going.control;
+      shut = shut_now net c start e f.going.began.chans f.going.listed f.going.shut;
       next = next_quiet net past b c start e eng f;
     }
 

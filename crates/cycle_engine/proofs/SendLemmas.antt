@@ -50,7 +50,8 @@ use Rattle.cycle_engine.proofs.DateLemmas.{effect_there}
 use Rattle.cycle_engine.proofs.NoteLemmas.{after_is, effect_in}
 use Rattle.cycle_engine.proofs.PlaceLemmas.{numbers_below, starved_none}
 use Rattle.cycle_engine.proofs.SwapLemmas.{ripe_kept}
-use Rattle.cycle_engine.proofs.TurnLemmas.{all_at, none_taken, turn_on, turn_follows, turn_passed, unit_made, turn_again, pushed_holds}
+use Rattle.cycle_engine.proofs.ShutLemmas.{none_taken}
+use Rattle.cycle_engine.proofs.TurnLemmas.{all_at, turn_on, turn_follows, turn_passed, unit_made, turn_again, pushed_holds}
 use Rattle.cycle_engine.proofs.UnitTurnLemmas.{made_marks}
 use Rattle.cycle_engine.proofs.UsedLemmas.{may_of, may_parts, effect_place, send_place}
 

@@ -51,6 +51,7 @@ use Rattle.cycle_engine.proofs.MarkLemmas.{holds_more, put_off_kept, put_off_own
 use Rattle.cycle_engine.proofs.NoteLemmas.{effect_in, taken_all}
 use Rattle.cycle_engine.proofs.PlaceLemmas.{same_act, exec_is, place_rank, place_fixed, first_rank, fires_within, starved_quiet}
 use Rattle.cycle_engine.proofs.UsedLemmas.{unused_last, unused_before}
+use Rattle.cycle_engine.proofs.ShutLemmas.{none_taken}
 use Rattle.cycle_engine.proofs.QueueTurnLemmas.{laws, queue_used, queue_late, merge_kind, one_token, allocs_more, queue_rouses, unit_rouses}
 
 -- ---- what holds along cycles
@@ -291,12 +292,6 @@ stirs_fork (Branch w) e l h = absurd h
 stirs_fork (Sink w) e l h = absurd h
 stirs_fork (Read a) e l h = absurd h
 stirs_fork Exit e l h = absurd h
-
-pub none_taken : (net : Net) (u : ℕ) (t : Takes) → chans_of (taken_of net u t) ≡ [] → places_of t ≡ []
-none_taken net u no_place e = refl
-none_taken net u (One p) e = cc
-none_taken net u (Two p q) e = cc
-none_taken net u (Three p q x) e = cc
 
 -- what holds of the channels from which is taken, by its places
 taken_each : (net : Net) (u : ℕ) (P : ℕ → Type 0) (t : Takes) → AllByRecursion P (chans_of (taken_of net u t)) → AllByRecursion (λ q. P (into u q net.chans)) (places_of t)
@@ -695,6 +690,7 @@ going_beside net past b c start e m s g = record {
   listed = g.listed;
   coming = g.coming;
   control = g.control;
+  shut = g.shut;
 }
   where
     followed : (d : ℕ) → IsFollowed net c start e d → IsFollowed net c start (with_again (with_marks e m) s) d
@@ -715,6 +711,8 @@ ready_beside net b e m s r long listed = record {
   told = r.told;
   places = r.places;
   feeds = r.feeds;
+  pending = r.pending;
+  fed = record { leads = r.fed.leads; sized = r.fed.sized; places = r.fed.places; each = r.fed.each };
 }
 
 pub going_marks : (net : Net) (past : Past) (b : Bounds) (c : ℕ) (start : Dated) (e : Engine) (m : Marks) → InCycle net past b c start e → InCycle net past b c start (with_marks e m)

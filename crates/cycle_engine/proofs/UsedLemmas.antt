@@ -261,7 +261,7 @@ acts_same _ a b f g q = go_same a b f g
 number_unit : (base : List ℕ) (f : Firing) → own_number f.act ≡ 0 → place_number base f ≡ f.unit
 number_unit base f q = ap (λ n. cond (n == 0) f.unit (get_or base f.unit 0 + n)) q
 
-number_more : (base : List ℕ) (f : Firing) → own_number f.act ≢ 0 → place_number base f ≡ get_or base f.unit 0 + own_number f.act
+pub number_more : (base : List ℕ) (f : Firing) → own_number f.act ≢ 0 → place_number base f ≡ get_or base f.unit 0 + own_number f.act
 number_more base f q = by (own_number f.act == 0) refl
   where
     by : (b : Bool) → own_number f.act == 0 ≡ b → cond b f.unit (get_or base f.unit 0 + own_number f.act) ≡ get_or base f.unit 0 + own_number f.act
@@ -269,7 +269,7 @@ number_more base f q = by (own_number f.act == 0) refl
     by false e = refl
 
 -- firings of one number are at one place
-same_number : (net : Net) (base : List ℕ) (n : ℕ) (f g : Firing) → AreNumbered net base n → HasPlace net f → HasPlace net g → place_number base f ≡ place_number base g → place_of f ≡ place_of g
+pub same_number : (net : Net) (base : List ℕ) (n : ℕ) (f g : Firing) → AreNumbered net base n → HasPlace net f → HasPlace net g → place_number base f ≡ place_number base g → place_of f ≡ place_of g
 same_number net base n f g numbers pf pg q = by (cases_eq (own_number f.act) 0) (cases_eq (own_number g.act) 0)
   where
     one : f.unit ≡ g.unit → own_number f.act ≡ own_number g.act → place_of f ≡ place_of g

@@ -2,15 +2,18 @@
 
 ghost use Rattle.std.specs.Prelude.{◌≡◌, ◌<◌, IfSome, MatchOption, length};
 ghost use Rattle.net_types.specs.Nets.{into};
+ghost use Rattle.cycle_engine.specs.private.Fed.{AreLeads, AreSized, IsPortMarked, KeepsFed};
 ghost use Rattle.cycle_engine.specs.private.Control.{GoesIntoNone, place_from, control_after, end_from, leads_to_control_place, noted_place};
 
+use crate::fed::Fed;
 use crate::places::control_places_of;
+use crate::used::Used;
 use net_check::Checked;
 use net_core::Laid;
 
 /// Whether a channel leads control to an input of a control merge, or to a place of a queue.
 #[inline(always)]
-fn leads_to_control_place(net: &Checked, chan: u32) -> bool
+pub(crate) fn leads_to_control_place(net: &Checked, chan: u32) -> bool
     requires { chan < length net.now.chans }
     ensures { result ≡ leads_to_control_place net.now chan }
 {
@@ -18,15 +21,26 @@ fn leads_to_control_place(net: &Checked, chan: u32) -> bool
     chan.ctl && u64::from(chan.to.place) < control_places_of(net, chan.to.unit)
 }
 
-/// Notes the channel on which a token was put, where it leads control to such a place.
+/// Notes the channel on which a token was put, where it leads control to such a place, and marks the port to which it leads.
 #[inline(always)]
-pub(crate) fn note_control(noted: &mut u32, net: &Checked, laid: Option<Laid>)
-    requires { IfSome laid (λ w. w.chan < length net.now.chans) }
-    ensures { noted.new ≡ control_after net.now laid noted.old }
+pub(crate) fn note_put(
+    noted: &mut u32,
+    fed: &mut Fed,
+    net: &Checked,
+    used: &Used,
+    laid: Option<Laid>,
+)
+    requires sized { AreSized fed.old }
+    requires leads { AreLeads net.now fed.old.leads.items }
+    requires within { IfSome laid (λ w. w.chan < length net.now.chans) }
+    ensures control { noted.new ≡ control_after net.now laid noted.old }
+    ensures kept { KeepsFed fed.old fed.new }
+    ensures marked { IfSome laid
+        (λ w. IsPortMarked net.now used.now.base.items w.chan fed.new) }
 {
     if let Some(laid) = laid {
-        if leads_to_control_place(net, laid.chan) {
-            *noted = laid.chan;
+        if fed.is_noted(laid.chan) {
+            fed.note(net, used, laid.chan, noted);
         }
     }
 }

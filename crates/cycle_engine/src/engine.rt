@@ -9,10 +9,12 @@ ghost use Rattle.net_core.specs.Fire.{idle};
 ghost use Rattle.net_core.specs.States.{IsOf, state_of};
 ghost use Rattle.cycle_engine.specs.private.Marking.{Holds, IsMarked, IsStarved, KeepsMarks, AreFeeds, entries_at};
 
+use crate::fed::Fed;
 use crate::feeds::Feeds;
 use crate::freed::Freed;
 use crate::marks::Marks;
 use crate::notes::Notes;
+use crate::pending::Pending;
 use crate::places::is_queue;
 use crate::stack::Stack;
 use crate::used::Used;
@@ -50,10 +52,14 @@ pub(crate) struct Engine {
     pub feeds: Feeds,
     /// The channels that were full when the cycle began, and from which tokens were taken.
     pub freed: Freed,
+    /// Which outputs of forks are to be tried.
+    pub pending: Pending,
     /// The units of which one of the firings of the cycle may let another be made in the next, and maybe others.
     pub again: Stack<u32>,
     /// The channel on which the last control token to a control merge or a queue was put.
     pub control: u32,
+    /// The ports of queues that have tokens.
+    pub fed: Fed,
 }
 
 // By hand, so that to let go of one is a call.
@@ -70,8 +76,10 @@ impl Drop for Engine {
             notes: _notes,
             feeds: _feeds,
             freed: _freed,
+            pending: _pending,
             again: _again,
             control: _control,
+            fed: _fed,
         } = self;
     }
 }
@@ -125,12 +133,14 @@ impl Engine {
         let chans = net.net().chans.as_slice();
         let units = net.net().units.as_slice();
         let used = Used::new(alloc, net)?;
+        let fed = Fed::new(alloc, net, used.last.len())?;
         let marks = Marks::new(alloc, net)?;
         let notes = Notes::new(alloc, net)?;
         let state = State::new(alloc, net, inputs)?;
         let begun = zeros(alloc, units.len())?;
         let feeds = Feeds::new(alloc, net)?;
         let freed = Freed::new(alloc, chans.len())?;
+        let pending = Pending::new(alloc, units.len(), used.count())?;
         let log = Log::with_room(alloc, log_room(bounds))?;
         Ok(Engine {
             state,
@@ -143,8 +153,10 @@ impl Engine {
             notes,
             feeds,
             freed,
+            pending,
             again: Stack::new(alloc, 0),
             control: 0,
+            fed,
         })
     }
 
@@ -164,8 +176,10 @@ impl Engine {
             notes: _notes,
             feeds: _feeds,
             freed: _freed,
+            pending: _pending,
             again: _again,
             control: _control,
+            fed: _fed,
         } = self;
         (state, log)
     }
@@ -195,6 +209,7 @@ impl Engine {
         )?;
         let freed = self.freed.list.as_slice();
         self.marks.mark_sources(net, &self.state, freed)?;
+        self.pending.add_freed(net, &self.used, freed);
         let place = self.notes.place(now);
         let ripening = self.notes.at(place);
         self.marks

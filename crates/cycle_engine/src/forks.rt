@@ -1,6 +1,6 @@
 //! Turns of forks and control merges, with the channels at their first places looked up once.
 
-ghost use Rattle.std.specs.Prelude.{◌≡◌, ◌≢◌, ◌+◌, ◌<◌, ◌≤◌, [], true, false, IfOk, IfSome, IsTrue, ◌↔◌, OnOk, MatchOption, MatchResult, get_or, length};
+ghost use Rattle.std.specs.Prelude.{◌≡◌, ◌≢◌, ◌+◌, ◌<◌, ◌≤◌, ℕ, [], true, false, IfOk, IfSome, IsTrue, ◌↔◌, OnOk, MatchOption, MatchResult, get_or, length};
 ghost use Rattle.net_types.specs.declared.firing.Act.TheVariants as acts;
 ghost use Rattle.net_types.specs.declared.net.Unit.TheVariants as units;
 ghost use Rattle.net_types.specs.Nets.{kind_of, into, out_of, firing};
@@ -13,17 +13,32 @@ ghost use Rattle.cycle_engine.specs.declared.engine.Engine.{Engine as EngineValu
 ghost use Rattle.cycle_engine.specs.declared.marks.Marks.{Marks as MarksValue};
 ghost use Rattle.cycle_engine.specs.private.Trials.{dated_of, RipeAt, IsBegun, IsEngine, IsPlanned};
 ghost use Rattle.cycle_engine.specs.private.Goings.{Past, IsReady, IsBroken, to_visit, with_marks};
-ghost use Rattle.cycle_engine.specs.private.Marking.{IsMarked, IsMergeMarked, IsStarved, KeepsMarks};
-ghost use Rattle.cycle_engine.specs.private.Places.{HasSentOrTold, IsSent, IsTurn, IsTurnMade, moves_to};
+ghost use Rattle.cycle_engine.specs.private.Pending.{IsForgotten, IsHeldBack, IsOpened};
+ghost use Rattle.cycle_engine.specs.private.Marking.{Holds, IsMarked, IsMergeMarked, IsStarved, KeepsMarks};
+ghost use Rattle.cycle_engine.specs.private.Places.{AreLeft, HasSentOrTold, IsSent, IsTurn, IsTurnMade, moves_to};
 
 use crate::broken::Broken;
 use crate::control::input_of;
 use crate::dates::is_ripe;
 use crate::engine::{Bounds, Engine};
+use crate::freed::is_long_full;
+use crate::pending::Pending;
+use crate::stack::Stack;
 use crate::trial::Planned;
 use net_check::{Checked, Pins};
 use net_core::{Laid, Moves, Plan, State, Taken, Takes};
 use net_types::{Act, Firing, Memory};
+
+/// So many outputs of a fork are tried one by one: to note which are pending would cost more.
+const FEW_OUTS: u32 = 8;
+
+/// Whether it pays to note which outputs of a fork are pending: of many outputs few have fired, with so many firings before.
+#[inline(always)]
+fn is_slow(outs: u32, before: usize, fired: &Stack<Firing>) -> bool
+    ensures { result ≡ true → 0 < outs }
+{
+    outs > FEW_OUTS && fired.len().saturating_sub(before) < (outs / FEW_OUTS) as usize
+}
 
 /// Whether the head of a channel may be used in the cycle `now`; of no channel past those of the net.
 #[inline(always)]
@@ -76,6 +91,20 @@ fn takes(taken: Taken) -> bool
         Taken::One(_) => true,
         Taken::Two(_, _) => true,
         Taken::Three(_, _, _) => true,
+    }
+}
+
+/// Forgets which outputs of a fork are pending, where its sending takes the head.
+#[inline(always)]
+fn forget_taken(pending: &mut Pending, net: &Checked, unit: u32, taken: Taken)
+    requires { unit < length pending.old.noted.items }
+    ensures opened { IsOpened pending.old pending.new }
+    ensures forgotten { IsForgotten net.now pending.new unit taken }
+    ensures same { chans_of taken ≡ [] → pending.new ≡ pending.old }
+{
+    let _ = net;
+    if takes(taken) {
+        pending.forget(unit);
     }
 }
 
@@ -152,6 +181,10 @@ impl Engine {
         ensures base { OnOk result (self.new.used.base ≡ self.old.used.base) }
         ensures kept { IfOk result (λ took. took ≡ false
             → RipeAt net.now now (dates_of self.new.state) pins.first) }
+        ensures pending { IfOk result (λ took. took ≡ false
+            → self.new.pending ≡ self.old.pending) }
+        ensures again { OnOk result (Holds unit self.old.again.items
+            → Holds unit self.new.again.items) }
         ensures told { IfOk result (λ took. took ≡ false → (first : EngineValue)
             → HasSentOrTold net.now first self.old unit out
             → HasSentOrTold net.now first self.new unit (out + 1)) }
@@ -176,6 +209,7 @@ impl Engine {
         };
         let taken = planned.moves.taken;
         let full = takes(taken) && self.state.is_full(net, pins.first);
+        forget_taken(&mut self.pending, net, unit, taken);
         self.fire(net, bounds, firing, at, planned, now, true)?;
         if takes(taken) {
             self.rouse_fork(net, unit, pins, full)?;
@@ -235,6 +269,9 @@ impl Engine {
         if !has_ripe_head(&self.state, net, pins.first, now) {
             return Ok(());
         }
+        if outs > FEW_OUTS && self.pending.is_noted(unit) {
+            return self.sends_pending(net, bounds, unit, outs, pins, now);
+        }
         let before = self.fired.len();
         let base = self.used.base(unit);
         let chans = net.outs_of(unit);
@@ -244,7 +281,169 @@ impl Engine {
                 return Ok(());
             }
         }
+        if is_slow(outs, before, &self.fired) {
+            return self.note_pending(net, bounds, unit, outs, pins, now);
+        }
         if self.fired.len() > before {
+            self.again.push(unit)?;
+        }
+        Ok(())
+    }
+
+    /// Whether an output of a fork with a ripe head is not pending: the head was sent there, or the channel was full as the
+    /// cycle began.
+    #[inline(always)]
+    fn is_shut(
+        &self,
+        net: &Checked,
+        unit: u32,
+        outs: u32,
+        out: u32,
+        pins: Pins,
+        chan: u32,
+        now: u64,
+    ) -> bool
+        requires engine { IsEngine net.now self.now }
+        requires long { length self.now.freed.marked.items ≡ length net.now.chans }
+        requires within { unit < length net.now.units }
+        requires fork { IsForkOf outs (kind_of net.now unit) }
+        requires out { out < outs }
+        requires pins { pins ≡ pins_of unit net.now.chans }
+        requires there { chan ≡ out_of unit out net.now.chans }
+        requires chan { chan < length net.now.chans }
+        requires ripe { RipeAt net.now now (dates_of self.now.state) pins.first }
+        ensures { result ≡ true → (start : Dated) → IsBegun net.now now start self.now
+            → IsHeldBack net.now start.state (state_of self.now.state) unit out }
+    {
+        if self.freed.is_marked(chan) || is_long_full(&self.state, net, chan, now) {
+            return true;
+        }
+        self.state
+            .plan_send_at(net, unit, outs, out, pins)
+            .is_none()
+    }
+
+    /// Notes which outputs of a fork with a ripe head are pending, all of which were tried; it is looked at again in the next cycle.
+    ///
+    /// # Errors
+    ///
+    /// [`Memory`] where memory is wanting.
+    #[inline(never)]
+    fn note_pending(
+        &mut self,
+        net: &Checked,
+        bounds: Bounds,
+        unit: u32,
+        outs: u32,
+        pins: Pins,
+        now: u64,
+    ) -> Result<(), Broken>
+        requires ready { IsReady net.now bounds self.old }
+        requires within { unit < length net.now.units }
+        requires fork { IsForkOf outs (kind_of net.now unit) }
+        requires pins { pins ≡ pins_of unit net.now.chans }
+        requires ripe { RipeAt net.now now (dates_of self.old.state) pins.first }
+        requires some { 0 < outs }
+        ensures { IsTurnMade net.now bounds now unit 3 3 self.old self.new result }
+    {
+        let _ = bounds;
+        let _ = net.net();
+        let first = self.used.base(unit) + 1;
+        let chans = net.outs_of(unit);
+        for out in 0..outs {
+            let chan = chans[out as usize];
+            let shut = self.is_shut(net, unit, outs, out, pins, chan, now);
+            self.pending.set(first + u64::from(out), !shut);
+        }
+        self.pending.note(unit);
+        self.again.push(unit)?;
+        Ok(())
+    }
+
+    /// Tries the sendings of a fork with a ripe head to the outputs that are noted as pending.
+    ///
+    /// # Errors
+    ///
+    /// As [`Engine::fire`].
+    #[inline(never)]
+    fn sends_pending(
+        &mut self,
+        net: &Checked,
+        bounds: Bounds,
+        unit: u32,
+        outs: u32,
+        pins: Pins,
+        now: u64,
+    ) -> Result<(), Broken>
+        requires ready { IsReady net.now bounds self.old }
+        requires within { unit < length net.now.units }
+        requires fork { IsForkOf outs (kind_of net.now unit) }
+        requires pins { pins ≡ pins_of unit net.now.chans }
+        requires ripe { RipeAt net.now now (dates_of self.old.state) pins.first }
+        requires noted { get_or self.old.pending.noted.items unit false ≡ true }
+        requires some { 0 < outs }
+        ensures { IsTurnMade net.now bounds now unit 2 3 self.old self.new result }
+    {
+        let _ = net.net();
+        let base = self.used.base(unit);
+        let chans = net.outs_of(unit);
+        let mut out = self.pending.next(base + 1, 0, outs);
+        while out < outs {
+            let chan = chans[out as usize];
+            if self.send(net, bounds, unit, outs, out, base, pins, chan, now)? {
+                return Ok(());
+            }
+            self.leave(net, bounds, unit, outs, out, base, pins, chan, now)?;
+            out = self.pending.next(base + 1, out + 1, outs);
+        }
+        Ok(())
+    }
+
+    /// Notes that an output of a fork with a ripe head is not pending any more; where it is, the fork is to be looked at again in
+    /// the next cycle.
+    ///
+    /// # Errors
+    ///
+    /// [`Memory`] where memory is wanting.
+    #[inline(always)]
+    fn leave(
+        &mut self,
+        net: &Checked,
+        bounds: Bounds,
+        unit: u32,
+        outs: u32,
+        out: u32,
+        base: u64,
+        pins: Pins,
+        chan: u32,
+        now: u64,
+    ) -> Result<(), Memory>
+        requires ready { IsReady net.now bounds self.old }
+        requires within { unit < length net.now.units }
+        requires fork { IsForkOf outs (kind_of net.now unit) }
+        requires out { out < outs }
+        requires base { base ≡ get_or self.old.used.base.items unit 0 }
+        requires pins { pins ≡ pins_of unit net.now.chans }
+        requires there { chan ≡ out_of unit out net.now.chans }
+        requires chan { chan < length net.now.chans }
+        requires ripe { RipeAt net.now now (dates_of self.old.state) pins.first }
+        requires noted { get_or self.old.pending.noted.items unit false ≡ true }
+        ensures ready { OnOk result (IsReady net.now bounds self.new) }
+        ensures less { OnOk result (to_visit bounds self.new ≤ to_visit bounds self.old) }
+        ensures base { OnOk result (self.new.used.base ≡ self.old.used.base) }
+        ensures ripe { OnOk result (RipeAt net.now now (dates_of self.new.state) pins.first) }
+        ensures noted { OnOk result (self.new.pending.noted ≡ self.old.pending.noted) }
+        ensures left { OnOk result (AreLeft self.old unit out
+            → AreLeft self.new unit (out + 1)) }
+        ensures tried { OnOk result ((past : Past) (start : Dated) (marks : MarksValue) (n : ℕ)
+            → IsTurn net.now past bounds now start marks self.old unit 2 n
+            → IsTurn net.now past bounds now start marks self.new unit 2 n) }
+    {
+        let _ = bounds;
+        let _ = net.net();
+        if self.is_shut(net, unit, outs, out, pins, chan, now) {
+            self.pending.set(base + 1 + u64::from(out), false);
+        } else {
             self.again.push(unit)?;
         }
         Ok(())

@@ -31,7 +31,7 @@ impl Drop for Freed {
 
 /// Whether a channel is full, and its newest token was put before the cycle `now`.
 #[inline(always)]
-fn is_long_full(state: &State, net: &Checked, chan: u32, now: u64) -> bool
+pub(crate) fn is_long_full(state: &State, net: &Checked, chan: u32, now: u64) -> bool
     requires of { IsOf net.now state.now }
     requires within { chan < length net.now.chans }
     ensures { IsTrue result ↔ IsLongFull net.now state.now now chan }

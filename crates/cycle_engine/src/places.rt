@@ -16,9 +16,6 @@ use net_check::Checked;
 use net_core::{State, UnitQueue};
 use net_types::{Act, Unit};
 
-/// The ports of a queue of no more than so many are told whether they have tokens or not.
-const FEW_PORTS: u32 = 8;
-
 /// Whether a unit is a queue.
 #[inline(always)]
 pub(crate) fn is_queue(net: &Checked, unit: u32) -> bool
@@ -207,7 +204,7 @@ pub(crate) fn numbered(act: Act, number: u32) -> Act
 
 /// The queue of a unit; none of a unit that is none.
 #[inline(always)]
-fn queue_of<'a>(net: &Checked, state: &'a State, unit: u32) -> Option<&'a UnitQueue>
+pub(crate) fn queue_of<'a>(net: &Checked, state: &'a State, unit: u32) -> Option<&'a UnitQueue>
     requires { IsOf net.now state.now }
     ensures { MatchOption result (is_lsq (kind_of net.now unit) ≡ false)
         (λ q. IsViewOf net.now (state_of state.now) unit q.now) }
@@ -220,27 +217,9 @@ fn queue_of<'a>(net: &Checked, state: &'a State, unit: u32) -> Option<&'a UnitQu
     Some(queue)
 }
 
-/// The least port from a number on at which a queue of so many ports allows an address. Of a queue of many ports only those are told that
-/// have a token for it.
-#[inline(always)]
-fn next_addr(net: &Checked, state: &State, unit: u32, from: u32, ports: u32) -> Option<u32>
-    requires { IsOf net.now state.now }
-    ensures { MatchOption result (HasNoneFrom net.now (state_of state.now) unit (acts.Addr 0) from)
-        (IsNextNumber net.now (state_of state.now) unit (acts.Addr 0) from) }
-{
-    let Some(queue) = queue_of(net, state, unit) else {
-        return None;
-    };
-    if ports <= FEW_PORTS {
-        next_told_addr(net, state, unit, queue, from)
-    } else {
-        next_fed_addr(net, state, unit, queue, from)
-    }
-}
-
 /// The least port from a number on at which a queue allows an address.
 #[inline(always)]
-fn next_told_addr(
+pub(crate) fn next_told_addr(
     net: &Checked,
     state: &State,
     unit: u32,
@@ -258,55 +237,9 @@ fn next_told_addr(
     queue.next_addr(from)
 }
 
-/// The least port from a number on at which a queue allows an address and has a token for it.
-#[inline(never)]
-fn next_fed_addr(
-    net: &Checked,
-    state: &State,
-    unit: u32,
-    queue: &UnitQueue,
-    from: u32,
-) -> Option<u32>
-    requires of { IsOf net.now state.now }
-    requires view { IsViewOf net.now (state_of state.now) unit queue.now }
-    ensures { MatchOption result (HasNoneFrom net.now (state_of state.now) unit (acts.Addr 0) from)
-        (IsNextNumber net.now (state_of state.now) unit (acts.Addr 0) from) }
-{
-    let first = control_places_of(net, unit);
-    let mut at = from;
-    for _ in 0..u32::MAX {
-        let Some(port) = queue.next_addr(at) else {
-            return None;
-        };
-        if !lacks_token(net, state, unit, first, 0, port) {
-            return Some(port);
-        }
-        at = port + 1;
-    }
-    Some(at)
-}
-
-/// The least port from a number on at which a queue of so many ports allows data. Of a queue of many ports only those are told that
-/// have a token for them.
-#[inline(always)]
-fn next_data(net: &Checked, state: &State, unit: u32, from: u32, ports: u32) -> Option<u32>
-    requires { IsOf net.now state.now }
-    ensures { MatchOption result (HasNoneFrom net.now (state_of state.now) unit (acts.Data 0) from)
-        (IsNextNumber net.now (state_of state.now) unit (acts.Data 0) from) }
-{
-    let Some(queue) = queue_of(net, state, unit) else {
-        return None;
-    };
-    if ports <= FEW_PORTS {
-        next_told_data(net, state, unit, queue, from)
-    } else {
-        next_fed_data(net, state, unit, queue, from)
-    }
-}
-
 /// The least port from a number on at which a queue allows data.
 #[inline(always)]
-fn next_told_data(
+pub(crate) fn next_told_data(
     net: &Checked,
     state: &State,
     unit: u32,
@@ -324,38 +257,17 @@ fn next_told_data(
     queue.next_data(from)
 }
 
-/// The least port from a number on at which a queue allows data and has a token for them.
-#[inline(never)]
-fn next_fed_data(
-    net: &Checked,
-    state: &State,
-    unit: u32,
-    queue: &UnitQueue,
-    from: u32,
-) -> Option<u32>
-    requires of { IsOf net.now state.now }
-    requires view { IsViewOf net.now (state_of state.now) unit queue.now }
-    ensures { MatchOption result (HasNoneFrom net.now (state_of state.now) unit (acts.Data 0) from)
-        (IsNextNumber net.now (state_of state.now) unit (acts.Data 0) from) }
-{
-    let first = control_places_of(net, unit);
-    let mut at = from;
-    for _ in 0..u32::MAX {
-        let Some(port) = queue.next_data(at) else {
-            return None;
-        };
-        if !lacks_token(net, state, unit, first, 1, port) {
-            return Some(port);
-        }
-        at = port + 1;
-    }
-    Some(at)
-}
-
 /// Whether there is no token at one of the two places of a port, where those of the first port begin at `first`. It is not told of the
 /// last number that a port may have.
 #[inline(always)]
-fn lacks_token(net: &Checked, state: &State, unit: u32, first: u64, beside: u64, port: u32) -> bool
+pub(crate) fn lacks_token(
+    net: &Checked,
+    state: &State,
+    unit: u32,
+    first: u64,
+    beside: u64,
+    port: u32,
+) -> bool
     requires of { IsOf net.now state.now }
     requires beside { beside ≤ 1 }
     ensures lacks { result ≡ true
@@ -373,7 +285,7 @@ fn lacks_token(net: &Checked, state: &State, unit: u32, first: u64, beside: u64,
 }
 
 /// The least port from a number on at which a queue allows a reply.
-fn next_reply(net: &Checked, state: &State, unit: u32, from: u32) -> Option<u32>
+pub(crate) fn next_reply(net: &Checked, state: &State, unit: u32, from: u32) -> Option<u32>
     requires { IsOf net.now state.now }
     ensures { MatchOption result (HasNoneFrom net.now (state_of state.now) unit (acts.Reply 0) from)
         (IsNextNumber net.now (state_of state.now) unit (acts.Reply 0) from) }
@@ -387,7 +299,7 @@ fn next_reply(net: &Checked, state: &State, unit: u32, from: u32) -> Option<u32>
 /// The least number from one on of an act of a kind that takes the control token and may be enabled, as far as the channel that is
 /// noted for it tells.
 #[inline(always)]
-fn next_control(
+pub(crate) fn next_control(
     net: &Checked,
     state: &State,
     noted: u32,
@@ -407,62 +319,6 @@ fn next_control(
     match kind {
         Act::End => next_end(net, noted, unit, groups_of(net, unit), from),
         _ => next_control_place(net, noted, unit, from),
-    }
-}
-
-/// The least number from one on of an act of a kind that may be enabled, as far as the queue of the unit tells, and the channel
-/// that is noted for control.
-#[inline(always)]
-fn next_told(
-    net: &Checked,
-    state: &State,
-    noted: u32,
-    unit: u32,
-    kind: Act,
-    from: u32,
-    count: u32,
-) -> Option<u32>
-    requires { IsOf net.now state.now }
-    ensures { KeepsControl net.now (state_of state.now) noted
-        → MatchOption result (HasNoneFrom net.now (state_of state.now) unit kind from)
-        (IsNextNumber net.now (state_of state.now) unit kind from) }
-{
-    match kind {
-        Act::From(_) => next_control(net, state, noted, unit, kind, from),
-        Act::Alloc(_) => next_control(net, state, noted, unit, kind, from),
-        Act::End => next_control(net, state, noted, unit, kind, from),
-        Act::Addr(_) => next_addr(net, state, unit, from, count),
-        Act::Data(_) => next_data(net, state, unit, from, count),
-        Act::Reply(_) => next_reply(net, state, unit, from),
-        Act::Go => Some(from),
-        Act::Send(_) => Some(from),
-        Act::Exec(_) => Some(from),
-        Act::Retire => Some(from),
-    }
-}
-
-/// The least number from one on, and below so many, of an act of a kind that may be enabled, as far as is told; so many where there
-/// is none.
-#[inline(always)]
-pub(crate) fn next_number(
-    net: &Checked,
-    state: &State,
-    noted: u32,
-    unit: u32,
-    kind: Act,
-    from: u32,
-    count: u32,
-) -> u32
-    requires of { IsOf net.now state.now }
-    requires within { from ≤ count }
-    ensures next { KeepsControl net.now (state_of state.now) noted
-        → IsNextNumber net.now (state_of state.now) unit kind from result }
-    ensures from_on { from ≤ result }
-    ensures within { result ≤ count }
-{
-    match next_told(net, state, noted, unit, kind, from, count) {
-        None => count,
-        Some(number) => number.max(from).min(count),
     }
 }
 

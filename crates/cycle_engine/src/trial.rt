@@ -13,11 +13,13 @@ ghost use Rattle.net_core.specs.Uses.{is_fork};
 ghost use Rattle.cycle_engine.specs.private.Goings.{Past, IsReady, InCycle, MayFollow, IsMade, IsTried, IsBroken, IsGrown, IsMore, all_made};
 ghost use Rattle.cycle_engine.specs.private.Marking.{AreCells, AreFeeds, IsFreed, IsMarkedWhere, IsNoted};
 ghost use Rattle.cycle_engine.specs.private.Control.{control_after};
+ghost use Rattle.cycle_engine.specs.private.Fed.{HasFed, IsFedBy};
+ghost use Rattle.cycle_engine.specs.private.Pending.{IsForgotten};
 ghost use Rattle.cycle_engine.specs.private.Used.{AreNumbered, AreTold, HasPlace, IsStamped, place_number};
 ghost use Rattle.std.specs.Prelude.{MatchResult};
 
 use crate::broken::Broken;
-use crate::control::note_control;
+use crate::control::note_put;
 use crate::dates::{are_ripe, delay_of};
 use crate::engine::{Bounds, Engine};
 use crate::feeds::Feeds;
@@ -252,6 +254,7 @@ impl Engine {
         requires feeds { AreFeeds net.now self.old.feeds }
         requires long { length self.old.marks.marked.items ≡ length net.now.units }
         requires within { at < length self.old.used.last.items }
+        requires fed { HasFed net.now (state_of self.old.state) self.old.used self.old.fed }
         ensures stamped { OnOk result (IsStamped at
             (self.old.made + length self.old.fired.items) self.old.used self.new.used) }
         ensures engine { OnOk result (IsEngine net.now self.new) }
@@ -273,8 +276,11 @@ impl Engine {
             (IsNoted net.now planned.moves.laid now self.old.notes self.new.notes) }
         ensures freed { OnOk result (IsFreed net.now self.old.state now
             (chans_of planned.moves.taken) self.old.freed self.new.freed) }
+        ensures pending { OnOk result (self.new.pending ≡ self.old.pending) }
         ensures control { OnOk result (self.new.control
             ≡ control_after net.now planned.moves.laid self.old.control) }
+        ensures fed { OnOk result (IsFedBy net.now (state_of self.new.state)
+            self.old.used.base.items firing at planned.moves.laid self.old.fed self.new.fed) }
         ensures log { OnOk result (IsLogged keep (firing ∷ []) self.old.log self.new.log) }
     {
         let moves = planned.moves;
@@ -283,7 +289,14 @@ impl Engine {
         self.state.make_dated(net, firing, planned.plan, moves, now);
         self.used.stamp(at, count);
         self.fired.push(firing)?;
-        note_control(&mut self.control, net, moves.laid);
+        self.fed.leave(net, &self.state, firing, at);
+        note_put(
+            &mut self.control,
+            &mut self.fed,
+            net,
+            &self.used,
+            moves.laid,
+        );
         note(&mut self.log, keep, firing);
         tell(
             &mut self.marks,
@@ -320,6 +333,7 @@ impl Engine {
         requires unused { IsUnused self.old.fired.items firing }
         requires place { HasPlace net.now firing }
         requires at { at ≡ place_number self.old.used.base.items firing }
+        requires pending { IsForgotten net.now self.old.pending firing.unit planned.moves.taken }
         ensures ready { OnOk result (IsReady net.now bounds self.new) }
         ensures more { OnOk result (all_made self.new ≡ all_made self.old + 1) }
         ensures after { OnOk result
@@ -328,6 +342,7 @@ impl Engine {
             (self.new.fired.items ≡ self.old.fired.items ++ firing ∷ []) }
         ensures base { OnOk result (self.new.used.base ≡ self.old.used.base) }
         ensures again { OnOk result (self.new.again ≡ self.old.again) }
+        ensures pending { OnOk result (self.new.pending ≡ self.old.pending) }
         ensures marks { OnOk result (IsMarkedWhere rouses net.now
             (state_of self.new.state) planned.moves.laid self.old.marks self.new.marks) }
         ensures list { OnOk result

@@ -13,7 +13,7 @@ ghost use Rattle.cycle_engine.specs.private.Used.{HasPlace};
 
 use crate::broken::Broken;
 use crate::engine::{Bounds, Engine};
-use crate::places::{count_acts, is_queue_kind, look_at_queue, next_number, numbered, oldest};
+use crate::places::{count_acts, is_queue_kind, look_at_queue, numbered, oldest};
 use net_check::Checked;
 use net_types::{Act, Firing, Unit};
 
@@ -101,11 +101,11 @@ impl Engine {
     {
         let _ = net.net();
         let count = count_acts(net, unit, act);
-        let mut number = next_number(net, &self.state, self.control, unit, act, 0, count);
+        let mut number = self.next_number(net, unit, act, 0, count);
         while number < count {
             let next = numbered(act, number);
             self.step::<K>(net, bounds, Firing { unit, act: next }, kind, now)?;
-            number = next_number(net, &self.state, self.control, unit, act, number + 1, count);
+            number = self.next_number(net, unit, act, number + 1, count);
         }
         look_at_queue(net, &self.state, unit);
         Ok(())

@@ -61,7 +61,7 @@ fn places(unit: &Unit) -> u128
 
 /// The number of a place among those of its unit; all executions of a queue have one.
 #[inline(always)]
-fn own_number(act: Act) -> u64
+pub(crate) fn own_number(act: Act) -> u64
     ensures number { result ≡ own_number act }
     ensures small { result < 2 ^ 35 }
 {
@@ -107,6 +107,13 @@ impl Used {
             base,
             last: vec![in alloc; 0; count]?,
         })
+    }
+
+    /// How many places have numbers.
+    pub(crate) fn count(&self) -> usize
+        ensures { result ≡ length self.now.last.items }
+    {
+        self.last.len()
     }
 
     /// From where on the places of a unit have their numbers.

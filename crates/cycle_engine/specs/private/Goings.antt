@@ -6,7 +6,7 @@ use Rattle.net_types.specs.declared.net.Net.{Net}
 use Rattle.net_types.specs.declared.firing.Firing.{Firing}
 use Rattle.net_types.specs.declared.firing.Inputs.{Inputs}
 use Rattle.net_types.specs.declared.firing.Act.{Act}
-use Rattle.net_types.specs.Nets.{kind_of, chan_at, firing}
+use Rattle.net_types.specs.Nets.{kind_of, chan_at, out_of, firing}
 use Rattle.net_check.specs.Ends.{is_lsq}
 use Rattle.net_core.specs.States.{state_of, dates_of, CountsWithin}
 use Rattle.net_replay.specs.declared.fault.RunFault.{RunFault}
@@ -23,6 +23,9 @@ use Rattle.cycle_engine.specs.Bounds.{firing_count}
 use Rattle.cycle_engine.specs.Cuts.{joined, IsCut}
 use Rattle.cycle_engine.specs.private.Trials.{dated_of, IsBegun, IsEngine}
 use Rattle.cycle_engine.specs.private.Control.{HasControl}
+use Rattle.cycle_engine.specs.declared.pending.Pending.{Pending}
+use Rattle.cycle_engine.specs.private.Pending.{HasPlaces, IsHeldBack, AllShut}
+use Rattle.cycle_engine.specs.private.Fed.{HasFed}
 use Rattle.cycle_engine.specs.private.Used.{AreNumbered, AreTold}
 use Rattle.cycle_engine.specs.Rousing.{Could}
 use Rattle.cycle_engine.specs.private.Marking.{Holds, HasUnit, IsMarked, IsStarved, IsLacking, IsListed, AreFeeds, AreListed, HasCells, cell, coming_in, entries_at}
@@ -46,6 +49,8 @@ pub record IsReady (net : Net) (b : Bounds) (e : Engine) : Type 0 where
   pub told : AreTold net e.used e.made e.fired.items
   pub places : AreNumbered net e.used.base.items (length e.used.last.items)
   pub feeds : AreFeeds net e.feeds
+  pub pending : HasPlaces net (length e.used.last.items) e.pending
+  pub fed : HasFed net (state_of e.state) e.used e.fed
 
 -- what the loop over marked units counts down: each firing adds five numbers to the list at most
 abbrev pub to_visit : Bounds → Engine → ℕ
@@ -64,6 +69,14 @@ AreComing net c e = (d : ℕ) → AllByRecursion (λ x. (x < c) × (c ≤ x + (c
 abbrev pub HasNoneComing : Engine → Type 0
 HasNoneComing e = (k : ℕ) → cell e.notes k ≡ []
 
+-- each output of a fork that is shut has had the head, or its channel was full as the cycle began with start
+abbrev pub AreShut : Net → Dated → Engine → Type 0
+AreShut net start e = AllShut net e.pending e.used.base.items (IsHeldBack net start.state (state_of e.state))
+
+-- each output of a fork that is shut has had the head, or its channel is full, or was and tokens were taken from it
+abbrev pub AreShutNow : Net → Engine → Type 0
+AreShutNow net e = AllShut net e.pending e.used.base.items (λ u j. IsHeldBack net (state_of e.state) (state_of e.state) u j ⊎ Holds (out_of u j net.chans) e.freed.list.items)
+
 -- the engine in the middle of the cycle c, which began with start
 pub record InCycle (net : Net) (past : Past) (b : Bounds) (c : ℕ) (start : Dated) (e : Engine) : Type 0 where
   pub began : IsBegun net c start e
@@ -77,6 +90,7 @@ pub record InCycle (net : Net) (past : Past) (b : Bounds) (c : ℕ) (start : Dat
   pub listed : AreListed e.freed
   pub coming : AreComing net (c + 1) e
   pub control : HasControl net (state_of e.state) e.control
+  pub shut : AreShut net start e
 
 -- a unit puts on a channel that was full as the cycle began and from which tokens were taken
 pub record HasFreed (net : Net) (e : Engine) (u : ℕ) : Type 0 where
@@ -108,6 +122,7 @@ pub record HasDone (net : Net) (past : Past) (b : Bounds) (c : ℕ) (e : Engine)
   pub entries : (u : ℕ) → is_lsq (kind_of net u) ≡ true → (get_or e.begun.items u 0 ≡ entries_at (state_of e.state) u) ⊎ Holds u e.again.items
   pub coming : AreComing net c e
   pub control : HasControl net (state_of e.state) e.control
+  pub shut : AreShutNow net e
   -- a unit that is not to be marked may not fire
   pub next : (g : Firing) → May net c (dated_of e) (dated_of e) g → (IsStirred net c e g.unit → ⊥) → ⊥
 
@@ -167,11 +182,15 @@ fault_of limit broken.Memory = fault.Memory
 
 -- the engine with other marks
 abbrev pub with_marks : Engine → Marks → Engine
-with_marks e m = record { state = e.state; begun = e.begun; fired = e.fired; used = e.used; made = e.made; log = e.log; marks = m; notes = e.notes; feeds = e.feeds; freed = e.freed; again = e.again; control = e.control }
+with_marks e m = record { state = e.state; begun = e.begun; fired = e.fired; used = e.used; made = e.made; log = e.log; marks = m; notes = e.notes; feeds = e.feeds; freed = e.freed; pending = e.pending; again = e.again; control = e.control; fed = e.fed }
 
 -- the engine with other units that are to be looked at again in the next cycle
 abbrev pub with_again : Engine → Stacked ℕ → Engine
-with_again e s = record { state = e.state; begun = e.begun; fired = e.fired; used = e.used; made = e.made; log = e.log; marks = e.marks; notes = e.notes; feeds = e.feeds; freed = e.freed; again = s; control = e.control }
+with_again e s = record { state = e.state; begun = e.begun; fired = e.fired; used = e.used; made = e.made; log = e.log; marks = e.marks; notes = e.notes; feeds = e.feeds; freed = e.freed; pending = e.pending; again = s; control = e.control; fed = e.fed }
+
+-- the engine where other outputs of forks are noted as pending
+abbrev pub with_pending : Engine → Pending → Engine
+with_pending e p = record { state = e.state; begun = e.begun; fired = e.fired; used = e.used; made = e.made; log = e.log; marks = e.marks; notes = e.notes; feeds = e.feeds; freed = e.freed; pending = p; again = e.again; control = e.control; fed = e.fed }
 
 -- something was fired, or nothing was
 abbrev pub IsGrown : Engine → Engine → Type 0

@@ -36,6 +36,7 @@ use Rattle.cycle_engine.specs.private.Trials.{dated_of}
 use Rattle.cycle_engine.specs.private.Marking.{Holds, HasUnit, IsMarked}
 use Rattle.cycle_engine.specs.private.Control.{HasControl, groups_in, noted_place}
 use Rattle.cycle_engine.specs.declared.broken.Broken.{Broken}
+use Rattle.cycle_engine.specs.private.Pending.{IsShut}
 use Rattle.cycle_engine.specs.private.Goings.{Past, IsBroken, IsReady, to_visit, InCycle, HasDone, AllPlain, IsWatching, IsKept, IsKeptBut, IsKeptOf, all_made}
 
 -- ---- the acts of a unit
@@ -282,6 +283,10 @@ IsSent net past b c start marks e u out false = IsTurn net past b c start marks 
 pub record HasSentOrTold (net : Net) (old e : Engine) (u n : ℕ) : Type 0 where
   pub fired : length old.fired.items ≤ length e.fired.items
   pub told : (length old.fired.items < length e.fired.items) ⊎ ((e.fired.items ≡ old.fired.items) × ((j : ℕ) → j < n → (IsUnused e.fired.items (firing u (Send j)) → ⊥) → Holds u e.again.items))
+
+-- each output of the fork before n is shut, or the fork is to be looked at again
+abbrev pub AreLeft : Engine → ℕ → ℕ → Type 0
+AreLeft e u n = (j : ℕ) → j < n → IsShut e.pending e.used.base.items u j ⊎ Holds u e.again.items
 
 -- the mark of the unit u was taken
 pub record IsOpenTurn (net : Net) (past : Past) (b : Bounds) (c : ℕ) (start : Dated) (e : Engine) (u : ℕ) : Type 0 where

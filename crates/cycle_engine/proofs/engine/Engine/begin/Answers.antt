@@ -8,6 +8,7 @@ use Rattle.cycle_engine.proofs.StartLemmas.{none_listed, begun_ready, begun_goin
 use Rattle.cycle_engine.proofs.MarkLemmas.{source_as, target_as, or_as}
 use Rattle.cycle_engine.proofs.NoteLemmas.{cells_kept, cleared_long}
 use Rattle.cycle_engine.proofs.NextLemmas.{begun_followed, begun_watching, stirred_marked, begun_coming}
+use Rattle.cycle_engine.proofs.PendingLemmas.{shut_begun}
 use Rattle.cycle_engine.proofs.engine.Engine.begin.Goals as goal
 
 -- the engine as the cycle begins
@@ -23,8 +24,10 @@ begun c = record {
   notes = c.clear-3.new.self;
   feeds = c.args.self.now.feeds;
   freed = c.clear-2.new.self;
+  pending = c.add_freed.new.self;
   again = c.clear.new.self;
   control = c.args.self.now.control;
+  fed = c.args.self.now.fed;
 }
 
 pub returns-clause-ready : goal.returns-clause-ready
@@ -36,7 +39,7 @@ returns-clause-ready c =
     refl made c.clear-4.ensures refl (c.clear-2.ensures.long ∙ c.requires.chans) c.in_ok-settle.ensures.long
     (c.in_ok-mark_targets.ensures.kept.long ∙ (c.in_ok-mark_sources.ensures.kept.long ∙ (c.in_ok-settle.ensures.kept.long ∙ c.requires.marked)))
     (c.in_ok-mark_targets.ensures.kept.listed net (c.in_ok-mark_sources.ensures.kept.listed net (c.in_ok-settle.ensures.kept.listed net c.requires.listed)))
-    (cells_kept net c.args.self.now.notes c.clear-3.new.self (cleared_long c.args.self.now.notes c.clear-3.new.self _ c.clear-3.ensures) c.requires.cells) refl refl
+    (cells_kept net c.args.self.now.notes c.clear-3.new.self (cleared_long c.args.self.now.notes c.clear-3.new.self _ c.clear-3.ensures) c.requires.cells) refl refl c.add_freed.ensures.opened refl
 
 pub returns-clause-going : goal.returns-clause-going
 returns-clause-going c past done =
@@ -52,7 +55,9 @@ returns-clause-going c past done =
             queues = λ u l. c.in_ok-settle.ensures.noted u l (or_as (Holds u) (sym c.as_slice.ensures) (done.entries u l));
           })
           refl c.clear-4.ensures made refl (none_listed c.clear-2.new.self (c.clear-2.ensures.none done.listed))
-          (begun_coming c.args.net.now c.args.now c.args.self.now (begun c) c.requires.cells refl (c.clear-3.ensures ∙ ap (λ n. set (cells_of c.args.self.now.notes) n []) c.place-place.ensures.place) done.coming) done.control;
+          (begun_coming c.args.net.now c.args.now c.args.self.now (begun c) c.requires.cells refl (c.clear-3.ensures ∙ ap (λ n. set (cells_of c.args.self.now.notes) n []) c.place-place.ensures.place) done.coming) done.control
+          (shut_begun c.args.net.now c.args.self.now (begun c) c.net.ensures.checked c.requires.places c.requires.pending refl refl c.add_freed.ensures.opened
+          (λ d h. c.add_freed.ensures.freed d (subst (Holds d) (sym c.as_slice-freed.ensures.value) h)) done.shut);
       plain = subst P (sym c.clear-4.ensures) tt;
       watching = begun_watching c.args.net.now past c.args.bounds c.args.now 0 c.args.self.now (begun c) c.net.ensures.checked c.requires done refl
           (stirred_marked c.args.net.now c.args.now c.args.self.now c.settle.new.marks c.mark_sources.new.self c.mark_targets.new.self (length c.args.self.now.marks.marked.items) (sym c.requires.marked)

@@ -8,6 +8,8 @@ use Rattle.net_types.specs.Nets.{kind_of}
 use Rattle.cycle_engine.specs.private.Places.{IsSent, outputs_in}
 use Rattle.cycle_engine.specs.private.Trials.{RipeAt}
 use Rattle.cycle_engine.proofs.SendLemmas.{fork_out, out_listed, unripe_ended, sends_done, sends_again, sent_told}
+use Rattle.cycle_engine.specs.private.Goings.{to_visit}
+use Rattle.cycle_engine.proofs.PendingLemmas.{ok_as}
 use Rattle.cycle_engine.proofs.TurnLemmas.{exit_broken, ready_again}
 use Rattle.cycle_engine.proofs.engine.Engine.sends.Goals as goal
 
@@ -85,4 +87,15 @@ returns-else-len-before c =
             turn = sends_done c.args.net.now past c.args.bounds c.args.now start marks c.loop-out.self c.args.unit (ap is_fork c.requires.fork.shape) c.loop-out.out most left;
             own = λ a h k. inr (sent_told c.args.net.now past c.args.bounds c.args.now start c.args.self.now c.loop-out.self c.args.unit c.args.outs c.loop-out.out c.requires.within c.requires.fork left.going all c.loop-out.invariant.told few h);
           });
+    }
+
+pub returns-then-is_slow : goal.returns-then-is_slow
+returns-then-is_slow c =
+    let most : outputs_in (kind_of c.args.net.now c.args.unit) ≤ c.loop-out.out = (let e = ap outputs_in c.requires.fork.shape in omega (arith, c.loop-out-test.false)) in
+    record {
+      ready = c.note_pending.ensures.ready;
+      less = ok_as c.note_pending.result (to_visit c.args.bounds c.note_pending.new.self ≤ to_visit c.args.bounds c.loop-out.self) (to_visit c.args.bounds c.note_pending.new.self ≤ to_visit c.args.bounds c.args.self.now)
+          (λ l. let a = c.loop-out.invariant.less in omega arith) c.note_pending.ensures.less;
+      tried = λ past start marks t. c.note_pending.ensures.tried past start marks
+          (sends_done c.args.net.now past c.args.bounds c.args.now start marks c.loop-out.self c.args.unit (ap is_fork c.requires.fork.shape) c.loop-out.out most (c.loop-out.invariant.tried past start marks t));
     }

@@ -1,4 +1,4 @@
-use Rattle.std.proofs.Common.{◌≡◌, ℕ, ◌+◌, ◌-◌, ◌<◌, ◌≤◌, [], length, ap, sym, subst, arith}
+use Rattle.std.proofs.Common.{◌≡◌, ℕ, ◌+◌, ◌-◌, ◌<◌, ◌≤◌, [], length, subst, arith}
 use Rattle.cycle_engine.specs.private.Marking.{around, cell, cells_of}
 use Rattle.cycle_engine.proofs.NoteLemmas.{none_ahead, none_before, none_noted, round_empty}
 use Rattle.cycle_engine.proofs.notes.Notes.next.Goals as goal

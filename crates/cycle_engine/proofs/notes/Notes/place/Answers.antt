@@ -1,4 +1,4 @@
-use Rattle.std.proofs.Common.{◌≡◌, ◌∙◌, ℕ, ◌-◌, ◌%◌, length, bit_and, ap, arith}
+use Rattle.std.proofs.Common.{◌≡◌, ◌∙◌, ◌-◌, ◌%◌, length, bit_and, ap, arith}
 use Rattle.std.proofs.lemmas.Nat.{mod_below}
 use Rattle.cycle_engine.specs.private.Marking.{cells_of}
 use Rattle.cycle_engine.proofs.NoteLemmas.{masked, power_some}

@@ -1,0 +1,11 @@
+use Rattle.std.proofs.Common.{◌-◌}
+use Rattle.net_types.specs.declared.firing.Act.TheVariants.{Data}
+use Rattle.net_core.specs.States.{state_of}
+use Rattle.cycle_engine.specs.private.Places.{IsNextNumber}
+use Rattle.cycle_engine.proofs.engine.Engine.next_fed_data.Given as goal
+
+abbrev pub invariant-loop-at : goal.invariant-loop-at
+invariant-loop-at l = IsNextNumber l.net (state_of l.self.state) l.unit (Data 0) l.from l.at
+
+abbrev pub decreases-loop-at : goal.decreases-loop-at
+decreases-loop-at l = l.ports - l.at
