@@ -1,5 +1,5 @@
 #!/usr/bin/env python3
-"""Tells what a firing by cycles takes on five nets: instructions, where valgrind is there, and nanoseconds. Instructions are those
+"""Tells what a firing by cycles takes on some nets: instructions, where valgrind is there, and nanoseconds. Instructions are those
 of `run_cycles` alone, its opening included, without reading and compiling; a run of `benches cycles` opens twice more, and these
 are counted too. It prints the table of docs/TIMES.md, which has the same numbers on every machine, and the times beside.
 
@@ -35,6 +35,18 @@ def example(name):
     return (folder / "kernel.c").read_text(), (folder / "inputs.txt").read_text()
 
 
+def uses(count):
+    """A kernel in whose loop one value is used so many times in a row, so that the outputs of its fork come free one at a time."""
+    return f"unsigned k(unsigned n, unsigned k) {{ unsigned t = 0; for (unsigned i = 0; i < n; i++) t = t{' + k' * count}; return t; }}\n", "n = 40\nk = 3\n"
+
+
+def accesses(count):
+    """A kernel with a block of so many accesses to elements whose addresses may be equal."""
+    turn = " ".join(f"a[k + {at}] += k;" for at in range(count))
+    kernel = f"void k(unsigned n, unsigned k, unsigned a[256]) {{ for (unsigned i = 0; i < n; i++) {{ {turn} }} }}\n"
+    return kernel, f"n = 40\nk = 3\na = {' '.join('0' * 256)}\n"
+
+
 def nets(folder, elastic):
     """What each net is, and its files."""
     kernels = {
@@ -42,6 +54,10 @@ def nets(folder, elastic):
         "`examples/matrix`": example("matrix"),
         "`examples/crc`": example("crc"),
         "20 recurrences in one loop (`tools/measure/workers.py`), 500 turns": (workers.recurrences(), "n = 500\n"),
+        "a value used 30 times in a loop": uses(30),
+        "480 times": uses(480),
+        "4 elements read and written in a block": accesses(4),
+        "128 elements": accesses(128),
     }
     for number, (what, (kernel, inputs)) in enumerate(kernels.items()):
         (folder / f"{number}.c").write_text(kernel)

@@ -129,8 +129,37 @@ def pipeline(length):
     return net.text(["n"])
 
 
-def crossing_channels(net, workers):
-    """How many channels of a netlist go from one worker to another: unit u of n is that of worker u * workers / n."""
+def crossing_ends(net, workers):
+    """The outputs and the inputs, each as unit and place, at channels of a netlist that go from one worker to another: unit u of n is
+    that of worker u * workers / n."""
     count = sum(line.startswith("unit ") for line in net.splitlines())
-    ends = re.findall(r"^chan (\d+)\.\d+ (\d+)\.", net, re.MULTILINE)
-    return sum(int(source) * workers // count != int(target) * workers // count for source, target in ends)
+    chans = [tuple(map(int, ends)) for ends in re.findall(r"^chan (\d+)\.(\d+) (\d+)\.(\d+)", net, re.MULTILINE)]
+    across = [ends for ends in chans if ends[0] * workers // count != ends[2] * workers // count]
+    return {ends[:2] for ends in across}, {ends[2:] for ends in across}
+
+
+def crossing_channels(net, workers):
+    """How many channels of a netlist go from one worker to another."""
+    return len(crossing_ends(net, workers)[0])
+
+
+def crossing_firings(net, schedule, workers):
+    """Which share of the firings of a schedule put a token on such a channel or took one from it. A fork takes with the last of its
+    sendings; an act of a queue counts where its unit has such a channel."""
+    kinds = [line.split()[1:] for line in net.splitlines() if line.startswith("unit ")]
+    outputs, inputs = crossing_ends(net, workers)
+    puts, takes = {unit for unit, _ in outputs}, {unit for unit, _ in inputs}
+    sent, firings, across = [0] * len(kinds), 0, 0
+    for line in schedule.splitlines():
+        unit, act, *number = line.split()
+        unit, kind = int(unit), kinds[int(unit)]
+        firings += 1
+        if act == "send":
+            sent[unit] += 1
+            last = sent[unit] % int(kind[2]) == 0
+            across += (unit, int(number[0])) in outputs or last and unit in takes
+        elif act == "from":
+            across += unit in puts or (unit, int(number[0])) in inputs
+        else:
+            across += unit in puts or unit in takes
+    return across / firings

@@ -1,8 +1,8 @@
 #!/usr/bin/env python3
 """Times runs by cycles, by the plain runner and by workers: nets of 100 and of 1,000 recurrences of 100 operations each in one loop,
 one chain of 10,000 operations behind a loop, a kernel of 20 recurrences, 20 loops in a row, a histogram, `examples/matrix`, a loop
-over an array of 2^20 elements, and a net of 983,044 units. It tells how many channels go between two and between four workers, the
-seconds of a run by cycles, and how many times as long each other way takes, the least of some runs each; and the most memory of
+over an array of 2^20 elements, and a net of 983,044 units. It tells how many channels go between two and between four workers, which
+share of the firings put a token on such a channel or took one from it, the seconds of a run by cycles, and how many times as long each other way takes, the least of some runs each; and the most memory of
 each. Then it counts, where valgrind is there, what sweeping and gathering cost. A run by the plain runner is `resume` of the state
 before the first firing.
 
@@ -83,8 +83,16 @@ def put_row(elastic, folder, name, what, numbers, runs):
     firings = int(re.search(rb"# firings (\d+)", wanted).group(1))
     text = (folder / net).read_text()
     between = ", ".join(f"{nets.crossing_channels(text, number):,}" for number in (2, 4))
+    between += f" | {shares(elastic, folder, net, inputs, text)}"
     cells += ["not tried"] * (6 - len(cells))
     print(f"| {what} | {firings:,} | {between} | {' | '.join(cells)} |", flush=True)
+
+
+def shares(elastic, folder, net, inputs, text):
+    """The shares of the firings that put on or took from channels between two and between four workers."""
+    output, _, _ = measured(elastic, ["run", net, inputs, "--log", "--limit", LIMIT], folder)
+    schedule = output.decode().partition("%%\n")[2]
+    return ", ".join(f"{nets.crossing_firings(text, schedule, number):.2f}" for number in (2, 4))
 
 
 def counted(elastic, folder, words, *flags):
@@ -134,7 +142,7 @@ def tell(elastic):
         (folder / "array.in").write_text(f"n = 1000\na = {' '.join('1' * ELEMENTS)}\n")
         (folder / "wide.net").write_text(load.wide_net(OUTPUTS, EACH, load.NETLIST))
         (folder / "wide.in").write_text("a = 5\n")
-        print("| Net | Firings | Channels between 2, 4 | By cycles | Plain runner | 1 worker | 2 | 4 | 64 |\n|---|---|---|---|---|---|---|---|---|")
+        print("| Net | Firings | Channels between 2, 4 | Share of firings | By cycles | Plain runner | 1 worker | 2 | 4 | 64 |\n|---|---|---|---|---|---|---|---|---|---|")
         put_row(elastic, folder, "rec100", "100 recurrences of 100 operations", (1, 2, 4, 64), 5)
         put_row(elastic, folder, "rec1000", "1,000 recurrences of 100 operations", (1, 2, 4, 64), 5)
         put_row(elastic, folder, "chain", "a chain of 10,000 operations", (1, 2, 4, 64), 5)

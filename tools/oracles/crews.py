@@ -2,15 +2,19 @@
 """Runs drawn nets (tools/oracles/draw_nets.py) and those of examples/ by the proved program: by cycles, by 1, 2, 3, 7 and 64 workers, and
 by a schedule that three workers log, which is replayed. Each must answer the same bytes and the same status.
 
-usage: tools/oracles/crews.py [PROGRAM] [--seed N] [--count C]
+With --busy it runs them by 64 workers alone, on one processor beside a busy loop, and tells how long the longest run took.
+
+usage: tools/oracles/crews.py [PROGRAM] [--seed N] [--count C] [--busy]
 
 It prints what it ran; it fails, and names the files, where two answers differ or a drawn net is refused."""
 import argparse
 import collections
+import os
 import pathlib
 import subprocess
 import sys
 import tempfile
+import time
 
 import draw_nets
 import netlist  # (of examples/clients, whose folder draw_nets names)
@@ -117,16 +121,40 @@ def try_all(program, name, pairs, schedule):
     told(name, ran, firings, nets)
 
 
+def try_busy(program, name, pairs):
+    """Times the nets by 64 workers on the first processor, on which a busy loop runs too."""
+    busy = subprocess.Popen([sys.executable, "-c", "while True: pass"])
+    took = []
+    try:
+        os.sched_setaffinity(busy.pid, {0})
+        for net, inputs in pairs:
+            began = time.time()
+            words = ["taskset", "-c", "0", program, "run", net, inputs, "--limit", LIMIT, "--workers", WORKERS[-1]]
+            status, _, said = answer(*words)
+            took.append((time.time() - began, str(net)))
+            if status not in RUN:
+                raise Differs(f"{net}: status {status}: {said.decode().strip()}")
+    finally:
+        busy.kill()
+    longest, net = max(took)
+    print(f"{name}: {len(took)} nets by 64 workers on one processor beside a busy loop: the longest takes {longest:.2f} s ({net}), all {sum(it for it, _ in took):.1f} s")
+
+
 def main():
     words = argparse.ArgumentParser(description=__doc__, formatter_class=argparse.RawDescriptionHelpFormatter)
     words.add_argument("program", nargs="?", default=TOP / "crates/elastic/out/elastic", type=pathlib.Path)
     words.add_argument("--seed", type=int, default=1)
     words.add_argument("--count", type=int, default=150)
+    words.add_argument("--busy", action="store_true")
     given = words.parse_args()
     program = given.program.resolve()
     with tempfile.TemporaryDirectory() as folder:
         folder = pathlib.Path(folder)
         try:
+            if given.busy:
+                try_busy(program, "drawn", drawn(program, folder, given.seed, given.count))
+                try_busy(program, "examples", examples(program, folder))
+                return
             try_all(program, "drawn", drawn(program, folder, given.seed, given.count), folder / "schedule")
             try_all(program, "examples", examples(program, folder), folder / "schedule")
         except Differs as wrong:
