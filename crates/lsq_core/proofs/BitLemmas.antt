@@ -51,20 +51,30 @@ none_left words from at rest h is none j f l = by (cases_lt j at)
         let s : at % 64 + (j - at) < 64 = omega arith in
         ap (has words) e ∙ has_shift words at (j - at) s ∙ ap (λ n. eqb (bit_at n (j - at)) 1) (sym is ∙ none) ∙ ap (λ n. eqb n 1) (bit_at-zero (j - at))
 
+-- the lowest bit that is left of a word is one of the word's
+pub left_below : (n s : ℕ) → n < 2 ^ 64 → n / 2 ^ s ≢ 0 → s + trailing_zeros w64 (n / 2 ^ s) < 64
+left_below n s wide some = by (cases_lt (s + trailing_zeros w64 (n / 2 ^ s)) 64)
+  where
+    by : (s + trailing_zeros w64 (n / 2 ^ s) < 64) ⊎ (64 ≤ s + trailing_zeros w64 (n / 2 ^ s)) → s + trailing_zeros w64 (n / 2 ^ s) < 64
+    by (inl near) = near
+    by (inr far) =
+        let d = div-le_self n (2 ^ s) in
+        let one = (bit_at-trailing_zeros w64 (n / 2 ^ s) (omega arith) (omega arith)).1 in
+        let o : bit_at (n / 2 ^ s) (trailing_zeros w64 (n / 2 ^ s)) ≡ 0 = shifted n s (trailing_zeros w64 (n / 2 ^ s)) ∙ bit_at_above n 64 (s + trailing_zeros w64 (n / 2 ^ s)) wide far in
+        absurd (omega arith)
+
 -- the lowest bit that is left is the next number
 pub next_here : (words : List ℕ) (from to at rest : ℕ) → NoneFrom words from at → from ≤ at → at < to
     → rest ≡ get_or words (at / 64) 0 / 2 ^ (at % 64) → get_or words (at / 64) 0 < 2 ^ 64 → 0 < rest → rest < 2 ^ 64
     → IsNext words from to (min to (at + trailing_zeros w64 rest))
 next_here words from to at rest h f l is wide some fits =
     let z = bit_at-trailing_zeros w64 rest some fits in
-    by z.1 z.2 (cases_lt (at % 64 + trailing_zeros w64 rest) 64)
+    let near = rw (← is) at (left_below (get_or words (at / 64) 0) (at % 64) wide (rw (← is) (omega arith))) in
+    by z.1 z.2 near
   where
     by : bit_at rest (trailing_zeros w64 rest) ≡ 1 → ((i : ℕ) → i < trailing_zeros w64 rest → bit_at rest i ≡ 0)
-        → (at % 64 + trailing_zeros w64 rest < 64) ⊎ (64 ≤ at % 64 + trailing_zeros w64 rest) → IsNext words from to (min to (at + trailing_zeros w64 rest))
-    by one zeros (inr far) =
-        let o : bit_at rest (trailing_zeros w64 rest) ≡ 0 = ap (λ n. bit_at n (trailing_zeros w64 rest)) is ∙ shifted (get_or words (at / 64) 0) (at % 64) (trailing_zeros w64 rest) ∙ bit_at_above _ 64 _ wide far in
-        absurd (omega arith)
-    by one zeros (inl near) = record {
+        → at % 64 + trailing_zeros w64 rest < 64 → IsNext words from to (min to (at + trailing_zeros w64 rest))
+    by one zeros near = record {
       from_on = omega arith;
       at_most = omega arith;
       here = λ b.

@@ -9,8 +9,8 @@ use Rattle.lsq_core.specs.declared.marks.Kind.TheVariants as kind
 use Rattle.lsq_core.specs.declared.marks.Marks.{Marks}
 use Rattle.lsq_core.specs.Acts.{rest, or_zero}
 use Rattle.lsq_core.specs.Views.{entry_at, front_of, count_of}
-use Rattle.lsq_core.specs.Bits.{has, IsSet, IsNext}
-use Rattle.lsq_core.specs.Index.{bucket, buckets, row_of, stands, in_row, wrapped, shown, HasRoom, AreAlike, Shows, KeepsShape, IsMarks, IsNextIn}
+use Rattle.lsq_core.specs.Bits.{has, IsSet}
+use Rattle.lsq_core.specs.Index.{bucket, buckets, row_of, stands, in_row, wrapped, shown, HasRoom, AreAlike, Shows, KeepsShape, IsMarks}
 
 -- places of a ring
 pub wrapped_cases : (w h k : ℕ) → ((h + k < w) × (wrapped w h k ≡ h + k)) ⊎ ((w ≤ h + k) × (wrapped w h k + w ≡ h + k))
@@ -210,7 +210,7 @@ shows_after : (m n : Marks) (head head' : ℕ) (items : List Entry) → n.kind �
     → HasRoom m → head' < m.width → length items ≤ m.width → Shown m.kind m.rows m.width n.bits head' items
     → ((k : ℕ) → k < length items → row_of m.kind m.rows (entry_at items k) < m.rows) → Shows n head' items
 shows_after m n head head' items k r w len room hl most shown within = record {
-  room = record { bits = rw (r, w, len) room.bits; small = rw (r, w) room.small };
+  room = record { whole = rw w room.whole; bits = rw (r, w, len) room.bits; small = rw (r, w) room.small };
   within = rw w hl;
   most = rw w most;
   shows = λ a b al bl. rw (k, r, w) (shown a b (rw (← r) al) (rw (← w) bl));
@@ -413,67 +413,6 @@ shown_yes kd rows r k items e = by (cases_lt k (length items))
 
 pub shown_out : (kd : Kind) (rows r k : ℕ) (items : List Entry) → k < length items → shown kd rows r items k ≡ false → in_row kd rows r (entry_at items k) ≡ false
 shown_out kd rows r k items l e = sym (shown_within kd rows r k items (entry_at items k) l refl) ∙ e
-
--- the search in two parts of a ring
-at_high : (m : Marks) (head row k : ℕ) (items : List Entry) → Shows m head items → row < m.rows → head + k < m.width → has m.bits (row * m.width + head + k) ≡ shown m.kind m.rows row items k
-at_high m head row k items h rl l =
-    let e : row * m.width + head + k ≡ row * m.width + wrapped m.width head k = rw (high m.width head k l) (omega arith) in
-    ap (has m.bits) e ∙ h.shows row k rl (omega arith)
-
-at_low : (m : Marks) (head row k : ℕ) (items : List Entry) → Shows m head items → row < m.rows → k < m.width → m.width ≤ head + k → has m.bits (row * m.width + head + k - m.width) ≡ shown m.kind m.rows row items k
-at_low m head row k items h rl kl l =
-    let e : row * m.width + head + k - m.width ≡ row * m.width + wrapped m.width head k = rw (low m.width head k l) (omega arith) in
-    ap (has m.bits) e ∙ h.shows row k rl kl
-
-pub next_high : (m : Marks) (head row from at : ℕ) (items : List Entry) → row < m.rows → head + from < m.width
-    → IsNext m.bits (row * m.width + head + from) (row * m.width + m.width) at → at < row * m.width + m.width
-    → Shows m head items → IsNextIn m row from (at - row * m.width - head) items
-next_high m head row from at items rl fl n l h =
-    let a = n.from_on in
-    let e : row * m.width + head + (at - row * m.width - head) ≡ at = omega arith in
-    let kl : head + (at - row * m.width - head) < m.width = omega arith in
-    let y = shown_yes m.kind m.rows row (at - row * m.width - head) items (sym (at_high m head row (at - row * m.width - head) items h rl kl) ∙ ap (has m.bits) e ∙ n.here l) in
-    record {
-      from_on = omega arith;
-      within = y.0;
-      here = y.1;
-      before = λ k g b.
-          (let o : has m.bits (row * m.width + head + k) ≡ false = n.before (row * m.width + head + k) (omega arith) (omega arith) in
-          let yl = y.0 in
-          let kk : head + k < m.width = omega arith in
-          let len : k < length items = omega arith in
-          shown_out m.kind m.rows row k items len (sym (at_high m head row k items h rl kk) ∙ o));
-    }
-
-pub next_low : (m : Marks) (head row from lo at : ℕ) (items : List Entry) → row < m.rows → from < m.width → head < m.width
-    → ((k : ℕ) → from ≤ k → head + k < m.width → has m.bits (row * m.width + head + k) ≡ false)
-    → row * m.width ≤ lo → row * m.width + head + from ≤ lo + m.width → ((k : ℕ) → from ≤ k → m.width ≤ head + k → lo + m.width ≤ row * m.width + head + k)
-    → IsNext m.bits lo (row * m.width + head) at → at < row * m.width + head
-    → Shows m head items → IsNextIn m row from (at - row * m.width + m.width - head) items
-next_low m head row from lo at items rl fl hl none b f g n l h =
-    let a = n.from_on in
-    let e : row * m.width + head + (at - row * m.width + m.width - head) - m.width ≡ at = omega arith in
-    let kl : at - row * m.width + m.width - head < m.width = omega arith in
-    let wl : m.width ≤ head + (at - row * m.width + m.width - head) = omega arith in
-    let y = shown_yes m.kind m.rows row (at - row * m.width + m.width - head) items (sym (at_low m head row (at - row * m.width + m.width - head) items h rl kl wl) ∙ ap (has m.bits) e ∙ n.here l) in
-    record {
-      from_on = omega arith;
-      within = y.0;
-      here = y.1;
-      before = λ k fk b. before y.0 k fk b (cases_lt (head + k) m.width);
-    }
-  where
-    before : at - row * m.width + m.width - head < length items → (k : ℕ) → from ≤ k → k < at - row * m.width + m.width - head → (head + k < m.width) ⊎ (m.width ≤ head + k) → in_row m.kind m.rows row (entry_at items k) ≡ false
-    before yl k fk b (inl kk) =
-        let len : k < length items = omega arith in
-        shown_out m.kind m.rows row k items len (sym (at_high m head row k items h rl kk) ∙ none k fk kk)
-    before yl k fk b (inr kk) =
-        let len : k < length items = omega arith in
-        let a = n.from_on in
-        let kw : k < m.width = omega arith in
-        let gk = g k fk kk in
-        let o : has m.bits (row * m.width + head + k - m.width) ≡ false = n.before (row * m.width + head + k - m.width) (omega arith) (omega arith) in
-        shown_out m.kind m.rows row k items len (sym (at_low m head row k items h rl kw kk) ∙ o)
 
 -- an entry of a port has a row in each set
 side_below : (b : Bool) → count_of b < 2

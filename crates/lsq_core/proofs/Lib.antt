@@ -11,6 +11,7 @@ pub mod MarkLemmas
 pub mod PairLemmas
 pub mod PlaceLemmas
 pub mod PortLemmas
+pub mod RoundLemmas
 pub mod RowLemmas
 pub mod RunLemmas
 pub mod StayLemmas

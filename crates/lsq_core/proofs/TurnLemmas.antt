@@ -9,7 +9,7 @@ use Rattle.lsq_core.specs.declared.entry.Entry.{Entry}
 use Rattle.lsq_core.specs.declared.marks.Marks.{Marks}
 use Rattle.lsq_core.specs.Bits.{has}
 use Rattle.lsq_core.specs.Index.{wrapped, shown, Shows, IsNextIn, HasNoMoreIn}
-use Rattle.lsq_core.proofs.BitLemmas.{shifted}
+use Rattle.lsq_core.proofs.BitLemmas.{shifted, left_below}
 use Rattle.lsq_core.proofs.IndexLemmas.{wrapped_cases, wrapped_below, shown_yes, shown_out}
 
 -- the bits of what is left of a word
@@ -107,17 +107,13 @@ turned_next m head row n from word rl fl is wide some items h =
     let d = div-le_self (rotate_right w64 n head) (2 ^ from) in
     let t = turned_below n head wide in
     let z = bit_at-trailing_zeros w64 (turned_rest n head from) (omega arith) (omega arith) in
-    by z.1 z.2 (cases_lt (from + trailing_zeros w64 (turned_rest n head from)) 64)
+    by z.1 z.2 (left_below (rotate_right w64 n head) from t some)
   where
     by : bit_at (turned_rest n head from) (trailing_zeros w64 (turned_rest n head from)) ≡ 1
         → ((i : ℕ) → i < trailing_zeros w64 (turned_rest n head from) → bit_at (turned_rest n head from) i ≡ 0)
-        → (from + trailing_zeros w64 (turned_rest n head from) < 64) ⊎ (64 ≤ from + trailing_zeros w64 (turned_rest n head from))
+        → from + trailing_zeros w64 (turned_rest n head from) < 64
         → IsNextIn m row from (from + trailing_zeros w64 (turned_rest n head from)) items
-    by one zeros (inr far) =
-        let o : bit_at (turned_rest n head from) (trailing_zeros w64 (turned_rest n head from)) ≡ 0 =
-        shifted (rotate_right w64 n head) from (trailing_zeros w64 (turned_rest n head from)) ∙ bit_at_above _ 64 _ (turned_below n head wide) far in
-        absurd (omega arith)
-    by one zeros (inl near) =
+    by one zeros near =
         let back : from + trailing_zeros w64 (turned_rest n head from) - from ≡ trailing_zeros w64 (turned_rest n head from) = omega arith in
         let y = shown_yes m.kind m.rows row (from + trailing_zeros w64 (turned_rest n head from)) items
         (rest_shows m head row n from (from + trailing_zeros w64 (turned_rest n head from)) items word h rl (omega arith) near is wide

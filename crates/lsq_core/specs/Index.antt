@@ -49,8 +49,9 @@ wrapped width head k = cond (nat_lt (head + k) width) (head + k) (head + k - wid
 abbrev pub shown : Kind → ℕ → ℕ → List Entry → ℕ → Bool
 shown kind rows r items k = nat_lt k (length items) && in_row kind rows r (entry_at items k)
 
--- room for all rows
+-- room for all rows, of whole words
 pub record HasRoom (m : Marks) : Type 0 where
+  pub whole : m.width % 64 ≡ 0
   pub bits : m.rows * m.width ≡ 64 * length m.bits
   pub small : m.rows * m.width ≤ 2 ^ 60
 

@@ -273,7 +273,7 @@ impl Marks {
         Some(from + rest.trailing_zeros() as usize)
     }
 
-    /// The same where a row is many words.
+    /// The same where a row is many words, one after another from the place on and round the ring.
     #[inline(never)]
     fn next_in_words(&self, head: usize, row: usize, from: usize) -> Option<usize>
         requires room { HasRoom self.now }
@@ -283,24 +283,18 @@ impl Marks {
             → MatchOption result (HasNoMoreIn self.now row from items)
             (λ at. IsNextIn self.now row from at items) }
     {
-        if from >= self.width {
-            return None;
-        }
         let base = row * self.width;
-        if head + from < self.width {
-            match self.least(base + head + from, base + self.width) {
-                Some(at) => Some(at - base - head),
-                None => match self.least(base, base + head) {
-                    Some(at) => Some(at - base + self.width - head),
-                    None => None,
-                },
+        let mut at = from;
+        while at < self.width {
+            let place = base + self.place(head, at);
+            let rest = self.bits.word(place / WORD) >> (place % WORD);
+            if rest != 0 {
+                let next = at + rest.trailing_zeros() as usize;
+                return if next < self.width { Some(next) } else { None };
             }
-        } else {
-            match self.least(base + head + from - self.width, base + head) {
-                Some(at) => Some(at - base + self.width - head),
-                None => None,
-            }
+            at += WORD - place % WORD;
         }
+        None
     }
 
     /// The least row from one on, and below another, in which an entry stands.

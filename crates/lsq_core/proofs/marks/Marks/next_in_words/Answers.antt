@@ -1,22 +1,24 @@
-use Rattle.std.proofs.Common.{◌+◌, ◌*◌, ◌-◌, arith}
-use Rattle.lsq_core.proofs.IndexLemmas.{next_high, next_low}
+use Rattle.std.proofs.Common.{◌+◌, ◌*◌, arith}
+use Rattle.lsq_core.proofs.RoundLemmas.{round_more, round_next, round_none, round_past}
 use Rattle.lsq_core.proofs.marks.Marks.next_in_words.Goals as goal
 
-pub returns-in-Some : goal.returns-in-Some
-returns-in-Some c = λ items. next_high c.args.self.now c.args.head c.args.row c.args.from c.in-Some.at items c.requires.row c.if-head-from.true c.in-Some.ensures.1 c.in-Some.ensures.0
+pub loop-at-preserved : goal.loop-at-preserved
+loop-at-preserved c = record {
+  lower = (let f = c.loop-at.invariant.lower in omega arith);
+  none =
+      round_more c.args.self.now c.args.head c.args.row c.args.from c.loop-at.at (c.args.row * c.args.self.now.width + c.place.result) c.word.result c.requires.room.whole c.loop-at-test.true
+      (rw (← c.place.ensures) (omega arith)) c.word.ensures c.if-rest-ne0.false c.loop-at.invariant.none;
+}
 
-pub returns-in-Some-least : goal.returns-in-Some-least
-returns-in-Some-least c = λ items.
-    let f = c.if-from-self.false in
-    let n = c.in-None.ensures in
-    next_low c.args.self.now c.args.head c.args.row c.args.from (c.args.row * c.args.self.now.width) c.in-Some-least.at items c.requires.row (omega arith) c.requires.head
-    (λ k a b. n.before (c.args.row * c.args.self.now.width + c.args.head + k) (omega arith) (omega arith))
-    (omega arith) (let t = c.if-head-from.true in omega arith) (λ k a b. omega arith) c.in-Some-least.ensures.1 c.in-Some-least.ensures.0
+pub returns-then-next-self : goal.returns-then-next-self
+returns-then-next-self c =
+    round_next c.args.self.now c.args.head c.args.row c.args.from c.loop-at.at (c.args.row * c.args.self.now.width + c.place.result) c.word.result c.requires.room.whole c.requires.row c.loop-at.invariant.lower c.loop-at-test.true
+    (rw (← c.place.ensures) (omega arith)) c.word.ensures (omega arith) c.if-rest-ne0.true c.if-next-self.true c.loop-at.invariant.none
 
-pub returns-in-Some-least-2 : goal.returns-in-Some-least-2
-returns-in-Some-least-2 c = λ items.
-    let f = c.if-from-self.false in
-    let t = c.if-head-from.false in
-    next_low c.args.self.now c.args.head c.args.row c.args.from (c.args.row * c.args.self.now.width + c.args.head + c.args.from - c.args.self.now.width) c.in-Some-least-2.at items c.requires.row (omega arith) c.requires.head
-    (λ k a b. absurd (omega arith))
-    (omega arith) (omega arith) (λ k a b. omega arith) c.in-Some-least-2.ensures.1 c.in-Some-least-2.ensures.0
+pub returns-else-next-self : goal.returns-else-next-self
+returns-else-next-self c =
+    round_past c.args.self.now c.args.head c.args.row c.args.from c.loop-at.at (c.args.row * c.args.self.now.width + c.place.result) c.word.result c.requires.room.whole c.requires.row c.loop-at-test.true
+    (rw (← c.place.ensures) (omega arith)) c.word.ensures (omega arith) c.if-rest-ne0.true c.if-next-self.false c.loop-at.invariant.none
+
+pub returns : goal.returns
+returns c = round_none c.args.self.now c.args.head c.args.row c.args.from c.loop-at.at c.requires.row c.loop-at-test.false c.loop-at.invariant.none
