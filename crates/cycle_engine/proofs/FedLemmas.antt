@@ -1,7 +1,7 @@
 -- The ports of queues that have tokens are marked, so others are passed over.
-use Rattle.std.proofs.Common.{◌≡◌, ◌≢◌, ℕ, suc, ◌+◌, ◌-◌, ◌*◌, ◌/◌, ◌%◌, ◌<◌, ◌≤◌, ◌&&◌, ◌⊎◌, inl, inr, Bool, true, false, cond, Option, Some, None, is_some, min, IfSome, List, [], ◌∷◌, ◌++◌, length, get_or, refl, sym, ap, subst, ◌∙◌, arith, eq-eqb, ne_eqb, nat_lt}
+use Rattle.std.proofs.Common.{◌≡◌, ◌≢◌, ℕ, suc, ◌+◌, ◌-◌, ◌*◌, ◌/◌, ◌%◌, ◌<◌, ◌≤◌, ◌&&◌, ◌⊎◌, inl, inr, Bool, true, false, cond, Option, Some, None, is_some, min, IfSome, List, [], ◌∷◌, ◌++◌, length, get_or, refl, sym, ap, subst, ◌∙◌, arith, eq-eqb, ne_eqb, ◌||◌, nat_le, nat_lt}
 use Rattle.std.proofs.Math.Nat.{min-eq_left}
-use Rattle.std.proofs.lemmas.Bool.{cases_lt, cases_eq, false≢true, le-ltb}
+use Rattle.std.proofs.lemmas.Bool.{cases_lt, cases_eq, false≢true, le-ltb, lt-leb}
 use Rattle.std.proofs.lemmas.List.{get_or_append_left, get_or_past}
 use Rattle.net_types.specs.declared.net.Net.{Net}
 use Rattle.net_types.specs.declared.net.Unit.{Unit as Kind}
@@ -31,9 +31,9 @@ use Rattle.cycle_engine.specs.declared.fed.Lead.{Lead}
 use Rattle.cycle_engine.specs.declared.fed.Lead.TheVariants as lead
 use Rattle.cycle_engine.specs.Cycles.{Dated, after_in, place_of}
 use Rattle.cycle_engine.specs.private.Trials.{dated_of}
-use Rattle.cycle_engine.specs.private.Control.{control_places_in}
-use Rattle.cycle_engine.specs.private.Fed.{AreLeads, HasFed, HasNoneFed, IsFedBy, IsLeft, IsMarkedPort, IsNextFed, IsPortMarked, KeepsFed, LosesFed, act_of, first_mark, lead_of, mark_number, port_at, port_lead, port_place, shift}
-use Rattle.cycle_engine.specs.private.Places.{HasNoneFrom, IsNextNumber, IsViewOf, ports_in}
+use Rattle.cycle_engine.specs.private.Control.{control_places_in, ports_in}
+use Rattle.cycle_engine.specs.private.Fed.{AreLeads, HasFed, HasNoneFed, IsFedBy, IsLeft, IsMarkedPort, IsNextFed, IsPortMarked, KeepsFed, LosesFed, act_of, few_ports, first_mark, lead_of, mark_number, port_at, port_lead, port_place, shift}
+use Rattle.cycle_engine.specs.private.Places.{HasNoneFrom, IsNextNumber, IsViewOf}
 use Rattle.cycle_engine.specs.private.Used.{AreNumbered, Fits, HasPlace, IsStamped, place_number}
 use Rattle.cycle_engine.proofs.MarkLemmas.{get_last}
 use Rattle.cycle_engine.proofs.NoteLemmas.{effect_in, after_is}
@@ -69,28 +69,31 @@ odd_lead p =
     let b : (1 + 2 * p) / 2 ≡ p = omega arith in
     ap (λ x. cond x (lead.Addr ((1 + 2 * p) / 2)) (lead.Data ((1 + 2 * p) / 2))) (ne_eqb _ _ (λ z. omega arith)) ∙ ap lead.Data b
 
--- the place from which an act at a port takes is for that act, and comes after the control places
-port_there : (k : Kind) (a : Act) (p : ℕ) → Fits k a → port_place k a ≡ Some p → (act_of (port_at k p) ≡ Some a) × (control_places_in k ≤ p)
-port_there (Lsq x d ps gs f) (Addr j) p fits e =
+is_noted : (ports p controls : ℕ) → few_ports < ports → controls ≤ p → (nat_le ports few_ports || nat_lt p controls) ≡ false
+is_noted ports p controls many l = ap (λ b. b || nat_lt p controls) (lt-leb ports few_ports many) ∙ le-ltb p controls l
+
+-- the place from which an act at a port of a queue of many takes is for that act, and comes after the control places
+port_there : (k : Kind) (a : Act) (p : ℕ) → Fits k a → few_ports < ports_in k → port_place k a ≡ Some p → (act_of (port_at k p) ≡ Some a) × (control_places_in k ≤ p)
+port_there (Lsq x d ps gs f) (Addr j) p fits many e =
     let z : suc (length gs) + 0 + 2 * j ≡ p = cc in
     let n : p - suc (length gs) ≡ 2 * j = omega arith in
-    (ap (λ b. act_of (cond b lead.Other (port_lead (p - suc (length gs))))) (le-ltb p (suc (length gs)) (omega arith)) ∙ ap act_of (ap port_lead n ∙ even_lead j), omega arith)
-port_there (Lsq x d ps gs f) (Data j) p fits e =
+    (ap (λ b. act_of (cond b lead.Other (port_lead (p - suc (length gs))))) (is_noted (length ps) p (suc (length gs)) many (omega arith)) ∙ ap act_of (ap port_lead n ∙ even_lead j), omega arith)
+port_there (Lsq x d ps gs f) (Data j) p fits many e =
     let z : suc (length gs) + 1 + 2 * j ≡ p = cc in
     let n : p - suc (length gs) ≡ 1 + 2 * j = omega arith in
-    (ap (λ b. act_of (cond b lead.Other (port_lead (p - suc (length gs))))) (le-ltb p (suc (length gs)) (omega arith)) ∙ ap act_of (ap port_lead n ∙ odd_lead j), omega arith)
-port_there _ (Addr j) p fits e = absurd fits
-port_there _ (Data j) p fits e = absurd fits
-port_there _ _ p fits e = cc
+    (ap (λ b. act_of (cond b lead.Other (port_lead (p - suc (length gs))))) (is_noted (length ps) p (suc (length gs)) many (omega arith)) ∙ ap act_of (ap port_lead n ∙ odd_lead j), omega arith)
+port_there _ (Addr j) p fits many e = absurd fits
+port_there _ (Data j) p fits many e = absurd fits
+port_there _ _ p fits many e = cc
 
 and_no : (a b : Bool) → b ≡ false → (a && b) ≡ false
 and_no true b e = e
 and_no false b e = refl
 
 -- so the channel that goes there leads to that act
-lead_there : (net : Net) (d u p : ℕ) (a : Act) → (chan_at net d).to.unit ≡ u → (chan_at net d).to.place ≡ p → Fits (kind_of net u) a → port_place (kind_of net u) a ≡ Some p → act_of (lead_of net d) ≡ Some a
-lead_there net d u p a eu ep fits i =
-    let t = port_there (kind_of net u) a p fits i in
+lead_there : (net : Net) (d u p : ℕ) (a : Act) → (chan_at net d).to.unit ≡ u → (chan_at net d).to.place ≡ p → Fits (kind_of net u) a → few_ports < ports_in (kind_of net u) → port_place (kind_of net u) a ≡ Some p → act_of (lead_of net d) ≡ Some a
+lead_there net d u p a eu ep fits many i =
+    let t = port_there (kind_of net u) a p fits many i in
     let q : control_places_in (kind_of net (chan_at net d).to.unit) ≡ control_places_in (kind_of net u) = ap (λ w. control_places_in (kind_of net w)) eu in
     let l : nat_lt (chan_at net d).to.place (control_places_in (kind_of net (chan_at net d).to.unit)) ≡ false = (let m = t.1 in le-ltb _ _ (omega arith)) in
     ap (λ b. act_of (cond b lead.Control (port_at (kind_of net (chan_at net d).to.unit) (chan_at net d).to.place))) (and_no (chan_at net d).ctl _ l)
@@ -170,7 +173,7 @@ same_mark net base n f g numbers pf pg e = same_number net base n f g numbers pf
 
 module _ (net : Net) (s t : State) (x : Effect) (f : Firing) (base : List ℕ) (n : ℕ) (old new : Fed) (st : t ≡ applied net f.unit x s) (long : length s.tokens ≡ length net.chans) (then_long : length t.tokens ≡ length net.chans)
     (numbers : AreNumbered net base n) (place : HasPlace net f) (fed : IsFedBy net t base f (place_number base f) (laid_of net f.unit x.put) old new) (places : old.places ≡ n) where
-  module _ (u p : ℕ) (a : Act) (there : HasPlace net (firing u a)) (i : port_place (kind_of net u) a ≡ Some p) (h : is_some (head_at net t u p) ≡ true) where
+  module _ (u p : ℕ) (a : Act) (there : HasPlace net (firing u a)) (many : few_ports < ports_in (kind_of net u)) (i : port_place (kind_of net u) a ≡ Some p) (h : is_some (head_at net t u p) ≡ true) where
     within : into u p net.chans < length net.chans
     within = (let w = some_within t.tokens (into u p net.chans) h in omega arith)
 
@@ -205,7 +208,7 @@ module _ (net : Net) (s t : State) (x : Effect) (f : Firing) (base : List ℕ) (
         let L : Option Laid → Type 0 = λ l. IfSome l (λ y. IsPortMarked net base y.chan new) in
         let m : IsPortMarked net base (out_of f.unit w.place net.chans) new = subst L (ap (laid_of net f.unit) o) fed.put in
         let D : ℕ → Type 0 = λ d. IsPortMarked net base d new in
-        let leads : act_of (lead_of net (into u p net.chans)) ≡ Some a = lead_there net (into u p net.chans) u p a end.0 end.1 there.fits i in
+        let leads : act_of (lead_of net (into u p net.chans)) ≡ Some a = lead_there net (into u p net.chans) u p a end.0 end.1 there.fits many i in
         let U : ℕ → Type 0 = λ v. IsMarkedPort base (firing v a) new in
         let k : IsMarkedPort base (firing u a) new = subst U end.0 (subst D (sym e) m a leads) in
         let same : new.places ≡ n = fed.left.shape.places ∙ places in
@@ -241,12 +244,13 @@ fed_made net c old new f p m count long then_long is s numbers place after stamp
       leads = (let L : List Lead → Type 0 = AreLeads net in subst L (sym (ap (λ (v : _). v.items) fed.left.shape.leads)) was.leads);
       sized = (let r = was.sized.room in let q = was.sized.small in let z = fed.left.shape.size in let y = fed.left.shape.places in record { room = omega arith; small = omega arith });
       places = places ∙ sym stamped.long;
-      each = λ u q a there i h. ap (has new.fed.marked) (k u a) ∙ by u q a there i h (λ g. ap (has old.fed.marked) (sym (b u a)) ∙ was.each u q a there i g);
+      each = λ u q a there many i h. ap (has new.fed.marked) (k u a) ∙ by u q a there many i h (λ g. ap (has old.fed.marked) (sym (b u a)) ∙ was.each u q a there many i g);
     }
 
 -- ---- ports that are passed over
 
-module _ (net : Net) (s : State) (used : Used) (fed : Fed) (u : ℕ) (q : QueueView) (v : IsViewOf net s u q) (within : u < length net.units) (has_fed : HasFed net s used fed) (numbers : AreNumbered net used.base.items (length used.last.items)) where
+module _ (net : Net) (s : State) (used : Used) (fed : Fed) (u : ℕ) (q : QueueView) (v : IsViewOf net s u q) (within : u < length net.units) (has_fed : HasFed net s used fed) (numbers : AreNumbered net used.base.items (length used.last.items))
+    (many : few_ports < ports_in (kind_of net u)) where
   -- an act of a port that is enabled is below the number of ports, and its place is marked
   record IsSeen (first n : ℕ) : Type 0 where
     pub below : n < ports_in (kind_of net u)
@@ -280,7 +284,7 @@ module _ (net : Net) (s : State) (used : Used) (fed : Fed) (u : ℕ) (q : QueueV
       by true e = record {
         below = ports_fit (Addr j) j 0 place.fits (inl refl);
         room = (let p = has_fed.places in omega (arith, same, most));
-        marked = ap (has fed.marked) same ∙ has_fed.each u _ (Addr j) place refl e;
+        marked = ap (has fed.marked) same ∙ has_fed.each u _ (Addr j) place many refl e;
       }
 
   seen_data : (j : ℕ) → enabled net s (firing u (Data j)) → IsSeen (first_mark fed used.base.items u (Data 0)) j
@@ -303,7 +307,7 @@ module _ (net : Net) (s : State) (used : Used) (fed : Fed) (u : ℕ) (q : QueueV
       by true e = record {
         below = ports_fit (Data j) j 0 place.fits (inr refl);
         room = (let p = has_fed.places in omega (arith, same, most));
-        marked = ap (has fed.marked) same ∙ has_fed.each u _ (Data j) place refl e;
+        marked = ap (has fed.marked) same ∙ has_fed.each u _ (Data j) place many refl e;
       }
 
   seen : (kind a : Act) → (kind ≡ Addr 0) ⊎ (kind ≡ Data 0) → act_rank a ≡ act_rank kind → enabled net s (firing u a) → IsSeen (first_mark fed used.base.items u kind) (act_number (act_place a))

@@ -23,8 +23,8 @@ use Rattle.net_core.proofs.ActLemmas.{merge_inv, from_kind, alloc_kind}
 use Rattle.net_core.proofs.QueueActLemmas.{queue_inv, lsq_is, group_within}
 use Rattle.lsq_core.specs.Laws.{act_place}
 use Rattle.cycle_engine.proofs.UsedLemmas.{found_port}
-use Rattle.cycle_engine.specs.private.Places.{HasView, HasNoneFrom, IsNextNumber, IsNoted, IsViewOf, TakesControl, takes_at, count_in, inputs_in, outputs_in, ports_in, first_of}
-use Rattle.cycle_engine.specs.private.Control.{groups_in, noted_place, place_from, end_from}
+use Rattle.cycle_engine.specs.private.Places.{HasView, HasNoneFrom, IsNextNumber, IsNoted, IsViewOf, TakesControl, takes_at, count_in, inputs_in, outputs_in, first_of}
+use Rattle.cycle_engine.specs.private.Control.{groups_in, noted_place, place_from, end_from, ports_in}
 use Rattle.cycle_engine.specs.private.Marking.{asks_first, IsStarved}
 use Rattle.net_core.proofs.PlanUses.{fork_act}
 use Rattle.cycle_engine.proofs.OwnLemmas.{on_go_is}

@@ -76,7 +76,7 @@ opened_ready net inputs b e of same few made fired counts room chans queues mark
       places = places;
       feeds = feeds;
       pending = pending;
-      fed = record { leads = fed.leads; sized = fed.sized; places = fed.places; each = λ u p a k i h. absurd (opened_starved net inputs e same u p h) };
+      fed = record { leads = fed.leads; sized = fed.sized; places = fed.places; each = λ u p a k many i h. absurd (opened_starved net inputs e same u p h) };
     }
 
 items_none : (us : List Kind) (u : ℕ) → length (get_or (map opened us) u idle).queue.items ≡ 0

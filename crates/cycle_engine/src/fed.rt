@@ -1,4 +1,4 @@
-//! Which ports of queues have tokens.
+//! Which ports of queues of many have tokens.
 
 ghost use Rattle.std.specs.Prelude.{◌≡◌, ◌≢◌, ◌^◌, ◌<◌, ◌≤◌, true, false, cond, IfOk, MatchOption, get_or, length};
 ghost use Rattle.net_types.specs.Nets.{chan_at, firing};
@@ -9,7 +9,7 @@ ghost use Rattle.cycle_engine.specs.private.Fed.{AreLeads, AreMarksOf, AreSized,
 ghost use Rattle.cycle_engine.specs.private.Used.{own_number};
 
 use crate::control::leads_to_control_place;
-use crate::places::{control_places_of, lacks_token};
+use crate::places::{control_places_of, lacks_token, ports_of};
 use crate::used::{Used, own_number};
 use lsq_core::Bits;
 use net_check::Checked;
@@ -19,6 +19,9 @@ use std::alloc::Global;
 
 /// No machine has memory for so many bits.
 const MOST_PLACES: usize = 1 << 58;
+
+/// Of the ports of a queue of no more than so many nothing is noted.
+pub(crate) const FEW_PORTS: u32 = 8;
 
 /// How many bits a word has.
 const WORD: usize = 64;
@@ -30,13 +33,13 @@ pub(crate) enum Lead {
     Other,
     /// It leads control to an input of a control merge, or to a control place of a queue.
     Control,
-    /// The place for addresses of this port of a queue.
+    /// The place for addresses of this port of a queue of many.
     Addr(u32),
-    /// The place for data of this port of a queue.
+    /// The place for data of this port of a queue of many.
     Data(u32),
 }
 
-/// Marks at the ports of queues that have a token for an address or for data.
+/// Marks at the ports of queues of many that have a token for an address or for data.
 pub(crate) struct Fed {
     /// What each channel leads to.
     pub leads: Vec<Lead>,
@@ -70,14 +73,14 @@ fn port_lead(place: u64) -> Lead
     }
 }
 
-/// What a place of a unit is for that is no control place.
+/// What a place of a unit is for that is no control place, so far as something is noted of it.
 fn port_at(kind: &Unit, place: u32) -> Lead
     ensures { result ≡ port_at kind.now place }
 {
     match kind {
-        Unit::Lsq { groups, .. } => {
+        Unit::Lsq { ports, groups, .. } => {
             let controls = groups.as_slice().len() as u64 + 1;
-            if u64::from(place) < controls {
+            if ports.as_slice().len() <= FEW_PORTS as usize || u64::from(place) < controls {
                 Lead::Other
             } else {
                 port_lead(u64::from(place) - controls)
@@ -219,7 +222,8 @@ impl Fed {
         }
     }
 
-    /// Takes the mark of the place of a firing away, whose number this is, where it is one of a port and has no token any more.
+    /// Takes the mark of the place of a firing away, whose number this is, where it is one of a port of a queue of many and has no
+    /// token any more.
     #[inline(always)]
     pub(crate) fn leave(&mut self, net: &Checked, state: &State, firing: Firing, at: u64)
         requires of { IsOf net.now state.now }
@@ -227,12 +231,12 @@ impl Fed {
         requires within { at < self.old.places }
         ensures { IsLeft net.now (state_of state.now) firing at self.old self.new }
     {
-        if is_at_port(firing.act) {
+        if is_at_port(firing.act) && ports_of(net, firing.unit) > FEW_PORTS {
             self.leave_port(net, state, firing, at);
         }
     }
 
-    /// As [`Fed::leave`]. It stands apart so that what takes from no port stays small.
+    /// As [`Fed::leave`]. It stands apart so that what takes from no such port stays small.
     #[inline(never)]
     fn leave_port(&mut self, net: &Checked, state: &State, firing: Firing, at: u64)
         requires of { IsOf net.now state.now }

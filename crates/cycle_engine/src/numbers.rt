@@ -4,18 +4,17 @@ ghost use Rattle.std.specs.Prelude.{◌≡◌, ◌≤◌, ◌<◌, MatchOption, 
 ghost use Rattle.net_types.specs.Nets.{kind_of};
 ghost use Rattle.net_types.specs.declared.firing.Act.TheVariants as acts;
 ghost use Rattle.net_core.specs.States.{IsOf, state_of};
-ghost use Rattle.cycle_engine.specs.private.Fed.{HasFed};
-ghost use Rattle.cycle_engine.specs.private.Places.{HasNoneFrom, IsNextNumber, IsViewOf, KeepsControl, count_in, ports_in};
+ghost use Rattle.cycle_engine.specs.private.Control.{ports_in};
+ghost use Rattle.cycle_engine.specs.private.Fed.{HasFed, few_ports};
+ghost use Rattle.cycle_engine.specs.private.Places.{HasNoneFrom, IsNextNumber, IsViewOf, KeepsControl, count_in};
 ghost use Rattle.cycle_engine.specs.private.Used.{AreNumbered};
 
 use crate::engine::Engine;
+use crate::fed::FEW_PORTS;
 use crate::places::{next_control, next_reply, next_told_addr, next_told_data, queue_of};
 use net_check::Checked;
 use net_core::UnitQueue;
 use net_types::Act;
-
-/// The ports of a queue of no more than so many are told whether they have tokens or not.
-const FEW_PORTS: u32 = 8;
 
 impl Engine {
     /// The least port from a number on at which a queue of so many ports allows an address. Of a queue of many ports only those are
@@ -60,6 +59,7 @@ impl Engine {
         requires view { IsViewOf net.now (state_of self.now.state) unit queue.now }
         requires unit { unit < length net.now.units }
         requires ports { ports ≡ ports_in (kind_of net.now unit) }
+        requires many { few_ports < ports_in (kind_of net.now unit) }
         requires within { from ≤ ports }
         ensures { MatchOption result
             (HasNoneFrom net.now (state_of self.now.state) unit (acts.Addr 0) from)
@@ -128,6 +128,7 @@ impl Engine {
         requires view { IsViewOf net.now (state_of self.now.state) unit queue.now }
         requires unit { unit < length net.now.units }
         requires ports { ports ≡ ports_in (kind_of net.now unit) }
+        requires many { few_ports < ports_in (kind_of net.now unit) }
         requires within { from ≤ ports }
         ensures { MatchOption result
             (HasNoneFrom net.now (state_of self.now.state) unit (acts.Data 0) from)

@@ -7,8 +7,8 @@ ghost use Rattle.net_core.specs.Fire.{head_at};
 ghost use Rattle.net_core.specs.States.{IsOf, state_of};
 ghost use Rattle.cycle_engine.specs.private.Marking.{IsStarved, asks_first, is_merge};
 ghost use Rattle.net_types.specs.declared.firing.Act.TheVariants as acts;
-ghost use Rattle.cycle_engine.specs.private.Places.{HasView, HasNoExec, HasNoneFrom, IsFirstExec, IsNextNumber, IsViewOf, KeepsControl, TakesControl, count_in, inputs_in, outputs_in, ports_in, numbered};
-ghost use Rattle.cycle_engine.specs.private.Control.{control_places_in, groups_in};
+ghost use Rattle.cycle_engine.specs.private.Places.{HasView, HasNoExec, HasNoneFrom, IsFirstExec, IsNextNumber, IsViewOf, KeepsControl, TakesControl, count_in, inputs_in, outputs_in, numbered};
+ghost use Rattle.cycle_engine.specs.private.Control.{control_places_in, groups_in, ports_in};
 
 use crate::control::{next_control_place, next_end};
 use lsq_core::Queue;
@@ -169,7 +169,7 @@ pub(crate) fn control_places_of(net: &Checked, unit: u32) -> u64
 }
 
 /// How many ports a queue has; another unit has none.
-fn ports_of(net: &Checked, unit: u32) -> u32
+pub(crate) fn ports_of(net: &Checked, unit: u32) -> u32
     ensures { result ≡ ports_in (kind_of net.now unit) }
 {
     let units = net.net().units.as_slice();

@@ -24,6 +24,23 @@ groups_in (Read a) = 0
 groups_in (Lsq a d ps gs f) = length gs
 groups_in Exit = 0
 
+-- the ports of a queue
+abbrev pub ports_in : Kind → ℕ
+ports_in Entry = 0
+ports_in (Param j) = 0
+ports_in (Const w n) = 0
+ports_in (Op1 op) = 0
+ports_in (Op2 op) = 0
+ports_in (Select w) = 0
+ports_in (Fork w outs) = 0
+ports_in (Mux w ins) = 0
+ports_in (Cmerge ins) = 0
+ports_in (Branch w) = 0
+ports_in (Sink w) = 0
+ports_in (Read a) = 0
+ports_in (Lsq a d ps gs f) = length ps
+ports_in Exit = 0
+
 -- how many control places a unit has whose tokens are taken by acts with a place each: the inputs of a control merge, and the groups and
 -- the end of a queue
 abbrev pub control_places_in : Kind → ℕ

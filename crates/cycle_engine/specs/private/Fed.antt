@@ -1,5 +1,5 @@
 -- Private: only contracts of this crate cite it. Which ports of queues have tokens: marks at their places.
-use Rattle.std.specs.Prelude.{◌≡◌, ◌⊎◌, ◌==◌, ℕ, suc, ◌+◌, ◌-◌, ◌*◌, ◌/◌, ◌%◌, ◌^◌, ◌<◌, ◌≤◌, nat_lt, true, false, cond, Option, Some, None, is_some, min, List, length, get_or, IfSome}
+use Rattle.std.specs.Prelude.{◌≡◌, ◌⊎◌, ◌==◌, ℕ, suc, ◌+◌, ◌-◌, ◌*◌, ◌/◌, ◌%◌, ◌^◌, ◌<◌, ◌≤◌, ◌||◌, nat_le, nat_lt, true, false, cond, Option, Some, None, is_some, min, List, length, get_or, IfSome}
 use Rattle.net_types.specs.declared.net.Net.{Net}
 use Rattle.net_types.specs.declared.net.Unit.{Unit as Kind}
 use Rattle.net_types.specs.declared.net.Unit.TheVariants.{Entry, Param, Const, Op1, Op2, Select, Fork, Mux, Cmerge, Branch, Sink, Read, Lsq, Exit}
@@ -14,7 +14,7 @@ use Rattle.cycle_engine.specs.declared.fed.Fed.{Fed}
 use Rattle.cycle_engine.specs.declared.fed.Lead.{Lead}
 use Rattle.cycle_engine.specs.declared.fed.Lead.TheVariants as lead
 use Rattle.cycle_engine.specs.declared.used.Used.{Used}
-use Rattle.cycle_engine.specs.private.Control.{control_places_in, leads_to_control_place}
+use Rattle.cycle_engine.specs.private.Control.{control_places_in, leads_to_control_place, ports_in}
 use Rattle.cycle_engine.specs.private.Used.{HasPlace, own_number, place_number}
 
 -- ---- what channels lead to
@@ -23,7 +23,11 @@ use Rattle.cycle_engine.specs.private.Used.{HasPlace, own_number, place_number}
 abbrev pub port_lead : ℕ → Lead
 port_lead n = cond (n % 2 == 0) (lead.Addr (n / 2)) (lead.Data (n / 2))
 
--- what a place of a unit of this kind is for that is no control place
+-- the ports of a queue of no more than so many are not marked
+abbrev pub few_ports : ℕ
+few_ports = 8
+
+-- what a place of a unit of this kind is for that is no control place, so far as something is noted of it
 abbrev pub port_at : Kind → ℕ → Lead
 port_at Entry p = lead.Other
 port_at (Param j) p = lead.Other
@@ -37,7 +41,7 @@ port_at (Cmerge ins) p = lead.Other
 port_at (Branch w) p = lead.Other
 port_at (Sink w) p = lead.Other
 port_at (Read a) p = lead.Other
-port_at (Lsq a d ps gs f) p = cond (nat_lt p (suc (length gs))) lead.Other (port_lead (p - suc (length gs)))
+port_at (Lsq a d ps gs f) p = cond (nat_le (length ps) few_ports || nat_lt p (suc (length gs))) lead.Other (port_lead (p - suc (length gs)))
 port_at Exit p = lead.Other
 
 abbrev pub lead_of : Net → ℕ → Lead
@@ -92,12 +96,12 @@ pub record AreSized (fed : Fed) : Type 0 where
   pub room : 2 * fed.places ≤ 64 * length fed.marked
   pub small : 2 * fed.places ≤ 2 ^ 60
 
--- each port that has a token is marked
+-- each port of a queue of many that has a token is marked
 pub record HasFed (net : Net) (s : State) (used : Used) (fed : Fed) : Type 0 where
   pub leads : AreLeads net fed.leads.items
   pub sized : AreSized fed
   pub places : fed.places ≡ length used.last.items
-  pub each : (u p : ℕ) (a : Act) → HasPlace net (firing u a) → port_place (kind_of net u) a ≡ Some p → is_some (head_at net s u p) ≡ true
+  pub each : (u p : ℕ) (a : Act) → HasPlace net (firing u a) → few_ports < ports_in (kind_of net u) → port_place (kind_of net u) a ≡ Some p → is_some (head_at net s u p) ≡ true
       → has fed.marked (mark_number fed.places used.base.items (firing u a)) ≡ true
 
 -- the marks are of a net that has so many places

@@ -34,7 +34,7 @@ use Rattle.cycle_engine.specs.Rousing.{Could}
 use Rattle.cycle_engine.specs.Cycles.{Dated, May, IsOldest, IsRipe, IsUnused}
 use Rattle.cycle_engine.specs.private.Trials.{dated_of}
 use Rattle.cycle_engine.specs.private.Marking.{Holds, HasUnit, IsMarked}
-use Rattle.cycle_engine.specs.private.Control.{HasControl, groups_in, noted_place}
+use Rattle.cycle_engine.specs.private.Control.{HasControl, groups_in, noted_place, ports_in}
 use Rattle.cycle_engine.specs.declared.broken.Broken.{Broken}
 use Rattle.cycle_engine.specs.private.Pending.{IsShut}
 use Rattle.cycle_engine.specs.private.Goings.{Past, IsBroken, IsReady, to_visit, InCycle, HasDone, AllPlain, IsWatching, IsKept, IsKeptBut, IsKeptOf, all_made}
@@ -87,23 +87,6 @@ outputs_in (Sink w) = 0
 outputs_in (Read a) = 0
 outputs_in (Lsq a d ps gs f) = 0
 outputs_in Exit = 0
-
--- the ports of a queue
-abbrev pub ports_in : Kind → ℕ
-ports_in Entry = 0
-ports_in (Param j) = 0
-ports_in (Const w n) = 0
-ports_in (Op1 op) = 0
-ports_in (Op2 op) = 0
-ports_in (Select w) = 0
-ports_in (Fork w outs) = 0
-ports_in (Mux w ins) = 0
-ports_in (Cmerge ins) = 0
-ports_in (Branch w) = 0
-ports_in (Sink w) = 0
-ports_in (Read a) = 0
-ports_in (Lsq a d ps gs f) = length ps
-ports_in Exit = 0
 
 -- the first act of a unit that is no queue
 abbrev pub first_of : Kind → Act

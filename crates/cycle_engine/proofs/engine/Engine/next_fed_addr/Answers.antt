@@ -14,7 +14,7 @@ returns-then-port-ports c =
     let m = c.if-port-ports.true in
     joined_none c.args.net.now s c.args.unit (Addr 0) c.args.from c.in-Some.port
     (joined c.args.net.now s c.args.unit (Addr 0) c.args.from c.loop-at.at c.in-Some.port c.loop-at.invariant c.in-Some.ensures)
-    (fed_past c.args.net.now s e.used e.fed c.args.unit c.args.queue.now c.requires.view c.requires.unit c.requires.fed c.requires.numbers (Addr 0) (inl refl) c.in-Some.port (omega arith))
+    (fed_past c.args.net.now s e.used e.fed c.args.unit c.args.queue.now c.requires.view c.requires.unit c.requires.fed c.requires.numbers c.requires.many (Addr 0) (inl refl) c.in-Some.port (omega arith))
 
 pub returns-in_default-next : goal.returns-in_default-next
 returns-in_default-next c =
@@ -23,7 +23,7 @@ returns-in_default-next c =
     let N : ℕ → Type 0 = λ x. HasNoneFed e.fed x c.in-Some.port c.args.ports in
     joined_none c.args.net.now s c.args.unit (Addr 0) c.args.from c.in-Some.port
     (joined c.args.net.now s c.args.unit (Addr 0) c.args.from c.loop-at.at c.in-Some.port c.loop-at.invariant c.in-Some.ensures)
-    (fed_none c.args.net.now s e.used e.fed c.args.unit c.args.queue.now c.requires.view c.requires.unit c.requires.fed c.requires.numbers (Addr 0) (inl refl) c.in-Some.port c.args.ports c.requires.ports
+    (fed_none c.args.net.now s e.used e.fed c.args.unit c.args.queue.now c.requires.view c.requires.unit c.requires.fed c.requires.numbers c.requires.many (Addr 0) (inl refl) c.in-Some.port c.args.ports c.requires.ports
     (subst N c.first-first.ensures.first c.in_default-next.ensures))
 
 pub loop-at-preserved : goal.loop-at-preserved
@@ -33,7 +33,7 @@ loop-at-preserved c =
     let N : ℕ → Type 0 = λ x. IsNextFed e.fed x c.in-Some.port c.in-Some-next.next in
     joined c.args.net.now s c.args.unit (Addr 0) c.args.from c.in-Some.port c.in-Some-next.next
     (joined c.args.net.now s c.args.unit (Addr 0) c.args.from c.loop-at.at c.in-Some.port c.loop-at.invariant c.in-Some.ensures)
-    (fed_next c.args.net.now s e.used e.fed c.args.unit c.args.queue.now c.requires.view c.requires.unit c.requires.fed c.requires.numbers (Addr 0) (inl refl) c.in-Some.port c.in-Some-next.next
+    (fed_next c.args.net.now s e.used e.fed c.args.unit c.args.queue.now c.requires.view c.requires.unit c.requires.fed c.requires.numbers c.requires.many (Addr 0) (inl refl) c.in-Some.port c.in-Some-next.next
     (subst N c.first-first.ensures.first c.in-Some-next.ensures))
 
 pub returns : goal.returns
@@ -43,4 +43,4 @@ returns c =
     let l = c.requires.ports in
     let m = c.loop-at-test.false in
     joined_none c.args.net.now s c.args.unit (Addr 0) c.args.from c.loop-at.at c.loop-at.invariant
-    (fed_past c.args.net.now s e.used e.fed c.args.unit c.args.queue.now c.requires.view c.requires.unit c.requires.fed c.requires.numbers (Addr 0) (inl refl) c.loop-at.at (omega arith))
+    (fed_past c.args.net.now s e.used e.fed c.args.unit c.args.queue.now c.requires.view c.requires.unit c.requires.fed c.requires.numbers c.requires.many (Addr 0) (inl refl) c.loop-at.at (omega arith))
