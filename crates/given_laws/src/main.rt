@@ -148,6 +148,7 @@ fn workers() {
     net_worker::made_fires();
     net_worker::made_keeps();
     net_worker::idle_rests();
+    net_worker::made_holds();
     worker_run::crew_gathers();
 }
 

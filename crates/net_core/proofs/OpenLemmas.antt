@@ -134,7 +134,7 @@ home_queue : (o : Option ℕ) (xs : List ℕ) (u : ℕ) → home_by o xs ≡ hom
 home_queue None xs u e = cc
 home_queue (Some v) xs u e = let j : v ≡ u = cc in ap Some j
 
-zeros : (xss : List (List ℕ)) → replicate {A = ℕ} (length xss) 0 ≡ map (λ (xs : List ℕ). 0) xss
+pub zeros : (xss : List (List ℕ)) → replicate {A = ℕ} (length xss) 0 ≡ map (λ (xs : List ℕ). 0) xss
 zeros [] = refl
 zeros (x ∷ xss) = ap (λ r. 0 ∷ r) (zeros xss)
 
@@ -144,13 +144,13 @@ opened_next (Sink w) = refl
 opened_next _ = refl
 
 -- the array of a queue at first
-queue_first : (k : Kind) (c : Cell) (a : ℕ) (arrays : List (List ℕ)) → owns k ≡ Some a → keeps k c ≡ true → IsShaped k c (at_array arrays (owns k)) → queue_array c ≡ get_or arrays a []
+pub queue_first : (k : Kind) (c : Cell) (a : ℕ) (arrays : List (List ℕ)) → owns k ≡ Some a → keeps k c ≡ true → IsShaped k c (at_array arrays (owns k)) → queue_array c ≡ get_or arrays a []
 queue_first (Lsq n d ps gs fw) (Queue b) a arrays e f h = let j : n ≡ a = cc in h.elements ∙ ap (λ m. get_or arrays m []) j
 queue_first (Lsq n d ps gs fw) c a arrays e f h = cc
 queue_first _ c a arrays e f h = cc
 
 -- each form is shaped by its own array
-self_shaped : (k : Kind) (c : Cell) (xs : List ℕ) → keeps k c ≡ true → IsShaped k c xs → IsShaped k c (queue_array c)
+pub self_shaped : (k : Kind) (c : Cell) (xs : List ℕ) → keeps k c ≡ true → IsShaped k c xs → IsShaped k c (queue_array c)
 self_shaped (Lsq n d ps gs fw) (Queue b) xs f h = record { deep = h.deep; port = h.port; group = h.group; mark = h.mark; elements = refl }
 self_shaped (Lsq n d ps gs fw) c xs f h = cc
 self_shaped _ c xs f h = tt

@@ -49,6 +49,16 @@ dates_of s = s.tokens.dates
 abbrev pub with_tokens : List (List ℕ) → State → State
 with_tokens xss s = record s { tokens = xss }
 
+-- the cells of the units, where the arrays lie, and the number of the exit
+abbrev pub cells_of : Stored → List Cell
+cells_of s = s.cells.items
+
+abbrev pub homes_of : Stored → List Home
+homes_of s = s.homes.items
+
+abbrev pub exit_at : Stored → ℕ
+exit_at s = s.exit
+
 -- the cell of a unit; past the units a plain one
 abbrev pub cell_at : Stored → ℕ → Cell
 cell_at s u = get_or s.cells.items u cell.Plain

@@ -6,6 +6,7 @@ ghost use Rattle.net_check.specs.Shapes.{HasShape};
 ghost use Rattle.lsq_core.specs.Views.{count_of};
 ghost use Rattle.net_core.specs.Fire.{opened, at_array};
 ghost use Rattle.net_core.specs.Plans.{own_of, admits, keeps, next_of, cell_after, started, finished, strays_after, IsShaped};
+ghost use Rattle.net_core.specs.States.{queue_array};
 ghost use Rattle.net_core.specs.declared.plan.Change.TheVariants as change;
 
 use crate::plan::Change;
@@ -88,6 +89,17 @@ impl Cell {
         match self {
             Cell::Exit { value, .. } => *value,
             _ => None,
+        }
+    }
+
+    /// The elements of the array of a queue; none of other units.
+    #[inline(always)]
+    pub fn elements(&self) -> &[u64]
+        ensures { result.now ≡ queue_array self.now }
+    {
+        match self {
+            Cell::Queue(queue) => queue.array(),
+            _ => &[],
         }
     }
 

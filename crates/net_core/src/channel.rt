@@ -18,12 +18,13 @@ struct Follower {
     date: u64,
 }
 
-/// The tokens of a channel, of which a clause sees two lists, oldest first: the values and the dates; and the slots.
+/// The tokens of one channel in their order, with their dates, and how many slots there are for them.
 ///
-/// The date of a token tells the cycle in which it was put, and is 0 where no cycle is told. The oldest token is kept by
-/// itself, so a channel of at most one token never goes through the ring of those behind it.
+/// A clause sees two lists, oldest first: the values and the dates; and the slots. The date of a token tells the cycle in
+/// which it was put, and is 0 where no cycle is told. A channel takes all its memory when it is made. The oldest token is
+/// kept by itself, so a channel of at most one token never goes through the ring of those behind it.
 #[derive(Drop)]
-pub(crate) struct Channel {
+pub struct Channel {
     oldest: u64,
     date: u64,
     count: u32,
@@ -45,12 +46,12 @@ impl Model for Channel {
 }
 
 impl Channel {
-    /// A channel with no token.
+    /// A channel with no token and so many slots.
     ///
     /// # Errors
     ///
     /// [`Memory`] where memory is wanting.
-    pub(crate) fn new(alloc: Global, slots: u32) -> Result<Channel, Memory>
+    pub fn new(alloc: Global, slots: u32) -> Result<Channel, Memory>
         ensures { IfOk result (λ c. c ≡ lane [] [] slots) }
     {
         let behind = HeapCircularBuffer::with_capacity(alloc, slots.saturating_sub(1) as usize)?;
@@ -63,9 +64,9 @@ impl Channel {
         })
     }
 
-    /// The oldest token.
+    /// The oldest token, where there is one.
     #[inline(always)]
-    pub(crate) fn head(&self) -> Option<u64>
+    pub fn head(&self) -> Option<u64>
         ensures { result ≡ first self.now.tokens }
     {
         if self.count == 0 {
@@ -75,9 +76,9 @@ impl Channel {
         }
     }
 
-    /// The date of the oldest token.
+    /// The date of the oldest token, where there is one.
     #[inline(always)]
-    pub(crate) fn date(&self) -> Option<u64>
+    pub fn date(&self) -> Option<u64>
         ensures { result ≡ first self.now.dates }
     {
         if self.count == 0 {
@@ -87,9 +88,9 @@ impl Channel {
         }
     }
 
-    /// The date of the newest token.
+    /// The date of the newest token, where there is one.
     #[inline(always)]
-    pub(crate) fn newest_date(&self) -> Option<u64>
+    pub fn newest_date(&self) -> Option<u64>
         ensures { result ≡ last_item self.now.dates }
     {
         if self.count > 1 {
@@ -113,7 +114,7 @@ impl Channel {
 
     /// How many tokens the channel has.
     #[inline(always)]
-    pub(crate) fn held(&self) -> u32
+    pub fn held(&self) -> u32
         ensures { result ≡ length self.now.tokens }
     {
         self.count
@@ -121,7 +122,7 @@ impl Channel {
 
     /// Whether the channel has fewer tokens than slots.
     #[inline(always)]
-    pub(crate) fn has_room(&self) -> bool
+    pub fn has_room(&self) -> bool
         ensures { IsTrue result ↔ (length self.now.tokens < self.now.slots) }
     {
         self.count < self.slots
@@ -129,7 +130,7 @@ impl Channel {
 
     /// Whether the channel has as many tokens as slots.
     #[inline(always)]
-    pub(crate) fn is_full(&self) -> bool
+    pub fn is_full(&self) -> bool
         ensures { IsTrue result ↔ self.now.slots ≤ length self.now.tokens }
     {
         self.count >= self.slots
@@ -137,7 +138,7 @@ impl Channel {
 
     /// Takes the oldest token, where there is one.
     #[inline(always)]
-    pub(crate) fn take(&mut self)
+    pub fn take(&mut self)
         ensures { self.new
             ≡ lane (drop 1 self.old.tokens) (drop 1 self.old.dates) self.old.slots }
     {
@@ -162,9 +163,9 @@ impl Channel {
         }
     }
 
-    /// Puts a token.
+    /// Puts a token with its date behind the others. It takes no memory.
     #[inline(always)]
-    pub(crate) fn put(&mut self, value: u64, date: u64)
+    pub fn put(&mut self, value: u64, date: u64)
         requires { length self.old.tokens < self.old.slots }
         ensures { self.new
             ≡ lane (self.old.tokens ++ value ∷ []) (self.old.dates ++ date ∷ []) self.old.slots }

@@ -1,26 +1,19 @@
-//! What two states of one net exchange.
+//! What a state exchanges with single rooms, and counts that are added to it.
 
-ghost use Rattle.std.specs.Prelude.{◌≡◌, ◌<◌, ◌+◌, ◌^◌, ℕ, get_or, set, length};
-ghost use Rattle.net_core.specs.declared.cell.Cell.TheVariants.{Plain};
-ghost use Rattle.net_core.specs.Exchanges.{HasStraysOf, chan_from, with_unit};
-ghost use Rattle.net_core.specs.States.{IsOf, dates_of, state_of, strays_at, with_tokens};
+ghost use Rattle.std.specs.Prelude.{◌≡◌, ◌<◌, ◌+◌, ◌^◌, ℕ, true, [], get_or, set, length};
+ghost use Rattle.net_core.specs.Exchanges.{HasStraysBy, SameButCells, SameButTokens};
+ghost use Rattle.net_types.specs.Nets.{chan_at, kind_of};
+ghost use Rattle.net_core.specs.Fire.{tokens_at};
+ghost use Rattle.net_core.specs.Held.{lane};
+ghost use Rattle.net_core.specs.Plans.{keeps, own_of, IsShaped};
+ghost use Rattle.net_core.specs.States.{IsOf, cell_at, cells_of, dates_of, queue_array, state_of, strays_at};
 ghost use Rattle.net_core.specs.private.Exchanges.{AreSummed};
 
 use crate::cell::Cell;
+use crate::channel::Channel;
 use crate::state::State;
 use net_check::Checked;
 use std::mem::swap;
-
-/// Exchanges one cell.
-fn exchange_cells(cells: &mut Vec<Cell>, others: &mut Vec<Cell>, at: usize)
-    requires within { at < length cells.old.items }
-    requires both { at < length others.old.items }
-    ensures cells { cells.new.items ≡ set cells.old.items at (get_or others.old.items at Plain) }
-    ensures others { others.new.items
-        ≡ set others.old.items at (get_or cells.old.items at Plain) }
-{
-    swap(&mut cells[at], &mut others[at]);
-}
 
 /// Adds numbers to those at the same places; none past them.
 fn add_each(sums: &mut Vec<u64>, more: &[u64])
@@ -35,57 +28,50 @@ fn add_each(sums: &mut Vec<u64>, more: &[u64])
 }
 
 impl State {
-    /// Exchanges what a unit keeps with another state of the net, with the array of the queue that the unit is. It takes no
-    /// memory.
-    pub fn exchange_unit(&mut self, other: &mut State, net: &Checked, unit: u32)
+    /// Exchanges what a unit keeps with a cell of the form and the shape that the unit asks for. It takes no memory.
+    pub fn exchange_cell(&mut self, net: &Checked, unit: u32, other: &mut Cell)
         requires of { IsOf net.now self.old }
-        requires of_other { IsOf net.now other.old }
         requires within { unit < length net.now.units }
+        requires keeps { keeps (kind_of net.now unit) other.old ≡ true }
+        requires shape { IsShaped (kind_of net.now unit) other.old (queue_array other.old) }
+        requires serial { (own_of other.old).queue.next < 2 ^ 63 }
         ensures of { IsOf net.now self.new }
-        ensures of_other { IsOf net.now other.new }
-        ensures state { state_of self.new
-            ≡ with_unit net.now unit (state_of other.old) (state_of self.old) }
-        ensures other { state_of other.new
-            ≡ with_unit net.now unit (state_of self.old) (state_of other.old) }
-        ensures dates { dates_of self.new ≡ dates_of self.old }
-        ensures other_dates { dates_of other.new ≡ dates_of other.old }
+        ensures cells { cells_of self.new ≡ set (cells_of self.old) unit other.old }
+        ensures rest { SameButCells self.old self.new }
+        ensures other { other.new ≡ cell_at self.old unit }
     {
         let _ = net;
-        exchange_cells(&mut self.cells, &mut other.cells, unit as usize);
+        swap(&mut self.cells[unit as usize], other);
     }
 
-    /// Exchanges the tokens of a channel, with their dates, with another state of the net. It takes no memory.
-    pub fn exchange_chan(&mut self, other: &mut State, net: &Checked, chan: u32)
+    /// Exchanges the tokens of a channel, with their dates, with those of another channel of as many slots. It takes no
+    /// memory.
+    pub fn exchange_channel(&mut self, net: &Checked, chan: u32, other: &mut Channel)
         requires of { IsOf net.now self.old }
-        requires of_other { IsOf net.now other.old }
         requires within { chan < length net.now.chans }
+        requires slots { other.old.slots ≡ (chan_at net.now chan).slots }
         ensures of { IsOf net.now self.new }
-        ensures of_other { IsOf net.now other.new }
-        ensures state { state_of self.new ≡ with_tokens
-            (chan_from chan (state_of other.old).tokens (state_of self.old).tokens)
-            (state_of self.old) }
-        ensures other { state_of other.new ≡ with_tokens
-            (chan_from chan (state_of self.old).tokens (state_of other.old).tokens)
-            (state_of other.old) }
-        ensures dates { dates_of self.new
-            ≡ chan_from chan (dates_of other.old) (dates_of self.old) }
-        ensures other_dates { dates_of other.new
-            ≡ chan_from chan (dates_of self.old) (dates_of other.old) }
+        ensures tokens { (state_of self.new).tokens
+            ≡ set (state_of self.old).tokens chan other.old.tokens }
+        ensures dates { dates_of self.new ≡ set (dates_of self.old) chan other.old.dates }
+        ensures rest { SameButTokens self.old self.new }
+        ensures other { other.new ≡ lane (tokens_at (state_of self.old) chan)
+            (get_or (dates_of self.old) chan []) (chan_at net.now chan).slots }
     {
         let _ = net;
-        self.tokens.exchange(&mut other.tokens, chan);
+        self.tokens.exchange_one(chan, other);
     }
 
-    /// Adds the counts of strays of another state. It takes no memory.
-    pub fn add_strays(&mut self, other: &State, net: &Checked)
+    /// Adds counts of strays, by array; those past the arrays count for nothing. It takes no memory.
+    pub fn add_stray_counts(&mut self, net: &Checked, counts: &[u64])
         requires of { IsOf net.now self.old }
         requires fits { (a : ℕ)
-            → strays_at (state_of self.old) a + strays_at (state_of other.now) a < 2 ^ 64 }
+            → strays_at (state_of self.old) a + get_or counts.now a 0 < 2 ^ 64 }
         ensures of { IsOf net.now self.new }
-        ensures state { HasStraysOf (state_of self.old) (state_of other.now) (state_of self.new) }
+        ensures state { HasStraysBy (state_of self.old) counts.now (state_of self.new) }
         ensures dates { dates_of self.new ≡ dates_of self.old }
     {
         let _ = net;
-        add_each(&mut self.strays, other.strays.as_slice());
+        add_each(&mut self.strays, counts);
     }
 }

@@ -10,6 +10,7 @@ ghost use Rattle.net_core.specs.Finds.{IsLeastFiring, IsLeastFrom, IsQuietFrom, 
 ghost use Rattle.net_core.specs.private.Searches.{AreNumbersOf, IsFirstIn, IsNumberOf, NoneIn, act_from, act_of, family_rank, numbers_from, queue_families, queue_numbers, serials_from, start_from};
 
 use crate::cell::UnitQueue;
+use crate::searched::Searched;
 use crate::state::State;
 use lsq_core::Queue;
 use net_check::Checked;
@@ -249,70 +250,90 @@ impl State {
         ensures { MatchOption result (IsQuiet net.now (state_of self.now) unit from)
             (λ act. IsLeastAct net.now (state_of self.now) unit from act) }
     {
-        match &net.net().units.as_slice()[unit as usize] {
-            Unit::Fork { outs, .. } => {
-                let numbers = Family::Send.numbers(from, *outs as u64);
-                self.first_in(net, unit, Family::Send, numbers)
-            }
-            Unit::Cmerge { ins } => {
-                let numbers = Family::From.numbers(from, *ins as u64);
-                self.first_in(net, unit, Family::From, numbers)
-            }
-            Unit::Lsq { ports, groups, .. } => match self.queue(net, unit) {
-                None => None,
-                Some(queue) => {
-                    let ports = ports.len() as u64;
-                    let groups = groups.len() as u64;
-                    self.first_of_queue(net, unit, queue, ports, groups, from)
-                }
-            },
-            _ => self.first_in(net, unit, Family::Go, Family::Go.numbers(from, 1)),
-        }
+        find_act_in(self, net, unit, from)
     }
+}
 
-    /// The first enabled act of a family among those with these numbers.
-    fn first_in(&self, net: &Checked, unit: u32, family: Family, numbers: Numbers) -> Option<Act>
-        requires of { IsOf net.now self.now }
-        requires numbers { AreNumbersOf family numbers.end }
-        ensures { MatchOption result
-            (NoneIn net.now (state_of self.now) unit family numbers.start numbers.end)
-            (λ act. IsFirstIn net.now (state_of self.now) unit family
-            numbers.start numbers.end act) }
-    {
-        for number in numbers.start..numbers.end {
-            let act = family.act(number);
-            if self.enabled(net, Firing { unit, act }) {
-                return Some(act);
-            }
+/// The least enabled act of a unit that is not before another act, in a state that may be asked about the unit, as
+/// [`State::find_act`] tells it.
+pub fn find_act_in<S: Searched>(state: &S, net: &Checked, unit: u32, from: Act) -> Option<Act>
+    requires of { IsOf net.now (S.stored state.now) }
+    requires within { unit < length net.now.units }
+    requires shown { S.shows state.now net.now unit }
+    ensures { MatchOption result (IsQuiet net.now (state_of (S.stored state.now)) unit from)
+        (λ act. IsLeastAct net.now (state_of (S.stored state.now)) unit from act) }
+{
+    match &net.net().units.as_slice()[unit as usize] {
+        Unit::Fork { outs, .. } => {
+            let numbers = Family::Send.numbers(from, *outs as u64);
+            first_in(state, net, unit, Family::Send, numbers)
         }
-        None
+        Unit::Cmerge { ins } => {
+            let numbers = Family::From.numbers(from, *ins as u64);
+            first_in(state, net, unit, Family::From, numbers)
+        }
+        Unit::Lsq { ports, groups, .. } => match state.queue(net, unit) {
+            None => None,
+            Some(queue) => {
+                let ports = ports.len() as u64;
+                let groups = groups.len() as u64;
+                first_of_queue(state, net, unit, queue, ports, groups, from)
+            }
+        },
+        _ => first_in(state, net, unit, Family::Go, Family::Go.numbers(from, 1)),
     }
+}
 
-    /// The least enabled act of a queue that is not before another act.
-    fn first_of_queue(
-        &self,
-        net: &Checked,
-        unit: u32,
-        queue: &UnitQueue,
-        ports: u64,
-        groups: u64,
-        from: Act,
-    ) -> Option<Act>
-        requires of { IsOf net.now self.now }
-        requires queue { IsQueueAt net.now self.now unit queue.now }
-        requires ports { (ports ≡ length queue.now.ports) × IsNumbered ports }
-        requires groups { (groups ≡ length queue.now.groups) × IsNumbered groups }
-        ensures { MatchOption result (IsQuiet net.now (state_of self.now) unit from)
-            (λ act. IsLeastAct net.now (state_of self.now) unit from act) }
-    {
-        let _ = queue.len();
-        for at in 0..QUEUE_FAMILIES.len() {
-            let family = queue_family(at);
-            let numbers = queue_numbers(queue, family, from, ports, groups);
-            if let Some(act) = self.first_in(net, unit, family, numbers) {
-                return Some(act);
-            }
+/// The first enabled act of a family among those with these numbers.
+fn first_in<S: Searched>(
+    state: &S,
+    net: &Checked,
+    unit: u32,
+    family: Family,
+    numbers: Numbers,
+) -> Option<Act>
+    requires of { IsOf net.now (S.stored state.now) }
+    requires shown { S.shows state.now net.now unit }
+    requires numbers { AreNumbersOf family numbers.end }
+    ensures { MatchOption result
+        (NoneIn net.now (state_of (S.stored state.now)) unit family numbers.start numbers.end)
+        (λ act. IsFirstIn net.now (state_of (S.stored state.now)) unit family
+        numbers.start numbers.end act) }
+{
+    for number in numbers.start..numbers.end {
+        let act = family.act(number);
+        if state.enabled(net, Firing { unit, act }) {
+            return Some(act);
         }
-        None
     }
+    None
+}
+
+/// The least enabled act of a queue that is not before another act.
+fn first_of_queue<S: Searched>(
+    state: &S,
+    net: &Checked,
+    unit: u32,
+    queue: &UnitQueue,
+    ports: u64,
+    groups: u64,
+    from: Act,
+) -> Option<Act>
+    requires of { IsOf net.now (S.stored state.now) }
+    requires shown { S.shows state.now net.now unit }
+    requires queue { IsQueueAt net.now (S.stored state.now) unit queue.now }
+    requires ports { (ports ≡ length queue.now.ports) × IsNumbered ports }
+    requires groups { (groups ≡ length queue.now.groups) × IsNumbered groups }
+    ensures { MatchOption result (IsQuiet net.now (state_of (S.stored state.now)) unit from)
+        (λ act. IsLeastAct net.now (state_of (S.stored state.now)) unit from act) }
+{
+    let _ = queue.len();
+    for at in 0..QUEUE_FAMILIES.len() {
+        let family = queue_family(at);
+        let numbers = queue_numbers(queue, family, from, ports, groups);
+        if let Some(act) = first_in(state, net, unit, family, numbers) {
+            return Some(act);
+        }
+    }
+    None
 }

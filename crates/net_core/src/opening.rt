@@ -11,10 +11,12 @@ use crate::cell::Cell;
 use net_types::{List, Memory, Unit};
 use std::alloc::Global;
 
-/// Where an array lies: here, or in the queue of a unit.
+/// Where an array lies.
 #[derive(Drop)]
-pub(crate) enum Home {
+pub enum Home {
+    /// Here: its elements, which no firing writes.
     Here(List<u64>),
+    /// In the queue of the unit of this number.
     Queue(u32),
 }
 

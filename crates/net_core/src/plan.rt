@@ -91,7 +91,7 @@ pub struct Plan {
 
 /// The channel into an input place of a unit whose first places are known, or the number of all channels.
 #[inline(always)]
-pub(crate) fn into_at(net: &Checked, unit: u32, pins: Pins, place: u64) -> u32
+pub fn into_at(net: &Checked, unit: u32, pins: Pins, place: u64) -> u32
     requires { pins ≡ pins_of unit net.now.chans }
     ensures { result ≡ into unit place net.now.chans }
 {
@@ -193,7 +193,7 @@ fn puts(takes: Takes, place: u64, value: u64) -> Option<Plan>
 /// What a fork's sending does.
 #[tactic(auto, unfolding(crate::specs::Fire::row))]
 #[inline(always)]
-pub(crate) fn plan_send<H: Heads>(
+pub fn plan_send<H: Heads>(
     heads: &H,
     outs: u32,
     out: u32,
@@ -244,7 +244,7 @@ fn plan_start(cell: &Cell, value: u64) -> Option<Plan>
 
 /// What a unit does that takes the head of its one place, and keeps nothing.
 #[inline(always)]
-pub(crate) fn plan_one<H: Heads>(heads: &H, put: Option<Put>) -> Option<Plan>
+pub fn plan_one<H: Heads>(heads: &H, put: Option<Put>) -> Option<Plan>
     ensures apart { IfSome result (λ p. apart p.takes ≡ true) }
     ensures change { IfSome result (λ p. p.change ≡ change.Keep) }
     ensures effect { IsTakingPlan put (H.heads heads.now) result }
@@ -259,7 +259,7 @@ pub(crate) fn plan_one<H: Heads>(heads: &H, put: Option<Put>) -> Option<Plan>
 
 /// What the firing of an operation on one word does.
 #[inline(always)]
-pub(crate) fn plan_op1<H: Heads>(heads: &H, op: Op1) -> Option<Plan>
+pub fn plan_op1<H: Heads>(heads: &H, op: Op1) -> Option<Plan>
     ensures apart { IfSome result (λ p. apart p.takes ≡ true) }
     ensures change { IfSome result (λ p. p.change ≡ change.Keep) }
     ensures effect { IsPlainPlan (units.Op1 op) (H.heads heads.now) result }
@@ -270,7 +270,7 @@ pub(crate) fn plan_op1<H: Heads>(heads: &H, op: Op1) -> Option<Plan>
 
 /// What the firing of an operation on two words does.
 #[inline(always)]
-pub(crate) fn plan_op2<H: Heads>(heads: &H, op: Op2) -> Option<Plan>
+pub fn plan_op2<H: Heads>(heads: &H, op: Op2) -> Option<Plan>
     ensures apart { IfSome result (λ p. apart p.takes ≡ true) }
     ensures change { IfSome result (λ p. p.change ≡ change.Keep) }
     ensures effect { IsPlainPlan (units.Op2 op) (H.heads heads.now) result }
@@ -282,7 +282,7 @@ pub(crate) fn plan_op2<H: Heads>(heads: &H, op: Op2) -> Option<Plan>
 
 /// What the firing of a select does.
 #[inline(always)]
-pub(crate) fn plan_select<H: Heads>(heads: &H) -> Option<Plan>
+pub fn plan_select<H: Heads>(heads: &H) -> Option<Plan>
     ensures apart { IfSome result (λ p. apart p.takes ≡ true) }
     ensures change { IfSome result (λ p. p.change ≡ change.Keep) }
     ensures effect { (w : ℕ) → IsPlainPlan (units.Select w) (H.heads heads.now) result }
@@ -295,7 +295,7 @@ pub(crate) fn plan_select<H: Heads>(heads: &H) -> Option<Plan>
 
 /// What the firing of a mux does.
 #[inline(always)]
-pub(crate) fn plan_mux<H: Heads>(heads: &H, ins: u32) -> Option<Plan>
+pub fn plan_mux<H: Heads>(heads: &H, ins: u32) -> Option<Plan>
     ensures apart { IfSome result (λ p. apart p.takes ≡ true) }
     ensures change { IfSome result (λ p. p.change ≡ change.Keep) }
     ensures effect { (w : ℕ) → IsPlainPlan (units.Mux w ins) (H.heads heads.now) result }
@@ -309,7 +309,7 @@ pub(crate) fn plan_mux<H: Heads>(heads: &H, ins: u32) -> Option<Plan>
 
 /// What the firing of a branch does.
 #[inline(always)]
-pub(crate) fn plan_branch<H: Heads>(heads: &H) -> Option<Plan>
+pub fn plan_branch<H: Heads>(heads: &H) -> Option<Plan>
     ensures apart { IfSome result (λ p. apart p.takes ≡ true) }
     ensures change { IfSome result (λ p. p.change ≡ change.Keep) }
     ensures effect { (w : ℕ) → IsPlainPlan (units.Branch w) (H.heads heads.now) result }
@@ -321,7 +321,7 @@ pub(crate) fn plan_branch<H: Heads>(heads: &H) -> Option<Plan>
 
 /// What the firing of a read does.
 #[inline(always)]
-pub(crate) fn plan_read<H: Heads>(heads: &H, array: &[u64]) -> Option<Plan>
+pub fn plan_read<H: Heads>(heads: &H, array: &[u64]) -> Option<Plan>
     ensures apart { IfSome result (λ p. apart p.takes ≡ true) }
     ensures admits { (c : CellKept) → IfSome result (λ p. admits c p.change ≡ true) }
     ensures effect { (a : ℕ) → IsGoPlan (units.Read a) array.now (H.heads heads.now) result }
@@ -383,7 +383,7 @@ fn scalar_at(scalars: &[u64], scalar: u32) -> u64
 /// What the firing of a unit that only goes does. It stands apart so that what plans any firing stays small.
 #[tactic(auto, unfolding(crate::specs::Fire::row))]
 #[inline(never)]
-pub(crate) fn plan_go<H: Heads>(
+pub fn plan_go<H: Heads>(
     heads: &H,
     unit: &Unit,
     cell: &Cell,
@@ -535,7 +535,7 @@ fn plan_queue<H: Heads>(
 
 /// What the firing of a control merge from an input does.
 #[inline(always)]
-pub(crate) fn plan_from<H: Heads>(heads: &H, ins: u32, which: u32) -> Option<Plan>
+pub fn plan_from<H: Heads>(heads: &H, ins: u32, which: u32) -> Option<Plan>
     ensures apart { IfSome result (λ p. apart p.takes ≡ true) }
     ensures change { IfSome result (λ p. p.change ≡ change.Keep) }
     ensures effect { IsFromPlan ins which (H.heads heads.now) result }
@@ -550,7 +550,7 @@ pub(crate) fn plan_from<H: Heads>(heads: &H, ins: u32, which: u32) -> Option<Pla
 /// What an act does of a queue or a control merge; none of them is Go or the sending to an output.
 #[tactic(auto, unfolding(crate::specs::Fire::row))]
 #[inline(always)]
-pub(crate) fn plan_act<H: Heads>(heads: &H, unit: &Unit, act: Act, cell: &Cell) -> Option<Plan>
+pub fn plan_act<H: Heads>(heads: &H, unit: &Unit, act: Act, cell: &Cell) -> Option<Plan>
     requires keeps { keeps unit.now cell.now ≡ true }
     requires shape { KeepsShape unit.now cell.now }
     requires goes { act_rank act ≢ 0 }

@@ -14,7 +14,7 @@ ghost use Rattle.net_core.specs.Held.{dated_laid, laid_on, put_at_end, take_at, 
 ghost use Rattle.net_core.specs.Parts.{IsByUnit, Stands, state_from};
 ghost use Rattle.net_core.specs.Plans.{apart, admits, chans_of, moves_of};
 ghost use Rattle.net_core.specs.Runs.{HasExited, opening};
-ghost use Rattle.net_core.specs.States.{CountsRise, CountsWithin, IsOf, IsPlanOf, IsQueueAt, TookAtExit, after_where, array_in, arrays_of, cell_at, dates_of, elements_at, queue_array, state_of, strays_at, with_tokens};
+ghost use Rattle.net_core.specs.States.{CountsRise, CountsWithin, IsOf, IsPlanOf, IsQueueAt, TookAtExit, after_where, array_in, arrays_of, cell_at, dates_of, elements_at, exit_at, home_at, homes_of, queue_array, state_of, strays_at, with_tokens};
 
 use crate::cell::{Cell, UnitQueue};
 use crate::opening::{Home, exit_of, fresh_cells, homes, owners};
@@ -22,7 +22,6 @@ use crate::parts::{Parts, fired_flags, joined, queue_parts, restore_cells, sent_
 use crate::plan::{Moves, Plan, Put, moves_of};
 use crate::steps::{change_cell, count_strays};
 use crate::tokens::Tokens;
-use lsq_core::Queue;
 use net_check::Checked;
 use net_types::{Firing, Inputs, List, Memory, Unit};
 use std::alloc::Global;
@@ -59,10 +58,7 @@ fn queue_elements(cells: &Vec<Cell>, unit: u32) -> &[u64]
 {
     let at = unit as usize;
     if at < cells.len() {
-        match &cells[at] {
-            Cell::Queue(queue) => queue.array(),
-            _ => &[],
-        }
+        cells[at].elements()
     } else {
         &[]
     }
@@ -186,9 +182,43 @@ impl State {
         })
     }
 
+    /// Where an array of the header lies; `None` past the arrays.
+    #[inline(always)]
+    pub fn home(&self, array: u32) -> Option<&Home>
+        ensures { MatchOption result (length (homes_of self.now) ≤ array)
+            (λ h. (array < length (homes_of self.now)) × (h.now ≡ home_at self.now array)) }
+    {
+        self.homes.get(array as usize)
+    }
+
+    /// What a unit keeps; `None` past the units.
+    #[inline(always)]
+    pub fn cell(&self, unit: u32) -> Option<&Cell>
+        ensures { MatchOption result (length self.now.cells.items ≤ unit)
+            (λ c. (unit < length self.now.cells.items) × (c.now ≡ cell_at self.now unit)) }
+    {
+        self.cells.get(unit as usize)
+    }
+
+    /// The scalars of the inputs.
+    #[inline(always)]
+    pub fn scalars(&self) -> &[u64]
+        ensures { result.now ≡ (state_of self.now).scalars }
+    {
+        self.scalars.as_slice()
+    }
+
+    /// The number of the exit among the units.
+    #[inline(always)]
+    pub fn exit(&self) -> u32
+        ensures { result ≡ exit_at self.now }
+    {
+        self.exit
+    }
+
     /// The elements of an array; none of an array that is not there.
     #[inline(always)]
-    pub(crate) fn elements(&self, array: u32) -> &[u64]
+    pub fn elements(&self, array: u32) -> &[u64]
         ensures { result.now ≡ get_or (arrays_of self.now) array [] }
     {
         let at = array as usize;

@@ -32,7 +32,7 @@ pub(crate) fn change_cell(cells: &mut Vec<Cell>, unit: u32, change: Change) -> b
 
 /// Counts a stray of the array that a unit works on, where there is one.
 #[inline(always)]
-pub(crate) fn count_strays(strays: &mut Vec<u64>, net: &Checked, unit: u32, stray: bool)
+pub fn count_strays(strays: &mut Vec<u64>, net: &Checked, unit: u32, stray: bool)
     requires { (a : ℕ) → get_or strays.old.items a 0 ≤ 2 ^ 62 }
     ensures { strays.new.items
         ≡ counted (uses (kind_of net.now unit)) (count_of stray) strays.old.items }

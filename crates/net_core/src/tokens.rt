@@ -1,10 +1,9 @@
 //! The tokens of all channels.
 
-ghost use Rattle.std.specs.Prelude.{◌≡◌, ◌<◌, ◌≤◌, ◌^◌, ◌↔◌, ℕ, [], get_or, length, map, IsTrue, IfOk, IfSome};
+ghost use Rattle.std.specs.Prelude.{◌≡◌, ◌<◌, ◌≤◌, ◌^◌, ◌↔◌, ℕ, [], get_or, set, length, map, IsTrue, IfOk, IfSome};
 ghost use Rattle.circular_buffer.specs.Buffer.{last_item};
 ghost use Rattle.net_core.specs.Fire.{first};
 ghost use Rattle.net_core.specs.Held.{AllWithin, HasRoom, dated_laid, held_of, laid_on, lane, put_at_end, take_at, taken_all};
-ghost use Rattle.net_core.specs.Exchanges.{chan_from};
 ghost use Rattle.net_core.specs.Plans.{chans_of};
 ghost use Rattle.net_core.specs.private.Channels.{zeros_for};
 ghost use Rattle.net_types.specs.declared.net.Chan.{Chan as ChanValue};
@@ -158,21 +157,17 @@ impl Tokens {
         self.channels[chan as usize].put(value, date);
     }
 
-    /// Exchanges the tokens of a channel, with their dates, with those of other channels of the same slots.
-    pub(crate) fn exchange(&mut self, other: &mut Tokens, chan: u32)
+    /// Exchanges the tokens of a channel, with their dates, with those of another channel of as many slots.
+    pub(crate) fn exchange_one(&mut self, chan: u32, other: &mut Channel)
         requires within { chan < length self.old.tokens }
-        requires both { length other.old.tokens ≡ length self.old.tokens }
-        requires slots { other.old.slots ≡ self.old.slots }
-        ensures tokens { self.new.tokens ≡ chan_from chan other.old.tokens self.old.tokens }
+        requires slots { other.old.slots ≡ get_or self.old.slots chan 0 }
+        ensures tokens { self.new.tokens ≡ set self.old.tokens chan other.old.tokens }
         ensures slots { self.new.slots ≡ self.old.slots }
-        ensures dates { self.new.dates ≡ chan_from chan other.old.dates self.old.dates }
-        ensures other_tokens { other.new.tokens
-            ≡ chan_from chan self.old.tokens other.old.tokens }
-        ensures other_slots { other.new.slots ≡ other.old.slots }
-        ensures other_dates { other.new.dates ≡ chan_from chan self.old.dates other.old.dates }
+        ensures dates { self.new.dates ≡ set self.old.dates chan other.old.dates }
+        ensures other { other.new ≡ lane (get_or self.old.tokens chan [])
+            (get_or self.old.dates chan []) (get_or self.old.slots chan 0) }
     {
-        let at = chan as usize;
-        swap(&mut self.channels[at], &mut other.channels[at]);
+        swap(&mut self.channels[chan as usize], other);
     }
 
     /// Takes the oldest tokens of channels.

@@ -35,6 +35,7 @@ use Rattle.net_worker.specs.Offers.{held_stamp, greatest_in, RoomAt, RoomFor, Is
 use Rattle.net_worker.specs.Workers.{owner_in, IsMadeOf, IsWhole, put_end, take_end, held_by, handed_by, repaid_by}
 use Rattle.net_worker.specs.declared.entry.Entry.{Entry}
 use Rattle.net_worker.specs.declared.tables.Tables.{Tables}
+use Rattle.net_worker.specs.Portions.{SameHere}
 use Rattle.net_worker.specs.declared.worker.Worker.{Worker}
 use Rattle.net_worker.proofs.Asking.{take_step_later, none_some}
 use Rattle.net_worker.proofs.Moves.{tokens_after, not_taken_there}
@@ -92,7 +93,7 @@ module _ (t : Tables) (a : Worker) (m : IsMadeOf t a) where
   j = a.number
 
   -- where the state has a head, an end holds a token
-  pub holds_at : (u : ℕ) → owner u ≡ j → (p : ℕ) → Has (head_at t.net (state_of a.state) u) p → HoldsIfAny (take_end a (into u p t.net.chans))
+  pub holds_at : (u : ℕ) → owner u ≡ j → (p : ℕ) → Has (head_at t.net (state_of a.portion.state) u) p → HoldsIfAny (take_end a (into u p t.net.chans))
   holds_at u mine p h = by (take_end a (into u p t.net.chans)) refl
     where
       c : ℕ
@@ -130,28 +131,28 @@ module _ (t : Tables) (a : Worker) (m : IsMadeOf t a) where
           }
 
   -- an output to another worker is empty in the state, and has slots
-  pub room_held : IsChecked t.net → (u : ℕ) → owner u ≡ j → (o : Option Put) → RoomFor t.net (state_of a.state) u o a.puts.items → has_room t.net (state_of a.state) u o
+  pub room_held : IsChecked t.net → (u : ℕ) → owner u ≡ j → (o : Option Put) → RoomFor t.net (state_of a.portion.state) u o a.puts.items → has_room t.net (state_of a.portion.state) u o
   room_held checked u mine None r = tt
   room_held checked u mine (Some w) r = by (put_end a (out_of u w.place t.net.chans)) refl r
     where
       c : ℕ
       c = out_of u w.place t.net.chans
 
-      by : (o : Option PutEnd) → put_end a c ≡ o → RoomAt t.net (state_of a.state) c o → length (tokens_at (state_of a.state) c) < (chan_at t.net c).slots
+      by : (o : Option PutEnd) → put_end a c ≡ o → RoomAt t.net (state_of a.portion.state) c o → length (tokens_at (state_of a.portion.state) c) < (chan_at t.net c).slots
       by None is r = r
       by (Some p) is r =
           let i = (m.puts_out c p is).0 in
           let z = ap length (m.sees.out c i.0 i.2) in
           omega (arith, (checked.sized c i.0).slots_some)
 
-  room_in : (u : ℕ) → (o : Option Put) → RoomFor t.net (state_of a.state) u o a.puts.items → HasRoomIn t.net owner j (state_of a.state) u o
+  room_in : (u : ℕ) → (o : Option Put) → RoomFor t.net (state_of a.portion.state) u o a.puts.items → HasRoomIn t.net owner j (state_of a.portion.state) u o
   room_in u None r = tt
   room_in u (Some w) r = by (put_end a (out_of u w.place t.net.chans)) refl r
     where
       c : ℕ
       c = out_of u w.place t.net.chans
 
-      by : (o : Option PutEnd) → put_end a c ≡ o → RoomAt t.net (state_of a.state) c o → (c < length t.net.chans) × (taker t.net owner c ≡ j → length (tokens_at (state_of a.state) c) < (chan_at t.net c).slots)
+      by : (o : Option PutEnd) → put_end a c ≡ o → RoomAt t.net (state_of a.portion.state) c o → (c < length t.net.chans) × (taker t.net owner c ≡ j → length (tokens_at (state_of a.portion.state) c) < (chan_at t.net c).slots)
       by None is r = (slots_within t.net c _ r, λ q. r)
       by (Some p) is r = (let i = (m.puts_out c p is).0 in (i.0, λ q. absurd (i.2 q)))
 
@@ -159,7 +160,7 @@ module _ (t : Tables) (a : Worker) (m : IsMadeOf t a) where
   early_all u n [] l = tt
   early_all u n (p ∷ ps) l = (λ x i h. (let k = ap held_stamp h in omega arith), early_all u n ps (omega arith))
 
-  pub few_counts : CountsWithin (2 ^ 62) (state_of a.state)
+  pub few_counts : CountsWithin (2 ^ 62) (state_of a.portion.state)
   few_counts = record {
     serials = λ u. (let k = m.counts.serials u in omega (arith, m.room, a.most));
     strays = λ x. (let k = m.counts.strays x in omega (arith, m.room, a.most));
@@ -167,9 +168,9 @@ module _ (t : Tables) (a : Worker) (m : IsMadeOf t a) where
 
 -- ---- the state, without the token that went to another worker
 
-module _ (t : Tables) (a : Worker) (m : IsMadeOf t a) (f : Firing) (x : Effect) (mine : owner_in t f.unit ≡ a.number) (does : effect t.net (state_of a.state) f ≡ Some x) (within : HasRoomIn t.net (owner_in t) a.number (state_of a.state) f.unit x.put) where
+module _ (t : Tables) (a : Worker) (m : IsMadeOf t a) (f : Firing) (x : Effect) (mine : owner_in t f.unit ≡ a.number) (does : effect t.net (state_of a.portion.state) f ≡ Some x) (within : HasRoomIn t.net (owner_in t) a.number (state_of a.portion.state) f.unit x.put) where
   abbrev s : State
-  s = state_of a.state
+  s = state_of a.portion.state
 
   abbrev s1 : State
   s1 = applied t.net f.unit x s
@@ -268,36 +269,37 @@ over_before c n v (Some p) (Some q) s1 s2 k h = h
 -- what the parts of a firing leave of a worker
 pub record IsMadeUp (t : Tables) (a b : Worker) (f : Firing) (x : Effect) (n : ℕ) (es : List (Option TakeEnd)) (s1 : State) : Type 0 where
   pub mine : owner_in t f.unit ≡ a.number
-  pub does : effect t.net (state_of a.state) f ≡ Some x
+  pub does : effect t.net (state_of a.portion.state) f ≡ Some x
   pub asked : TakesAsked a.takes.items es
-  pub offered : IsOffered t.net (state_of a.state) f.unit x.put (base_of t a f) n a.puts.items b.puts.items
-  pub made : s1 ≡ applied t.net f.unit x (state_of a.state)
-  pub rise : CountsRise max_depth (state_of a.state) s1
-  pub over : IsHandedOver t.net f.unit x.put b.puts.items s1 (state_of b.state)
+  pub offered : IsOffered t.net (state_of a.portion.state) f.unit x.put (base_of t a f) n a.puts.items b.puts.items
+  pub made : s1 ≡ applied t.net f.unit x (state_of a.portion.state)
+  pub rise : CountsRise max_depth (state_of a.portion.state) s1
+  pub over : IsHandedOver t.net f.unit x.put b.puts.items s1 (state_of b.portion.state)
   pub taken : AreTaken t.net f.unit n x.takes es b.takes.items
   pub number : b.number ≡ a.number
   pub share : b.share ≡ a.share
   pub items : b.log.items ≡ a.log.items ++ (record { stamp = n; firing = f }) ∷ []
   pub log_room : b.log.room + 1 ≡ a.log.room
   pub clock : b.clock ≡ n
-  pub of : IsOf t.net b.state
+  pub of : IsOf t.net b.portion.state
+  pub here : SameHere a.portion b.portion
   pub outs : b.outs ≡ a.outs
   pub ins : b.ins ≡ a.ins
   pub closed : b.closed ≡ a.closed
   pub resting : b.resting ≡ false
 
 module _ (t : Tables) (a b : Worker) (m : IsMadeOf t a) (w : IsWhole t a) (f : Firing) (x : Effect) (n : ℕ) (es : List (Option TakeEnd)) (s1 : State) (o : IsMadeUp t a b f x n es s1) where
-  over_old : (p : Option Put) → x.put ≡ p → IsHandedOver t.net f.unit p a.puts.items s1 (state_of b.state)
-  over_old None is = subst (λ p. IsHandedOver t.net f.unit p b.puts.items s1 (state_of b.state)) is o.over
+  over_old : (p : Option Put) → x.put ≡ p → IsHandedOver t.net f.unit p a.puts.items s1 (state_of b.portion.state)
+  over_old None is = subst (λ p. IsHandedOver t.net f.unit p b.puts.items s1 (state_of b.portion.state)) is o.over
   over_old (Some v) is =
       let c = out_of f.unit v.place t.net.chans in
-      over_before c n (puts_on t.net f.unit x.put c) (put_end a c) (put_end b c) s1 (state_of b.state) (o.offered.puts c) (subst (λ p. IsHandedOver t.net f.unit p b.puts.items s1 (state_of b.state)) is o.over)
+      over_before c n (puts_on t.net f.unit x.put c) (put_end a c) (put_end b c) s1 (state_of b.portion.state) (o.offered.puts c) (subst (λ p. IsHandedOver t.net f.unit p b.puts.items s1 (state_of b.portion.state)) is o.over)
 
-  room_now : HasRoomIn t.net (owner_in t) a.number (state_of a.state) f.unit x.put
+  room_now : HasRoomIn t.net (owner_in t) a.number (state_of a.portion.state) f.unit x.put
   room_now = room_in t a m f.unit x.put o.offered.room
 
-  state_now : IsMadeHere t.net (owner_in t) a.number f.unit x (state_of a.state) (state_of b.state)
-  state_now = made_none t a m f x o.mine o.does room_now x.put refl (state_of b.state) (subst (λ s. IsHandedOver t.net f.unit x.put a.puts.items s (state_of b.state)) o.made (over_old x.put refl)) w
+  state_now : IsMadeHere t.net (owner_in t) a.number f.unit x (state_of a.portion.state) (state_of b.portion.state)
+  state_now = made_none t a m f x o.mine o.does room_now x.put refl (state_of b.portion.state) (subst (λ s. IsHandedOver t.net f.unit x.put a.puts.items s (state_of b.portion.state)) o.made (over_old x.put refl)) w
 
   pub made_up : IsFiredExactly t a b f
   made_up = record {
@@ -309,7 +311,7 @@ module _ (t : Tables) (a b : Worker) (m : IsMadeOf t a) (w : IsWhole t a) (f : F
         does = o.does;
         room = room_now;
         later = omega (arith, o.offered.stamp);
-        early = early_all t a m f.unit n (used t.net (state_of a.state) f) (omega (arith, o.offered.stamp));
+        early = early_all t a m f.unit n (used t.net (state_of a.portion.state) f) (omega (arith, o.offered.stamp));
       };
       number = o.number;
       share = o.share;
@@ -317,7 +319,8 @@ module _ (t : Tables) (a b : Worker) (m : IsMadeOf t a) (w : IsWhole t a) (f : F
       log_room = o.log_room;
       clock = o.clock;
       of = o.of;
-      counts = λ k c. handed_counts t.net f.unit (k + max_depth) x.put b.puts.items s1 (state_of b.state) o.over (o.rise k c);
+      here = o.here;
+      counts = λ k c. handed_counts t.net f.unit (k + max_depth) x.put b.puts.items s1 (state_of b.portion.state) o.over (o.rise k c);
       state = state_now;
       ends = o.offered.long;
       ends_too = o.taken.long ∙ o.asked.long;

@@ -4,13 +4,12 @@ use Rattle.std.specs.Ordering.{nat_cmp}
 use Rattle.std.specs.List.Sorted.{IsBinarySearchResult}
 use Rattle.std.proofs.lemmas.List.Sorted.{searched}
 use Rattle.std.proofs.lemmas.Bool.{cases_lt}
-use Rattle.std.proofs.lemmas.List.{length-set, length-replicate, get_or-set_same, get_or-set_other, set-set, set_comm, length-append, get_or_append_left, get_or_at}
-use Rattle.net_worker.specs.ChannelEnds.{spread, AreChannels, ArePlaces, StandsAt, IsNotAmong}
+use Rattle.std.proofs.lemmas.List.{length-set, length-replicate, length-append, get_or_append_left, get_or_at}
+use Rattle.net_worker.specs.ChannelEnds.{spread, length-put_over, AreChannels, ArePlaces, StandsAt, IsNotAmong}
+use Rattle.net_worker.proofs.PutOver.{put_over_none, put_over_some, put_over_set}
 
 pub length-spread : {A : Type 0} (n : ℕ) (cs : List ℕ) (es : List (Option A)) → length (spread n cs es) ≡ n
-length-spread n [] es = length-replicate n None
-length-spread n (c ∷ cs) [] = length-replicate n None
-length-spread n (c ∷ cs) (e ∷ es) = length-set (spread n cs es) c e ∙ length-spread n cs es
+length-spread n cs es = length-put_over cs es (replicate n None) ∙ length-replicate n None
 
 -- nothing among places that have nothing
 pub nothing_there : {A : Type 0} (n c : ℕ) → get_or (replicate {A = Option A} n None) c None ≡ None
@@ -20,44 +19,15 @@ nothing_there (suc n) (suc c) = nothing_there n c
 
 -- nothing at another channel
 pub spread_none : {A : Type 0} (n : ℕ) (cs : List ℕ) (es : List (Option A)) (c : ℕ) → IsNotAmong cs c → get_or (spread n cs es) c None ≡ None
-spread_none n [] es c other = nothing_there n c
-spread_none n (d ∷ cs) [] c other = nothing_there n c
-spread_none n (d ∷ cs) (e ∷ es) c other =
-    get_or-set_other (spread n cs es) d c e None (λ q. other 0 (omega arith) (sym q)) ∙ spread_none n cs es c (λ i l. other (suc i) (omega (arith, l)))
-
--- channels without the first
-behind : (n c : ℕ) (cs : List ℕ) → AreChannels n (c ∷ cs) → AreChannels n cs
-behind n c cs h = record {
-  rise = λ j k p q. h.rise (suc j) (suc k) (omega (arith, p)) (omega (arith, q));
-  within = λ j p. h.within (suc j) (omega (arith, p));
-}
+spread_none n cs es c other = put_over_none cs es (replicate n None) c None other ∙ nothing_there n c
 
 -- at a channel its own end
-pub spread_some : {A : Type 0} (n : ℕ) (cs : List ℕ) (es : List (Option A)) (i : ℕ) → AreChannels n cs → length es ≡ length cs → i < length cs
-    → get_or (spread n cs es) (get_or cs i 0) None ≡ get_or es i None
-spread_some n [] es i h long l = absurd (omega (arith, l))
-spread_some n (c ∷ cs) [] i h long l = absurd (omega (arith, long))
-spread_some n (c ∷ cs) (e ∷ es) zero h long l = get_or-set_same (spread n cs es) c e None (subst (λ m. c < m) (sym (length-spread n cs es)) (h.within 0 l))
-spread_some n (c ∷ cs) (e ∷ es) (suc i) h long l =
-    get_or-set_other (spread n cs es) c (get_or cs i 0) e None (λ q. let r = h.rise 0 (suc i) (omega arith) l in omega (arith, r, q))
-    ∙ spread_some n cs es i (behind n c cs h) (omega (arith, long)) (omega (arith, l))
+pub some_at : {A : Type 0} (n : ℕ) (cs : List ℕ) (es : List (Option A)) (c i : ℕ) → ArePlaces n cs es → StandsAt cs c i → get_or (spread n cs es) c None ≡ get_or es i None
+some_at n cs es c i h s = put_over_some cs es (replicate n None) c i None (subst (λ m. AreChannels m cs) (sym (length-replicate n None)) h.channels) h.long s
 
 -- another end there, and all others as they were
-pub spread_set : {A : Type 0} (n : ℕ) (cs : List ℕ) (es : List (Option A)) (i : ℕ) (x : Option A) → AreChannels n cs → length es ≡ length cs → i < length cs
-    → spread n cs (set es i x) ≡ set (spread n cs es) (get_or cs i 0) x
-spread_set n [] es i x h long l = absurd (omega (arith, l))
-spread_set n (c ∷ cs) [] i x h long l = absurd (omega (arith, long))
-spread_set n (c ∷ cs) (e ∷ es) zero x h long l = sym (set-set (spread n cs es) c e x)
-spread_set n (c ∷ cs) (e ∷ es) (suc i) x h long l =
-    ap (λ y. set y c e) (spread_set n cs es i x (behind n c cs h) (omega (arith, long)) (omega (arith, l)))
-    ∙ set_comm (spread n cs es) (get_or cs i 0) c x e (λ q. let r = h.rise 0 (suc i) (omega arith) l in omega (arith, r, q))
-
--- so by the channel that stands there
-pub some_at : {A : Type 0} (n : ℕ) (cs : List ℕ) (es : List (Option A)) (c i : ℕ) → ArePlaces n cs es → StandsAt cs c i → get_or (spread n cs es) c None ≡ get_or es i None
-some_at n cs es c i h s = subst (λ d. get_or (spread n cs es) d None ≡ get_or es i None) s.1 (spread_some n cs es i h.channels h.long s.0)
-
 pub set_at : {A : Type 0} (n : ℕ) (cs : List ℕ) (es : List (Option A)) (c i : ℕ) (x : Option A) → ArePlaces n cs es → StandsAt cs c i → spread n cs (set es i x) ≡ set (spread n cs es) c x
-set_at n cs es c i x h s = subst (λ d. spread n cs (set es i x) ≡ set (spread n cs es) d x) s.1 (spread_set n cs es i x h.channels h.long s.0)
+set_at n cs es c i x h s = put_over_set n cs es (replicate n None) c i x h.channels h.long s
 
 -- places with another end at one of them
 pub places_set : {A : Type 0} (n : ℕ) (cs : List ℕ) (es : List (Option A)) (i : ℕ) (x : Option A) → ArePlaces n cs es → ArePlaces n cs (set es i x)

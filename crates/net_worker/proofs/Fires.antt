@@ -37,6 +37,7 @@ use Rattle.net_worker.proofs.Locals.{local_fires, plays_stamps}
 use Rattle.net_worker.proofs.Sights.{sees_fires}
 use Rattle.net_worker.proofs.Mays.{worker_may, after_measures}
 use Rattle.net_worker.proofs.Exits.{exit_more}
+use Rattle.net_worker.proofs.Holdings.{own_on}
 
 last_snoc : (k : ℕ) (es : List Entry) (e : Entry) → last_stamp k (es ++ e ∷ []) ≡ e.stamp
 last_snoc k [] e = refl
@@ -151,11 +152,11 @@ module _ (t : Tables) (a b : Worker) (f : Firing) (x : Effect) (n : ℕ) (m : Is
     repays = λ c l p q is. repaid_more n (take_end a c) (take_end b c) (whole.takes c (l, p, q)) (subst (λ g. TakeStep g n (take_end a c) (take_end b c)) is (o.takes c));
   }
 
-  measures : Measures t.net (length t.inputs.arrays) (state_of a.state)
-  measures = record { tokens = m.of.long; own = Rattle.std.proofs.lemmas.List.length-map a.state.cells.items Rattle.net_core.specs.Plans.own_of ∙ m.of.cells; arrays = sym m.sees.arrays_long ∙ (after_measures t a m).arrays }
+  measures : Measures t.net (length t.inputs.arrays) (state_of a.portion.state)
+  measures = record { tokens = m.of.long; own = Rattle.std.proofs.lemmas.List.length-map a.portion.state.cells.items Rattle.net_core.specs.Plans.own_of ∙ m.of.cells; arrays = sym m.sees.arrays_long ∙ (after_measures t a m).arrays }
 
-  sight : Rattle.net_worker.specs.Sights.SeesAfter t.net owner j f x (state_of b.state) m.after.state
-  sight = sees_fires t.net owner (length t.inputs.arrays) j f x (state_of a.state) (state_of b.state) m.after.state measures (after_measures t a m) o.may.mine m.sees o.may.does o.state
+  sight : Rattle.net_worker.specs.Sights.SeesAfter t.net owner j f x (state_of b.portion.state) m.after.state
+  sight = sees_fires t.net owner (length t.inputs.arrays) j f x (state_of a.portion.state) (state_of b.portion.state) m.after.state measures (after_measures t a m) o.may.mine m.sees o.may.does o.state
 
   is_by : after ≡ after_by t.net n m.after f.unit (Some x)
   is_by = after_is t.net n m.after f x may.0
@@ -185,15 +186,16 @@ module _ (t : Tables) (a b : Worker) (f : Firing) (x : Effect) (n : ℕ) (m : Is
   fired : IsMadeOf t b
   fired = record {
     of = o.of;
-    counts = (let k : max_depth * length a.log.items + max_depth ≡ max_depth * length b.log.items = omega (arith, longer) in subst (λ k. CountsWithin k (state_of b.state)) k (o.counts (max_depth * length a.log.items) m.counts));
+    own = own_on t a.number b.number a.portion b.portion o.number o.here m.own;
+    counts = (let k : max_depth * length a.log.items + max_depth ≡ max_depth * length b.log.items = omega (arith, longer) in subst (λ k. CountsWithin k (state_of b.portion.state)) k (o.counts (max_depth * length a.log.items) m.counts));
     room = omega (arith, longer, o.log_room, m.room, o.share);
     ends = o.ends ∙ m.ends;
     ends_too = o.ends_too ∙ m.ends_too;
     clock = o.clock ∙ (sym (last_snoc 0 a.log.items e) ∙ ap (last_stamp 0) (sym o.items));
     after = after;
     local = subst (λ k. IsLocal t.net t.inputs owner k (shown b after)) (sym o.number) (local_fires t.net t.inputs owner j (shown a m.after) (shown b after) e x m.local one);
-    sees = subst (λ k. Sees t.net owner k (state_of b.state) after.state) (sym o.number) (subst (λ (s : Stamped). Sees t.net owner j (state_of b.state) s.state) (sym is_by) sight.sees);
-    exit = subst (λ es. HasExited t.net (state_of b.state) ↔ HasExitAmong t.net es) (sym o.items) (exit_more t.net a.state m.of (state_of b.state) f x n a.log.items o.may.does o.state.own m.exit);
+    sees = subst (λ k. Sees t.net owner k (state_of b.portion.state) after.state) (sym o.number) (subst (λ (s : Stamped). Sees t.net owner j (state_of b.portion.state) s.state) (sym is_by) sight.sees);
+    exit = subst (λ es. HasExited t.net (state_of b.portion.state) ↔ HasExitAmong t.net es) (sym o.items) (exit_more t.net a.portion.state m.of (state_of b.portion.state) f x n a.log.items o.may.does o.state.own m.exit);
     held = λ c i. held_tokens c (subst (λ k. IsInto t k c) o.number i);
     held_stamps = λ c i. held_stamps c (subst (λ k. IsInto t k c) o.number i);
     puts_out = λ c q is. (let p = put_before n (puts_on t.net f.unit x.put c) (put_end a c) q (subst (PutStep n (puts_on t.net f.unit x.put c) (put_end a c)) is (o.puts c)) in let k = m.puts_out c p.end p.is in (subst (λ i. IsOutOf t i c) (sym o.number) k.0, p.slots ∙ k.1));

@@ -41,7 +41,7 @@ some_stamp : (o : Option ℕ) (y : ℕ) → o ≡ Some y → stamp_or_0 o ≡ y
 some_stamp o y q = ap stamp_or_0 q
 
 module _ (t : Tables) (a : Worker) (m : IsMadeOf t a) (u : ℕ) (mine : owner_in t u ≡ a.number) where
-  at_place : (p : ℕ) → Has (head_at t.net (state_of a.state) u) p
+  at_place : (p : ℕ) → Has (head_at t.net (state_of a.portion.state) u) p
       → max a.clock (stamp_or_0 (first (stamps_at m.after (into u p t.net.chans)))) ≡ max a.clock (held_stamp (held_by (take_end a (into u p t.net.chans))))
   at_place p h = by (cases_eq (putter t.net (owner_in t) c) a.number)
     where
@@ -49,7 +49,7 @@ module _ (t : Tables) (a : Worker) (m : IsMadeOf t a) (u : ℕ) (mine : owner_in
       c = into u p t.net.chans
 
       within : c < length t.net.chans
-      within = let k = first_within (state_of a.state).tokens c h.0 h.1 in omega (arith, m.of.long)
+      within = let k = first_within (state_of a.portion.state).tokens c h.0 h.1 in omega (arith, m.of.long)
 
       to : taker t.net (owner_in t) c ≡ a.number
       to = ap (owner_in t) (is_at-inv (chan_at t.net c).to u p (into-at u p t.net.chans within)).0 ∙ mine
@@ -66,7 +66,7 @@ module _ (t : Tables) (a : Worker) (m : IsMadeOf t a) (u : ℕ) (mine : owner_in
           omega arith
       by (inr q) = ap (λ ns. max a.clock (stamp_or_0 (first ns))) (m.held_stamps c (within, to, q)) ∙ ap (max a.clock) (first_stamp (held_by (take_end a c)))
 
-  at_places : (ps : List ℕ) → AllByRecursion (Has (head_at t.net (state_of a.state) u)) ps
+  at_places : (ps : List ℕ) → AllByRecursion (Has (head_at t.net (state_of a.portion.state) u)) ps
       → max a.clock (greatest t.net m.after u ps) ≡ max a.clock (greatest_in t.net a.takes.items u ps)
   at_places [] h = refl
   at_places (p ∷ ps) h =
@@ -108,11 +108,11 @@ module _ (t : Tables) (z a b : Worker) (f : Firing) (m : IsMadeOf t a) (same : S
   may : (effect t.net m.after.state f ≡ Some o.effect) × Rattle.net_worker.specs.Plays.MayIn t.net owner j n m.after f
   may = worker_may t a m f o.effect n o.fired.may
 
-  greatest_is : max a.clock (greatest t.net m.after f.unit (used t.net m.after.state f)) ≡ max a.clock (greatest_in t.net a.takes.items f.unit (used t.net (state_of a.state) f))
+  greatest_is : max a.clock (greatest t.net m.after f.unit (used t.net m.after.state f)) ≡ max a.clock (greatest_in t.net a.takes.items f.unit (used t.net (state_of a.portion.state) f))
   greatest_is =
       ap (λ ps. max a.clock (greatest t.net m.after f.unit ps)) (uses_same t a m f o.effect n o.fired.may)
-      ∙ at_places t a m f.unit o.fired.may.mine (used t.net (state_of a.state) f)
-      (used_there (row (kind_of t.net f.unit) f.act (get_or (state_of a.state).own f.unit idle) (at_array (state_of a.state).arrays (uses (kind_of t.net f.unit))) (setting t.net (state_of a.state))) (head_at t.net (state_of a.state) f.unit) o.effect o.fired.may.does)
+      ∙ at_places t a m f.unit o.fired.may.mine (used t.net (state_of a.portion.state) f)
+      (used_there (row (kind_of t.net f.unit) f.act (get_or (state_of a.portion.state).own f.unit idle) (at_array (state_of a.portion.state).arrays (uses (kind_of t.net f.unit))) (setting t.net (state_of a.portion.state))) (head_at t.net (state_of a.portion.state) f.unit) o.effect o.fired.may.does)
 
   stamp_is : n ≡ suc (max (last_stamp z.clock s.added) (max (greatest t.net m.after f.unit (used t.net m.after.state f)) o.told))
   stamp_is = omega (arith, o.exact, greatest_is, clock_is)

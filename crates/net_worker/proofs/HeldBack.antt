@@ -134,9 +134,9 @@ none_b b c (Some p) (Some q) e is k = cc
 
 -- the worker looked at all channels from others, and each enabled firing was held back
 module _ (t : Tables) (a b : Worker) (checked : IsChecked t.net) (whole : IsWhole t a) (now : IsMadeOf t b) (looked : IsLooked a b) (seen : (c : ℕ) → IsInto t a.number c → IsSeen c a b)
-    (barred : (f : Firing) → owner_in t f.unit ≡ a.number → enabled t.net (state_of b.state) f → (x : Effect) → effect t.net (state_of b.state) f ≡ Some x → IsHeldBack t a b f) where
+    (barred : (f : Firing) → owner_in t f.unit ≡ a.number → enabled t.net (state_of b.portion.state) f → (x : Effect) → effect t.net (state_of b.portion.state) f ≡ Some x → IsHeldBack t a b f) where
   abbrev s : State
-  s = state_of b.state
+  s = state_of b.portion.state
 
   whole_b : IsWhole t b
   whole_b = same_whole t a b (looked_same a b looked) whole
@@ -187,7 +187,7 @@ module _ (t : Tables) (a b : Worker) (checked : IsChecked t.net) (whole : IsWhol
     held_back (Some x) is = of_effect x is x.put refl
 
   all_barred : AllHeldBack t a b
-  all_barred f mine = held_back f mine (effect t.net (state_of b.state) f) refl
+  all_barred f mine = held_back f mine (effect t.net (state_of b.portion.state) f) refl
 
 -- each enabled firing was tried and refused
 module _ (t : Tables) (a n b : Worker) (checked : IsChecked t.net) (whole : IsWhole t a) (now : IsMadeOf t b) (looked : IsLooked a n) (seen : (c : ℕ) → IsInto t a.number c → IsSeen c a n) (all : IsAllHeld t n b) where
@@ -197,17 +197,17 @@ module _ (t : Tables) (a n b : Worker) (checked : IsChecked t.net) (whole : IsWh
   whole_n : IsWhole t b
   whole_n = same_whole t a b (looked_same a b looked_b) whole
 
-  state_n : state_of n.state ≡ state_of b.state
-  state_n = ap state_of (sym all.asked.state)
+  state_n : state_of n.portion.state ≡ state_of b.portion.state
+  state_n = ap (λ p. state_of p.state) (sym all.asked.portion)
 
-  module _ (f : Firing) (mine : owner_in t f.unit ≡ a.number) (x : Effect) (does : effect t.net (state_of b.state) f ≡ Some x) where
-    base_is : base_of t n f ≡ max b.clock (greatest_in t.net b.takes.items f.unit (used t.net (state_of b.state) f))
+  module _ (f : Firing) (mine : owner_in t f.unit ≡ a.number) (x : Effect) (does : effect t.net (state_of b.portion.state) f ≡ Some x) where
+    base_is : base_of t n f ≡ max b.clock (greatest_in t.net b.takes.items f.unit (used t.net (state_of b.portion.state) f))
     base_is =
-        let x = greatest_asked t.net n.takes.items b.takes.items f.unit (used t.net (state_of b.state) f) all.asked.takes in
-        let y : base_of t n f ≡ max n.clock (greatest_in t.net n.takes.items f.unit (used t.net (state_of b.state) f)) = ap (λ k. max n.clock (greatest_in t.net n.takes.items f.unit (used t.net k f))) state_n in
+        let x = greatest_asked t.net n.takes.items b.takes.items f.unit (used t.net (state_of b.portion.state) f) all.asked.takes in
+        let y : base_of t n f ≡ max n.clock (greatest_in t.net n.takes.items f.unit (used t.net (state_of b.portion.state) f)) = ap (λ k. max n.clock (greatest_in t.net n.takes.items f.unit (used t.net k f))) state_n in
         omega (arith, all.asked.clock)
 
-    of_refusal : IsNotOffered t.net (state_of b.state) f.unit x.put (base_of t n f) n.puts.items b.puts.items → IsHeldBack t a b f
+    of_refusal : IsNotOffered t.net (state_of b.portion.state) f.unit x.put (base_of t n f) n.puts.items b.puts.items → IsHeldBack t a b f
     of_refusal (refusal.no_room w is e l) =
         let c = out_of f.unit w.place t.net.chans in
         cause.inner_output x w does is (not_out t a b looked_b.number whole_n c (none_b b c (put_end n c) (put_end b c) e refl (all.asked.puts.each c))) l
@@ -220,7 +220,7 @@ module _ (t : Tables) (a n b : Worker) (checked : IsChecked t.net) (whole : IsWh
     of_refusal (refusal.late r told l) =
         cause.late x r does (told_for_since t.net f.unit x.put a.puts.items n.puts.items b.puts.items r looked.puts told) (omega (arith, base_is))
 
-    refused : enabled t.net (state_of b.state) f → IsHeldBack t a b f
+    refused : enabled t.net (state_of b.portion.state) f → IsHeldBack t a b f
     refused e =
         let r = all.refused f (mine ∙ sym looked.number) (subst (λ k. enabled t.net k f) (sym state_n) e) x (ap (λ k. effect t.net k f) state_n ∙ does) in
         of_refusal (subst (λ k. IsNotOffered t.net k f.unit x.put (base_of t n f) n.puts.items b.puts.items) state_n r)
@@ -232,7 +232,7 @@ module _ (t : Tables) (a n b : Worker) (checked : IsChecked t.net) (whole : IsWh
 pub rested_held_back : (t : Tables) (a b : Worker) → IsChecked t.net → IsWhole t a → IsMadeOf t b → IsLookedAll t a b → b.resting ≡ true → AllHeldBack t a b
 rested_held_back t a b checked whole now l rests = all_barred t a b checked whole now l.looked l.seen (λ f mine e x does. by f x does x.put refl (now.rests rests f (mine ∙ sym l.looked.number) e x does))
   where
-    by : (f : Firing) (x : Effect) → effect t.net (state_of b.state) f ≡ Some x → (o : Option Put) → x.put ≡ o → PutWaits t b f.unit x.put → IsHeldBack t a b f
+    by : (f : Firing) (x : Effect) → effect t.net (state_of b.portion.state) f ≡ Some x → (o : Option Put) → x.put ≡ o → PutWaits t b f.unit x.put → IsHeldBack t a b f
     by f x does None is h = absurd (subst (PutWaits t b f.unit) is h)
     by f x does (Some w) is h =
         let k = subst (PutWaits t b f.unit) is h in
@@ -242,23 +242,23 @@ rested_held_back t a b checked whole now l rests = all_barred t a b checked whol
 -- what held a worker back holds one back that is the same but for its notes
 pub record IsSameStill (b c : Worker) : Type 0 where
   pub clock : c.clock ≡ b.clock
-  pub state : c.state ≡ b.state
+  pub portion : c.portion ≡ b.portion
   pub puts : c.puts ≡ b.puts
   pub takes : c.takes ≡ b.takes
 
 module _ (t : Tables) (a b c : Worker) (f : Firing) (h : IsSameStill b c) where
-  does_still : (o : Option Effect) → effect t.net (state_of b.state) f ≡ o → effect t.net (state_of c.state) f ≡ o
-  does_still o x = subst (λ s. effect t.net (state_of s) f ≡ o) (sym h.state) x
+  does_still : (o : Option Effect) → effect t.net (state_of b.portion.state) f ≡ o → effect t.net (state_of c.portion.state) f ≡ o
+  does_still o x = subst (λ s. effect t.net (state_of s.state) f ≡ o) (sym h.portion) x
 
-  waits_still : (o : Option ℕ) → waits t.net (state_of b.state) f ≡ o → waits t.net (state_of c.state) f ≡ o
-  waits_still o x = subst (λ s. waits t.net (state_of s) f ≡ o) (sym h.state) x
+  waits_still : (o : Option ℕ) → waits t.net (state_of b.portion.state) f ≡ o → waits t.net (state_of c.portion.state) f ≡ o
+  waits_still o x = subst (λ s. waits t.net (state_of s.state) f ≡ o) (sym h.portion) x
 
   still_held_back : IsHeldBack t a b f → IsHeldBack t a c f
   still_held_back (cause.stops x y) = cause.stops (does_still None x) (waits_still None y)
   still_held_back (cause.inner_input p x y) = cause.inner_input p (waits_still (Some p) x) y
   still_held_back (cause.inner_output x w y z k l) =
       cause.inner_output x w (does_still (Some x) y) z k
-      (subst (λ s. (chan_at t.net (out_of f.unit w.place t.net.chans)).slots ≤ length (tokens_at (state_of s) (out_of f.unit w.place t.net.chans))) (sym h.state) l)
+      (subst (λ s. (chan_at t.net (out_of f.unit w.place t.net.chans)).slots ≤ length (tokens_at (state_of s.state) (out_of f.unit w.place t.net.chans))) (sym h.portion) l)
   still_held_back (cause.no_token p x y z) =
       cause.no_token p (waits_still (Some p) x) y (subst (λ v. NoTokenAt (take_end a (into f.unit p t.net.chans)) (get_or v.items (into f.unit p t.net.chans) None)) (sym h.takes) z)
   still_held_back (cause.no_credit x w y z k l) =
@@ -267,9 +267,9 @@ module _ (t : Tables) (a b c : Worker) (f : Firing) (h : IsSameStill b c) where
       cause.no_slot x w (does_still (Some x) y) z k (subst (λ v. NoSlotAt (put_end a (out_of f.unit w.place t.net.chans)) (get_or v.items (out_of f.unit w.place t.net.chans) None)) (sym h.puts) l)
   still_held_back (cause.late x r y z l) =
       cause.late x r (does_still (Some x) y) (subst (λ v. ToldFor t.net f.unit x.put a.puts.items v.items r) (sym h.puts) z)
-      (subst (λ s. 2 ^ 62 ≤ suc (max c.clock (max (greatest_in t.net c.takes.items f.unit (used t.net (state_of s) f)) r))) (sym h.state)
-      (subst (λ v. 2 ^ 62 ≤ suc (max c.clock (max (greatest_in t.net v.items f.unit (used t.net (state_of b.state) f)) r))) (sym h.takes)
-      (subst (λ n. 2 ^ 62 ≤ suc (max n (max (greatest_in t.net b.takes.items f.unit (used t.net (state_of b.state) f)) r))) (sym h.clock) l)))
+      (subst (λ s. 2 ^ 62 ≤ suc (max c.clock (max (greatest_in t.net c.takes.items f.unit (used t.net (state_of s.state) f)) r))) (sym h.portion)
+      (subst (λ v. 2 ^ 62 ≤ suc (max c.clock (max (greatest_in t.net v.items f.unit (used t.net (state_of b.portion.state) f)) r))) (sym h.takes)
+      (subst (λ n. 2 ^ 62 ≤ suc (max n (max (greatest_in t.net b.takes.items f.unit (used t.net (state_of b.portion.state) f)) r))) (sym h.clock) l)))
 
 pub all_still_held : (t : Tables) (a b c : Worker) → IsSameStill b c → AllHeldBack t a b → AllHeldBack t a c
 all_still_held t a b c h k f mine = still_held_back t a b c f h (k f mine)
@@ -342,14 +342,14 @@ not_offered_since net s u put above zs os qs h (refusal.no_slot w is k) = refusa
 not_offered_since net s u put above zs os qs h (refusal.late r told l) = refusal.late r (told_for_since net u put zs os qs r (puts_asked_looked zs os h) told) l
 
 pub refused_on : (t : Tables) (a b c : Worker) (f : Firing) → IsAsked a b → IsAsked b c → IsRefused t a b f → IsRefused t a c f
-refused_on t a b c f before h r x q = not_offered_on t.net (state_of a.state) f.unit x.put (base_of t a f) a.puts.items b.puts.items c.puts.items before.puts h.puts (r x q)
+refused_on t a b c f before h r x q = not_offered_on t.net (state_of a.portion.state) f.unit x.put (base_of t a f) a.puts.items b.puts.items c.puts.items before.puts h.puts (r x q)
 
 pub refused_since : (t : Tables) (a b c : Worker) (f : Firing) → IsAsked a b → IsRefused t b c f → IsRefused t a c f
 refused_since t a b c f h r x q =
-    let g = greatest_asked t.net a.takes.items b.takes.items f.unit (used t.net (state_of a.state) f) h.takes in
-    let s : state_of b.state ≡ state_of a.state = ap state_of h.state in
-    let k : base_of t b f ≡ max b.clock (greatest_in t.net b.takes.items f.unit (used t.net (state_of a.state) f)) = ap (λ y. max b.clock (greatest_in t.net b.takes.items f.unit (used t.net y f))) s in
+    let g = greatest_asked t.net a.takes.items b.takes.items f.unit (used t.net (state_of a.portion.state) f) h.takes in
+    let s : state_of b.portion.state ≡ state_of a.portion.state = ap (λ p. state_of p.state) h.portion in
+    let k : base_of t b f ≡ max b.clock (greatest_in t.net b.takes.items f.unit (used t.net (state_of a.portion.state) f)) = ap (λ y. max b.clock (greatest_in t.net b.takes.items f.unit (used t.net y f))) s in
     let e : base_of t b f ≡ base_of t a f = omega (arith, h.clock) in
     let old = r x (ap (λ y. effect t.net y f) s ∙ q) in
-    not_offered_since t.net (state_of a.state) f.unit x.put (base_of t a f) a.puts.items b.puts.items c.puts.items h.puts
-    (subst (λ y. IsNotOffered t.net y f.unit x.put (base_of t a f) b.puts.items c.puts.items) s (subst (λ y. IsNotOffered t.net (state_of b.state) f.unit x.put y b.puts.items c.puts.items) e old))
+    not_offered_since t.net (state_of a.portion.state) f.unit x.put (base_of t a f) a.puts.items b.puts.items c.puts.items h.puts
+    (subst (λ y. IsNotOffered t.net y f.unit x.put (base_of t a f) b.puts.items c.puts.items) s (subst (λ y. IsNotOffered t.net (state_of b.portion.state) f.unit x.put y b.puts.items c.puts.items) e old))

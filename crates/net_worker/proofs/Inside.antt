@@ -86,4 +86,4 @@ module _ (t : Tables) (a : Worker) (m : IsMadeOf t a) (u : ℕ) (inner : IsInner
 
   -- no token from another worker is above the clock
   pub base_inside : (f : Firing) → f.unit ≡ u → base_of t a f ≡ a.clock
-  base_inside f is = (let h = subst (λ v. greatest_in t.net a.takes.items v (used t.net (state_of a.state) f) ≡ 0) (sym is) (greatest_inside (used t.net (state_of a.state) f)) in omega (arith, h))
+  base_inside f is = (let h = subst (λ v. greatest_in t.net a.takes.items v (used t.net (state_of a.portion.state) f) ≡ 0) (sym is) (greatest_inside (used t.net (state_of a.portion.state) f)) in omega (arith, h))

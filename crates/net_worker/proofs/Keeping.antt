@@ -22,6 +22,7 @@ use Rattle.net_worker.proofs.Exits.{exit_kept}
 use Rattle.net_worker.proofs.Locals.{room_later}
 use Rattle.net_worker.proofs.Waits.{waits_on}
 use Rattle.net_worker.proofs.Fires.{handed_kept, repaid_kept, put_before, took_before, got_more}
+use Rattle.net_worker.proofs.Holdings.{own_on, here_same}
 
 held_kept : (o q : Option TakeEnd) → TakeStep false 0 o q → held_by q ≡ held_by o
 held_kept None None s = refl
@@ -64,16 +65,17 @@ module _ (t : Tables) (a b : Worker) (m : IsMadeOf t a) (k : IsKept t a b) where
 
   kept : IsMadeOf t b
   kept = record {
-    of = subst (IsOf t.net) (sym k.state) m.of;
-    counts = subst (λ g. CountsWithin (max_depth * length g.items) (state_of b.state)) (sym k.log) (subst (λ s. CountsWithin (max_depth * length a.log.items) (state_of s)) (sym k.state) m.counts);
+    of = subst (λ p. IsOf t.net p.state) (sym k.portion) m.of;
+    own = own_on t a.number b.number a.portion b.portion k.number (here_same a.portion b.portion k.portion) m.own;
+    counts = subst (λ g. CountsWithin (max_depth * length g.items) (state_of b.portion.state)) (sym k.log) (subst (λ s. CountsWithin (max_depth * length a.log.items) (state_of s.state)) (sym k.portion) m.counts);
     room = ap (λ g. length g.items + g.room) k.log ∙ (m.room ∙ sym k.share);
     ends = k.ends ∙ m.ends;
     ends_too = k.ends_too ∙ m.ends_too;
     clock = k.clock ∙ (m.clock ∙ ap (λ g. last_stamp 0 g.items) (sym k.log));
     after = m.after;
     local = subst (λ n. IsLocal t.net t.inputs owner n (shown b m.after)) (sym k.number) local_same;
-    sees = subst (λ n. Sees t.net owner n (state_of b.state) m.after.state) (sym k.number) (subst (λ s. Sees t.net owner a.number (state_of s) m.after.state) (sym k.state) m.sees);
-    exit = exit_kept t.net (state_of a.state) (state_of b.state) a.log.items b.log.items (ap (λ s. (state_of s).own) k.state) (ap (λ g. g.items) k.log) m.exit;
+    sees = subst (λ n. Sees t.net owner n (state_of b.portion.state) m.after.state) (sym k.number) (subst (λ s. Sees t.net owner a.number (state_of s.state) m.after.state) (sym k.portion) m.sees);
+    exit = exit_kept t.net (state_of a.portion.state) (state_of b.portion.state) a.log.items b.log.items (ap (λ s. (state_of s.state).own) k.portion) (ap (λ g. g.items) k.log) m.exit;
     held = λ c i. m.held c (subst (λ n. IsInto t n c) k.number i) ∙ ap values (sym (held_kept (take_end a c) (take_end b c) (k.takes c)));
     held_stamps = λ c i. m.held_stamps c (subst (λ n. IsInto t n c) k.number i) ∙ ap stamps_of (sym (held_kept (take_end a c) (take_end b c) (k.takes c)));
     puts_out = λ c q is. (let p = put_before 0 None (put_end a c) q (subst (PutStep 0 None (put_end a c)) is (k.puts c)) in let o = m.puts_out c p.end p.is in (subst (λ i. IsOutOf t i c) (sym k.number) o.0, p.slots ∙ o.1));
@@ -83,7 +85,7 @@ module _ (t : Tables) (a b : Worker) (m : IsMadeOf t a) (k : IsKept t a b) where
     ins = λ c i. subst (λ v. Contains v.items c) (sym k.ins) (m.ins c (subst (λ n. IsInto t n c) k.number i));
     ins_only = subst (λ v. All (IsInto t b.number) v.items) (sym k.ins) (subst (λ n. All (IsInto t n) a.ins.items) (sym k.number) m.ins_only);
     repaid = λ c q is. (let s = subst (TakeStep false 0 (take_end a c)) is (k.takes c) in let p = took_before false 0 0 (take_end a c) q s in let z = stamp_kept (take_end a c) q s in (p.repaid (m.repaid c p.end p.is).0, omega (arith, (m.repaid c z.0 z.1).1, z.2, k.clock)));
-    rests = λ r. waits_on t a b k.number (ap state_of k.state) (k.rests r).1 (m.rests (k.rests r).0);
+    rests = λ r. waits_on t a b k.number (ap (λ p. state_of p.state) k.portion) (k.rests r).1 (m.rests (k.rests r).0);
   }
 
 pub made_keeps : MadeKeeps

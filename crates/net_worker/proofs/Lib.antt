@@ -1,3 +1,4 @@
+pub mod PutOver
 pub mod EndPlaces
 pub mod Entries
 pub mod Lists
@@ -23,6 +24,7 @@ pub mod Fires
 pub mod Waits
 pub mod Tries
 pub mod Turning
+pub mod Holdings
 pub mod Keeping
 pub mod Settling
 pub mod Asking
@@ -43,3 +45,8 @@ pub mod Edges
 pub mod Drains
 pub mod Inside
 pub mod Turns
+pub mod Here
+pub mod PortionLemmas
+pub mod PortionMoves
+pub mod PortionOpening
+pub mod PlaceLemmas

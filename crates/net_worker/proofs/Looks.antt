@@ -25,6 +25,7 @@ use Rattle.net_worker.specs.declared.tables.Tables.{Tables}
 use Rattle.net_worker.specs.declared.worker.Worker.{Worker}
 use Rattle.net_worker.proofs.Exits.{exit_kept}
 use Rattle.net_worker.proofs.Locals.{local_looks}
+use Rattle.net_worker.proofs.Holdings.{own_on}
 
 some_inj : (x y : TakeEnd) → Some x ≡ Some y → x ≡ y
 some_inj x y h = cc
@@ -80,7 +81,7 @@ module _ (t : Tables) (a b : Worker) (c : ℕ) (e e' : TakeEnd) (x : Token) (m :
   on = local_looks t.net t.inputs owner j c (x ∷ []) (shown a m.after) (shown b m.after) m.local look
 
   abbrev s : State
-  s = state_of a.state
+  s = state_of a.portion.state
 
   abbrev s' : State
   s' = with_tokens (put_at_end c x.value s.tokens) s
@@ -130,15 +131,16 @@ module _ (t : Tables) (a b : Worker) (c : ℕ) (e e' : TakeEnd) (x : Token) (m :
   made : IsMadeOf t b
   made = record {
     of = l.of;
-    counts = subst (λ k. CountsWithin (max_depth * length k.items) (state_of b.state)) (sym l.log) (subst (CountsWithin (max_depth * length a.log.items)) (sym l.state) (record { serials = m.counts.serials; strays = m.counts.strays }));
+    own = own_on t a.number b.number a.portion b.portion l.number l.here m.own;
+    counts = subst (λ k. CountsWithin (max_depth * length k.items) (state_of b.portion.state)) (sym l.log) (subst (CountsWithin (max_depth * length a.log.items)) (sym l.state) (record { serials = m.counts.serials; strays = m.counts.strays }));
     room = ap (λ k. length k.items + k.room) l.log ∙ (m.room ∙ sym l.share);
     ends = ap length l.puts ∙ m.ends;
     ends_too = ap length l.takes ∙ (length-set a.takes.items c (Some e') ∙ m.ends_too);
     clock = l.clock ∙ (m.clock ∙ ap (λ k. Rattle.net_worker.specs.Steps.last_stamp 0 k.items) (sym l.log));
     after = on.to;
     local = subst (λ n. IsLocal t.net t.inputs owner n (shown b on.to)) (sym l.number) on.local;
-    sees = subst (λ n. Sees t.net owner n (state_of b.state) on.to.state) (sym l.number) (subst (λ y. Sees t.net owner j y on.to.state) (sym l.state) sees_on);
-    exit = exit_kept t.net (state_of a.state) (state_of b.state) a.log.items b.log.items (ap (λ s. s.own) l.state) (ap (λ g. g.items) l.log) m.exit;
+    sees = subst (λ n. Sees t.net owner n (state_of b.portion.state) on.to.state) (sym l.number) (subst (λ y. Sees t.net owner j y on.to.state) (sym l.state) sees_on);
+    exit = exit_kept t.net (state_of a.portion.state) (state_of b.portion.state) a.log.items b.log.items (ap (λ s. s.own) l.state) (ap (λ g. g.items) l.log) m.exit;
     held = λ d i. held_at d i (cases_eq d c);
     held_stamps = λ d i. held_stamps_at d i (cases_eq d c);
     puts_out = λ d p q. subst (λ n. IsOutOf t n d × (Rattle.elastic_link.specs.Ends.slots_of p ≡ (chan_at t.net d).slots)) (sym l.number) (m.puts_out d p (ap (λ ps. get_or ps d None) (sym l.puts) ∙ q));

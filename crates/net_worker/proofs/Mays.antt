@@ -130,7 +130,7 @@ module _ (t : Tables) (a : Worker) (m : IsMadeOf t a) where
   owner = owner_in t
 
   abbrev s : State
-  s = state_of a.state
+  s = state_of a.portion.state
 
   pub after_measures : Measures t.net (length t.inputs.arrays) m.after.state
   after_measures = plays_measures t.net owner a.number 0 (length t.inputs.arrays) (fed_opening t.net t.inputs (shown a m.after).handed) a.log.items m.after m.local.plays (fed_measures t.net t.inputs (shown a m.after).handed)

@@ -32,7 +32,7 @@ use Rattle.net_worker.specs.declared.end_places.EndPlaces.{EndPlaces}
 use Rattle.net_worker.specs.declared.tables.Tables.{Tables}
 use Rattle.net_worker.specs.declared.worker.Worker.{Worker}
 use Rattle.net_worker.proofs.Asking.{held_asked}
-use Rattle.net_worker.proofs.Offering.{asked_none, end_some, inner_some}
+use Rattle.net_worker.proofs.Offering.{asked_none, end_some, inner_some, offered_none}
 use Rattle.net_worker.proofs.Paying.{not_among, among_here, among_there, same_step}
 
 -- ---- channels and places
@@ -148,7 +148,7 @@ placed_more owners cs ps n a p within long before now i l none = by (cases_lt i 
         let s : get_or cs n a ≡ get_or cs i nowhere = get_or_same cs n a nowhere within ∙ ap (λ j. get_or cs j nowhere) (sym long ∙ sym e) in
         subst (HasOneOwner owners) s (if_none p now r)
 
-pub stays_inside : (t : Tables) (c : ℕ) (o : Option EndPlaces) → get_or t.places.items c None ≡ o → IfNone o (StaysInside t c)
+pub stays_inside : (t : Tables) (c : ℕ) (o : Option EndPlaces) → get_or t.end_places.items c None ≡ o → IfNone o (StaysInside t c)
 stays_inside t c (Some p) is = tt
 stays_inside t c None is = λ l. t.placed c l is
 
@@ -177,6 +177,11 @@ module _ (net : Net) (s : State) (u above : ℕ) (ps : List (Option PutEnd)) whe
       → IfSome o (λ _. length (tokens_at s l.chan) < (chan_at net l.chan).slots) → IfSome o (λ n. IsOffered net s u put above n ps ps)
   laid_inner None l is gone o h k = cc
   laid_inner (Some w) l is gone o h k = inner_some net s u above w ps l.chan (laid_same w l is).0 gone o h k
+
+  pub laid_none : (put : Option Put) → laid_of net u put ≡ None → (o : Option ℕ) → IfSome o (λ n. n ≡ suc above) → IfSome o (λ n. IsStamp n) → IfSome o (λ n. IsOffered net s u put above n ps ps)
+  laid_none None is None h k = tt
+  laid_none None is (Some n) h k = offered_none net s u above n ps h k
+  laid_none (Some w) is o h k = cc
 
 -- ---- two tokens that are taken
 

@@ -20,6 +20,7 @@ use Rattle.net_worker.specs.declared.tables.Tables.{Tables}
 use Rattle.net_worker.specs.declared.worker.Worker.{Worker}
 use Rattle.net_worker.proofs.Exits.{exit_kept}
 use Rattle.net_worker.proofs.Waits.{waits_on}
+use Rattle.net_worker.proofs.Holdings.{own_on, here_same}
 
 -- two tables of which one worker was made have the same channels to others, with the same slots
 same_out : (s t : Tables) (w : Worker) (c : ℕ) → IsMadeOf s w → IsMadeOf t w → IsOutOf s w.number c → IsOutOf t w.number c
@@ -57,7 +58,7 @@ pub record SameElse (a b : Worker) : Type 0 where
   pub share : b.share ≡ a.share
   pub clock : b.clock ≡ a.clock
   pub log : b.log ≡ a.log
-  pub state : b.state ≡ a.state
+  pub portion : b.portion ≡ a.portion
   pub outs : b.outs ≡ a.outs
   pub ins : b.ins ≡ a.ins
   pub resting : b.resting ≡ a.resting
@@ -107,16 +108,17 @@ module _ (s t : Tables) (a b : Worker) (c : ℕ) (p : PutEnd) (m : IsMadeOf s a)
 
   put_given : IsMadeOf t b
   put_given = record {
-    of = subst (IsOf t.net) (sym e.state) k.of;
-    counts = subst (λ g. CountsWithin (max_depth * length g.items) (state_of b.state)) (sym e.log) (subst (λ s. CountsWithin (max_depth * length a.log.items) (state_of s)) (sym e.state) k.counts);
+    of = subst (λ p. IsOf t.net p.state) (sym e.portion) k.of;
+    own = own_on t a.number b.number a.portion b.portion e.number (here_same a.portion b.portion e.portion) k.own;
+    counts = subst (λ g. CountsWithin (max_depth * length g.items) (state_of b.portion.state)) (sym e.log) (subst (λ s. CountsWithin (max_depth * length a.log.items) (state_of s.state)) (sym e.portion) k.counts);
     room = ap (λ g. length g.items + g.room) e.log ∙ (k.room ∙ sym e.share);
     ends = ap length puts ∙ (length-set a.puts.items c (Some p) ∙ k.ends);
     ends_too = ap (λ v. length v.items) takes ∙ k.ends_too;
     clock = e.clock ∙ (k.clock ∙ ap (λ g. last_stamp 0 g.items) (sym e.log));
     after = k.after;
     local = subst (λ n. IsLocal t.net t.inputs (owner_in t) n (shown b k.after)) (sym e.number) (subst (IsLocal t.net t.inputs (owner_in t) a.number) (sym shown_same) k.local);
-    sees = subst (λ n. Sees t.net (owner_in t) n (state_of b.state) k.after.state) (sym e.number) (subst (λ s. Sees t.net (owner_in t) a.number (state_of s) k.after.state) (sym e.state) k.sees);
-    exit = exit_kept t.net (state_of a.state) (state_of b.state) a.log.items b.log.items (ap (λ s. (state_of s).own) e.state) (ap (λ g. g.items) e.log) k.exit;
+    sees = subst (λ n. Sees t.net (owner_in t) n (state_of b.portion.state) k.after.state) (sym e.number) (subst (λ s. Sees t.net (owner_in t) a.number (state_of s.state) k.after.state) (sym e.portion) k.sees);
+    exit = exit_kept t.net (state_of a.portion.state) (state_of b.portion.state) a.log.items b.log.items (ap (λ s. (state_of s.state).own) e.portion) (ap (λ g. g.items) e.log) k.exit;
     held = λ d i. k.held d (subst (λ n. IsInto t n d) e.number i) ∙ ap (λ v. values (held_by (get_or v.items d None))) (sym takes);
     held_stamps = λ d i. k.held_stamps d (subst (λ n. IsInto t n d) e.number i) ∙ ap (λ v. stamps_of (held_by (get_or v.items d None))) (sym takes);
     puts_out = λ d q is. ends_out d q is (cases_eq d c);
@@ -126,7 +128,7 @@ module _ (s t : Tables) (a b : Worker) (c : ℕ) (p : PutEnd) (m : IsMadeOf s a)
     ins = λ d i. subst (λ v. Contains v.items d) (sym e.ins) (k.ins d (subst (λ n. IsInto t n d) e.number i));
     ins_only = subst (λ v. All (IsInto t b.number) v.items) (sym e.ins) (subst (λ n. All (IsInto t n) a.ins.items) (sym e.number) k.ins_only);
     repaid = λ d q is. (let r = k.repaid d q (ap (λ v. get_or v.items d None) (sym takes) ∙ is) in (r.0, subst (λ n. Rattle.elastic_link.specs.Ends.repaid_stamp q ≤ n) (sym e.clock) r.1));
-    rests = λ r. waits_on t a b e.number (ap state_of e.state) (λ d w. ap (λ (v : _). get_or v.items d Rattle.std.proofs.Common.false) e.waits ∙ w) (k.rests (sym e.resting ∙ r));
+    rests = λ r. waits_on t a b e.number (ap (λ p. state_of p.state) e.portion) (λ d w. ap (λ (v : _). get_or v.items d Rattle.std.proofs.Common.false) e.waits ∙ w) (k.rests (sym e.resting ∙ r));
   }
 
 pub give_put_made : (s t : Tables) (a b : Worker) (c : ℕ) (p : PutEnd) → IsMadeOf s a → IsOutOf s a.number c → IsNewPut (chan_at s.net c).slots p → put_end a c ≡ None → IsMadeOf t a → SameElse a b → b.takes ≡ a.takes → b.puts.items ≡ set a.puts.items c (Some p) → IsMadeOf t b
@@ -189,16 +191,17 @@ module _ (s t : Tables) (a b : Worker) (c : ℕ) (p : TakeEnd) (m : IsMadeOf s a
 
   take_given : IsMadeOf t b
   take_given = record {
-    of = subst (IsOf t.net) (sym e.state) k.of;
-    counts = subst (λ g. CountsWithin (max_depth * length g.items) (state_of b.state)) (sym e.log) (subst (λ s. CountsWithin (max_depth * length a.log.items) (state_of s)) (sym e.state) k.counts);
+    of = subst (λ p. IsOf t.net p.state) (sym e.portion) k.of;
+    own = own_on t a.number b.number a.portion b.portion e.number (here_same a.portion b.portion e.portion) k.own;
+    counts = subst (λ g. CountsWithin (max_depth * length g.items) (state_of b.portion.state)) (sym e.log) (subst (λ s. CountsWithin (max_depth * length a.log.items) (state_of s.state)) (sym e.portion) k.counts);
     room = ap (λ g. length g.items + g.room) e.log ∙ (k.room ∙ sym e.share);
     ends = ap (λ v. length v.items) puts ∙ k.ends;
     ends_too = ap length takes ∙ (length-set a.takes.items c (Some p) ∙ k.ends_too);
     clock = e.clock ∙ (k.clock ∙ ap (λ g. last_stamp 0 g.items) (sym e.log));
     after = k.after;
     local = subst (λ n. IsLocal t.net t.inputs (owner_in t) n (shown b k.after)) (sym e.number) (subst (IsLocal t.net t.inputs (owner_in t) a.number) (sym takes_shown) k.local);
-    sees = subst (λ n. Sees t.net (owner_in t) n (state_of b.state) k.after.state) (sym e.number) (subst (λ s. Sees t.net (owner_in t) a.number (state_of s) k.after.state) (sym e.state) k.sees);
-    exit = exit_kept t.net (state_of a.state) (state_of b.state) a.log.items b.log.items (ap (λ s. (state_of s).own) e.state) (ap (λ g. g.items) e.log) k.exit;
+    sees = subst (λ n. Sees t.net (owner_in t) n (state_of b.portion.state) k.after.state) (sym e.number) (subst (λ s. Sees t.net (owner_in t) a.number (state_of s.state) k.after.state) (sym e.portion) k.sees);
+    exit = exit_kept t.net (state_of a.portion.state) (state_of b.portion.state) a.log.items b.log.items (ap (λ s. (state_of s.state).own) e.portion) (ap (λ g. g.items) e.log) k.exit;
     held = λ d i. k.held d (subst (λ n. IsInto t n d) e.number i) ∙ ap values (sym (of_takes held_by (none_held p new) d));
     held_stamps = λ d i. k.held_stamps d (subst (λ n. IsInto t n d) e.number i) ∙ ap stamps_of (sym (of_takes held_by (none_held p new) d));
     puts_out = λ d q is. (let r = k.puts_out d q (ap (λ v. get_or v.items d None) (sym puts) ∙ is) in (subst (λ n. IsOutOf t n d) (sym e.number) r.0, r.1));
@@ -208,7 +211,7 @@ module _ (s t : Tables) (a b : Worker) (c : ℕ) (p : TakeEnd) (m : IsMadeOf s a
     ins = λ d i. subst (λ v. Contains v.items d) (sym e.ins) (k.ins d (subst (λ n. IsInto t n d) e.number i));
     ins_only = subst (λ v. All (IsInto t b.number) v.items) (sym e.ins) (subst (λ n. All (IsInto t n) a.ins.items) (sym e.number) k.ins_only);
     repaid = λ d q is. repaid_in_b d q is (cases_eq d c);
-    rests = λ r. waits_on t a b e.number (ap state_of e.state) (λ d w. ap (λ (v : _). get_or v.items d Rattle.std.proofs.Common.false) e.waits ∙ w) (k.rests (sym e.resting ∙ r));
+    rests = λ r. waits_on t a b e.number (ap (λ p. state_of p.state) e.portion) (λ d w. ap (λ (v : _). get_or v.items d Rattle.std.proofs.Common.false) e.waits ∙ w) (k.rests (sym e.resting ∙ r));
   }
 
 pub give_take_made : (s t : Tables) (a b : Worker) (c : ℕ) (p : TakeEnd) → IsMadeOf s a → IsInto s a.number c → IsNewTake p → p.slots ≡ (chan_at s.net c).slots → take_end a c ≡ None → IsMadeOf t a → SameElse a b → b.puts ≡ a.puts → b.takes.items ≡ set a.takes.items c (Some p) → IsMadeOf t b

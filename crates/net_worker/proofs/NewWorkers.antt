@@ -11,7 +11,7 @@ use Rattle.net_worker.specs.Stamped.{Stamped, stamps_at}
 use Rattle.net_worker.specs.Plays.{Plays, take_stamps}
 use Rattle.net_worker.specs.Local.{values, stamps_of, StandFor, HadRoom, IsLocal, fed_opening}
 use Rattle.net_worker.specs.Steps.{last_stamp}
-use Rattle.net_worker.specs.Workers.{owner_in, IsMadeOf, IsInto, IsOutOf, Sees, shown, put_end, take_end, held_by, handed_by, put_by, received_by, repaid_by}
+use Rattle.net_worker.specs.Workers.{owner_in, HoldsOwn, IsMadeOf, IsInto, IsOutOf, Sees, shown, put_end, take_end, held_by, handed_by, put_by, received_by, repaid_by}
 use Rattle.net_worker.specs.declared.entry.Entry.{Entry}
 use Rattle.net_worker.specs.declared.tables.Tables.{Tables}
 use Rattle.net_worker.specs.declared.worker.Worker.{Worker}
@@ -28,9 +28,10 @@ no_entries n k es h = ap (λ l. n * length l) h ∙ omega arith
 
 -- what a worker begins with
 pub record IsBegun (t : Tables) (w : Worker) : Type 0 where
-  pub of : IsOf t.net w.state
-  pub state : state_of w.state ≡ opening t.net t.inputs
-  pub counts : CountsWithin 0 (state_of w.state)
+  pub of : IsOf t.net w.portion.state
+  pub own : HoldsOwn t w.number w.portion
+  pub state : state_of w.portion.state ≡ opening t.net t.inputs
+  pub counts : CountsWithin 0 (state_of w.portion.state)
   pub log : w.log.items ≡ []
   pub room : w.log.room ≡ w.share
   pub clock : w.clock ≡ 0
@@ -62,7 +63,7 @@ module _ (t : Tables) (w : Worker) (b : IsBegun t w) where
   unstamped : (c : ℕ) → c < length t.net.chans → stamps_at after c ≡ []
   unstamped c l = fed_stamps t.net t.inputs (λ c. handed_by (take_end w c)) c l ∙ ap (λ o. stamps_of (handed_by o)) (no_take c)
 
-  here_empty : (c : ℕ) → tokens_at (state_of w.state) c ≡ []
+  here_empty : (c : ℕ) → tokens_at (state_of w.portion.state) c ≡ []
   here_empty c = ap (λ s. tokens_at s c) b.state ∙ opening_tokens t.net t.inputs c
 
   local : IsLocal t.net t.inputs (owner_in t) w.number (shown w after)
@@ -76,7 +77,7 @@ module _ (t : Tables) (w : Worker) (b : IsBegun t w) where
     stand_for = λ c l p q. subst (λ o. StandFor (repaid_by o) (take_stamps t.net c after w.log.items)) (sym (no_take c)) (ap (take_stamps t.net c after) b.log);
   }
 
-  sees : Sees t.net (owner_in t) w.number (state_of w.state) after.state
+  sees : Sees t.net (owner_in t) w.number (state_of w.portion.state) after.state
   sees = record {
     scalars = ap (λ s. s.scalars) (sym b.state);
     own = λ u q. ap (λ s. get_or s.own u idle) (sym b.state);
@@ -90,7 +91,8 @@ module _ (t : Tables) (w : Worker) (b : IsBegun t w) where
   begun : IsMadeOf t w
   begun = record {
     of = b.of;
-    counts = subst (λ n. CountsWithin n (state_of w.state)) (sym (no_entries max_depth 0 w.log.items b.log)) b.counts;
+    own = b.own;
+    counts = subst (λ n. CountsWithin n (state_of w.portion.state)) (sym (no_entries max_depth 0 w.log.items b.log)) b.counts;
     room = (let e = ap length b.log in omega (arith, b.room));
     ends = ap length b.puts ∙ Rattle.std.proofs.lemmas.List.length-replicate (length t.net.chans) None;
     ends_too = ap length b.takes ∙ Rattle.std.proofs.lemmas.List.length-replicate (length t.net.chans) None;
@@ -98,7 +100,7 @@ module _ (t : Tables) (w : Worker) (b : IsBegun t w) where
     after = after;
     local = local;
     sees = sees;
-    exit = exit_opening t.net t.inputs w.state w.log.items b.of b.state b.log;
+    exit = exit_opening t.net t.inputs w.portion.state w.log.items b.of b.state b.log;
     held = λ c i. empty c ∙ ap (λ o. values (held_by o)) (sym (no_take c));
     held_stamps = λ c i. unstamped c i.0 ∙ ap (λ o. stamps_of (held_by o)) (sym (no_take c));
     puts_out = λ c p is. absurd (none_is (put_end w c) p (no_put c) is);

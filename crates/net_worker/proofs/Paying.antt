@@ -12,7 +12,7 @@ use Rattle.net_core.proofs.MoveLemmas.{Distinct}
 use Rattle.net_core.proofs.RowLemmas.{Has, Each}
 use Rattle.net_worker.specs.Asking.{TakesAsked}
 use Rattle.net_worker.specs.Fires.{Takes, TakeStep}
-use Rattle.net_worker.specs.Firings.{AllHold, AllPayable, AllDistinct, chans_into}
+use Rattle.net_worker.specs.Firings.{AllHold, AllPayable, AllDistinct, chans_into, IsPayable}
 use Rattle.net_worker.specs.Offers.{held_stamp, greatest_in}
 use Rattle.net_worker.specs.Workers.{owner_in, IsMadeOf, held_by}
 use Rattle.net_worker.specs.declared.tables.Tables.{Tables}
@@ -49,6 +49,15 @@ not_among a b cs h = by (cases_eq a b)
     by : (a ≡ b) ⊎ (a ≡ b → ⊥) → (a ≢ b) × (among a cs ≡ false)
     by (inl q) = (let z : (a == b) ≡ true = eq-eqb a b q in let y : true ≡ false = sym (ap (λ g. g || among a cs) z) ∙ h in cc)
     by (inr n) = (n, (let z : (a == b) ≡ false = ne_eqb a b n in sym (ap (λ g. g || among a cs) z) ∙ h))
+
+-- after two tokens were taken a third may be
+pub third_payable : (n a b d : ℕ) (es e1 e2 : List (Option TakeEnd)) → AllDistinct (a ∷ b ∷ d ∷ []) → IsPayable n (get_or es d None)
+    → ((c : ℕ) → c ≢ a → get_or e1 c None ≡ get_or es c None) → ((c : ℕ) → c ≢ b → get_or e2 c None ≡ get_or e1 c None) → IsPayable n (get_or e2 d None)
+third_payable n a b d es e1 e2 distinct h o1 o2 =
+    let x = not_among a b (d ∷ []) distinct.0 in
+    let bd = not_among b d [] distinct.1.0 in
+    let ad = not_among a d [] x.1 in
+    subst (IsPayable n) (sym (o2 d (λ q. bd.0 (sym q)) ∙ o1 d (λ q. ad.0 (sym q)))) h
 
 pub among_here : (c a : ℕ) (cs : List ℕ) → c ≡ a → among c (a ∷ cs) ≡ true
 among_here c a cs q = ap (λ g. g || among c cs) (eq-eqb c a q)
@@ -107,11 +116,11 @@ module _ (n a b d : ℕ) (es e1 e2 e3 : List (Option TakeEnd)) (distinct : AllDi
 -- ---- a worker
 
 module _ (t : Tables) (a : Worker) (m : IsMadeOf t a) (u : ℕ) (mine : owner_in t u ≡ a.number) where
-  pub all_hold : (ps : List ℕ) → AllByRecursion (Has (head_at t.net (state_of a.state) u)) ps → AllHold t.net u a.takes.items ps
+  pub all_hold : (ps : List ℕ) → AllByRecursion (Has (head_at t.net (state_of a.portion.state) u)) ps → AllHold t.net u a.takes.items ps
   all_hold [] h = tt
   all_hold (p ∷ ps) h = (holds_at t a m u mine p h.0, all_hold ps h.1)
 
-  pub all_payable : (n : ℕ) (es : List (Option TakeEnd)) → a.clock < n → TakesAsked a.takes.items es → (ps : List ℕ) → Each (Has (head_at t.net (state_of a.state) u)) ps → AllPayable t.net u n es ps
+  pub all_payable : (n : ℕ) (es : List (Option TakeEnd)) → a.clock < n → TakesAsked a.takes.items es → (ps : List ℕ) → Each (Has (head_at t.net (state_of a.portion.state) u)) ps → AllPayable t.net u n es ps
   all_payable n es l k [] h = tt
   all_payable n es l k (p ∷ ps) h = (payable_at t a m (into u p t.net.chans) n es l k (holds_at t a m u mine p h.0), all_payable n es l k ps h.1)
 

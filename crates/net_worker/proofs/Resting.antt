@@ -24,7 +24,7 @@ no_effect : {X : Type 0} (o : Option X) (P : X → Type 0) → o ≡ None → Is
 no_effect None P q h = h
 no_effect (Some x) P q h = cc
 
-module _ (t : Tables) (a b : Worker) (m : IsMadeOf t a) (k : IsMadeOf t b) (number : b.number ≡ a.number) (log : b.log ≡ a.log) (not_full : IsFull a → ⊥) (f : Firing) (mine : owner_in t f.unit ≡ b.number) (inner : IsInner t.net (owner_in t) f.unit) (e : enabled t.net (state_of b.state) f) where
+module _ (t : Tables) (a b : Worker) (m : IsMadeOf t a) (k : IsMadeOf t b) (number : b.number ≡ a.number) (log : b.log ≡ a.log) (not_full : IsFull a → ⊥) (f : Firing) (mine : owner_in t f.unit ≡ b.number) (inner : IsInner t.net (owner_in t) f.unit) (e : enabled t.net (state_of b.portion.state) f) where
   not_into : (p : ℕ) → IsInto t a.number (into f.unit p t.net.chans) → ⊥
   not_into p i =
       let c = into f.unit p t.net.chans in
@@ -59,22 +59,22 @@ module _ (t : Tables) (a b : Worker) (m : IsMadeOf t a) (k : IsMadeOf t b) (numb
   clock : b.clock ≡ a.clock
   clock = k.clock ∙ (ap (λ g. last_stamp 0 g.items) log ∙ sym m.clock)
 
-  waiting : (p : ℕ) → waits t.net (state_of b.state) f ≡ Some p → ⊥
-  waiting p w = no_effect (effect t.net (state_of b.state) f) (λ y. has_room t.net (state_of b.state) f.unit y.put)
-      (waits_effect (row (kind_of t.net f.unit) f.act (get_or (state_of b.state).own f.unit idle) (at_array (state_of b.state).arrays (uses (kind_of t.net f.unit))) (setting t.net (state_of b.state))) (head_at t.net (state_of b.state) f.unit) p w) e
+  waiting : (p : ℕ) → waits t.net (state_of b.portion.state) f ≡ Some p → ⊥
+  waiting p w = no_effect (effect t.net (state_of b.portion.state) f) (λ y. has_room t.net (state_of b.portion.state) f.unit y.put)
+      (waits_effect (row (kind_of t.net f.unit) f.act (get_or (state_of b.portion.state).own f.unit idle) (at_array (state_of b.portion.state).arrays (uses (kind_of t.net f.unit))) (setting t.net (state_of b.portion.state))) (head_at t.net (state_of b.portion.state) f.unit) p w) e
 
-  room : (x : Effect) → effect t.net (state_of b.state) f ≡ Some x → has_room t.net (state_of b.state) f.unit x.put
-  room x does = subst (λ o. IsSomeAnd o (λ y. has_room t.net (state_of b.state) f.unit y.put)) does e
+  room : (x : Effect) → effect t.net (state_of b.portion.state) f ≡ Some x → has_room t.net (state_of b.portion.state) f.unit x.put
+  room x does = subst (λ o. IsSomeAnd o (λ y. has_room t.net (state_of b.portion.state) f.unit y.put)) does e
 
   never : IsHeldBack t a b f → ⊥
-  never (cause.stops none w) = no_effect (effect t.net (state_of b.state) f) (λ y. has_room t.net (state_of b.state) f.unit y.put) none e
+  never (cause.stops none w) = no_effect (effect t.net (state_of b.portion.state) f) (λ y. has_room t.net (state_of b.portion.state) f.unit y.put) none e
   never (cause.inner_input p w n) = waiting p w
-  never (cause.inner_output x w does is n l) = (let r = subst (has_room t.net (state_of b.state) f.unit) is (room x does) in absurd (omega arith))
+  never (cause.inner_output x w does is n l) = (let r = subst (has_room t.net (state_of b.portion.state) f.unit) is (room x does) in absurd (omega arith))
   never (cause.no_token p w i n) = not_into p i
   never (cause.no_credit x w does is i n) = not_out w.place i
   never (cause.no_slot x w does is i n) = not_out w.place i
   never (cause.late x r does told l) =
-      let g = none_greatest (used t.net (state_of b.state) f) in
+      let g = none_greatest (used t.net (state_of b.portion.state) f) in
       let z = none_told x.put r told in
       let s = a.stamp in
       let full : a.clock + 1 ≡ 2 ^ 62 = omega (arith, clock) in

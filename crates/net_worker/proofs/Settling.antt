@@ -247,7 +247,7 @@ pub record IsMended (a b : Worker) : Type 0 where
   pub share : b.share ≡ a.share
   pub log : b.log ≡ a.log
   pub clock : b.clock ≡ a.clock
-  pub state : b.state ≡ a.state
+  pub portion : b.portion ≡ a.portion
   pub ends : length b.puts.items ≡ length a.puts.items
   pub ends_too : length b.takes.items ≡ length a.takes.items
   pub outs : b.outs ≡ a.outs
@@ -264,7 +264,7 @@ mended_kept t a b m = record {
   share = m.share;
   log = m.log;
   clock = m.clock;
-  state = m.state;
+  portion = m.portion;
   ends = m.ends;
   ends_too = m.ends_too;
   outs = m.outs;
@@ -283,7 +283,7 @@ mended a b m = record {
     log = ap (λ g. g.items) m.log;
     room = ap (λ g. g.room) m.log;
     clock = m.clock;
-    state = ap Rattle.net_core.specs.States.state_of m.state;
+    state = ap (λ p. Rattle.net_core.specs.States.state_of p.state) m.portion;
   };
   closed = m.closed;
   made = λ t made. made_keeps t a b made (mended_kept t a b m);
@@ -295,14 +295,14 @@ mended a b m = record {
 
 -- nothing but one end has changed, and this is kept
 pub mended_put : (a b : Worker) (c : ℕ) (p q : PutEnd) → IsSome (put_end a c) → put_end a c ≡ Some p → KeptPutEnd p q
-    → b.number ≡ a.number → b.share ≡ a.share → b.log ≡ a.log → b.clock ≡ a.clock → b.state ≡ a.state → b.outs ≡ a.outs → b.ins ≡ a.ins → b.closed ≡ a.closed → b.resting ≡ a.resting → b.waits ≡ a.waits
+    → b.number ≡ a.number → b.share ≡ a.share → b.log ≡ a.log → b.clock ≡ a.clock → b.portion ≡ a.portion → b.outs ≡ a.outs → b.ins ≡ a.ins → b.closed ≡ a.closed → b.resting ≡ a.resting → b.waits ≡ a.waits
     → b.puts.items ≡ set a.puts.items c (Some q) → b.takes.items ≡ a.takes.items → IsKeptWith a b
-mended_put a b c p q some is k number share log clock state outs ins closed resting waits puts takes = mended a b (record {
+mended_put a b c p q some is k number share log clock portion outs ins closed resting waits puts takes = mended a b (record {
   number = number;
   share = share;
   log = log;
   clock = clock;
-  state = state;
+  portion = portion;
   ends = ap length puts ∙ length-set a.puts.items c (Some q);
   ends_too = ap length takes;
   outs = outs;
@@ -315,14 +315,14 @@ mended_put a b c p q some is k number share log clock state outs ins closed rest
 })
 
 pub mended_take : (a b : Worker) (c : ℕ) (p q : TakeEnd) → IsSome (take_end a c) → take_end a c ≡ Some p → KeptTakeEnd p q
-    → b.number ≡ a.number → b.share ≡ a.share → b.log ≡ a.log → b.clock ≡ a.clock → b.state ≡ a.state → b.outs ≡ a.outs → b.ins ≡ a.ins → b.closed ≡ a.closed → b.resting ≡ a.resting → b.waits ≡ a.waits
+    → b.number ≡ a.number → b.share ≡ a.share → b.log ≡ a.log → b.clock ≡ a.clock → b.portion ≡ a.portion → b.outs ≡ a.outs → b.ins ≡ a.ins → b.closed ≡ a.closed → b.resting ≡ a.resting → b.waits ≡ a.waits
     → b.puts.items ≡ a.puts.items → b.takes.items ≡ set a.takes.items c (Some q) → IsKeptWith a b
-mended_take a b c p q some is k number share log clock state outs ins closed resting waits puts takes = mended a b (record {
+mended_take a b c p q some is k number share log clock portion outs ins closed resting waits puts takes = mended a b (record {
   number = number;
   share = share;
   log = log;
   clock = clock;
-  state = state;
+  portion = portion;
   ends = ap length puts;
   ends_too = ap length takes ∙ length-set a.takes.items c (Some q);
   outs = outs;

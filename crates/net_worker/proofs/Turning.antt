@@ -39,7 +39,7 @@ pub record IsCredited (a b : Worker) : Type 0 where
   pub share : b.share ≡ a.share
   pub log : b.log ≡ a.log
   pub clock : b.clock ≡ a.clock
-  pub state : b.state ≡ a.state
+  pub portion : b.portion ≡ a.portion
   pub outs : b.outs ≡ a.outs
   pub ins : b.ins ≡ a.ins
   pub closed : b.closed ≡ a.closed
@@ -67,7 +67,7 @@ module _ (a b : Worker) (h : IsCredited a b) where
     share = h.share;
     log = h.log;
     clock = h.clock;
-    state = h.state;
+    portion = h.portion;
     ends = h.puts.long;
     ends_too = ap (λ v. length v.items) h.takes;
     outs = h.outs;

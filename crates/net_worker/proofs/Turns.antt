@@ -17,6 +17,8 @@ use Rattle.net_worker.specs.declared.worker.Worker.{Worker}
 use Rattle.net_worker.proofs.Asking.{asked_trans, asked_made}
 use Rattle.net_worker.proofs.Firing.{later_same, goes_again, goes_asked, goes_fired, fired_made}
 use Rattle.net_worker.proofs.Glancing.{same_whole}
+use Rattle.net_worker.specs.Portions.{HasPins}
+use Rattle.net_worker.proofs.Holdings.{pins_on, unit_pins}
 
 pub laid_room : (net : Net) (s : State) (u : ℕ) (put : Option Put) → HasRoomToLay net s (laid_of net u put) → has_room net s u put
 laid_room net s u None h = tt
@@ -78,3 +80,7 @@ still_has t n a b u own h =
 
 pub room_by_moves : (net : Net) (s : State) (u : ℕ) (p : Plan) (m : Moves) → m ≡ moves_of net u p → HasRoomToLay net s m.laid → has_room net s u p.put
 room_by_moves net s u p m is h = laid_room net s u p.put (subst (λ (x : Moves). HasRoomToLay net s x.laid) is h)
+
+-- after a firing its unit is here with all channels at it
+pub fired_pins : (t : Tables) (a m : Worker) (f : Firing) → HasUnit t a f.unit → IsFiredExactly t a m f → HasPins t.net m.portion f.unit
+fired_pins t a m f own o = pins_on t.net a.portion m.portion f.unit o.fired.here (unit_pins t a f.unit own)

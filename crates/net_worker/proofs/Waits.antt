@@ -10,7 +10,7 @@ use Rattle.net_worker.specs.Workers.{IsOutOf, WaitsStay, PutWaits, IsWaiting, Al
 use Rattle.net_worker.specs.declared.tables.Tables.{Tables}
 use Rattle.net_worker.specs.declared.worker.Worker.{Worker}
 
-module _ (t : Tables) (a b : Worker) (number : b.number ≡ a.number) (state : state_of b.state ≡ state_of a.state) (stay : WaitsStay a b) where
+module _ (t : Tables) (a b : Worker) (number : b.number ≡ a.number) (state : state_of b.portion.state ≡ state_of a.portion.state) (stay : WaitsStay a b) where
   put_on : (u : ℕ) (o : Option Put) → PutWaits t a u o → PutWaits t b u o
   put_on u None h = h
   put_on u (Some p) h = (subst (λ k. IsOutOf t k (out_of u p.place t.net.chans)) (sym number) h.0, stay (out_of u p.place t.net.chans) h.1)

@@ -52,7 +52,7 @@ pub record IsAsked (a b : Worker) : Type 0 where
   pub share : b.share ≡ a.share
   pub log : b.log ≡ a.log
   pub clock : b.clock ≡ a.clock
-  pub state : b.state ≡ a.state
+  pub portion : b.portion ≡ a.portion
   pub outs : b.outs ≡ a.outs
   pub ins : b.ins ≡ a.ins
   pub closed : b.closed ≡ a.closed

@@ -1,16 +1,26 @@
 -- Ends that are kept by channel, where most channels have none.
-use Rattle.std.specs.Prelude.{◌≡◌, ◌≢◌, ℕ, ◌<◌, Option, None, List, [], ◌∷◌, length, get_or, set, replicate}
+use Rattle.std.specs.Prelude.{◌≡◌, ◌≢◌, ℕ, ◌<◌, Option, None, List, [], ◌∷◌, length, get_or, set, replicate, refl}
+use Rattle.std.proofs.Common.{length-set, ◌∙◌}
 
 -- of each channel of a net its end, where there is one; and the channels that have places for ends, ascending
 pub record EndsByChannel (A : Type 0) : Type 0 where
   pub items : List (Option A)
   pub chans : List ℕ
 
+-- a list with these items at these places
+abbrev pub put_over : {A : Type 0} → List ℕ → List A → List A → List A
+put_over [] xs base = base
+put_over (c ∷ cs) [] base = base
+put_over (c ∷ cs) (x ∷ xs) base = set (put_over cs xs base) c x
+
+pub length-put_over : {A : Type 0} (cs : List ℕ) (xs base : List A) → length (put_over cs xs base) ≡ length base
+length-put_over [] xs base = refl
+length-put_over (c ∷ cs) [] base = refl
+length-put_over (c ∷ cs) (x ∷ xs) base = length-set (put_over cs xs base) c x ∙ length-put_over cs xs base
+
 -- n places, with these ends at these channels and nothing at the others
 abbrev pub spread : {A : Type 0} → ℕ → List ℕ → List (Option A) → List (Option A)
-spread n [] es = replicate n None
-spread n (c ∷ cs) [] = replicate n None
-spread n (c ∷ cs) (e ∷ es) = set (spread n cs es) c e
+spread n cs es = put_over cs es (replicate n None)
 
 -- the channels ascend, and are below n
 pub record AreChannels (n : ℕ) (cs : List ℕ) : Type 0 where

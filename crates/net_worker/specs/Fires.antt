@@ -12,6 +12,7 @@ use Rattle.net_core.specs.Fire.{Effect, takes_from, puts_on}
 use Rattle.net_core.specs.States.{IsOf, CountsRise, state_of}
 use Rattle.net_worker.specs.Locally.{token_put, Repays}
 use Rattle.net_worker.specs.Mays.{MayBeMade}
+use Rattle.net_worker.specs.Portions.{SameHere}
 use Rattle.net_worker.specs.Sights.{IsMadeHere}
 use Rattle.net_worker.specs.Workers.{owner_in, IsWhole, IsMadeOf, put_end, take_end}
 use Rattle.net_worker.specs.declared.tables.Tables.{Tables}
@@ -68,9 +69,10 @@ pub record IsFired (t : Tables) (a b : Worker) (f : Firing) (x : Effect) (n : �
   pub items : b.log.items ≡ a.log.items ++ (record { stamp = n; firing = f }) ∷ []
   pub log_room : b.log.room + 1 ≡ a.log.room
   pub clock : b.clock ≡ n
-  pub of : IsOf t.net b.state
-  pub counts : CountsRise max_depth (state_of a.state) (state_of b.state)
-  pub state : IsMadeHere t.net (owner_in t) a.number f.unit x (state_of a.state) (state_of b.state)
+  pub of : IsOf t.net b.portion.state
+  pub counts : CountsRise max_depth (state_of a.portion.state) (state_of b.portion.state)
+  pub here : SameHere a.portion b.portion
+  pub state : IsMadeHere t.net (owner_in t) a.number f.unit x (state_of a.portion.state) (state_of b.portion.state)
   pub ends : length b.puts.items ≡ length a.puts.items
   pub ends_too : length b.takes.items ≡ length a.takes.items
   pub outs : b.outs ≡ a.outs

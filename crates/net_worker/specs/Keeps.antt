@@ -11,7 +11,7 @@ pub record IsKept (t : Tables) (a b : Worker) : Type 0 where
   pub share : b.share ≡ a.share
   pub log : b.log ≡ a.log
   pub clock : b.clock ≡ a.clock
-  pub state : b.state ≡ a.state
+  pub portion : b.portion ≡ a.portion
   pub ends : length b.puts.items ≡ length a.puts.items
   pub ends_too : length b.takes.items ≡ length a.takes.items
   pub outs : b.outs ≡ a.outs

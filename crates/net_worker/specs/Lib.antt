@@ -36,3 +36,6 @@ pub mod Turns
 pub mod Firings
 pub mod Moved
 pub mod Rests
+pub mod Places
+pub mod Portions
+pub mod MovesHere

@@ -5,6 +5,7 @@ use Rattle.elastic_link.specs.declared.take_end.TakeEnd.{TakeEnd}
 use Rattle.elastic_link.specs.Ends.{tokens_taken, token_held, SameTakeEnd, SameCredits}
 use Rattle.net_core.specs.Held.{put_at_end}
 use Rattle.net_core.specs.States.{IsOf, state_of, with_tokens}
+use Rattle.net_worker.specs.Portions.{SameHere}
 use Rattle.net_worker.specs.Workers.{IsInto, IsMadeOf, take_end}
 use Rattle.net_worker.specs.declared.tables.Tables.{Tables}
 use Rattle.net_worker.specs.declared.worker.Worker.{Worker}
@@ -28,8 +29,9 @@ pub record IsLaid (t : Tables) (a b : Worker) (c : ℕ) (e e' : TakeEnd) (x : To
   pub ins : b.ins ≡ a.ins
   pub closed : b.closed ≡ a.closed
   pub resting : b.resting ≡ false
-  pub of : IsOf t.net b.state
-  pub state : state_of b.state ≡ with_tokens (put_at_end c x.value (state_of a.state).tokens) (state_of a.state)
+  pub of : IsOf t.net b.portion.state
+  pub here : SameHere a.portion b.portion
+  pub state : state_of b.portion.state ≡ with_tokens (put_at_end c x.value (state_of a.portion.state).tokens) (state_of a.portion.state)
 
 abbrev pub MadeLooks : Type 0
 MadeLooks = (t : Tables) (a b : Worker) (c : ℕ) (e e' : TakeEnd) (x : Token) → IsMadeOf t a → IsLaid t a b c e e' x → IsMadeOf t b

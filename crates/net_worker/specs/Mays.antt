@@ -19,10 +19,10 @@ IsEarlyAt t a u n p = (x : Token) → IsInto t a.number (into u p t.net.chans) �
 -- the firing does that in the state that the worker holds, has room there, and n is above the clock and the tokens held at places that it uses
 pub record MayBeMade (t : Tables) (a : Worker) (f : Firing) (e : Effect) (n : ℕ) : Type 0 where
   pub mine : owner_in t f.unit ≡ a.number
-  pub does : effect t.net (state_of a.state) f ≡ Some e
-  pub room : HasRoomIn t.net (owner_in t) a.number (state_of a.state) f.unit e.put
+  pub does : effect t.net (state_of a.portion.state) f ≡ Some e
+  pub room : HasRoomIn t.net (owner_in t) a.number (state_of a.portion.state) f.unit e.put
   pub later : a.clock < n
-  pub early : AllByRecursion (IsEarlyAt t a f.unit n) (used t.net (state_of a.state) f)
+  pub early : AllByRecursion (IsEarlyAt t a f.unit n) (used t.net (state_of a.portion.state) f)
 
 -- so it may be made in the worker's state after its log
 abbrev pub WorkerMay : Type 0

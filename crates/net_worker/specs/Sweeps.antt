@@ -88,19 +88,19 @@ greatest_held net w u ps = greatest_in net w.takes.items u ps
 -- why a firing of the worker was not made, from the state of the worker after the sweep, which is that before it but for tokens handed out
 pub data IsHeldBack (t : Tables) (a b : Worker) (f : Firing) : Type 0 where
   -- its unit's own state, or the channels between the worker's own units
-  stops : effect t.net (state_of b.state) f ≡ None → waits t.net (state_of b.state) f ≡ None → IsHeldBack t a b f
-  inner_input : (p : ℕ) → waits t.net (state_of b.state) f ≡ Some p → (IsInto t a.number (into f.unit p t.net.chans) → ⊥) → IsHeldBack t a b f
-  inner_output : (x : Effect) (w : Put) → effect t.net (state_of b.state) f ≡ Some x → x.put ≡ Some w → (IsOutOf t a.number (out_of f.unit w.place t.net.chans) → ⊥)
-      → (chan_at t.net (out_of f.unit w.place t.net.chans)).slots ≤ length (tokens_at (state_of b.state) (out_of f.unit w.place t.net.chans)) → IsHeldBack t a b f
+  stops : effect t.net (state_of b.portion.state) f ≡ None → waits t.net (state_of b.portion.state) f ≡ None → IsHeldBack t a b f
+  inner_input : (p : ℕ) → waits t.net (state_of b.portion.state) f ≡ Some p → (IsInto t a.number (into f.unit p t.net.chans) → ⊥) → IsHeldBack t a b f
+  inner_output : (x : Effect) (w : Put) → effect t.net (state_of b.portion.state) f ≡ Some x → x.put ≡ Some w → (IsOutOf t a.number (out_of f.unit w.place t.net.chans) → ⊥)
+      → (chan_at t.net (out_of f.unit w.place t.net.chans)).slots ≤ length (tokens_at (state_of b.portion.state) (out_of f.unit w.place t.net.chans)) → IsHeldBack t a b f
   -- a channel from or to another worker
-  no_token : (p : ℕ) → waits t.net (state_of b.state) f ≡ Some p → IsInto t a.number (into f.unit p t.net.chans) → NoToken (into f.unit p t.net.chans) a b → IsHeldBack t a b f
-  no_credit : (x : Effect) (w : Put) → effect t.net (state_of b.state) f ≡ Some x → x.put ≡ Some w → IsOutOf t a.number (out_of f.unit w.place t.net.chans)
+  no_token : (p : ℕ) → waits t.net (state_of b.portion.state) f ≡ Some p → IsInto t a.number (into f.unit p t.net.chans) → NoToken (into f.unit p t.net.chans) a b → IsHeldBack t a b f
+  no_credit : (x : Effect) (w : Put) → effect t.net (state_of b.portion.state) f ≡ Some x → x.put ≡ Some w → IsOutOf t a.number (out_of f.unit w.place t.net.chans)
       → NoCredit (out_of f.unit w.place t.net.chans) a b → IsHeldBack t a b f
-  no_slot : (x : Effect) (w : Put) → effect t.net (state_of b.state) f ≡ Some x → x.put ≡ Some w → IsOutOf t a.number (out_of f.unit w.place t.net.chans)
+  no_slot : (x : Effect) (w : Put) → effect t.net (state_of b.portion.state) f ≡ Some x → x.put ≡ Some w → IsOutOf t a.number (out_of f.unit w.place t.net.chans)
       → NoSlot (out_of f.unit w.place t.net.chans) a b → IsHeldBack t a b f
   -- its stamp would be 2^62
-  late : (x : Effect) (r : ℕ) → effect t.net (state_of b.state) f ≡ Some x → ToldBy t a b f.unit x.put r
-      → 2 ^ 62 ≤ suc (max b.clock (max (greatest_held t.net b f.unit (used t.net (state_of b.state) f)) r)) → IsHeldBack t a b f
+  late : (x : Effect) (r : ℕ) → effect t.net (state_of b.portion.state) f ≡ Some x → ToldBy t a b f.unit x.put r
+      → 2 ^ 62 ≤ suc (max b.clock (max (greatest_held t.net b f.unit (used t.net (state_of b.portion.state) f)) r)) → IsHeldBack t a b f
 
 -- ---- answers
 

@@ -53,7 +53,7 @@ is_closed w = w.closed
 
 -- the state that the worker holds
 abbrev pub held_state : Worker → State
-held_state w = state_of w.state
+held_state w = state_of w.portion.state
 
 -- the ends by channel
 abbrev pub put_end : Worker → ℕ → Option PutEnd

@@ -22,6 +22,7 @@ use Rattle.net_worker.specs.Stamped.{Stamped, stamps_at}
 use Rattle.net_worker.specs.Plays.{putter, taker}
 use Rattle.net_worker.specs.Local.{values, stamps_of, Shown, IsLocal}
 use Rattle.net_worker.specs.Merged.{IsRested}
+use Rattle.net_worker.specs.Portions.{PortionView, IsUnitHere, IsOutHere, IsInHere}
 use Rattle.net_worker.specs.Steps.{last_stamp}
 use Rattle.net_worker.specs.declared.entry.Entry.{Entry}
 use Rattle.net_worker.specs.declared.tables.Tables.{Tables}
@@ -97,11 +98,11 @@ PutWaits t w u (Some p) = IsOutOf t w.number (out_of u p.place t.net.chans) × I
 
 -- so does the token of the firing, where it has an effect
 abbrev pub IsWaiting : Tables → Worker → Firing → Type 0
-IsWaiting t w f = (x : Effect) → effect t.net (state_of w.state) f ≡ Some x → PutWaits t w f.unit x.put
+IsWaiting t w f = (x : Effect) → effect t.net (state_of w.portion.state) f ≡ Some x → PutWaits t w f.unit x.put
 
 -- so of each firing of the worker's units that is enabled in the state that it holds
 abbrev pub AllWait : Tables → Worker → Type 0
-AllWait t w = (f : Firing) → owner_in t f.unit ≡ w.number → enabled t.net (state_of w.state) f → IsWaiting t w f
+AllWait t w = (f : Firing) → owner_in t f.unit ≡ w.number → enabled t.net (state_of w.portion.state) f → IsWaiting t w f
 
 -- ---- the exit
 
@@ -113,10 +114,19 @@ HasExitAmong net es = Any (λ (e : Entry). kind_of net e.firing.unit ≡ Exit) e
 abbrev pub HasLoggedExit : Tables → Worker → Type 0
 HasLoggedExit t w = HasExitAmong t.net w.log.items
 
+-- ---- what is here
+
+-- each of the worker's own units is in the portion, with all channels at it
+pub record HoldsOwn (t : Tables) (j : ℕ) (p : PortionView) : Type 0 where
+  pub unit : (u : ℕ) → u < length t.net.units → owner_in t u ≡ j → IsUnitHere p u
+  pub out : (c : ℕ) → c < length t.net.chans → putter t.net (owner_in t) c ≡ j → IsOutHere p c
+  pub into : (c : ℕ) → c < length t.net.chans → taker t.net (owner_in t) c ≡ j → IsInHere p c
+
 -- the worker was made of these tables, and all that holds of it locally
 pub record IsMadeOf (t : Tables) (w : Worker) : Type 0 where
-  pub of : IsOf t.net w.state
-  pub counts : CountsWithin (max_depth * length w.log.items) (state_of w.state)
+  pub of : IsOf t.net w.portion.state
+  pub counts : CountsWithin (max_depth * length w.log.items) (state_of w.portion.state)
+  pub own : HoldsOwn t w.number w.portion
   pub room : length w.log.items + w.log.room ≡ w.share
   pub ends : length w.puts.items ≡ length t.net.chans
   pub ends_too : length w.takes.items ≡ length t.net.chans
@@ -124,9 +134,9 @@ pub record IsMadeOf (t : Tables) (w : Worker) : Type 0 where
   -- the state after the log, and what the log and the ends show
   pub after : Stamped
   pub local : IsLocal t.net t.inputs (owner_in t) w.number (shown w after)
-  pub sees : Sees t.net (owner_in t) w.number (state_of w.state) after.state
+  pub sees : Sees t.net (owner_in t) w.number (state_of w.portion.state) after.state
   -- in the state that the worker holds the exit has fired exactly where its log says so, whoever owns the exit
-  pub exit : HasExited t.net (state_of w.state) ↔ HasLoggedExit t w
+  pub exit : HasExited t.net (state_of w.portion.state) ↔ HasLoggedExit t w
   -- of a channel from another worker the state has the token that the end holds
   pub held : (c : ℕ) → IsInto t w.number c → tokens_at after.state c ≡ values (held_by (take_end w c))
   pub held_stamps : (c : ℕ) → IsInto t w.number c → stamps_at after c ≡ stamps_of (held_by (take_end w c))
@@ -156,7 +166,7 @@ IsFull w = (w.log.room ≡ 0) ⊎ (w.clock + 1 ≡ 2 ^ 62)
 
 -- no firing of the worker's inner units is enabled in its own units
 abbrev pub HasRested : Tables → Worker → Type 0
-HasRested t w = IsRested t.net (owner_in t) w.number (state_of w.state)
+HasRested t w = IsRested t.net (owner_in t) w.number (state_of w.portion.state)
 
 -- ---- the same worker later
 

@@ -43,13 +43,13 @@ impl Worker {
         ensures held { IfNone result (IsHeld tables.now self.old self.new firing) }
     {
         let net = &tables.net;
-        let plan = self.state.plan(net, firing)?;
+        let plan = self.portion.plan(net, firing)?;
         let unit = firing.unit;
         let used = used_places(&net.net().units.as_slice()[unit as usize], plan.takes);
         let base = above(&mut self.takes, net, unit, used, self.clock);
-        let stamp = offer(&mut self.puts, &self.state, net, unit, plan.put, base)?;
-        self.state.make(net, firing, plan);
-        hand_over(&mut self.state, &self.puts, net, unit, plan.put);
+        let stamp = offer(&mut self.puts, &self.portion, net, unit, plan.put, base)?;
+        self.portion.make(net, firing, plan);
+        hand_over(&mut self.portion, &self.puts, net, unit, plan.put);
         take_all(&mut self.takes, net, unit, plan.takes, stamp);
         self.clock = stamp;
         self.resting = false;
@@ -69,9 +69,9 @@ impl Worker {
         ensures held { IfNone result (IsHeld tables.now self.old self.new firing) }
     {
         let net = &tables.net;
-        let plan = self.state.plan(net, firing)?;
-        let stamp = offer_inside(&self.state, net, firing.unit, plan.put, self.clock)?;
-        self.state.make(net, firing, plan);
+        let plan = self.portion.plan(net, firing)?;
+        let stamp = offer_inside(&self.portion, net, firing.unit, plan.put, self.clock)?;
+        self.portion.make(net, firing, plan);
         self.clock = stamp;
         self.resting = false;
         self.log.add(Entry::new(stamp, firing));
@@ -96,7 +96,7 @@ impl Worker {
         };
         wake(
             &mut self.ready,
-            &self.state,
+            &self.portion,
             tables,
             self.number,
             firing.unit,

@@ -47,7 +47,7 @@ fn stands_at(chans: &[u32], at: usize, chan: u32) -> bool
 /// The place of a channel among ascending ones, where it is one of them. It is looked for first at a place near which it may
 /// stand.
 #[inline(always)]
-fn place_of(chans: &[u32], near: usize, chan: u32) -> Option<usize>
+pub(crate) fn place_of(chans: &[u32], near: usize, chan: u32) -> Option<usize>
     requires { (n : ℕ) × AreChannels n chans.now }
     ensures some { IfSome result (λ i. StandsAt chans.now chan i) }
     ensures none { IfNone result (IsNotAmong chans.now chan) }

@@ -9,16 +9,18 @@ ghost use Rattle.net_worker.specs.Firings.{HoldsIfAny, IsPayable, AllDistinct, I
 ghost use Rattle.net_worker.specs.Inside.{AreBetween};
 ghost use Rattle.net_worker.specs.Moved.{AllHoldOn, AllPayableOn, AreTakenOn, IsLaidBy, greatest_on, taken_or_seen};
 ghost use Rattle.net_worker.specs.Offers.{held_stamp, IsOffered};
+ghost use Rattle.net_worker.specs.Portions.{HasPins, SameHere};
 ghost use Rattle.net_worker.specs.Views.{net_of};
 ghost use Rattle.net_worker.specs.Workers.{held_by};
 
 use crate::channel_ends::ChannelEnds;
 use crate::ends::put_above;
 use crate::parts::{offer_inner, one_above, stamp_near, take_near};
+use crate::portion::Portion;
 use crate::tables::Tables;
 use elastic_link::{PutEnd, TakeEnd};
 use net_check::Pins;
-use net_core::{Laid, Put, State, Taken};
+use net_core::{Laid, Put, Taken};
 
 /// The token that a firing of a unit puts, by its place and by its channel.
 #[derive(Clone, Copy)]
@@ -93,16 +95,17 @@ pub(crate) fn used_on(fork: bool, pins: Pins, taken: Taken) -> Taken
 #[inline(always)]
 pub(crate) fn offer_on(
     puts: &mut ChannelEnds<PutEnd>,
-    state: &State,
+    portion: &Portion,
     tables: &Tables,
     offered: Offered,
     above: u64,
 ) -> Option<u64>
-    requires of { IsOf (net_of tables.now) state.now }
+    requires of { IsOf (net_of tables.now) portion.now.state }
+    requires here { HasPins (net_of tables.now) portion.now offered.unit }
     requires laid { IsLaidBy (net_of tables.now) offered }
     requires between { AreBetween tables.now puts.old.items }
     requires above { IsStamp above }
-    ensures some { IfSome result (λ n. IsOffered (net_of tables.now) (state_of state.now)
+    ensures some { IfSome result (λ n. IsOffered (net_of tables.now) (state_of portion.now.state)
         offered.unit offered.put above n puts.old.items puts.new.items) }
     ensures asked { IfNone result (PutsAsked puts.old.items puts.new.items) }
     ensures chans { puts.new.chans ≡ puts.old.chans }
@@ -111,11 +114,11 @@ pub(crate) fn offer_on(
         return one_above(above);
     };
     let Some(places) = tables.end_places(laid.chan) else {
-        return offer_inner(state, &tables.net, laid.chan, above);
+        return offer_inner(portion, &tables.net, laid.chan, above);
     };
     match puts.get_mut(laid.chan, places.put as usize) {
         Some(end) => put_above(end, laid.value, above),
-        None => offer_inner(state, &tables.net, laid.chan, above),
+        None => offer_inner(portion, &tables.net, laid.chan, above),
     }
 }
 
@@ -173,18 +176,20 @@ pub(crate) fn take_moves(
 /// Takes the token that a firing has put out of the state again, where it went to another worker.
 #[inline(always)]
 pub(crate) fn hand_over_on(
-    state: &mut State,
+    portion: &mut Portion,
     puts: &ChannelEnds<PutEnd>,
     tables: &Tables,
     offered: Offered,
 )
-    requires of { IsOf (net_of tables.now) state.old }
+    requires of { IsOf (net_of tables.now) portion.old.state }
+    requires here { HasPins (net_of tables.now) portion.old offered.unit }
     requires laid { IsLaidBy (net_of tables.now) offered }
     requires between { AreBetween tables.now puts.now.items }
     requires long { length puts.now.items ≡ length (net_of tables.now).chans }
-    ensures of { IsOf (net_of tables.now) state.new }
+    ensures of { IsOf (net_of tables.now) portion.new.state }
+    ensures same { SameHere portion.old portion.new }
     ensures state { IsHandedOver (net_of tables.now) offered.unit offered.put puts.now.items
-        (state_of state.old) (state_of state.new) }
+        (state_of portion.old.state) (state_of portion.new.state) }
 {
     let Some(laid) = offered.laid else {
         return;
@@ -193,6 +198,6 @@ pub(crate) fn hand_over_on(
         return;
     };
     if puts.has_near(laid.chan, places.put as usize) {
-        state.take_token(&tables.net, laid.chan);
+        portion.take_out(&tables.net, laid.chan);
     }
 }

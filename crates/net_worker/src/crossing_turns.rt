@@ -38,8 +38,8 @@ impl Worker {
         requires own { HasUnit tables.now self.old firing.unit }
         requires moves { moves ≡ moves_of (net_of tables.now) firing.unit plan }
         requires apart { apart plan.takes ≡ true }
-        requires admits { admits (cell_at self.old.state firing.unit) plan.change ≡ true }
-        requires effect { IsPlanOf (net_of tables.now) self.old.state firing (Some plan) }
+        requires admits { admits (cell_at self.old.portion.state firing.unit) plan.change ≡ true }
+        requires effect { IsPlanOf (net_of tables.now) self.old.portion.state firing (Some plan) }
         requires used { used ≡ taken_or_seen (is_fork (kind_of (net_of tables.now) firing.unit))
             (pins_of firing.unit (net_of tables.now).chans) moves.taken }
         ensures fired { IsTrue result → IsFiredExactly tables.now self.old self.new firing }
@@ -54,12 +54,12 @@ impl Worker {
             put: plan.put,
             laid: moves.laid,
         };
-        let Some(stamp) = offer_on(&mut self.puts, &self.state, tables, offered, base) else {
+        let Some(stamp) = offer_on(&mut self.puts, &self.portion, tables, offered, base) else {
             self.await_laid(tables, moves.laid);
             return false;
         };
-        self.state.make_moves(&tables.net, firing, plan, moves);
-        hand_over_on(&mut self.state, &self.puts, tables, offered);
+        self.portion.make_moves(&tables.net, firing, plan, moves);
+        hand_over_on(&mut self.portion, &self.puts, tables, offered);
         take_moves(&mut self.takes, tables, moves.taken, stamp);
         self.clock = stamp;
         self.resting = false;
@@ -83,8 +83,8 @@ impl Worker {
         requires pins { pins ≡ pins_of firing.unit (net_of tables.now).chans }
         requires apart { IfSome plan (λ p. apart p.takes ≡ true) }
         requires admits { IfSome plan
-            (λ p. admits (cell_at self.old.state firing.unit) p.change ≡ true) }
-        requires effect { IsPlanOf (net_of tables.now) self.old.state firing plan }
+            (λ p. admits (cell_at self.old.portion.state firing.unit) p.change ≡ true) }
+        requires effect { IsPlanOf (net_of tables.now) self.old.portion.state firing plan }
         ensures { HasMade tables.now result self.old self.new }
     {
         let Some(plan) = plan else {
@@ -97,7 +97,7 @@ impl Worker {
         }
         wake_crossing(
             &mut self.ready,
-            &self.state,
+            &self.portion,
             tables,
             firing.unit,
             pins,
@@ -108,7 +108,7 @@ impl Worker {
     }
 
     /// Tries the firing of a constant.
-    #[tactic(auto, using(crate::proofs::ForkKinds::const_not))]
+    #[tactic(auto, using(crate::proofs::Holdings::unit_pins, crate::proofs::ForkKinds::const_not))]
     #[inline(never)]
     fn go_const_crossing(&mut self, tables: &Tables, unit: u32, value: u64) -> u32
         requires own { HasUnit tables.now self.old unit }
@@ -116,13 +116,13 @@ impl Worker {
         ensures { HasMade tables.now result self.old self.new }
     {
         let pins = tables.net.pins(unit);
-        let plan = self.state.plan_const_at(&tables.net, unit, value, pins);
+        let plan = self.portion.plan_const_at(&tables.net, unit, value, pins);
         let act = Act::Go;
         self.try_crossing_plan(tables, Firing { unit, act }, false, pins, plan)
     }
 
     /// Tries the firing of an operation on one pattern.
-    #[tactic(auto, using(crate::proofs::ForkKinds::op1_not))]
+    #[tactic(auto, using(crate::proofs::Holdings::unit_pins, crate::proofs::ForkKinds::op1_not))]
     #[inline(never)]
     fn go_op1_crossing(&mut self, tables: &Tables, unit: u32, op: Op1) -> u32
         requires own { HasUnit tables.now self.old unit }
@@ -130,13 +130,13 @@ impl Worker {
         ensures { HasMade tables.now result self.old self.new }
     {
         let pins = tables.net.pins(unit);
-        let plan = self.state.plan_op1_at(&tables.net, unit, op, pins);
+        let plan = self.portion.plan_op1_at(&tables.net, unit, op, pins);
         let act = Act::Go;
         self.try_crossing_plan(tables, Firing { unit, act }, false, pins, plan)
     }
 
     /// Tries the firing of an operation on two patterns.
-    #[tactic(auto, using(crate::proofs::ForkKinds::op2_not))]
+    #[tactic(auto, using(crate::proofs::Holdings::unit_pins, crate::proofs::ForkKinds::op2_not))]
     #[inline(never)]
     fn go_op2_crossing(&mut self, tables: &Tables, unit: u32, op: Op2) -> u32
         requires own { HasUnit tables.now self.old unit }
@@ -144,13 +144,13 @@ impl Worker {
         ensures { HasMade tables.now result self.old self.new }
     {
         let pins = tables.net.pins(unit);
-        let plan = self.state.plan_op2_at(&tables.net, unit, op, pins);
+        let plan = self.portion.plan_op2_at(&tables.net, unit, op, pins);
         let act = Act::Go;
         self.try_crossing_plan(tables, Firing { unit, act }, false, pins, plan)
     }
 
     /// Tries the firing of a select.
-    #[tactic(auto, using(crate::proofs::ForkKinds::select_not))]
+    #[tactic(auto, using(crate::proofs::Holdings::unit_pins, crate::proofs::ForkKinds::select_not))]
     #[inline(never)]
     fn go_select_crossing(&mut self, tables: &Tables, unit: u32) -> u32
         requires own { HasUnit tables.now self.old unit }
@@ -158,13 +158,13 @@ impl Worker {
         ensures { HasMade tables.now result self.old self.new }
     {
         let pins = tables.net.pins(unit);
-        let plan = self.state.plan_select_at(&tables.net, unit, pins);
+        let plan = self.portion.plan_select_at(&tables.net, unit, pins);
         let act = Act::Go;
         self.try_crossing_plan(tables, Firing { unit, act }, false, pins, plan)
     }
 
     /// Tries the firing of a mux.
-    #[tactic(auto, using(crate::proofs::ForkKinds::mux_not))]
+    #[tactic(auto, using(crate::proofs::Holdings::unit_pins, crate::proofs::ForkKinds::mux_not))]
     #[inline(never)]
     fn go_mux_crossing(&mut self, tables: &Tables, unit: u32, ins: u32) -> u32
         requires own { HasUnit tables.now self.old unit }
@@ -172,13 +172,13 @@ impl Worker {
         ensures { HasMade tables.now result self.old self.new }
     {
         let pins = tables.net.pins(unit);
-        let plan = self.state.plan_mux_at(&tables.net, unit, ins, pins);
+        let plan = self.portion.plan_mux_at(&tables.net, unit, ins, pins);
         let act = Act::Go;
         self.try_crossing_plan(tables, Firing { unit, act }, false, pins, plan)
     }
 
     /// Tries the firing of a branch.
-    #[tactic(auto, using(crate::proofs::ForkKinds::branch_not))]
+    #[tactic(auto, using(crate::proofs::Holdings::unit_pins, crate::proofs::ForkKinds::branch_not))]
     #[inline(never)]
     fn go_branch_crossing(&mut self, tables: &Tables, unit: u32) -> u32
         requires own { HasUnit tables.now self.old unit }
@@ -186,13 +186,13 @@ impl Worker {
         ensures { HasMade tables.now result self.old self.new }
     {
         let pins = tables.net.pins(unit);
-        let plan = self.state.plan_branch_at(&tables.net, unit, pins);
+        let plan = self.portion.plan_branch_at(&tables.net, unit, pins);
         let act = Act::Go;
         self.try_crossing_plan(tables, Firing { unit, act }, false, pins, plan)
     }
 
     /// Tries the firing of a sink.
-    #[tactic(auto, using(crate::proofs::ForkKinds::sink_not))]
+    #[tactic(auto, using(crate::proofs::Holdings::unit_pins, crate::proofs::ForkKinds::sink_not))]
     #[inline(never)]
     fn go_sink_crossing(&mut self, tables: &Tables, unit: u32) -> u32
         requires own { HasUnit tables.now self.old unit }
@@ -200,13 +200,13 @@ impl Worker {
         ensures { HasMade tables.now result self.old self.new }
     {
         let pins = tables.net.pins(unit);
-        let plan = self.state.plan_sink_at(&tables.net, unit, pins);
+        let plan = self.portion.plan_sink_at(&tables.net, unit, pins);
         let act = Act::Go;
         self.try_crossing_plan(tables, Firing { unit, act }, false, pins, plan)
     }
 
     /// Tries the firing of a read.
-    #[tactic(auto, using(crate::proofs::ForkKinds::read_not))]
+    #[tactic(auto, using(crate::proofs::Holdings::unit_pins, crate::proofs::ForkKinds::read_not))]
     #[inline(never)]
     fn go_read_crossing(&mut self, tables: &Tables, unit: u32, array: u32) -> u32
         requires own { HasUnit tables.now self.old unit }
@@ -214,12 +214,13 @@ impl Worker {
         ensures { HasMade tables.now result self.old self.new }
     {
         let pins = tables.net.pins(unit);
-        let plan = self.state.plan_read_at(&tables.net, unit, array, pins);
+        let plan = self.portion.plan_read_at(&tables.net, unit, array, pins);
         let act = Act::Go;
         self.try_crossing_plan(tables, Firing { unit, act }, false, pins, plan)
     }
 
     /// Tries the firing of a unit that fires once in a run: an entry, a parameter or the exit.
+    #[tactic(auto, using(crate::proofs::Holdings::unit_pins))]
     #[inline(never)]
     fn go_once_crossing(&mut self, tables: &Tables, unit: u32, kind: &Unit) -> u32
         requires own { HasUnit tables.now self.old unit }
@@ -228,13 +229,13 @@ impl Worker {
         ensures { HasMade tables.now result self.old self.new }
     {
         let pins = tables.net.pins(unit);
-        let plan = self.state.plan_go_at(&tables.net, unit, kind, pins);
+        let plan = self.portion.plan_go_at(&tables.net, unit, kind, pins);
         let act = Act::Go;
         self.try_crossing_plan(tables, Firing { unit, act }, false, pins, plan)
     }
 
     /// Tries the sendings of a fork, one output after another.
-    #[tactic(auto, using(crate::proofs::ForkKinds::fork_is))]
+    #[tactic(auto, using(crate::proofs::Holdings::unit_pins, crate::proofs::ForkKinds::fork_is))]
     #[inline(never)]
     fn sends_crossing(&mut self, tables: &Tables, unit: u32, outs: u32) -> u32
         requires own { HasUnit tables.now self.old unit }
@@ -243,12 +244,12 @@ impl Worker {
     {
         let net = &tables.net;
         let pins = net.pins(unit);
-        if self.state.head(net, pins.first).is_none() {
+        if self.portion.head(net, pins.first).is_none() {
             return 0;
         }
         let mut made = 0;
         for out in 0..outs {
-            let plan = self.state.plan_send_at(net, unit, outs, out, pins);
+            let plan = self.portion.plan_send_at(net, unit, outs, out, pins);
             let act = Act::Send(out);
             let more = self.try_crossing_plan(tables, Firing { unit, act }, true, pins, plan);
             made += more;
@@ -257,7 +258,7 @@ impl Worker {
     }
 
     /// Tries the firing of a control merge from the input at which the control token is, as far as it is noted.
-    #[tactic(auto, using(crate::proofs::ForkKinds::merge_not))]
+    #[tactic(auto, using(crate::proofs::Holdings::unit_pins, crate::proofs::ForkKinds::merge_not))]
     #[inline(never)]
     fn from_noted_crossing(&mut self, tables: &Tables, unit: u32, ins: u32) -> u32
         requires own { HasUnit tables.now self.old unit }
@@ -269,7 +270,7 @@ impl Worker {
             return 0;
         };
         let chan = net.into_place(unit, u64::from(input));
-        let plan = self.state.plan_from_at(net, unit, ins, input, chan);
+        let plan = self.portion.plan_from_at(net, unit, ins, input, chan);
         let act = Act::From(input);
         self.try_crossing_plan(tables, Firing { unit, act }, false, net.pins(unit), plan)
     }

@@ -5,7 +5,7 @@ ghost use Rattle.net_types.specs.Nets.{chan_at};
 ghost use Rattle.net_core.specs.Fire.{tokens_at};
 ghost use Rattle.net_core.specs.Exchanges.{HasStraysOf, chan_from, with_unit};
 ghost use Rattle.net_core.specs.States.{IsOf, state_of, strays_at, with_tokens};
-ghost use Rattle.net_worker.specs.Handed.{FewLeft, HoldsOf, IsLeft, SameButChan, SameButEndsAt, SameButState};
+ghost use Rattle.net_worker.specs.Handed.{FewLeft, HoldsChan, HoldsOf, HoldsUnit, IsLeft, SameButChan, SameButEndsAt, SameButState};
 ghost use Rattle.net_worker.specs.Local.{values};
 ghost use Rattle.net_worker.specs.Views.{held_state, put_end, take_end};
 ghost use Rattle.net_worker.specs.Workers.{AreLinkedAt};
@@ -39,6 +39,7 @@ impl Worker {
         requires holds { HoldsOf net.now self.old }
         requires of { IsOf net.now into.old }
         requires within { unit < length net.now.units }
+        requires here { HoldsUnit self.old unit }
         ensures holds { HoldsOf net.now self.new }
         ensures of { IsOf net.now into.new }
         ensures state { state_of into.new
@@ -47,7 +48,7 @@ impl Worker {
             ≡ with_unit net.now unit (state_of into.old) (held_state self.old) }
         ensures rest { SameButState self.old self.new }
     {
-        into.exchange_unit(&mut self.state, net, unit);
+        self.portion.exchange_unit(into, net, unit);
     }
 
     /// Exchanges the tokens of a channel with another state of the net. Takes no memory.
@@ -55,6 +56,7 @@ impl Worker {
         requires holds { HoldsOf net.now self.old }
         requires of { IsOf net.now into.old }
         requires within { chan < length net.now.chans }
+        requires here { HoldsChan self.old chan }
         ensures holds { HoldsOf net.now self.new }
         ensures of { IsOf net.now into.new }
         ensures state { state_of into.new ≡ with_tokens
@@ -65,7 +67,7 @@ impl Worker {
             (held_state self.old) }
         ensures rest { SameButState self.old self.new }
     {
-        into.exchange_chan(&mut self.state, net, chan);
+        self.portion.exchange_chan(into, net, chan);
     }
 
     /// Adds the worker's counts of strays to those of another state of the net. Takes no memory.
@@ -76,7 +78,7 @@ impl Worker {
         ensures of { IsOf net.now into.new }
         ensures state { HasStraysOf (state_of into.old) (held_state self.now) (state_of into.new) }
     {
-        into.add_strays(&self.state, net);
+        self.portion.add_strays(into, net);
     }
 
     /// With both workers in one thread: takes the tokens of a channel from this worker to the other that were put and not

@@ -10,28 +10,31 @@ ghost use Rattle.net_core.specs.States.{IsOf, IsPlanOf, cell_at, state_of};
 ghost use Rattle.net_worker.specs.Asking.{IsAsked};
 ghost use Rattle.net_worker.specs.Firings.{IsFiredExactly};
 ghost use Rattle.net_worker.specs.Inside.{IsInnerUnit};
+ghost use Rattle.net_worker.specs.MovesHere.{IsLaidHere};
 ghost use Rattle.net_worker.specs.Turns.{HasUnit, HasMade, HasRoomToLay};
 ghost use Rattle.net_worker.specs.Views.{net_of, owner_in};
 
 use crate::entry::Entry;
+use crate::portion::Portion;
 use crate::skips::input_of;
 use crate::tables::Tables;
 use crate::waking::wake_inside;
 use crate::worker::Worker;
 use el_base::{Op1, Op2};
 use net_check::{Checked, Pins};
-use net_core::{Laid, Moves, Plan, State, moves_at};
+use net_core::{Laid, Moves, Plan, moves_at};
 use net_types::{Act, Firing, Unit};
 
 /// Whether the channel on which a firing lays a token, where it lays one, has room.
 #[inline(always)]
-fn has_room_to_lay(state: &State, net: &Checked, laid: Option<Laid>) -> bool
-    requires { IsOf net.now state.now }
-    ensures { IsTrue result → HasRoomToLay net.now (state_of state.now) laid }
+fn has_room_to_lay(portion: &Portion, net: &Checked, laid: Option<Laid>) -> bool
+    requires of { IsOf net.now portion.now.state }
+    requires here { IsLaidHere net.now portion.now laid }
+    ensures { IsTrue result → HasRoomToLay net.now (state_of portion.now.state) laid }
 {
     match laid {
         None => true,
-        Some(laid) => state.has_room_on(net, laid.chan),
+        Some(laid) => portion.has_room_on(net, laid.chan),
     }
 }
 
@@ -44,8 +47,8 @@ impl Worker {
         requires inner { IsInnerUnit (net_of tables.now) (owner_in tables.now) firing.unit }
         requires moves { moves ≡ moves_of (net_of tables.now) firing.unit plan }
         requires apart { apart plan.takes ≡ true }
-        requires admits { admits (cell_at self.old.state firing.unit) plan.change ≡ true }
-        requires effect { IsPlanOf (net_of tables.now) self.old.state firing (Some plan) }
+        requires admits { admits (cell_at self.old.portion.state firing.unit) plan.change ≡ true }
+        requires effect { IsPlanOf (net_of tables.now) self.old.portion.state firing (Some plan) }
         ensures fired { IsTrue result → IsFiredExactly tables.now self.old self.new firing }
         ensures kept { IsFalse result → IsAsked self.old self.new }
     {
@@ -54,10 +57,10 @@ impl Worker {
         if stamp >= 1 << 62 || self.log.room() == 0 {
             return false;
         }
-        if !has_room_to_lay(&self.state, net, moves.laid) {
+        if !has_room_to_lay(&self.portion, net, moves.laid) {
             return false;
         }
-        self.state.make_moves(net, firing, plan, moves);
+        self.portion.make_moves(net, firing, plan, moves);
         self.clock = stamp;
         self.resting = false;
         self.log.add(Entry::new(stamp, firing));
@@ -73,8 +76,8 @@ impl Worker {
         requires pins { pins ≡ pins_of firing.unit (net_of tables.now).chans }
         requires apart { IfSome plan (λ p. apart p.takes ≡ true) }
         requires admits { IfSome plan
-            (λ p. admits (cell_at self.old.state firing.unit) p.change ≡ true) }
-        requires effect { IsPlanOf (net_of tables.now) self.old.state firing plan }
+            (λ p. admits (cell_at self.old.portion.state firing.unit) p.change ≡ true) }
+        requires effect { IsPlanOf (net_of tables.now) self.old.portion.state firing plan }
         ensures { HasMade tables.now result self.old self.new }
     {
         let Some(plan) = plan else {
@@ -86,7 +89,7 @@ impl Worker {
         }
         wake_inside(
             &mut self.ready,
-            &self.state,
+            &self.portion,
             &tables.net,
             firing.unit,
             pins,
@@ -96,6 +99,7 @@ impl Worker {
     }
 
     /// Tries the firing of a constant.
+    #[tactic(auto, using(crate::proofs::Holdings::unit_pins))]
     #[inline(never)]
     fn go_const(&mut self, tables: &Tables, unit: u32, value: u64, pins: Pins) -> u32
         requires own { HasUnit tables.now self.old unit }
@@ -104,12 +108,13 @@ impl Worker {
         requires pins { pins ≡ pins_of unit (net_of tables.now).chans }
         ensures { HasMade tables.now result self.old self.new }
     {
-        let plan = self.state.plan_const_at(&tables.net, unit, value, pins);
+        let plan = self.portion.plan_const_at(&tables.net, unit, value, pins);
         let act = Act::Go;
         self.try_plan(tables, Firing { unit, act }, pins, plan)
     }
 
     /// Tries the firing of an operation on one pattern.
+    #[tactic(auto, using(crate::proofs::Holdings::unit_pins))]
     #[inline(never)]
     fn go_op1(&mut self, tables: &Tables, unit: u32, op: Op1, pins: Pins) -> u32
         requires own { HasUnit tables.now self.old unit }
@@ -118,12 +123,13 @@ impl Worker {
         requires pins { pins ≡ pins_of unit (net_of tables.now).chans }
         ensures { HasMade tables.now result self.old self.new }
     {
-        let plan = self.state.plan_op1_at(&tables.net, unit, op, pins);
+        let plan = self.portion.plan_op1_at(&tables.net, unit, op, pins);
         let act = Act::Go;
         self.try_plan(tables, Firing { unit, act }, pins, plan)
     }
 
     /// Tries the firing of an operation on two patterns.
+    #[tactic(auto, using(crate::proofs::Holdings::unit_pins))]
     #[inline(never)]
     fn go_op2(&mut self, tables: &Tables, unit: u32, op: Op2, pins: Pins) -> u32
         requires own { HasUnit tables.now self.old unit }
@@ -132,12 +138,13 @@ impl Worker {
         requires pins { pins ≡ pins_of unit (net_of tables.now).chans }
         ensures { HasMade tables.now result self.old self.new }
     {
-        let plan = self.state.plan_op2_at(&tables.net, unit, op, pins);
+        let plan = self.portion.plan_op2_at(&tables.net, unit, op, pins);
         let act = Act::Go;
         self.try_plan(tables, Firing { unit, act }, pins, plan)
     }
 
     /// Tries the firing of a select.
+    #[tactic(auto, using(crate::proofs::Holdings::unit_pins))]
     #[inline(never)]
     fn go_select(&mut self, tables: &Tables, unit: u32, pins: Pins) -> u32
         requires own { HasUnit tables.now self.old unit }
@@ -146,12 +153,13 @@ impl Worker {
         requires pins { pins ≡ pins_of unit (net_of tables.now).chans }
         ensures { HasMade tables.now result self.old self.new }
     {
-        let plan = self.state.plan_select_at(&tables.net, unit, pins);
+        let plan = self.portion.plan_select_at(&tables.net, unit, pins);
         let act = Act::Go;
         self.try_plan(tables, Firing { unit, act }, pins, plan)
     }
 
     /// Tries the firing of a mux.
+    #[tactic(auto, using(crate::proofs::Holdings::unit_pins))]
     #[inline(never)]
     fn go_mux(&mut self, tables: &Tables, unit: u32, ins: u32, pins: Pins) -> u32
         requires own { HasUnit tables.now self.old unit }
@@ -160,12 +168,13 @@ impl Worker {
         requires pins { pins ≡ pins_of unit (net_of tables.now).chans }
         ensures { HasMade tables.now result self.old self.new }
     {
-        let plan = self.state.plan_mux_at(&tables.net, unit, ins, pins);
+        let plan = self.portion.plan_mux_at(&tables.net, unit, ins, pins);
         let act = Act::Go;
         self.try_plan(tables, Firing { unit, act }, pins, plan)
     }
 
     /// Tries the firing of a branch.
+    #[tactic(auto, using(crate::proofs::Holdings::unit_pins))]
     #[inline(never)]
     fn go_branch(&mut self, tables: &Tables, unit: u32, pins: Pins) -> u32
         requires own { HasUnit tables.now self.old unit }
@@ -174,12 +183,13 @@ impl Worker {
         requires pins { pins ≡ pins_of unit (net_of tables.now).chans }
         ensures { HasMade tables.now result self.old self.new }
     {
-        let plan = self.state.plan_branch_at(&tables.net, unit, pins);
+        let plan = self.portion.plan_branch_at(&tables.net, unit, pins);
         let act = Act::Go;
         self.try_plan(tables, Firing { unit, act }, pins, plan)
     }
 
     /// Tries the firing of a sink.
+    #[tactic(auto, using(crate::proofs::Holdings::unit_pins))]
     #[inline(never)]
     fn go_sink(&mut self, tables: &Tables, unit: u32, pins: Pins) -> u32
         requires own { HasUnit tables.now self.old unit }
@@ -188,12 +198,13 @@ impl Worker {
         requires pins { pins ≡ pins_of unit (net_of tables.now).chans }
         ensures { HasMade tables.now result self.old self.new }
     {
-        let plan = self.state.plan_sink_at(&tables.net, unit, pins);
+        let plan = self.portion.plan_sink_at(&tables.net, unit, pins);
         let act = Act::Go;
         self.try_plan(tables, Firing { unit, act }, pins, plan)
     }
 
     /// Tries the firing of a read.
+    #[tactic(auto, using(crate::proofs::Holdings::unit_pins))]
     #[inline(never)]
     fn go_read(&mut self, tables: &Tables, unit: u32, array: u32, pins: Pins) -> u32
         requires own { HasUnit tables.now self.old unit }
@@ -202,12 +213,13 @@ impl Worker {
         requires pins { pins ≡ pins_of unit (net_of tables.now).chans }
         ensures { HasMade tables.now result self.old self.new }
     {
-        let plan = self.state.plan_read_at(&tables.net, unit, array, pins);
+        let plan = self.portion.plan_read_at(&tables.net, unit, array, pins);
         let act = Act::Go;
         self.try_plan(tables, Firing { unit, act }, pins, plan)
     }
 
     /// Tries the firing of a unit that fires once in a run: an entry, a parameter or the exit.
+    #[tactic(auto, using(crate::proofs::Holdings::unit_pins))]
     #[inline(never)]
     fn go_once(&mut self, tables: &Tables, unit: u32, kind: &Unit, pins: Pins) -> u32
         requires own { HasUnit tables.now self.old unit }
@@ -216,12 +228,13 @@ impl Worker {
         requires pins { pins ≡ pins_of unit (net_of tables.now).chans }
         ensures { HasMade tables.now result self.old self.new }
     {
-        let plan = self.state.plan_go_at(&tables.net, unit, kind, pins);
+        let plan = self.portion.plan_go_at(&tables.net, unit, kind, pins);
         let act = Act::Go;
         self.try_plan(tables, Firing { unit, act }, pins, plan)
     }
 
     /// Tries the sendings of a fork, one output after another.
+    #[tactic(auto, using(crate::proofs::Holdings::unit_pins))]
     #[inline(never)]
     fn sends(&mut self, tables: &Tables, unit: u32, outs: u32, pins: Pins) -> u32
         requires own { HasUnit tables.now self.old unit }
@@ -231,12 +244,12 @@ impl Worker {
         ensures { HasMade tables.now result self.old self.new }
     {
         let net = &tables.net;
-        if self.state.head(net, pins.first).is_none() {
+        if self.portion.head(net, pins.first).is_none() {
             return 0;
         }
         let mut made = 0;
         for out in 0..outs {
-            let plan = self.state.plan_send_at(net, unit, outs, out, pins);
+            let plan = self.portion.plan_send_at(net, unit, outs, out, pins);
             let act = Act::Send(out);
             let more = self.try_plan(tables, Firing { unit, act }, pins, plan);
             made += more;
@@ -245,6 +258,7 @@ impl Worker {
     }
 
     /// Tries the firing of a control merge from the input at which the control token is, as far as it is noted.
+    #[tactic(auto, using(crate::proofs::Holdings::unit_pins))]
     #[inline(never)]
     fn from_noted(&mut self, tables: &Tables, unit: u32, ins: u32, pins: Pins) -> u32
         requires own { HasUnit tables.now self.old unit }
@@ -258,7 +272,7 @@ impl Worker {
             return 0;
         };
         let chan = net.into_place(unit, u64::from(input));
-        let plan = self.state.plan_from_at(net, unit, ins, input, chan);
+        let plan = self.portion.plan_from_at(net, unit, ins, input, chan);
         let act = Act::From(input);
         self.try_plan(tables, Firing { unit, act }, pins, plan)
     }

@@ -7,6 +7,7 @@ ghost use Rattle.net_worker.specs.Sights.{SeesFires};
 ghost use Rattle.net_worker.specs.Mays.{WorkerMay};
 ghost use Rattle.net_worker.specs.Keeps.{MadeKeeps};
 ghost use Rattle.net_worker.specs.Fires.{MadeFires};
+ghost use Rattle.net_worker.specs.Handed.{MadeHolds};
 ghost use Rattle.net_worker.specs.Looks.{MadeLooks};
 ghost use Rattle.net_worker.specs.Locally.{LocalFires, LocalLooks};
 ghost use Rattle.net_worker.specs.Steps.{OneEntryMore, OneTakeMore, OneCreditMore, MoreHandedOut};
@@ -96,6 +97,11 @@ pub fn made_fires()
 /// A worker whose ends only took in messages, sent what they owed or were asked is still one that was made of its tables.
 pub fn made_keeps()
     ensures { MadeKeeps }
+{}
+
+/// A worker holds what its own units keep, and the tokens of the channels to them.
+pub fn made_holds()
+    ensures { MadeHolds }
 {}
 
 /// After an idle sweep no firing of the worker's inner units is enabled in the state that it holds.

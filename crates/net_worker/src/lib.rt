@@ -17,6 +17,11 @@ mod looking;
 mod making;
 mod parts;
 mod passes;
+mod places;
+mod portion;
+mod portion_acts;
+mod portion_moves;
+mod portion_plans;
 mod ready;
 mod settle;
 mod skips;
@@ -30,9 +35,10 @@ mod worker;
 
 pub use entry::{Entry, Swept};
 pub use laws::{
-    idle_rests, local_fires, local_looks, made_fires, made_keeps, made_looks, merged_ascends,
-    merged_logs_run, merged_merges, more_handed_out, one_credit_more, one_entry_more,
-    one_take_more, rest_is_shared, sees_fires, worker_may, workers_agree, workers_gather,
+    idle_rests, local_fires, local_looks, made_fires, made_holds, made_keeps, made_looks,
+    merged_ascends, merged_logs_run, merged_merges, more_handed_out, one_credit_more,
+    one_entry_more, one_take_more, rest_is_shared, sees_fires, worker_may, workers_agree,
+    workers_gather,
 };
 pub use tables::Tables;
 pub use worker::Worker;

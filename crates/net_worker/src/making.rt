@@ -3,18 +3,21 @@ ghost use Rattle.std.specs.Prelude.{◌≡◌, ℕ, ◌<◌, ◌≤◌, ◌↔�
 ghost use Rattle.std.specs.List.{Contains};
 ghost use Rattle.el_base.specs.Limits.{max_workers};
 ghost use Rattle.net_types.specs.Inputs.{InputsFit};
+ghost use Rattle.net_core.specs.Runs.{opening};
+ghost use Rattle.net_core.specs.States.{CountsWithin, IsOf, state_of};
 ghost use Rattle.net_worker.specs.ChannelEnds.{AreChannels};
 ghost use Rattle.net_worker.specs.Given.{IsFresh};
+ghost use Rattle.net_worker.specs.Places.{chans_of, has_end, owns_unit, units_of};
 ghost use Rattle.net_worker.specs.Shares.{max_share};
-ghost use Rattle.net_worker.specs.Views.{net_of, inputs_of, put_end, take_end};
-ghost use Rattle.net_worker.specs.Workers.{IsMadeOf, IsOutOf, IsInto};
+ghost use Rattle.net_worker.specs.Views.{net_of, inputs_of, put_end, take_end, unit_owners};
+ghost use Rattle.net_worker.specs.Workers.{HoldsOwn, IsMadeOf, IsOutOf, IsInto};
 
 use crate::channel_ends::ChannelEnds;
+use crate::portion::Portion;
 use crate::ready::Ready;
 use crate::tables::Tables;
 use crate::worker::Worker;
 use el_base::Log;
-use net_core::State;
 use net_types::Memory;
 use std::alloc::Global;
 
@@ -36,18 +39,18 @@ impl Worker {
         let chans = tables.net.net().chans.len();
         let outs = channels_out(alloc, tables, number)?;
         let ins = channels_in(alloc, tables, number)?;
-        let ready = own_units(alloc, tables, number)?;
+        let ready = marks_of(alloc, tables, number)?;
         let log = Log::with_room(alloc, share)?;
         let puts = ChannelEnds::new(alloc, outs.as_slice(), chans)?;
         let takes = ChannelEnds::new(alloc, ins.as_slice(), chans)?;
         let waits = vec![in alloc; false; chans]?;
-        let state = State::new(alloc, &tables.net, &tables.inputs)?;
+        let portion = opening_portion(alloc, tables, number)?;
         Ok(Worker {
             number,
             share,
             clock: 0,
             log,
-            state,
+            portion,
             puts,
             takes,
             outs,
@@ -120,8 +123,73 @@ fn channels_in(alloc: Global, tables: &Tables, number: u32) -> Result<Vec<u32>, 
     Ok(ins)
 }
 
+/// The rooms of the units of a worker, and of the channels at them, in the opening state.
+fn opening_portion(alloc: Global, tables: &Tables, number: u32) -> Result<Portion, Memory>
+    requires { InputsFit (net_of tables.now) (inputs_of tables.now) }
+    ensures of { IfOk result (λ p. IsOf (net_of tables.now) p.state) }
+    ensures state { IfOk result (λ p. state_of p.state
+        ≡ opening (net_of tables.now) (inputs_of tables.now)) }
+    ensures counts { IfOk result (λ p. CountsWithin 0 (state_of p.state)) }
+    ensures own { IfOk result (λ p. HoldsOwn tables.now number p) }
+{
+    let units = own_units(alloc, tables, number)?;
+    let chans = own_chans(alloc, tables, number)?;
+    Portion::new(
+        alloc,
+        &tables.base,
+        &tables.places,
+        &tables.net,
+        &tables.inputs,
+        units,
+        chans,
+    )
+}
+
+/// Whether a worker owns a unit.
+fn is_of(tables: &Tables, number: u32, unit: u32) -> bool
+    requires { unit < length (net_of tables.now).units }
+    ensures { result ≡ owns_unit (unit_owners tables.now) number unit }
+{
+    tables.owner(unit) == number
+}
+
+/// The units of a worker, ascending.
+fn own_units(alloc: Global, tables: &Tables, number: u32) -> Result<Vec<u32>, Memory>
+    ensures { IfOk result (λ v. v.items ≡ units_of (unit_owners tables.now) number) }
+{
+    let count = tables.net.net().units.len();
+    let mut units = Vec::new(alloc);
+    for at in 0..count {
+        let own = is_of(tables, number, at as u32);
+        note_if(&mut units, at as u32, own)?;
+    }
+    Ok(units)
+}
+
+/// Whether a channel goes from or to a unit of a worker.
+fn is_at(tables: &Tables, number: u32, chan: u32) -> bool
+    requires { chan < length (net_of tables.now).chans }
+    ensures { result ≡ has_end (net_of tables.now) (unit_owners tables.now) number chan }
+{
+    tables.putter(chan) == number || tables.taker(chan) == number
+}
+
+/// The channels from or to the units of a worker, ascending.
+fn own_chans(alloc: Global, tables: &Tables, number: u32) -> Result<Vec<u32>, Memory>
+    ensures { IfOk result (λ v. v.items
+        ≡ chans_of (net_of tables.now) (unit_owners tables.now) number) }
+{
+    let count = tables.net.net().chans.len();
+    let mut chans = Vec::new(alloc);
+    for at in 0..count {
+        let own = is_at(tables, number, at as u32);
+        note_if(&mut chans, at as u32, own)?;
+    }
+    Ok(chans)
+}
+
 /// Marks at all units of a worker.
-fn own_units(alloc: Global, tables: &Tables, number: u32) -> Result<Ready, Memory> {
+fn marks_of(alloc: Global, tables: &Tables, number: u32) -> Result<Ready, Memory> {
     let owners = tables.owners.as_slice();
     let mut ready = Ready::new(alloc, owners.len())?;
     for (unit, owner) in owners.iter().enumerate() {

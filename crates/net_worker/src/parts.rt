@@ -1,4 +1,4 @@
-//! The parts of one firing, over lists of ends and over states.
+//! The parts of one firing, over lists of ends and over the rooms of a worker.
 ghost use Rattle.std.specs.Prelude.{◌≡◌, ◌≢◌, ◌⊎◌, ℕ, ◌<◌, ◌≤◌, ◌^◌, suc, max, true, IfNone, IfSome, None, Some, length, get_or};
 ghost use Rattle.elastic_link.specs.Credits.{IsStamp};
 ghost use Rattle.net_types.specs.Nets.{chan_at};
@@ -11,13 +11,16 @@ ghost use Rattle.net_worker.specs.Fires.{TakeStep};
 ghost use Rattle.net_worker.specs.Firings.{HoldsIfAny, AllHold, IsPayable, AllPayable, AllDistinct, chans_into, AreTaken, IsHandedOver};
 ghost use Rattle.net_worker.specs.Inside.{IsOfferedInside, IsNotOfferedInside};
 ghost use Rattle.net_worker.specs.Offers.{held_stamp, greatest_in, IsOffered, IsNotOffered};
+ghost use Rattle.net_worker.specs.MovesHere.{IsOutIfAny};
+ghost use Rattle.net_worker.specs.Portions.{HasPins, SameHere};
 ghost use Rattle.net_worker.specs.Workers.{held_by};
 
 use crate::channel_ends::ChannelEnds;
 use crate::ends::{put_above, take_with};
+use crate::portion::Portion;
 use elastic_link::{PutEnd, TakeEnd};
 use net_check::Checked;
-use net_core::{Put, State, Takes};
+use net_core::{Put, Takes};
 use net_types::Unit;
 
 /// The stamp of the token that the end of a channel holds; 0 where the channel has no end.
@@ -108,19 +111,20 @@ pub(crate) fn one_above(stamp: u64) -> Option<u64>
 /// credit, and answers the stamp; else one above `above`. `None` where there is no room, no credit, no slot or no stamp.
 pub(crate) fn offer(
     puts: &mut ChannelEnds<PutEnd>,
-    state: &State,
+    portion: &Portion,
     net: &Checked,
     unit: u32,
     put: Option<Put>,
     above: u64,
 ) -> Option<u64>
-    requires of { IsOf net.now state.now }
+    requires of { IsOf net.now portion.now.state }
+    requires here { HasPins net.now portion.now unit }
     requires above { IsStamp above }
-    ensures some { IfSome result (λ n. IsOffered net.now (state_of state.now) unit put above n
-        puts.old.items puts.new.items) }
+    ensures some { IfSome result (λ n. IsOffered net.now (state_of portion.now.state)
+        unit put above n puts.old.items puts.new.items) }
     ensures asked { IfNone result (PutsAsked puts.old.items puts.new.items) }
     ensures chans { puts.new.chans ≡ puts.old.chans }
-    ensures none { IfNone result (IsNotOffered net.now (state_of state.now) unit put above
+    ensures none { IfNone result (IsNotOffered net.now (state_of portion.now.state) unit put above
         puts.old.items puts.new.items) }
 {
     let Some(put) = put else {
@@ -130,22 +134,23 @@ pub(crate) fn offer(
     let near = puts.last();
     match puts.get_mut(chan, near) {
         Some(end) => put_above(end, put.value, above),
-        None => offer_inner(state, net, chan, above),
+        None => offer_inner(portion, net, chan, above),
     }
 }
 
 /// One above `above`, where a channel of the state has room and a stamp is left.
-pub(crate) fn offer_inner(state: &State, net: &Checked, chan: u32, above: u64) -> Option<u64>
-    requires of { IsOf net.now state.now }
+pub(crate) fn offer_inner(portion: &Portion, net: &Checked, chan: u32, above: u64) -> Option<u64>
+    requires of { IsOf net.now portion.now.state }
+    requires here { IsOutIfAny net.now portion.now chan }
     requires above { IsStamp above }
     ensures some { IfSome result (λ n. (n ≡ suc above) × IsStamp n) }
-    ensures room { IfSome result (λ _. length (tokens_at (state_of state.now) chan)
+    ensures room { IfSome result (λ _. length (tokens_at (state_of portion.now.state) chan)
         < (chan_at net.now chan).slots) }
     ensures none { IfNone result (
-        ((chan_at net.now chan).slots ≤ length (tokens_at (state_of state.now) chan))
+        ((chan_at net.now chan).slots ≤ length (tokens_at (state_of portion.now.state) chan))
         ⊎ (2 ^ 62 ≤ suc above)) }
 {
-    if state.has_room_on(net, chan) {
+    if portion.has_room_on(net, chan) {
         one_above(above)
     } else {
         None
@@ -156,24 +161,25 @@ pub(crate) fn offer_inner(state: &State, net: &Checked, chan: u32, above: u64) -
 /// and a stamp is left. No end is asked.
 #[tactic(auto, using(crate::proofs::Inside::inside_some))]
 pub(crate) fn offer_inside(
-    state: &State,
+    portion: &Portion,
     net: &Checked,
     unit: u32,
     put: Option<Put>,
     above: u64,
 ) -> Option<u64>
-    requires of { IsOf net.now state.now }
+    requires of { IsOf net.now portion.now.state }
+    requires here { HasPins net.now portion.now unit }
     requires above { IsStamp above }
     ensures some { IfSome result
-        (λ n. IsOfferedInside net.now (state_of state.now) unit put above n) }
+        (λ n. IsOfferedInside net.now (state_of portion.now.state) unit put above n) }
     ensures fits { IfSome result (λ n. IsStamp n) }
-    ensures room { IfSome result (λ _. has_room net.now (state_of state.now) unit put) }
+    ensures room { IfSome result (λ _. has_room net.now (state_of portion.now.state) unit put) }
     ensures none { IfNone result
-        (IsNotOfferedInside net.now (state_of state.now) unit put above) }
+        (IsNotOfferedInside net.now (state_of portion.now.state) unit put above) }
 {
     match put {
         None => one_above(above),
-        Some(put) => offer_inner(state, net, net.out_of_place(unit, put.place), above),
+        Some(put) => offer_inner(portion, net, net.out_of_place(unit, put.place), above),
     }
 }
 
@@ -241,23 +247,25 @@ pub(crate) fn take_all(
 
 /// Takes the token that a firing has put out of the state again, where it went to another worker.
 pub(crate) fn hand_over(
-    state: &mut State,
+    portion: &mut Portion,
     puts: &ChannelEnds<PutEnd>,
     net: &Checked,
     unit: u32,
     put: Option<Put>,
 )
-    requires of { IsOf net.now state.old }
+    requires of { IsOf net.now portion.old.state }
+    requires here { HasPins net.now portion.old unit }
     requires long { length puts.now.items ≡ length net.now.chans }
-    ensures of { IsOf net.now state.new }
+    ensures of { IsOf net.now portion.new.state }
+    ensures same { SameHere portion.old portion.new }
     ensures state { IsHandedOver net.now unit put puts.now.items
-        (state_of state.old) (state_of state.new) }
+        (state_of portion.old.state) (state_of portion.new.state) }
 {
     let Some(put) = put else {
         return;
     };
     let chan = net.out_of_place(unit, put.place);
     if puts.has(chan) {
-        state.take_token(net, chan);
+        portion.take_out(net, chan);
     }
 }

@@ -3,6 +3,7 @@ ghost use Rattle.std.specs.Prelude.{◌≡◌, ◌<◌, length};
 ghost use Rattle.net_core.specs.States.{IsOf};
 ghost use Rattle.net_worker.specs.Asking.{IsAsked};
 ghost use Rattle.net_worker.specs.Going.{GoesOn, HasAdded, OneTriedAs, UnitTriedAs, OwnTriedAs, TriedAs, ActsFit};
+ghost use Rattle.net_worker.specs.Portions.{IsUnitHere};
 ghost use Rattle.net_worker.specs.Turns.{HasUnit, HasMade};
 ghost use Rattle.net_worker.specs.Views.{net_of, number_of, log_room, owner_in, held_state};
 ghost use Rattle.net_worker.specs.Workers.{IsMadeOf, IsWhole};
@@ -65,7 +66,7 @@ impl Worker {
     {
         let mut fired = 0;
         'visits: for _ in 0..u32::MAX {
-            if fired >= PASS_FIRINGS && !self.state.exited() {
+            if fired >= PASS_FIRINGS && !self.portion.exited() {
                 return fired;
             }
             let Some(unit) = self.ready.take() else {
@@ -107,7 +108,7 @@ impl Worker {
                 return fired;
             }
             let next = self.number_from(tables, unit, number);
-            let Some(act) = self.state.act_at(&tables.net, unit, next) else {
+            let Some(act) = self.portion.act_at(&tables.net, unit, next) else {
                 return fired;
             };
             let made = self.try_one(tables, Firing { unit, act });
@@ -119,11 +120,12 @@ impl Worker {
 
     /// The next number from one on, in the order of a unit's acts, of an act that is not passed over.
     fn number_from(&self, tables: &Tables, unit: u32, number: u32) -> u32
-        requires of { IsOf (net_of tables.now) self.now.state }
+        requires of { IsOf (net_of tables.now) self.now.portion.state }
         requires within { unit < length (net_of tables.now).units }
+        requires here { IsUnitHere self.now.portion unit }
     {
         let control = self.ready.control();
-        next_number(&tables.net, &self.state, control, unit, number)
+        next_number(&tables.net, &self.portion, control, unit, number)
     }
 
     /// Tries a firing of one of its own units; answers how many it made, one or none.
@@ -182,12 +184,13 @@ impl Worker {
 
     /// The numbers of a unit's acts that are enabled have their bits.
     fn acts_fit(&self, tables: &Tables, unit: u32)
-        requires of { IsOf (net_of tables.now) self.now.state }
+        requires of { IsOf (net_of tables.now) self.now.portion.state }
         requires within { unit < length (net_of tables.now).units }
+        requires here { IsUnitHere self.now.portion unit }
         ensures { ActsFit (net_of tables.now) (held_state self.now) unit }
     {
         let _ = tables.net.net();
-        let Some(queue) = self.state.queue(&tables.net, unit) else {
+        let Some(queue) = self.portion.queue(&tables.net, unit) else {
             return;
         };
         let _ = queue.len();
@@ -209,7 +212,7 @@ impl Worker {
         let mut waiting = true;
         let mut from = Act::Go;
         'acts: loop {
-            let Some(act) = self.state.find_act(&tables.net, unit, from) else {
+            let Some(act) = self.portion.find_act(&tables.net, unit, from) else {
                 return Tried::of(waiting);
             };
             let tried = self.try_again(tables, Firing { unit, act });

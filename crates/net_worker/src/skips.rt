@@ -4,9 +4,11 @@
 //! before it is idle.
 ghost use Rattle.std.specs.Prelude.{◌<◌, length};
 ghost use Rattle.net_core.specs.States.{IsOf};
+ghost use Rattle.net_worker.specs.Portions.{IsUnitHere};
 
+use crate::portion::Portion;
 use net_check::Checked;
-use net_core::{State, UnitQueue};
+use net_core::UnitQueue;
 use net_types::Unit;
 
 /// The numbers at which the kinds of acts of a queue begin, in the order of its acts; from 0 on the groups are allocated.
@@ -48,13 +50,20 @@ pub(crate) fn input_of(net: &Checked, chan: u32, unit: u32, places: u32) -> Opti
 
 /// The next number from one on, in the order of a unit's acts, of an act that the unit may make, as far as its queue tells and
 /// the channel on which the control token is. Another unit tells nothing.
-pub(crate) fn next_number(net: &Checked, state: &State, control: u32, unit: u32, number: u32) -> u32
-    requires of { IsOf net.now state.now }
+pub(crate) fn next_number(
+    net: &Checked,
+    portion: &Portion,
+    control: u32,
+    unit: u32,
+    number: u32,
+) -> u32
+    requires of { IsOf net.now portion.now.state }
+    requires here { IsUnitHere portion.now unit }
     requires within { unit < length net.now.units }
 {
     match &net.net().units.as_slice()[unit as usize] {
         Unit::Cmerge { ins } => next_control_place(net, control, unit, number, *ins),
-        Unit::Lsq { ports, groups, .. } => match state.queue(net, unit) {
+        Unit::Lsq { ports, groups, .. } => match portion.queue(net, unit) {
             None => number,
             Some(queue) => {
                 let starts = starts_of(groups.as_slice().len(), ports.as_slice().len());

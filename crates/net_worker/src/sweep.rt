@@ -27,14 +27,14 @@ impl Worker {
         ensures stamps { SweptExactly tables.now self.old self.new }
         ensures exited { HasLoggedExit tables.now self.new → result ≡ swept.Exited }
     {
-        if self.state.exited() {
+        if self.portion.exited() {
             return Swept::Exited;
         }
         if self.is_full() {
             return Swept::Full;
         }
         let fired = self.go(tables);
-        if self.state.exited() {
+        if self.portion.exited() {
             return Swept::Exited;
         }
         if fired == 0 {
@@ -50,7 +50,7 @@ impl Worker {
         ensures { IsTrue result ↔ (HasLoggedExit tables.now self.now ⊎ IsFull self.now) }
     {
         let _ = tables;
-        self.state.exited() || self.is_full()
+        self.portion.exited() || self.is_full()
     }
 
     /// Whether the log holds its share, or no stamp is left.

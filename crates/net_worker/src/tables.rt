@@ -1,15 +1,22 @@
 //! What all workers of a net read.
 ghost use Rattle.std.specs.Prelude.{◌≡◌, ◌<◌, length, All, IfOk};
 ghost use Rattle.el_base.specs.Limits.{max_workers};
+ghost use Rattle.net_core.specs.Runs.{opening};
+ghost use Rattle.net_core.specs.States.{IsOf, state_of};
+ghost use Rattle.net_core.proofs.PropLemmas.{is_of_prop, state_set};
 ghost use Rattle.net_worker.specs.Crossing.{AreMarked, ArePlaced};
+ghost use Rattle.net_worker.specs.Places.{ArePlacesOf};
 ghost use Rattle.net_worker.specs.Spans.{AreWithin};
 
 use crate::crossing::crossing_units;
 use crate::end_places::{EndPlaces, places_of_ends};
+use crate::places::Places;
 use crate::spans::{NOWHERE, Span, spans_of};
 use net_check::Checked;
+use net_core::State;
 use net_types::{Inputs, List, Memory};
 use std::alloc::Global;
+use std::sync::Arc;
 
 /// A net, the owner of each of its units, and inputs.
 pub struct Tables {
@@ -21,12 +28,19 @@ pub struct Tables {
     /// By worker: where its units lie.
     pub(crate) spans: Vec<Span>,
     /// By channel: where its ends stand, where it goes from one worker to another.
-    pub(crate) places: Vec<Option<EndPlaces>>,
+    pub(crate) end_places: Vec<Option<EndPlaces>>,
+    /// The opening state, of which each worker keeps a part of its own.
+    pub(crate) base: Arc<State>,
+    /// Where workers keep the rooms of their units and channels.
+    pub(crate) places: Arc<Places>,
     pub ghost owned: { length owners ≡ length net.units },
     pub ghost few: { All (λ o. o < max_workers) owners },
     pub ghost marked: { AreMarked net.chans owners crossing.items },
     pub ghost lie: { AreWithin owners spans.items },
-    pub ghost placed: { ArePlaced net.chans owners places.items },
+    pub ghost placed: { ArePlaced net.chans owners end_places.items },
+    pub ghost base_of: { IsOf net base.value } by { is_of_prop net base.value },
+    pub ghost base_opens: { state_of base.value ≡ opening net inputs } by { state_set _ _ },
+    pub ghost stand: { ArePlacesOf net owners places.value },
 }
 
 // By hand, so that to let go of one is a call.
@@ -38,6 +52,8 @@ impl Drop for Tables {
             owners: _owners,
             crossing: _crossing,
             spans: _spans,
+            end_places: _end_places,
+            base: _base,
             places: _places,
         } = self;
     }
@@ -87,7 +103,11 @@ impl Tables {
     {
         let crossing = crossing_units(alloc, net, owners)?;
         let spans = spans_of(alloc, owners)?;
-        let places = places_of_ends(alloc, net, owners)?;
+        let end_places = places_of_ends(alloc, net, owners)?;
+        let opening = State::new(alloc, net, inputs)?;
+        let base = Arc::new(alloc, opening)?;
+        let found = Places::new(alloc, net, owners)?;
+        let places = Arc::new(alloc, found)?;
         let owners = copy_owners(alloc, owners)?;
         let inputs = inputs.copy(alloc)?;
         let net = net.copy(alloc)?;
@@ -97,6 +117,8 @@ impl Tables {
             owners,
             crossing,
             spans,
+            end_places,
+            base,
             places,
         })
     }
@@ -116,8 +138,8 @@ impl Tables {
         ensures { IfNone result (StaysInside self.now chan) }
     {
         let at = chan as usize;
-        if at < self.places.len() {
-            self.places[at]
+        if at < self.end_places.len() {
+            self.end_places[at]
         } else {
             None
         }

@@ -3,7 +3,7 @@ ghost use Rattle.std.specs.Prelude.{◌≡◌, ◌≢◌, ◌↔◌, ◌<◌, �
 ghost use Rattle.net_worker.specs.Asking.{IsAsked};
 ghost use Rattle.net_worker.specs.Glances.{PutsLooked, IsLooked};
 ghost use Rattle.net_worker.specs.Offers.{NoCreditAt};
-ghost use Rattle.net_worker.specs.Views.{net_of, number_of, put_end};
+ghost use Rattle.net_worker.specs.Views.{net_of, number_of, owner_in, put_end};
 ghost use Rattle.net_worker.specs.Waits.{IsDenied, AllDenied};
 ghost use Rattle.net_worker.specs.Workers.{IsMadeOf, IsOutOf, IsAwaited, IsWaiting};
 
@@ -34,6 +34,7 @@ impl Worker {
     /// Notes the channel for whose credit a firing that was refused waits; tells whether it is one to another worker.
     pub(crate) fn note(&mut self, tables: &Tables, firing: Firing) -> bool
         requires made { IsMadeOf tables.now self.old }
+        requires mine { owner_in tables.now firing.unit ≡ number_of self.old }
         requires within { firing.unit < length (net_of tables.now).units }
         ensures asked { IsAsked self.old self.new }
         ensures waiting { IsTrue result → IsWaiting tables.now self.new firing }
@@ -41,7 +42,7 @@ impl Worker {
         if !tables.crosses(firing.unit) {
             return false;
         }
-        let Some(plan) = self.state.plan(&tables.net, firing) else {
+        let Some(plan) = self.portion.plan(&tables.net, firing) else {
             return true;
         };
         let Some(put) = plan.put else {

@@ -5,10 +5,10 @@ ghost use Rattle.net_worker.specs.Shares.{max_share};
 
 use crate::channel_ends::ChannelEnds;
 use crate::entry::Entry;
+use crate::portion::Portion;
 use crate::ready::Ready;
 use el_base::Log;
 use elastic_link::{PutEnd, TakeEnd};
-use net_core::State;
 
 /// The units that one worker owns, its ends of links, and the log of its firings.
 #[derive(Drop)]
@@ -17,9 +17,9 @@ pub struct Worker {
     pub(crate) share: u64,
     pub(crate) clock: u64,
     pub(crate) log: Log<Entry>,
-    /// A state of the whole net, in which only the worker's own units fire: of a channel from another worker it holds the token
-    /// that the end holds, and of a channel to another worker none.
-    pub(crate) state: State,
+    /// What its own units keep and the tokens of the channels at them: of a channel from another worker the token that the end
+    /// holds, and of a channel to another worker none.
+    pub(crate) portion: Portion,
     /// By channel.
     pub(crate) puts: ChannelEnds<PutEnd>,
     pub(crate) takes: ChannelEnds<TakeEnd>,

@@ -199,8 +199,8 @@ crew_gathers t ws d checked made whole sound =
       to = g.to;
       run = g.run;
       count = g.count;
-      rests = λ j l rested. rest_is_shared (net_of t) (owner_in t) j g.to (state_of (get_or ws j d).state)
+      rests = λ j l rested. rest_is_shared (net_of t) (owner_in t) j g.to (state_of (get_or ws j d).portion.state)
           (own_alike t ws d checked made whole sound j l) g.long (here t ws d checked made whole sound j l).of.long
-          (subst (λ n. IsRested (net_of t) (owner_in t) n (state_of (get_or ws j d).state)) (made.numbered j d l) rested);
+          (subst (λ n. IsRested (net_of t) (owner_in t) n (state_of (get_or ws j d).portion.state)) (made.numbered j d l) rested);
       is = λ s i. g.is (length ws) (owned t ws d checked made whole sound) s (together t ws d checked made whole sound s i);
     }

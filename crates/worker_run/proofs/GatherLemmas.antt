@@ -2,6 +2,7 @@
 use Rattle.std.proofs.Common.{◌≡◌, ◌≢◌, ℕ, suc, ◌+◌, ◌*◌, ◌^◌, ◌<◌, ◌≤◌, List, [], ◌∷◌, ◌++◌, length, get_or, take, drop, refl, ap, ◌∙◌, sym, subst, arith}
 use Rattle.std.proofs.Math.Logic.{∥∥₁_elim}
 use Rattle.std.proofs.Math.Bridge.{le_prop}
+use Rattle.std.specs.Coded.{Coded-set, codes}
 use Rattle.std.proofs.lemmas.Grind.{common_steps}
 use Rattle.std.proofs.lemmas.List.{get_or_default}
 use Rattle.el_base.specs.Limits.{max_depth}
@@ -24,15 +25,16 @@ use Rattle.net_core.proofs.RaiseLemmas.{counts_after}
 use Rattle.net_worker.specs.declared.tables.Tables.{Tables}
 use Rattle.net_worker.specs.declared.worker.Worker.{Worker}
 use Rattle.net_worker.specs.Given.{SameWork}
-use Rattle.net_worker.specs.Handed.{SameLogged, HoldsOf, FewLeft}
+use Rattle.net_worker.specs.Handed.{SameLogged, HoldsOf, HoldsUnit, HoldsChan, FewLeft}
 use Rattle.net_worker.specs.Merged.{merged, entries_of, IsRested}
 use Rattle.net_worker.specs.Plays.{putter, taker}
 use Rattle.net_worker.specs.Views.{net_of, inputs_of, owner_in, number_of, log_of, held_state, take_end}
 use Rattle.net_worker.specs.Workers.{IsMadeOf, HasRested}
+use Rattle.net_worker.proofs.Holdings.{made_holds as held}
 use Rattle.net_worker.proofs.Logs.{merged_length}
 use Rattle.worker_run.specs.Crews.{AreMade, AllWhole, AreSameWork, logs_of, merged_of}
 use Rattle.worker_run.specs.Gathers.{RestsIn}
-use Rattle.worker_run.specs.private.Handings.{AllHold, StraysAreFew, CanDrain, AreHandedOver}
+use Rattle.worker_run.specs.private.Handings.{AllHold, AllHoldOwn, StraysAreFew, CanDrain, AreHandedOver}
 use Rattle.worker_run.specs.private.Settlings.{AreKept, AreSettled, CanAll, after_all}
 use Rattle.worker_run.proofs.CrewLemmas.{crew_gathers}
 use Rattle.worker_run.proofs.HandLemmas.{same_logged_then}
@@ -115,7 +117,23 @@ run_counts net inputs ws to checked run few =
 
 pub all_hold : (t : Tables) (ws : List Worker) (net : Net) → net_of t ≡ net → ∥ AreMade t ws ∥₁ → AllWhole t ws → AllHold net ws
 all_hold t ws net is made whole j d l =
-    subst (λ n. HoldsOf n (get_or ws j d)) is (∥∥₁_elim made (is_of_prop (net_of t) (get_or ws j d).state) (λ m. (m.made j d l (whole j d l).not_closed).of))
+    subst (λ n. HoldsOf n (get_or ws j d)) is (∥∥₁_elim made (is_of_prop (net_of t) (get_or ws j d).portion.state) (λ m. (m.made j d l (whole j d l).not_closed).of))
+
+unit_prop : (w : Worker) (u : ℕ) → IsProp (HoldsUnit w u)
+unit_prop w u = hlevel (codes, Coded-set, le_prop)
+
+chan_prop : (w : Worker) (c : ℕ) → IsProp (HoldsChan w c)
+chan_prop w c = hlevel (codes, Coded-set, le_prop)
+
+pub all_hold_own : (t : Tables) (ws : List Worker) → ∥ AreMade t ws ∥₁ → AllWhole t ws → AllHoldOwn t ws
+all_hold_own t ws made whole = record {
+  units = λ u d l within.
+      let o = owner_in t u in
+      ∥∥₁_elim made (unit_prop (get_or ws o d) u) (λ m. held.units t (get_or ws o d) u (m.made o d within (whole o d within).not_closed) l (sym (m.numbered o d within)));
+  chans = λ c d l within.
+      let o = taker (net_of t) (owner_in t) c in
+      ∥∥₁_elim made (chan_prop (get_or ws o d) c) (λ m. held.chans t (get_or ws o d) c (m.made o d within (whole o d within).not_closed) l (sym (m.numbered o d within)));
+}
 
 pub owners_below : (t : Tables) (ws : List Worker) (net : Net) → net_of t ≡ net → ∥ AreMade t ws ∥₁ → (u : ℕ) → u < length net.units → owner_in t u < length ws
 owners_below t ws net is made u l =

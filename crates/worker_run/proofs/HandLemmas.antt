@@ -6,16 +6,16 @@ use Rattle.std.proofs.lemmas.List.{get_or-set_other, get_or_default, length-set}
 use Rattle.net_types.specs.declared.net.Net.{Net}
 use Rattle.net_types.specs.Nets.{kind_of, owns}
 use Rattle.net_core.specs.Fire.{State, Own, idle, at_array, written, tokens_at}
-use Rattle.net_core.specs.Exchanges.{with_unit}
+use Rattle.net_core.specs.Exchanges.{chan_from, with_unit}
 use Rattle.net_core.specs.States.{with_tokens}
-use Rattle.net_worker.specs.Handed.{SameLogged, HoldsOf, IsLeft, SameButState, SameButEndsAt}
+use Rattle.net_worker.specs.Handed.{SameLogged, HoldsOf, HoldsToo, IsLeft, SameButState, SameButEndsAt}
 use Rattle.net_worker.specs.Plays.{putter, taker}
 use Rattle.net_worker.specs.Views.{net_of, owner_in, is_closed, held_state, put_end, take_end}
 use Rattle.net_worker.specs.Workers.{AreLinkedAt}
 use Rattle.net_worker.specs.declared.tables.Tables.{Tables}
 use Rattle.net_worker.specs.declared.worker.Worker.{Worker}
 use Rattle.worker_run.specs.Crews.{AreLinked}
-use Rattle.worker_run.specs.private.Handings.{AllHold, IsSameButUnits, AreUnitsHanded, CanDrain, IsDrained, IsSameButAt, IsChanHanded, IsSameFrom, AreChansHanded}
+use Rattle.worker_run.specs.private.Handings.{AllHold, AllHoldOwn, IsSameButUnits, AreUnitsHanded, CanDrain, IsDrained, IsSameButAt, IsChanHanded, IsSameFrom, AreChansHanded}
 
 pub same_logged : (a : Worker) → SameLogged a a
 same_logged a = record { number = refl; share = refl; log = refl; room = refl; clock = refl }
@@ -161,6 +161,26 @@ module _ (net : Net) (owner : ℕ → ℕ) (ws xs : List Worker) (s r q : State)
 pub hold_set : (net : Net) (xs : List Worker) (o : ℕ) (y : Worker) → o < length xs → AllHold net xs → HoldsOf net y → AllHold net (set xs o y)
 hold_set net xs o y within all one j d l = at_new (HoldsOf net) xs o y j d within (λ e. one) (λ ne. all j d (omega (arith, l, length-set xs o y)))
 
+-- what each worker holds, it holds after the call too
+pub own_kept : (t : Tables) (ws xs : List Worker) → length xs ≡ length ws → ((j : ℕ) (d : Worker) → j < length ws → HoldsToo (get_or ws j d) (get_or xs j d)) → AllHoldOwn t ws → AllHoldOwn t xs
+own_kept t ws xs long each all = record {
+  units = λ u d l within.
+      let k : owner_in t u < length ws = omega (arith, within, long) in
+      (each (owner_in t u) d k).units u (all.units u d l k);
+  chans = λ c d l within.
+      let k : taker (net_of t) (owner_in t) c < length ws = omega (arith, within, long) in
+      (each (taker (net_of t) (owner_in t) c) d k).chans c (all.chans c d l k);
+}
+
+pub own_set : (t : Tables) (ws : List Worker) (o : ℕ) (w y : Worker) → o < length ws → w ≡ get_or ws o w → HoldsToo w y → AllHoldOwn t ws → AllHoldOwn t (set ws o y)
+own_set t ws o w y within is too all = own_kept t ws (set ws o y) (length-set ws o y) each all
+  where
+    at : (j : ℕ) (d : Worker) → j ≡ o → w ≡ get_or ws j d
+    at j d e = is ∙ (get_or_default ws o w d within ∙ ap (λ k. get_or ws k d) (sym e))
+
+    each : (j : ℕ) (d : Worker) → j < length ws → HoldsToo (get_or ws j d) (get_or (set ws o y) j d)
+    each j d l = at_new (HoldsToo (get_or ws j d)) ws o y j d within (λ e. subst (λ v. HoldsToo v y) (at j d e) too) (λ ne. record { units = λ u h. h; chans = λ c h. h })
+
 -- ---- one channel
 
 -- inside one worker
@@ -176,6 +196,38 @@ inner_linked t o ws w y within is rest linked i d e l ne p q x z is_put is_take 
 
     take_same : (j : ℕ) (f : Worker) → take_end (get_or (set ws o y) j f) i ≡ take_end (get_or ws j f) i
     take_same j f = at_new (λ v. take_end v i ≡ take_end (get_or ws j f) i) ws o y j f within (λ e. rest.takes i ∙ ap (λ v. take_end v i) (at j f e)) (λ n. refl)
+
+same_at : (c : ℕ) (w : Worker) → IsSameButAt c w w
+same_at c w = record { logged = same_logged w; closed = refl; puts = λ d ne. refl; takes = λ d ne. refl; tokens = λ d ne. refl }
+
+-- a channel inside one worker exchanges its tokens with a state that has none
+module _ (net : Net) (owner : ℕ → ℕ) (c o : ℕ) (ws : List Worker) (w y : Worker) (s r : State) (within : o < length ws) (is : w ≡ get_or ws o w)
+    (taken : taker net owner c ≡ o) (put : putter net owner c ≡ taker net owner c) (inside : c < length s.tokens)
+    (state : r ≡ with_tokens (chan_from c (held_state w).tokens s.tokens) s) (held : held_state y ≡ with_tokens (chan_from c s.tokens (held_state w).tokens) (held_state w)) (rest : SameButState w y) where
+  at_place : (j : ℕ) (d : Worker) → j ≡ o → w ≡ get_or ws j d
+  at_place j d e = is ∙ (get_or_default ws o w d within ∙ ap (λ k. get_or ws k d) (sym e))
+
+  exchanged : IsSameButAt c w y
+  exchanged = record {
+    logged = rest.logged;
+    closed = rest.closed;
+    puts = λ d ne. rest.puts d;
+    takes = λ d ne. rest.takes d;
+    tokens = λ d ne. ap (λ (x : State). tokens_at x d) held ∙ get_or-set_other (held_state w).tokens c d (get_or s.tokens c []) [] ne;
+  }
+
+  pub inner_handed : IsChanHanded net owner c ws (set ws o y) s r
+  inner_handed = record {
+    long = length-set ws o y;
+    each = λ j d l. at_new (IsSameButAt c (get_or ws j d)) ws o y j d within (λ e. subst (λ v. IsSameButAt c v y) (at_place j d e) exchanged) (λ ne. same_at c (get_or ws j d));
+    state = record {
+      rest = state ∙ ap (λ xss. with_tokens xss s) (sym (ap (λ (x : State). x.tokens) state));
+      long = ap (λ (x : State). length x.tokens) state ∙ length-set s.tokens c (get_or (held_state w).tokens c []);
+      others = λ d ne. ap (λ (x : State). tokens_at x d) state ∙ get_or-set_other s.tokens c d (get_or (held_state w).tokens c []) [] ne;
+    };
+    inner = λ e d. ap (λ (x : State). tokens_at x c) state ∙ (get_or-set_at s.tokens c c (get_or (held_state w).tokens c []) [] refl inside ∙ ap (λ v. tokens_at (held_state v) c) (at_place (taker net owner c) d taken));
+    between = λ ne d e. absurd (ne put);
+  }
 
 -- from one worker to another
 pub drained_linked : (t : Tables) (from to c : ℕ) (ws xs : List Worker) (s r : State) → from ≡ putter (net_of t) (owner_in t) c → to ≡ taker (net_of t) (owner_in t) c
@@ -259,7 +311,7 @@ can_still net owner ws xs s r n h can = record {
 -- ---- two workers of a list that was cut in two
 
 pub same_ends : (c : ℕ) (w : Worker) → SameButEndsAt c w w
-same_ends c w = record { logged = same_logged w; closed = refl; held = refl; of = λ net h. h; puts = λ d ne. refl; takes = λ d ne. refl }
+same_ends c w = record { logged = same_logged w; closed = refl; held = refl; of = λ net h. h; holds = record { units = λ u h. h; chans = λ d h. h }; puts = λ d ne. refl; takes = λ d ne. refl }
 
 pub left_cast : (c : ℕ) (a x b y : Worker) (xs : List ℕ) → x ≡ a → y ≡ b → IsLeft c a b xs → IsLeft c x y xs
 left_cast c a x b y xs p q h = subst (λ (w : Worker). IsLeft c w y xs) (sym p) (subst (λ (w : Worker). IsLeft c a w xs) (sym q) h)

@@ -10,7 +10,7 @@ use Rattle.net_worker.specs.declared.tables.Tables.{Tables}
 use Rattle.net_worker.specs.declared.worker.Worker.{Worker}
 use Rattle.net_worker.specs.Views.{log_room, log_of, log_share}
 use Rattle.net_worker.specs.Workers.{IsMadeOf, IsWhole, SameWorker}
-use Rattle.worker_run.specs.private.Sweepings.{IsSweptFrom, AreSwept, AreSweptBy, AllStopped, HasStopped, AreTurnsOf, IsTurnOf, rooms_of}
+use Rattle.worker_run.specs.private.Sweepings.{IsSweptFrom, AreSwept, AreSweptBy, AllStopped, HasStopped, AreTurnsAsked, AreTurnsOf, IsTurnAsked, rooms_of}
 use Rattle.worker_run.proofs.RunLemmas.{same_worker, same_worker_then, whole_later}
 
 -- ---- one worker
@@ -62,18 +62,18 @@ rooms_later t a b m s = rooms_below a b s.long (λ j d l. room_later t (get_or a
 
 -- ---- a round, worker by worker
 
--- the first i workers were swept once, and made n firings
-pub record AreSweptTo (t : Tables) (a b : List Worker) (n i : ℕ) : Type 0 where
+-- the first i workers were swept once, where they were asked, and made n firings
+pub record AreSweptTo (Asked : Type 0) (t : Tables) (a b : List Worker) (n i : ℕ) : Type 0 where
   pub swept : AreSwept t a b
   pub rest : (j : ℕ) (d : Worker) → i ≤ j → get_or b j d ≡ get_or a j d
-  pub none : n ≡ 0 → (j : ℕ) (d : Worker) → j < i → j < length a → HasStopped t (get_or b j d)
+  pub none : Asked → n ≡ 0 → (j : ℕ) (d : Worker) → j < i → j < length a → HasStopped t (get_or b j d)
   pub some : 0 < n → rooms_of b < rooms_of a
 
-pub swept_to_none : (t : Tables) (ws : List Worker) → All (IsMadeOf t) ws → AreSweptTo t ws ws 0 0
-swept_to_none t ws m = record {
+pub swept_to_none : (Asked : Type 0) (t : Tables) (ws : List Worker) → All (IsMadeOf t) ws → AreSweptTo Asked t ws ws 0 0
+swept_to_none Asked t ws m = record {
   swept = all_swept_self t ws m;
   rest = λ j d l. refl;
-  none = λ q j d l k. absurd (omega (arith, l));
+  none = λ asked q j d l k. absurd (omega (arith, l));
   some = λ q. absurd (omega (arith, q));
 }
 
@@ -103,21 +103,21 @@ module _ (t : Tables) (a b : List Worker) (i : ℕ) (w e : Worker) (within : i <
   pub rooms_less : log_room w < log_room (get_or b i e) → rooms_of (set b i w) < rooms_of b
   rooms_less less = omega (arith, less, rooms_set)
 
-pub swept_to_next : (t : Tables) (a b : List Worker) (n i m k : ℕ) (w e : Worker) → i < length a → All (IsMadeOf t) a → AreSweptTo t a b n i → IsSweptFrom t (get_or b i e) w → IsTurnOf t m (get_or b i e) w
-    → (k ≡ 0 → (n ≡ 0) × (m ≡ 0)) → ((n ≡ 0) × (m ≡ 0) → k ≡ 0) → AreSweptTo t a (set b i w) k (i + 1)
-swept_to_next t a b n i m k w e within first h one turn zero zeros = record {
+pub swept_to_next : (Asked : Type 0) (t : Tables) (a b : List Worker) (n i m k : ℕ) (w e : Worker) → i < length a → All (IsMadeOf t) a → AreSweptTo Asked t a b n i → IsSweptFrom t (get_or b i e) w
+    → IsTurnAsked Asked t m (get_or b i e) w → (k ≡ 0 → (n ≡ 0) × (m ≡ 0)) → ((n ≡ 0) × (m ≡ 0) → k ≡ 0) → AreSweptTo Asked t a (set b i w) k (i + 1)
+swept_to_next Asked t a b n i m k w e within first h one turn zero zeros = record {
   swept = swept_next t a b i w e within made h.swept one;
   rest = λ j d l. get_or-set_other b i j w d (λ q. absurd (omega (arith, l, q))) ∙ h.rest j d (omega (arith, l));
-  none = λ q j d l u. none_next (zero q) j d l u (cases_eq j i);
+  none = λ asked q j d l u. none_next asked (zero q) j d l u (cases_eq j i);
   some = λ q. some_next q (cases_eq m 0) (cases_eq n 0);
 }
   where
     made : All (IsMadeOf t) b
     made = all_made t a b h.swept
 
-    none_next : (n ≡ 0) × (m ≡ 0) → (j : ℕ) (d : Worker) → j < i + 1 → j < length a → (j ≡ i) ⊎ (j ≡ i → ⊥) → HasStopped t (get_or (set b i w) j d)
-    none_next q j d l u (inl p) = subst (HasStopped t) (sym (there t a b i w e within made h.swept one j d p)) (turn.none q.1)
-    none_next q j d l u (inr p) = subst (HasStopped t) (sym (get_or-set_other b i j w d p)) (h.none q.0 j d (omega (arith, l, p)) u)
+    none_next : Asked → (n ≡ 0) × (m ≡ 0) → (j : ℕ) (d : Worker) → j < i + 1 → j < length a → (j ≡ i) ⊎ (j ≡ i → ⊥) → HasStopped t (get_or (set b i w) j d)
+    none_next asked q j d l u (inl p) = subst (HasStopped t) (sym (there t a b i w e within made h.swept one j d p)) (turn.none asked q.1)
+    none_next asked q j d l u (inr p) = subst (HasStopped t) (sym (get_or-set_other b i j w d p)) (h.none asked q.0 j d (omega (arith, l, p)) u)
 
     before : rooms_of b ≤ rooms_of a
     before = rooms_later t a b first h.swept
@@ -130,8 +130,16 @@ swept_to_next t a b n i m k w e within first h one turn zero zeros = record {
     some_next q (inl p) (inr r) = let some = h.some (omega (arith, r)) in omega (arith, after, some)
     some_next q (inr p) c = let less = rooms_less t a b i w e within made h.swept one (turn.some (omega (arith, p))) in omega (arith, less, before)
 
-pub swept_to_all : (t : Tables) (a b : List Worker) (n i : ℕ) → length a ≤ i → AreSweptTo t a b n i → AreTurnsOf t n a b
-swept_to_all t a b n i all h = record {
-  none = λ q j d l. h.none q j d (omega (arith, l, h.swept.long, all)) (omega (arith, l, h.swept.long));
+pub swept_to_all : (Asked : Type 0) (t : Tables) (a b : List Worker) (n i : ℕ) → length a ≤ i → AreSweptTo Asked t a b n i → AreTurnsAsked Asked t n a b
+swept_to_all Asked t a b n i all h = record {
+  none = λ asked q j d l. h.none asked q j d (omega (arith, l, h.swept.long, all)) (omega (arith, l, h.swept.long));
   some = h.some;
+}
+
+-- ---- a round of those that are awake, and then one of all
+
+pub turns_asked : (Asked : Type 0) (t : Tables) (n : ℕ) (a b c : List Worker) → All (IsMadeOf t) a → AreSwept t a b → Asked → AreTurnsAsked Asked t n b c → AreTurnsOf t n a c
+turns_asked Asked t n a b c m s asked h = record {
+  none = h.none asked;
+  some = λ q. (let less = h.some q in let before = rooms_later t a b m s in omega (arith, less, before));
 }

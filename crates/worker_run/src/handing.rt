@@ -12,7 +12,7 @@ ghost use Rattle.net_worker.specs.Views.{inputs_of, net_of, owner_in, put_end, t
 ghost use Rattle.net_worker.specs.Workers.{AreLinkedAt};
 ghost use Rattle.net_worker.specs.declared.worker.Worker.{Worker};
 ghost use Rattle.worker_run.specs.Crews.{AreLinked, logs_of};
-ghost use Rattle.worker_run.specs.private.Handings.{AllHold, AreChansHanded, AreHandedOver, AreStraysOf, AreUnitsHanded, CanDrain, IsChanHanded, IsDrained, StraysAreFew};
+ghost use Rattle.worker_run.specs.private.Handings.{AllHold, AllHoldOwn, AreChansHanded, AreHandedOver, AreStraysOf, AreUnitsHanded, CanDrain, IsChanHanded, IsDrained, StraysAreFew};
 
 use crate::settling::close;
 use net_check::Checked;
@@ -27,6 +27,7 @@ pub(crate) fn hand_over(net: &Checked, tables: &Tables, workers: &mut [Worker], 
     requires below { (u : ℕ) → u < length net.now.units
         → owner_in tables.now u < length workers.old }
     requires holds { AllHold net.now workers.old }
+    requires own { AllHoldOwn tables.now workers.old }
     requires linked { AreLinked tables.now workers.old }
     requires can { (c : ℕ) → c < length net.now.chans
         → CanDrain net.now (owner_in tables.now) workers.old c }
@@ -61,8 +62,10 @@ fn hand_units(net: &Checked, tables: &Tables, workers: &mut [Worker], into: &mut
     requires below { (u : ℕ) → u < length net.now.units
         → owner_in tables.now u < length workers.old }
     requires holds { AllHold net.now workers.old }
+    requires own { AllHoldOwn tables.now workers.old }
     requires of { IsOf net.now into.old }
     ensures holds { AllHold net.now workers.new }
+    ensures own { AllHoldOwn tables.now workers.new }
     ensures of { IsOf net.now into.new }
     ensures handed { AreUnitsHanded net.now (owner_in tables.now) workers.old workers.new
         (state_of into.old) (state_of into.new) (length net.now.units) }
@@ -77,6 +80,7 @@ fn hand_units(net: &Checked, tables: &Tables, workers: &mut [Worker], into: &mut
 fn hand_chans(net: &Checked, tables: &Tables, workers: &mut [Worker], into: &mut State)
     requires net { net_of tables.now ≡ net.now }
     requires holds { AllHold net.now workers.old }
+    requires own { AllHoldOwn tables.now workers.old }
     requires linked { AreLinked tables.now workers.old }
     requires can { (c : ℕ) → c < length net.now.chans
         → CanDrain net.now (owner_in tables.now) workers.old c }
@@ -97,11 +101,13 @@ fn hand_chan(net: &Checked, tables: &Tables, workers: &mut [Worker], chan: u32, 
     requires net { net_of tables.now ≡ net.now }
     requires within { chan < length net.now.chans }
     requires holds { AllHold net.now workers.old }
+    requires own { AllHoldOwn tables.now workers.old }
     requires linked { AreLinked tables.now workers.old }
     requires can { CanDrain net.now (owner_in tables.now) workers.old chan }
     requires of { IsOf net.now into.old }
     requires none { tokens_at (state_of into.old) chan ≡ [] }
     ensures holds { AllHold net.now workers.new }
+    ensures own { AllHoldOwn tables.now workers.new }
     ensures linked { AreLinked tables.now workers.new }
     ensures of { IsOf net.now into.new }
     ensures handed { IsChanHanded net.now (owner_in tables.now) chan workers.old workers.new

@@ -4,6 +4,7 @@
 //! [`run_workers`] does both, with each worker in a thread of its own between, or in turn where threads do not pay.
 #![tactic(auto)]
 
+mod awake;
 mod crew;
 mod gathering;
 mod handing;

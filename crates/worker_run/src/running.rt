@@ -51,7 +51,7 @@ pub fn run_workers<R: Threads + Sync, G: Gate + Sync>(
     let mut log = Log::with_room(alloc, room_for(keep, limit))?;
     let mut state = State::new(alloc, net, inputs)?;
     let mut crew = workers(alloc, net, inputs, count, limit)?;
-    sweep_crew(rt, &mut crew, gate);
+    sweep_crew(rt, net, &mut crew, gate);
     let made = gather(net, &mut crew, &mut state);
     add_merged(&crew, keep, &mut log);
     match finish(net, &mut state, made, limit, keep, &mut log) {

@@ -2,15 +2,20 @@
 //!
 //! A token that goes from thread to thread takes as long as many firings. Where the sweeps of a worker make few firings each,
 //! all leave their threads, and the caller sweeps one after another, until it sees that their sweeps make many firings again.
+//! There a round asks only those to whom something may have come, and all where these make no firing.
 
 ghost use Rattle.std.specs.Prelude.{◌≡◌, ◌<◌, All, IfNone, IfSome, IsFalse, IsTrue};
+ghost use Rattle.net_worker.specs.Views.{net_of};
 ghost use Rattle.net_worker.specs.Workers.{IsMadeOf, IsWhole};
 ghost use Rattle.worker_run.specs.Crews.{AllWhole, AreMade};
-ghost use Rattle.worker_run.specs.private.Sweepings.{AreSwept, AreSweptBy, AreTurnsOf, IsShut, IsSweptFrom, IsTurnOf, rooms_of};
+ghost use Rattle.worker_run.specs.declared.sweeping.Asked.TheVariants as who;
+ghost use Rattle.worker_run.specs.private.Sweepings.{AreSwept, AreSweptBy, AreTurnsAsked, AreTurnsOf, IsShut, IsSweptFrom, IsTurnAsked, IsTurnOf, rooms_of};
 
+use crate::awake::{Awake, Neighbours};
 use crate::crew::Crew;
 use crossbeam_utils::atomic::AtomicCell;
 use el_io::Gate;
+use net_check::Checked;
 use net_worker::{Swept, Tables, Worker};
 use std::thread::Threads;
 use std::{hint, thread};
@@ -35,6 +40,15 @@ const BOUT: u32 = 100_000;
 
 /// How many firings a sweep in turn makes on the average where threads pay.
 const PAYS: u32 = 256;
+
+/// Whom a round asks.
+#[derive(Clone, Copy)]
+enum Asked {
+    /// Those that are awake.
+    Awake,
+    /// All.
+    All,
+}
 
 /// What sweeping workers in turn came to.
 #[derive(Clone, Copy)]
@@ -88,20 +102,29 @@ impl Bout {
 }
 
 /// Sweeps all workers of a crew until each has ended.
-pub(crate) fn sweep_crew<R: Threads + Sync, G: Gate + Sync>(rt: &R, crew: &mut Crew, gate: &G)
+pub(crate) fn sweep_crew<R: Threads + Sync, G: Gate + Sync>(
+    rt: &R,
+    net: &Checked,
+    crew: &mut Crew,
+    gate: &G,
+)
+    requires net { net_of crew.old.tables ≡ net.now }
     requires made { AreMade crew.old.tables crew.old.workers.items }
     requires whole { AllWhole crew.old.tables crew.old.workers.items }
     ensures swept { AreSweptBy crew.old.tables (G.is_open gate.now) crew.old.workers.items
         crew.new.workers.items }
     ensures tables { crew.new.tables ≡ crew.old.tables }
 {
-    sweep_all(rt, &crew.tables, crew.workers.as_mut_slice(), gate);
+    let neighbours = Neighbours::new(net, &crew.tables);
+    let workers = crew.workers.as_mut_slice();
+    sweep_all(rt, &crew.tables, &neighbours, workers, gate);
 }
 
 /// Sweeps all workers, in threads or in turn, until each has ended.
 fn sweep_all<R: Threads + Sync, G: Gate + Sync>(
     rt: &R,
     tables: &Tables,
+    neighbours: &Neighbours,
     workers: &mut [Worker],
     gate: &G,
 )
@@ -111,14 +134,19 @@ fn sweep_all<R: Threads + Sync, G: Gate + Sync>(
 {
     'phases: loop {
         sweep_in_threads(rt, tables, workers, gate);
-        if sweep_in_turn(tables, workers, gate) {
+        if sweep_in_turn(tables, neighbours, workers, gate) {
             return;
         }
     }
 }
 
 /// Sweeps all workers in turn until each has ended, or threads pay; tells whether each has ended.
-fn sweep_in_turn<G: Gate>(tables: &Tables, workers: &mut [Worker], gate: &G) -> bool
+fn sweep_in_turn<G: Gate>(
+    tables: &Tables,
+    neighbours: &Neighbours,
+    workers: &mut [Worker],
+    gate: &G,
+) -> bool
     requires made { All (IsMadeOf tables.now) workers.old }
     requires whole { All (IsWhole tables.now) workers.old }
     ensures swept { AreSwept tables.now workers.old workers.new }
@@ -126,9 +154,10 @@ fn sweep_in_turn<G: Gate>(tables: &Tables, workers: &mut [Worker], gate: &G) -> 
         → AreSweptBy tables.now (G.is_open gate.now) workers.old workers.new }
     ensures fewer { IsFalse result → rooms_of workers.new < rooms_of workers.old }
 {
+    let mut awake = Awake::all();
     let mut bout = Bout::none();
     'rounds: loop {
-        let Some(round) = sweep_each(tables, workers, gate) else {
+        let Some(round) = sweep_round(tables, neighbours, workers, gate, &mut awake) else {
             return true;
         };
         if round.made == 0 {
@@ -144,8 +173,14 @@ fn sweep_in_turn<G: Gate>(tables: &Tables, workers: &mut [Worker], gate: &G) -> 
     }
 }
 
-/// Sweeps each worker once that has not ended; `None` where the gate ends one.
-fn sweep_each<G: Gate>(tables: &Tables, workers: &mut [Worker], gate: &G) -> Option<Bout>
+/// Sweeps those that are awake, and all where these make no firing; `None` where the gate ends one.
+fn sweep_round<G: Gate>(
+    tables: &Tables,
+    neighbours: &Neighbours,
+    workers: &mut [Worker],
+    gate: &G,
+    awake: &mut Awake,
+) -> Option<Bout>
     requires made { All (IsMadeOf tables.now) workers.old }
     requires whole { All (IsWhole tables.now) workers.old }
     ensures swept { AreSwept tables.now workers.old workers.new }
@@ -153,12 +188,60 @@ fn sweep_each<G: Gate>(tables: &Tables, workers: &mut [Worker], gate: &G) -> Opt
     ensures turns { IfSome result
         (λ b. AreTurnsOf tables.now b.made workers.old workers.new) }
 {
+    let some = sweep_each(tables, neighbours, workers, gate, awake, Asked::Awake)?;
+    if some.made > 0 {
+        return Some(some);
+    }
+    sweep_each(tables, neighbours, workers, gate, awake, Asked::All)
+}
+
+/// Sweeps each worker once that is asked and has not ended; `None` where the gate ends one.
+fn sweep_each<G: Gate>(
+    tables: &Tables,
+    neighbours: &Neighbours,
+    workers: &mut [Worker],
+    gate: &G,
+    awake: &mut Awake,
+    asked: Asked,
+) -> Option<Bout>
+    requires made { All (IsMadeOf tables.now) workers.old }
+    requires whole { All (IsWhole tables.now) workers.old }
+    ensures swept { AreSwept tables.now workers.old workers.new }
+    ensures shut { IfNone result (IsShut (G.is_open gate.now)) }
+    ensures turns { IfSome result
+        (λ b. AreTurnsAsked (asked ≡ who.All) tables.now b.made workers.old workers.new) }
+{
     let mut round = Bout::none();
     for worker in workers.iter_mut() {
-        let made = sweep_once(worker, tables, gate)?;
+        let made = sweep_asked(tables, neighbours, worker, gate, awake, asked)?;
         round = round.and_sweep(made);
     }
     Some(round)
+}
+
+/// Sweeps a worker once that is asked and has not ended, notes whether that made firings, and answers how many.
+fn sweep_asked<G: Gate>(
+    tables: &Tables,
+    neighbours: &Neighbours,
+    worker: &mut Worker,
+    gate: &G,
+    awake: &mut Awake,
+    asked: Asked,
+) -> Option<u32>
+    requires made { IsMadeOf tables.now worker.old }
+    requires whole { IsWhole tables.now worker.old }
+    ensures swept { IsSweptFrom tables.now worker.old worker.new }
+    ensures shut { IfNone result (IsShut (G.is_open gate.now)) }
+    ensures turn { IfSome result
+        (λ n. IsTurnAsked (asked ≡ who.All) tables.now n worker.old worker.new) }
+{
+    let number = worker.number();
+    if matches!(asked, Asked::Awake) && !awake.has(number) {
+        return Some(0);
+    }
+    let made = sweep_once(worker, tables, gate)?;
+    awake.note(neighbours, number, made);
+    Some(made)
 }
 
 /// Sweeps a worker once that has not ended, and answers how many firings it made before the exit; `None` where the gate ends

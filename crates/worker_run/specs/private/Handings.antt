@@ -5,9 +5,9 @@ use Rattle.net_types.specs.declared.net.Net.{Net}
 use Rattle.net_types.specs.Nets.{chan_at, kind_of, owns}
 use Rattle.net_core.specs.Fire.{State, idle, tokens_at}
 use Rattle.net_core.specs.States.{strays_at, with_tokens}
-use Rattle.net_worker.specs.Handed.{SameLogged, HoldsOf, FewLeft, IsLeft, SameButChan, SameButEndsAt}
+use Rattle.net_worker.specs.Handed.{SameLogged, HoldsOf, HoldsUnit, HoldsChan, FewLeft, IsLeft, SameButChan, SameButEndsAt}
 use Rattle.net_worker.specs.Plays.{putter, taker}
-use Rattle.net_worker.specs.Views.{is_closed, held_state, put_end, take_end}
+use Rattle.net_worker.specs.Views.{net_of, owner_in, is_closed, held_state, put_end, take_end}
 use Rattle.net_worker.specs.Workers.{AreLinkedAt}
 use Rattle.net_worker.specs.declared.tables.Tables.{Tables}
 use Rattle.net_worker.specs.declared.worker.Worker.{Worker}
@@ -17,6 +17,12 @@ use Rattle.worker_run.specs.Gathers.{IsAssembled}
 -- each worker's state was made of this net
 abbrev pub AllHold : Net → List Worker → Type 0
 AllHold net ws = (j : ℕ) (d : Worker) → j < length ws → HoldsOf net (get_or ws j d)
+
+-- each worker holds what its own units keep, and the tokens of the channels to them
+pub record AllHoldOwn (t : Tables) (ws : List Worker) : Type 0 where
+  pub units : (u : ℕ) (d : Worker) → u < length (net_of t).units → owner_in t u < length ws → HoldsUnit (get_or ws (owner_in t u) d) u
+  pub chans : (c : ℕ) (d : Worker) → c < length (net_of t).chans → taker (net_of t) (owner_in t) c < length ws
+      → HoldsChan (get_or ws (taker (net_of t) (owner_in t) c) d) c
 
 -- ---- strays
 

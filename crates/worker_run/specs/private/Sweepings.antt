@@ -46,3 +46,13 @@ pub record IsTurnOf (t : Tables) (n : ℕ) (a b : Worker) : Type 0 where
 pub record AreTurnsOf (t : Tables) (n : ℕ) (a b : List Worker) : Type 0 where
   pub none : n ≡ 0 → AllStopped t b
   pub some : 0 < n → rooms_of b < rooms_of a
+
+-- so of a worker that was swept for certain only where it was asked
+pub record IsTurnAsked (Asked : Type 0) (t : Tables) (n : ℕ) (a b : Worker) : Type 0 where
+  pub none : Asked → n ≡ 0 → HasStopped t b
+  pub some : 0 < n → log_room b < log_room a
+
+-- so of all workers
+pub record AreTurnsAsked (Asked : Type 0) (t : Tables) (n : ℕ) (a b : List Worker) : Type 0 where
+  pub none : Asked → n ≡ 0 → AllStopped t b
+  pub some : 0 < n → rooms_of b < rooms_of a

@@ -9,7 +9,7 @@ use Rattle.net_worker.proofs.Logs.{merged_length}
 use Rattle.worker_run.specs.Crews.{AreMade, AreLinked, AreSameWork, logs_of, merged_of}
 use Rattle.worker_run.specs.private.Settlings.{AreKept}
 use Rattle.worker_run.proofs.AssembleLemmas.{some_unit}
-use Rattle.worker_run.proofs.GatherLemmas.{slice_back, work_stays, logs_stay, logs_handed, handed_crew, gather_can, gather_state, gather_rests, gather_run, run_counts, few_hidden, entries_few, strays_few, all_hold, owners_below, can_drain}
+use Rattle.worker_run.proofs.GatherLemmas.{slice_back, work_stays, logs_stay, logs_handed, handed_crew, gather_can, gather_state, gather_rests, gather_run, run_counts, few_hidden, entries_few, strays_few, all_hold, all_hold_own, owners_below, can_drain}
 use Rattle.worker_run.proofs.KeptLemmas.{made_hidden, whole_kept, are_linked_kept}
 use Rattle.worker_run.proofs.gathering.gather.Goals as goal
 
@@ -65,6 +65,16 @@ hand_over-requires-clause-holds c =
     let made = made_hidden t a b kept c.args.crew.now.made in
     let whole = whole_kept t a b kept c.requires.whole in
     all_hold t b c.args.net.now c.requires.net made whole
+
+pub hand_over-requires-clause-own : goal.hand_over-requires-clause-own
+hand_over-requires-clause-own c =
+    let a = c.args.crew.now.workers.items in
+    let t = c.args.crew.now.tables in
+    let b = c.settle.new.workers in
+    let kept = subst (λ (l : List Worker). AreKept l b) c.as_mut_slice-workers.ensures.value c.settle.ensures.kept in
+    let made = made_hidden t a b kept c.args.crew.now.made in
+    let whole = whole_kept t a b kept c.requires.whole in
+    all_hold_own t b made whole
 
 pub hand_over-requires-clause-linked : goal.hand_over-requires-clause-linked
 hand_over-requires-clause-linked c =

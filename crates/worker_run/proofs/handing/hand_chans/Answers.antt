@@ -20,6 +20,7 @@ loop-chan-preserved c =
     let g = c.hand_chan.ensures in
     record {
       holds = g.holds;
+      own = g.own;
       linked = g.linked;
       of = g.of;
       handed = chan_more c.args.net.now (owner_in c.args.tables.now) c.args.workers.now c.loop-chan.workers c.hand_chan.new.workers (state_of c.args.into.now) (state_of c.loop-chan.into) (state_of c.hand_chan.new.into) c.loop-chan.chan

@@ -11,7 +11,7 @@ use Rattle.worker_run.proofs.sweeping.sweep_crew.Goals as goal
 pub sweep_all-requires-clause-made : goal.sweep_all-requires-clause-made
 sweep_all-requires-clause-made g c _ _ k d l =
     let t = c.args.crew.now.tables in
-    let all : All (IsMadeOf t) c.as_mut_slice.result.now = subst (All (IsMadeOf t)) (sym c.as_mut_slice.ensures.value) (λ j e h. c.requires.made.made j e h (c.requires.whole j e h).not_closed) in
+    let all : All (IsMadeOf t) c.as_mut_slice-workers.result.now = subst (All (IsMadeOf t)) (sym c.as_mut_slice-workers.ensures.value) (λ j e h. c.requires.made.made j e h (c.requires.whole j e h).not_closed) in
     all k d l
 
 pub invariant_of-crew : goal.invariant_of-crew
@@ -19,7 +19,7 @@ invariant_of-crew g c =
     let t = c.args.crew.now.tables in
     let a = c.args.crew.now.workers in
     let y = c.sweep_all.new.workers in
-    let by = subst (λ (l : List Worker). AreSweptBy t (g.G.Gate.is_open c.args.gate.now) l y) c.as_mut_slice.ensures.value c.sweep_all.ensures in
+    let by = subst (λ (l : List Worker). AreSweptBy t (g.G.Gate.is_open c.args.gate.now) l y) c.as_mut_slice-workers.ensures.value c.sweep_all.ensures in
     let swept = by.swept in
     let back = slice_back a.items y a.len a.ok.0 swept.long in
     record {
@@ -32,6 +32,6 @@ returns-clause-swept g c =
     let t = c.args.crew.now.tables in
     let a = c.args.crew.now.workers in
     let y = c.sweep_all.new.workers in
-    let by = subst (λ (l : List Worker). AreSweptBy t (g.G.Gate.is_open c.args.gate.now) l y) c.as_mut_slice.ensures.value c.sweep_all.ensures in
+    let by = subst (λ (l : List Worker). AreSweptBy t (g.G.Gate.is_open c.args.gate.now) l y) c.as_mut_slice-workers.ensures.value c.sweep_all.ensures in
     let back = slice_back a.items y a.len a.ok.0 by.swept.long in
     subst (λ (l : List Worker). AreSweptBy t (g.G.Gate.is_open c.args.gate.now) a.items l) (sym back) by

@@ -1,9 +1,13 @@
 use Rattle.std.proofs.Common.{◌<◌, ◌≤◌, arith}
+use Rattle.worker_run.proofs.RunLemmas.{whole_later}
 use Rattle.worker_run.proofs.SweepLemmas.{swept_self, swept_then}
 use Rattle.worker_run.proofs.sweeping.sweep_on.Goals as goal
 
 pub loop-worker-init : goal.loop-worker-init
 loop-worker-init g c = record { swept = swept_self c.args.tables.now c.args.worker.now c.requires.made; idle = omega arith; debt = omega arith }
+
+pub sweep-requires-clause-whole : goal.sweep-requires-clause-whole
+sweep-requires-clause-whole g c = whole_later c.args.tables.now c.args.worker.now c.loop-worker.worker c.loop-worker.invariant.swept.same c.requires.whole
 
 pub loop-worker-preserved-else-debt-gt-MOST_DEBT : goal.loop-worker-preserved-else-debt-gt-MOST_DEBT
 loop-worker-preserved-else-debt-gt-MOST_DEBT g c = record {

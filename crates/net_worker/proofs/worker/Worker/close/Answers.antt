@@ -4,6 +4,7 @@ pub returns-clause-made : goal.returns-clause-made
 returns-clause-made c t m = record {
   of = m.of;
   counts = m.counts;
+  own = m.own;
   room = m.room;
   ends = m.ends;
   ends_too = m.ends_too;

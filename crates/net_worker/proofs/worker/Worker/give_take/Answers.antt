@@ -7,4 +7,4 @@ pub lay-requires : goal.lay-requires
 lay-requires c = subst (λ xs. Contains xs c.args.chan) (sym c.args.self.now.take_places) (c.requires.into.1.ins c.args.chan c.requires.into.2)
 
 pub returns-clause-made : goal.returns-clause-made
-returns-clause-made c = λ t k. give_take_made c.requires.into.0 t c.args.self.now _ c.args.chan c.args.end c.requires.into.1 c.requires.into.2 c.requires.into.3 c.requires.into.4 c.requires.none k (record { number = refl; share = refl; clock = refl; log = refl; state = refl; outs = refl; ins = refl; resting = refl; waits = refl }) refl c.lay.ensures.items
+returns-clause-made c = λ t k. give_take_made c.requires.into.0 t c.args.self.now _ c.args.chan c.args.end c.requires.into.1 c.requires.into.2 c.requires.into.3 c.requires.into.4 c.requires.none k (record { number = refl; share = refl; clock = refl; log = refl; portion = refl; outs = refl; ins = refl; resting = refl; waits = refl }) refl c.lay.ensures.items

@@ -35,6 +35,7 @@ returns-in-Waiting-clause-made c =
     record {
       of = m.of;
       counts = m.counts;
+      own = m.own;
       room = m.room;
       ends = m.ends;
       ends_too = m.ends_too;
@@ -78,5 +79,5 @@ returns-in-Waiting-clause-held c = λ _.
     let b = c.exact_pass.new.self in
     let x : c.turns-fired.result ≡ 0 = omega arith in
     let l = c.turns-fired.ensures.none x in
-    all_still_held t a b _ (record { clock = refl; state = refl; puts = refl; takes = refl })
+    all_still_held t a b _ (record { clock = refl; portion = refl; puts = refl; takes = refl })
     (all_held_back t a n b c.net.ensures.checked c.requires.whole c.exact_pass.ensures.made l.looked l.seen (subst (λ r. TriedAs t r n b) c.in-Waiting.is c.exact_pass.ensures.tried).0))

@@ -1,5 +1,8 @@
 use Rattle.net_worker.proofs.Asking.{asked_self}
 use Rattle.net_worker.proofs.Turns.{made_none, made_more, still_has}
+use Rattle.std.proofs.Common.{ap}
+use Rattle.net_check.specs.declared.pins.Pins.{Pins}
+use Rattle.net_worker.proofs.Holdings.{in_chan, unit_pins}
 use Rattle.net_worker.proofs.worker.Worker.sends_crossing.Goals as goal
 
 pub returns-then-is_none : goal.returns-then-is_none
@@ -13,3 +16,12 @@ try_crossing_plan-more-requires-clause-own c = still_has c.args.tables.now c.loo
 
 pub loop-out-preserved : goal.loop-out-preserved
 loop-out-preserved c = made_more c.args.tables.now c.loop-out.made c.try_crossing_plan-more.result c.args.self.now c.loop-out.self c.try_crossing_plan-more.new.self c.loop-out.invariant c.try_crossing_plan-more.ensures
+
+pub head-requires-clause-here : goal.head-requires-clause-here
+head-requires-clause-here c =
+    in_chan c.args.tables.now.net c.args.self.now.portion c.args.unit 0 c.pins-pins.result.first (ap (λ (p : Pins). p.first) c.pins-pins.ensures)
+    (unit_pins c.args.tables.now c.args.self.now c.args.unit c.requires.own)
+
+pub plan_send_at-plan-requires-clause-here : goal.plan_send_at-plan-requires-clause-here
+plan_send_at-plan-requires-clause-here c =
+    unit_pins c.args.tables.now c.loop-out.self c.args.unit (still_has c.args.tables.now c.loop-out.made c.args.self.now c.loop-out.self c.args.unit c.requires.own c.loop-out.invariant)

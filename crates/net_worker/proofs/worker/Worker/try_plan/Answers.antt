@@ -1,6 +1,9 @@
-use Rattle.std.proofs.Common.{refl}
+use Rattle.std.proofs.Common.{refl, ap}
+use Rattle.net_check.specs.declared.pins.Pins.{Pins}
 use Rattle.net_worker.proofs.Asking.{asked_self, puts_asked_self, takes_asked_self}
 use Rattle.net_worker.proofs.Turns.{made_none, made_one}
+use Rattle.net_worker.proofs.Holdings.{in_chan, moves_laid, moves_taken}
+use Rattle.net_worker.proofs.Turns.{fired_pins}
 use Rattle.net_worker.proofs.worker.Worker.try_plan.Goals as goal
 
 pub returns-in_default : goal.returns-in_default
@@ -12,4 +15,19 @@ returns-then-not-fire_moves c = made_none c.args.tables.now c.args.self.now c.fi
 pub returns : goal.returns
 returns c =
     made_one c.args.tables.now c.args.self.now c.fire_moves.new.self _ c.args.firing c.requires.own (c.fire_moves.ensures.fired c.if-not-fire_moves.false)
-    (record { number = refl; share = refl; log = refl; clock = refl; state = refl; outs = refl; ins = refl; closed = refl; resting = refl; waits = λ _ h. h; puts = puts_asked_self c.fire_moves.new.self.puts.items; takes = takes_asked_self c.fire_moves.new.self.takes.items })
+    (record { number = refl; share = refl; log = refl; clock = refl; portion = refl; outs = refl; ins = refl; closed = refl; resting = refl; waits = λ _ h. h; puts = puts_asked_self c.fire_moves.new.self.puts.items; takes = takes_asked_self c.fire_moves.new.self.takes.items })
+
+pub wake_inside-requires-clause-first : goal.wake_inside-requires-clause-first
+wake_inside-requires-clause-first c =
+    in_chan c.args.tables.now.net c.fire_moves.new.self.portion c.args.firing.unit 0 c.args.pins.first (ap (λ (p : Pins). p.first) c.requires.pins)
+    (fired_pins c.args.tables.now c.args.self.now c.fire_moves.new.self c.args.firing c.requires.own (c.fire_moves.ensures.fired c.if-not-fire_moves.false))
+
+pub wake_inside-requires-clause-taken : goal.wake_inside-requires-clause-taken
+wake_inside-requires-clause-taken c =
+    moves_taken c.args.tables.now.net c.fire_moves.new.self.portion c.args.firing.unit c.in-Some.plan c.moves_at-moves.result c.moves_at-moves.ensures
+    (fired_pins c.args.tables.now c.args.self.now c.fire_moves.new.self c.args.firing c.requires.own (c.fire_moves.ensures.fired c.if-not-fire_moves.false))
+
+pub wake_inside-requires-clause-laid : goal.wake_inside-requires-clause-laid
+wake_inside-requires-clause-laid c =
+    moves_laid c.args.tables.now.net c.fire_moves.new.self.portion c.args.firing.unit c.in-Some.plan c.moves_at-moves.result c.moves_at-moves.ensures
+    (fired_pins c.args.tables.now c.args.self.now c.fire_moves.new.self c.args.firing c.requires.own (c.fire_moves.ensures.fired c.if-not-fire_moves.false))
