@@ -57,5 +57,5 @@ LexedSoFar bytes text k first ds done = (more : List Token) (f : spec_of.End) �
 
 -- behind a piece at byte k a text goes on, or it ends by the rule that the piece breaks
 abbrev pub IsTaken : List ℕ → List ℕ → ℕ → spec_of.Defined → List Token → Next → Type 0
-IsTaken bytes text k ds ts (next.Piece c first) = IsAt bytes c × (k < c.offset) × LexedSoFar bytes text c.offset first ds ts
+IsTaken bytes text k ds ts (next.Piece p) = IsAt bytes p.cursor × (k < p.cursor.offset) × LexedSoFar bytes text p.cursor.offset p.first ds ts
 IsTaken bytes text k ds ts (next.Broken b) = spec_of.Lexed bytes 0 true [] text ts (end_by b)

@@ -12,7 +12,7 @@ use crate::comment::without_comments;
 use crate::cursor::Cursor;
 use crate::define::Defines;
 use crate::refusal::{Broken, LexRefusal};
-use crate::turn::{Turn, turn_at};
+use crate::turn::{Position, Turn, turn_at};
 use c_ast::{Span, Token};
 use el_base::{List, Memory};
 use std::alloc::Global;
@@ -81,11 +81,10 @@ fn first_broken(one: Option<Broken>, other: Option<Broken>) -> Option<Broken>
     }
 }
 
-// Where a piece leads: to the piece behind it, which is first on its line or not, or to the rule
-// that it breaks.
+// Where a piece leads: to the piece behind it, or to the rule that it breaks.
 #[derive(Clone, Copy)]
 enum Next {
-    Piece { cursor: Cursor, first: bool },
+    Piece(Position),
     Broken(Broken),
 }
 
@@ -95,41 +94,41 @@ fn take(
     alloc: Global,
     bytes: &[u8],
     text: &[u8],
-    cursor: Cursor,
-    first: bool,
+    position: Position,
     tokens: &mut List<Token>,
     defines: &mut Defines,
 ) -> Result<Next, Memory>
     requires short { length bytes.now ≤ max_kernel_bytes }
     requires same { length text.now ≡ length bytes.now }
-    requires inside { cursor.offset < length text.now }
-    requires at { IsAt bytes.now cursor }
-    requires so_far { LexedSoFar bytes.now text.now cursor.offset first (defines_of defines.old)
-        tokens.old }
+    requires inside { position.cursor.offset < length text.now }
+    requires at { IsAt bytes.now position.cursor }
+    requires so_far { LexedSoFar bytes.now text.now position.cursor.offset position.first
+        (defines_of defines.old) tokens.old }
     ensures { IfOk result
-        (IsTaken bytes.now text.now cursor.offset (defines_of defines.new) tokens.new) }
+        (IsTaken bytes.now text.now position.cursor.offset (defines_of defines.new) tokens.new) }
 {
+    let cursor = position.cursor;
     let rest = &text[cursor.offset as usize..];
-    let turn = turn_at(alloc, bytes, rest, cursor, first, defines)?;
+    let turn = turn_at(alloc, bytes, rest, position, defines)?;
     match turn {
-        Turn::Skips { len, first: next } => Ok(Next::Piece {
+        Turn::Skips { len, first } => Ok(Next::Piece(Position {
             cursor: cursor.on(bytes, len),
-            first: next,
-        }),
+            first,
+        })),
         Turn::Gives { len, word } => {
             let span = cursor.span(len);
             tokens.push(Token { word, span })?;
-            Ok(Next::Piece {
+            Ok(Next::Piece(Position {
                 cursor: cursor.on(bytes, len),
                 first: false,
-            })
+            }))
         }
         Turn::Defines { len, name, number } => {
             defines.add(name, number)?;
-            Ok(Next::Piece {
+            Ok(Next::Piece(Position {
                 cursor: cursor.on(bytes, len),
                 first: false,
-            })
+            }))
         }
         Turn::Breaks(broken) => Ok(Next::Broken(broken)),
     }
@@ -143,18 +142,14 @@ fn read(alloc: Global, bytes: &[u8], text: &[u8]) -> Result<Reading, Memory>
 {
     let mut tokens = List::new(alloc);
     let mut defines = Defines::new(alloc);
-    let mut cursor = Cursor::first();
-    let mut first = true;
-    'pieces: while (cursor.offset as usize) < text.len() {
-        let next = take(alloc, bytes, text, cursor, first, &mut tokens, &mut defines)?;
+    let mut position = Position {
+        cursor: Cursor::first(),
+        first: true,
+    };
+    'pieces: while (position.cursor.offset as usize) < text.len() {
+        let next = take(alloc, bytes, text, position, &mut tokens, &mut defines)?;
         match next {
-            Next::Piece {
-                cursor: behind,
-                first: is_first,
-            } => {
-                cursor = behind;
-                first = is_first;
-            }
+            Next::Piece(behind) => position = behind,
             Next::Broken(broken) => {
                 return Ok(Reading {
                     tokens,

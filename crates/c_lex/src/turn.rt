@@ -18,6 +18,14 @@ use c_ast::Word;
 use el_base::{Memory, Name, is_letter};
 use std::alloc::Global;
 
+/// Where a piece begins.
+#[derive(Clone, Copy)]
+pub struct Position {
+    pub cursor: Cursor,
+    /// Whether it is first on its line.
+    pub first: bool,
+}
+
 /// What a piece does. Each but the last goes on by so many bytes.
 #[derive(Drop)]
 pub enum Turn {
@@ -175,25 +183,24 @@ fn directive_turn(
     alloc: Global,
     bytes: &[u8],
     text: &[u8],
-    cursor: Cursor,
-    first: bool,
+    position: Position,
     defines: &Defines,
 ) -> Result<Turn, Memory>
-    requires at { IsAt bytes.now cursor }
+    requires at { IsAt bytes.now position.cursor }
     requires some { 0 < length text.now }
-    requires rest { cursor.offset + length text.now ≡ length bytes.now }
+    requires rest { position.cursor.offset + length text.now ≡ length bytes.now }
     requires short { length bytes.now ≤ max_kernel_bytes }
     ensures turn { let ds = defines_of defines.now in
-        IfOk result (λ t. turn_of bytes.now cursor.offset ds t
-        ≡ directive_turn bytes.now cursor.offset first ds text.now) }
+        IfOk result (λ t. turn_of bytes.now position.cursor.offset ds t
+        ≡ directive_turn bytes.now position.cursor.offset position.first ds text.now) }
     ensures fits { IfOk result (TurnFits (length text.now) (defines_of defines.now)) }
 {
-    if !first {
-        return Ok(breaks(Rule::Directive, cursor, 1));
+    if !position.first {
+        return Ok(breaks(Rule::Directive, position.cursor, 1));
     }
     match directive_of(text) {
-        Some(directive) => accepted_turn(alloc, bytes, directive, cursor, defines),
-        None => Ok(breaks(Rule::Directive, cursor, 1)),
+        Some(directive) => accepted_turn(alloc, bytes, directive, position.cursor, defines),
+        None => Ok(breaks(Rule::Directive, position.cursor, 1)),
     }
 }
 
@@ -207,32 +214,29 @@ pub fn turn_at(
     alloc: Global,
     bytes: &[u8],
     text: &[u8],
-    cursor: Cursor,
-    first: bool,
+    position: Position,
     defines: &Defines,
 ) -> Result<Turn, Memory>
-    requires at { IsAt bytes.now cursor }
+    requires at { IsAt bytes.now position.cursor }
     requires some { 0 < length text.now }
-    requires rest { cursor.offset + length text.now ≡ length bytes.now }
+    requires rest { position.cursor.offset + length text.now ≡ length bytes.now }
     requires short { length bytes.now ≤ max_kernel_bytes }
     ensures turn { let ds = defines_of defines.now in
-        IfOk result (λ t. turn_of bytes.now cursor.offset ds t
-        ≡ turn bytes.now cursor.offset first ds text.now) }
+        IfOk result (λ t. turn_of bytes.now position.cursor.offset ds t
+        ≡ turn bytes.now position.cursor.offset position.first ds text.now) }
     ensures fits { IfOk result (TurnFits (length text.now) (defines_of defines.now)) }
 {
     let byte = text[0];
     if is_white(byte) {
-        Ok(Turn::Skips {
-            len: 1,
-            first: first || byte == b'\n',
-        })
+        let first = position.first || byte == b'\n';
+        Ok(Turn::Skips { len: 1, first })
     } else if byte == b'#' {
-        directive_turn(alloc, bytes, text, cursor, first, defines)
+        directive_turn(alloc, bytes, text, position, defines)
     } else if is_letter(byte) {
         word_turn(alloc, text, defines)
     } else if byte.is_ascii_digit() {
-        Ok(number_turn(text, cursor))
+        Ok(number_turn(text, position.cursor))
     } else {
-        Ok(mark_turn(text, cursor))
+        Ok(mark_turn(text, position.cursor))
     }
 }

@@ -18,6 +18,7 @@ use Rattle.c_meaning.specs.Stores.{dims_of}
 use Rattle.struct_cfg.specs.Layings.{Laying, one_step, after, applied}
 use Rattle.struct_cfg.specs.Operators.{converted, unary_op, flag, joined, index_laid, next_place, further_places, place_laid}
 use Rattle.struct_cfg.specs.Exprs.{piece, expr_laying, condition_laying, store_laying}
+use Rattle.struct_cfg.specs.declared.operators.Operand.{Operand}
 use Rattle.struct_cfg.specs.Code.{IsLaid}
 use Rattle.struct_cfg.proofs.Bounds.{AtMost, kind_cheap}
 use Rattle.struct_cfg.proofs.Stores.{place_cheap, condition_cheap, store_cheap}
@@ -59,10 +60,12 @@ module _ (arrays : List ArrayOf) (env : List ℕ) where
   cast_laid e implied x old mid new v u is p q =
       as_laying (laying e) _ env old new u (laying_cast arrays env e implied x is) (laid_after (laying x) (λ n. converted x.ty e.ty n) env old mid new v u p q)
 
-  pub binary_laid : (e : TypedExpr) (op : Binary) (x y : TypedExpr) (s0 s1 s2 s3 : List Instr) (a b u : ℕ) → e.kind ≡ expr.Binary op x y → IsLaid (laying x) env s0 s1 a → IsLaid (laying y) env s1 s2 b → IsLaid (joined op x.ty y.ty a b) env s2 s3 u → IsLaid (laying e) env s0 s3 u
-  binary_laid e op x y s0 s1 s2 s3 a b u is p q r =
+  pub binary_laid : (e : TypedExpr) (op : Binary) (x y : TypedExpr) (l r : Operand) (s0 s1 s2 s3 : List Instr) (a b u : ℕ) → e.kind ≡ expr.Binary op x y → l ≡ record { ty = x.ty; value = a } → r ≡ record { ty = y.ty; value = b } → IsLaid (laying x) env s0 s1 a → IsLaid (laying y) env s1 s2 b
+      → IsLaid (joined op l.ty r.ty l.value r.value) env s2 s3 u → IsLaid (laying e) env s0 s3 u
+  binary_laid e op x y l r s0 s1 s2 s3 a b u is le re p q h =
+      let last : IsLaid (joined op x.ty y.ty a b) env s2 s3 u = subst (λ (o : Operand). IsLaid (joined op x.ty o.ty a o.value) env s2 s3 u) re (subst (λ (o : Operand). IsLaid (joined op o.ty r.ty o.value r.value) env s2 s3 u) le h) in
       as_laying (laying e) _ env s0 s3 u (laying_binary arrays env e op x y is)
-      (laid_after (laying x) (λ a. after (laying y) (λ b. joined op x.ty y.ty a b)) env s0 s1 s3 a u p (laid_after (laying y) (λ b. joined op x.ty y.ty a b) env s1 s2 s3 b u q r))
+      (laid_after (laying x) (λ a. after (laying y) (λ b. joined op x.ty y.ty a b)) env s0 s1 s3 a u p (laid_after (laying y) (λ b. joined op x.ty y.ty a b) env s1 s2 s3 b u q last))
 
   pub choice_laid : (e x y z : TypedExpr) (w : ℕ) (s0 s1 s2 s3 s4 s5 : List Instr) (c f a b u : ℕ) → e.kind ≡ expr.Choose x y z → w ≡ ty_width e.ty → IsLaid (laying x) env s0 s1 c → IsLaid (flag x.ty c) env s1 s2 f → IsLaid (laying y) env s2 s3 a → IsLaid (laying z) env s3 s4 b
       → IsLaid (one_step (Select w f a b)) env s4 s5 u → IsLaid (laying e) env s0 s5 u

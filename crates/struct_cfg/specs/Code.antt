@@ -1,7 +1,10 @@
 -- Words that the contracts of private functions cite, and no other.
-use Rattle.std.specs.Prelude.{◌≡◌, ℕ, zero, suc, ◌+◌, ◌*◌, ◌<◌, ◌≤◌, ◌^◌, ◌⊎◌, List, ◌++◌, length, map, drop, sum_by, Bool, true, false}
+use Rattle.std.specs.Prelude.{◌≡◌, ℕ, zero, suc, ◌+◌, ◌*◌, ◌<◌, ◌≤◌, ◌^◌, ◌⊎◌, List, ◌++◌, length, map, drop, sum_by, Bool, true, false, Option}
 use Rattle.c_ast.specs.declared.typed.ArrayOf.{ArrayOf}
 use Rattle.c_ast.specs.declared.typed.TypedExpr.{TypedExpr}
+use Rattle.c_ast.specs.declared.normal.NormalStmt.{NormalStmt}
+use Rattle.c_ast.specs.declared.normal.NormalStmtKind.{NormalStmtKind}
+use Rattle.c_ast.specs.declared.normal.NormalStmtKind.TheVariants as normal
 use Rattle.c_meaning.specs.Counts.{target_price}
 use Rattle.ir.specs.declared.instr.Instr.{Instr}
 use Rattle.struct_cfg.specs.declared.draft.Draft.{Draft}
@@ -48,3 +51,10 @@ HasSpace d blocks steps = draft_size d + blocks + 2 * steps < 2 ^ 32
 -- a draft has grown by so many blocks and steps, or less
 abbrev pub HasGrown : Draft → Draft → ℕ → ℕ → Type 0
 HasGrown d e blocks steps = draft_size e ≤ draft_size d + blocks + steps
+
+-- ---- statements
+
+-- a for with these parts behind its first one
+pub record IsFor (k : NormalStmtKind) (before : List NormalStmt) (cond : Option TypedExpr) (step : Option NormalStmt) (body : NormalStmt) : Type 0 where
+  pub first : List NormalStmt
+  pub is : k ≡ normal.For first before cond step body

@@ -13,7 +13,7 @@ use crate::draft::Draft;
 use crate::header::{flat_arrays, scalars, widths};
 use crate::laws::graphs_follow_their_forms;
 use crate::operators::put;
-use crate::statements::{Targets, lower_all};
+use crate::statements::Lowering;
 use block_trim::{
     trim, trimmed_blocks_are_trim, trimmed_graphs_run_the_same, trimmed_sizes_are_kept,
 };
@@ -76,9 +76,13 @@ fn blocks(alloc: Global, normal: &Normal) -> Result<List<CfgBlock>, Memory>
         (length normal.now.vars) normal.now.body).blocks) }
 {
     let mut draft = Draft::new(alloc, normal.vars.len())?;
-    let nowhere = Targets { exit: 0, again: 0 };
-    let arrays = normal.arrays.as_slice();
-    lower_all(alloc, &mut draft, arrays, nowhere, normal.body.as_slice())?;
+    let lowering = Lowering {
+        alloc,
+        arrays: normal.arrays.as_slice(),
+        exit: 0,
+        again: 0,
+    };
+    lowering.lower_all(&mut draft, normal.body.as_slice())?;
     finish(alloc, &mut draft, normal.result)?;
     Ok(draft.blocks)
 }

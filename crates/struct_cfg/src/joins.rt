@@ -11,7 +11,7 @@ use crate::operators::{
     Operand, both_narrow, both_wide, by_type2, convert, either_narrow, either_wide, is_narrow, put,
 };
 use c_ast::Binary;
-use el_base::{List, Memory, Op2, Ty};
+use el_base::{List, Memory, Op2};
 use ir::Instr;
 
 /// `a && b`.
@@ -68,89 +68,86 @@ fn shift(
     Ok(value)
 }
 
-/// An operator on two values, of types `left` and `right`.
+/// An operator on two values.
 pub(crate) fn join(
     steps: &mut List<Instr>,
     env: &[u32],
     op: Binary,
-    left: Ty,
-    right: Ty,
-    a: u32,
-    b: u32,
+    left: Operand,
+    right: Operand,
 ) -> Result<u32, Memory>
     requires { HasRoom env.now steps.old (2 * (1 + operator_price op)) }
-    ensures { IfOk result (IsLaid (joined op left right a b) env.now steps.old steps.new) }
+    ensures { IfOk result
+        (IsLaid (joined op left.ty right.ty left.value right.value) env.now steps.old steps.new) }
 {
-    let first = Operand { ty: left, value: a };
-    let second = Operand {
-        ty: right,
-        value: b,
-    };
+    let ty = left.ty;
+    let a = left.value;
+    let b = right.value;
     match op {
-        Binary::Both => both(steps, env, first, second),
-        Binary::Either => either(steps, env, first, second),
+        Binary::Both => both(steps, env, left, right),
+        Binary::Either => either(steps, env, left, right),
         Binary::Shl => {
-            let op = by_type2(left, Op2::Shl32, Op2::Shl32, Op2::Shl64, Op2::Shl64);
-            shift(steps, env, op, first, second)
+            let op = by_type2(ty, Op2::Shl32, Op2::Shl32, Op2::Shl64, Op2::Shl64);
+            shift(steps, env, op, left, right)
         }
         Binary::Shr => {
-            let op = by_type2(left, Op2::Shrs32, Op2::Shru32, Op2::Shrs64, Op2::Shru64);
-            shift(steps, env, op, first, second)
+            let op = by_type2(ty, Op2::Shrs32, Op2::Shru32, Op2::Shrs64, Op2::Shru64);
+            shift(steps, env, op, left, right)
         }
         Binary::Gt => {
-            let op = by_type2(left, Op2::Lts32, Op2::Ltu32, Op2::Lts64, Op2::Ltu64);
+            let op = by_type2(ty, Op2::Lts32, Op2::Ltu32, Op2::Lts64, Op2::Ltu64);
             put(steps, env, Instr::Two(op, b, a))
         }
         Binary::Ge => {
-            let op = by_type2(left, Op2::Les32, Op2::Leu32, Op2::Les64, Op2::Leu64);
+            let op = by_type2(ty, Op2::Les32, Op2::Leu32, Op2::Les64, Op2::Leu64);
             put(steps, env, Instr::Two(op, b, a))
         }
         Binary::Mul => {
-            let op = by_type2(left, Op2::Mul32, Op2::Mul32, Op2::Mul64, Op2::Mul64);
+            let op = by_type2(ty, Op2::Mul32, Op2::Mul32, Op2::Mul64, Op2::Mul64);
             put(steps, env, Instr::Two(op, a, b))
         }
         Binary::Div => {
-            let op = by_type2(left, Op2::Divs32, Op2::Divu32, Op2::Divs64, Op2::Divu64);
+            let op = by_type2(ty, Op2::Divs32, Op2::Divu32, Op2::Divs64, Op2::Divu64);
             put(steps, env, Instr::Two(op, a, b))
         }
         Binary::Rem => {
-            let op = by_type2(left, Op2::Rems32, Op2::Remu32, Op2::Rems64, Op2::Remu64);
+            let op = by_type2(ty, Op2::Rems32, Op2::Remu32, Op2::Rems64, Op2::Remu64);
             put(steps, env, Instr::Two(op, a, b))
         }
         Binary::Add => {
-            let op = by_type2(left, Op2::Add32, Op2::Add32, Op2::Add64, Op2::Add64);
+            let op = by_type2(ty, Op2::Add32, Op2::Add32, Op2::Add64, Op2::Add64);
             put(steps, env, Instr::Two(op, a, b))
         }
         Binary::Sub => {
-            let op = by_type2(left, Op2::Sub32, Op2::Sub32, Op2::Sub64, Op2::Sub64);
+            let op = by_type2(ty, Op2::Sub32, Op2::Sub32, Op2::Sub64, Op2::Sub64);
             put(steps, env, Instr::Two(op, a, b))
         }
         Binary::Lt => {
-            let op = by_type2(left, Op2::Lts32, Op2::Ltu32, Op2::Lts64, Op2::Ltu64);
+            let op = by_type2(ty, Op2::Lts32, Op2::Ltu32, Op2::Lts64, Op2::Ltu64);
             put(steps, env, Instr::Two(op, a, b))
         }
         Binary::Le => {
-            let op = by_type2(left, Op2::Les32, Op2::Leu32, Op2::Les64, Op2::Leu64);
+            let op = by_type2(ty, Op2::Les32, Op2::Leu32, Op2::Les64, Op2::Leu64);
             put(steps, env, Instr::Two(op, a, b))
         }
         Binary::Eq => {
-            let op = by_type2(left, Op2::Eq32, Op2::Eq32, Op2::Eq64, Op2::Eq64);
+            let op = by_type2(ty, Op2::Eq32, Op2::Eq32, Op2::Eq64, Op2::Eq64);
             put(steps, env, Instr::Two(op, a, b))
         }
         Binary::Ne => {
-            let op = by_type2(left, Op2::Ne32, Op2::Ne32, Op2::Ne64, Op2::Ne64);
+            let op = by_type2(ty, Op2::Ne32, Op2::Ne32, Op2::Ne64, Op2::Ne64);
             put(steps, env, Instr::Two(op, a, b))
         }
         Binary::And => {
-            let op = by_type2(left, Op2::And32, Op2::And32, Op2::And64, Op2::And64);
+            let op = by_type2(ty, Op2::And32, Op2::And32, Op2::And64, Op2::And64);
             put(steps, env, Instr::Two(op, a, b))
         }
         Binary::Xor => {
-            let op = by_type2(left, Op2::Xor32, Op2::Xor32, Op2::Xor64, Op2::Xor64);
+            let op = by_type2(ty, Op2::Xor32, Op2::Xor32, Op2::Xor64, Op2::Xor64);
             put(steps, env, Instr::Two(op, a, b))
         }
         Binary::Or => {
-            let op = by_type2(left, Op2::Or32, Op2::Or32, Op2::Or64, Op2::Or64);
+            let op = by_type2(ty, Op2::Or32, Op2::Or32, Op2::Or64, Op2::Or64);
             put(steps, env, Instr::Two(op, a, b))
         }
     }

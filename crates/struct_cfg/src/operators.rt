@@ -7,7 +7,7 @@ ghost use Rattle.struct_cfg.specs.Layings.{one_step, after, applied};
 ghost use Rattle.struct_cfg.specs.Operators.{converted, unary_op, flag, zero_test, is_narrow, both_laid, either_laid, joined};
 ghost use Rattle.struct_cfg.specs.Code.{IsLaid, HasRoom};
 
-use c_ast::{Binary, Unary};
+use c_ast::{TypedExpr, Unary};
 use el_base::{List, Memory, Op1, Op2, Ty};
 use ir::Instr;
 
@@ -16,6 +16,15 @@ use ir::Instr;
 pub(crate) struct Operand {
     pub ty: Ty,
     pub value: u32,
+}
+
+impl Operand {
+    /// The value of an expression, by its number.
+    pub(crate) fn of(e: &TypedExpr, value: u32) -> Operand
+        ensures { result ≡ record { ty = e.now.ty; value = value } }
+    {
+        Operand { ty: e.ty, value }
+    }
 }
 
 /// Puts one step behind the others: its value is the next one.

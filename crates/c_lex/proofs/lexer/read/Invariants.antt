@@ -5,9 +5,9 @@ use Rattle.c_lex.proofs.lexer.read.Given as goal
 
 abbrev pub invariant-pieces : goal.invariant-pieces
 invariant-pieces l = record {
-  at : IsAt l.bytes l.cursor;
-  lexed : LexedSoFar l.bytes l.text l.cursor.offset l.first (defines_of l.defines) l.tokens;
+  at : IsAt l.bytes l.position.cursor;
+  lexed : LexedSoFar l.bytes l.text l.position.cursor.offset l.position.first (defines_of l.defines) l.tokens;
 }
 
 abbrev pub decreases-pieces : goal.decreases-pieces
-decreases-pieces l = length l.text - l.cursor.offset
+decreases-pieces l = length l.text - l.position.cursor.offset
