@@ -1,7 +1,7 @@
 #!/usr/bin/env python3
 """Times runs by cycles, by the plain runner and by workers: nets of 100 and of 1,000 recurrences of 100 operations each in one loop,
-one chain of 10,000 operations behind a loop, a kernel of 20 recurrences, 20 loops in a row, a histogram, `examples/matrix`, a loop
-over an array of 2^20 elements, and a net of 983,044 units. It tells how many channels go between two and between four workers, which
+chains of 10,000 and of 10^6 operations behind a loop, a kernel of 20 recurrences, 20 loops in a row, a histogram, `examples/matrix`, a
+loop over an array of 2^20 elements, and a net of 983,044 units. It tells how many channels go between two and between four workers, which
 share of the firings put a token on such a channel or took one from it, the seconds of a run by cycles, and how many times as long each other way takes, the least of some runs each; and the most memory of
 each. Then it counts, where valgrind is there, what sweeping and gathering cost. A run by the plain runner is `resume` of the state
 before the first firing.
@@ -126,8 +126,8 @@ def tell(elastic):
     """Prints the tables."""
     with tempfile.TemporaryDirectory() as name:
         folder = pathlib.Path(name)
-        for name, text, inputs in (("rec100", nets.recurrences(100, 100), "n = 900\nc = 7\n"), ("rec1000", nets.recurrences(1_000, 100), "n = 90\nc = 7\n"),
-                                   ("chain", nets.pipeline(10_000), "n = 900\n")):
+        for name, text, inputs in (("rec100", nets.recurrences(100, 100), "n = 1500\nc = 7\n"), ("rec1000", nets.recurrences(1_000, 100), "n = 150\nc = 7\n"),
+                                   ("chain", nets.pipeline(10_000), "n = 1500\n"), ("long", nets.pipeline(1_000_000), "n = 2\n")):
             (folder / f"{name}.net").write_text(text)
             (folder / f"{name}.in").write_text(inputs)
         compiled(elastic, folder, "loops", loops())
@@ -151,7 +151,8 @@ def tell(elastic):
         put_row(elastic, folder, "twenty", f"{RECURRENCES} recurrences in a loop of {TURNS:,} turns", (1, 2, 4, 64), 3)
         put_row(elastic, folder, "matrix", "`examples/matrix`", (1, 2, 4, 64), 5)
         put_row(elastic, folder, "array", "1,000 turns of a loop over 2^20 elements", (1, 2, 4, 64), 3)
-        put_row(elastic, folder, "wide", f"{4 + OUTPUTS * (EACH + 1):,} units, a fork of {OUTPUTS:,} outputs among them", (1, 2, 4), 1)
+        put_row(elastic, folder, "wide", f"{4 + OUTPUTS * (EACH + 1):,} units, a fork of {OUTPUTS:,} outputs among them", (1, 2, 4, 64), 1)
+        put_row(elastic, folder, "long", "a chain of 10^6 operations", (1, 2, 4, 64), 1)
         put_counts(elastic, folder)
 
 
