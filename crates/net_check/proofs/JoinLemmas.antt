@@ -22,7 +22,7 @@ use Rattle.net_check.specs.Lowest.{IsLowest, ChanLacks}
 use Rattle.net_check.specs.Places.{HasEnds, IsJoined, IsUnjoined, CulpritC1}
 use Rattle.net_check.specs.private.Widths.{width_in}
 use Rattle.net_check.specs.private.Wires.{end_of, bound}
-use Rattle.net_check.specs.private.Joins.{ended, placed, row, AreJoined, pair_cmp, knows, IsTwice, IsGathered, AreKnown, IsKnown, IsKnownUnit, IsMissing, lowest}
+use Rattle.net_check.specs.private.Joins.{ended, placed, row, AreAlone, AreMet, AreJoined, pair_cmp, knows, IsTwice, IsGathered, AreKnown, IsKnown, IsKnownUnit, IsMissing, lowest}
 use Rattle.net_check.proofs.MarkLemmas.{default, no-true, true_iff, false_iff}
 use Rattle.net_check.proofs.FirstLemmas.{all_chans, within_same, past_same}
 use Rattle.net_check.proofs.PlaceCounts.{count_map, one_some, placed_at, placed_past, placed_most, placed_within, placed_below}
@@ -247,6 +247,21 @@ ends_of side net u p (c ∷ cs) a h = by (is_at (end_of side c) u p) refl (ends_
         let k : ended side (c ∷ cs) u p ≡ 0 + ended side cs u p = s ∙ ap (λ x. cond x 1 0 + ended side cs u p) b in
         rest (omega arith)
 
+pub ended_placed : (side : Side) (net : Net) (u p : ℕ) → All (HasEnds net) net.chans → 0 < ended side net.chans u p → 0 < placed side net u p
+ended_placed In net u p a = ends_of In net u p net.chans (λ i l. (a i nowhere l).to)
+ended_placed Out net u p a = ends_of Out net u p net.chans (λ i l. (a i nowhere l).from)
+
+-- the rule on one side
+pub joined_side : (side : Side) (net : Net) → ((u p : ℕ) → 0 < ended side net.chans u p → 0 < placed side net u p) → AreAlone side net.chans → AreMet side net → AreJoined side net
+joined_side side net place alone met = record { each = λ u p. by u p (cases_lt 0 (placed side net u p)) }
+  where
+    by : (u p : ℕ) → (0 < placed side net u p) ⊎ (placed side net u p ≤ 0) → ended side net.chans u p ≡ placed side net u p
+    by u p (inl h) = let a = met.each u p h in let b = placed_most side net u p in let c = alone.each u p in omega arith
+    by u p (inr h) = elim (cases_lt 0 (ended side net.chans u p)) [
+      | inl x ↦ (let y = place u p x in absurd (omega arith))
+      | inr x ↦ (omega arith)
+    ]
+
 -- the rule from both sides
 pub joined_both : (net : Net) → AreJoined In net → AreJoined Out net → KeepsC1 net
 joined_both net i o = record {
@@ -276,12 +291,6 @@ twice_on net (Some a) (Some b) ((p, two), under) ((q, duo), below) = by (nat_lt 
     by false x = let z : a ≤ b = ltb-false _ _ x in ((p, inl two), λ u r l. (under u r l, below u r (omega arith)))
 
 module _ (net : Net) (ins outs : BTreeSet (ℕ × ℕ)) (s t : Option ℕ) (gi : IsGathered In net.chans ins s) (go : IsGathered Out net.chans outs t) (ends : All (HasEnds net) net.chans) where
-  in_place : (u p : ℕ) → 0 < ended In net.chans u p → 0 < placed In net u p
-  in_place u p = ends_of In net u p net.chans (λ i l. (ends i nowhere l).to)
-
-  out_place : (u p : ℕ) → 0 < ended Out net.chans u p → 0 < placed Out net u p
-  out_place u p = ends_of Out net u p net.chans (λ i l. (ends i nowhere l).from)
-
   -- a unit whose places are known, no two channels at one, has one channel at each
   joined_unit : (v : ℕ) → IsKnownUnit net ins outs v → ((p : ℕ) → (ended In net.chans v p ≤ 1) × (ended Out net.chans v p ≤ 1)) → IsJoined net v
   joined_unit v k m = record {
@@ -297,30 +306,20 @@ module _ (net : Net) (ins outs : BTreeSet (ℕ × ℕ)) (s t : Option ℕ) (gi :
 
   unjoined_two : (v p : ℕ) → (2 ≤ ended In net.chans v p) ⊎ (2 ≤ ended Out net.chans v p) → IsUnjoined net v
   unjoined_two v p (inl h) =
-      let q = in_place v p (omega arith) in
+      let q = ended_placed In net v p ends (omega arith) in
       record { within = placed_within In net v p q; lacks = λ j. (let a = j.ins p q in let c = in_count net v p in omega arith) }
   unjoined_two v p (inr h) =
-      let q = out_place v p (omega arith) in
+      let q = ended_placed Out net v p ends (omega arith) in
       record { within = placed_within Out net v p q; lacks = λ j. (let a = j.outs p q in let c = out_count net v p in omega arith) }
 
-  side_joined : (side : Side) (known : BTreeSet (ℕ × ℕ)) → ((u p : ℕ) → 0 < ended side net.chans u p → 0 < placed side net u p) → ((u p : ℕ) → knows known u p ≡ nat_lt 0 (ended side net.chans u p))
-      → ((u p : ℕ) → ended side net.chans u p ≤ 1) → ((v : ℕ) → v < length net.units → IsKnown side net known v) → AreJoined side net
-  side_joined side known place has m k = record { each = λ u p. by u p (cases_lt 0 (placed side net u p)) }
-    where
-      by : (u p : ℕ) → (0 < placed side net u p) ⊎ (placed side net u p ≤ 0) → ended side net.chans u p ≡ placed side net u p
-      by u p (inl h) =
-          let a : 0 < ended side net.chans u p = ltb-true _ _ (sym (has u p) ∙ (k u (placed_within side net u p h)).each p h) in
-          let b = placed_most side net u p in
-          let c = m u p in omega arith
-      by u p (inr h) = elim (cases_lt 0 (ended side net.chans u p)) [
-        | inl x ↦ (let y = place u p x in absurd (omega arith))
-        | inr x ↦ (omega arith)
-      ]
+  side_joined : (side : Side) (known : BTreeSet (ℕ × ℕ)) → ((u p : ℕ) → knows known u p ≡ nat_lt 0 (ended side net.chans u p)) → ((u p : ℕ) → ended side net.chans u p ≤ 1) → ((v : ℕ) → v < length net.units → IsKnown side net known v) → AreJoined side net
+  side_joined side known has m k = joined_side side net (λ u p. ended_placed side net u p ends) (record { each = m })
+      (record { each = λ u p h. ltb-true _ _ (sym (has u p) ∙ (k u (placed_within side net u p h)).each p h) })
 
   all_joined : ((u p : ℕ) → (ended In net.chans u p ≤ 1) × (ended Out net.chans u p ≤ 1)) → ((v : ℕ) → v < length net.units → IsKnownUnit net ins outs v) → KeepsC1 net
   all_joined m k = joined_both net
-      (side_joined In ins in_place gi.has (λ u p. (m u p).0) (λ v l. (k v l).into))
-      (side_joined Out outs out_place go.has (λ u p. (m u p).1) (λ v l. (k v l).out_of))
+      (side_joined In ins gi.has (λ u p. (m u p).0) (λ v l. (k v l).into))
+      (side_joined Out outs go.has (λ u p. (m u p).1) (λ v l. (k v l).out_of))
 
   decides : (o m : Option ℕ) → IsTwiceOn net o → IsMissing net ins outs m → MatchOption (lowest o m) (KeepsC1 net) (IsLowest (IsUnjoined net))
   decides None None a b = all_joined a b

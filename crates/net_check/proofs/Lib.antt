@@ -16,6 +16,7 @@ pub mod Tables
 pub mod SteerLemmas
 pub mod PlaceCounts
 pub mod JoinLemmas
+pub mod AloneLemmas
 pub mod CheckLemmas
 pub mod RefusalLemmas
 pub mod WiredLemmas

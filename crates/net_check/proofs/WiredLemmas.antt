@@ -1,5 +1,6 @@
 -- What rule C1 says of each channel and of each place.
 use Rattle.std.proofs.Common.{◌≡◌, ℕ, zero, suc, ◌+◌, ◌<◌, ◌≤◌, Bool, true, false, cond, List, [], ◌∷◌, length, get_or, refl, sym, ap, subst, ◌∙◌, arith}
+use Rattle.std.specs.List.{All}
 use Rattle.std.proofs.lemmas.List.Sums.{sum_by-cons}
 use Rattle.net_types.specs.declared.net.Chan.{Chan}
 use Rattle.net_types.specs.declared.net.Place.{Place}
@@ -10,9 +11,11 @@ use Rattle.net_types.specs.Tables.{ins, outs}
 use Rattle.net_types.specs.Rules.{KeepsC1, HasWidth}
 use Rattle.net_check.specs.declared.wires.Side.{Side}
 use Rattle.net_check.specs.declared.wires.Side.TheVariants.{In, Out}
+use Rattle.net_check.specs.Places.{HasEnds}
 use Rattle.net_check.specs.private.Wires.{end_of, first_at, starts_from, Inside, AreInside}
 use Rattle.net_check.specs.private.Joins.{ended, placed, row, AreJoined}
 use Rattle.net_check.proofs.RowLemmas.{Rises, rises-in, rises-out, has-width}
+use Rattle.net_check.proofs.FirstLemmas.{all_chans}
 use Rattle.net_check.proofs.Tables.{first-cons, starts_next}
 use Rattle.net_check.proofs.PlaceCounts.{one, count_map, placed_at, placed_most, placed_within, placed_below}
 use Rattle.net_check.proofs.JoinLemmas.{at_itself, ended_some}
@@ -36,8 +39,16 @@ from_within net c k l = placed_within Out net (chan_at net c).from.unit (chan_at
 pub to_within : (net : Net) (c : ℕ) → KeepsC1 net → c < length net.chans → (chan_at net c).to.unit < length net.units
 to_within net c k l = placed_within In net (chan_at net c).to.unit (chan_at net c).to.place (own_place In net c k l)
 
--- so each channel ends at a place that has an entry
-pub all_inside : (side : Side) (net : Net) (starts : List ℕ) (cs : List Chan) → KeepsC1 net → starts ≡ starts_from side 0 net.units → cs ≡ net.chans → AreInside side starts cs
+-- in a net that keeps the rule, channels end at places
+pub ends_kept : (net : Net) → KeepsC1 net → All (HasEnds net) net.chans
+ends_kept net k = all_chans net (HasEnds net) (λ c l. record { from = own_place Out net c k l; to = own_place In net c k l })
+
+end_placed : (side : Side) (net : Net) (c : ℕ) → All (HasEnds net) net.chans → c < length net.chans → 0 < placed side net (end_of side (chan_at net c)).unit (end_of side (chan_at net c)).place
+end_placed In net c a l = (a c nowhere l).to
+end_placed Out net c a l = (a c nowhere l).from
+
+-- then each channel ends at a place that has an entry
+pub all_inside : (side : Side) (net : Net) (starts : List ℕ) (cs : List Chan) → All (HasEnds net) net.chans → starts ≡ starts_from side 0 net.units → cs ≡ net.chans → AreInside side starts cs
 all_inside side net starts cs k e f =
     let P : List Chan → Type 0 = λ xs. AreInside side starts xs in
     let Q : List ℕ → Type 0 = λ xs. AreInside side xs net.chans in
@@ -46,7 +57,7 @@ all_inside side net starts cs k e f =
     entry : (c : ℕ) → c < length net.chans → Inside (starts_from side 0 net.units) (end_of side (chan_at net c)).unit (end_of side (chan_at net c)).place
     entry c l =
         let x : Place = end_of side (chan_at net c) in
-        let h = own_place side net c k l in
+        let h = end_placed side net c k l in
         let w = placed_within side net x.unit x.place h in
         let b = placed_below side net x.unit x.place h in
         let n = starts_next side 0 net.units x.unit w in

@@ -13,6 +13,7 @@ pub mod Queues
 pub mod Steers
 pub mod Walks
 pub mod Joins
+pub mod JoinTables
 pub mod Bounds
 pub mod Bases
 pub mod Pinned

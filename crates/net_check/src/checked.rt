@@ -4,8 +4,10 @@ ghost use Rattle.net_types.specs.Numbered.{AreNumbered};
 ghost use Rattle.net_types.specs.Rules.{KeepsC1};
 ghost use Rattle.net_check.specs.Checks.{IsChecked};
 ghost use Rattle.net_check.specs.Pins.{pins_of};
+ghost use Rattle.net_check.specs.Headers.{KeepsC8};
 ghost use Rattle.net_check.specs.Refusals.{RefusalHolds};
 ghost use Rattle.net_check.specs.Retimed.{NameChannels, with_changes};
+ghost use Rattle.net_check.specs.Shapes.{KeepsC7};
 ghost use Rattle.net_check.specs.private.Bases.{KeepsBase};
 ghost use Rattle.net_check.specs.private.Broken.{IsRefusalBy};
 ghost use Rattle.net_check.specs.private.Steers.{IsTableOf};
@@ -15,6 +17,7 @@ use crate::controls::check_controls;
 use crate::cycles::check_cycles;
 use crate::ends::check_ends;
 use crate::headers::check_header;
+use crate::joins::joined_tables;
 use crate::matches::check_widths;
 use crate::pins::{Pins, pins_by_unit};
 use crate::places::check_places;
@@ -170,8 +173,8 @@ impl Checked {
 ///
 /// The units and the channels have to be fewer than 2^32 each, as [`Net::is_numbered`] tells.
 ///
-/// C8 costs time in proportion to the units and the header, C7 to the units and the lists of queues, C1 to the units
-/// and the channels times a logarithm, and each other rule to the units and the channels. C2, C3 and C5 take no
+/// C8 costs time in proportion to the units and the header, C7 to the units and the lists of queues, and each other
+/// rule to the units and the channels; where C1 is broken, its search costs a logarithm more. C2, C3 and C5 take no
 /// memory. No rule takes memory in proportion to a number that stands in a unit before C7 and C1 have bounded it.
 ///
 /// # Errors
@@ -205,8 +208,7 @@ fn checked_tables(alloc: Global, net: &Net) -> Result<(Wires, Wires), NetRefusal
     ensures checked { OnOk result (IsChecked net.now) }
     ensures refused { IfErr result (λ e. RefusalHolds net.now e) }
 {
-    check_base(alloc, net)?;
-    let (into, out_of) = tables(alloc, net)?;
+    let (into, out_of) = check_base(alloc, net)?;
     check_rest(alloc, net, &into, &out_of)?;
     Ok((into, out_of))
 }
@@ -227,13 +229,15 @@ fn tables(alloc: Global, net: &Net) -> Result<(Wires, Wires), Memory>
     Ok((into, out_of))
 }
 
-/// The rules that ask for no table.
+/// The rules that ask for no table, and the tables of a net that keeps them.
 ///
 /// # Errors
 ///
 /// The first of them that is broken, and want of memory.
-fn check_base(alloc: Global, net: &Net) -> Result<(), NetRefusal>
+fn check_base(alloc: Global, net: &Net) -> Result<(Wires, Wires), NetRefusal>
     requires { AreNumbered net.now }
+    ensures ins { IfOk result (λ t. IsTableOf In net.now t.0) }
+    ensures outs { IfOk result (λ t. IsTableOf Out net.now t.1) }
     ensures kept { OnOk result (KeepsBase net.now) }
     ensures refused { IfErr result (λ e. RefusalHolds net.now e) }
 {
@@ -241,12 +245,36 @@ fn check_base(alloc: Global, net: &Net) -> Result<(), NetRefusal>
     refuse(Rule::C8, header)?;
     let shapes = check_shapes(alloc, net)?;
     refuse(Rule::C7, shapes)?;
-    let places = check_places(alloc, net)?;
-    refuse(Rule::C1, places)?;
+    let wires = check_joins(alloc, net)?;
     let widths = check_widths(net);
     refuse(Rule::C2, widths)?;
     let sizes = check_sizes(net);
-    refuse(Rule::C3, sizes)
+    refuse(Rule::C3, sizes)?;
+    Ok(wires)
+}
+
+/// Rule C1, where C8 and C7 are kept, and the tables of a net that keeps it.
+///
+/// Where the tables do not show that it is kept, a search finds the culprit.
+///
+/// # Errors
+///
+/// The rule, where it is broken, and want of memory.
+fn check_joins(alloc: Global, net: &Net) -> Result<(Wires, Wires), NetRefusal>
+    requires numbered { AreNumbered net.now }
+    requires header { KeepsC8 net.now }
+    requires shapes { KeepsC7 net.now }
+    ensures ins { IfOk result (λ t. IsTableOf In net.now t.0) }
+    ensures outs { IfOk result (λ t. IsTableOf Out net.now t.1) }
+    ensures kept { OnOk result (KeepsC1 net.now) }
+    ensures refused { IfErr result (λ e. RefusalHolds net.now e) }
+{
+    if let Some(wires) = joined_tables(alloc, net)? {
+        return Ok(wires);
+    }
+    let places = check_places(alloc, net)?;
+    refuse(Rule::C1, places)?;
+    Ok(tables(alloc, net)?)
 }
 
 /// The other rules, where those are kept.

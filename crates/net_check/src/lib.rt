@@ -10,6 +10,7 @@ mod cycles;
 mod ends;
 mod firsts;
 mod headers;
+mod joins;
 mod laws;
 mod marks;
 mod matches;

@@ -39,7 +39,7 @@ pub(crate) fn check_places(alloc: Global, net: &Net) -> Result<Option<At>, Memor
 }
 
 /// The lowest channel with an end that is no place.
-fn first_stray(net: &Net) -> Option<usize>
+pub(crate) fn first_stray(net: &Net) -> Option<usize>
     ensures { MatchOption result (All (HasEnds net.now) net.now.chans)
         (IsLowest (ChanLacks net.now (HasEnds net.now))) }
 {
@@ -62,7 +62,7 @@ fn has_ends(net: &Net, chan: Chan) -> bool
 }
 
 /// Whether the unit has this place on the side.
-fn is_place(net: &Net, unit: u32, place: u64, side: Side) -> bool
+pub(crate) fn is_place(net: &Net, unit: u32, place: u64, side: Side) -> bool
     ensures { result ≡ nat_lt 0 (placed side net.now unit place) }
 {
     if unit as usize >= net.units.as_slice().len() {
@@ -141,7 +141,7 @@ fn first_missing(net: &Net, ins: &Gathered, outs: &Gathered) -> Option<u32>
 }
 
 /// Whether the unit is a queue with more ports or groups, and so more inputs, than there are channels.
-fn is_crowded(unit: &Unit, chans: usize) -> bool
+pub(crate) fn is_crowded(unit: &Unit, chans: usize) -> bool
     ensures { IsTrue result ↔ IsCrowded unit.now chans }
 {
     match unit {

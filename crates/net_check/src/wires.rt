@@ -1,6 +1,7 @@
 ghost use Rattle.std.specs.Prelude.{◌≡◌, ◌^◌, ◌<◌, ℕ, get_or, length, IfOk};
+ghost use Rattle.std.specs.List.{All};
 ghost use Rattle.net_types.specs.Numbered.{AreNumbered};
-ghost use Rattle.net_types.specs.Rules.{KeepsC1};
+ghost use Rattle.net_check.specs.Places.{HasEnds};
 ghost use Rattle.net_check.specs.declared.wires.Side.TheVariants.{In, Out};
 ghost use Rattle.net_check.specs.private.Bounds.{HasRoom, IsBounded};
 ghost use Rattle.net_check.specs.private.Wires.{wire, bound, in_bound, out_bound, end_of, starts_from, IsFilled, IsTable, Rises, Fits, AreInside};
@@ -136,7 +137,7 @@ fn filled(alloc: Global, starts: &[usize], chans: &[Chan], side: Side) -> Result
 }
 
 impl Wires {
-    /// The table of the channels at the places of a side, where each place has one channel.
+    /// The table of the channels at the places of a side, where channels end at places: the first of two at one place.
     ///
     /// It costs time in proportion to the units, the channels and the places, and 8 bytes a unit and 4 a place.
     ///
@@ -144,7 +145,8 @@ impl Wires {
     ///
     /// [`Memory`] where memory is wanting.
     pub(crate) fn new(alloc: Global, net: &Net, side: Side) -> Result<Wires, Memory>
-        requires places { KeepsC1 net.now }
+        requires ends { All (HasEnds net.now) net.now.chans }
+        requires room { HasRoom side net.now.units }
         requires numbered { AreNumbered net.now }
         ensures { IfOk result (λ w. IsTable side w.starts.items w.chans.items w.none net.now.chans) }
     {

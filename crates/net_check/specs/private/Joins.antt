@@ -83,3 +83,15 @@ abbrev pub lowest : Option ℕ → Option ℕ → Option ℕ
 lowest None b = b
 lowest (Some a) None = Some a
 lowest (Some a) (Some b) = cond (nat_lt b a) (Some b) (Some a)
+
+-- no two channels end at one place of the side
+pub record AreAlone (side : Side) (cs : List Chan) : Type 0 where
+  pub each : (u p : ℕ) → ended side cs u p ≤ 1
+
+-- the places of the unit u with a number below n have a channel
+pub record AreMetBelow (side : Side) (net : Net) (u n : ℕ) : Type 0 where
+  pub each : (p : ℕ) → p < n → 0 < placed side net u p → 0 < ended side net.chans u p
+
+-- each place of the side has a channel
+pub record AreMet (side : Side) (net : Net) : Type 0 where
+  pub each : (u p : ℕ) → 0 < placed side net u p → 0 < ended side net.chans u p
