@@ -2,6 +2,7 @@
 use Rattle.std.proofs.Common.{◌≡◌, ℕ, suc, ◌<◌, List, [], ◌∷◌, ◌++◌, length, map, Option, Some, None, refl, sym, ◌∙◌, ap, subst, cond, append-nil, append_assoc}
 use Rattle.std.proofs.lemmas.Bool.{false≢true}
 use Rattle.std.proofs.lemmas.List.{length-map}
+use Rattle.std.proofs.lemmas.List.Elements.{All-head, All-tail}
 use Rattle.std.specs.Prelude.{Bool, true, false, ◌==◌, All, IsSome, if◌then◌else◌}
 use Rattle.std.specs.Cmp.Lexicographic.{pointwise, bytes_decides}
 use Rattle.std.specs.Map.{lookup}
@@ -29,12 +30,13 @@ use Rattle.c_ast.specs.Typing.{Sort, Names, a_scalar, a_helper, sort_in, sort_of
 use Rattle.c_ast.specs.Typing as typing
 use Rattle.c_ast.specs.Casts.{Declared, a_var, an_array, Scope, Context, declared_as, into_innermost, with_var, opened, closed, expr_at, stmt_at, Parameters, with_param, with_params, first_context}
 use Rattle.c_ast.specs.Programs.{TypingHelper, with_helper, TypingHelpers, TypingProgram, known_after, names_after_list}
-use Rattle.c_ast.specs.ProgramCasts.{Known, helper_from, helper_of, known_of, prog_of, prog_converted, prog_converted_all, CastsCallExpr, CastsCallExprs, CastsCallTarget, CastsCallOption, prog_at, CastsCallStmt, CastsCallHeld, CastsCallStmts, CastsHelper, CastsHelpers, CastsProgram}
+use Rattle.c_ast.specs.ProgramCasts.{Known, helper_from, helper_of, known_of, CastsCallExpr, CastsCallExprs, CastsCallTarget, CastsCallOption, prog_at, CastsCallStmt, CastsCallHeld, CastsCallStmts, CastsHelper, CastsHelpers, CastsProgram}
 use Rattle.c_ast.specs.ProgramCasts as casts
 use Rattle.c_meaning.proofs.Contexts.{sort_as, UsedAs}
-use Rattle.c_meaning.proofs.Existence.{all_head, all_tail, not_empty, not_below_zero, row_length_is, list_typing}
+use Rattle.c_meaning.proofs.Existence.{not_empty, not_below_zero, row_length_is, list_typing}
 use Rattle.c_meaning.proofs.LawfulExpressions.{found_in}
 use Rattle.c_meaning.proofs.TreeShapes.{exprs_of, stmts_of, element_is, block_is, held_of, if_is, for_is, items_are}
+use Rattle.c_meaning.proofs.LawfulKernels.{same_text}
 use Rattle.c_calls.specs.Texts.{TypedExists}
 use Rattle.c_calls.proofs.CastOnce.{name_as, element_as, call_as, target_as, cast_kind, cast_row, cast_expr, cast_exprs, cast_option, cast_target, value_as, return_as, cast_stmt, cast_held, cast_stmts, cast_body, cast_helper, cast_helpers, cast_program}
 use Rattle.c_calls.proofs.CastExprs.{there_is}
@@ -153,7 +155,7 @@ module _ (hs : List Known) where
   exprs_cast : (names : Names) (c : Context) (es : List Expr) → Tells hs names c.scopes → All (TypingExpr names) es → CastsCallExprs hs c es (cast_exprs hs c es)
   exprs_cast names c [] w h = casts.no_more c
   exprs_cast names c (e ∷ es) w h = casts.one_more c e (cast_expr hs c e) es (cast_exprs hs c es)
-      (expr_casts names c e w (all_head (TypingExpr names) e es h)) (exprs_cast names c es w (all_tail (TypingExpr names) e es h))
+      (expr_casts names c e w (All-head (TypingExpr names) e es h)) (exprs_cast names c es w (All-tail (TypingExpr names) e es h))
 
   option_casts : (names : Names) (c : Context) (e : Option Expr) → Tells hs names c.scopes → TypingOption names e → CastsCallOption hs c e (cast_option hs c e)
   option_casts names c None w h = casts.absent c
@@ -295,9 +297,6 @@ Knows hs known = (x : List ℕ) → sort_in known x ≡ sort_of_helper (helper_o
 
 first_tells : (hs : List Known) (known : List (List ℕ × Sort)) (ps : List Param) → Knows hs known → Tells hs (scope_of ps [] ∷ known ∷ []) (first_context ps).scopes
 first_tells hs known ps w = params_tell hs ps (record { scope = []; types = []; arrays = [] }) [] (known ∷ []) (λ x. ap (λ es. lookup (pointwise ◌==◌ x) es) (append-nil known) ∙ w x)
-
-same_text : (x : List ℕ) → pointwise ◌==◌ x x ≡ true
-same_text x = (bytes_decides x x).1 refl
 
 -- one name is the other, or not, from either side
 turned : (x y : List ℕ) (b : Bool) → pointwise ◌==◌ x y ≡ b → pointwise ◌==◌ y x ≡ b

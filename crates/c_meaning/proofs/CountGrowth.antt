@@ -172,7 +172,7 @@ held_run : (k : Objects) (o : Held-NormalStmtKind-If-3) → step_run (counted_if
 held_run k None' = refl
 held_run k (Some' b (more_of-NormalStmt s at end_of-NormalStmt)) = refl
 
-abbrev counted_kind : Objects → NormalStmtKind → Counted
+abbrev pub counted_kind : Objects → NormalStmtKind → Counted
 counted_kind k x = record { act = normal_kind_act k x; counts = kind_counts k x }
 
 mutual
@@ -249,7 +249,7 @@ list_steady : (k : Objects) (xs : List NormalStmt) → AreSteady (map (counted k
 list_steady k [] = tt
 list_steady k (x ∷ xs) = (normal_kind_grows k x.kind, kind_steady k x.kind, list_steady k xs)
 
-list_acts : (k : Objects) (xs : List NormalStmt) → acts_of (map (counted k) xs) ≡ map (normal_act k) xs
+pub list_acts : (k : Objects) (xs : List NormalStmt) → acts_of (map (counted k) xs) ≡ map (normal_act k) xs
 list_acts k [] = refl
 list_acts k (x ∷ xs) = ap (λ u. normal_act k x ∷ u) (list_acts k xs)
 

@@ -63,7 +63,7 @@ normal_grows k p i n m o =
 
 -- ---- the end is one
 
-result_over : (t : Option Ty) (h : How) (r : Option ℤ) → IsResult t h r → IsOver h
+pub result_over : (t : Option Ty) (h : How) (r : Option ℤ) → IsResult t h r → IsOver h
 result_over None normally r e = tt
 result_over (Some t) normally r e = tt
 result_over t by_break r e = tt

@@ -1,5 +1,6 @@
 -- A syntax tree that keeps the rules on names has a typed tree: that of the function is one by the relation of casts.
-use Rattle.std.proofs.Common.{◌≡◌, ℕ, suc, ◌<◌, List, [], ◌∷◌, length, Option, Some, None, refl, sym, ◌∙◌, ap, subst, arith}
+use Rattle.std.proofs.Common.{◌≡◌, ℕ, ◌<◌, List, [], ◌∷◌, length, Option, Some, None, refl, sym, ◌∙◌, ap, subst, arith}
+use Rattle.std.proofs.lemmas.List.Elements.{All-head, All-tail}
 use Rattle.std.specs.Prelude.{Bool, true, false, All}
 use mathlib.Core.Former.{Count}
 use denote.Hole.Carrier.{hidden}
@@ -27,12 +28,6 @@ use Rattle.c_meaning.proofs.Contexts.{sorts_in, sorts_of, UsedAs, usable, uncall
 use Rattle.c_meaning.proofs.TreeShapes.{exprs_of, stmts_of, element_is, block_is, held_of, if_is, for_is, items_are}
 
 -- ---- lists
-
-pub all_head : {X : Type 0} (P : X → Type 0) (x : X) (xs : List X) → All P (x ∷ xs) → P x
-all_head P x xs h = h 0 x (omega arith)
-
-pub all_tail : {X : Type 0} (P : X → Type 0) (x : X) (xs : List X) → All P (x ∷ xs) → All P xs
-all_tail P x xs h = λ k d l. h (suc k) d (omega arith)
 
 pub not_empty : {X : Type 0} (x : X) (xs : List X) → length (x ∷ xs) ≡ 0 → ⊥
 not_empty x xs e = omega arith
@@ -87,7 +82,7 @@ expr_casts c e h = kind_casts c e.kind e.at h
 exprs_cast : (c : Context) (es : List Expr) → All (TypingExpr (sorts_of c)) es → CastsExprs c es (cast_exprs c es)
 exprs_cast c [] h = casts.no_more c
 exprs_cast c (e ∷ es) h = casts.one_more c e (cast_expr c e) es (cast_exprs c es)
-    (expr_casts c e (all_head (TypingExpr (sorts_of c)) e es h)) (exprs_cast c es (all_tail (TypingExpr (sorts_of c)) e es h))
+    (expr_casts c e (All-head (TypingExpr (sorts_of c)) e es h)) (exprs_cast c es (All-tail (TypingExpr (sorts_of c)) e es h))
 
 option_casts : (c : Context) (e : Option Expr) → TypingOption (sorts_of c) e → CastsOption c e (cast_option c e)
 option_casts c None h = casts.absent c

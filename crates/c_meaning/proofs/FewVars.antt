@@ -52,7 +52,7 @@ few_below (suc n) s used each =
 
 -- ---- statements
 
-object_few : (o : Object) → length (object_vars o) ≤ 1
+pub object_few : (o : Object) → length (object_vars o) ≤ 1
 object_few (object.Var v) = omega arith
 object_few (object.Array a) = omega arith
 
@@ -88,7 +88,7 @@ scalar_one : (ds : List ℕ) (t : Ty) → length (scalar_type ds t) ≤ 1
 scalar_one [] t = omega arith
 scalar_one (d ∷ ds) t = omega arith
 
-scalar_few : (ps : List Param) → length (scalar_types ps) ≤ params_nodes ps
+pub scalar_few : (ps : List Param) → length (scalar_types ps) ≤ params_nodes ps
 scalar_few [] = omega arith
 scalar_few (p ∷ ps) = omega (arith, length-append (scalar_type p.dims p.ty) (scalar_types ps), scalar_one p.dims p.ty, sum_by-cons param_nodes p ps, scalar_few ps)
 

@@ -1,6 +1,7 @@
 -- What an expression of a tree that keeps the rules on names is cast to is lawful.
 use Rattle.std.proofs.Common.{◌≡◌, ℕ, zero, suc, List, [], ◌∷◌, ◌++◌, length, Option, Some, None, refl, sym, ◌∙◌, ap, subst, cond, arith, append_assoc, append-nil}
 use Rattle.std.proofs.lemmas.Bool.{false≢true}
+use Rattle.std.proofs.lemmas.List.Elements.{All-head, All-tail}
 use Rattle.std.specs.Prelude.{Bool, true, false, ◌==◌, flat_map, slice_get, All, if◌then◌else◌}
 use Rattle.std.specs.Cmp.Lexicographic.{pointwise}
 use Rattle.std.specs.Map.{lookup}
@@ -26,7 +27,7 @@ use Rattle.c_ast.specs.Casts.{Declared, a_var, an_array, Scope, Context, declare
 use Rattle.c_meaning.specs.Lawful.{is_implied, IsElement, IsVar, AreOperands, AreSides, row_length, LawfulRow, LawfulExpr, LawfulOption, LawfulTarget}
 use Rattle.c_meaning.proofs.Elaboration.{name_as, element_as, unary_as, binary_as, choose_as, cast_kind, cast_row, cast_expr, cast_exprs, cast_option, target_as, cast_target}
 use Rattle.c_meaning.proofs.Contexts.{sorts_of, UsedAs, usable, uncallable}
-use Rattle.c_meaning.proofs.Existence.{all_head, all_tail, not_below_zero}
+use Rattle.c_meaning.proofs.Existence.{not_below_zero}
 use Rattle.c_meaning.proofs.TypeLemmas.{promoted_twice, usual_self, operands_are, converted_type}
 
 -- ---- a list goes on in another
@@ -216,7 +217,7 @@ option_lawful k c v (Some e) h f = expr_lawful k c v e h f
 list_lawful : (k : Objects) (c : Context) → Valid k c.scopes → (es : List Expr) → All (TypingExpr (sorts_of c)) es → All NumbersFitExpr es → LawfulExprs k (cast_exprs c es)
 list_lawful k c v [] h f = tt
 list_lawful k c v (e ∷ es) h f =
-    (expr_lawful k c v e (all_head (TypingExpr (sorts_of c)) e es h) (all_head NumbersFitExpr e es f), list_lawful k c v es (all_tail (TypingExpr (sorts_of c)) e es h) (all_tail NumbersFitExpr e es f))
+    (expr_lawful k c v e (All-head (TypingExpr (sorts_of c)) e es h) (All-head NumbersFitExpr e es f), list_lawful k c v es (All-tail (TypingExpr (sorts_of c)) e es h) (All-tail NumbersFitExpr e es f))
 
 -- ---- targets
 

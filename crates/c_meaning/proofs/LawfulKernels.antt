@@ -1,7 +1,7 @@
 -- The typed tree of a tree that keeps the rules on names, and whose numbers fit their types, is lawful.
 use Rattle.std.proofs.Common.{◌≡◌, ℕ, zero, suc, ◌+◌, ◌*◌, ◌<◌, ◌≤◌, List, [], ◌∷◌, ◌++◌, map, length, take, get_or, Option, Some, None, refl, sym, ◌∙◌, ap, subst, cond, arith, append_assoc, append-nil, inl, inr}
 use Rattle.std.proofs.lemmas.Bool.{cases_lt, false≢true}
-use Rattle.std.proofs.lemmas.List.Elements.{All-nil, All-cons}
+use Rattle.std.proofs.lemmas.List.Elements.{All-nil, All-cons, All-head, All-tail}
 use Rattle.std.proofs.lemmas.List.Sums.{sum_by_push}
 use Rattle.std.proofs.Math.Seq.{take-append_seam}
 use Rattle.std.specs.Prelude.{Bool, true, false, ◌==◌, All, Contains, sum_by, ◌⊎◌}
@@ -24,13 +24,13 @@ use Rattle.c_ast.specs.Constants.{NumbersFitStmt, NumbersFitStmts, NumbersFit}
 use Rattle.c_ast.specs.Casts.{a_var, an_array, Parameters, with_param, with_params, parameters, first_context}
 use Rattle.c_meaning.specs.Lawful.{LawfulHeader, LawfulStmt, LawfulStmts, stmt_vars_of, stmt_vars_row, AreDistinct, AreDimensions, all_vars, Lawful}
 use Rattle.c_meaning.proofs.Elaboration.{cast_body, cast_tree}
-use Rattle.c_meaning.proofs.Existence.{all_head, all_tail, body_typing}
+use Rattle.c_meaning.proofs.Existence.{body_typing}
 use Rattle.c_meaning.proofs.LawfulExpressions.{Extends, extends_refl, extends_more, extends_trans, get_extends, get_last, Valid, into_valid}
 use Rattle.c_meaning.proofs.LawfulStatements.{stmts_grow, stmts_lawful, stmts_cover}
 
 -- ---- names of parameters
 
-same_text : (x : List ℕ) → pointwise ◌==◌ x x ≡ true
+pub same_text : (x : List ℕ) → pointwise ◌==◌ x x ≡ true
 same_text x = (bytes_decides x x).1 refl
 
 some_if : (b : Bool) (s : Sort) (o : Option Sort) → (o ≡ None → ⊥) → cond b (Some s) o ≡ None → ⊥
@@ -93,21 +93,21 @@ param_types : (p : Param) (ds : List ℕ) (q : Parameters) (rest : List Ty) → 
 param_types p [] q rest = append_assoc q.types (p.ty ∷ []) rest
 param_types p (d ∷ ds) q rest = refl
 
-params_types : (ps : List Param) (q : Parameters) → (with_params ps q).types ≡ q.types ++ scalar_types ps
+pub params_types : (ps : List Param) (q : Parameters) → (with_params ps q).types ≡ q.types ++ scalar_types ps
 params_types [] q = sym (append-nil q.types)
 params_types (p ∷ ps) q = params_types ps (with_param p p.dims q) ∙ param_types p p.dims q (scalar_types ps)
 
-first_types : (ps : List Param) → (parameters ps).types ≡ scalar_types ps
+pub first_types : (ps : List Param) → (parameters ps).types ≡ scalar_types ps
 first_types ps = params_types ps (record { scope = []; types = []; arrays = [] })
 
-params_grow : (ps : List Param) (q : Parameters) → Extends q.types (with_params ps q).types
+pub params_grow : (ps : List Param) (q : Parameters) → Extends q.types (with_params ps q).types
 params_grow ps q = record { rest = scalar_types ps; is = params_types ps q }
 
 arrays_grow : (p : Param) (ds : List ℕ) (q : Parameters) → Extends q.arrays (with_param p ds q).arrays
 arrays_grow p [] q = extends_refl q.arrays
 arrays_grow p (d ∷ ds) q = extends_more q.arrays (record { name = p.name; ty = p.ty; dims = p.dims } ∷ [])
 
-params_arrays_grow : (ps : List Param) (q : Parameters) → Extends q.arrays (with_params ps q).arrays
+pub params_arrays_grow : (ps : List Param) (q : Parameters) → Extends q.arrays (with_params ps q).arrays
 params_arrays_grow [] q = extends_refl q.arrays
 params_arrays_grow (p ∷ ps) q = extends_trans (arrays_grow p p.dims q) (params_arrays_grow ps (with_param p p.dims q))
 
@@ -118,7 +118,7 @@ param_valid k p (d ∷ ds) q e a v =
     let r : ArrayOf = record { name = p.name; ty = p.ty; dims = p.dims } in
     into_valid k (q.scope ∷ []) p.name (an_array (length q.arrays) p.ty p.dims) (r, get_extends (q.arrays ++ r ∷ []) k.arrays (length q.arrays) r a (get_last q.arrays r), refl, refl) v
 
-params_valid : (k : Objects) (ps : List Param) (q : Parameters) → Extends (with_params ps q).types k.vars → Extends (with_params ps q).arrays k.arrays → Valid k (q.scope ∷ []) → Valid k ((with_params ps q).scope ∷ [])
+pub params_valid : (k : Objects) (ps : List Param) (q : Parameters) → Extends (with_params ps q).types k.vars → Extends (with_params ps q).arrays k.arrays → Valid k (q.scope ∷ []) → Valid k ((with_params ps q).scope ∷ [])
 params_valid k [] q e a v = v
 params_valid k (p ∷ ps) q e a v =
     params_valid k ps (with_param p p.dims q) e a
@@ -129,10 +129,10 @@ none_valid k = record { means = λ x. tt }
 
 -- ---- statements of the block
 
-list_fits : (ss : List Stmt) → All (λ (s : Stmt). NumbersFitStmt s.kind) ss → NumbersFitStmts (hidden-the_row-Stmt-0 ss)
+pub list_fits : (ss : List Stmt) → All (λ (s : Stmt). NumbersFitStmt s.kind) ss → NumbersFitStmts (hidden-the_row-Stmt-0 ss)
 unfolding shape-the_row-Stmt-0 hidden-the_row-Stmt-0 shape-the_row-Stmt-1 hidden-the_row-Stmt-1 hidden
 list_fits [] h = tt
-list_fits (s ∷ ss) h = (all_head (λ (t : Stmt). NumbersFitStmt t.kind) s ss h, list_fits ss (all_tail (λ (t : Stmt). NumbersFitStmt t.kind) s ss h))
+list_fits (s ∷ ss) h = (All-head (λ (t : Stmt). NumbersFitStmt t.kind) s ss h, list_fits ss (All-tail (λ (t : Stmt). NumbersFitStmt t.kind) s ss h))
 
 all_lawful : (k : Objects) (r : Option Ty) (ts : List TypedStmt) → LawfulStmts k r false (hidden-the_row-TypedStmt-0 ts) → All (λ (s : TypedStmt). LawfulStmt k r false s.kind) ts
 unfolding shape-the_row-TypedStmt-0 hidden-the_row-TypedStmt-0 shape-the_row-TypedStmt-1 hidden-the_row-TypedStmt-1 hidden

@@ -53,7 +53,7 @@ mutual
 -- ---- the names in force stay names of objects
 
 -- a new variable has its type
-new_var : (k : Objects) (x : List ℕ) (t : Ty) (c : Context) → Extends (with_var x t c).types k.vars → IsVar k (length c.types) t
+pub new_var : (k : Objects) (x : List ℕ) (t : Ty) (c : Context) → Extends (with_var x t c).types k.vars → IsVar k (length c.types) t
 new_var k x t c e = get_extends (with_var x t c).types k.vars (length c.types) t e (get_last c.types t)
 
 var_valid : (k : Objects) (x : List ℕ) (t : Ty) (c : Context) → Extends (with_var x t c).types k.vars → Valid k c.scopes → Valid k (with_var x t c).scopes

@@ -1,11 +1,12 @@
 -- Operators on numbers and their operations on patterns, from the laws of the operations.
-use Rattle.std.proofs.Common.{◌≡◌, ℕ, ◌^◌, ◌<◌, Option, Some, None, unwrap_or, is_some, nat_lt, refl, sym, ◌∙◌, ap, arith}
+use Rattle.std.proofs.Common.{◌≡◌, ℕ, ◌^◌, ◌<◌, Option, Some, None, is_some, nat_lt, refl, sym, ◌∙◌, ap, arith}
 use Rattle.std.specs.Prelude.{Bool, true, false, not, ◌≢◌, ℤ, pos, negsuc, ◌+ℤ◌, ◌-ℤ◌, ◌*ℤ◌, neg_ℤ, ◌<ℤ◌, ◌≤ℤ◌, int_div, int_rem, int_lt, int_le, bit_and, bit_or, bit_xor, ◌&&◌, if◌then◌else◌, option_and_then}
 use Rattle.std.specs.Int.{int_shr, is_negative}
 use Rattle.std.specs.Ordering.{int_eq}
 use Rattle.std.proofs.lemmas.Bool.{false≢true, ltb-true}
 use Rattle.std.proofs.lemmas.Bool.Decides.{Decides-int_eq, Decides-eqb}
 use Rattle.std.proofs.lemmas.Int.{ints, quot-rem}
+use Rattle.std.proofs.lemmas.Option.{same_Some}
 use Rattle.el_base.specs.declared.ty.Ty.{Ty}
 use Rattle.el_base.specs.declared.ty.Ty.TheVariants.{I8, U8, I16, U16, I32, U32, I64, U64}
 use Rattle.el_base.specs.declared.operation.Op1.TheVariants as op1
@@ -32,9 +33,6 @@ HasWidth = (t : Ty) (z : ℤ) → pattern t z < 2 ^ ty_width t
 
 -- ---- options
 
-some_is : (x z : ℤ) → Some x ≡ Some z → x ≡ z
-some_is x z e = ap (λ o. unwrap_or o x) e
-
 none_is : {P : Type 0} (z : ℤ) → ◌≡◌ {A = Option ℤ} None (Some z) → P
 none_is z e = absurd (false≢true (ap is_some e))
 
@@ -45,12 +43,12 @@ exact_cases P none t v some true = some
 exact_cases P none t v some false = none
 
 signed_cases : (p : Profile) (t : Ty) (v z : ℤ) → pattern t (conv t v) ≡ pattern t v → signed_fit p t v ≡ Some z → pattern t z ≡ pattern t v
-signed_cases Plain t v z back e = exact_cases (λ o. o ≡ Some z → pattern t z ≡ pattern t v) (none_is z) t v (λ f. ap (pattern t) (sym (some_is v z f))) (range t v) e
-signed_cases Wrap t v z back e = ap (pattern t) (sym (some_is (conv t v) z e)) ∙ back
+signed_cases Plain t v z back e = exact_cases (λ o. o ≡ Some z → pattern t z ≡ pattern t v) (none_is z) t v (λ f. ap (pattern t) (sym (same_Some v z f))) (range t v) e
+signed_cases Wrap t v z back e = ap (pattern t) (sym (same_Some (conv t v) z e)) ∙ back
 
 fit_cases : (p : Profile) (t : Ty) (v z : ℤ) → pattern t (conv t v) ≡ pattern t v → (b : Bool) → (if b then signed_fit p t v else Some (conv t v)) ≡ Some z → pattern t z ≡ pattern t v
 fit_cases p t v z back true e = signed_cases p t v z back e
-fit_cases p t v z back false e = ap (pattern t) (sym (some_is (conv t v) z e)) ∙ back
+fit_cases p t v z back false e = ap (pattern t) (sym (same_Some (conv t v) z e)) ∙ back
 
 -- a quotient is undefined for divisor 0, or out of range
 zero_divisor : (P : Option ℤ → Type 0) → P None → (t : Ty) (x y : ℤ) → (¬ (y ≡ pos 0) → P (Some (int_div x y))) → (b : Bool) → (b ≡ false → ¬ (y ≡ pos 0)) → P (if b then None else exact t (int_div x y))
@@ -86,15 +84,15 @@ module _ (round : RoundTrip) (width : HasWidth) where
   joined_law : (t : Ty) (f : ℕ → ℕ → ℕ) (p : ℕ) (x y z : ℤ) → p < 2 ^ ty_width t → p ≡ f (pattern t x) (pattern t y) → joined t f x y ≡ Some z → p ≡ pattern t z
   joined_law t f p x y z below is e =
       let back : pattern t (number t p) ≡ p = round t p below in
-      sym back ∙ ap (λ n. pattern t (number t n)) is ∙ ap (pattern t) (some_is (number t (f (pattern t x) (pattern t y))) z e)
+      sym back ∙ ap (λ n. pattern t (number t n)) is ∙ ap (pattern t) (same_Some (number t (f (pattern t x) (pattern t y))) z e)
 
 quotient_law : (t : Ty) (p : ℕ) (x y z : ℤ) → (¬ (y ≡ pos 0) → p ≡ pattern t (int_div x y)) → quotient t x y ≡ Some z → p ≡ pattern t z
-quotient_law t p x y z is e = quotient_cases (λ o. o ≡ Some z → p ≡ pattern t z) (none_is z) t x y (λ n f. is n ∙ ap (pattern t) (some_is (int_div x y) z f)) e
+quotient_law t p x y z is e = quotient_cases (λ o. o ≡ Some z → p ≡ pattern t z) (none_is z) t x y (λ n f. is n ∙ ap (pattern t) (same_Some (int_div x y) z f)) e
 
 remainder_law : (t : Ty) (p : ℕ) (x y z : ℤ) → (¬ (y ≡ pos 0) → p ≡ pattern t (int_rem x y)) → remainder t x y ≡ Some z → p ≡ pattern t z
 remainder_law t p x y z is e =
     quotient_cases (λ o. option_and_then (λ q. Some (x -ℤ q *ℤ y)) o ≡ Some z → p ≡ pattern t z) (none_is z) t x y
-    (λ n f. is n ∙ ap (pattern t) (sym (remainder_is x y) ∙ some_is (x -ℤ int_div x y *ℤ y) z f)) e
+    (λ n f. is n ∙ ap (pattern t) (sym (remainder_is x y) ∙ same_Some (x -ℤ int_div x y *ℤ y) z f)) e
 
 shift_law : (t : Ty) (g : ℕ → Option ℤ) (p : ℕ) (y z : ℤ) → ((k : ℕ) → y ≡ pos k → k < ty_width t → g k ≡ Some z → p ≡ pattern t z) → option_and_then g (amount t y) ≡ Some z → p ≡ pattern t z
 shift_law t g p y z is e = amount_cases (λ o. option_and_then g o ≡ Some z → p ≡ pattern t z) (none_is z) t y (λ k at below f. is k at below f) e
@@ -108,12 +106,12 @@ left_cases Plain t x z k P f e = plain_cases t x z k P f (ty_signed t && is_nega
 left_cases Wrap t x z k P f e = f e
 
 truth_law : (v : ℕ) (b : Bool) (R : Type 0) (z : ℤ) → IsTruthOf v R → (b ≡ true → R) → (b ≡ false → ¬ R) → Some (truth b) ≡ Some z → v ≡ pattern I32 z
-truth_law v true R z told if_so if_not e = told.0 (if_so refl) ∙ ap (pattern I32) (some_is (pos 1) z e)
-truth_law v false R z told if_so if_not e = told.1 (if_not refl) ∙ ap (pattern I32) (some_is (pos 0) z e)
+truth_law v true R z told if_so if_not e = told.0 (if_so refl) ∙ ap (pattern I32) (same_Some (pos 1) z e)
+truth_law v false R z told if_so if_not e = told.1 (if_not refl) ∙ ap (pattern I32) (same_Some (pos 0) z e)
 
 unequal_law : (v : ℕ) (b : Bool) (R : Type 0) (z : ℤ) → IsTruthOf v (¬ R) → (b ≡ true → R) → (b ≡ false → ¬ R) → Some (truth (not b)) ≡ Some z → v ≡ pattern I32 z
-unequal_law v true R z told if_so if_not e = told.1 (λ n. n (if_so refl)) ∙ ap (pattern I32) (some_is (pos 0) z e)
-unequal_law v false R z told if_so if_not e = told.0 (if_not refl) ∙ ap (pattern I32) (some_is (pos 1) z e)
+unequal_law v true R z told if_so if_not e = told.1 (λ n. n (if_so refl)) ∙ ap (pattern I32) (same_Some (pos 0) z e)
+unequal_law v false R z told if_so if_not e = told.0 (if_not refl) ∙ ap (pattern I32) (same_Some (pos 1) z e)
 
 less_yes : (x y : ℤ) → int_lt x y ≡ true → x <ℤ y
 less_yes x y e = omega (arith, ints)
@@ -133,7 +131,7 @@ equal_yes x y = (Decides-int_eq x y).0
 equal_no : (x y : ℤ) → int_eq x y ≡ false → ¬ (x ≡ y)
 equal_no x y e h = false≢true (sym e ∙ (Decides-int_eq x y).1 h)
 
-zero_yes : (x : ℤ) → is_zero x ≡ true → x ≡ pos 0
+pub zero_yes : (x : ℤ) → is_zero x ≡ true → x ≡ pos 0
 zero_yes (pos n) e = ap pos ((Decides-eqb n 0).0 e)
 zero_yes (negsuc n) e = absurd (false≢true e)
 
@@ -175,7 +173,7 @@ module _ (round : RoundTrip) (width : HasWidth) where
   negatives_keep g h = by_promoted (KeepsPattern unary.Minus) (λ f x z r e. fit_law round width f I32 (op1_result op1.Neg32 (pattern I32 x)) (neg_ℤ x) z (g x) e) (λ f x z r e. fit_law round width f U32 (op1_result op1.Neg32 (pattern U32 x)) (neg_ℤ x) z (g x) e) (λ f x z r e. fit_law round width f I64 (op1_result op1.Neg64 (pattern I64 x)) (neg_ℤ x) z (h x) e) (λ f x z r e. fit_law round width f U64 (op1_result op1.Neg64 (pattern U64 x)) (neg_ℤ x) z (h x) e)
 
   pub flips_keep : Gives1 op1.Not32 (λ x. negsuc 0 -ℤ x) → Gives1 op1.Not64 (λ x. negsuc 0 -ℤ x) → (t : Ty) → KeepsPattern unary.Flip (promoted t)
-  flips_keep g h = by_promoted (KeepsPattern unary.Flip) (λ f x z r e. g x ∙ sym (conv_back round width I32 (negsuc 0 -ℤ x)) ∙ ap (pattern I32) (some_is (conv I32 (negsuc 0 -ℤ x)) z e)) (λ f x z r e. g x ∙ sym (conv_back round width U32 (negsuc 0 -ℤ x)) ∙ ap (pattern U32) (some_is (conv U32 (negsuc 0 -ℤ x)) z e)) (λ f x z r e. h x ∙ sym (conv_back round width I64 (negsuc 0 -ℤ x)) ∙ ap (pattern I64) (some_is (conv I64 (negsuc 0 -ℤ x)) z e)) (λ f x z r e. h x ∙ sym (conv_back round width U64 (negsuc 0 -ℤ x)) ∙ ap (pattern U64) (some_is (conv U64 (negsuc 0 -ℤ x)) z e))
+  flips_keep g h = by_promoted (KeepsPattern unary.Flip) (λ f x z r e. g x ∙ sym (conv_back round width I32 (negsuc 0 -ℤ x)) ∙ ap (pattern I32) (same_Some (conv I32 (negsuc 0 -ℤ x)) z e)) (λ f x z r e. g x ∙ sym (conv_back round width U32 (negsuc 0 -ℤ x)) ∙ ap (pattern U32) (same_Some (conv U32 (negsuc 0 -ℤ x)) z e)) (λ f x z r e. h x ∙ sym (conv_back round width I64 (negsuc 0 -ℤ x)) ∙ ap (pattern I64) (same_Some (conv I64 (negsuc 0 -ℤ x)) z e)) (λ f x z r e. h x ∙ sym (conv_back round width U64 (negsuc 0 -ℤ x)) ∙ ap (pattern U64) (same_Some (conv U64 (negsuc 0 -ℤ x)) z e))
 
 pub quotients_keep : Divides true op2.Divs32 int_div → Divides false op2.Divu32 int_div → Divides true op2.Divs64 int_div → Divides false op2.Divu64 int_div → (t : Ty) → KeepsPatterns op.Div (promoted t)
 quotients_keep a b c d = by_promoted (KeepsPatterns op.Div) (λ f x y z r q e. quotient_law I32 (op2_result op2.Divs32 (pattern I32 x) (pattern I32 y)) x y z (a x y r q) e) (λ f x y z r q e. quotient_law U32 (op2_result op2.Divu32 (pattern U32 x) (pattern U32 y)) x y z (b x y r q) e) (λ f x y z r q e. quotient_law I64 (op2_result op2.Divs64 (pattern I64 x) (pattern I64 y)) x y z (c x y r q) e) (λ f x y z r q e. quotient_law U64 (op2_result op2.Divu64 (pattern U64 x) (pattern U64 y)) x y z (d x y r q) e)
@@ -184,7 +182,7 @@ pub remainders_keep : Divides true op2.Rems32 int_rem → Divides false op2.Remu
 remainders_keep a b c d = by_promoted (KeepsPatterns op.Rem) (λ f x y z r q e. remainder_law I32 (op2_result op2.Rems32 (pattern I32 x) (pattern I32 y)) x y z (a x y r q) e) (λ f x y z r q e. remainder_law U32 (op2_result op2.Remu32 (pattern U32 x) (pattern U32 y)) x y z (b x y r q) e) (λ f x y z r q e. remainder_law I64 (op2_result op2.Rems64 (pattern I64 x) (pattern I64 y)) x y z (c x y r q) e) (λ f x y z r q e. remainder_law U64 (op2_result op2.Remu64 (pattern U64 x) (pattern U64 y)) x y z (d x y r q) e)
 
 pub right_shifts_keep : ShiftsIn true op2.Shrs32 int_shr → ShiftsIn false op2.Shru32 int_shr → ShiftsIn true op2.Shrs64 int_shr → ShiftsIn false op2.Shru64 int_shr → (t : Ty) → ShiftKeepsPatterns op.Shr (promoted t)
-right_shifts_keep a b c d = by_promoted (ShiftKeepsPatterns op.Shr) (λ m x y z r e. shift_law I32 (right_shift x) (op2_result op2.Shrs32 (pattern I32 x) (pattern I32 y)) y z (λ k at below f. ap (λ n. op2_result op2.Shrs32 (pattern I32 x) (pattern I32 n)) at ∙ a x k r below ∙ ap (pattern I32) (some_is (int_shr x k) z f)) e) (λ m x y z r e. shift_law U32 (right_shift x) (op2_result op2.Shru32 (pattern U32 x) (pattern U32 y)) y z (λ k at below f. ap (λ n. op2_result op2.Shru32 (pattern U32 x) (pattern U32 n)) at ∙ b x k r below ∙ ap (pattern U32) (some_is (int_shr x k) z f)) e) (λ m x y z r e. shift_law I64 (right_shift x) (op2_result op2.Shrs64 (pattern I64 x) (pattern I64 y)) y z (λ k at below f. ap (λ n. op2_result op2.Shrs64 (pattern I64 x) (pattern I64 n)) at ∙ c x k r below ∙ ap (pattern I64) (some_is (int_shr x k) z f)) e) (λ m x y z r e. shift_law U64 (right_shift x) (op2_result op2.Shru64 (pattern U64 x) (pattern U64 y)) y z (λ k at below f. ap (λ n. op2_result op2.Shru64 (pattern U64 x) (pattern U64 n)) at ∙ d x k r below ∙ ap (pattern U64) (some_is (int_shr x k) z f)) e)
+right_shifts_keep a b c d = by_promoted (ShiftKeepsPatterns op.Shr) (λ m x y z r e. shift_law I32 (right_shift x) (op2_result op2.Shrs32 (pattern I32 x) (pattern I32 y)) y z (λ k at below f. ap (λ n. op2_result op2.Shrs32 (pattern I32 x) (pattern I32 n)) at ∙ a x k r below ∙ ap (pattern I32) (same_Some (int_shr x k) z f)) e) (λ m x y z r e. shift_law U32 (right_shift x) (op2_result op2.Shru32 (pattern U32 x) (pattern U32 y)) y z (λ k at below f. ap (λ n. op2_result op2.Shru32 (pattern U32 x) (pattern U32 n)) at ∙ b x k r below ∙ ap (pattern U32) (same_Some (int_shr x k) z f)) e) (λ m x y z r e. shift_law I64 (right_shift x) (op2_result op2.Shrs64 (pattern I64 x) (pattern I64 y)) y z (λ k at below f. ap (λ n. op2_result op2.Shrs64 (pattern I64 x) (pattern I64 n)) at ∙ c x k r below ∙ ap (pattern I64) (same_Some (int_shr x k) z f)) e) (λ m x y z r e. shift_law U64 (right_shift x) (op2_result op2.Shru64 (pattern U64 x) (pattern U64 y)) y z (λ k at below f. ap (λ n. op2_result op2.Shru64 (pattern U64 x) (pattern U64 n)) at ∙ d x k r below ∙ ap (pattern U64) (same_Some (int_shr x k) z f)) e)
 
 pub less_keeps : Tells2 true op2.Lts32 (λ x y. x <ℤ y) → Tells2 false op2.Ltu32 (λ x y. x <ℤ y) → Tells2 true op2.Lts64 (λ x y. x <ℤ y) → Tells2 false op2.Ltu64 (λ x y. x <ℤ y) → (t : Ty) → KeepsPatterns op.Lt (promoted t)
 less_keeps a b c d = by_promoted (KeepsPatterns op.Lt) (λ f x y z r q e. truth_law (op2_result op2.Lts32 (pattern I32 x) (pattern I32 y)) (int_lt x y) (x <ℤ y) z (a x y r q) (less_yes x y) (less_no x y) e) (λ f x y z r q e. truth_law (op2_result op2.Ltu32 (pattern U32 x) (pattern U32 y)) (int_lt x y) (x <ℤ y) z (b x y r q) (less_yes x y) (less_no x y) e) (λ f x y z r q e. truth_law (op2_result op2.Lts64 (pattern I64 x) (pattern I64 y)) (int_lt x y) (x <ℤ y) z (c x y r q) (less_yes x y) (less_no x y) e) (λ f x y z r q e. truth_law (op2_result op2.Ltu64 (pattern U64 x) (pattern U64 y)) (int_lt x y) (x <ℤ y) z (d x y r q) (less_yes x y) (less_no x y) e)
@@ -208,7 +206,7 @@ pub nots_keep : Tells1 op1.Zero32 (λ x. x ≡ pos 0) → Tells1 op1.Zero64 (λ 
 nots_keep g h = by_promoted (KeepsPattern unary.Not) (λ f x z r e. truth_law (op1_result op1.Zero32 (pattern I32 x)) (is_zero x) (x ≡ pos 0) z (g true x r) (zero_yes x) (not_zero x) e) (λ f x z r e. truth_law (op1_result op1.Zero32 (pattern U32 x)) (is_zero x) (x ≡ pos 0) z (g false x r) (zero_yes x) (not_zero x) e) (λ f x z r e. truth_law (op1_result op1.Zero64 (pattern I64 x)) (is_zero x) (x ≡ pos 0) z (h true x r) (zero_yes x) (not_zero x) e) (λ f x z r e. truth_law (op1_result op1.Zero64 (pattern U64 x)) (is_zero x) (x ≡ pos 0) z (h false x r) (zero_yes x) (not_zero x) e)
 
 pub pluses_keep : (t : Ty) → KeepsPattern unary.Plus (promoted t)
-pluses_keep = by_promoted (KeepsPattern unary.Plus) (λ f x z r e. ap (pattern I32) (some_is x z e)) (λ f x z r e. ap (pattern U32) (some_is x z e)) (λ f x z r e. ap (pattern I64) (some_is x z e)) (λ f x z r e. ap (pattern U64) (some_is x z e))
+pluses_keep = by_promoted (KeepsPattern unary.Plus) (λ f x z r e. ap (pattern I32) (same_Some x z e)) (λ f x z r e. ap (pattern U32) (same_Some x z e)) (λ f x z r e. ap (pattern I64) (same_Some x z e)) (λ f x z r e. ap (pattern U64) (same_Some x z e))
 
 -- ---- conversions
 

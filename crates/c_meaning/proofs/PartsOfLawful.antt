@@ -21,8 +21,7 @@ use Rattle.c_meaning.specs.Stores.{Objects}
 use Rattle.c_meaning.specs.Lawful.{IsElement, IsVar, AreOperands, AreSides, row_length, is_implied, LawfulRow, LawfulExpr, LawfulAssignment, LawfulStep, LawfulDeclaration, LawfulOption, LawfulReturn, LawfulStmtHeld, LawfulStmts, ReadsNone, both_or_either, SidesReadNone, ReadsOutside, RowReadsOutside, LawfulNormalExpr, NothingBefore, LawfulNormalStmtHeld, LawfulNormalStmts}
 use Rattle.c_meaning.specs.Quiet.{QuietHeld, QuietRow}
 use Rattle.c_meaning.specs.PartLaws.{IfAny, LawfulAt, LawfulNormalAt, QuietAt, IsEmptyWithout, LawfulBy, LawfulStmtBy, LawfulNormalBy, ReadsNoneBy, ReadsOutsideBy, QuietBy}
-use Rattle.std.proofs.lemmas.List.Elements.{All-nil, All-cons}
-use Rattle.c_meaning.proofs.Existence.{all_head, all_tail}
+use Rattle.std.proofs.lemmas.List.Elements.{All-nil, All-cons, All-head, All-tail}
 use Rattle.c_meaning.proofs.LawfulExpressions.{row_length_is}
 
 same : {A : Type 0} → A ↔ A
@@ -47,7 +46,7 @@ module _ {X : Type 0} (P : X → Type 0) (R : List X → Type 0) (none : R []) (
   each (x ∷ xs) =
       let rest : R xs ↔ All P xs = each xs in
       let one = step x xs in
-      (λ h. let both = one.0 h in All-cons P x xs both.0 (rest.0 both.1), λ h. one.1 (all_head P x xs h, rest.1 (all_tail P x xs h)))
+      (λ h. let both = one.0 h in All-cons P x xs both.0 (rest.0 both.1), λ h. one.1 (All-head P x xs h, rest.1 (All-tail P x xs h)))
 
 exprs_lawful : (k : Objects) (es : List TypedExpr) → LawfulRow k (hidden-the_row-TypedExpr-0 es) ↔ All (LawfulExpr k) es
 unfolding shape-the_row-TypedExpr-0 hidden-the_row-TypedExpr-0 shape-the_row-TypedExpr-1 hidden-the_row-TypedExpr-1 hidden

@@ -17,11 +17,11 @@ use Rattle.c_meaning.specs.Sizes.{closes, closes_held, closes_step, closes_row, 
 use Rattle.c_meaning.specs.PartLaws.{sizes, blocks_of, steps_of, accesses_of, blocks_if_any, blocks_of_step, steps_if_any, accesses_if_any, reading, SizesBy, ReadingBy}
 use Rattle.std.proofs.lemmas.List.Recursion.{is_sum_by}
 
-rows_close : (ss : List NormalStmt) → closes_row (hidden-the_row-NormalStmt-0 ss) ≡ blocks_of ss
+pub rows_close : (ss : List NormalStmt) → closes_row (hidden-the_row-NormalStmt-0 ss) ≡ blocks_of ss
 unfolding shape-the_row-NormalStmt-0 hidden-the_row-NormalStmt-0 shape-the_row-NormalStmt-1 hidden-the_row-NormalStmt-1 hidden
 rows_close ss = is_sum_by (λ us. closes_row (hidden-the_row-NormalStmt-0 us)) (λ s. closes s.kind) refl (λ s us. refl) ss
 
-rows_step : (ss : List NormalStmt) → steps_row (hidden-the_row-NormalStmt-0 ss) ≡ steps_of ss
+pub rows_step : (ss : List NormalStmt) → steps_row (hidden-the_row-NormalStmt-0 ss) ≡ steps_of ss
 unfolding shape-the_row-NormalStmt-0 hidden-the_row-NormalStmt-0 shape-the_row-NormalStmt-1 hidden-the_row-NormalStmt-1 hidden
 rows_step ss = is_sum_by (λ us. steps_row (hidden-the_row-NormalStmt-0 us)) (λ s. steps s.kind) refl (λ s us. refl) ss
 
@@ -29,17 +29,17 @@ rows_access : (ss : List NormalStmt) → accesses_row (hidden-the_row-NormalStmt
 unfolding shape-the_row-NormalStmt-0 hidden-the_row-NormalStmt-0 shape-the_row-NormalStmt-1 hidden-the_row-NormalStmt-1 hidden
 rows_access ss = is_sum_by (λ us. accesses_row (hidden-the_row-NormalStmt-0 us)) (λ s. accesses s.kind) refl (λ s us. refl) ss
 
-held_closes : (o : Option NormalStmt) → closes_held (back-NormalStmtKind-If-3 o) ≡ blocks_if_any o
+pub held_closes : (o : Option NormalStmt) → closes_held (back-NormalStmtKind-If-3 o) ≡ blocks_if_any o
 unfolding shape-the_row-NormalStmt-0 hidden-the_row-NormalStmt-0 shape-the_row-NormalStmt-1 hidden-the_row-NormalStmt-1 hidden
 held_closes None = refl
 held_closes (Some s) = refl
 
-step_closes : (o : Option NormalStmt) → closes_step (back-NormalStmtKind-If-3 o) ≡ blocks_of_step o
+pub step_closes : (o : Option NormalStmt) → closes_step (back-NormalStmtKind-If-3 o) ≡ blocks_of_step o
 unfolding shape-the_row-NormalStmt-0 hidden-the_row-NormalStmt-0 shape-the_row-NormalStmt-1 hidden-the_row-NormalStmt-1 hidden
 step_closes None = refl
 step_closes (Some s) = refl
 
-held_steps : (o : Option NormalStmt) → steps_held (back-NormalStmtKind-If-3 o) ≡ steps_if_any o
+pub held_steps : (o : Option NormalStmt) → steps_held (back-NormalStmtKind-If-3 o) ≡ steps_if_any o
 unfolding shape-the_row-NormalStmt-0 hidden-the_row-NormalStmt-0 shape-the_row-NormalStmt-1 hidden-the_row-NormalStmt-1 hidden
 held_steps None = refl
 held_steps (Some s) = refl

@@ -2,7 +2,7 @@
 use Rattle.std.proofs.Common.{◌≡◌, ℕ, ◌+◌, ◌^◌, List, Option, Some, None, refl, sym, ap, subst}
 use Rattle.std.specs.Prelude.{Bool, true, false, ℤ, pos, ◌+ℤ◌, ◌-ℤ◌, ◌*ℤ◌, neg_ℤ, int_le, ◌&&◌, if◌then◌else◌, option_and_then}
 use Rattle.std.specs.Int.{is_negative}
-use Rattle.std.proofs.lemmas.Bool.{false≢true}
+use Rattle.std.proofs.lemmas.Bool.{and_parts}
 use mathlib.Core.Former.{Count}
 use Rattle.el_base.specs.declared.ty.Ty.{Ty}
 use Rattle.el_base.specs.declared.span.Span.{Span}
@@ -33,13 +33,9 @@ defined_rule = record { on_normally = tt; on_break = tt; on_continue = tt; in_tu
 abbrev pub StaysInRange : Type 0
 StaysInRange = (t : Ty) (z : ℤ) → IsInRange t z → number t (pattern t z) ≡ z
 
-both_true : (a b : Bool) → (a && b) ≡ true → (a ≡ true) × (b ≡ true)
-both_true true b h = (refl, h)
-both_true false b h = absurd (false≢true h)
-
 pub range_is : (t : Ty) (z : ℤ) → range t z ≡ true → IsInRange t z
 range_is t z h =
-    let both = both_true (int_le (least t) z) (int_le z (greatest t)) h in
+    let both = and_parts (int_le (least t) z) (int_le z (greatest t)) h in
     record { above = most_yes (least t) z both.0; below = most_yes z (greatest t) both.1 }
 
 none_same : (at : Span) (o : Option ℤ) → SameNumber IsDefined at None o

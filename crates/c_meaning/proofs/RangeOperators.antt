@@ -41,7 +41,7 @@ truth_in true = record { above = search rules; below = search rules }
 truth_in false = record { above = search rules; below = search rules }
 
 -- 0 lies in every range, and what lies between 0 and a number in range
-zero_in : (t : Ty) → IsInRange t (pos 0)
+pub zero_in : (t : Ty) → IsInRange t (pos 0)
 zero_in I8 = record { above = search rules; below = search rules }
 zero_in U8 = record { above = search rules; below = search rules }
 zero_in I16 = record { above = search rules; below = search rules }

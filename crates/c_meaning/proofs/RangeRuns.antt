@@ -1,6 +1,7 @@
 -- Runs of statements leave stores that fit, and return results in range.
 use Rattle.std.specs.List.{flat_map}
 use Rattle.std.proofs.Common.{◌≡◌, ℕ, zero, suc, List, [], ◌∷◌, map, Option, Some, None, refl, sym, subst}
+use Rattle.std.proofs.lemmas.List.Elements.{All-head, All-tail}
 use Rattle.std.specs.Prelude.{Bool, true, false, ℤ, pos, All}
 use mathlib.Core.Former.{Count}
 use Rattle.el_base.specs.declared.ty.Ty.{Ty}
@@ -27,7 +28,6 @@ use Rattle.c_meaning.specs.Statements.{object_type, Place, of_var, of_element, e
 use Rattle.c_meaning.specs.Normals.{normal_kind_act, normal_act_if_any, normal_row_acts, normal_act, normal_objects, normal_body_run, normal_run}
 use Rattle.c_meaning.specs.Lawful.{LawfulExpr, LawfulReturn, LawfulStmt, LawfulStmtHeld, LawfulStmts, LawfulNormalExpr, LawfulNormalStmt, LawfulNormalStmtHeld, LawfulNormalStmts}
 use Rattle.c_meaning.specs.Ranges.{IsResultIn, ReturnsIn, EndsFitting, StatementsFit, NormalStatementsFit, KernelsFit, NormalsFit, ResultsFit, NormalResultsFit}
-use Rattle.c_meaning.proofs.Existence.{all_head, all_tail}
 use Rattle.c_meaning.proofs.RangeOperators.{PatternLaws, conv_in}
 use Rattle.c_meaning.proofs.RangeValues.{ValIn, kind_in}
 use Rattle.c_meaning.proofs.RangeStores.{unset_fits, place_type, write_fits, opening_fits, normal_opening_fits}
@@ -229,7 +229,7 @@ module _ (laws : PatternLaws) (k : Objects) (r : Option Ty) where
 
   acts_fit : (l : Bool) (ss : List TypedStmt) → All (λ s. LawfulStmt k r l s.kind) ss → ActsFit laws k r (map (act k) ss)
   acts_fit l [] h = tt
-  acts_fit l (s ∷ ss) h = (kind_fits l s.kind (all_head (λ (u : TypedStmt). LawfulStmt k r l u.kind) s ss h), acts_fit l ss (all_tail (λ (u : TypedStmt). LawfulStmt k r l u.kind) s ss h))
+  acts_fit l (s ∷ ss) h = (kind_fits l s.kind (All-head (λ (u : TypedStmt). LawfulStmt k r l u.kind) s ss h), acts_fit l ss (All-tail (λ (u : TypedStmt). LawfulStmt k r l u.kind) s ss h))
 
   pub body_fits : (ss : List TypedStmt) → All (λ s. LawfulStmt k r false s.kind) ss → (s : Store) (n : ℕ) → IsFitting k s → EndsFitting k r (body_run k ss s n)
   body_fits ss h = let acts = map (act k) ss in turn_fits laws k r (block acts) (block_fits laws k r acts (acts_fit false ss h))
@@ -287,7 +287,7 @@ module _ (laws : PatternLaws) (k : Objects) (r : Option Ty) where
 
   normal_acts_fit : (l : Bool) (ss : List NormalStmt) → All (λ s. LawfulNormalStmt k r l s.kind) ss → ActsFit laws k r (map (normal_act k) ss)
   normal_acts_fit l [] h = tt
-  normal_acts_fit l (s ∷ ss) h = (normal_kind_fits l s.kind (all_head (λ (u : NormalStmt). LawfulNormalStmt k r l u.kind) s ss h), normal_acts_fit l ss (all_tail (λ (u : NormalStmt). LawfulNormalStmt k r l u.kind) s ss h))
+  normal_acts_fit l (s ∷ ss) h = (normal_kind_fits l s.kind (All-head (λ (u : NormalStmt). LawfulNormalStmt k r l u.kind) s ss h), normal_acts_fit l ss (All-tail (λ (u : NormalStmt). LawfulNormalStmt k r l u.kind) s ss h))
 
   pub normal_body_fits : (ss : List NormalStmt) → All (λ s. LawfulNormalStmt k r false s.kind) ss → (s : Store) (n : ℕ) → IsFitting k s → EndsFitting k r (normal_body_run k ss s n)
   normal_body_fits ss h = let acts = map (normal_act k) ss in turn_fits laws k r (block acts) (block_fits laws k r acts (normal_acts_fit false ss h))

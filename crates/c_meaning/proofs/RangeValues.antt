@@ -1,5 +1,6 @@
 -- The value of a lawful expression in a store that fits lies in the range of its type.
 use Rattle.std.proofs.Common.{◌≡◌, ℕ, zero, suc, ◌+◌, List, [], ◌∷◌, get_or, Option, Some, None, sym, ◌∙◌, subst}
+use Rattle.std.proofs.lemmas.List.Elements.{All-head, All-tail}
 use Rattle.std.specs.Prelude.{Bool, true, false, not, ℤ, pos, All, slice_get}
 use Rattle.el_base.specs.declared.ty.Ty.{Ty}
 use Rattle.el_base.specs.declared.ty.Ty.TheVariants.{I32}
@@ -8,7 +9,7 @@ use Rattle.el_base.specs.Numbers.{IsInRange}
 use Rattle.c_ast.specs.declared.tree.Binary.{Binary}
 use Rattle.c_ast.specs.declared.tree.Binary.TheVariants as op
 use Rattle.c_ast.specs.declared.typed.ArrayOf.{ArrayOf}
-use Rattle.c_ast.specs.declared.typed.TypedExprKind.{TypedExprKind, Row_of-TypedExpr, end_of-TypedExpr, more_of-TypedExpr}
+use Rattle.c_ast.specs.declared.typed.TypedExprKind.{TypedExprKind, end_of-TypedExpr, more_of-TypedExpr}
 use Rattle.c_ast.specs.declared.typed.TypedExprKind as tree
 use Rattle.c_meaning.specs.Types.{conv}
 use Rattle.c_meaning.specs.Operators.{is_zero, unary_value, binary_value}
@@ -16,7 +17,6 @@ use Rattle.c_meaning.specs.Stores.{Store, Objects, IsSetIn, AreSetIn, AreArraysO
 use Rattle.c_meaning.specs.Expressions.{Val, undefined_value, value, Vals, undefined_values, values, Meaning, after_turns, on_one, on_two, later, as_truth, one_of, chosen, always, binary_meaning, all_values, element_at, element, kind_meaning, row_meanings}
 use Rattle.c_meaning.specs.Lawful.{AreOperands, IsElement, LawfulKind}
 use Rattle.c_meaning.specs.Ranges.{ValuesFit}
-use Rattle.c_meaning.proofs.Existence.{all_head, all_tail}
 use Rattle.c_meaning.proofs.RangeOperators.{OptionIn, PatternLaws, conv_in, unary_in, binary_in, sides_in}
 
 -- what there is of a value lies in a type
@@ -67,8 +67,8 @@ set_option t (Some z) h = h
 
 got_in : (t : Ty) (zs : List ℤ) (i : ℕ) → All (IsInRange t) zs → OptionIn t (slice_get zs i)
 got_in t [] i h = tt
-got_in t (z ∷ zs) zero h = all_head (IsInRange t) z zs h
-got_in t (z ∷ zs) (suc i) h = got_in t zs i (all_tail (IsInRange t) z zs h)
+got_in t (z ∷ zs) zero h = All-head (IsInRange t) z zs h
+got_in t (z ∷ zs) (suc i) h = got_in t zs i (All-tail (IsInRange t) z zs h)
 
 elements_in : (arrays : List ArrayOf) (zss : List (List ℤ)) (a : ℕ) (x : ArrayOf) → AreArraysOf arrays zss → slice_get arrays a ≡ Some x → All (IsInRange x.ty) (get_or zss a [])
 elements_in [] [] a x h e = cc

@@ -15,7 +15,7 @@ use Rattle.c_meaning.specs.Types.{conv}
 use Rattle.c_meaning.specs.Operators.{is_zero, unary_value, binary_value}
 use Rattle.c_meaning.specs.Stores.{Store, Objects, set_var, unset_var, place}
 use Rattle.c_meaning.specs.Expressions.{Val, undefined_value, value, Vals, undefined_values, values, Meaning, after_turns, on_one, on_two, later, as_truth, one_of, chosen, always, with_first, all_values, binary_meaning, element_at, element, kind_meaning, row_meanings}
-use Rattle.c_meaning.specs.Lawful.{LawfulKind, LawfulRow}
+use Rattle.c_meaning.specs.Lawful.{LawfulKind, LawfulRow, ReadsNone, SidesReadNone}
 use Rattle.c_meaning.specs.Reads.{vars_read, vars_read_row, AgreeOn, ReadsItsVariables, OtherVariablesAreFree, UnsetVariablesAreFree, ReadsListedVariables}
 
 left_agrees : (vs ws : List ℕ) (s r : Store) → AgreeOn (vs ++ ws) s r → AgreeOn vs s r
@@ -153,3 +153,8 @@ mutual
 
 pub listed : ReadsListedVariables
 listed k e v h c = kind_listed k e.kind e.ty v h c
+
+-- sides that read no array
+pub sides_none : (b : Bool) (e e2 : TypedExprKind) → ReadsNone e → ReadsNone e2 → SidesReadNone b e e2
+sides_none true e e2 h i = (h, i)
+sides_none false e e2 h i = tt
