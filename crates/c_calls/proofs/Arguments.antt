@@ -17,12 +17,15 @@ use Rattle.c_meaning.specs.Profiles.{IsDefined}
 use Rattle.c_meaning.specs.Runs.{normally, Ended, Run, turn, both_runs, with_value}
 use Rattle.c_meaning.specs.Statements.{Act, of_var, object_type, storing, in_order, kind_act}
 use Rattle.c_meaning.proofs.TreeEquations.{stmt_declare}
+use Rattle.c_meaning.proofs.ValueParts.{firsts}
+use Rattle.c_meaning.proofs.StoreParts.{Below, below_same, below_then}
+use Rattle.c_meaning.proofs.RunParts.{go_end}
 use Rattle.c_calls.specs.Meanings.{converted_to}
 use Rattle.c_calls.specs.Inlined.{declaring}
-use Rattle.c_calls.proofs.Stores.{Below, below_same, below_back, below_then, put, put_same, put_other, put_below}
-use Rattle.c_calls.proofs.Imitates.{ended, go_end}
+use Rattle.c_calls.proofs.Stores.{below_back, put, put_same, put_other, put_below}
+use Rattle.c_calls.proofs.Imitates.{ended}
 use Rattle.c_calls.proofs.Expands.{acts, go_of, Reaches, reach_both, UsesLeft, left_turn}
-use Rattle.c_calls.proofs.Values.{val_gives, firsts}
+use Rattle.c_calls.proofs.Values.{val_gives}
 use Rattle.c_calls.proofs.Blocks.{EachDepends}
 use Rattle.c_calls.proofs.Own.{value_left}
 

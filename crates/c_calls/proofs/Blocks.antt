@@ -2,6 +2,7 @@
 use Rattle.std.proofs.Common.{◌≡◌, ℕ, ℤ, ◌+◌, ◌<◌, ◌≤◌, List, [], ◌∷◌, ◌++◌, length, map, Some, refl, sym, ◌∙◌, ap, subst, arith}
 use Rattle.std.proofs.lemmas.List.{map-append}
 use Rattle.std.proofs.lemmas.Grind.{flat_map-append}
+use Rattle.std.proofs.lemmas.Option.{same_Some}
 use Rattle.el_base.specs.declared.span.Span.{Span}
 use Rattle.el_base.specs.declared.ty.Ty.{Ty}
 use Rattle.c_ast.specs.declared.typed.TypedExpr.{TypedExpr}
@@ -11,13 +12,16 @@ use Rattle.c_meaning.specs.Expressions.{value, Vals, undefined_values, values, M
 use Rattle.c_meaning.specs.Profiles.{IsDefined}
 use Rattle.c_meaning.specs.Runs.{How, normally, by_break, by_continue, by_return, undefined, out_of_turns, Ended, Run, both_runs}
 use Rattle.c_meaning.specs.Statements.{Act, act, in_order}
+use Rattle.c_meaning.proofs.ValueParts.{later_is, after_is}
+use Rattle.c_meaning.proofs.StoreParts.{Below, below_then}
+use Rattle.c_meaning.proofs.RunParts.{go_end}
 use Rattle.c_calls.specs.Meanings.{Called, called}
 use Rattle.c_calls.specs.Inlined.{Writing}
 use Rattle.c_calls.specs.Lawful.{Signature}
-use Rattle.c_calls.proofs.Stores.{Below, below_then, below_less}
-use Rattle.c_calls.proofs.Imitates.{Rel, ended, go_end}
+use Rattle.c_calls.proofs.Stores.{below_less}
+use Rattle.c_calls.proofs.Imitates.{Rel, ended}
 use Rattle.c_calls.proofs.Expands.{acts, acts_append, go_of, Reaches, reach_both, Means, Gives, Done, Undone, declares_of, Expands, Near}
-use Rattle.c_calls.proofs.Values.{val_means, val_gives, vals_means, vals_gives, after_is, later_is}
+use Rattle.c_calls.proofs.Values.{val_means, val_gives, vals_means, vals_gives}
 
 -- ---- one statement alone
 
@@ -105,9 +109,6 @@ call_is : (c : Called) (vs : Vals) (y : ℤ) (u : ℕ) → called c vs ≡ value
 call_is c (undefined_values p) y u e = absurd (cc)
 call_is c (values zs t) y u e = let h = later_is t u (c zs) y e in record { given = zs; turns = t; uses = h.r; all = refl; is = h.is; sum = h.all }
 
-some_one : (x y : ℤ) → Some x ≡ Some y → x ≡ y
-some_one x y e = cc
-
 module _ (n : ℕ) (K : Objects) (R : Rel) (f h g : ℕ) (args : ℕ → List Meaning) (left : Gives (List ℤ)) (before : List TypedStmt) (block : TypedStmt) (fresh : ℕ) (c : ℕ → Called) (at : Span) (near : Near R f) (long : (s t : Store) → R s t → length t.vars ≡ n)
     (e : Expands K R f h (vals_means args) before left) (w : IsCallBlock n K h g block fresh left c) where
   abbrev calls : Means ℤ
@@ -146,7 +147,7 @@ module _ (n : ℕ) (K : Objects) (R : Rel) (f h g : ℕ) (args : ℕ → List Me
         less = let a = u1.less in let b = u2.less in omega arith;
         gave = λ y x.
             let g1 = u1.gave u2.given u2.had in
-            let same : u2.result ≡ y = some_one u2.result y (sym u2.read ∙ (after_is at 0 x.0 (read_var v.store fresh) y x.1).0) in
+            let same : u2.result ≡ y = same_Some u2.result y (sym u2.read ∙ (after_is at 0 x.0 (read_var v.store fresh) y x.1).0) in
             record {
               least = g1.least + u2.least;
               uses = g1.uses + u2.uses;

@@ -16,17 +16,18 @@ use Rattle.c_ast.specs.declared.program.ProgStmtKind.TheBlock.{shape-the_row-Pro
 use Rattle.c_ast.specs.Casts.{Context, assigned_type}
 use Rattle.c_ast.specs.Constants.{NumbersFitRow, NumbersFitExpr, NumbersFitOption, NumbersFitTarget, NumbersFitStmt, NumbersFitHeld, NumbersFitStmts}
 use Rattle.c_ast.specs.Programs.{CallsStandIn, StandsAt, StandsIfAny, CallsStandStmt, CallsStandHeld, CallsStandStmts}
-use Rattle.c_ast.specs.ProgramCasts.{Known, prog_converted, CastsCallExpr, CastsCallTarget, CastsCallOption, CastsCallStmt, CastsCallHeld, CastsCallStmts}
+use Rattle.c_ast.specs.ProgramCasts.{Known, prog_converted, CastsCallTarget, CastsCallOption, CastsCallStmt, CastsCallHeld, CastsCallStmts}
 use Rattle.c_ast.specs.ProgramCasts as casts
 use Rattle.c_ast.specs.Typing.{Names, with_name, IsUsable, IsReturnable, TypingRow, TypingExpr, TypingOption, TypingTarget, names_after, names_after_row, TypingStmt, TypingHeld, TypingStmts}
 use Rattle.c_meaning.specs.Stores.{Objects}
 use Rattle.c_meaning.specs.Lawful.{IsVar}
 use Rattle.c_meaning.proofs.LawfulExpressions.{Extends, extends_trans}
 use Rattle.c_meaning.proofs.TypeLemmas.{assigned_twice}
+use Rattle.c_meaning.proofs.LawfulStatements.{new_var}
 use Rattle.c_calls.specs.Lawful.{Signature, LawfulCallExpr, IfAnyExpr, LawfulCallTarget, LawfulCallReturn, LawfulCallStmt, LawfulCallHeld, LawfulCallStmts, ReadsAt, IsTargetOf, in_scope_after, in_scope_after_row, IsScoped, IsHeldScoped, AreScoped}
 use Rattle.c_ast.specs.OfTexts.{ReturnsWhere, HeldReturnsWhere, RowReturnsWhere}
 use Rattle.c_calls.proofs.CastExprs.{gs, converted_has, Fits, converted_lawful, var_at, array_at, expr_fit, exprs_fit, casts_long, converted_reads, AllRead, expr_reads, exprs_read}
-use Rattle.c_calls.proofs.CastStmts.{stmt_grows, held_grows, stmts_grow, grown, Stands, opens, later, new_var, declares_one, held_after, stmt_after, stmts_after}
+use Rattle.c_calls.proofs.CastStmts.{stmt_grows, held_grows, stmts_grow, grown, Stands, opens, later, declares_one, held_after, stmt_after, stmts_after}
 
 -- ---- lists and rows
 

@@ -1,8 +1,8 @@
 -- The typed program of a program that keeps the rules is lawful.
-use Rattle.std.proofs.Common.{◌≡◌, ℕ, zero, suc, ◌+◌, ◌-◌, ◌<◌, ◌≤◌, List, [], ◌∷◌, ◌++◌, length, map, take, Option, Some, None, refl, sym, ◌∙◌, ap, subst, cond, arith, ◌⊎◌, inl, inr, append_assoc, append-nil}
+use Rattle.std.proofs.Common.{◌≡◌, ℕ, zero, suc, ◌+◌, ◌-◌, ◌<◌, ◌≤◌, List, [], ◌∷◌, ◌++◌, length, map, take, Option, Some, None, refl, sym, ◌∙◌, ap, subst, cond, arith, ◌⊎◌, inl, inr, append-nil}
 use Rattle.std.proofs.lemmas.Bool.{cases_lt, false≢true}
 use Rattle.std.proofs.lemmas.List.{map-append}
-use Rattle.std.proofs.lemmas.List.Elements.{All-nil, All-cons, All-head, All-tail, Contains-append_left, Contains-append_right, Contains-append_cases}
+use Rattle.std.proofs.lemmas.List.Elements.{All-nil, All-cons, All-head, All-tail}
 use Rattle.std.proofs.Math.Seq.{take-append_seam}
 use Rattle.std.specs.Prelude.{Bool, true, false, ◌==◌, IsTrue, All, Contains, sum_by}
 use Rattle.std.specs.Cmp.Lexicographic.{pointwise}
@@ -18,7 +18,6 @@ use Rattle.c_ast.specs.declared.tree.StmtKind.TheBlock.{shape-the_row-Stmt-0, hi
 use Rattle.c_ast.specs.declared.tree.Tree.{Tree}
 use Rattle.c_ast.specs.declared.tree.Helper.{Helper}
 use Rattle.c_ast.specs.declared.tree.Program.{Program}
-use Rattle.c_ast.specs.declared.typed.ArrayOf.{ArrayOf}
 use Rattle.c_ast.specs.declared.program.ProgExpr.{ProgExpr}
 use Rattle.c_ast.specs.declared.program.ProgStmt.{ProgStmt}
 use Rattle.c_ast.specs.declared.program.ProgStmtKind.{ProgStmtKind, Row_of-ProgStmt, end_of-ProgStmt, more_of-ProgStmt, Held-ProgStmtKind-If-2}
@@ -27,19 +26,20 @@ use Rattle.c_ast.specs.declared.program.ProgStmtKind.TheBlock.{shape-the_row-Pro
 use Rattle.c_ast.specs.declared.program.TypedHelper.{TypedHelper}
 use Rattle.c_ast.specs.declared.program.TypedProgram.{TypedProgram}
 use Rattle.c_ast.specs.Casts.{Declared, a_var, an_array, Scope, Context, Parameters, with_param, with_params, parameters, first_context}
-use Rattle.c_ast.specs.Constants.{NumbersFitStmt, NumbersFitStmts}
+use Rattle.c_ast.specs.Constants.{NumbersFitStmt}
 use Rattle.c_ast.specs.Programs.{CallsStandStmt, CallsStandStmts, TypingHelper, with_helper, TypingHelpers, known_after, TypingProgram, names_after_list}
-use Rattle.c_ast.specs.ProgramCasts.{Known, known_of, prog_converted, CastsCallStmts, CastsHelper, CastsHelpers, CastsProgram}
+use Rattle.c_ast.specs.ProgramCasts.{Known, known_of, CastsCallStmts, CastsHelper, CastsHelpers, CastsProgram}
 use Rattle.c_ast.specs.ProgramCasts as casts
-use Rattle.c_ast.specs.Typing.{Sort, Names, sort_of, sort_of_dims, scope_of, names_after, names_after_row, TypingParams, TypingList, Typing}
+use Rattle.c_ast.specs.Typing.{Sort, Names, sort_of, sort_of_dims, scope_of, names_after, names_after_row, TypingList}
 use Rattle.c_ast.specs.Typing as typing
 use Rattle.c_meaning.specs.declared.profile.Profile.{Profile}
 use Rattle.c_meaning.specs.declared.profile.Profile.TheVariants.{Plain}
 use Rattle.c_meaning.specs.Stores.{Objects, elements, scalar_type, scalar_types}
 use Rattle.c_meaning.specs.Lawful.{IsVar, AreUsed, LawfulHeader}
 use Rattle.c_meaning.proofs.Existence.{list_typing}
-use Rattle.c_meaning.proofs.LawfulExpressions.{Extends, extends_refl, extends_more, extends_trans, get_extends, get_last, Means, found_in, Valid, into_valid}
-use Rattle.c_meaning.proofs.LawfulKernels.{tree_lawful}
+use Rattle.c_meaning.proofs.LawfulExpressions.{Extends, extends_refl, extends_trans, Means, found_in, Valid}
+use Rattle.c_meaning.proofs.LawfulKernels.{tree_lawful, first_types, params_valid, list_fits}
+use Rattle.c_meaning.proofs.StoreParts.{keeps_append, Keeps}
 use Rattle.c_calls.specs.Meanings.{helper_objects, prog_objects}
 use Rattle.c_calls.specs.Lawful.{Signature, signature_of, LawfulCallStmt, LawfulCallStmts, LawfulCallExpr, ReadsAt, in_scope_after, in_scope_after_row, in_scope_after_list, AreScoped, ListScoped, numbers_from, prog_vars_of, prog_vars_held, prog_vars_row, all_prog_vars, declared_of, declared_held, declared_row, all_declared, AreOnce, InScope, LawfulHelper, LawfulHelpers, LawfulProgram}
 use Rattle.c_ast.specs.OfTexts.{ReturnsWhere, HeldReturnsWhere, RowReturnsWhere, IsHelperOfText, IsProgramOfText}
@@ -52,11 +52,6 @@ use Rattle.c_calls.proofs.CastStmts.{stmts_grow, numbers_then, Follow, stmts_fol
 use Rattle.c_calls.proofs.CastLawful.{FitStmts, stmts_fit}
 
 -- ---- lists and rows
-
-rows_fit : (ss : List Stmt) → All (λ (s : Stmt). NumbersFitStmt s.kind) ss → NumbersFitStmts (hidden-the_row-Stmt-0 ss)
-unfolding shape-the_row-Stmt-0 hidden-the_row-Stmt-0 shape-the_row-Stmt-1 hidden-the_row-Stmt-1 hidden
-rows_fit [] h = tt
-rows_fit (s ∷ ss) h = let P : Stmt → Type 0 = λ s. NumbersFitStmt s.kind in (All-head P s ss h, rows_fit ss (All-tail P s ss h))
 
 rows_stand : (ss : List Stmt) → All (λ (s : Stmt). CallsStandStmt s.kind) ss → CallsStandStmts (hidden-the_row-Stmt-0 ss)
 unfolding shape-the_row-Stmt-0 hidden-the_row-Stmt-0 shape-the_row-Stmt-1 hidden-the_row-Stmt-1 hidden
@@ -119,28 +114,18 @@ mutual
 
 -- ---- what is declared is used
 
-abbrev Keeps : List ℕ → List ℕ → Type 0
-Keeps xs ys = (v : ℕ) → Contains xs v → Contains ys v
-
-keeps_both : (xs ys zs ws : List ℕ) → Keeps xs zs → Keeps ys ws → Keeps (xs ++ ys) (zs ++ ws)
-keeps_both xs ys zs ws f g v c = by_cases (Contains-append_cases xs ys v c)
-  where
-    by_cases : Contains xs v ⊎ Contains ys v → Contains (zs ++ ws) v
-    by_cases (inl d) = Contains-append_left zs ws v (f v d)
-    by_cases (inr d) = Contains-append_right zs ws v (g v d)
-
 mutual
   declared_used : (s : ProgStmtKind) → Keeps (declared_of s) (prog_vars_of s)
   declared_used (act.Block' n row) = row_used row
   declared_used (act.Declare v init) = λ w c. c
   declared_used (act.Assign target op e) = λ w c. no_member w c
   declared_used (act.Step target up) = λ w c. no_member w c
-  declared_used (act.If' cond b (more_of-ProgStmt s at end_of-ProgStmt) o) = keeps_both (declared_of s) (declared_held o) (prog_vars_of s) (prog_vars_held o) (declared_used s) (held_used o)
+  declared_used (act.If' cond b (more_of-ProgStmt s at end_of-ProgStmt) o) = keeps_append (declared_of s) (declared_held o) (prog_vars_of s) (prog_vars_held o) (declared_used s) (held_used o)
   declared_used (act.While' cond b (more_of-ProgStmt s at end_of-ProgStmt)) = declared_used s
   declared_used (act.DoWhile' b (more_of-ProgStmt s at end_of-ProgStmt) cond) = declared_used s
   declared_used (act.For' n first cond o b (more_of-ProgStmt s at end_of-ProgStmt)) =
-      keeps_both (declared_row first ++ declared_held o) (declared_of s) (prog_vars_row first ++ prog_vars_held o) (prog_vars_of s)
-      (keeps_both (declared_row first) (declared_held o) (prog_vars_row first) (prog_vars_held o) (row_used first) (held_used o)) (declared_used s)
+      keeps_append (declared_row first ++ declared_held o) (declared_of s) (prog_vars_row first ++ prog_vars_held o) (prog_vars_of s)
+      (keeps_append (declared_row first) (declared_held o) (prog_vars_row first) (prog_vars_held o) (row_used first) (held_used o)) (declared_used s)
   declared_used act.Break = λ w c. no_member w c
   declared_used act.Continue = λ w c. no_member w c
   declared_used (act.Return e) = λ w c. no_member w c
@@ -152,11 +137,11 @@ mutual
 
   row_used : {n : Count} (row : Row_of-ProgStmt n) → Keeps (declared_row row) (prog_vars_row row)
   row_used end_of-ProgStmt = λ w c. no_member w c
-  row_used (more_of-ProgStmt s at row) = keeps_both (declared_of s) (declared_row row) (prog_vars_of s) (prog_vars_row row) (declared_used s) (row_used row)
+  row_used (more_of-ProgStmt s at row) = keeps_append (declared_of s) (declared_row row) (prog_vars_of s) (prog_vars_row row) (declared_used s) (row_used row)
 
 list_used : (ts : List ProgStmt) → Keeps (all_declared ts) (all_prog_vars ts)
 list_used [] = λ w c. no_member w c
-list_used (t ∷ ts) = keeps_both (declared_of t.kind) (all_declared ts) (prog_vars_of t.kind) (all_prog_vars ts) (declared_used t.kind) (list_used ts)
+list_used (t ∷ ts) = keeps_append (declared_of t.kind) (all_declared ts) (prog_vars_of t.kind) (all_prog_vars ts) (declared_used t.kind) (list_used ts)
 
 numbers_above : (a m w : ℕ) → Contains (numbers_from a m) w → a ≤ w
 numbers_above a zero w c = no_member w c
@@ -172,30 +157,8 @@ numbers_once a (suc m) = ((λ c. let h = numbers_above (suc a) m a c in omega ar
 
 -- ---- parameters
 
-param_types : (p : Param) (ds : List ℕ) (q : Parameters) (rest : List Ty) → (with_param p ds q).types ++ rest ≡ q.types ++ (scalar_type ds p.ty ++ rest)
-param_types p [] q rest = append_assoc q.types (p.ty ∷ []) rest
-param_types p (d ∷ ds) q rest = refl
-
-params_types : (ps : List Param) (q : Parameters) → (with_params ps q).types ≡ q.types ++ scalar_types ps
-params_types [] q = sym (append-nil q.types)
-params_types (p ∷ ps) q = params_types ps (with_param p p.dims q) ∙ param_types p p.dims q (scalar_types ps)
-
 abbrev nothing : Parameters
 nothing = record { scope = []; types = []; arrays = [] }
-
-first_types : (ps : List Param) → (parameters ps).types ≡ scalar_types ps
-first_types ps = params_types ps nothing
-
-params_grow : (ps : List Param) (q : Parameters) → Extends q.types (with_params ps q).types
-params_grow ps q = record { rest = scalar_types ps; is = params_types ps q }
-
-arrays_grow : (p : Param) (ds : List ℕ) (q : Parameters) → Extends q.arrays (with_param p ds q).arrays
-arrays_grow p [] q = extends_refl q.arrays
-arrays_grow p (d ∷ ds) q = extends_more q.arrays (record { name = p.name; ty = p.ty; dims = p.dims } ∷ [])
-
-params_arrays_grow : (ps : List Param) (q : Parameters) → Extends q.arrays (with_params ps q).arrays
-params_arrays_grow [] q = extends_refl q.arrays
-params_arrays_grow (p ∷ ps) q = extends_trans (arrays_grow p p.dims q) (params_arrays_grow ps (with_param p p.dims q))
 
 -- scalars alone have no arrays
 no_arrays : (ps : List Param) (q : Parameters) → All (λ (p : Param). p.dims ≡ []) ps → q.arrays ≡ [] → (with_params ps q).arrays ≡ []
@@ -224,19 +187,6 @@ param_told p (d ∷ ds) q sorts more e h x =
 params_told : (ps : List Param) (q : Parameters) (sorts : List (List ℕ × Sort)) (more : Names) → Told sorts more q.scope → Told (scope_of ps sorts) more (with_params ps q).scope
 params_told [] q sorts more h = h
 params_told (p ∷ ps) q sorts more h = params_told ps (with_param p p.dims q) ((p.name, sort_of_dims p.dims) ∷ sorts) more (param_told p p.dims q sorts more refl h)
-
-param_valid : (k : Objects) (p : Param) (ds : List ℕ) (q : Parameters) → Extends (with_param p ds q).types k.vars → Extends (with_param p ds q).arrays k.arrays → Valid k (q.scope ∷ []) → Valid k ((with_param p ds q).scope ∷ [])
-param_valid k p [] q e a v =
-    into_valid k (q.scope ∷ []) p.name (a_var (length q.types) p.ty) (get_extends (q.types ++ p.ty ∷ []) k.vars (length q.types) p.ty e (get_last q.types p.ty)) v
-param_valid k p (d ∷ ds) q e a v =
-    let r : ArrayOf = record { name = p.name; ty = p.ty; dims = p.dims } in
-    into_valid k (q.scope ∷ []) p.name (an_array (length q.arrays) p.ty p.dims) (r, get_extends (q.arrays ++ r ∷ []) k.arrays (length q.arrays) r a (get_last q.arrays r), refl, refl) v
-
-params_valid : (k : Objects) (ps : List Param) (q : Parameters) → Extends (with_params ps q).types k.vars → Extends (with_params ps q).arrays k.arrays → Valid k (q.scope ∷ []) → Valid k ((with_params ps q).scope ∷ [])
-params_valid k [] q e a v = v
-params_valid k (p ∷ ps) q e a v =
-    params_valid k ps (with_param p p.dims q) e a
-    (param_valid k p p.dims q (extends_trans (params_grow ps (with_param p p.dims q)) e) (extends_trans (params_arrays_grow ps (with_param p p.dims q)) a) v)
 
 first_valid : (k : Objects) (ps : List Param) → Extends (parameters ps).types k.vars → Extends (parameters ps).arrays k.arrays → Valid k ((parameters ps).scope ∷ [])
 first_valid k ps e a = params_valid k ps nothing e a (record { means = λ x. tt })
@@ -280,7 +230,7 @@ module _ (k : Objects) (hs : List Known) (ps : List Param) (more : Names) (ss : 
   stands = first_stands k ps more front arrays
 
   fit : FitStmts k hs ret q false ts vs
-  fit = stmts_fit k hs ret q names vs false at stands whole p (list_typing ss r false names typed) (rows_fit ss numbers) (rows_stand ss calls) (rows_return ret ss returns)
+  fit = stmts_fit k hs ret q names vs false at stands whole p (list_typing ss r false names typed) (list_fits ss numbers) (rows_stand ss calls) (rows_return ret ss returns)
 
   body_lawful : All (λ (s : ProgStmt). LawfulCallStmt k (gs k hs) q false s.kind) ts
   body_lawful = list_lawful k (gs k hs) q false ts fit.lawful

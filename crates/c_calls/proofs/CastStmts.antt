@@ -9,12 +9,13 @@ use Rattle.c_ast.specs.declared.tree.StmtKind.TheBlock.{shape-the_row-Stmt-0, hi
 use Rattle.c_ast.specs.declared.program.ProgStmt.{ProgStmt}
 use Rattle.c_ast.specs.declared.program.ProgStmtKind.TheBlock.{shape-the_row-ProgStmt-0, hidden-the_row-ProgStmt-0, shape-the_row-ProgStmt-1, hidden-the_row-ProgStmt-1, back-ProgStmtKind-If-2}
 use Rattle.c_ast.specs.Casts.{Declared, a_var, Scope, Context, into_innermost, with_var}
-use Rattle.c_ast.specs.ProgramCasts.{Known, prog_converted, CastsCallExpr, CastsCallTarget, CastsCallOption, CastsCallStmt, CastsCallHeld, CastsCallStmts}
+use Rattle.c_ast.specs.ProgramCasts.{Known, CastsCallStmt, CastsCallHeld, CastsCallStmts}
 use Rattle.c_ast.specs.ProgramCasts as casts
 use Rattle.c_ast.specs.Typing.{Sort, Names, a_scalar, sort_of, with_name, names_after, names_after_row}
 use Rattle.c_meaning.specs.Stores.{Objects}
 use Rattle.c_meaning.specs.Lawful.{IsVar}
-use Rattle.c_meaning.proofs.LawfulExpressions.{Extends, extends_refl, extends_more, extends_trans, get_extends, get_last, found_in, opened_valid, into_valid}
+use Rattle.c_meaning.proofs.LawfulExpressions.{Extends, extends_refl, extends_more, extends_trans, found_in, opened_valid, into_valid}
+use Rattle.c_meaning.proofs.LawfulStatements.{new_var}
 use Rattle.c_calls.specs.Lawful.{in_scope_after, in_scope_after_row, numbers_from, declared_of, declared_held, declared_row}
 use Rattle.c_calls.proofs.Lists.{here, there, member_cases}
 use Rattle.c_calls.proofs.CastExprs.{ToldBy, Scoped, Sees}
@@ -158,9 +159,6 @@ with_one k names ss n m vs x t var e w = record {
     by_cases : (v : ℕ) → (v ≡ n) ⊎ Contains vs v → v < m
     by_cases v (inl q) = omega arith
     by_cases v (inr c) = let b = w.below v c in omega arith
-
-pub new_var : (k : Objects) (x : List ℕ) (t : Ty) (c : Context) → Extends (with_var x t c).types k.vars → IsVar k (length c.types) t
-new_var k x t c e = get_extends (with_var x t c).types k.vars (length c.types) t e (get_last c.types t)
 
 -- after a declarator
 pub declares_one : (k : Objects) (names : Names) (x : List ℕ) (t : Ty) (c : Context) (vs : List ℕ) → Extends (with_var x t c).types k.vars → Stands k names c.scopes (length c.types) vs → Stands k (with_name x names) (with_var x t c).scopes (length (with_var x t c).types) (length c.types ∷ vs)

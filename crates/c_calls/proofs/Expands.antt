@@ -8,23 +8,17 @@ use Rattle.std.proofs.lemmas.Grind.{flat_map-append}
 use Rattle.c_ast.specs.declared.typed.TypedStmt.{TypedStmt}
 use Rattle.c_meaning.specs.Stores.{Store, Objects}
 use Rattle.c_meaning.specs.Profiles.{IsDefined}
-use Rattle.c_meaning.specs.Runs.{How, normally, by_break, by_continue, by_return, undefined, out_of_turns, Ended, Run, turn, go_on, both_runs}
+use Rattle.c_meaning.specs.Runs.{How, normally, Ended, Run, turn, go_on, both_runs}
 use Rattle.c_meaning.specs.Statements.{Act, act, in_order}
-use Rattle.c_calls.proofs.Stores.{Below, below_same, below_back, below_then, below_less}
-use Rattle.c_calls.proofs.Imitates.{Rel, ended, Imitates, Sims, go_end}
+use Rattle.c_meaning.proofs.StoreParts.{Below, below_same, below_then}
+use Rattle.c_meaning.proofs.RunParts.{go_end, go_assoc}
+use Rattle.c_calls.proofs.Stores.{below_back, below_less}
+use Rattle.c_calls.proofs.Imitates.{Rel, ended, Imitates, Sims}
 
 abbrev pub acts : Objects → List TypedStmt → List Act
 acts K ss = map (act K) ss
 
 -- ---- one after another
-
-go_assoc : (h : How) (a b c : Run) → ((s : Store) (n : ℕ) → c s n ≡ both_runs a b s n) → (s : Store) (n : ℕ) → go_on h c s n ≡ (let e = go_on h a s n in go_on e.how b e.store e.left)
-go_assoc normally a b c is s n = is s n
-go_assoc by_break a b c is s n = refl
-go_assoc by_continue a b c is s n = refl
-go_assoc (by_return v) a b c is s n = refl
-go_assoc (undefined at) a b c is s n = refl
-go_assoc out_of_turns a b c is s n = refl
 
 pub run_append : (xs ys : List Act) (s : Store) (n : ℕ) → in_order (xs ++ ys) s n ≡ both_runs (in_order xs) (in_order ys) s n
 run_append [] ys s n = refl

@@ -22,13 +22,15 @@ use Rattle.c_meaning.specs.Statements.{in_order}
 use Rattle.c_meaning.specs.Expressions.{Val, undefined_value, value, Vals, undefined_values, values, Meaning, after_turns, on_one, on_two, later, one_of, chosen, as_truth, always, with_first, all_values, element, element_at, binary_meaning, meaning, kind_meaning}
 use Rattle.c_meaning.specs.Lawful.{both_or_either}
 use Rattle.c_meaning.proofs.TreeEquations.{expr_element, expr_unary, expr_cast, expr_binary, expr_choose}
+use Rattle.c_meaning.proofs.ValueParts.{element_of_arrays}
+use Rattle.c_meaning.proofs.StoreParts.{Below}
 use Rattle.c_calls.specs.Meanings.{Called, called, called_by, prog_kind_meaning, prog_row_meanings}
 use Rattle.c_calls.specs.Inlined.{Writing, written_by, inline_expr, inline_row}
 use Rattle.c_calls.specs.Lawful.{Signature, LawfulCallKind, LawfulCallRow, ReadsOf, RowReadsOf, row_types, may_right, may_where, IsCall}
-use Rattle.c_calls.proofs.Stores.{Below, below_less, Held, Agree, Lists, agree_below}
+use Rattle.c_calls.proofs.Stores.{below_less, Held, Agree, Lists, agree_below}
 use Rattle.c_calls.proofs.Imitates.{Rel}
 use Rattle.c_calls.proofs.Expands.{Means, Gives, Two, both_give, Expands, Near, whole_expands, pair_expands, map_expands, acts}
-use Rattle.c_calls.proofs.Values.{val_means, val_gives, vals_means, vals_gives, one_makes, two_make, choice_makes, row_makes, element_makes, element_of_arrays}
+use Rattle.c_calls.proofs.Values.{val_means, val_gives, vals_means, vals_gives, one_makes, two_make, choice_makes, row_makes, element_makes}
 use Rattle.c_calls.proofs.Blocks.{Seg, Writes, EachDepends, each_less, call_expands}
 
 -- ---- operators
@@ -199,7 +201,7 @@ module _ (W : World) (vs us ts : List ℕ) (lists : Lists (length W.kv) W.b vs u
           where
             by_vals : (vs : Vals) → element K at (record { vars = r.vars; arrays = q.arrays }) a vs ≡ element K at q a vs
             by_vals (undefined_values p) = refl
-            by_vals (values is t) = ap (after_turns at t) (element_of_arrays R 0 a (place W.Ka a is) (record { vars = r.vars; arrays = q.arrays }) q refl)
+            by_vals (values is t) = ap (after_turns at t) (element_of_arrays a (place W.Ka a is) (record { vars = r.vars; arrays = q.arrays }) q refl)
 
         element_same : (at : Span) (a : ℕ) (s r : Store) (vs : Vals) → W.ka ≡ W.Ka → s.arrays ≡ r.arrays → element K at r a vs ≡ element k at s a vs
         element_same at a s r vs e h = element_moved at a r s vs (sym h) ∙ ap (λ arrays. element (objects_of W.profile W.Kv arrays) at s a vs) (sym e) ∙ by_vals vs

@@ -1,7 +1,7 @@
 -- A helper whose calls of earlier helpers are written as blocks: its own calls are, too.
 use Rattle.std.proofs.Common.{◌≡◌, ℕ, ℤ, zero, suc, ◌+◌, ◌-◌, ◌<◌, ◌≤◌, List, [], ◌∷◌, ◌++◌, length, map, Option, Some, None, refl, sym, ◌∙◌, ap, subst, arith, append-nil, append_assoc, ◌⊎◌, inl, inr}
 use Rattle.std.specs.Prelude.{false, Contains, slice_get, replicate, pos}
-use Rattle.std.proofs.lemmas.Bool.{false≢true}
+use Rattle.std.proofs.lemmas.Bool.{false≢true, cases_lt}
 use Rattle.std.proofs.lemmas.List.{length-append, length-map, length-replicate, map-append}
 use Rattle.std.proofs.lemmas.Grind.{flat_map-append}
 use Rattle.std.proofs.lemmas.Option.{get_or_from_slice_get}
@@ -27,14 +27,17 @@ use Rattle.c_meaning.specs.Profiles.{IsDefined}
 use Rattle.c_meaning.specs.Runs.{How, normally, by_break, by_continue, by_return, undefined, out_of_turns, Ended, Run, turn, both_runs}
 use Rattle.c_meaning.specs.Statements.{Act, object_type, assignment, in_order, block, act as typed_act, kind_act}
 use Rattle.c_meaning.proofs.TreeEquations.{stmt_block, stmt_declare, stmt_assign}
+use Rattle.c_meaning.proofs.ValueParts.{value_two, operand, later_is}
+use Rattle.c_meaning.proofs.StoreParts.{Below, below_then}
+use Rattle.c_meaning.proofs.RunParts.{had, go_end}
 use Rattle.c_calls.specs.Meanings.{Called, called_by, prog_meaning, prog_act, converted_to, call_store, given_by, given_after, helper_call, helper_calls}
 use Rattle.c_calls.specs.Inlined.{Out, OutStmts, Writing, written_by, behind, inline_list, inline_of, rest_of, declaring, fresh_target, writing, writings}
 use Rattle.c_calls.specs.Lawful.{Signature, signature_of, LawfulHelper, LawfulHelpers, numbers_from, all_declared, in_scope_after_list}
 use Rattle.c_calls.proofs.Lists.{no_member, here, there, member_cases}
-use Rattle.c_calls.proofs.Stores.{Below, below_then, put, put_same, put_below, unset_in, unset_out, unset_count, unset_arrays, unset_below, Agree, Lists}
-use Rattle.c_calls.proofs.Imitates.{Rel, After, ended, had, go_end}
+use Rattle.c_calls.proofs.Stores.{put, put_same, put_below, unset_in, unset_out, unset_count, unset_arrays, unset_below, Agree, Lists}
+use Rattle.c_calls.proofs.Imitates.{Rel, After, ended}
 use Rattle.c_calls.proofs.Expands.{acts, acts_append, go_of, Reaches, reach_both, declares_of, Expands, Done, Gave, both_give, flip, Both, UsesLeft, left_turn}
-use Rattle.c_calls.proofs.Values.{val_means, val_gives, vals_gives, value_two, operand, later_is}
+use Rattle.c_calls.proofs.Values.{val_means, val_gives, vals_gives}
 use Rattle.c_calls.proofs.Blocks.{Filled, Called_by, IsCallBlock, Seg, EachDepends, Writes, reach_one}
 use Rattle.c_calls.proofs.ExprTrees.{World, objects_of, seg_first, seg_rest, expands}
 use Rattle.c_calls.proofs.Own.{assigns, assign_left, target_of, Given}
@@ -107,9 +110,6 @@ store_long zs m =
     let c : length (map Some zs) ≡ length zs = length-map zs Some in
     let d : length rest ≡ m - length zs = length-replicate (m - length zs) None in
     omega arith
-
-size_cases : (a b : ℕ) → (a < b) ⊎ (b ≤ a)
-size_cases a b = grind (arith)
 
 -- ---- segments of the tree's variables
 
@@ -326,7 +326,7 @@ module _ (p : Profile) (Kv : List Ty) (Ka : List ArrayOf) (n : ℕ) (stores : le
         unset_too = λ x c.
             let d = subst (λ q. Contains q x) (append-nil xs) c in
             let m = l.made x d in
-            let past = no_number m.0 (λ b. l.apart m.0 m.2 b) (size_cases m.0 (length h.params)) in
+            let past = no_number m.0 (λ b. l.apart m.0 m.2 b) (cases_lt m.0 (length h.params)) in
             sets_past K f x zs t1 (let e = m.1 in omega arith) ∙ unset_in us0 x t (subst (λ q. Contains q x) (sym us0_is) (Contains-append_right (declares_of (acts K (declaring f es at))) (xs ++ []) x c));
         below = λ x lt. sym (keeps.vars x lt) ∙ unset_out us0 x t (λ c. let b = us0_from t count x c in omega arith);
         arrays = sym keeps.arrays ∙ unset_arrays us0 t;
@@ -625,7 +625,7 @@ module _ (p : Profile) (Kv : List Ty) (Ka : List ArrayOf) (n : ℕ) (stores : le
   knows_more hs ws cs h knows lw = record {
     many_writings = length-append ws (writing ws h ∷ []) ∙ ap (λ z. z + 1) knows.many_writings ∙ sym (length-append hs (signature_of h ∷ []));
     many_calls = λ j. length-append (cs j) (helper_call p j (cs j) h ∷ []) ∙ ap (λ z. z + 1) (knows.many_calls j) ∙ sym (length-append hs (signature_of h ∷ []));
-    written = λ i g e. written_at i g e (size_cases i (length hs));
+    written = λ i g e. written_at i g e (cases_lt i (length hs));
   }
     where
       written_at : (i : ℕ) (g : Signature) → slice_get (hs ++ signature_of h ∷ []) i ≡ Some g → (i < length hs) ⊎ (length hs ≤ i)

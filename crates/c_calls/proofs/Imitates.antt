@@ -1,13 +1,14 @@
 -- A run is imitated by runs b i j from some i and j on, with as many turns as they need: they end in the same way, in a store that is related to that of the run. Imitations are put together as runs are.
 -- It speaks of any two runs, so it is used both ways between programs with calls and without. The first index is a bound on the turns of calls, the second one on the rounds of a loop.
-use Rattle.std.proofs.Common.{◌≡◌, ℕ, ℤ, zero, suc, ◌+◌, ◌-◌, ◌≤◌, refl, sym, ◌∙◌, ap, subst, arith}
+use Rattle.std.proofs.Common.{◌≡◌, ℕ, ℤ, zero, suc, ◌+◌, ◌-◌, ◌≤◌, sym, ◌∙◌, ap, subst, arith}
 use Rattle.std.specs.Prelude.{Bool, true, false, IsTrue}
 use Rattle.c_meaning.specs.Operators.{is_zero}
 use Rattle.c_meaning.specs.Stores.{Store}
 use Rattle.c_meaning.specs.Expressions.{Val, undefined_value, value, Meaning}
 use Rattle.c_meaning.specs.Profiles.{IsDefined}
-use Rattle.c_meaning.specs.Runs.{How, normally, by_break, by_continue, by_return, undefined, out_of_turns, Ended, Run, ends, taking, turn, go_on, both_runs, with_val, with_value, run_of, after_body, looped, rounds, loop}
+use Rattle.c_meaning.specs.Runs.{How, normally, by_break, by_continue, by_return, undefined, out_of_turns, Ended, Run, ends, turn, go_on, both_runs, with_val, with_value, run_of, after_body, looped, rounds, loop}
 use Rattle.c_meaning.specs.Statements.{nothing}
+use Rattle.c_meaning.proofs.RunParts.{had, taken, go_end, after_end, after_goes, GoesOn}
 
 abbrev pub Rel : Type 1
 Rel = Store → Store → Type 0
@@ -120,14 +121,6 @@ go_first n R S M ret inside (by_return v) s1 l m a2 b1 b2 t le x sim d = record 
 go_first n R S M ret inside (undefined at) s1 l m a2 b1 b2 t le x sim d = absurd d
 go_first n R S M ret inside out_of_turns s1 l m a2 b1 b2 t le x sim d = absurd d
 
-pub go_end : (h : How) (a2 : Run) (s : Store) (l : ℕ) → IsDefined (go_on h a2 s l).how → IsDefined h
-go_end normally a2 s l e = tt
-go_end by_break a2 s l e = tt
-go_end by_continue a2 s l e = tt
-go_end (by_return v) a2 s l e = tt
-go_end (undefined at) a2 s l e = e
-go_end out_of_turns a2 s l e = e
-
 pub both_sims : (n : ℕ) (R S T M : Rel) (ret inside : Bool) (a1 a2 : Run) (b1 b2 : ℕ → ℕ → Run) → Sims n R S M ret inside a1 b1 → Sims n S T M ret inside a2 b2 → Sims n R T M ret inside (both_runs a1 a2) (λ i j. both_runs (b1 i j) (b2 i j))
 both_sims n R S T M ret inside a1 a2 b1 b2 x y s t m le r d =
     let e = a1 s m in go_first n S T M ret inside e.how e.store e.left m a2 b1 b2 t le (x s t m le r (go_end e.how a2 e.store e.left d)) y d
@@ -136,22 +129,6 @@ both_sims n R S T M ret inside a1 a2 b1 b2 x y s t m le r d =
 
 abbrev after_of : Run → Ended → Ended
 after_of b z = after_body z.how b z.store z.left
-
-abbrev pub GoesOn : How → Type 0
-GoesOn normally = Unit {0}
-GoesOn by_break = ⊥
-GoesOn by_continue = Unit {0}
-GoesOn (by_return v) = ⊥
-GoesOn (undefined at) = ⊥
-GoesOn out_of_turns = ⊥
-
-after_goes : (h : How) (b : Run) (s : Store) (n : ℕ) → GoesOn h → after_body h b s n ≡ b s n
-after_goes normally b s n g = refl
-after_goes by_break b s n g = absurd g
-after_goes by_continue b s n g = refl
-after_goes (by_return v) b s n g = absurd g
-after_goes (undefined at) b s n g = absurd g
-after_goes out_of_turns b s n g = absurd g
 
 goes_again : (n : ℕ) (S M : Rel) (ret inside : Bool) (h : How) (s1 : Store) (l m : ℕ) (a2 : Run) (b1 b2 : ℕ → ℕ → Run) (t : Store) → m ≤ n → GoesOn h → (x : Imitates M M ret true (ended h s1 l) m b1 t) → M s1 x.last → Sims n M S M ret inside a2 b2 → IsDefined (a2 s1 l).how
     → Imitates S M ret inside (a2 s1 l) m (λ i j. looped (b1 i j) (b2 i j)) t
@@ -188,34 +165,11 @@ after_first n S M ret inside (by_return v) s1 l m a2 b1 b2 t le f x sim d = reco
 after_first n S M ret inside (undefined at) s1 l m a2 b1 b2 t le f x sim d = absurd d
 after_first n S M ret inside out_of_turns s1 l m a2 b1 b2 t le f x sim d = absurd d
 
-after_end : (h : How) (a2 : Run) (s : Store) (l : ℕ) → IsDefined (after_body h a2 s l).how → IsDefined h
-after_end normally a2 s l e = tt
-after_end by_break a2 s l e = tt
-after_end by_continue a2 s l e = tt
-after_end (by_return v) a2 s l e = tt
-after_end (undefined at) a2 s l e = e
-after_end out_of_turns a2 s l e = e
-
 pub looped_sims : (n : ℕ) (M : Rel) (ret inside : Bool) (a1 a2 : Run) (b1 b2 : ℕ → ℕ → Run) → Sims n M M M ret true a1 b1 → Sims n M M M ret inside a2 b2 → Sims n M M M ret inside (looped a1 a2) (λ i j. looped (b1 i j) (b2 i j))
 looped_sims n M ret inside a1 a2 b1 b2 x y s t m le r d =
     let e = a1 s m in after_first n M M ret inside e.how e.store e.left m a2 b1 b2 t le (λ s t z. z) (x s t m le r (after_end e.how a2 e.store e.left d)) y d
 
 -- ---- choices by a condition that gives the same in both
-
--- what ends after u turns had them
-pub record Had (u : ℕ) (run : Run) (s : Store) (m : ℕ) : Type 0 where
-  pub rest : ℕ
-  pub sum : m ≡ u + rest
-  pub is : taking u run s m ≡ run s rest
-
-pub had : (u : ℕ) (run : Run) (s : Store) (m : ℕ) → IsDefined (taking u run s m).how → Had u run s m
-had zero run s m e = record { rest = m; sum = omega arith; is = refl }
-had (suc u) run s zero e = absurd e
-had (suc u) run s (suc m) e = let h = had u run s m e in record { rest = h.rest; sum = let a = h.sum in omega arith; is = h.is }
-
-pub taken : (t : ℕ) (run : Run) (s : Store) (l : ℕ) → taking t run s (t + l) ≡ run s l
-taken zero run s l = let e : 0 + l ≡ l = omega arith in ap (λ n. run s n) e
-taken (suc t) run s l = let e : suc t + l ≡ suc (t + l) = omega arith in ap (λ n. taking (suc t) run s n) e ∙ taken t run s l
 
 pub side_sims : (z : Bool) (n : ℕ) (R S M : Rel) (ret inside : Bool) (a1 a2 : Run) (b1 b2 : ℕ → ℕ → Run) → Sims n R S M ret inside a1 b1 → Sims n R S M ret inside a2 b2 → Sims n R S M ret inside (run_of z a1 a2) (λ i j. run_of z (b1 i j) (b2 i j))
 side_sims true n R S M ret inside a1 a2 b1 b2 x y s t m le r d = let q = x s t m le r d in record { least = q.least; need = q.need; turns = q.turns; last = q.last; within = q.within; takes = q.takes; after = q.after; less = q.less }

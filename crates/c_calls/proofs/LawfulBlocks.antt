@@ -1,9 +1,9 @@
 -- What is made of a lawful expression is lawful: the blocks of its calls and what is left of it; and each variable that is made is declared or assigned in the blocks.
-use Rattle.std.proofs.Common.{◌≡◌, ℕ, ◌+◌, ◌<◌, ◌≤◌, List, [], ◌∷◌, ◌++◌, length, map, Option, Some, None, refl, sym, ◌∙◌, ap, subst, arith, ◌⊎◌, inl, inr, append-nil, append_assoc}
+use Rattle.std.proofs.Common.{◌≡◌, ℕ, ◌+◌, List, [], ◌∷◌, ◌++◌, length, map, Option, Some, None, refl, sym, ◌∙◌, ap, subst, arith, append-nil, append_assoc}
 use Rattle.std.specs.Prelude.{Bool, true, false, All, Contains, slice_get}
-use Rattle.std.proofs.lemmas.Bool.{cases_lt, false≢true}
+use Rattle.std.proofs.lemmas.Bool.{false≢true}
 use Rattle.std.proofs.lemmas.List.{length-append}
-use Rattle.std.proofs.lemmas.List.Elements.{All-nil, All-cons, All-head, All-tail, All-append, All-weaker, Contains-append_left, Contains-append_right}
+use Rattle.std.proofs.lemmas.List.Elements.{All-nil, All-cons, All-head, All-tail, All-append, All-weaker}
 use denote.Hole.Carrier.{hidden}
 use mathlib.Core.Former.{Count}
 use Rattle.el_base.specs.declared.span.Span.{Span}
@@ -22,29 +22,13 @@ use Rattle.c_meaning.specs.Lawful.{IsElement, IsVar, is_implied as is_implied_ty
 use Rattle.c_meaning.specs.PartLaws.{LawfulAt}
 use Rattle.c_meaning.proofs.PartsOfLawful.{lawful_number, lawful_variable, lawful_element, lawful_unary, lawful_cast, lawful_binary, lawful_choice, stmt_block}
 use Rattle.c_meaning.proofs.PartsOfNumbers.{vars_block}
+use Rattle.c_meaning.proofs.StoreParts.{Sets, sets_none, sets_then, sets_to}
 use Rattle.c_calls.specs.Inlined.{Out, Outs, OutOption, Written, Writing, written_by, inline_expr, inline_row, inline_of, rest_of, inline_all, inline_option, behind}
 use Rattle.c_calls.specs.Lawful.{is_implied, row_length, row_types, Signature, may_where, may_right, LawfulCallKind, LawfulCallRow, LawfulCallExpr, IfAnyExpr}
 use Rattle.c_calls.proofs.Blocks.{Seg}
 use Rattle.c_calls.proofs.ExprTrees.{seg_first, seg_rest}
 
 -- ---- lists of variables
-
--- all from f on, and below g
-abbrev pub Sets : ℕ → ℕ → List ℕ → Type 0
-Sets f g xs = (v : ℕ) → f ≤ v → v < g → Contains xs v
-
-pub sets_none : (f g : ℕ) (xs : List ℕ) → g ≤ f → Sets f g xs
-sets_none f g xs le v a b = absurd (omega arith)
-
-pub sets_then : (f g h : ℕ) (xs ys : List ℕ) → Sets f g xs → Sets g h ys → Sets f h (xs ++ ys)
-sets_then f g h xs ys s t v a b = by_cases (cases_lt v g)
-  where
-    by_cases : (v < g) ⊎ (g ≤ v) → Contains (xs ++ ys) v
-    by_cases (inl l) = Contains-append_left xs ys v (s v a l)
-    by_cases (inr l) = Contains-append_right xs ys v (t v l b)
-
-pub sets_to : (f g h : ℕ) (xs : List ℕ) → h ≤ g → Sets f g xs → Sets f h xs
-sets_to f g h xs le s v a b = s v a (omega arith)
 
 -- of types one list after the other
 pub sets_both : (f : ℕ) (ts us : List Ty) (xs ys : List ℕ) → Sets f (f + length ts) xs → Sets (f + length ts) (f + length ts + length us) ys → Sets f (f + length (ts ++ us)) (xs ++ ys)

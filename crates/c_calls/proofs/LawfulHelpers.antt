@@ -22,6 +22,8 @@ use Rattle.c_meaning.specs.Lawful.{IsVar, LawfulExpr, LawfulStmt, stmt_vars_of, 
 use Rattle.c_meaning.specs.PartLaws.{LawfulAt}
 use Rattle.c_meaning.proofs.PartsOfLawful.{stmt_block, stmt_declaration, stmt_assignment}
 use Rattle.c_meaning.proofs.PartsOfNumbers.{vars_block, vars_declaration, vars_assignment}
+use Rattle.c_meaning.proofs.StoreParts.{Sets, sets_none, sets_then}
+use Rattle.c_meaning.proofs.ListParts.{take_first}
 use Rattle.c_calls.specs.Meanings.{helper_objects, prog_objects}
 use Rattle.c_calls.specs.Inlined.{Writing, written_by, inline_list, inline_of, rest_of, behind, declaring, fresh_target, writing, writings, body_of, inlined}
 use Rattle.c_calls.specs.Lawful.{Signature, signature_of, all_prog_vars, LawfulHelper, LawfulHelpers, LawfulProgram}
@@ -31,7 +33,7 @@ use Rattle.c_calls.proofs.Arguments.{slice_left, ty_head, ty_tail}
 use Rattle.c_calls.proofs.Blocks.{Seg}
 use Rattle.c_calls.proofs.ExprTrees.{is_element_none, seg_first, seg_rest}
 use Rattle.c_calls.proofs.Helpers.{seg_types}
-use Rattle.c_calls.proofs.LawfulBlocks.{Sets, sets_none, sets_then, sets_same, vars_append, types_of, Settles, LawfulWritten, LawfulWriting, LawfulOut, all_settle, behind_lawful, behind_vars, Within, expr_out}
+use Rattle.c_calls.proofs.LawfulBlocks.{sets_same, vars_append, types_of, Settles, LawfulWritten, LawfulWriting, LawfulOut, all_settle, behind_lawful, behind_vars, Within, expr_out}
 use Rattle.c_calls.proofs.LawfulTrees.{LawfulOutStmts, list_out}
 
 -- ---- the declarations of the parameters
@@ -252,12 +254,6 @@ helpers_written p K (h ∷ rest) hs ws known lw =
 
 -- ---- programs
 
-take_more : (ts vars more : List Ty) → take (length ts) vars ≡ ts → take (length ts) (vars ++ more) ≡ ts
-take_more [] vars more e = refl
-take_more (t ∷ ts) [] more e = absurd (cc)
-take_more (t ∷ ts) (x ∷ xs) more e =
-    ap (λ y. y ∷ take (length ts) (xs ++ more)) (ty_head x t (take (length ts) xs) ts e) ∙ ap (λ ys. t ∷ ys) (take_more ts xs more (ty_tail x t (take (length ts) xs) ts e))
-
 module _ (P : TypedProgram) (lw : LawfulProgram P) where
   abbrev made : List Ty
   made = (body_of P).types
@@ -281,7 +277,7 @@ module _ (P : TypedProgram) (lw : LawfulProgram P) where
   header_kept : (p : Profile) → LawfulHeader P.kernel.params (tree p)
   header_kept p =
       let h = lw.header p in
-      record { distinct = h.distinct; dimensions = h.dimensions; few_elements = h.few_elements; first_vars = take_more (scalar_types P.kernel.params) P.kernel.vars made h.first_vars; arrays_are = h.arrays_are }
+      record { distinct = h.distinct; dimensions = h.dimensions; few_elements = h.few_elements; first_vars = take_first (scalar_types P.kernel.params) P.kernel.vars made h.first_vars; arrays_are = h.arrays_are }
 
   all_used : AreUsed P.kernel.params (P.kernel.vars ++ made) (all_vars (body_of P).stmts)
   all_used v lt = by_cases (cases_lt v (length P.kernel.vars))

@@ -22,12 +22,13 @@ use Rattle.c_meaning.specs.Lawful.{LawfulExpr, IsObject, LawfulTarget, LawfulDec
 use Rattle.c_meaning.specs.PartLaws.{IfAny, LawfulAt, vars_if_any}
 use Rattle.c_meaning.proofs.PartsOfLawful.{stmt_block, stmt_declaration, stmt_assignment, stmt_stepping, stmt_choice, stmt_while_loop, stmt_do_loop, stmt_for_loop, stmt_leaving, stmt_continuing, stmt_returning, stmt_empty}
 use Rattle.c_meaning.proofs.PartsOfNumbers.{vars_block, vars_declaration, vars_assignment, vars_stepping, vars_choice, vars_while_loop, vars_do_loop, vars_for_loop}
+use Rattle.c_meaning.proofs.StoreParts.{Sets, sets_none, sets_to}
 use Rattle.c_calls.specs.Inlined.{OutStmt, OutStmts, OutHeld, Writing, inline_of, rest_of, inline_all, inline_option, behind, moved, target_to, inline_stmt, inline_held, inline_stmts, inline_list}
 use Rattle.c_calls.specs.Lawful.{Signature, LawfulCallExpr, IfAnyExpr, LawfulCallTarget, LawfulCallDeclaration, LawfulCallReturn, LawfulCallStmt, LawfulCallHeld, LawfulCallStmts, object_vars as prog_object_vars, prog_vars_of, prog_vars_held, prog_vars_row, all_prog_vars}
 use Rattle.c_calls.proofs.Lists.{no_member, here, member_cases}
 use Rattle.c_calls.proofs.Blocks.{Seg}
 use Rattle.c_calls.proofs.ExprTrees.{seg_first, seg_rest}
-use Rattle.c_calls.proofs.LawfulBlocks.{Sets, sets_none, sets_to, sets_both, sets_same, blocks_both, all_long, makes_none, Settles, behind_lawful, behind_vars, Within, expr_out, all_out, option_out}
+use Rattle.c_calls.proofs.LawfulBlocks.{sets_both, sets_same, blocks_both, all_long, makes_none, Settles, behind_lawful, behind_vars, Within, expr_out, all_out, option_out}
 
 -- the variables of a list, moved by b, are in another
 abbrev pub Moves : ℕ → List ℕ → List ℕ → Type 0

@@ -12,7 +12,8 @@ use Rattle.c_meaning.specs.Expressions.{Val, undefined_value, value, Vals, undef
 use Rattle.c_meaning.specs.Profiles.{IsDefined}
 use Rattle.c_meaning.specs.Runs.{normally, undefined, Ended, Run, ends, taking, with_val, with_value}
 use Rattle.c_meaning.specs.Statements.{Place, read_place, write_place, object_type, object_place, MeantTarget, Placed, placed_after, place_by, target_place, storing, stored, assigned_to, joined_in, joined_with, updated_at, assignment}
-use Rattle.c_calls.proofs.Imitates.{Rel, ended, Imitates, Had, had, taken}
+use Rattle.c_meaning.proofs.RunParts.{Had, had, taken}
+use Rattle.c_calls.proofs.Imitates.{Rel, ended, Imitates}
 use Rattle.c_calls.proofs.Expands.{Two, both_give, flip, Both, Uses, UsesLeft}
 use Rattle.c_calls.proofs.Values.{val_means, val_gives, vals_means, vals_gives}
 

@@ -1,26 +1,17 @@
 -- Stores of runs with calls, and of runs of the tree without calls, in which the variables of a helper are numbered from b on.
 use Rattle.std.proofs.Common.{◌≡◌, ℕ, zero, suc, ◌+◌, ◌<◌, ◌≤◌, List, [], ◌∷◌, ◌++◌, length, get_or, Option, None, refl, sym, ◌∙◌, ap, subst, arith, ◌⊎◌, inl, inr}
 use Rattle.std.specs.Prelude.{Bool, true, false, ℤ, set, Contains}
-use Rattle.std.proofs.lemmas.Bool.{cases_eq, false≢true}
+use Rattle.std.proofs.lemmas.Bool.{cases_eq, false≢true, cases_lt}
 use Rattle.std.proofs.lemmas.List.{length-set, get_or-set_same, get_or-set_other}
 use Rattle.std.proofs.lemmas.List.Elements.{Contains-append_cases}
 use Rattle.c_meaning.specs.Stores.{Store, Objects, unset_var, unset_vars, read_var, set_element}
+use Rattle.c_meaning.proofs.StoreParts.{Below}
 use Rattle.c_calls.proofs.Lists.{no_member, here, there, member_cases}
 
--- ---- the variables below n are the same, and the arrays, and the number of variables
-pub record Below (n : ℕ) (s t : Store) : Type 0 where
-  pub vars : (x : ℕ) → x < n → read_var s x ≡ read_var t x
-  pub arrays : s.arrays ≡ t.arrays
-  pub count : length s.vars ≡ length t.vars
-
-pub below_same : (n : ℕ) (s : Store) → Below n s s
-below_same n s = record { vars = λ x h. refl; arrays = refl; count = refl }
+-- ---- stores that agree below a number
 
 pub below_back : (n : ℕ) (s t : Store) → Below n s t → Below n t s
 below_back n s t a = record { vars = λ x h. sym (a.vars x h); arrays = sym a.arrays; count = sym a.count }
-
-pub below_then : (m n l : ℕ) (s t u : Store) → m ≤ n → m ≤ l → Below n s t → Below l t u → Below m s u
-below_then m n l s t u h k a b = record { vars = λ x lt. a.vars x (omega arith) ∙ b.vars x (omega arith); arrays = a.arrays ∙ b.arrays; count = a.count ∙ b.count }
 
 pub below_less : (m n : ℕ) (s t : Store) → m ≤ n → Below n s t → Below m s t
 below_less m n s t h a = record { vars = λ x lt. a.vars x (omega arith); arrays = a.arrays; count = a.count }
@@ -44,11 +35,8 @@ past [] i h = refl
 past (x ∷ xs) zero h = absurd (omega arith)
 past (x ∷ xs) (suc i) h = past xs i (omega arith)
 
-size_cases : (a b : ℕ) → (a < b) ⊎ (b ≤ a)
-size_cases a b = grind (arith)
-
 unset_here : (v : ℕ) (s : Store) → read_var (put v None s) v ≡ None
-unset_here v s = by_size (size_cases v (length s.vars))
+unset_here v s = by_size (cases_lt v (length s.vars))
   where
     by_size : (v < length s.vars) ⊎ (length s.vars ≤ v) → read_var (put v None s) v ≡ None
     by_size (inl h) = put_same v None s h
