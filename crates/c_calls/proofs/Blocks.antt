@@ -10,7 +10,7 @@ use Rattle.c_ast.specs.declared.typed.TypedStmt.{TypedStmt}
 use Rattle.c_meaning.specs.Stores.{Store, Objects, read_var}
 use Rattle.c_meaning.specs.Expressions.{value, Vals, undefined_values, values, Meaning, after_turns, later, all_values, meaning}
 use Rattle.c_meaning.specs.Profiles.{IsDefined}
-use Rattle.c_meaning.specs.Runs.{How, normally, by_break, by_continue, by_return, undefined, out_of_turns, Ended, Run, both_runs}
+use Rattle.c_meaning.specs.Runs.{How, normally, Ended, Run, both_runs}
 use Rattle.c_meaning.specs.Statements.{Act, act, in_order}
 use Rattle.c_meaning.proofs.ValueParts.{later_is, after_is}
 use Rattle.c_meaning.proofs.StoreParts.{Below, below_then}
@@ -33,11 +33,7 @@ reach_one a t last n x l = ap (go_of (in_order [])) (x l)
 
 stays_normal : (h : How) (s : Store) (n : ℕ) → go_of (in_order []) (ended h s n) ≡ ended h s n
 stays_normal normally s n = refl
-stays_normal by_break s n = refl
-stays_normal by_continue s n = refl
-stays_normal (by_return v) s n = refl
-stays_normal (undefined at) s n = refl
-stays_normal out_of_turns s n = refl
+stays_normal h s n = refl
 
 pub one_alone : (a : Act) (t : Store) (n : ℕ) → in_order (a ∷ []) t n ≡ a.run t n
 one_alone a t n = let e = a.run t n in stays_normal e.how e.store e.left

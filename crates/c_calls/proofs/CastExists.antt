@@ -199,16 +199,10 @@ module _ (hs : List Known) where
   after_tells : (names : Names) (r : Option Ty) (k : StmtKind) (c : Context) (s : Span) → Tells hs names c.scopes → Tells hs (names_after names k) (cast_stmt hs r k c s).after.scopes
   after_tells names r (raw_stmt.Declare x t e) c s w = tells_with hs names c.scopes x (length c.types) t w
   after_tells names r (raw_stmt.If' e b (more_of-Stmt a at end_of-Stmt) o) c s w = held_tells names r o (closed c (cast_stmt hs r a (opened c) at).after) w
-  after_tells names r (raw_stmt.Block' n row) c s w = w
-  after_tells names r (raw_stmt.Assign target op e) c s w = w
-  after_tells names r (raw_stmt.Step target up) c s w = w
   after_tells names r (raw_stmt.While' e b (more_of-Stmt a at end_of-Stmt)) c s w = w
   after_tells names r (raw_stmt.DoWhile' b (more_of-Stmt a at end_of-Stmt) e) c s w = w
   after_tells names r (raw_stmt.For' n row e o b (more_of-Stmt a at end_of-Stmt)) c s w = w
-  after_tells names r raw_stmt.Break c s w = w
-  after_tells names r raw_stmt.Continue c s w = w
-  after_tells names r (raw_stmt.Return e) c s w = w
-  after_tells names r raw_stmt.Empty c s w = w
+  after_tells names r k c s w = w
 
   row_tells : (names : Names) (r : Option Ty) {n : Count} (row : Row_of-Stmt n) (c : Context) → Tells hs names c.scopes → Tells hs (names_after_row names row) (cast_stmts hs r row c).after.scopes
   row_tells names r end_of-Stmt c w = w

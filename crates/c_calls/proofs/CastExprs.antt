@@ -85,23 +85,7 @@ helper_is hs x j g e =
 
 stands_right : (o : Binary) (may : Bool) → where_whole (joins_both o) may ≡ may_right may o
 stands_right op.Mul may = refl
-stands_right op.Div may = refl
-stands_right op.Rem may = refl
-stands_right op.Add may = refl
-stands_right op.Sub may = refl
-stands_right op.Shl may = refl
-stands_right op.Shr may = refl
-stands_right op.Lt may = refl
-stands_right op.Gt may = refl
-stands_right op.Le may = refl
-stands_right op.Ge may = refl
-stands_right op.Eq may = refl
-stands_right op.Ne may = refl
-stands_right op.And may = refl
-stands_right op.Xor may = refl
-stands_right op.Or may = refl
-stands_right op.Both may = refl
-stands_right op.Either may = refl
+stands_right o may = refl
 
 type_if : (t : Ty) (e : ProgExpr) (b : Bool) → same_type t e.ty ≡ b → (if b then e else prog_of (typed.Cast true e) t e.at).ty ≡ t
 type_if t e true h = sym (same_is t e.ty h)

@@ -92,17 +92,12 @@ declared_same (t ∷ ts) = ap (λ xs. declared_of t.kind ++ xs) (declared_same t
 mutual
   may_return : (a : StmtKind) → ReturnsWhere true a
   may_return (raw.Block' n row) = row_may_return row
-  may_return (raw.Declare x t e) = tt
-  may_return (raw.Assign target op e) = tt
-  may_return (raw.Step target up) = tt
   may_return (raw.If' e b (more_of-Stmt s at end_of-Stmt) o) = (may_return s, held_may_return o)
   may_return (raw.While' e b (more_of-Stmt s at end_of-Stmt)) = may_return s
   may_return (raw.DoWhile' b (more_of-Stmt s at end_of-Stmt) e) = may_return s
   may_return (raw.For' n row e o b (more_of-Stmt s at end_of-Stmt)) = (row_may_return row, held_may_return o, may_return s)
-  may_return raw.Break = tt
-  may_return raw.Continue = tt
   may_return (raw.Return e) = refl
-  may_return raw.Empty = tt
+  may_return a = tt
 
   held_may_return : (o : Held-StmtKind-If-2) → HeldReturnsWhere true o
   held_may_return raw.None' = tt

@@ -179,17 +179,11 @@ module _ (k : Objects) (hs : List Known) where
     stmt_after names vs (casts.block r c d ss ts s p) g w = kept names c d vs (stmts_grow hs p) w
     stmt_after names vs (casts.declare r c x t s) g w = declares_one k names x t c vs g w
     stmt_after names vs (casts.declare_value r c x t e f s p) g w = declares_one k names x t c vs g w
-    stmt_after names vs (casts.assign r c target to t op e f s p q) g w = w
-    stmt_after names vs (casts.step r c target to t up s p) g w = w
     stmt_after names vs (casts.choice r c d d2 e f a b o p s x y z) g w = held_after names vs z (kept names c d vs (stmt_grows hs y) w)
     stmt_after names vs (casts.while_loop r c d e f a b s x y) g w = kept names c d vs (stmt_grows hs y) w
     stmt_after names vs (casts.do_loop r c d e f a b s x y) g w = kept names c d vs (stmt_grows hs x) w
     stmt_after names vs (casts.for_loop r c d d2 d3 ss ts e f o p a b s x y z v) g w = kept names c d3 vs (extends_trans (stmts_grow hs x) (extends_trans (held_grows hs z) (stmt_grows hs v))) w
-    stmt_after names vs (casts.leaving r c s) g w = w
-    stmt_after names vs (casts.continuing r c s) g w = w
-    stmt_after names vs (casts.return_nothing r c s) g w = w
-    stmt_after names vs (casts.return_value t c e f s p) g w = w
-    stmt_after names vs (casts.empty r c s) g w = w
+    stmt_after names vs _ g w = w
 
     pub stmts_after : {r : Option Ty} {c d : Context} {ss : List Stmt} {ts : List ProgStmt} (names : Names) (vs : List ℕ) → CastsCallStmts hs r c ss ts d → Extends d.types k.vars → Stands k names c.scopes (length c.types) vs
         → Stands k (names_after_row names (hidden-the_row-Stmt-0 ss)) d.scopes (length d.types) (in_scope_after_row vs (hidden-the_row-ProgStmt-0 ts))

@@ -1,6 +1,6 @@
 -- A run is imitated by runs b i j from some i and j on, with as many turns as they need: they end in the same way, in a store that is related to that of the run. Imitations are put together as runs are.
 -- It speaks of any two runs, so it is used both ways between programs with calls and without. The first index is a bound on the turns of calls, the second one on the rounds of a loop.
-use Rattle.std.proofs.Common.{◌≡◌, ℕ, ℤ, zero, suc, ◌+◌, ◌-◌, ◌≤◌, sym, ◌∙◌, ap, subst, arith}
+use Rattle.std.proofs.Common.{◌≡◌, ℕ, ℤ, zero, suc, ◌+◌, ◌-◌, ◌≤◌, sym, ◌∙◌, ap, subst, arith, refl}
 use Rattle.std.specs.Prelude.{Bool, true, false, IsTrue}
 use Rattle.c_meaning.specs.Operators.{is_zero}
 use Rattle.c_meaning.specs.Stores.{Store}
@@ -90,11 +90,11 @@ turn_left n R S M ret inside a b x s t (suc m) le r d =
 abbrev go_of : Run → Ended → Ended
 go_of b z = go_on z.how b z.store z.left
 
-go_first : (n : ℕ) (R S M : Rel) (ret inside : Bool) (h : How) (s1 : Store) (l m : ℕ) (a2 : Run) (b1 b2 : ℕ → ℕ → Run) (t : Store) → m ≤ n → Imitates R M ret inside (ended h s1 l) m b1 t → Sims n R S M ret inside a2 b2 → IsDefined (go_on h a2 s1 l).how
-    → Imitates S M ret inside (go_on h a2 s1 l) m (λ i j. both_runs (b1 i j) (b2 i j)) t
-go_first n R S M ret inside normally s1 l m a2 b1 b2 t le x sim d =
-    let y = sim s1 x.last l (let w = x.less in omega arith) x.after d in
-    let z = a2 s1 l in
+-- a run after one that ended so, where the next goes on after such an end
+in_turn : (next : Run → Ended → Ended) (h : How) → ((b : Run) (s : Store) (l : ℕ) → next b (ended h s l) ≡ b s l) → (n : ℕ) (R S T M N : Rel) (ret inner inside : Bool) (s1 : Store) (l m : ℕ) (a2 : Run) (b1 b2 : ℕ → ℕ → Run) (t : Store) → m ≤ n
+    → (x : Imitates R N ret inner (ended h s1 l) m b1 t) → T s1 x.last → Sims n T S M ret inside a2 b2 → IsDefined (a2 s1 l).how → Imitates S M ret inside (a2 s1 l) m (λ i j s0 n0. next (b2 i j) (b1 i j s0 n0)) t
+in_turn next h goes n R S T M N ret inner inside s1 l m a2 b1 b2 t le x near sim d =
+    let y = sim s1 x.last l (let w = x.less in omega arith) near d in
     record {
       least = x.least + y.least;
       need = x.need + y.need;
@@ -109,12 +109,17 @@ go_first n R S M ret inside normally s1 l m a2 b1 b2 t le x sim d =
           let c3 : x.need + y.need + j ≡ y.need + (x.need + j) = omega arith in
           let i0 = x.least + y.least + i in
           let j0 = x.need + y.need + j in
-          ap (λ n0. both_runs (b1 i0 j0) (b2 i0 j0) t n0) e
-          ∙ ap (go_of (b2 i0 j0)) (ap (λ i1. b1 i1 j0 t (x.turns + (y.turns + l0))) a1 ∙ ap (λ j1. b1 (x.least + (y.least + i)) j1 t (x.turns + (y.turns + l0))) a3 ∙ x.takes (y.least + i) (y.need + j) (y.turns + l0))
+          ap (λ n0. next (b2 i0 j0) (b1 i0 j0 t n0)) e
+          ∙ ap (next (b2 i0 j0)) (ap (λ i1. b1 i1 j0 t (x.turns + (y.turns + l0))) a1 ∙ ap (λ j1. b1 (x.least + (y.least + i)) j1 t (x.turns + (y.turns + l0))) a3 ∙ x.takes (y.least + i) (y.need + j) (y.turns + l0))
+          ∙ goes (b2 i0 j0) x.last (y.turns + l0)
           ∙ ap (λ i1. b2 i1 j0 x.last (y.turns + l0)) c1 ∙ ap (λ j1. b2 (y.least + (x.least + i)) j1 x.last (y.turns + l0)) c3 ∙ y.takes (x.least + i) (x.need + j) l0;
       after = y.after;
       less = let v = x.less in let w = y.less in omega arith;
     }
+
+go_first : (n : ℕ) (R S M : Rel) (ret inside : Bool) (h : How) (s1 : Store) (l m : ℕ) (a2 : Run) (b1 b2 : ℕ → ℕ → Run) (t : Store) → m ≤ n → Imitates R M ret inside (ended h s1 l) m b1 t → Sims n R S M ret inside a2 b2 → IsDefined (go_on h a2 s1 l).how
+    → Imitates S M ret inside (go_on h a2 s1 l) m (λ i j. both_runs (b1 i j) (b2 i j)) t
+go_first n R S M ret inside normally s1 l m a2 b1 b2 t le x sim d = in_turn go_of normally (λ b s0 n0. refl) n R S R M M ret inside inside s1 l m a2 b1 b2 t le x x.after sim d
 go_first n R S M ret inside by_break s1 l m a2 b1 b2 t le x sim d = record { least = x.least; need = x.need; turns = x.turns; last = x.last; within = x.within; takes = λ i j l0. ap (go_of (b2 (x.least + i) (x.need + j))) (x.takes i j l0); after = x.after; less = x.less }
 go_first n R S M ret inside by_continue s1 l m a2 b1 b2 t le x sim d = record { least = x.least; need = x.need; turns = x.turns; last = x.last; within = x.within; takes = λ i j l0. ap (go_of (b2 (x.least + i) (x.need + j))) (x.takes i j l0); after = x.after; less = x.less }
 go_first n R S M ret inside (by_return v) s1 l m a2 b1 b2 t le x sim d = record { least = x.least; need = x.need; turns = x.turns; last = x.last; within = x.within; takes = λ i j l0. ap (go_of (b2 (x.least + i) (x.need + j))) (x.takes i j l0); after = x.after; less = x.less }
@@ -132,29 +137,7 @@ after_of b z = after_body z.how b z.store z.left
 
 goes_again : (n : ℕ) (S M : Rel) (ret inside : Bool) (h : How) (s1 : Store) (l m : ℕ) (a2 : Run) (b1 b2 : ℕ → ℕ → Run) (t : Store) → m ≤ n → GoesOn h → (x : Imitates M M ret true (ended h s1 l) m b1 t) → M s1 x.last → Sims n M S M ret inside a2 b2 → IsDefined (a2 s1 l).how
     → Imitates S M ret inside (a2 s1 l) m (λ i j. looped (b1 i j) (b2 i j)) t
-goes_again n S M ret inside h s1 l m a2 b1 b2 t le go x near sim d =
-    let y = sim s1 x.last l (let w = x.less in omega arith) near d in
-    record {
-      least = x.least + y.least;
-      need = x.need + y.need;
-      turns = x.turns + y.turns;
-      last = y.last;
-      within = let v = x.within in let w = y.within in omega arith;
-      takes = λ i j l0.
-          let e : x.turns + y.turns + l0 ≡ x.turns + (y.turns + l0) = omega arith in
-          let a1 : x.least + y.least + i ≡ x.least + (y.least + i) = omega arith in
-          let a3 : x.need + y.need + j ≡ x.need + (y.need + j) = omega arith in
-          let c1 : x.least + y.least + i ≡ y.least + (x.least + i) = omega arith in
-          let c3 : x.need + y.need + j ≡ y.need + (x.need + j) = omega arith in
-          let i0 = x.least + y.least + i in
-          let j0 = x.need + y.need + j in
-          ap (λ n0. looped (b1 i0 j0) (b2 i0 j0) t n0) e
-          ∙ ap (after_of (b2 i0 j0)) (ap (λ i1. b1 i1 j0 t (x.turns + (y.turns + l0))) a1 ∙ ap (λ j1. b1 (x.least + (y.least + i)) j1 t (x.turns + (y.turns + l0))) a3 ∙ x.takes (y.least + i) (y.need + j) (y.turns + l0))
-          ∙ after_goes h (b2 i0 j0) x.last (y.turns + l0) go
-          ∙ ap (λ i1. b2 i1 j0 x.last (y.turns + l0)) c1 ∙ ap (λ j1. b2 (y.least + (x.least + i)) j1 x.last (y.turns + l0)) c3 ∙ y.takes (x.least + i) (x.need + j) l0;
-      after = y.after;
-      less = let v = x.less in let w = y.less in omega arith;
-    }
+goes_again n S M ret inside h s1 l m a2 b1 b2 t le go x near sim d = in_turn after_of h (λ b s0 n0. after_goes h b s0 n0 go) n M S M M M ret true inside s1 l m a2 b1 b2 t le x near sim d
 
 after_first : (n : ℕ) (S M : Rel) (ret inside : Bool) (h : How) (s1 : Store) (l m : ℕ) (a2 : Run) (b1 b2 : ℕ → ℕ → Run) (t : Store) → m ≤ n → ((s t : Store) → M s t → S s t) → Imitates M M ret true (ended h s1 l) m b1 t → Sims n M S M ret inside a2 b2 → IsDefined (after_body h a2 s1 l).how
     → Imitates S M ret inside (after_body h a2 s1 l) m (λ i j. looped (b1 i j) (b2 i j)) t

@@ -51,14 +51,11 @@ blocks_both f ts us xs ys s t = sets_same f (f + length (ts ++ us)) (all_vars xs
 
 implied_same : (ws : List Writing) (b f : ℕ) (e : ProgExprKind) (s : Span) → is_implied_typed (inline_expr ws b f e s).kind ≡ is_implied e
 unfolding shape-the_row-TypedExpr-0 hidden-the_row-TypedExpr-0 shape-the_row-TypedExpr-1 hidden-the_row-TypedExpr-1 hidden
-implied_same ws b f (tree.Number n) s = refl
-implied_same ws b f (tree.Var v) s = refl
-implied_same ws b f (tree.Element' a n row) s = refl
 implied_same ws b f (tree.Unary' op x (more_of-ProgExpr e t at end_of-ProgExpr)) s = refl
 implied_same ws b f (tree.Cast' implied x (more_of-ProgExpr e t at end_of-ProgExpr)) s = refl
 implied_same ws b f (tree.Binary' op x (more_of-ProgExpr e t at end_of-ProgExpr) x2 (more_of-ProgExpr e2 t2 at2 end_of-ProgExpr)) s = refl
 implied_same ws b f (tree.Choose' x (more_of-ProgExpr e t at end_of-ProgExpr) x2 (more_of-ProgExpr e2 t2 at2 end_of-ProgExpr) x3 (more_of-ProgExpr e3 t3 at3 end_of-ProgExpr)) s = refl
-implied_same ws b f (tree.Call' h n row) s = refl
+implied_same ws b f e s = refl
 
 -- ---- where no call stands, no variable is made
 

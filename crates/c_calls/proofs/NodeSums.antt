@@ -182,18 +182,11 @@ module _ (ws : List Writing) (ns : List ℕ) (counted : AreCounted ws ns) where
 
 -- no statement has 0 nodes
 act_some : (s : TypedStmtKind) → 1 ≤ act_nodes s
-act_some (raw.Block' n row) = omega arith
-act_some (raw.Declare v e) = omega arith
-act_some (raw.Assign target op e) = omega arith
-act_some (raw.Step target up) = omega arith
 act_some (raw.If' e b (more_of-TypedStmt s at end_of-TypedStmt) o) = omega arith
 act_some (raw.While' e b (more_of-TypedStmt s at end_of-TypedStmt)) = omega arith
 act_some (raw.DoWhile' b (more_of-TypedStmt s at end_of-TypedStmt) e) = omega arith
 act_some (raw.For' n row e o b (more_of-TypedStmt s at end_of-TypedStmt)) = omega arith
-act_some raw.Break = omega arith
-act_some raw.Continue = omega arith
-act_some (raw.Return e) = omega arith
-act_some raw.Empty = omega arith
+act_some s = omega arith
 
 behind_some : (blocks own : ℕ) → 1 ≤ blocks → behind_nodes blocks own ≡ 1 + (blocks + own)
 behind_some zero own le = absurd (omega arith)

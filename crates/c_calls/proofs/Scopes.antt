@@ -95,18 +95,11 @@ made_list ws b f [] = []
 made_list ws b f (a ∷ rest) = made ws b f a.kind ++ made_list ws b (f + length (inline_stmt ws b f a.kind a.at).types) rest
 
 pub direct_is : (k : Objects) (cs : List Called) (a : ProgStmtKind) → (prog_kind_act k cs a).declares ≡ direct a
-direct_is k cs (act.Block' n row) = refl
-direct_is k cs (act.Declare v init) = refl
-direct_is k cs (act.Assign target op e) = refl
-direct_is k cs (act.Step target up) = refl
 direct_is k cs (act.If' cond b (more_of-ProgStmt s at end_of-ProgStmt) o) = refl
 direct_is k cs (act.While' cond b (more_of-ProgStmt s at end_of-ProgStmt)) = refl
 direct_is k cs (act.DoWhile' b (more_of-ProgStmt s at end_of-ProgStmt) cond) = refl
 direct_is k cs (act.For' n first cond o b (more_of-ProgStmt s at end_of-ProgStmt)) = refl
-direct_is k cs act.Break = refl
-direct_is k cs act.Continue = refl
-direct_is k cs (act.Return e) = refl
-direct_is k cs act.Empty = refl
+direct_is k cs a = refl
 
 pub direct_row_is : (k : Objects) (cs : List Called) {n : Count} (row : Row_of-ProgStmt n) → declares_of (prog_row_acts k cs row) ≡ direct_row row
 direct_row_is k cs end_of-ProgStmt = refl
@@ -169,18 +162,8 @@ made_list_is K ws b f (a ∷ rest) =
     ap (λ ds. ds ++ declares_of (acts K (inline_list ws b g rest).stmts)) (made_is K ws b f a.kind a.at) ∙ ap (λ ds. made ws b f a.kind ++ ds) (made_list_is K ws b g rest)
 
 pub direct_declared : (a : ProgStmtKind) (w : ℕ) → Contains (direct a) w → Contains (declared_of a) w
-direct_declared (act.Block' n row) w c = no_member w c
 direct_declared (act.Declare v init) w c = c
-direct_declared (act.Assign target op e) w c = no_member w c
-direct_declared (act.Step target up) w c = no_member w c
-direct_declared (act.If' cond b s o) w c = no_member w c
-direct_declared (act.While' cond b s) w c = no_member w c
-direct_declared (act.DoWhile' b s cond) w c = no_member w c
-direct_declared (act.For' n first cond o b s) w c = no_member w c
-direct_declared act.Break w c = no_member w c
-direct_declared act.Continue w c = no_member w c
-direct_declared (act.Return e) w c = no_member w c
-direct_declared act.Empty w c = no_member w c
+direct_declared a w c = no_member w c
 
 both_members : (xs ys xs2 ys2 : List ℕ) (w : ℕ) → (Contains xs w → Contains xs2 w) → (Contains ys w → Contains ys2 w) → Contains (xs ++ ys) w → Contains (xs2 ++ ys2) w
 both_members xs ys xs2 ys2 w f g c = by_cases (Contains-append_cases xs ys w c)
@@ -256,18 +239,8 @@ lists_one n b v vs before s lt fresh = record {
 
 module _ (k : Objects) (hs : List Signature) (r : Option (Option Ty)) (ws : List Writing) (b : ℕ) where
   pub direct_lists : (f : ℕ) (a : ProgStmtKind) (inside : Bool) (vs : List ℕ) → ((w : ℕ) → Contains vs w → w < length k.vars) → LawfulCallStmt k hs r inside a → IsScoped a vs → Lists (length k.vars) b vs (direct a) (made ws b f a)
-  direct_lists f (act.Block' n row) inside vs s l sc = lists_none (length k.vars) b vs s
   direct_lists f (act.Declare v init) inside vs s l sc = lists_one (length k.vars) b v vs (inline_option ws b f init).before s (declared_below k hs v init l) sc.0
-  direct_lists f (act.Assign target op e) inside vs s l sc = lists_none (length k.vars) b vs s
-  direct_lists f (act.Step target up) inside vs s l sc = lists_none (length k.vars) b vs s
-  direct_lists f (act.If' cond x a o) inside vs s l sc = lists_none (length k.vars) b vs s
-  direct_lists f (act.While' cond x a) inside vs s l sc = lists_none (length k.vars) b vs s
-  direct_lists f (act.DoWhile' x a cond) inside vs s l sc = lists_none (length k.vars) b vs s
-  direct_lists f (act.For' n first cond o x a) inside vs s l sc = lists_none (length k.vars) b vs s
-  direct_lists f act.Break inside vs s l sc = lists_none (length k.vars) b vs s
-  direct_lists f act.Continue inside vs s l sc = lists_none (length k.vars) b vs s
-  direct_lists f (act.Return e) inside vs s l sc = lists_none (length k.vars) b vs s
-  direct_lists f act.Empty inside vs s l sc = lists_none (length k.vars) b vs s
+  direct_lists f a inside vs s l sc = lists_none (length k.vars) b vs s
 
   pub small_after : (a : ProgStmtKind) (inside : Bool) (vs : List ℕ) → ((w : ℕ) → Contains vs w → w < length k.vars) → LawfulCallStmt k hs r inside a → (w : ℕ) → Contains (in_scope_after vs a) w → w < length k.vars
   small_after (act.Block' n row) inside vs s l w c = s w c
@@ -288,18 +261,8 @@ module _ (k : Objects) (hs : List Signature) (r : Option (Option Ty)) (ws : List
   small_after act.Empty inside vs s l w c = s w c
 
 pub scope_grows : (a : ProgStmtKind) (vs : List ℕ) (w : ℕ) → Contains vs w → Contains (in_scope_after vs a) w
-scope_grows (act.Block' n row) vs w c = c
 scope_grows (act.Declare v init) vs w c = there v vs w c
-scope_grows (act.Assign target op e) vs w c = c
-scope_grows (act.Step target up) vs w c = c
-scope_grows (act.If' cond x a o) vs w c = c
-scope_grows (act.While' cond x a) vs w c = c
-scope_grows (act.DoWhile' x a cond) vs w c = c
-scope_grows (act.For' n first cond o x a) vs w c = c
-scope_grows act.Break vs w c = c
-scope_grows act.Continue vs w c = c
-scope_grows (act.Return e) vs w c = c
-scope_grows act.Empty vs w c = c
+scope_grows a vs w c = c
 
 pub scope_grows_row : {n : Count} (row : Row_of-ProgStmt n) (vs : List ℕ) (w : ℕ) → Contains vs w → Contains (in_scope_after_row vs row) w
 scope_grows_row end_of-ProgStmt vs w c = c

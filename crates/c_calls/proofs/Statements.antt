@@ -29,7 +29,7 @@ use Rattle.c_meaning.specs.Operators.{is_zero}
 use Rattle.c_meaning.specs.Stores.{Store, Objects, unset_vars, set_var, read_var, read_element, place}
 use Rattle.c_meaning.specs.Expressions.{Meaning, always, meaning}
 use Rattle.c_meaning.specs.Lawful.{IsObject}
-use Rattle.c_meaning.specs.Runs.{How, normally, by_break, by_continue, by_return, undefined, out_of_turns, Run, ends, turn, go_on, both_runs, with_value, run_of, looped, loop}
+use Rattle.c_meaning.specs.Runs.{How, normally, by_break, by_continue, by_return, Run, ends, turn, go_on, both_runs, with_value, run_of, looped, loop}
 use Rattle.c_meaning.specs.Statements.{Act, Place, of_var, of_element, object_type, object_place, element_place, read_place, write_place, storing, assignment, joined_in, step_operator, in_order, block, nothing, part, run_if_any, condition, act as typed_act, kind_act, meant_if_any, declared_run}
 use Rattle.c_meaning.proofs.TreeEquations.{stmt_block, stmt_declare, stmt_assign, stmt_stepping, stmt_if, stmt_while, stmt_do_while, stmt_for, stmt_break, stmt_continue, stmt_return, stmt_empty}
 use Rattle.c_calls.specs.Meanings.{prog_meaning, prog_if_any, prog_kind_act, prog_act, prog_act_if_any, prog_row_acts}
@@ -106,11 +106,7 @@ with_scope n b vs vs2 us ts l s a = record { small = s; few = l.few; apart = a; 
 
 go_same : (h : How) (a b : Run) (s : Store) (n : ℕ) → ((s : Store) (n : ℕ) → a s n ≡ b s n) → go_on h a s n ≡ go_on h b s n
 go_same normally a b s n e = e s n
-go_same by_break a b s n e = refl
-go_same by_continue a b s n e = refl
-go_same (by_return v) a b s n e = refl
-go_same (undefined at) a b s n e = refl
-go_same out_of_turns a b s n e = refl
+go_same h a b s n e = refl
 
 pub last_alone : (K : Objects) (before : List TypedStmt) (kind : TypedStmtKind) (at : Span) (s : Store) (n : ℕ) → in_order (acts K (before ++ act_at kind at ∷ [])) s n ≡ both_runs (in_order (acts K before)) (kind_act K kind).run s n
 last_alone K before kind at s n =

@@ -55,13 +55,11 @@ take_fit (t ∷ ts) (x ∷ xs) e = let h = take_fit ts xs (tail x t (take (lengt
 result_defined : (t : Option Ty) (at : Span) (h : How) (r : Option ℤ) → IsResult t (kernel_end t at h) r → IsDefined h
 result_defined None at normally r e = tt
 result_defined (Some t) at normally r e = tt
-result_defined t at by_break r e = tt
-result_defined t at by_continue r e = tt
-result_defined t at (by_return v) r e = tt
 result_defined None at (undefined p) r e = e
 result_defined (Some t) at (undefined p) r e = e
 result_defined None at out_of_turns r e = e
 result_defined (Some t) at out_of_turns r e = e
+result_defined t at h r e = tt
 
 transfer : (t : Option Ty) (at : Span) (out : List (List ℤ)) (r : Option ℤ) (a : Ended) (b : ℕ → Ended) (bound turns l : ℕ) (last : Store) → out ≡ a.store.arrays → IsResult t (kernel_end t at a.how) r → a.store.arrays ≡ last.arrays → b bound ≡ ended a.how last l → l + turns ≡ bound
     → EndsBy t (λ n. with_kernel_end t at (b n)) out r turns
