@@ -23,11 +23,13 @@ use Rattle.c_meaning.specs.Statements.{Act, Place, Placed, no_place, placed, mea
 use Rattle.c_meaning.specs.Counts.{tally, only, Counted, counted, run_of, acts_of, counts_in_order, expr_price, assignment_price}
 use Rattle.c_meaning.specs.Lawful.{LawfulExpr, LawfulStmt, IsObject}
 use Rattle.c_meaning.specs.Ranges.{ValuesFit, StatementsFit}
+use Rattle.c_meaning.proofs.ValueParts.{value_one, value_two}
+use Rattle.c_meaning.proofs.CountGrowth.{counted_kind}
 use Rattle.c_norm.specs.Expand.{Out, decided_by, expand_expr, rest_of, expand_all, set_all}
 use Rattle.c_norm.specs.Forms.{normal_at, object_kind, new_value, target_with, compound, assignment_form}
 use Rattle.c_norm.proofs.Takes.{Takes, takes_turn}
-use Rattle.c_norm.proofs.Expands.{Expands, Has, value_one}
-use Rattle.c_norm.proofs.Built.{counted_all, counted_kind, built, assign_built, declared_by, Silent, declared_append, silent_append, counted_append}
+use Rattle.c_norm.proofs.Expands.{Expands, Has}
+use Rattle.c_norm.proofs.Built.{counted_all, built, assign_built, declared_by, Silent, declared_append, silent_append, counted_append}
 use Rattle.c_norm.proofs.Meanings.{wide, Room, room_left, room_right}
 use Rattle.c_norm.proofs.Expanded.{expanded}
 use Rattle.c_norm.proofs.Targets.{costs, expr_bounded, costs_bounded, target_price_is, all_expanded, set_expanded, old_has, new_has, new_price, no_logical}
@@ -44,12 +46,9 @@ pub record Joined (at : Span) (f : ℤ → ℤ → Option ℤ) (o : Option ℤ) 
   pub right : v ≡ value y w
   pub gives : f old y ≡ Some z
 
-value_two_of : (x y : ℤ) (t u : ℕ) → value x t ≡ value y u → t ≡ u
-value_two_of x y t u e = cc
-
 joined_value : (at : Span) (f : ℤ → ℤ → Option ℤ) (old y : ℤ) (t : ℕ) (o : Option ℤ) (z : ℤ) (w : ℕ) → f old y ≡ o → after_turns at t o ≡ value z w → Joined at f (Some old) (value y t) z w
 joined_value at f old y t None z w e i = absurd (cc)
-joined_value at f old y t (Some x) z w e i = record { old = old; y = y; old_is = refl; right = ap (value y) (value_two_of x z t w i); gives = e ∙ ap Some (value_one x z t w i) }
+joined_value at f old y t (Some x) z w e i = record { old = old; y = y; old_is = refl; right = ap (value y) (value_two x z t w i); gives = e ∙ ap Some (value_one x z t w i) }
 
 joined : (at : Span) (f : ℤ → ℤ → Option ℤ) (o : Option ℤ) (v : Val) (z : ℤ) (w : ℕ) → joined_with at f o v ≡ value z w → Joined at f o v z w
 joined at f None v z w e = absurd (cc)

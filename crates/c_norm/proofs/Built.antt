@@ -18,19 +18,18 @@ use Rattle.c_meaning.specs.Types.{conv}
 use Rattle.c_meaning.specs.Operators.{is_zero}
 use Rattle.c_meaning.specs.Stores.{Store, Objects, set_var, unset_vars}
 use Rattle.c_meaning.specs.Expressions.{value, Meaning, meaning}
-use Rattle.c_meaning.specs.Runs.{How, normally, Run, ends, turn, taking, with_val, branch, loop, looped, both_runs}
+use Rattle.c_meaning.specs.Runs.{How, normally, taking, branch}
 use Rattle.c_meaning.specs.Runs as runs
 use Rattle.c_meaning.specs.Statements.{Act, Meant, meant_target, meant_if_any, in_order, block, part, of_var, storing, stored, assigned, stmt_step, a_block, a_declaration, an_assignment, an_if, a_while, a_do, a_for, a_break, a_continue, a_return, an_empty}
 use Rattle.c_meaning.specs.Normals.{normal_kind_act, normal_act}
 use Rattle.c_meaning.specs.Counts.{tally, only, Counted, counted, kind_counts, counts_step, run_of, acts_of, counts_in_order, counts_branch, counts_of, counts_entering, counts_part, expr_price}
 use Rattle.c_meaning.proofs.TreeEquations.{normal_block, normal_declare, normal_assign, normal_if, normal_while, normal_do_while, normal_for, normal_break, normal_continue, normal_return, normal_empty}
 use Rattle.c_meaning.proofs.PartsOfNumbers.{counts_block, counts_declaration, counts_assignment, counts_choice, counts_while_loop, counts_do_loop, counts_for_loop, counts_leaving, counts_continuing, counts_returning, counts_empty}
+use Rattle.c_meaning.proofs.RunParts.{taken}
+use Rattle.c_meaning.proofs.CountGrowth.{counted_kind}
 use Rattle.c_norm.specs.Expand.{setting, side, choice}
-use Rattle.c_norm.proofs.Takes.{Takes, TakesAll, taken, takes_turn, takes_none, takes_branch}
+use Rattle.c_norm.proofs.Takes.{Takes, TakesAll, takes_turn, takes_none, takes_branch}
 use Rattle.c_norm.proofs.Expands.{Sets, Chooses, pick}
-
-abbrev pub counted_kind : Objects → NormalStmtKind → Counted
-counted_kind k x = record { act = normal_kind_act k x; counts = kind_counts k x }
 
 abbrev pub counted_all : Objects → List NormalStmt → List Counted
 counted_all k ss = map (counted k) ss

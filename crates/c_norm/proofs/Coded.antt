@@ -1,9 +1,8 @@
 -- Expansions, call by call: what each call made joins to what the whole makes.
-use Rattle.std.proofs.Common.{◌≡◌, ℕ, ◌+◌, ◌≤◌, ◌<◌, List, [], ◌∷◌, ◌++◌, length, get_or, drop, refl, sym, ◌∙◌, ap, subst, arith, append_assoc, append-nil, length-append, add-one, length-drop}
+use Rattle.std.proofs.Common.{◌≡◌, ℕ, ◌+◌, ◌≤◌, ◌<◌, List, [], ◌∷◌, ◌++◌, length, get_or, drop, refl, sym, ◌∙◌, ap, subst, arith, append_assoc, append-nil, length-append}
 use Rattle.std.specs.Prelude.{sum_by, Bool, true, false, ◌&&◌, ◌==◌, Option, Some, None}
-use Rattle.std.proofs.Math.Seq.{drop-cons}
-use Rattle.std.proofs.lemmas.List.{nil_from_length}
-use Rattle.std.proofs.lemmas.Bool.{ne_eqb}
+use Rattle.std.proofs.lemmas.List.{drop_all}
+use Rattle.std.proofs.lemmas.Bool.{ne_eqb, eqb-true}
 use Rattle.std.proofs.lemmas.List.Sums.{sum_by-drop_more}
 use Rattle.el_base.specs.declared.span.Span.{Span}
 use Rattle.el_base.specs.declared.ty.Ty.{Ty}
@@ -17,6 +16,7 @@ use Rattle.c_ast.specs.declared.normal.NormalStmt.{NormalStmt}
 use Rattle.c_ast.specs.Casts.{of_type}
 use Rattle.c_ast.specs.Nodes.{typed_expr_nodes, typed_exprs_nodes}
 use Rattle.c_meaning.specs.Sizes.{reads}
+use Rattle.c_meaning.proofs.ListParts.{longer, behind, from_place}
 use Rattle.c_norm.specs.Expand.{Out, Outs, whole, setting, side, choice, decided_by, logical, joined_out, logical_out, binary_out, choose_out, expand, expand_expr, rest_of, expand_all, set_all}
 use Rattle.c_norm.specs.Code.{HasRoom, IsOut, AreOut, IsExpanded, GoesOn, set_out}
 use Rattle.c_norm.specs.declared.expand.Rest.{Rest}
@@ -34,9 +34,6 @@ few_exprs f es = let h = (all_sized es f).types in omega arith
 pub few_set : (f : ℕ) (es : List TypedExpr) → length (set_all f es).types ≤ typed_exprs_nodes es
 few_set f es = let h = (set_sized es f).blocks in omega arith
 
-pub longer : (vars vars2 ts : List Ty) → vars2 ≡ vars ++ ts → length vars2 ≡ length vars + length ts
-longer vars vars2 ts e = ap length e ∙ length-append vars ts
-
 pub few_expanded : (e : TypedExpr) (b : List NormalStmt) (v : List Ty) (b2 : List NormalStmt) (v2 : List Ty) (x : TypedExpr) (p : Bool) → IsExpanded e b v b2 v2 x p → length v2 + 1 ≤ length v + typed_expr_nodes e
 few_expanded e b v b2 v2 x p h = omega (arith, longer v v2 (expand_expr (length v) e).types h.out.made, few_made (length v) e)
 
@@ -47,9 +44,6 @@ pub few_set_all : (es : List TypedExpr) (b : List NormalStmt) (v : List Ty) (b2 
 few_set_all es b v b2 v2 xs h = omega (arith, longer v v2 (set_all (length v) es).types h.made, few_set (length v) es)
 
 -- ---- one thing after another
-
-pub behind : {A : Type 0} (xs ys zs us ws : List A) → ys ≡ xs ++ us → zs ≡ ys ++ ws → zs ≡ xs ++ (us ++ ws)
-behind xs ys zs us ws p q = q ∙ ap (λ l. l ++ ws) p ∙ append_assoc xs us ws
 
 as_out : (o o2 : Out) (ty : Ty) (at : Span) (b : List NormalStmt) (v : List Ty) (b2 : List NormalStmt) (v2 : List Ty) (x : TypedExpr) → o ≡ o2 → IsOut o2 ty at b v b2 v2 x → IsOut o ty at b v b2 v2 x
 as_out o o2 ty at b v b2 v2 x e p = subst (λ z. IsOut z ty at b v b2 v2 x) (sym e) p
@@ -134,9 +128,6 @@ joined_arm e op x y x1 y1 p1 p2 q b0 v0 b1 v1 b2 v2 is none h i qe =
       plain = qe ∙ both_zero p1 p2 (reads x.kind) (reads y.kind) h.plain i.plain ∙ reads_binary e op x y is;
     }
 
-zero_of : (n : ℕ) → (n == 0) ≡ true → n ≡ 0
-zero_of n h = grind (arith)
-
 -- what is left of an expression that reads no array
 pub plain_out : (e : TypedExpr) (f : ℕ) (b : List NormalStmt) (v : List Ty) (b2 : List NormalStmt) (v2 : List Ty) (x : TypedExpr) → reads e.kind ≡ 0 → IsOut (expand_expr f e) e.ty e.at b v b2 v2 x → IsOut (whole e.kind) e.ty e.at b v b2 v2 x
 plain_out e f b v b2 v2 x h p = subst (λ z. IsOut z e.ty e.at b v b2 v2 x) (plain_whole f e h) p
@@ -145,8 +136,8 @@ pub plain_arm : (e : TypedExpr) (op : Binary) (x y x1 y1 : TypedExpr) (p1 p2 : B
     → e.kind ≡ expr.Binary op x y → IsExpanded x b0 v0 b1 v1 x1 p1 → IsExpanded y i0 v1 i1 v2 y1 p2 → (p1 && p2) ≡ true → IsExpanded e b0 v0 b1 v2 (of_type (expr.Binary op x1 y1) e.ty e.at) true
 plain_arm e op x y x1 y1 p1 p2 b0 v0 b1 v1 i0 i1 v2 is h i qt =
     let f = length v0 in
-    let sum = zero_of (reads x.kind + reads y.kind) (sym (both_zero p1 p2 (reads x.kind) (reads y.kind) h.plain i.plain) ∙ qt) in
-    let none : reads e.kind ≡ 0 = zero_of (reads e.kind) (sym (reads_binary e op x y is) ∙ ap (λ n. n == 0) sum) in
+    let sum = eqb-true (reads x.kind + reads y.kind) 0 (sym (both_zero p1 p2 (reads x.kind) (reads y.kind) h.plain i.plain) ∙ qt) in
+    let none : reads e.kind ≡ 0 = eqb-true (reads e.kind) 0 (sym (reads_binary e op x y is) ∙ ap (λ n. n == 0) sum) in
     let m = plain_out x f b0 v0 b1 v1 x1 (omega (arith, sum)) h.out in
     let n = plain_out y (length v1) i0 v1 i1 v2 y1 (omega (arith, sum)) i.out in
     record {
@@ -191,7 +182,7 @@ out_false : (plain : Bool) (x y : TypedExpr) (v : ℕ) (o o2 o3 : Out) (t t2 t3 
 out_false plain x y v o o2 o3 t t2 t3 ty at at2 at3 s h = ap (λ i. choose_out i x y v o t at o2 t2 at2 o3 t3 at3 ty s) h
 
 no_sides : (e x y z : TypedExpr) → reads e.kind ≡ 0 → e.kind ≡ expr.Choose x y z → reads y.kind + reads z.kind ≡ 0
-no_sides e x y z t is = omega (arith, zero_of (reads x.kind + reads y.kind + reads z.kind) (reads_choice e x y z is ∙ ap (λ n. n == 0) t))
+no_sides e x y z t is = omega (arith, eqb-true (reads x.kind + reads y.kind + reads z.kind) 0 (reads_choice e x y z is ∙ ap (λ n. n == 0) t))
 
 true_false : false ≡ true → ⊥
 true_false e = cc
@@ -206,7 +197,7 @@ kept_arm e x y z x1 y1 z1 p1 p2 p3 b0 v0 b1 v1 i0 i1 v2 j0 j1 v3 is h i j qt =
     let k = g + length o2.types in
     let o3 = expand_expr k z in
     let test : (reads y.kind + reads z.kind == 0) ≡ true = sym (both_zero p2 p3 (reads y.kind) (reads z.kind) i.plain j.plain) ∙ qt in
-    let sum = zero_of (reads y.kind + reads z.kind) test in
+    let sum = eqb-true (reads y.kind + reads z.kind) 0 test in
     let m = plain_out y (length v1) i0 v1 i1 v2 y1 (omega (arith, sum)) i.out in
     let n = plain_out z (length v2) j0 v2 j1 v3 z1 (omega (arith, sum)) j.out in
     let e1 = expand_choice f e x y z is ∙ out_true (reads y.kind + reads z.kind == 0) y z (k + length o3.types) o o2 o3 x.ty y.ty z.ty e.ty x.at y.at z.at e.at test in
@@ -256,13 +247,6 @@ choice_arm e x y z x1 y1 z1 p1 p2 p3 b0 v0 b1 v1 i0 i1 v2 j0 j1 v3 v4 b2 w is h 
 
 -- ---- several expressions, one by one
 
-pub past : {A : Type 0} (xs : List A) (i : ℕ) → length xs ≤ i → drop i xs ≡ []
-past xs i h = nil_from_length (drop i xs) (omega (arith, length-drop i xs))
-
--- the items from a place on
-pub from_place : {A : Type 0} (xs : List A) (i : ℕ) (x : A) → i < length xs → x ≡ get_or xs i x → drop i xs ≡ x ∷ drop (i + 1) xs
-from_place xs i x h e = drop-cons xs i x h ∙ ap (λ n. get_or xs i x ∷ drop n xs) (sym (add-one i)) ∙ ap (λ y. y ∷ drop (i + 1) xs) (sym e)
-
 pub goes_first : (all : Outs) (b : List NormalStmt) (v : List Ty) (xs : List TypedExpr) → xs ≡ [] → GoesOn all all b v b v xs
 goes_first all b v xs e = record { rest = ap (λ l. l ++ all.exprs) e; set = refl; made = refl }
 
@@ -280,7 +264,7 @@ goes_next o r all ty at b0 v0 b v b2 v2 xs xs2 x g p e = record {
 -- nothing is left of what is made for the items from a place on
 pub goes_end : (made : List TypedExpr → Outs) (es : List TypedExpr) (i : ℕ) (all : Outs) (b0 : List NormalStmt) (v0 : List Ty) (b : List NormalStmt) (v : List Ty) (xs : List TypedExpr) → made [] ≡ record { before = []; exprs = []; types = [] } → length es ≤ i → GoesOn (made (drop i es)) all b0 v0 b v xs → AreOut all b0 v0 b v xs
 goes_end made es i all b0 v0 b v xs none h g =
-    let e = ap made (past es i h) ∙ none in
+    let e = ap made (drop_all i es h) ∙ none in
     record {
       rest = sym (append-nil xs) ∙ ap (λ (o : Outs). xs ++ o.exprs) (sym e) ∙ g.rest;
       set = sym (append-nil b) ∙ ap (λ (o : Outs). b ++ o.before) (sym e) ∙ g.set;

@@ -53,44 +53,12 @@ implied_root false = 0
 
 pub operator_at_most : (op : Binary) → operator_cost op ≤ 13
 operator_at_most Mul = omega arith
-operator_at_most Div = omega arith
-operator_at_most Rem = omega arith
-operator_at_most Add = omega arith
-operator_at_most Sub = omega arith
-operator_at_most Shl = omega arith
-operator_at_most Shr = omega arith
-operator_at_most Lt = omega arith
-operator_at_most Gt = omega arith
-operator_at_most Le = omega arith
-operator_at_most Ge = omega arith
-operator_at_most Eq = omega arith
-operator_at_most Ne = omega arith
-operator_at_most And = omega arith
-operator_at_most Xor = omega arith
-operator_at_most Or = omega arith
-operator_at_most Both = omega arith
-operator_at_most Either = omega arith
+operator_at_most op = omega arith
 
 -- an operator that stays costs its price
 pub operator_kept : (op : Binary) → 1 + operator_price op ≤ operator_cost op
 operator_kept Mul = omega arith
-operator_kept Div = omega arith
-operator_kept Rem = omega arith
-operator_kept Add = omega arith
-operator_kept Sub = omega arith
-operator_kept Shl = omega arith
-operator_kept Shr = omega arith
-operator_kept Lt = omega arith
-operator_kept Gt = omega arith
-operator_kept Le = omega arith
-operator_kept Ge = omega arith
-operator_kept Eq = omega arith
-operator_kept Ne = omega arith
-operator_kept And = omega arith
-operator_kept Xor = omega arith
-operator_kept Or = omega arith
-operator_kept Both = omega arith
-operator_kept Either = omega arith
+operator_kept op = omega arith
 
 pub root_at_most : (b : Bool) → implied_root b ≤ 1
 root_at_most true = omega arith

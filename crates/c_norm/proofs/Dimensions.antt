@@ -2,6 +2,7 @@
 use Rattle.std.proofs.Common.{◌≡◌, ℕ, zero, suc, ◌≤◌, List, [], ◌∷◌, length, Some, sym, subst, arith}
 use Rattle.std.specs.Prelude.{All, slice_get}
 use Rattle.std.proofs.lemmas.List.Elements.{All-head, All-tail, All-append, All-cons, All-nil}
+use Rattle.std.proofs.lemmas.Option.{same_Some}
 use Rattle.el_base.specs.declared.ty.Ty.{Ty}
 use Rattle.c_ast.specs.Casts.{Parameters, with_param, with_params}
 use Rattle.c_ast.specs.declared.tree.Param.{Param}
@@ -32,12 +33,9 @@ with_params_flat : (ps : List Param) (q : Parameters) → All (λ p. AreDimensio
 with_params_flat [] q d h = h
 with_params_flat (p ∷ ps) q d h = with_params_flat ps (with_param p p.dims q) (All-tail (λ p. AreDimensions p.dims) p ps d) (with_param_flat p p.dims q (All-head (λ p. AreDimensions p.dims) p ps d) h)
 
-some_is : {A : Type 0} (a b : A) → Some a ≡ Some b → a ≡ b
-some_is a b e = cc
-
 flat_at : (xs : List ArrayOf) (a : ℕ) (x : ArrayOf) → All IsFlat xs → slice_get xs a ≡ Some x → length x.dims ≤ 3
 flat_at [] a x h e = absurd (cc)
-flat_at (y ∷ ys) zero x h e = let i : y ≡ x = some_is y x e in subst (λ z. length z.dims ≤ 3) i (All-head IsFlat y ys h).0
+flat_at (y ∷ ys) zero x h e = let i : y ≡ x = same_Some y x e in subst (λ z. length z.dims ≤ 3) i (All-head IsFlat y ys h).0
 flat_at (y ∷ ys) (suc a) x h e = flat_at ys a x (All-tail IsFlat y ys h) e
 
 pub few_dimensions : (ps : List Param) (k : Objects) → LawfulHeader ps k → FewDimensions k

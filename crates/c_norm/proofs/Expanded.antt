@@ -23,8 +23,9 @@ use Rattle.c_meaning.specs.Ranges.{ValuesFit}
 use Rattle.c_meaning.specs.Sizes.{reads}
 use Rattle.c_meaning.proofs.TreeEquations.{expr_number, expr_var, expr_element, expr_unary, expr_cast, expr_binary, expr_choose}
 use Rattle.c_meaning.proofs.PartsOfNumbers.{price_number, price_variable, price_element, price_unary, price_cast, price_binary, price_choice}
+use Rattle.c_meaning.proofs.ValueParts.{value_one}
 use Rattle.c_norm.specs.Expand.{Out, Outs, whole, setting, constant, truth_of, side, choice, decided_by, joined_out, logical_out, binary_out, choose_out, expand, expand_row}
-use Rattle.c_norm.proofs.Expands.{Expands, Fills, Same, value_one, whole_expands, one_expands, two_expand, choose_expands, set_fills, choice_expands}
+use Rattle.c_norm.proofs.Expands.{Expands, Fills, Same, whole_expands, one_expands, two_expand, choose_expands, set_fills, choice_expands}
 use Rattle.c_norm.proofs.Stores.{Matches}
 use Rattle.c_norm.proofs.Rows.{ExpandsAll, none_expand, more_expand, element_expands}
 use Rattle.c_norm.proofs.Built.{counted_all, Silent, silent_append, silent_one, counted_append, setting_sets, choice_silent, choice_chooses}

@@ -1,16 +1,18 @@
 -- Expansions of expressions, over meanings and runs: what is set first, and what is left, which keeps its value while the variables that were set stay.
-use Rattle.std.proofs.Common.{◌≡◌, ℕ, ◌+◌, ◌*◌, ◌<◌, ◌≤◌, List, [], ◌∷◌, ◌++◌, length, Option, Some, None, refl, sym, ◌∙◌, ap, arith}
+use Rattle.std.proofs.Common.{◌≡◌, ℕ, ◌+◌, ◌*◌, ◌<◌, ◌≤◌, List, [], ◌∷◌, ◌++◌, length, Option, Some, ◌∙◌, ap, arith}
 use Rattle.std.specs.Prelude.{Bool, true, false, ℤ}
 use Rattle.el_base.specs.declared.span.Span.{Span}
 use Rattle.el_base.specs.declared.ty.Ty.{Ty}
 use Rattle.c_meaning.specs.Types.{conv}
 use Rattle.c_meaning.specs.Operators.{is_zero}
 use Rattle.c_meaning.specs.Stores.{Store, Objects, set_var, read_var}
-use Rattle.c_meaning.specs.Expressions.{Val, undefined_value, value, Meaning, after_turns, on_one, on_two, chosen, one_of, later}
+use Rattle.c_meaning.specs.Expressions.{value, Meaning, after_turns, on_one, on_two, chosen, one_of, later}
 use Rattle.c_meaning.specs.Runs.{normally}
 use Rattle.c_meaning.specs.Counts.{Counted, run_of}
+use Rattle.c_meaning.proofs.ValueParts.{operand, operands, choosing, sides_same}
+use Rattle.c_meaning.proofs.StoreParts.{Below, below_same, below_then}
 use Rattle.c_norm.proofs.Takes.{Takes, TakesAll, takes_none, takes_one, takes_append}
-use Rattle.c_norm.proofs.Stores.{Below, Matches, same_below, below_then, set_below, read_set, matches_below}
+use Rattle.c_norm.proofs.Stores.{Matches, set_below, read_set, matches_below}
 
 -- a meaning has a value, in whatever turns
 pub record Has (m : Meaning) (s : Store) (x : ℤ) : Type 0 where
@@ -57,58 +59,6 @@ pick false a b = b
 abbrev pub Chooses : Meaning → ℕ → List Counted → List Counted → Counted → Type 0
 Chooses cond p yes_parts no_parts a = (s t : Store) (w : ℤ) (u m j q : ℕ) → cond s ≡ value w u → TakesAll (pick (is_zero w) no_parts yes_parts) s normally t m j q → Takes (run_of a) a.counts s normally t (1 + (0 + (1 + (u + (1 + m))))) (0 + (2 + j)) (0 + (p + 2 + q))
 
-pub value_one : (x y : ℤ) (t u : ℕ) → value x t ≡ value y u → x ≡ y
-value_one x y t u e = cc
-
-pub value_two : (x y : ℤ) (t u : ℕ) → value x t ≡ value y u → t ≡ u
-value_two x y t u e = cc
-
-after_is : (at : Span) (n m : ℕ) (o : Option ℤ) (z : ℤ) → after_turns at n o ≡ value z m → (o ≡ Some z) × (m ≡ n)
-after_is at n m None z e = absurd (cc)
-after_is at n m (Some x) z e = (ap Some (value_one x z n m e), sym (value_two x z n m e))
-
--- the operand of what has a value, and the operands
-pub record Operand (at : Span) (op : ℤ → Option ℤ) (a : Val) (z : ℤ) (u : ℕ) : Type 0 where
-  pub x : ℤ
-  pub is : a ≡ value x u
-  pub gives : op x ≡ Some z
-
-pub operand : (at : Span) (op : ℤ → Option ℤ) (a : Val) (z : ℤ) (u : ℕ) → on_one at op a ≡ value z u → Operand at op a z u
-operand at op (undefined_value p) z u e = absurd (cc)
-operand at op (value x t) z u e = let h = after_is at t u (op x) z e in record { x = x; is = ap (value x) (sym h.1); gives = h.0 }
-
-pub record Operands (at : Span) (op : ℤ → ℤ → Option ℤ) (a b : Val) (z : ℤ) (u : ℕ) : Type 0 where
-  pub x : ℤ
-  pub y : ℤ
-  pub t : ℕ
-  pub r : ℕ
-  pub left : a ≡ value x t
-  pub right : b ≡ value y r
-  pub both : op x y ≡ Some z
-  pub all : u ≡ t + r
-
-operands : (at : Span) (op : ℤ → ℤ → Option ℤ) (a b : Val) (z : ℤ) (u : ℕ) → on_two at op a b ≡ value z u → Operands at op a b z u
-operands at op (undefined_value p) b z u e = absurd (cc)
-operands at op (value x t) (undefined_value p) z u e = absurd (cc)
-operands at op (value x t) (value y r) z u e = let h = after_is at (t + r) u (op x y) z e in record { x = x; y = y; t = t; r = r; left = refl; right = refl; both = h.0; all = h.1 }
-
--- the condition of a choice that has a value, and the side that it leads to
-pub record Chosen (c : Val) (a b : Meaning) (s : Store) (z : ℤ) (u : ℕ) : Type 0 where
-  pub w : ℤ
-  pub t : ℕ
-  pub r : ℕ
-  pub cond : c ≡ value w t
-  pub side : one_of (is_zero w) b a s ≡ value z r
-  pub all : u ≡ t + 1 + r
-
-later_is : (n m : ℕ) (v : Val) (z : ℤ) → later n v ≡ value z m → (r : ℕ) × (v ≡ value z r) × (m ≡ n + r)
-later_is n m (undefined_value p) z e = absurd (cc)
-later_is n m (value x r) z e = (r, ap (λ y. value y r) (value_one x z (n + r) m e), sym (value_two x z (n + r) m e))
-
-pub choosing : (c : Val) (a b : Meaning) (s : Store) (z : ℤ) (u : ℕ) → chosen c a b s ≡ value z u → Chosen c a b s z u
-choosing (undefined_value p) a b s z u e = absurd (cc)
-choosing (value w t) a b s z u e = let h = later_is (t + 1) u (one_of (is_zero w) b a s) z e in record { w = w; t = t; r = h.0; cond = refl; side = h.1; all = h.2 }
-
 module _ (k : Objects) (all : ℕ) where
   -- An expression of the kernel by what is set first and what is left of it. Only variables from f to g are set.
   pub record Expands (f g : ℕ) (m : Meaning) (parts : List Counted) (left : Meaning) (most : ℕ) : Type 0 where
@@ -136,7 +86,7 @@ module _ (k : Objects) (all : ℕ) where
       jumps = 0;
       price = 0;
       takes = takes_none t;
-      kept = same_below f t;
+      kept = below_same f t;
       stays = λ r b. record { turns = u; is = same s r (matches_below k all f s t r own h b) ∙ e };
       few = omega arith;
       cheap = omega arith;
@@ -189,10 +139,6 @@ module _ (k : Objects) (all : ℕ) where
         };
   }
 
-  sides_same : (z : Bool) (a b a2 b2 : Meaning) (s r : Store) → a2 r ≡ a s → b2 r ≡ b s → one_of z b2 a2 r ≡ one_of z b a s
-  sides_same true a b a2 b2 s r x y = y
-  sides_same false a b a2 b2 s r x y = x
-
   -- a choice whose sides stay whole
   pub choose_expands : (f g p : ℕ) (c c2 a a2 b b2 : Meaning) (parts : List Counted) → Expands f g c parts c2 p → Same a a2 → Same b b2 → Expands f g (λ s. chosen (c s) a b s) parts (λ s. chosen (c2 s) a2 b2 s) p
   choose_expands f g p c c2 a a2 b b2 parts ec sa sb = record {
@@ -226,7 +172,7 @@ module _ (k : Objects) (all : ℕ) where
     more = omega (arith, ea.more);
     does = λ s r x u h e.
         let d = ea.does s r x u h e in
-        let y = d.stays d.last (same_below g d.last) in
+        let y = d.stays d.last (below_same g d.last) in
         let set_it = takes_one a d.last (set_var v (conv t x) d.last) normally (1 + y.turns) 0 q (sets d.last x y.turns y.is) in
         let is = same s r x u h e in
         record {
@@ -246,7 +192,7 @@ module _ (k : Objects) (all : ℕ) where
   side_filled : (z : Bool) (f g v p q : ℕ) (a b : Meaning) (yes_parts no_parts : List Counted) → f ≤ g → Fills f v a yes_parts p → Fills g v b no_parts q → (s t : Store) (x : ℤ) (u : ℕ) → Matches k all s t → one_of z b a s ≡ value x u → Filled f v (pick z no_parts yes_parts) t x u (p + q)
   side_filled true f g v p q a b yes_parts no_parts le fa fb s t x u h e =
       let d = fb.does s t x u h e in
-      record { last = d.last; turns = d.turns; jumps = d.jumps; price = d.price; takes = d.takes; kept = below_then f g g t d.last d.last le le d.kept (same_below g d.last); filled = d.filled; few = d.few; cheap = omega (arith, d.cheap) }
+      record { last = d.last; turns = d.turns; jumps = d.jumps; price = d.price; takes = d.takes; kept = below_then f g g t d.last d.last le le d.kept (below_same g d.last); filled = d.filled; few = d.few; cheap = omega (arith, d.cheap) }
   side_filled false f g v p q a b yes_parts no_parts le fa fb s t x u h e =
       let d = fa.does s t x u h e in
       record { last = d.last; turns = d.turns; jumps = d.jumps; price = d.price; takes = d.takes; kept = d.kept; filled = d.filled; few = d.few; cheap = omega (arith, d.cheap) }
@@ -260,7 +206,7 @@ module _ (k : Objects) (all : ℕ) where
     does = λ s t z u same e.
         let o = choosing (c s) a b s z u e in
         let d = ec.does s t o.w o.t same o.cond in
-        let y = d.stays d.last (same_below g d.last) in
+        let y = d.stays d.last (below_same g d.last) in
         let near = matches_below k all f s t d.last ec.own same d.kept in
         let i = side_filled (is_zero o.w) g h v q r a b yes_parts no_parts le fa fb s d.last z o.r near o.side in
         let run = takes_one x d.last i.last normally (1 + (0 + (1 + (y.turns + (1 + i.turns))))) (0 + (2 + i.jumps)) (0 + (pc + 2 + i.price)) (ch d.last i.last o.w y.turns i.turns i.jumps i.price y.is i.takes) in

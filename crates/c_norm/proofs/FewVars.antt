@@ -3,17 +3,15 @@ use Rattle.std.proofs.Common.{◌≡◌, ℕ, zero, suc, ◌+◌, ◌-◌, ◌*�
 use Rattle.std.specs.Prelude.{slice_index_or}
 use Rattle.std.specs.List.{Contains}
 use Rattle.std.proofs.lemmas.Bool.{cases_lt}
-use Rattle.std.proofs.lemmas.List.Sums.{sum_by-cons}
-use Rattle.el_base.specs.declared.ty.Ty.{Ty}
 use Rattle.el_base.specs.Limits.{max_nodes}
-use Rattle.c_ast.specs.declared.tree.Param.{Param}
 use Rattle.c_ast.specs.declared.typed.Typed.{Typed}
-use Rattle.c_ast.specs.Nodes.{param_nodes, params_nodes, typed_nodes}
+use Rattle.c_ast.specs.Nodes.{typed_nodes}
 use Rattle.c_meaning.specs.declared.profile.Profile.TheVariants.{Plain}
-use Rattle.c_meaning.specs.Stores.{scalar_type, scalar_types}
+use Rattle.c_meaning.specs.Stores.{scalar_types}
 use Rattle.c_meaning.specs.Statements.{objects}
 use Rattle.c_meaning.specs.Lawful.{all_vars, Lawful}
 use Rattle.c_meaning.specs.Sizes.{Sizes, form_sizes}
+use Rattle.c_meaning.proofs.FewVars.{scalar_few}
 use Rattle.c_norm.specs.Kernels.{body_form, normal_form}
 use Rattle.c_norm.specs.Shares.{NormalSizes, SmallSizes}
 use Rattle.c_norm.proofs.Dimensions.{few_dimensions}
@@ -54,21 +52,13 @@ rest_listed (suc n) s used each =
 
 -- ---- kernels
 
-scalar_one : (ds : List ℕ) (t : Ty) → length (scalar_type ds t) ≤ 1
-scalar_one [] t = omega arith
-scalar_one (d ∷ ds) t = omega arith
-
-scalars_few : (ps : List Param) → length (scalar_types ps) ≤ params_nodes ps
-scalars_few [] = omega arith
-scalars_few (p ∷ ps) = omega (arith, length-append (scalar_type p.dims p.ty) (scalar_types ps), scalar_one p.dims p.ty, sum_by-cons param_nodes p ps, scalars_few ps)
-
 pub form_small : (k : Typed) → Lawful k → NormalSizes (typed_nodes k) (length (normal_form k).vars) (form_sizes (normal_form k))
 form_small k lawful =
     let o = objects Plain k in
     let h = body_sized o (few_dimensions k.params o (lawful.header Plain)) k.result k.body (length k.vars) (lawful.statements Plain) in
     let own = rest_listed (length k.vars) (length (scalar_types k.params)) (all_vars k.body) lawful.used in
     let listed = under-length (length k.vars) (all_vars k.body) in
-    let scalars = scalars_few k.params in
+    let scalars = scalar_few k.params in
     let l = length-append k.vars (body_form k).types in
     record {
       few_blocks = let b = h.blocks in omega arith;

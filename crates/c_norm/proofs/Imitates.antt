@@ -5,12 +5,14 @@ use Rattle.c_meaning.specs.Operators.{is_zero}
 use Rattle.c_meaning.specs.Stores.{Store, Objects, unset_vars}
 use Rattle.c_meaning.specs.Expressions.{Val, undefined_value, value, Meaning}
 use Rattle.c_meaning.specs.Profiles.{IsDefined}
-use Rattle.c_meaning.specs.Runs.{How, normally, by_break, by_continue, by_return, undefined, out_of_turns, Ended, Run, ends, taking, turn, go_on, both_runs, with_val, with_value, branch, after_body, looped, rounds, loop}
+use Rattle.c_meaning.specs.Runs.{How, normally, by_break, by_continue, by_return, undefined, out_of_turns, Ended, Run, ends, turn, go_on, both_runs, with_val, branch, after_body, looped, rounds, loop}
 use Rattle.c_meaning.specs.Runs as runs
 use Rattle.c_meaning.specs.Statements.{in_order, nothing, part}
 use Rattle.c_meaning.specs.Counts.{Tally, tally, both_tallies, Counting, counting, only, counting_after, Counted, run_of, counts_both, counts_in_order, acts_of, counts_of, counts_branch, where_looped, counts_part, counts_looped, step_run, step_counts, counts_rounds, counts_loop}
-use Rattle.c_norm.proofs.Takes.{Takes, takes_end, takes_turn, takes_more, takes_both, takes_stop, takes_branch, takes_one, run_append, counts_append}
-use Rattle.c_norm.proofs.Stores.{Matches, same_below, unset_matches, matches_below}
+use Rattle.c_meaning.proofs.StoreParts.{below_same}
+use Rattle.c_meaning.proofs.RunParts.{GoesOn, after_goes, had, go_end, after_end}
+use Rattle.c_norm.proofs.Takes.{Takes, takes_end, takes_turn, takes_more, takes_both, takes_stop, takes_branch, takes_one, run_append, counts_append, tally_none}
+use Rattle.c_norm.proofs.Stores.{Matches, unset_matches, matches_below}
 use Rattle.c_norm.proofs.Expands.{Expands}
 
 -- ---- loops: what goes on after a body
@@ -24,30 +26,10 @@ looped_of d z = where_looped z.how d z.store z.left
 abbrev pub counts_after_body : Run → Counting → Counting → Counting
 counts_after_body a c d s n = let e = a s n in both_tallies (c s n) (where_looped e.how d e.store e.left)
 
--- the body ended in a way after which the loop goes on
-abbrev pub GoesOn : How → Type 0
-GoesOn normally = Unit {0}
-GoesOn by_break = ⊥
-GoesOn by_continue = Unit {0}
-GoesOn (by_return v) = ⊥
-GoesOn (undefined at) = ⊥
-GoesOn out_of_turns = ⊥
-
-after_goes : (h : How) (b : Run) (s : Store) (n : ℕ) → GoesOn h → after_body h b s n ≡ b s n
-after_goes normally b s n g = refl
-after_goes by_break b s n g = absurd g
-after_goes by_continue b s n g = refl
-after_goes (by_return v) b s n g = absurd g
-after_goes (undefined at) b s n g = absurd g
-after_goes out_of_turns b s n g = absurd g
-
 counts_goes : (h : How) (d : Counting) (s : Store) (n : ℕ) → GoesOn h → where_looped h d s n ≡ d s n
 counts_goes normally d s n g = refl
-counts_goes by_break d s n g = absurd g
 counts_goes by_continue d s n g = refl
-counts_goes (by_return v) d s n g = absurd g
-counts_goes (undefined at) d s n g = absurd g
-counts_goes out_of_turns d s n g = absurd g
+counts_goes h d s n g = absurd g
 
 takes_again : (a b : Run) (c d : Counting) (s t u : Store) (g h : How) (m n j l p q : ℕ) → GoesOn g → Takes a c s g t m j p → Takes b d t h u n l q → Takes (looped a b) (counts_after_body a c d) s h u (m + n) (j + l) (p + q)
 takes_again a b c d s t u g h m n j l p q go x y = record {
@@ -57,9 +39,6 @@ takes_again a b c d s t u g h m n j l p q go x y = record {
       ap (λ i. counts_after_body a c d s i) e ∙ ap (λ z. both_tallies (c s (m + (n + r))) (looped_of d z)) (x.runs (n + r)) ∙ ap (λ z. both_tallies (c s (m + (n + r))) z) (counts_goes g d t (n + r) go)
       ∙ ap (λ z. both_tallies z (d t (n + r))) (x.counted (n + r)) ∙ ap (λ z. both_tallies (tally j p) z) (y.counted r);
 }
-
-tally_none : (j p : ℕ) → both_tallies (tally j p) (tally 0 0) ≡ tally j p
-tally_none j p = let e : j + 0 ≡ j = omega arith in let f : p + 0 ≡ p = omega arith in ap (λ i. tally i (p + 0)) e ∙ ap (λ i. tally j i) f
 
 takes_left : (a b : Run) (c d : Counting) (s t : Store) (g h : How) (m j p : ℕ) → ((n : ℕ) → after_body g b t n ≡ record { how = h; store = t; left = n }) → ((n : ℕ) → where_looped g d t n ≡ tally 0 0) → Takes a c s g t m j p → Takes (looped a b) (counts_after_body a c d) s h t m j p
 takes_left a b c d s t g h m j p e f x = record {
@@ -134,14 +113,6 @@ module _ (k : Objects) (all price : ℕ) (le : length k.vars ≤ all) where
   go_first (undefined at) s1 l m a2 b1 b2 c1 c2 t i sim end = absurd end
   go_first out_of_turns s1 l m a2 b1 b2 c1 c2 t i sim end = absurd end
 
-  go_end : (h : How) (a2 : Run) (s : Store) (l : ℕ) → IsDefined (go_on h a2 s l).how → IsDefined h
-  go_end normally a2 s l e = tt
-  go_end by_break a2 s l e = tt
-  go_end by_continue a2 s l e = tt
-  go_end (by_return v) a2 s l e = tt
-  go_end (undefined at) a2 s l e = e
-  go_end out_of_turns a2 s l e = e
-
   pub both_sims : (a1 a2 : Run) (b1 b2 : ℕ → Run) (c1 c2 : ℕ → Counting) → Sims 0 0 a1 b1 c1 → Sims 0 0 a2 b2 c2 → Sims 0 0 (both_runs a1 a2) (λ i. both_runs (b1 i) (b2 i)) (λ i. counts_both (b1 i) (c1 i) (c2 i))
   both_sims a1 a2 b1 b2 c1 c2 x y s t m same end =
       let e = a1 s m in go_first e.how e.store e.left m a2 b1 b2 c1 c2 t (x s t m same (go_end e.how a2 e.store e.left end)) y end
@@ -190,17 +161,6 @@ module _ (k : Objects) (all price : ℕ) (le : length k.vars ≤ all) where
 
   -- ---- choices
 
-  -- what ends after u turns had them
-  pub record Had (u : ℕ) (run : Run) (s : Store) (m : ℕ) : Type 0 where
-    pub rest : ℕ
-    pub sum : m ≡ u + rest
-    pub is : taking u run s m ≡ run s rest
-
-  pub had : (u : ℕ) (run : Run) (s : Store) (m : ℕ) → IsDefined (taking u run s m).how → Had u run s m
-  had zero run s m e = record { rest = m; sum = omega arith; is = refl }
-  had (suc u) run s zero e = absurd e
-  had (suc u) run s (suc m) e = let h = had u run s m e in record { rest = h.rest; sum = let a = h.sum in omega arith; is = h.is }
-
   side_sims : (z : Bool) (yes_run no_run : Run) (yes_form no_form : ℕ → Run) (cy cn : ℕ → Counting) → Sims 0 0 yes_run yes_form cy → Sims 0 0 no_run no_form cn → Sims 0 0 (runs.run_of z no_run yes_run) (λ i. runs.run_of z (no_form i) (yes_form i)) (λ i. counts_of z (cn i) (cy i))
   side_sims true yes_run no_run yes_form no_form cy cn x y s t m same end = let q = y s t m same end in record { least = q.least; last = q.last; turns = q.turns; jumps = q.jumps; cost = q.cost; within = q.within; takes = λ i. let z = q.takes i in record { runs = z.runs; counted = z.counted }; same = q.same; few = q.few; cheap = q.cheap }
   side_sims false yes_run no_run yes_form no_form cy cn x y s t m same end = let q = x s t m same end in record { least = q.least; last = q.last; turns = q.turns; jumps = q.jumps; cost = q.cost; within = q.within; takes = λ i. let z = q.takes i in record { runs = z.runs; counted = z.counted }; same = q.same; few = q.few; cheap = q.cheap }
@@ -218,7 +178,7 @@ module _ (k : Objects) (all price : ℕ) (le : length k.vars ≤ all) where
   value_sims p m m2 before yes_run no_run yes_form no_form cy cn cond x y (undefined_value at) s t n is same end = absurd end
   value_sims p m m2 before yes_run no_run yes_form no_form cy cn cond x y (value w u) s t n is same end =
       let d = cond.does.does s t w u same is in
-      let there = d.stays d.last (same_below cond.to d.last) in
+      let there = d.stays d.last (below_same cond.to d.last) in
       let near = matches_below k all cond.from s t d.last cond.does.own same d.kept in
       let h = had u (runs.run_of (is_zero w) no_run yes_run) s n end in
       let e = runs.run_of (is_zero w) no_run yes_run s h.rest in
@@ -257,14 +217,6 @@ module _ (k : Objects) (all price : ℕ) (le : length k.vars ≤ all) where
   after_first (by_return v) s1 l m a2 b1 b2 c1 c2 t i sim end = record { least = i.least; last = i.last; turns = i.turns; jumps = i.jumps; cost = i.cost; within = i.within; takes = λ q. takes_left (b1 (i.least + q)) (b2 (i.least + q)) (c1 (i.least + q)) (c2 (i.least + q)) t i.last (by_return v) (by_return v) i.turns i.jumps i.cost (λ n. refl) (λ n. refl) (i.takes q); same = i.same; few = i.few; cheap = i.cheap }
   after_first (undefined at) s1 l m a2 b1 b2 c1 c2 t i sim end = absurd end
   after_first out_of_turns s1 l m a2 b1 b2 c1 c2 t i sim end = absurd end
-
-  after_end : (h : How) (a2 : Run) (s : Store) (l : ℕ) → IsDefined (after_body h a2 s l).how → IsDefined h
-  after_end normally a2 s l e = tt
-  after_end by_break a2 s l e = tt
-  after_end by_continue a2 s l e = tt
-  after_end (by_return v) a2 s l e = tt
-  after_end (undefined at) a2 s l e = e
-  after_end out_of_turns a2 s l e = e
 
   pub looped_sims : (a1 a2 : Run) (b1 b2 : ℕ → Run) (c1 c2 : ℕ → Counting) → Sims 0 0 a1 b1 c1 → Sims 0 0 a2 b2 c2 → Sims 0 0 (looped a1 a2) (λ i. looped (b1 i) (b2 i)) (λ i. counts_after_body (b1 i) (c1 i) (c2 i))
   looped_sims a1 a2 b1 b2 c1 c2 x y s t m same end =

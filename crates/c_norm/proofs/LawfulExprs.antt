@@ -1,20 +1,20 @@
 -- The expansion of a lawful expression is lawful: what is set before it, what is left of it, and each variable that is made is set.
-use Rattle.std.proofs.Common.{◌≡◌, ℕ, ◌+◌, ◌<◌, ◌≤◌, List, [], ◌∷◌, ◌++◌, length, Option, Some, None, refl, sym, ◌∙◌, ap, subst, inl, inr, arith, length-append, append_assoc, rules}
+use Rattle.std.proofs.Common.{◌≡◌, ℕ, ◌+◌, ◌≤◌, List, [], ◌∷◌, ◌++◌, length, Option, Some, None, refl, sym, ◌∙◌, ap, subst, inl, inr, arith, length-append, append_assoc, rules}
 use Rattle.std.specs.Prelude.{Bool, true, false, pos, All, Contains, slice_get, ◌==◌}
 use Rattle.std.proofs.lemmas.Bool.{cases_lt, eqb-true}
-use Rattle.std.proofs.lemmas.List.Elements.{All-nil, All-cons, All-head, All-tail, All-append, Contains-append_left, Contains-append_right, Contains-append_cases}
+use Rattle.std.proofs.lemmas.List.Elements.{All-nil, All-cons, All-head, All-tail, All-append, Contains-append_left, Contains-append_right}
 use Rattle.std.proofs.lemmas.Option.{slice_get-get_or}
 use denote.Hole.Carrier.{hidden}
 use mathlib.Core.Former.{Count}
 use Rattle.el_base.specs.declared.span.Span.{Span}
 use Rattle.el_base.specs.declared.ty.Ty.{Ty}
-use Rattle.el_base.specs.declared.ty.Ty.TheVariants.{I8, U8, I16, U16, I32, U32, I64, U64}
+use Rattle.el_base.specs.declared.ty.Ty.TheVariants.{I8, I32}
 use Rattle.el_base.specs.Numbers.{IsInRange}
 use Rattle.c_ast.specs.Casts.{of_type}
 use Rattle.c_ast.specs.ResultTypes.{joint_type}
 use Rattle.c_ast.specs.declared.tree.Unary.{Unary}
 use Rattle.c_ast.specs.declared.tree.Binary.{Binary}
-use Rattle.c_ast.specs.declared.tree.Binary.TheVariants.{Mul, Div, Rem, Add, Sub, Shl, Shr, Lt, Gt, Le, Ge, Eq, Ne, And, Xor, Or, Both, Either}
+use Rattle.c_ast.specs.declared.tree.Binary.TheVariants.{Both, Either}
 use Rattle.c_ast.specs.declared.typed.Object.TheVariants as object
 use Rattle.c_ast.specs.declared.typed.TypedTarget.{TypedTarget}
 use Rattle.c_ast.specs.declared.typed.TypedExpr.{TypedExpr}
@@ -30,13 +30,13 @@ use Rattle.c_meaning.specs.Sizes.{reads}
 use Rattle.c_meaning.specs.PartLaws.{LawfulNormalAt, QuietAt}
 use Rattle.c_meaning.proofs.PartsOfLawful.{lawful_number, lawful_variable, lawful_element, lawful_unary, lawful_cast, lawful_binary, lawful_choice, none_number, outside_number, outside_variable, outside_element, outside_unary, outside_cast, outside_binary, outside_choice, normal_block, normal_assignment, normal_choice, quiet_block, quiet_assignment, quiet_choice}
 use Rattle.c_meaning.proofs.PartsOfNumbers.{normal_vars_block, normal_vars_assignment, normal_vars_choice}
+use Rattle.c_meaning.proofs.StoreParts.{Keeps, Sets, sets_none, sets_then, sets_to}
+use Rattle.c_meaning.proofs.RangeOperators.{zero_in}
+use Rattle.c_meaning.proofs.ReadLemmas.{sides_none}
 use Rattle.c_norm.specs.Expand.{Out, Outs, whole, setting, constant, truth_of, side, choice, decided_by, joined_out, logical_out, binary_out, choose_out, expand, expand_row, expand_expr, rest_of, expand_all, set_all}
 use Rattle.c_norm.proofs.Meanings.{wide, decides, Room, room_left, room_right}
 
 -- ---- lists of variables
-
-abbrev pub Keeps : List ℕ → List ℕ → Type 0
-Keeps old new = (v : ℕ) → Contains old v → Contains new v
 
 pub keeps_left : (a b c : List ℕ) → Keeps a b → Keeps a (b ++ c)
 keeps_left a b c h v i = Contains-append_left b c v (h v i)
@@ -44,24 +44,8 @@ keeps_left a b c h v i = Contains-append_left b c v (h v i)
 pub keeps_right : (a b c : List ℕ) → Keeps a c → Keeps a (b ++ c)
 keeps_right a b c h v i = Contains-append_right b c v (h v i)
 
-pub keeps_append : (a b c d : List ℕ) → Keeps a c → Keeps b d → Keeps (a ++ b) (c ++ d)
-keeps_append a b c d h i v j = elim (Contains-append_cases a b v j) [ inl l ↦ Contains-append_left c d v (h v l) | inr l ↦ Contains-append_right c d v (i v l) ]
-
 pub keeps_to : (a b c : List ℕ) → b ≡ c → Keeps a b → Keeps a c
 keeps_to a b c e h v i = subst (λ l. Contains l v) e (h v i)
-
--- all from f on, and below g
-abbrev pub Sets : ℕ → ℕ → List ℕ → Type 0
-Sets f g xs = (v : ℕ) → f ≤ v → v < g → Contains xs v
-
-pub sets_nothing : (f g : ℕ) (xs : List ℕ) → g ≤ f → Sets f g xs
-sets_nothing f g xs le v a b = absurd (omega arith)
-
-pub sets_append : (f g h : ℕ) (xs ys : List ℕ) → Sets f g xs → Sets g h ys → Sets f h (xs ++ ys)
-sets_append f g h xs ys s t v a b = elim (cases_lt v g) [ inl l ↦ Contains-append_left xs ys v (s v a l) | inr l ↦ Contains-append_right xs ys v (t v l b) ]
-
-pub sets_to : (f g h : ℕ) (xs : List ℕ) → h ≤ g → Sets f g xs → Sets f h xs
-sets_to f g h xs le s v a b = s v a (omega arith)
 
 -- what is set in one statement more
 pub normal_vars_append : (xs ys : List NormalStmt) → all_normal_vars (xs ++ ys) ≡ all_normal_vars xs ++ all_normal_vars ys
@@ -70,7 +54,7 @@ normal_vars_append (x ∷ xs) ys = ap (λ l. normal_vars_of x.kind ++ l) (normal
 
 pub sets_more : (f g h : ℕ) (xs : List NormalStmt) (x : NormalStmt) → Sets f g (all_normal_vars xs) → Sets g h (normal_vars_of x.kind) → Sets f h (all_normal_vars (xs ++ x ∷ []))
 sets_more f g h xs x s t v a b =
-    subst (λ l. Contains l v) (sym (normal_vars_append xs (x ∷ []))) (sets_append f g h (all_normal_vars xs) (normal_vars_of x.kind ++ []) s (λ u c d. Contains-append_left (normal_vars_of x.kind) [] u (t u c d)) v a b)
+    subst (λ l. Contains l v) (sym (normal_vars_append xs (x ∷ []))) (sets_then f g h (all_normal_vars xs) (normal_vars_of x.kind ++ []) s (λ u c d. Contains-append_left (normal_vars_of x.kind) [] u (t u c d)) v a b)
 
 -- ---- roots that are implied casts
 
@@ -111,10 +95,6 @@ mutual
   none_read (tree.Choose' b (more_of-TypedExpr e t at end_of-TypedExpr) b2 (more_of-TypedExpr e2 t2 at2 end_of-TypedExpr) b3 (more_of-TypedExpr e3 t3 at3 end_of-TypedExpr)) h =
       (none_read e (omega arith), none_read e2 (omega arith), none_read e3 (omega arith))
 
-sides_none : (b : Bool) (e e2 : TypedExprKind) → ReadsNone e → ReadsNone e2 → SidesReadNone b e e2
-sides_none true e e2 h i = (h, i)
-sides_none false e e2 h i = tt
-
 mutual
   none_outside : (e : TypedExprKind) → ReadsNone e → ReadsOutside e
   none_outside (tree.Number n) h = tt
@@ -127,44 +107,13 @@ mutual
 
 -- an operator that evaluates both operands has no sides
 pub sides_free : (op : Binary) (e e2 : TypedExprKind) → decided_by op ≡ None → SidesReadNone (both_or_either op) e e2
-sides_free Mul e e2 d = tt
-sides_free Div e e2 d = tt
-sides_free Rem e e2 d = tt
-sides_free Add e e2 d = tt
-sides_free Sub e e2 d = tt
-sides_free Shl e e2 d = tt
-sides_free Shr e e2 d = tt
-sides_free Lt e e2 d = tt
-sides_free Gt e e2 d = tt
-sides_free Le e e2 d = tt
-sides_free Ge e e2 d = tt
-sides_free Eq e e2 d = tt
-sides_free Ne e e2 d = tt
-sides_free And e e2 d = tt
-sides_free Xor e e2 d = tt
-sides_free Or e e2 d = tt
 sides_free Both e e2 d = absurd (cc)
 sides_free Either e e2 d = absurd (cc)
-
-pub zero_in : (t : Ty) → IsInRange t (pos 0)
-zero_in I8 = record { above = search rules; below = search rules }
-zero_in U8 = record { above = search rules; below = search rules }
-zero_in I16 = record { above = search rules; below = search rules }
-zero_in U16 = record { above = search rules; below = search rules }
-zero_in I32 = record { above = search rules; below = search rules }
-zero_in U32 = record { above = search rules; below = search rules }
-zero_in I64 = record { above = search rules; below = search rules }
-zero_in U64 = record { above = search rules; below = search rules }
+sides_free op e e2 d = tt
 
 pub one_in : (t : Ty) → IsInRange t (pos 1)
 one_in I8 = record { above = search rules; below = search rules }
-one_in U8 = record { above = search rules; below = search rules }
-one_in I16 = record { above = search rules; below = search rules }
-one_in U16 = record { above = search rules; below = search rules }
-one_in I32 = record { above = search rules; below = search rules }
-one_in U32 = record { above = search rules; below = search rules }
-one_in I64 = record { above = search rules; below = search rules }
-one_in U64 = record { above = search rules; below = search rules }
+one_in t = record { above = search rules; below = search rules }
 
 module _ (k : Objects) (ws : List Ty) (own : (v : ℕ) (t : Ty) → IsVar k v t → slice_get ws v ≡ Some t) where
   abbrev k2 : Objects
@@ -249,7 +198,7 @@ module _ (k : Objects) (ws : List Ty) (own : (v : ℕ) (t : Ty) → IsVar k v t 
     pub long : length o.exprs ≡ count
 
   whole_lawful : (e : TypedExprKind) (ty : Ty) (f : ℕ) → LawfulKind k e ty → ReadsOutside e → LawfulOut f e ty (whole e)
-  whole_lawful e ty f h r = record { settles = All-nil Settles; sets = sets_nothing f (f + 0) [] (omega arith); lawful = kind_widened e ty h; outside = r; implied = λ q. q }
+  whole_lawful e ty f h r = record { settles = All-nil Settles; sets = sets_none f (f + 0) [] (omega arith); lawful = kind_widened e ty h; outside = r; implied = λ q. q }
 
   constant_lawful : (m : ℕ) (s : Span) → IsInRange I32 (pos m) → LawfulNormalExpr k2 (constant m s)
   constant_lawful m s h = ((lawful_number m k2 I32).1 h, (outside_number m).1 tt)
@@ -273,7 +222,7 @@ module _ (k : Objects) (ws : List Ty) (own : (v : ℕ) (t : Ty) → IsVar k v t 
   pub append_sets : (f : ℕ) (ts us : List Ty) (xs ys : List NormalStmt) → Sets f (f + length ts) (all_normal_vars xs) → Sets (f + length ts) (f + length ts + length us) (all_normal_vars ys) → Sets f (f + length (ts ++ us)) (all_normal_vars (xs ++ ys))
   append_sets f ts us xs ys s t v a b =
       let l = length-append ts us in
-      subst (λ z. Contains z v) (sym (normal_vars_append xs ys)) (sets_append f (f + length ts) (f + length ts + length us) (all_normal_vars xs) (all_normal_vars ys) s t v a (omega arith))
+      subst (λ z. Contains z v) (sym (normal_vars_append xs ys)) (sets_then f (f + length ts) (f + length ts + length us) (all_normal_vars xs) (all_normal_vars ys) s t v a (omega arith))
 
   joined_lawful : (op : Binary) (f : ℕ) (e e2 kind : TypedExprKind) (t t2 ty : Ty) (at at2 : Span) (o o2 : Out) → decided_by op ≡ None → AreOperands op t t2 ty → LawfulOut f e t o → LawfulOut (f + length o.types) e2 t2 o2 → LawfulOut f kind ty (joined_out op o t at o2 t2 at2)
   joined_lawful op f e e2 kind t t2 ty at at2 o o2 d ops h i =
@@ -388,7 +337,7 @@ module _ (k : Objects) (ws : List Ty) (own : (v : ℕ) (t : Ty) → IsVar k v t 
   }
 
   no_outs : (f : ℕ) → LawfulOuts f 0 (record { before = []; exprs = []; types = [] })
-  no_outs f = record { settles = All-nil Settles; sets = sets_nothing f (f + 0) [] (omega arith); lawful = All-nil (LawfulExpr k2); outside = All-nil (λ e. ReadsOutside e.kind); long = refl }
+  no_outs f = record { settles = All-nil Settles; sets = sets_none f (f + 0) [] (omega arith); lawful = All-nil (LawfulExpr k2); outside = All-nil (λ e. ReadsOutside e.kind); long = refl }
 
   more_outs : (f count : ℕ) (e : TypedExprKind) (t : Ty) (at : Span) (o : Out) (r : Outs) → LawfulOut f e t o → LawfulOuts (f + length o.types) count r → LawfulOuts f (1 + count) (record { before = o.before ++ r.before; exprs = of_type o.kind t at ∷ r.exprs; types = o.types ++ r.types })
   more_outs f count e t at o r h i = record {
@@ -464,8 +413,8 @@ module _ (k : Objects) (ws : List Ty) (own : (v : ℕ) (t : Ty) → IsVar k v t 
       let var = of_type (expr.Var v) e.ty e.at in
       let is = first_var v e.ty r.types tail in
       let l = length-append o.types (e.ty ∷ r.types) in
-      let rest_sets : Sets v (v + 1 + length r.types) (normal_vars_of st.kind ++ all_normal_vars r.before) = sets_append v (v + 1) (v + 1 + length r.types) (normal_vars_of st.kind) (all_normal_vars r.before) (setting_sets v (rest_of o e) e.at) y.sets in
-      let all_sets : Sets f (v + 1 + length r.types) (all_normal_vars o.before ++ (normal_vars_of st.kind ++ all_normal_vars r.before)) = sets_append f v (v + 1 + length r.types) (all_normal_vars o.before) (normal_vars_of st.kind ++ all_normal_vars r.before) x.sets rest_sets in
+      let rest_sets : Sets v (v + 1 + length r.types) (normal_vars_of st.kind ++ all_normal_vars r.before) = sets_then v (v + 1) (v + 1 + length r.types) (normal_vars_of st.kind) (all_normal_vars r.before) (setting_sets v (rest_of o e) e.at) y.sets in
+      let all_sets : Sets f (v + 1 + length r.types) (all_normal_vars o.before ++ (normal_vars_of st.kind ++ all_normal_vars r.before)) = sets_then f v (v + 1 + length r.types) (all_normal_vars o.before) (normal_vars_of st.kind ++ all_normal_vars r.before) x.sets rest_sets in
       record {
         settles = append_settles o.before (st ∷ r.before) x.settles (All-cons Settles st r.before (setting_settles v (rest_of o e) e.at is (x.lawful, x.outside)) y.settles);
         sets = λ u a b. subst (λ z. Contains z u) (sym (normal_vars_append o.before (st ∷ r.before))) (all_sets u a (omega arith));

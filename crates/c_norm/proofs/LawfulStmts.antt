@@ -1,5 +1,5 @@
 -- The statements that are made for a lawful one are lawful, no condition stands after one that returns, and each variable that is made or was set is set.
-use Rattle.std.proofs.Common.{◌≡◌, ℕ, zero, suc, ◌+◌, ◌≤◌, List, [], ◌∷◌, ◌++◌, length, Option, Some, None, refl, sym, ◌∙◌, ap, subst, arith, length-append}
+use Rattle.std.proofs.Common.{◌≡◌, ℕ, ◌+◌, ◌≤◌, List, [], ◌∷◌, ◌++◌, length, Option, Some, None, refl, sym, ◌∙◌, subst, arith, length-append}
 use Rattle.std.specs.Prelude.{Bool, true, false, All, Contains, slice_get}
 use Rattle.std.proofs.lemmas.List.Elements.{All-nil, All-cons, All-head, All-tail, All-append, Contains-append_left}
 use Rattle.std.proofs.lemmas.Option.{get_or_from_slice_get}
@@ -10,8 +10,7 @@ use Rattle.el_base.specs.declared.ty.Ty.TheVariants.{I32}
 use Rattle.c_ast.specs.Casts.{of_type, left_type, right_type}
 use Rattle.c_ast.specs.ResultTypes.{joint_type, result_type}
 use Rattle.c_ast.specs.declared.tree.Binary.{Binary}
-use Rattle.c_ast.specs.declared.tree.Binary.TheVariants.{Mul, Div, Rem, Add, Sub, Shl, Shr, Lt, Gt, Le, Ge, Eq, Ne, And, Xor, Or, Both, Either}
-use Rattle.c_ast.specs.declared.typed.ArrayOf.{ArrayOf}
+use Rattle.c_ast.specs.declared.tree.Binary.TheVariants.{Both, Either}
 use Rattle.c_ast.specs.declared.typed.Object.{Object}
 use Rattle.c_ast.specs.declared.typed.Object.TheVariants as object
 use Rattle.c_ast.specs.declared.typed.TypedTarget.{TypedTarget}
@@ -25,39 +24,26 @@ use Rattle.c_ast.specs.declared.normal.NormalStmtKind.{NormalStmtKind}
 use Rattle.c_ast.specs.declared.normal.NormalStmtKind.TheVariants as normal
 use Rattle.c_meaning.specs.declared.profile.Profile.{Profile}
 use Rattle.c_meaning.specs.Stores.{Objects}
-use Rattle.c_meaning.specs.Statements.{array_type, object_type, step_operator}
+use Rattle.c_meaning.specs.Statements.{object_type, step_operator}
 use Rattle.c_meaning.specs.Lawful.{IsElement, IsVar, IsObject, AreOperands, LawfulExpr, LawfulOption, LawfulReturn, LawfulDeclaration, LawfulStmt, LawfulStmtHeld, LawfulStmts, LawfulNormalExpr, LawfulNormalStmt, object_vars, stmt_vars_of, stmt_vars_held, stmt_vars_row, all_vars, normal_vars_of, all_normal_vars}
 use Rattle.c_meaning.specs.Quiet.{Quiet}
 use Rattle.c_meaning.specs.PartLaws.{IfAny, LawfulNormalAt, QuietAt, IsEmptyWithout, normal_vars_if_any}
 use Rattle.c_meaning.proofs.TypeLemmas.{usual_self, operands_are}
 use Rattle.c_meaning.proofs.PartsOfLawful.{lawful_number, lawful_variable, lawful_element, lawful_cast, lawful_binary, outside_number, outside_variable, outside_element, outside_cast, outside_binary, normal_block, normal_declaration, normal_assignment, normal_choice, normal_while_loop, normal_do_loop, normal_for_loop, normal_leaving, normal_continuing, normal_returning, normal_empty, quiet_block, quiet_declaration, quiet_assignment, quiet_choice, quiet_while_loop, quiet_do_loop, quiet_for_loop, quiet_leaving, quiet_continuing, quiet_returning, quiet_empty}
 use Rattle.c_meaning.proofs.PartsOfNumbers.{normal_vars_block, normal_vars_declaration, normal_vars_assignment, normal_vars_choice, normal_vars_while_loop, normal_vars_do_loop, normal_vars_for_loop, normal_vars_leaving, normal_vars_continuing, normal_vars_returning, normal_vars_empty}
+use Rattle.c_meaning.proofs.StoreParts.{Keeps, keeps_append, Sets, sets_none, sets_then, array_type_is}
+use Rattle.c_meaning.proofs.RangeOperators.{zero_in}
 use Rattle.c_norm.specs.Expand.{Out, Outs, whole, decided_by, expand_expr, rest_of, expand_all, set_all}
 use Rattle.c_norm.specs.Forms.{Made, normal_at, block_of, optional, rest_if_any, object_kind, cast_to, new_value, target_with, compound, assignment_form, step_form, MadeIfAny, form_of, held_form, row_form, all_forms}
 use Rattle.c_norm.proofs.Meanings.{wide, Room, room_left, room_right}
-use Rattle.c_norm.proofs.LawfulExprs.{Keeps, Sets, keeps_left, keeps_right, keeps_append, keeps_to, sets_nothing, sets_append, normal_vars_append, sides_free, zero_in, one_in, Settles, all_lawful, all_quiet, append_settles, append_sets, LawfulOut, LawfulOuts, expansion_lawful, all_expansions, set_expansions}
+use Rattle.c_norm.proofs.LawfulExprs.{keeps_left, keeps_right, keeps_to, normal_vars_append, sides_free, one_in, Settles, all_lawful, all_quiet, append_settles, append_sets, LawfulOut, LawfulOuts, expansion_lawful, all_expansions, set_expansions}
 
 -- ---- types of operands
 
 left_is_joint : (op : Binary) (t u : Ty) → decided_by op ≡ None → left_type op t u ≡ joint_type op t u
-left_is_joint Mul t u d = refl
-left_is_joint Div t u d = refl
-left_is_joint Rem t u d = refl
-left_is_joint Add t u d = refl
-left_is_joint Sub t u d = refl
-left_is_joint Shl t u d = refl
-left_is_joint Shr t u d = refl
-left_is_joint Lt t u d = refl
-left_is_joint Gt t u d = refl
-left_is_joint Le t u d = refl
-left_is_joint Ge t u d = refl
-left_is_joint Eq t u d = refl
-left_is_joint Ne t u d = refl
-left_is_joint And t u d = refl
-left_is_joint Xor t u d = refl
-left_is_joint Or t u d = refl
 left_is_joint Both t u d = absurd (cc)
 left_is_joint Either t u d = absurd (cc)
+left_is_joint op t u d = refl
 
 -- the old value is converted to the joint type, and the other operand has its type already
 joint_operands : (op : Binary) (t u : Ty) → u ≡ right_type op t u → decided_by op ≡ None → AreOperands op (joint_type op t u) u (result_type op (joint_type op t u))
@@ -68,14 +54,6 @@ joint_operands op t u e d =
 step_operands : (up : Bool) (t : Ty) → AreOperands (step_operator up) (joint_type (step_operator up) t I32) (joint_type (step_operator up) t I32) (result_type (step_operator up) (joint_type (step_operator up) t I32))
 step_operands true t = (sym (usual_self t I32), sym (usual_self t I32), sym (usual_self t I32))
 step_operands false t = (sym (usual_self t I32), sym (usual_self t I32), sym (usual_self t I32))
-
-some_is : {A : Type 0} (a b : A) → Some a ≡ Some b → a ≡ b
-some_is a b e = cc
-
-array_type_is : (xs : List ArrayOf) (a : ℕ) (x : ArrayOf) → slice_get xs a ≡ Some x → array_type xs a ≡ x.ty
-array_type_is [] a x e = absurd (cc)
-array_type_is (y ∷ ys) zero x e = ap (λ (z : ArrayOf). z.ty) (some_is y x e)
-array_type_is (y ∷ ys) (suc a) x e = array_type_is ys a x e
 
 returned : (E : TypedExpr → Type 0) (r : Option Ty) (e : TypedExpr) → LawfulReturn E r (Some e) → E e
 returned E None e h = absurd h
@@ -143,7 +121,7 @@ module _ (k : Objects) (ws : List Ty) (own : (v : ℕ) (t : Ty) → IsVar k v t 
   }
 
   none_lawful : (l : Bool) (f : ℕ) → LawfulMade l f [] [] []
-  none_lawful l f = record { lawful = All-nil (LawfulNormalAt k2 result l); quiet = All-nil (QuietAt true); kept = λ v c. c; sets = sets_nothing f (f + 0) [] (omega arith) }
+  none_lawful l f = record { lawful = All-nil (LawfulNormalAt k2 result l); quiet = All-nil (QuietAt true); kept = λ v c. c; sets = sets_none f (f + 0) [] (omega arith) }
 
   -- settings, and then one statement that makes no variable
   made_lawful : (l : Bool) (f : ℕ) (old : List ℕ) (before : List NormalStmt) (kind : NormalStmtKind) (at : Span) (types : List Ty) → AllSettle before → Sets f (f + length types) (all_normal_vars before) → LawfulNormalStmt k2 result l kind → Quiet true kind → Keeps old (normal_vars_of kind)
@@ -165,7 +143,7 @@ module _ (k : Objects) (ws : List Ty) (own : (v : ℕ) (t : Ty) → IsVar k v t 
   expr_lawful f e h room = expansion_lawful k ws own e.kind e.ty e.at f h room
 
   option_lawful : (f : ℕ) (e : Option TypedExpr) → LawfulOption (LawfulExpr k) e → Room ws f (optional f e).types → LawfulOptional f (optional f e) (rest_if_any (optional f e) e)
-  option_lawful f None h room = record { settles = All-nil (Settles k ws own); sets = sets_nothing f (f + 0) [] (omega arith); lawful = tt; empty = refl }
+  option_lawful f None h room = record { settles = All-nil (Settles k ws own); sets = sets_none f (f + 0) [] (omega arith); lawful = tt; empty = refl }
   option_lawful f (Some e) h room = let x = expr_lawful f e h room in record { settles = x.settles; sets = x.sets; lawful = (x.lawful, x.outside); empty = tt }
 
   all_normal : (f n : ℕ) (o : Outs) → LawfulOuts k ws own f n o → All Normal o.exprs
@@ -256,7 +234,7 @@ module _ (k : Objects) (ws : List Ty) (own : (v : ℕ) (t : Ty) → IsVar k v t 
       let e = of_type (expr.Number 1) j s in
       let g = f + length i.types in
       compound_lawful l f target (step_operator up) h.0 t0 j (whole (expr.Number 1)) e s h.1.0 (object_type_is target.to (length target.indices) h.0 h.1.0) h.1.1 (λ q. step_operands up t0) ((lawful_number 1 k2 j).1 (one_in j), (outside_number 1).1 tt)
-      (All-nil (Settles k ws own)) (sets_nothing g (g + 0) [] (omega arith)) (room_left ws f i.types [] room)
+      (All-nil (Settles k ws own)) (sets_none g (g + 0) [] (omega arith)) (room_left ws f i.types [] room)
 
   -- ---- statements with parts
 
@@ -297,7 +275,7 @@ module _ (k : Objects) (ws : List Ty) (own : (v : ℕ) (t : Ty) → IsVar k v t 
       let d = normal_vars_if_any o.stmt in
       let vars = normal_vars_choice c.before rest x o.stmt in
       let kept = keeps_append old old2 (a ++ b) d (keeps_right old a b (part_kept l g old y at hy)) ho.kept in
-      let sets = sets_append f g2 end (a ++ b) d (sets_append f g g2 a b hc.sets (part_sets l g old y at hy)) ho.sets in
+      let sets = sets_then f g2 end (a ++ b) d (sets_then f g g2 a b hc.sets (part_sets l g old y at hy)) ho.sets in
       one_lawful l f (old ++ old2) (normal.If c.before rest x o.stmt) s (c.types ++ (y.types ++ o.types))
       ((normal_choice c.before rest x o.stmt k2 result l).1 (all_lawful k ws own c.before hc.settles result l, (hc.lawful, hc.outside), part_lawful l g old y at hy, ho.lawful))
       ((quiet_choice c.before rest x o.stmt true).1 (all_quiet k ws own c.before hc.settles true, part_quiet l g old y at hy, ho.quiet))
@@ -318,7 +296,7 @@ module _ (k : Objects) (ws : List Ty) (own : (v : ℕ) (t : Ty) → IsVar k v t 
       ((normal_while_loop c.before rest x k2 result l).1 (all_lawful k ws own c.before hc.settles result false, (hc.lawful, hc.outside), part_lawful true g old y at hy))
       ((quiet_while_loop c.before rest x true).1 (all_quiet k ws own c.before hc.settles false, part_quiet true g old y at hy))
       (keeps_to old (a ++ b) (normal_vars_of (normal.While c.before rest x)) (sym vars) (keeps_right old a b (part_kept true g old y at hy)))
-      (sets_in f end (f + length (c.types ++ y.types)) (a ++ b) (normal_vars_of (normal.While c.before rest x)) vars (two_types f c.types y.types) (sets_append f g end a b hc.sets (part_sets true g old y at hy)))
+      (sets_in f end (f + length (c.types ++ y.types)) (a ++ b) (normal_vars_of (normal.While c.before rest x)) vars (two_types f c.types y.types) (sets_then f g end a b hc.sets (part_sets true g old y at hy)))
 
   do_lawful : (l : Bool) (f : ℕ) (c : Out) (cond : TypedExpr) (y : Made) (at s : Span) (old : List ℕ) → LawfulMade true f old y.stmts y.types → LawfulOut k ws own (f + length y.types) cond.kind cond.ty c
       → LawfulMade l f old (normal_at (normal.DoWhile (block_of y at) c.before (rest_of c cond)) s ∷ []) (y.types ++ c.types)
@@ -334,7 +312,7 @@ module _ (k : Objects) (ws : List Ty) (own : (v : ℕ) (t : Ty) → IsVar k v t 
       ((normal_do_loop x c.before rest k2 result l).1 (part_lawful true f old y at hy, all_lawful k ws own c.before hc.settles result false, (hc.lawful, hc.outside)))
       ((quiet_do_loop x c.before rest true).1 (part_quiet true f old y at hy, all_quiet k ws own c.before hc.settles false))
       (keeps_to old (a ++ b) (normal_vars_of (normal.DoWhile x c.before rest)) (sym vars) (keeps_left old a b (part_kept true f old y at hy)))
-      (sets_in f end (f + length (y.types ++ c.types)) (a ++ b) (normal_vars_of (normal.DoWhile x c.before rest)) vars (two_types f y.types c.types) (sets_append f g end a b (part_sets true f old y at hy) hc.sets))
+      (sets_in f end (f + length (y.types ++ c.types)) (a ++ b) (normal_vars_of (normal.DoWhile x c.before rest)) vars (two_types f y.types c.types) (sets_then f g end a b (part_sets true f old y at hy) hc.sets))
 
   for_lawful : (l : Bool) (f : ℕ) (i : Made) (c : Out) (rest : Option TypedExpr) (o : MadeIfAny) (y : Made) (at s : Span) (old old2 old3 : List ℕ) → LawfulMade false f old i.stmts i.types → LawfulOptional (f + length i.types) c rest → LawfulHeld false (f + length i.types + length c.types) old2 o
       → LawfulMade true (f + length i.types + length c.types + length o.types) old3 y.stmts y.types
@@ -351,7 +329,7 @@ module _ (k : Objects) (ws : List Ty) (own : (v : ℕ) (t : Ty) → IsVar k v t 
       let e = normal_vars_of x.kind in
       let vars = normal_vars_for_loop i.stmts c.before rest o.stmt x in
       let kept = keeps_append (old ++ old2) old3 (a ++ b ++ d) e (keeps_append old old2 (a ++ b) d (keeps_left old a b hi.kept) ho.kept) (part_kept true g3 old3 y at hy) in
-      let sets = sets_append f g3 end (a ++ b ++ d) e (sets_append f g2 g3 (a ++ b) d (sets_append f g g2 a b hi.sets hc.sets) ho.sets) (part_sets true g3 old3 y at hy) in
+      let sets = sets_then f g3 end (a ++ b ++ d) e (sets_then f g2 g3 (a ++ b) d (sets_then f g g2 a b hi.sets hc.sets) ho.sets) (part_sets true g3 old3 y at hy) in
       one_lawful l f (old ++ old2 ++ old3) (normal.For i.stmts c.before rest o.stmt x) s (i.types ++ (c.types ++ (o.types ++ y.types)))
       ((normal_for_loop i.stmts c.before rest o.stmt x k2 result l).1 (hi.lawful, all_lawful k ws own c.before hc.settles result false, hc.lawful, hc.empty, ho.lawful, part_lawful true g3 old3 y at hy))
       ((quiet_for_loop i.stmts c.before rest o.stmt x true).1 (hi.quiet, all_quiet k ws own c.before hc.settles false, ho.quiet, part_quiet true g3 old3 y at hy))
@@ -426,16 +404,16 @@ module _ (k : Objects) (ws : List Ty) (own : (v : ℕ) (t : Ty) → IsVar k v t 
         for_lawful l f i c (rest_if_any c cond) p y at s (stmt_vars_row first) (stmt_vars_held o) (stmt_vars_of x) (stmts_lawful first false f h.0 (room_left ws f i.types (c.types ++ (p.types ++ y.types)) room))
         (option_lawful g cond h.1 (room_left ws g c.types (p.types ++ y.types) tail)) (held_lawful o false g2 h.2 (room_left ws g2 p.types y.types tail2)) (stmt_lawful x true at g3 h.3 (room_right ws g2 p.types y.types tail2))
     stmt_lawful tree.Break l s f h room =
-        one_lawful l f [] normal.Break s [] ((normal_leaving k2 result l).1 h) ((quiet_leaving true).1 tt) (keeps_to [] [] (normal_vars_of normal.Break) (sym normal_vars_leaving) (λ u c. c)) (sets_nothing f (f + 0) (normal_vars_of normal.Break) (omega arith))
+        one_lawful l f [] normal.Break s [] ((normal_leaving k2 result l).1 h) ((quiet_leaving true).1 tt) (keeps_to [] [] (normal_vars_of normal.Break) (sym normal_vars_leaving) (λ u c. c)) (sets_none f (f + 0) (normal_vars_of normal.Break) (omega arith))
     stmt_lawful tree.Continue l s f h room =
-        one_lawful l f [] normal.Continue s [] ((normal_continuing k2 result l).1 h) ((quiet_continuing true).1 tt) (keeps_to [] [] (normal_vars_of normal.Continue) (sym normal_vars_continuing) (λ u c. c)) (sets_nothing f (f + 0) (normal_vars_of normal.Continue) (omega arith))
+        one_lawful l f [] normal.Continue s [] ((normal_continuing k2 result l).1 h) ((quiet_continuing true).1 tt) (keeps_to [] [] (normal_vars_of normal.Continue) (sym normal_vars_continuing) (λ u c. c)) (sets_none f (f + 0) (normal_vars_of normal.Continue) (omega arith))
     stmt_lawful (tree.Return None) l s f h room = return_lawful l f None s h tt room
     stmt_lawful (tree.Return (Some e)) l s f h room = return_lawful l f (Some e) s h (returned (LawfulExpr k) result e h) room
     stmt_lawful tree.Empty l s f h room =
-        one_lawful l f [] normal.Empty s [] ((normal_empty k2 result l).1 tt) ((quiet_empty true).1 tt) (keeps_to [] [] (normal_vars_of normal.Empty) (sym normal_vars_empty) (λ u c. c)) (sets_nothing f (f + 0) (normal_vars_of normal.Empty) (omega arith))
+        one_lawful l f [] normal.Empty s [] ((normal_empty k2 result l).1 tt) ((quiet_empty true).1 tt) (keeps_to [] [] (normal_vars_of normal.Empty) (sym normal_vars_empty) (λ u c. c)) (sets_none f (f + 0) (normal_vars_of normal.Empty) (omega arith))
 
     held_lawful : (o : Held-TypedStmtKind-If-2) (l : Bool) (f : ℕ) → LawfulStmtHeld k result l o → Room ws f (held_form k0 f o).types → LawfulHeld l f (stmt_vars_held o) (held_form k0 f o)
-    held_lawful tree.None' l f h room = record { lawful = tt; quiet = tt; kept = λ v c. c; sets = sets_nothing f (f + 0) [] (omega arith) }
+    held_lawful tree.None' l f h room = record { lawful = tt; quiet = tt; kept = λ v c. c; sets = sets_none f (f + 0) [] (omega arith) }
     held_lawful (tree.Some' b (more_of-TypedStmt x at end_of-TypedStmt)) l f h room =
         let y = form_of k0 f x at in
         let i = stmt_lawful x l at f h room in

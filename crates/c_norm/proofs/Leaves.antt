@@ -14,11 +14,13 @@ use Rattle.c_meaning.specs.Runs.{How, normally, undefined, Ended, Run, ends, tur
 use Rattle.c_meaning.specs.Statements.{Place, of_var, of_element, Placed, no_place, placed, placed_after, place_by, object_place, MeantTarget, read_place, write_place, storing, stored, assigned_to, assigned, object_type}
 use Rattle.c_meaning.specs.Counts.{Counted, run_of, counts_in_order, acts_of, only, tally}
 use Rattle.c_meaning.specs.Statements.{in_order}
-use Rattle.c_norm.proofs.Takes.{Takes, TakesAll, taken, takes_one, takes_append}
-use Rattle.c_norm.proofs.Stores.{Matches, same_below, set_matches, matches_below}
+use Rattle.c_meaning.proofs.StoreParts.{below_same}
+use Rattle.c_meaning.proofs.RunParts.{had, taken}
+use Rattle.c_norm.proofs.Takes.{Takes, TakesAll, takes_one, takes_append}
+use Rattle.c_norm.proofs.Stores.{Matches, set_matches, matches_below}
 use Rattle.c_norm.proofs.Expands.{Expands, Has}
 use Rattle.c_norm.proofs.Rows.{ExpandsAll, HasAll}
-use Rattle.c_norm.proofs.Imitates.{Imitates, Sim, had}
+use Rattle.c_norm.proofs.Imitates.{Imitates, Sim}
 
 -- a number that was converted is its own conversion
 pub conv_twice : (t : Ty) (z : ℤ) → conv t (conv t z) ≡ conv t z
@@ -63,9 +65,9 @@ module _ (k : Objects) (all price : ℕ) (le : length k.vars ≤ all) where
         → (v : Val) (s t : Store) (n : ℕ) → m s ≡ v → Matches k all s t → (let e = with_val v ending s n in IsDefined e.how → IsFitting k e.store → Imitates k all price le 0 1 e (suc n) (λ i. in_order (acts_of (parts ++ x ∷ []))) (λ i. counts_in_order (parts ++ x ∷ [])) t)
     value_leaf_at f g most j p m left parts x ex one total final near (undefined_value at) s t n is same end fits = absurd end
     value_leaf_at f g most j p m left parts x ex one total final near (value z u) s t n is same end fits =
-        let o = had k all price le u (ending z) s n end in
+        let o = had u (ending z) s n end in
         let d = ex.does s t z u same is in
-        let y = d.stays d.last (same_below g d.last) in
+        let y = d.stays d.last (below_same g d.last) in
         let e = ending z s o.rest in
         let fit = subst (λ (w : Ended). IsFitting k w.store) o.is fits in
         let made = settled e (suc n) u 0 parts x t d.last (st z d.last) d.turns d.jumps d.price (1 + y.turns) j p most (ap suc o.sum) d.takes d.few d.cheap (final d.last z y.turns y.is) one total (near s d.last z (matches_below k all f s t d.last ex.own same d.kept) fit) in
@@ -107,7 +109,7 @@ module _ (k : Objects) (all price : ℕ) (le : length k.vars ≤ all) where
       stored_at : (s r : Store) (n : ℕ) (is : List ℤ) (u : ℕ) (p : Place) (v : Val) → all_values ms s ≡ values is u → object_place k.arrays to is ≡ Some p → V p s ≡ v → Matches k all s r → IsDefined (stored t p u v s n).how → IsFitting k (stored t p u v s n).store → Result (stored t p u v s n) n r
       stored_at s r n is u p (undefined_value q) ia ip iv same end fits = absurd end
       stored_at s r n is u p (value z w) ia ip iv same end fits =
-          let o = had k all price le (u + w) (storing t p z) s n end in
+          let o = had (u + w) (storing t p z) s n end in
           let fit = subst (λ (e : Ended). IsFitting k e.store) o.is fits in
           let k3 = open_it s p z w iv in
           let di = ei.does s r is u same ia in
@@ -115,7 +117,7 @@ module _ (k : Objects) (all price : ℕ) (le : length k.vars ≤ all) where
           let de = ee.does s di.last k3.y w near k3.right in
           let near2 = matches_below k all g s di.last de.last ee.own near de.kept in
           let va = di.stays de.last de.kept in
-          let ve = de.stays de.last (same_below h de.last) in
+          let ve = de.stays de.last (below_same h de.last) in
           let last = final s de.last is p k3.y z near2 va ip ve k3.link in
           let e = storing t p z s o.rest in
           let made = settled e (suc n) (u + w) 0 (xs ++ ys) x r de.last (write_place p (conv t z) de.last) (di.turns + de.turns) (di.jumps + de.jumps) (di.price + de.price) last.turns 0 px (pi + pe) (ap suc o.sum)

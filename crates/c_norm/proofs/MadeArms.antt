@@ -2,6 +2,7 @@
 use Rattle.std.proofs.Common.{◌≡◌, ℕ, zero, suc, ◌+◌, ◌≤◌, ◌<◌, List, [], ◌∷◌, ◌++◌, length, get_or, drop, Option, Some, None, refl, sym, ◌∙◌, ap, subst, arith, append_assoc, append-nil}
 use Rattle.std.specs.Prelude.{Bool, slice_get, ◌^◌}
 use Rattle.std.proofs.lemmas.Option.{none-some}
+use Rattle.std.proofs.lemmas.List.{drop_all}
 use Rattle.el_base.specs.declared.span.Span.{Span}
 use Rattle.el_base.specs.declared.ty.Ty.{Ty}
 use Rattle.el_base.specs.declared.ty.Ty.TheVariants.{I32}
@@ -24,13 +25,13 @@ use Rattle.c_ast.specs.ResultTypes.{joint_type}
 use Rattle.c_ast.specs.Nodes.{typed_opt_nodes, typed_stmt_nodes, typed_stmts_nodes, typed_held_nodes, typed_nodes}
 use Rattle.c_meaning.specs.Lawful.{Lawful}
 use Rattle.c_meaning.proofs.FewVars.{few_vars}
+use Rattle.c_meaning.proofs.ListParts.{longer, behind, from_place}
 use Rattle.c_norm.specs.Kernels.{body_form, normal_form}
 use Rattle.c_meaning.specs.declared.profile.Profile.TheVariants.{Plain}
 use Rattle.c_meaning.specs.Statements.{objects, array_type, object_type, step_operator}
 use Rattle.c_norm.specs.Expand.{expand_expr, rest_of, set_all, expand_all}
 use Rattle.c_norm.specs.Forms.{Made, normal_at, made, block_of, optional, rest_if_any, target_with, form_of}
 use Rattle.c_norm.specs.Code.{HasRoom, IsOut, AreOut, IsExpanded, stmt_form, stmts_form, held_stmt, IsMade, IsLast, IsAlone, IsOptional, IsBlock, IsHeld, StmtsGoOn, plain_form, update_form, update_of}
-use Rattle.c_norm.proofs.Coded.{behind, longer, past, from_place}
 use Rattle.c_norm.proofs.MadeParts.{form_block, if_form, form_if, while_form, form_while, do_form, form_do, for_form, form_for, few_optional, few_form, few_forms, few_held_stmt}
 
 as_last : (m m2 : Made) (s : Span) (b : List NormalStmt) (v : List Ty) (b2 : List NormalStmt) (v2 : List Ty) (r : NormalStmtKind) → m ≡ m2 → IsLast m2 s b v b2 v2 r → IsLast m s b v b2 v2 r
@@ -269,7 +270,7 @@ stmts_next k xs i x all b0 v0 b v b2 v2 h is g p =
 
 pub stmts_end : (k : Typed) (xs : List TypedStmt) (i n : ℕ) (all : Made) (b0 : List NormalStmt) (v0 : List Ty) (b : List NormalStmt) (v : List Ty) → length xs ≤ i → StmtsGoOn (stmts_form k n (drop i xs)) all b0 v0 b v → IsMade all b0 v0 b v
 stmts_end k xs i n all b0 v0 b v h g =
-    let none : stmts_form k n (drop i xs) ≡ record { stmts = []; types = [] } = ap (stmts_form k n) (past xs i h) in
+    let none : stmts_form k n (drop i xs) ≡ record { stmts = []; types = [] } = ap (stmts_form k n) (drop_all i xs h) in
     record {
       set = sym (append-nil b) ∙ ap (λ (m : Made). b ++ m.stmts) (sym none) ∙ g.set;
       made = sym (append-nil v) ∙ ap (λ (m : Made). v ++ m.types) (sym none) ∙ g.made;

@@ -8,7 +8,7 @@ use Rattle.el_base.specs.declared.ty.Ty.TheVariants.{I32}
 use Rattle.el_base.proofs.PatternLemmas.{number-pattern}
 use Rattle.c_ast.specs.Casts.{of_type}
 use Rattle.c_ast.specs.declared.tree.Binary.{Binary}
-use Rattle.c_ast.specs.declared.tree.Binary.TheVariants.{Mul, Div, Rem, Add, Sub, Shl, Shr, Lt, Gt, Le, Ge, Eq, Ne, And, Xor, Or, Both, Either}
+use Rattle.c_ast.specs.declared.tree.Binary.TheVariants.{Both, Either}
 use Rattle.c_ast.specs.declared.typed.TypedExprKind.{TypedExprKind, Row_of-TypedExpr, end_of-TypedExpr, more_of-TypedExpr}
 use Rattle.c_ast.specs.declared.typed.TypedExprKind as tree
 use Rattle.c_ast.specs.declared.typed.TypedExprKind.TheOpen.{Element, Unary, Cast, Binary as BinaryPart, Choose}
@@ -21,9 +21,10 @@ use Rattle.c_meaning.specs.Expressions.{Val, undefined_value, value, Meaning, ki
 use Rattle.c_meaning.specs.Lawful.{LawfulKind}
 use Rattle.c_meaning.specs.Ranges.{ValuesFit}
 use Rattle.c_meaning.proofs.ReadLemmas.{agreeing, listed}
+use Rattle.c_meaning.proofs.ValueParts.{value_one, value_two}
 use Rattle.c_norm.specs.Expand.{decided_by}
 use Rattle.c_norm.proofs.Stores.{Matches}
-use Rattle.c_norm.proofs.Expands.{Expands, Same, value_one, value_two}
+use Rattle.c_norm.proofs.Expands.{Expands, Same}
 use Rattle.c_norm.proofs.Costs.{operator_cost}
 
 -- the objects of the normal form: the kernel's, with other variables
@@ -63,24 +64,9 @@ no_decision : {A : Type 0} (d : Bool) → Some d ≡ None → A
 no_decision d e = absurd (cc)
 
 pub joins : (p : Profile) (op : Binary) (ty : Ty) (at : Span) (a b : Meaning) → decided_by op ≡ None → binary_meaning p op ty at a b ≡ (λ s. on_two at (binary_value p op ty) (a s) (b s))
-joins p Mul ty at a b e = refl
-joins p Div ty at a b e = refl
-joins p Rem ty at a b e = refl
-joins p Add ty at a b e = refl
-joins p Sub ty at a b e = refl
-joins p Shl ty at a b e = refl
-joins p Shr ty at a b e = refl
-joins p Lt ty at a b e = refl
-joins p Gt ty at a b e = refl
-joins p Le ty at a b e = refl
-joins p Ge ty at a b e = refl
-joins p Eq ty at a b e = refl
-joins p Ne ty at a b e = refl
-joins p And ty at a b e = refl
-joins p Xor ty at a b e = refl
-joins p Or ty at a b e = refl
 joins p Both ty at a b e = no_decision false e
 joins p Either ty at a b e = no_decision true e
+joins p op ty at a b e = refl
 
 -- the two sides of a choice for && and for ||, over the truth of the right operand
 abbrev pub yes_side : Bool → Meaning → Meaning
@@ -109,24 +95,9 @@ either_logical p false e = absurd (cc)
 either_logical p true e = record { means = λ ty at a b. refl; cost = refl; type = λ j. refl }
 
 pub decides : (p : Profile) (op : Binary) (d : Bool) → decided_by op ≡ Some d → Logical p op d
-decides p Mul d e = none_decides d e
-decides p Div d e = none_decides d e
-decides p Rem d e = none_decides d e
-decides p Add d e = none_decides d e
-decides p Sub d e = none_decides d e
-decides p Shl d e = none_decides d e
-decides p Shr d e = none_decides d e
-decides p Lt d e = none_decides d e
-decides p Gt d e = none_decides d e
-decides p Le d e = none_decides d e
-decides p Ge d e = none_decides d e
-decides p Eq d e = none_decides d e
-decides p Ne d e = none_decides d e
-decides p And d e = none_decides d e
-decides p Xor d e = none_decides d e
-decides p Or d e = none_decides d e
 decides p Both d e = both_logical p d e
 decides p Either d e = either_logical p d e
+decides p op d e = none_decides d e
 
 -- ---- truth values
 

@@ -1,16 +1,18 @@
 -- Expansions of several expressions, from left to right.
-use Rattle.std.proofs.Common.{◌≡◌, ℕ, ◌+◌, ◌*◌, ◌<◌, ◌≤◌, List, [], ◌∷◌, ◌++◌, length, Option, Some, None, refl, sym, ◌∙◌, ap, subst, arith, append_assoc}
+use Rattle.std.proofs.Common.{◌≡◌, ℕ, ◌+◌, ◌*◌, ◌<◌, ◌≤◌, List, [], ◌∷◌, ◌++◌, length, sym, ◌∙◌, ap, subst, arith, append_assoc}
 use Rattle.std.specs.Prelude.{ℤ}
 use Rattle.el_base.specs.declared.span.Span.{Span}
 use Rattle.el_base.specs.declared.ty.Ty.{Ty}
 use Rattle.c_meaning.specs.Types.{conv}
-use Rattle.c_meaning.specs.Stores.{Store, Objects, place, read_element}
-use Rattle.c_meaning.specs.Expressions.{Val, undefined_value, value, Vals, undefined_values, values, Meaning, after_turns, with_first, all_values, element, element_at}
+use Rattle.c_meaning.specs.Stores.{Store, Objects, place}
+use Rattle.c_meaning.specs.Expressions.{value, values, Meaning, after_turns, with_first, all_values, element, element_at}
 use Rattle.c_meaning.specs.Runs.{normally}
 use Rattle.c_meaning.specs.Counts.{Counted}
+use Rattle.c_meaning.proofs.ValueParts.{values_one, firsts, indexed, element_of_arrays}
+use Rattle.c_meaning.proofs.StoreParts.{Below, below_same, below_then}
 use Rattle.c_norm.proofs.Takes.{TakesAll, takes_none, takes_append}
-use Rattle.c_norm.proofs.Stores.{Below, Matches, same_below, below_then, matches_below}
-use Rattle.c_norm.proofs.Expands.{Sets, var_of, Expands, value_one, value_two, set_fills}
+use Rattle.c_norm.proofs.Stores.{Matches, matches_below}
+use Rattle.c_norm.proofs.Expands.{Sets, var_of, Expands, set_fills}
 
 -- expressions have values, in whatever turns
 pub record HasAll (ms : List Meaning) (s : Store) (xs : List ℤ) : Type 0 where
@@ -28,46 +30,6 @@ pub record DoneAll (f g : ℕ) (parts : List Counted) (lefts : List Meaning) (t 
   pub few : jumps ≤ 2 * u
   pub cheap : price ≤ most
 
--- the first of several, and the others
-pub record First (v : Val) (vs : Vals) (xs : List ℤ) (u : ℕ) : Type 0 where
-  pub x : ℤ
-  pub rest : List ℤ
-  pub t : ℕ
-  pub r : ℕ
-  pub first : v ≡ value x t
-  pub others : vs ≡ values rest r
-  pub all : x ∷ rest ≡ xs
-  pub turns : u ≡ t + r
-
-values_one : (xs ys : List ℤ) (t u : ℕ) → values xs t ≡ values ys u → xs ≡ ys
-values_one xs ys t u e = cc
-
-values_two : (xs ys : List ℤ) (t u : ℕ) → values xs t ≡ values ys u → t ≡ u
-values_two xs ys t u e = cc
-
-first_of_all : (v : Val) (vs : Vals) (xs : List ℤ) (u : ℕ) → with_first v vs ≡ values xs u → First v vs xs u
-first_of_all (undefined_value p) vs xs u e = absurd (cc)
-first_of_all (value x t) (undefined_values p) xs u e = absurd (cc)
-first_of_all (value x t) (values ys r) xs u e = record { x = x; rest = ys; t = t; r = r; first = refl; others = refl; all = values_one (x ∷ ys) xs (t + r) u e; turns = sym (values_two (x ∷ ys) xs (t + r) u e) }
-
--- the place that an element has, and its number
-pub record Found (k : Objects) (at : Span) (s : Store) (a : ℕ) (vs : Vals) (z : ℤ) (u : ℕ) : Type 0 where
-  pub is : List ℤ
-  pub indices : vs ≡ values is u
-  pub there : element_at s a (place k.arrays a is) ≡ Some z
-
-some_after : (at : Span) (n m : ℕ) (o : Option ℤ) (z : ℤ) → after_turns at n o ≡ value z m → (o ≡ Some z) × (n ≡ m)
-some_after at n m None z e = absurd (cc)
-some_after at n m (Some x) z e = (ap Some (value_one x z n m e), value_two x z n m e)
-
-found : (k : Objects) (at : Span) (s : Store) (a : ℕ) (vs : Vals) (z : ℤ) (u : ℕ) → element k at s a vs ≡ value z u → Found k at s a vs z u
-found k at s a (undefined_values p) z u e = absurd (cc)
-found k at s a (values is t) z u e = let h = some_after at t u (element_at s a (place k.arrays a is)) z e in record { is = is; indices = ap (values is) h.1; there = h.0 }
-
-pub element_same : (s r : Store) (a : ℕ) (o : Option ℕ) → s.arrays ≡ r.arrays → element_at r a o ≡ element_at s a o
-element_same s r a None e = refl
-element_same s r a (Some i) e = ap (λ zs. read_element (record { vars = s.vars; arrays = zs }) a i) (sym e)
-
 module _ (k : Objects) (all : ℕ) where
   pub record ExpandsAll (f g : ℕ) (ms : List Meaning) (parts : List Counted) (lefts : List Meaning) (most : ℕ) : Type 0 where
     pub own : length k.vars ≤ f
@@ -84,7 +46,7 @@ module _ (k : Objects) (all : ℕ) where
       jumps = 0;
       price = 0;
       takes = takes_none t;
-      kept = same_below f t;
+      kept = below_same f t;
       stays = λ r b. record { turns = 0; is = ap (λ l. values l 0) (values_one [] xs 0 u e) };
       few = omega arith;
       cheap = omega arith;
@@ -96,9 +58,9 @@ module _ (k : Objects) (all : ℕ) where
     own = ea.own;
     more = omega (arith, ea.more, eb.more);
     does = λ s t zs u same is.
-        let o = first_of_all (m s) (all_values ms s) zs u is in
+        let o = firsts (m s) (all_values ms s) zs u is in
         let da = ea.does s t o.x o.t same o.first in
-        let db = eb.does s da.last o.rest o.r (matches_below k all f s t da.last ea.own same da.kept) o.others in
+        let db = eb.does s da.last o.xs o.r (matches_below k all f s t da.last ea.own same da.kept) o.rest in
         record {
           last = db.last;
           turns = da.turns + db.turns;
@@ -109,8 +71,8 @@ module _ (k : Objects) (all : ℕ) where
           stays = λ r w.
               let va = da.stays r (below_then g g h da.last db.last r (omega arith) eb.more db.kept w) in
               let vb = db.stays r w in
-              record { turns = va.turns + vb.turns; is = ap (λ z. with_first z (all_values lefts r)) va.is ∙ ap (λ z. with_first (value o.x va.turns) z) vb.is ∙ ap (λ l. values l (va.turns + vb.turns)) o.all };
-          few = omega (arith, da.few, db.few, o.turns);
+              record { turns = va.turns + vb.turns; is = ap (λ z. with_first z (all_values lefts r)) va.is ∙ ap (λ z. with_first (value o.x va.turns) z) vb.is ∙ ap (λ l. values l (va.turns + vb.turns)) (sym o.is) };
+          few = omega (arith, da.few, db.few, o.all);
           cheap = omega (arith, da.cheap, db.cheap);
         };
   }
@@ -139,8 +101,8 @@ module _ (k : Objects) (all : ℕ) where
     own = ea.own;
     more = ea.more;
     does = λ s t x u h e.
-        let o = found k at s a (all_values ms s) x u e in
-        let d = ea.does s t o.is u h o.indices in
+        let o = indexed k at s a (all_values ms s) x u e in
+        let d = ea.does s t o.given u h o.all in
         record {
           last = d.last;
           turns = d.turns;
@@ -151,7 +113,7 @@ module _ (k : Objects) (all : ℕ) where
           stays = λ r b.
               let y = d.stays r b in
               let near = matches_below k all g s d.last r (omega (arith, ea.own, ea.more)) (matches_below k all f s t d.last ea.own h d.kept) b in
-              record { turns = y.turns; is = ap (λ z. element k2 at r a z) y.is ∙ ap (λ l. after_turns at y.turns (element_at r a (place l a o.is))) arrays ∙ ap (after_turns at y.turns) (element_same s r a (place k.arrays a o.is) near.arrays ∙ o.there) };
+              record { turns = y.turns; is = ap (λ z. element k2 at r a z) y.is ∙ ap (λ l. after_turns at y.turns (element_at r a (place l a o.given))) arrays ∙ ap (after_turns at y.turns) (sym (element_of_arrays a (place k.arrays a o.given) s r near.arrays) ∙ o.is) };
           few = d.few;
           cheap = d.cheap;
         };

@@ -32,6 +32,7 @@ use Rattle.c_meaning.specs.Sizes.{closes, steps, accesses, reads, reads_row, exp
 use Rattle.c_meaning.specs.PartLaws.{sizes, blocks_of, steps_of, accesses_of, blocks_if_any, blocks_of_step, steps_if_any, accesses_if_any}
 use Rattle.c_meaning.proofs.PartsOfNumbers.{price_number}
 use Rattle.c_meaning.proofs.PartsOfSizes.{sizes_declaration, sizes_assignment, sizes_choice, sizes_while_loop, sizes_do_loop, sizes_for_loop, sizes_leaving, sizes_continuing, sizes_returning, sizes_empty, reading_number, reading_variable, reading_element, reading_cast, reading_binary}
+use Rattle.c_meaning.proofs.FewVars.{object_few}
 use Rattle.c_norm.specs.Expand.{Out, whole, decided_by, expand_expr, rest_of, expand_all, set_all}
 use Rattle.c_norm.specs.Forms.{Made, normal_at, block_of, optional, rest_if_any, object_kind, cast_to, new_value, target_with, compound, assignment_form, step_form, MadeIfAny, form_of, held_form, row_form, all_forms}
 use Rattle.c_norm.proofs.Costs.{kind_cost}
@@ -92,10 +93,6 @@ made_sized before kind at types n d b s a h p q r =
 -- one statement alone
 one_sized : (kind : NormalStmtKind) (at : Span) (types : List Ty) (n d b s a : ℕ) → HasSizes kind b s a → b + 4 * (length types + d) ≤ 4 * n → s ≤ 13 * n → a ≤ n → StmtSized n d (normal_at kind at ∷ []) types
 one_sized kind at types n d b s a h p q r = made_sized [] kind at types n d b s a h (omega arith) (omega arith) (omega arith)
-
-object_few : (o : Object) → length (object_vars o) ≤ 1
-object_few (object.Var v) = omega arith
-object_few (object.Array a) = omega arith
 
 new_reads : (d : Option Bool) (op : Binary) (t j : Ty) (old e : TypedExpr) (s : Span) → expr_reads (new_value d op t j old e s) ≤ expr_reads old + expr_reads e
 new_reads None op t j old e s =

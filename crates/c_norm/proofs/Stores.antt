@@ -6,12 +6,7 @@ use Rattle.std.proofs.lemmas.List.{length-set, get_or-set_same, get_or-set_other
 use Rattle.el_base.specs.declared.ty.Ty.{Ty}
 use Rattle.c_meaning.specs.Stores.{Store, Objects, AreSetIn, IsFitting, set_var, unset_var, unset_vars, read_var}
 use Rattle.c_meaning.proofs.RangeStores.{unset_fits}
-
--- the variables below n are the same, and the arrays, and the number of variables
-pub record Below (n : ℕ) (s t : Store) : Type 0 where
-  pub vars : (x : ℕ) → x < n → get_or s.vars x None ≡ get_or t.vars x None
-  pub arrays : s.arrays ≡ t.arrays
-  pub count : length s.vars ≡ length t.vars
+use Rattle.c_meaning.proofs.StoreParts.{Below}
 
 -- A store of the kernel, which fits it, and one of the normal form: the kernel's variables are the same in both, and the arrays. There are so many variables in all.
 pub record Matches (k : Objects) (all : ℕ) (s t : Store) : Type 0 where
@@ -19,12 +14,6 @@ pub record Matches (k : Objects) (all : ℕ) (s t : Store) : Type 0 where
   pub arrays : s.arrays ≡ t.arrays
   pub fits : IsFitting k s
   pub long : length t.vars ≡ all
-
-pub same_below : (n : ℕ) (s : Store) → Below n s s
-same_below n s = record { vars = λ x h. refl; arrays = refl; count = refl }
-
-pub below_then : (m n l : ℕ) (s t u : Store) → m ≤ n → m ≤ l → Below n s t → Below l t u → Below m s u
-below_then m n l s t u h k a b = record { vars = λ x lt. a.vars x (omega arith) ∙ b.vars x (omega arith); arrays = a.arrays ∙ b.arrays; count = a.count ∙ b.count }
 
 pub set_below : (n v : ℕ) (z : ℤ) (s : Store) → n ≤ v → Below n s (set_var v z s)
 set_below n v z s h = record {

@@ -4,10 +4,11 @@ use Rattle.std.specs.Prelude.{ℤ}
 use Rattle.c_meaning.specs.Operators.{is_zero}
 use Rattle.c_meaning.specs.Stores.{Store}
 use Rattle.c_meaning.specs.Expressions.{value, Meaning}
-use Rattle.c_meaning.specs.Runs.{How, normally, by_break, by_continue, by_return, undefined, out_of_turns, Ended, Run, ends, taking, turn, go_on, both_runs, sequence, with_val, with_value, branch}
+use Rattle.c_meaning.specs.Runs.{How, normally, by_break, by_continue, by_return, undefined, out_of_turns, Ended, Run, ends, turn, go_on, both_runs, with_val, with_value, branch}
 use Rattle.c_meaning.specs.Runs as runs
 use Rattle.c_meaning.specs.Statements.{in_order}
 use Rattle.c_meaning.specs.Counts.{Tally, tally, both_tallies, Counting, counting, only, counting_after, Counted, run_of, where_normal, counts_both, counts_in_order, acts_of, with_counts, counts_of, counts_branch}
+use Rattle.c_meaning.proofs.RunParts.{taken, go_assoc}
 
 -- with so many turns and any number more, all of which are left
 pub record Takes (run : Run) (counts : Counting) (s : Store) (how : How) (last : Store) (turns jumps price : ℕ) : Type 0 where
@@ -22,10 +23,6 @@ Stops by_continue = Unit {0}
 Stops (by_return v) = Unit {0}
 Stops (undefined at) = Unit {0}
 Stops out_of_turns = Unit {0}
-
-pub taken : (t : ℕ) (run : Run) (s : Store) (l : ℕ) → taking t run s (t + l) ≡ run s l
-taken zero run s l = let e : 0 + l ≡ l = omega arith in ap (λ n. run s n) e
-taken (suc t) run s l = let e : suc t + l ≡ suc (t + l) = omega arith in ap (λ n. taking (suc t) run s n) e ∙ taken t run s l
 
 pub counted_after : (t : ℕ) (c : Counting) (s : Store) (l : ℕ) → counting_after t c s (t + l) ≡ c s l
 counted_after zero c s l = let e : 0 + l ≡ l = omega arith in ap (λ n. c s n) e
@@ -75,21 +72,13 @@ takes_both a b c d s t u h m n j l p q x y = record {
 
 go_on_stops : (h : How) (b : Run) (s : Store) (n : ℕ) → Stops h → go_on h b s n ≡ record { how = h; store = s; left = n }
 go_on_stops normally b s n e = absurd e
-go_on_stops by_break b s n e = refl
-go_on_stops by_continue b s n e = refl
-go_on_stops (by_return v) b s n e = refl
-go_on_stops (undefined at) b s n e = refl
-go_on_stops out_of_turns b s n e = refl
+go_on_stops h b s n e = refl
 
 where_stops : (h : How) (d : Counting) (s : Store) (n : ℕ) → Stops h → where_normal h d s n ≡ tally 0 0
 where_stops normally d s n e = absurd e
-where_stops by_break d s n e = refl
-where_stops by_continue d s n e = refl
-where_stops (by_return v) d s n e = refl
-where_stops (undefined at) d s n e = refl
-where_stops out_of_turns d s n e = refl
+where_stops h d s n e = refl
 
-tally_none : (j p : ℕ) → both_tallies (tally j p) (tally 0 0) ≡ tally j p
+pub tally_none : (j p : ℕ) → both_tallies (tally j p) (tally 0 0) ≡ tally j p
 tally_none j p = let e : j + 0 ≡ j = omega arith in let f : p + 0 ≡ p = omega arith in ap (λ i. tally i (p + 0)) e ∙ ap (λ i. tally j i) f
 
 -- what stops lets nothing follow
@@ -129,14 +118,6 @@ takes_one a s t (by_return v) m j p x = takes_stop (run_of a) (in_order (acts_of
 takes_one a s t (undefined at) m j p x = takes_stop (run_of a) (in_order (acts_of [])) a.counts (counts_in_order []) s t (undefined at) m j p tt x
 takes_one a s t out_of_turns m j p x = takes_stop (run_of a) (in_order (acts_of [])) a.counts (counts_in_order []) s t out_of_turns m j p tt x
 
-go_assoc : (h : How) (a b c : Run) → ((s : Store) (n : ℕ) → c s n ≡ both_runs a b s n) → (s : Store) (n : ℕ) → go_on h c s n ≡ (let e = go_on h a s n in go_on e.how b e.store e.left)
-go_assoc normally a b c is s n = is s n
-go_assoc by_break a b c is s n = refl
-go_assoc by_continue a b c is s n = refl
-go_assoc (by_return v) a b c is s n = refl
-go_assoc (undefined at) a b c is s n = refl
-go_assoc out_of_turns a b c is s n = refl
-
 tally_assoc : (a b c : Tally) → both_tallies a (both_tallies b c) ≡ both_tallies (both_tallies a b) c
 tally_assoc a b c =
     let e : a.jumps + (b.jumps + c.jumps) ≡ a.jumps + b.jumps + c.jumps = omega arith in
@@ -145,11 +126,7 @@ tally_assoc a b c =
 
 where_assoc : (h : How) (a : Run) (c d e : Counting) → ((s : Store) (n : ℕ) → e s n ≡ counts_both a c d s n) → (s : Store) (n : ℕ) → where_normal h e s n ≡ both_tallies (where_normal h c s n) (let z = go_on h a s n in where_normal z.how d z.store z.left)
 where_assoc normally a c d e is s n = is s n
-where_assoc by_break a c d e is s n = refl
-where_assoc by_continue a c d e is s n = refl
-where_assoc (by_return v) a c d e is s n = refl
-where_assoc (undefined at) a c d e is s n = refl
-where_assoc out_of_turns a c d e is s n = refl
+where_assoc h a c d e is s n = refl
 
 pub run_append : (xs ys : List Counted) (s : Store) (n : ℕ) → in_order (acts_of (xs ++ ys)) s n ≡ both_runs (in_order (acts_of xs)) (in_order (acts_of ys)) s n
 run_append [] ys s n = refl

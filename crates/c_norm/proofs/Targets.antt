@@ -10,7 +10,7 @@ use Rattle.c_ast.specs.Casts.{of_type}
 use Rattle.c_ast.specs.Nodes.{typed_expr_nodes, typed_exprs_nodes}
 use Rattle.c_ast.specs.ResultTypes.{result_type}
 use Rattle.c_ast.specs.declared.tree.Binary.{Binary}
-use Rattle.c_ast.specs.declared.tree.Binary.TheVariants.{Mul, Div, Rem, Add, Sub, Shl, Shr, Lt, Gt, Le, Ge, Eq, Ne, And, Xor, Or, Both, Either}
+use Rattle.c_ast.specs.declared.tree.Binary.TheVariants.{Mul, Both, Either}
 use Rattle.c_ast.specs.declared.typed.Object.{Object}
 use Rattle.c_ast.specs.declared.typed.Object.TheVariants as object
 use Rattle.c_ast.specs.declared.typed.TypedExpr.{TypedExpr}
@@ -26,11 +26,12 @@ use Rattle.c_meaning.specs.Ranges.{ValuesFit}
 use Rattle.c_meaning.specs.Statements.{Place, of_var, of_element, object_place, element_place, read_place, joined_in}
 use Rattle.c_meaning.proofs.TreeEquations.{expr_var, expr_element, expr_cast, expr_binary}
 use Rattle.c_meaning.proofs.PartsOfNumbers.{price_number, price_variable, price_element, price_cast, price_binary}
+use Rattle.c_meaning.proofs.ValueParts.{element_of_arrays}
 use Rattle.c_norm.specs.Expand.{Outs, setting, decided_by, expand_expr, rest_of, expand_all, set_all}
 use Rattle.c_norm.specs.Forms.{object_kind, cast_to, new_value}
 use Rattle.c_norm.proofs.Stores.{Matches}
 use Rattle.c_norm.proofs.Expands.{Has}
-use Rattle.c_norm.proofs.Rows.{ExpandsAll, none_expand, set_more, element_same}
+use Rattle.c_norm.proofs.Rows.{ExpandsAll, none_expand, set_more}
 use Rattle.c_norm.proofs.Built.{counted_all, Silent, silent_append, silent_one, counted_append, setting_sets, setting_silent}
 use Rattle.c_norm.proofs.Costs.{kind_cost, kind_bounded, root_at_most}
 use Rattle.c_norm.proofs.Meanings.{wide, value_kept, joins, Room, room_left, room_right}
@@ -56,24 +57,9 @@ target_price_is (e ∷ es) = let i = target_price_is es in let q = sum_by-cons (
 -- ---- the price of a new value
 
 plain_price : (op : Binary) → decided_by op ≡ None → operator_price op ≤ 1
-plain_price Mul e = omega arith
-plain_price Div e = omega arith
-plain_price Rem e = omega arith
-plain_price Add e = omega arith
-plain_price Sub e = omega arith
-plain_price Shl e = omega arith
-plain_price Shr e = omega arith
-plain_price Lt e = omega arith
-plain_price Gt e = omega arith
-plain_price Le e = omega arith
-plain_price Ge e = omega arith
-plain_price Eq e = omega arith
-plain_price Ne e = omega arith
-plain_price And e = omega arith
-plain_price Xor e = omega arith
-plain_price Or e = omega arith
 plain_price Both e = absurd (cc)
 plain_price Either e = absurd (cc)
+plain_price op e = omega arith
 
 object_price : (to : Object) (exprs : List TypedExpr) (n : ℕ) → sum_by (λ e. 4 + expr_price e) exprs ≡ 5 * n → kind_price (object_kind to exprs) ≤ 1 + 5 * n
 object_price (object.Var v) exprs n h = let p = price_variable v in omega arith
@@ -166,7 +152,7 @@ module _ (k : Objects) (ws : List Ty) (fit : ValuesFit) where
   element_has a exprs t at s r is u None p old ia iq ip io m = absurd (cc)
   element_has a exprs t at s r is u (Some i) p old ia iq ip io m = record {
     turns = u;
-    is = ap (λ f. f r) (expr_element a exprs k2 t at) ∙ ap (λ vs. element k2 at r a vs) ia ∙ ap (λ o. after_turns at u (element_at r a o)) iq ∙ ap (after_turns at u) (element_same s r a (Some i) m.arrays ∙ subst (λ w. read_place s w ≡ Some old) (sym (some_is (of_element a i) p ip)) io);
+    is = ap (λ f. f r) (expr_element a exprs k2 t at) ∙ ap (λ vs. element k2 at r a vs) ia ∙ ap (λ o. after_turns at u (element_at r a o)) iq ∙ ap (after_turns at u) (sym (element_of_arrays a (Some i) s r m.arrays) ∙ subst (λ w. read_place s w ≡ Some old) (sym (some_is (of_element a i) p ip)) io);
   }
 
   pub old_has : (to : Object) (exprs : List TypedExpr) (n : ℕ) (ty t : Ty) (at : Span) (s r : Store) (is : List ℤ) (u : ℕ) (p : Place) (old : ℤ) → IsObject k to n ty → all_values (map (meaning k2) exprs) r ≡ values is u → object_place k.arrays to is ≡ Some p → read_place s p ≡ Some old → Matches k all s r
@@ -183,23 +169,7 @@ module _ (k : Objects) (ws : List Ty) (fit : ValuesFit) where
   -- the type of the result makes no difference to an operator that evaluates both operands
   joint_value : (p : Profile) (op : Binary) (j : Ty) (x y : ℤ) → binary_value p op (result_type op j) x y ≡ binary_value p op j x y
   joint_value p Mul j x y = refl
-  joint_value p Div j x y = refl
-  joint_value p Rem j x y = refl
-  joint_value p Add j x y = refl
-  joint_value p Sub j x y = refl
-  joint_value p Shl j x y = refl
-  joint_value p Shr j x y = refl
-  joint_value p Lt j x y = refl
-  joint_value p Gt j x y = refl
-  joint_value p Le j x y = refl
-  joint_value p Ge j x y = refl
-  joint_value p Eq j x y = refl
-  joint_value p Ne j x y = refl
-  joint_value p And j x y = refl
-  joint_value p Xor j x y = refl
-  joint_value p Or j x y = refl
-  joint_value p Both j x y = refl
-  joint_value p Either j x y = refl
+  joint_value p op j x y = refl
 
   -- an operator that needs not both is none of an assignment
   pub no_logical : (p : Profile) (op : Binary) (j : Ty) (x y z : ℤ) (d : Option Bool) → decided_by op ≡ d → joined_in p op j x y ≡ Some z → d ≡ None

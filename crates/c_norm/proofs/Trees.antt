@@ -9,7 +9,7 @@ use Rattle.c_ast.specs.Casts.{of_type}
 use Rattle.c_ast.specs.declared.typed.Object.{Object}
 use Rattle.c_ast.specs.declared.typed.Object.TheVariants as object
 use Rattle.c_ast.specs.declared.typed.TypedExpr.{TypedExpr}
-use Rattle.c_ast.specs.declared.typed.TypedStmtKind.{TypedStmtKind, Row_of-TypedStmt, end_of-TypedStmt, more_of-TypedStmt, Held-TypedStmtKind-If-2}
+use Rattle.c_ast.specs.declared.typed.TypedStmtKind.{TypedStmtKind}
 use Rattle.c_ast.specs.declared.typed.TypedStmtKind as tree
 use Rattle.c_ast.specs.declared.normal.NormalStmt.{NormalStmt}
 use Rattle.c_ast.specs.declared.normal.NormalStmtKind.{NormalStmtKind}
@@ -23,11 +23,13 @@ use Rattle.c_meaning.specs.Statements.{Act, meant_if_any, in_order, nothing, obj
 use Rattle.c_meaning.specs.Counts.{tally, Counting, only, counting_after, Counted, run_of, acts_of, counts_in_order, expr_price}
 use Rattle.c_meaning.specs.Lawful.{LawfulExpr, LawfulStmt, IsObject}
 use Rattle.c_meaning.specs.Ranges.{ValuesFit, StatementsFit}
+use Rattle.c_meaning.proofs.RunParts.{taken}
+use Rattle.c_meaning.proofs.CountGrowth.{counted_kind}
 use Rattle.c_norm.specs.Expand.{Out, expand_expr, rest_of}
 use Rattle.c_norm.specs.Forms.{normal_at, form_of}
-use Rattle.c_norm.proofs.Takes.{Takes, takes_turn, takes_end, taken}
+use Rattle.c_norm.proofs.Takes.{Takes, takes_turn, takes_end}
 use Rattle.c_norm.proofs.Stores.{Matches, set_matches}
-use Rattle.c_norm.proofs.Built.{counted_all, counted_kind, built, declare_built, return_built, declared_by, declared_append, counted_append}
+use Rattle.c_norm.proofs.Built.{counted_all, built, declare_built, return_built, declared_by, declared_append, counted_append}
 use Rattle.c_norm.proofs.Costs.{kind_cost}
 use Rattle.c_norm.proofs.Dimensions.{FewDimensions}
 use Rattle.c_norm.proofs.Meanings.{wide, Room}

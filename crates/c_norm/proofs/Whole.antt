@@ -32,10 +32,11 @@ use Rattle.c_meaning.specs.Lawful.{LawfulExpr, LawfulStmt, LawfulStmtHeld, Lawfu
 use Rattle.c_meaning.specs.Ranges.{ValuesFit, StatementsFit}
 use Rattle.c_meaning.proofs.TreeEquations.{expr_number}
 use Rattle.c_meaning.proofs.PartsOfNumbers.{price_number}
+use Rattle.c_meaning.proofs.CountGrowth.{counted_kind}
 use Rattle.c_norm.specs.Expand.{whole, expand_expr, rest_of, set_all}
 use Rattle.c_norm.specs.Forms.{Made, normal_at, block_of, optional, rest_if_any, compound, assignment_form, step_form, form_of, held_form, row_form, all_forms}
 use Rattle.c_norm.proofs.Expands.{Expands, whole_expands}
-use Rattle.c_norm.proofs.Built.{counted_all, counted_kind, built, a_block_of, an_if_of, a_while_of, a_do_of, a_for_of, act_if_held, block_built, if_built, while_built, do_built, for_built, break_built, continue_built, return_built, declare_built, empty_built, declared_by, declared_append, counted_append}
+use Rattle.c_norm.proofs.Built.{counted_all, built, a_block_of, an_if_of, a_while_of, a_do_of, a_for_of, act_if_held, block_built, if_built, while_built, do_built, for_built, break_built, continue_built, return_built, declare_built, empty_built, declared_by, declared_append, counted_append}
 use Rattle.c_norm.proofs.Dimensions.{FewDimensions, at_most_three}
 use Rattle.c_norm.proofs.Meanings.{wide, Room, room_left, room_right}
 use Rattle.c_norm.proofs.Expanded.{expanded}
