@@ -12,48 +12,7 @@ use Rattle.c_ast.specs.declared.mark.Mark.TheVariants as mark
 
 pub mark_some : (m : Mark) → 0 < length (mark_text m)
 mark_some mark.ShlAssign = lit< tt
-mark_some mark.ShrAssign = lit< tt
-mark_some mark.Increment = lit< tt
-mark_some mark.Decrement = lit< tt
-mark_some mark.AddAssign = lit< tt
-mark_some mark.SubAssign = lit< tt
-mark_some mark.MulAssign = lit< tt
-mark_some mark.DivAssign = lit< tt
-mark_some mark.RemAssign = lit< tt
-mark_some mark.AndAssign = lit< tt
-mark_some mark.OrAssign = lit< tt
-mark_some mark.XorAssign = lit< tt
-mark_some mark.Shl = lit< tt
-mark_some mark.Shr = lit< tt
-mark_some mark.LessEqual = lit< tt
-mark_some mark.GreaterEqual = lit< tt
-mark_some mark.EqualEqual = lit< tt
-mark_some mark.NotEqual = lit< tt
-mark_some mark.AndAnd = lit< tt
-mark_some mark.OrOr = lit< tt
-mark_some mark.Plus = lit< tt
-mark_some mark.Minus = lit< tt
-mark_some mark.Star = lit< tt
-mark_some mark.Slash = lit< tt
-mark_some mark.Percent = lit< tt
-mark_some mark.Ampersand = lit< tt
-mark_some mark.Bar = lit< tt
-mark_some mark.Caret = lit< tt
-mark_some mark.Tilde = lit< tt
-mark_some mark.Bang = lit< tt
-mark_some mark.Less = lit< tt
-mark_some mark.Greater = lit< tt
-mark_some mark.Assign = lit< tt
-mark_some mark.Question = lit< tt
-mark_some mark.Colon = lit< tt
-mark_some mark.Semicolon = lit< tt
-mark_some mark.Comma = lit< tt
-mark_some mark.Open = lit< tt
-mark_some mark.Close = lit< tt
-mark_some mark.OpenBracket = lit< tt
-mark_some mark.CloseBracket = lit< tt
-mark_some mark.OpenBrace = lit< tt
-mark_some mark.CloseBrace = lit< tt
+mark_some m = lit< tt
 
 pointwise_len : (xs ys : List ℕ) → pointwise ◌==◌ xs ys ≡ true → length xs ≡ length ys
 pointwise_len [] [] e = refl

@@ -36,7 +36,7 @@ unfolding place_after
 column-le p [] low = omega arith
 column-le p (b ∷ bs) low = let more = column-le (after_byte b p) bs (moved-low (b == 10) p) in let one = moved-column (b == 10) p low in omega (arith, more, one)
 
-place-push : (p : Place) (bs : List ℕ) (b : ℕ) → place_after p (bs ++ b ∷ []) ≡ after_byte b (place_after p bs)
+pub place-push : (p : Place) (bs : List ℕ) (b : ℕ) → place_after p (bs ++ b ∷ []) ≡ after_byte b (place_after p bs)
 unfolding place_after
 place-push p [] b = refl
 place-push p (c ∷ bs) b = place-push (after_byte c p) bs b

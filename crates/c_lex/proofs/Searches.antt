@@ -1,11 +1,12 @@
 -- What searches through lists and texts find.
 use Rattle.std.proofs.Common.{◌≡◌, ℕ, zero, suc, ◌+◌, ◌-◌, ◌<◌, ◌≤◌, Bool, true, false, cond, List, [], ◌∷◌, length, take, drop, get_or, map, Option, Some, None, option_map, refl, ap, ◌∙◌, arith}
-use Rattle.std.proofs.Common.{⊎_elim, take_all, length-drop}
+use Rattle.std.proofs.Common.{⊎_elim, length-drop}
 use Rattle.std.proofs.lemmas.List.{get_or_default}
 use Rattle.std.proofs.lemmas.Bool.{cases_lt}
 use Rattle.std.specs.List.{find}
 use Rattle.std.specs.Map.{lookup}
 use Rattle.c_ast.specs.Pieces.{first_place}
+use Rattle.el_base.proofs.DigitLemmas.{rest_is}
 
 -- the first place that passes
 pub first_place_is : (test : List ℕ → Bool) (bs : List ℕ) (i : ℕ) → i < length bs → test (drop i bs) ≡ true → ((k : ℕ) → k < i → test (drop k bs) ≡ false) → first_place test bs ≡ Some i
@@ -55,9 +56,6 @@ pub no_place_more : (test : List ℕ → Bool) (bs : List ℕ) (i : ℕ) → ((k
     → (k : ℕ) → k < i + 1 → test (drop k bs) ≡ false
 no_place_more test bs i before here k below =
     ⊎_elim (λ low. before k low) (λ high. let same : k ≡ i = omega arith in ap (λ j. test (drop j bs)) same ∙ here) (cases_lt k i)
-
-pub rest_is : (bs : List ℕ) (i : ℕ) → take (length bs - i) (drop i bs) ≡ drop i bs
-rest_is bs i = take_all (length bs - i) (drop i bs) (omega (arith, length-drop i bs))
 
 -- ---- look-ups
 

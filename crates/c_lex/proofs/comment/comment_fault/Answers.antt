@@ -1,6 +1,6 @@
-use Rattle.c_lex.proofs.Searches.{rest_is}
 use Rattle.c_lex.proofs.Marks.{fault_open, fault_splice, fault_none}
 use Rattle.c_lex.proofs.comment.comment_fault.Goals as goal
+use Rattle.el_base.proofs.DigitLemmas.{rest_is}
 
 pub returns-then-is_open : goal.returns-then-is_open
 returns-then-is_open c = fault_open c.args.bytes.now _ _ c.args.cursor.offset c.args.len _ (rest_is c.args.bytes.now c.args.cursor.offset) c.if-is_open.ensures (c.span-opening.ensures c.args.bytes.now c.requires.at)

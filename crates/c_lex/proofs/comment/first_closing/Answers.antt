@@ -1,7 +1,8 @@
 use Rattle.std.proofs.Common.{sym, ap, ◌∙◌, arith}
 use Rattle.c_ast.specs.Pieces.{closes}
-use Rattle.c_lex.proofs.Searches.{first_place_is, no_first_place, no_place_more, rest_is}
+use Rattle.c_lex.proofs.Searches.{first_place_is, no_first_place, no_place_more}
 use Rattle.c_lex.proofs.comment.first_closing.Goals as goal
+use Rattle.el_base.proofs.DigitLemmas.{rest_is}
 
 pub returns-then-closes-clause-place : goal.returns-then-closes-clause-place
 returns-then-closes-clause-place c = sym (first_place_is closes c.args.text.now c.loop-i.i (omega arith) (ap closes (sym (rest_is c.args.text.now c.loop-i.i)) ∙ sym c.if-closes.ensures) c.loop-i.invariant)

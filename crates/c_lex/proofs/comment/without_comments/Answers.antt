@@ -2,9 +2,9 @@ use Rattle.std.proofs.Common.{sym, ap, ◌∙◌, ◌∷◌, [], length, get_or,
 use Rattle.std.proofs.lemmas.List.{length-replicate, drop_more}
 use Rattle.c_ast.specs.Pieces.{comment_len}
 use Rattle.c_lex.specs.Refusals.{end_of}
-use Rattle.c_lex.proofs.Searches.{rest_is}
 use Rattle.c_lex.proofs.Going.{blanked_byte, blanked_comment, blanked_whole}
 use Rattle.c_lex.proofs.comment.without_comments.Goals as goal
+use Rattle.el_base.proofs.DigitLemmas.{rest_is}
 
 pub pieces-preserved-in-Some : goal.pieces-preserved-in-Some
 pieces-preserved-in-Some c = record {

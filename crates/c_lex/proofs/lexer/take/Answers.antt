@@ -1,10 +1,10 @@
 use Rattle.std.proofs.Common.{refl, sym, ap, subst, ◌∙◌, ◌++◌, ◌∷◌, [], arith}
 use Rattle.std.proofs.lemmas.List.{append-nil}
 use Rattle.el_base.specs.declared.span.Span.{Span}
+use Rattle.el_base.proofs.DigitLemmas.{rest_is}
 use Rattle.c_ast.specs.declared.token.Token.{Token}
 use Rattle.c_ast.specs.declared.token.Word.{Word}
 use Rattle.c_lex.specs.Turns.{defines_of, TurnFits}
-use Rattle.c_lex.proofs.Searches.{rest_is}
 use Rattle.c_lex.proofs.Going.{lexed_more, lexed_stop, turned}
 use Rattle.c_lex.proofs.lexer.take.Goals as goal
 
