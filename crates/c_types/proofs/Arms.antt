@@ -5,7 +5,7 @@ use Rattle.c_ast.specs.declared.tree.Binary.{Binary}
 use Rattle.c_ast.specs.declared.tree.Target.{Target}
 use Rattle.c_ast.specs.declared.tree.Expr.{Expr}
 use Rattle.c_ast.specs.declared.tree.Stmt.{Stmt}
-use Rattle.c_ast.specs.declared.tree.StmtKind.{StmtKind, Row_of-Stmt, end_of-Stmt, more_of-Stmt}
+use Rattle.c_ast.specs.declared.tree.StmtKind.{StmtKind, end_of-Stmt, more_of-Stmt}
 use Rattle.c_ast.specs.declared.tree.StmtKind as row
 use Rattle.c_ast.specs.declared.tree.StmtKind.TheVariants as stmt
 use Rattle.c_types.specs.declared.fault.Rule.TheVariants as rule
@@ -30,17 +30,11 @@ with_entry_outside x t (s ∷ ss) = refl
 
 after_outside : (v : Sorts) (k : StmtKind) → outside (sorts_after v k) ≡ outside v
 after_outside v (row.Declare x t e) = with_entry_outside x sort.Scalar v
-after_outside v (row.Block' n r) = refl
-after_outside v (row.Assign target op e) = refl
-after_outside v (row.Step target up) = refl
 after_outside v (row.If' e b (more_of-Stmt s a end_of-Stmt) o) = refl
 after_outside v (row.While' e b (more_of-Stmt s a end_of-Stmt)) = refl
 after_outside v (row.DoWhile' b (more_of-Stmt s a end_of-Stmt) e) = refl
 after_outside v (row.For' n r e o b (more_of-Stmt s a end_of-Stmt)) = refl
-after_outside v row.Break = refl
-after_outside v row.Continue = refl
-after_outside v (row.Return e) = refl
-after_outside v row.Empty = refl
+after_outside v k = refl
 
 pub all_outside : (ss : List Stmt) (v : Sorts) → outside (sorts_after_all v ss) ≡ outside v
 all_outside [] v = refl

@@ -92,17 +92,11 @@ scalar_entered v x h = entered v x sort.Scalar (λ n e. cc) h
 
 after : (v : Sorts) (k : StmtKind) → HasNoHelper v → HasNoHelper (sorts_after v k)
 after v (stmt.Declare x t e) h = scalar_entered v x h
-after v (stmt.Block' n row) h = h
-after v (stmt.Assign target op e) h = h
-after v (stmt.Step target up) h = h
 after v (stmt.If' e b (more_of-Stmt k a end_of-Stmt) o) h = h
 after v (stmt.While' e b (more_of-Stmt k a end_of-Stmt)) h = h
 after v (stmt.DoWhile' b (more_of-Stmt k a end_of-Stmt) e) h = h
 after v (stmt.For' n row e o b (more_of-Stmt k a end_of-Stmt)) h = h
-after v stmt.Break h = h
-after v stmt.Continue h = h
-after v (stmt.Return e) h = h
-after v stmt.Empty h = h
+after v k h = h
 
 after_row : {n : Count} (v : Sorts) (row : Row_of-Stmt n) → HasNoHelper v → HasNoHelper (sorts_after_row v row)
 after_row v end_of-Stmt h = h

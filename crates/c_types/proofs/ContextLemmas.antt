@@ -92,10 +92,6 @@ after_left dims k m l some left out = closed_is dims k m l out some left.scopes_
 pub no_dims : ℕ → List ℕ
 no_dims n = []
 
-pub no_items : {A : Type 0} (xs : List A) → length xs ≡ 0 → xs ≡ []
-no_items [] h = refl
-no_items (x ∷ xs) h = absurd (omega (arith, h))
-
 pub variable_of : {scopes : Bindings} {x : List ℕ} {n : ℕ} {o : Object} {t : Ty} (v : ℕ) → IsObject scopes x n o t → o ≡ object.Var v → declared_in scopes x ≡ Some (binding.Var v t)
 variable_of v (a_variable n w t none is) same = cc
 variable_of v (an_element n a t some is) same = absurd (cc)

@@ -83,18 +83,11 @@ scope_after_row s end_of-Stmt = s
 scope_after_row s (more_of-Stmt k at row) = scope_after_row (scope_after s k) row
 
 after_scope : (s : Scope) (v : Sorts) (k : StmtKind) → sorts_after (s ∷ v) k ≡ scope_after s k ∷ v
-after_scope s v (stmt.Declare x t e) = refl
-after_scope s v (stmt.Block' n row) = refl
-after_scope s v (stmt.Assign target op e) = refl
-after_scope s v (stmt.Step target up) = refl
 after_scope s v (stmt.If' e b (more_of-Stmt k a end_of-Stmt) o) = refl
 after_scope s v (stmt.While' e b (more_of-Stmt k a end_of-Stmt)) = refl
 after_scope s v (stmt.DoWhile' b (more_of-Stmt k a end_of-Stmt) e) = refl
 after_scope s v (stmt.For' n row e o b (more_of-Stmt k a end_of-Stmt)) = refl
-after_scope s v stmt.Break = refl
-after_scope s v stmt.Continue = refl
-after_scope s v (stmt.Return e) = refl
-after_scope s v stmt.Empty = refl
+after_scope s v k = refl
 
 after_scope_row : {n : Count} (s : Scope) (v : Sorts) (row : Row_of-Stmt n) → sorts_after_row (s ∷ v) row ≡ scope_after_row s row ∷ v
 after_scope_row s v end_of-Stmt = refl

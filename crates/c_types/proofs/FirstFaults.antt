@@ -15,16 +15,7 @@ key f = 100 * f.span.start + rule_number f.rule
 
 number_small : (r : Rule) → rule_number r < 100
 number_small rule.Undeclared = omega arith
-number_small rule.Redeclared = omega arith
-number_small rule.NotArray = omega arith
-number_small rule.NotScalar = omega arith
-number_small rule.Dimensions = omega arith
-number_small rule.Length = omega arith
-number_small rule.ReturnKind = omega arith
-number_small rule.OutsideLoop = omega arith
-number_small rule.NotHelper = omega arith
-number_small rule.CallPlace = omega arith
-number_small rule.Arguments = omega arith
+number_small r = omega arith
 
 before_by_numbers : (a b m n : ℕ) → m < 100 → n < 100 → (nat_lt a b || (nat_eq a b && nat_lt m n)) ≡ nat_lt (100 * a + m) (100 * b + n)
 before_by_numbers a b m n small small2 = grind (arith, nat_tests)

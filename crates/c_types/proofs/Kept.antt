@@ -2,6 +2,7 @@
 use Rattle.std.proofs.Common.{◌≡◌, ◌≢◌, ℕ, ◌+◌, ◌<◌, ◌≤◌, Bool, true, false, not, ◌||◌, nat_lt, nat_eq, List, [], ◌∷◌, ◌++◌, length, All, Option, Some, None, IsSome, IsTrue, refl, sym, ap, subst, ◌∙◌, if◌then◌else◌, arith}
 use Rattle.std.proofs.lemmas.Bool.Decides.{nat_tests}
 use Rattle.std.proofs.lemmas.List.Elements.{All-nil, All-cons, All-head, All-tail}
+use Rattle.std.proofs.lemmas.Bool.{not-true, ltb-false}
 use Rattle.std.specs.Prelude.{option_map}
 use Rattle.std.specs.List.{list_any}
 use Rattle.std.specs.Map.{lookup}
@@ -19,7 +20,7 @@ use Rattle.c_ast.specs.declared.tree.Stmt.{Stmt}
 use Rattle.c_ast.specs.declared.tree.StmtKind.{StmtKind, Row_of-Stmt, end_of-Stmt, more_of-Stmt, Held-StmtKind-If-2}
 use Rattle.c_ast.specs.declared.tree.StmtKind as stmt
 use Rattle.c_ast.specs.Typing as typing
-use Rattle.c_ast.specs.Typing.{Names, a_scalar, an_array, sort_in, sort_of, with_name, IsNew, IsUsable, IsCallable, a_helper, IsReturnable, row_length, TypingKind, TypingRow, TypingExpr, TypingOption, TypingTarget, names_after, names_after_row, TypingStmt, TypingHeld, TypingStmts, TypingList, elements_of, IsParameter, TypingParams, scope_of, Typing}
+use Rattle.c_ast.specs.Typing.{Names, a_scalar, an_array, sort_of, with_name, IsNew, IsUsable, IsCallable, a_helper, IsReturnable, row_length, TypingKind, TypingRow, TypingExpr, TypingOption, TypingTarget, names_after, names_after_row, TypingStmt, TypingHeld, TypingStmts, TypingList, elements_of, IsParameter, TypingParams, scope_of, Typing}
 use Rattle.c_types.specs.declared.fault.Rule.{Rule}
 use Rattle.c_types.specs.declared.fault.Rule.TheVariants as rule
 use Rattle.c_types.specs.declared.fault.Fault.{Fault}
@@ -267,17 +268,11 @@ returnable_is (Some t) None h = absurd h
 -- after a statement without a fault the names in force are those of the rules
 pub after_kept : (v : Sorts) (s : StmtKind) (at : Span) (r : Option Ty) (loop : Bool) → act_faults s at r loop v ≡ [] → names_of (sorts_after v s) ≡ names_after (names_of v) s
 after_kept v (stmt.Declare x t e) at r loop h = with_new v x (holds_unless (is_new_in v x) rule.Redeclared at (first_empty (unless (is_new_in v x) rule.Redeclared at) (option_faults (with_entry x sort.Scalar v) e) h))
-after_kept v (stmt.Block' n row) at r loop h = refl
-after_kept v (stmt.Assign target op e) at r loop h = refl
-after_kept v (stmt.Step target up) at r loop h = refl
 after_kept v (stmt.If' e b (more_of-Stmt s a end_of-Stmt) o) at r loop h = refl
 after_kept v (stmt.While' e b (more_of-Stmt s a end_of-Stmt)) at r loop h = refl
 after_kept v (stmt.DoWhile' b (more_of-Stmt s a end_of-Stmt) e) at r loop h = refl
 after_kept v (stmt.For' n row e o b (more_of-Stmt s a end_of-Stmt)) at r loop h = refl
-after_kept v stmt.Break at r loop h = refl
-after_kept v stmt.Continue at r loop h = refl
-after_kept v (stmt.Return e) at r loop h = refl
-after_kept v stmt.Empty at r loop h = refl
+after_kept v s at r loop h = refl
 
 after_row_kept : {n : Count} (v : Sorts) (row : Row_of-Stmt n) (r : Option Ty) (loop : Bool) → acts_faults row r loop v ≡ [] → names_of (sorts_after_row v row) ≡ names_after_row (names_of v) row
 after_row_kept v end_of-Stmt r loop h = refl
@@ -338,17 +333,11 @@ mutual
 -- after a statement that keeps the rules the names in force are those of the rules
 pub after_clean : (v : Sorts) (s : StmtKind) (r : Option Ty) (loop : Bool) → TypingStmt s r loop (names_of v) → names_of (sorts_after v s) ≡ names_after (names_of v) s
 after_clean v (stmt.Declare x t e) r loop k = with_new v x (new_is v x k.0)
-after_clean v (stmt.Block' n row) r loop k = refl
-after_clean v (stmt.Assign target op e) r loop k = refl
-after_clean v (stmt.Step target up) r loop k = refl
 after_clean v (stmt.If' e b (more_of-Stmt s a end_of-Stmt) o) r loop k = refl
 after_clean v (stmt.While' e b (more_of-Stmt s a end_of-Stmt)) r loop k = refl
 after_clean v (stmt.DoWhile' b (more_of-Stmt s a end_of-Stmt) e) r loop k = refl
 after_clean v (stmt.For' n row e o b (more_of-Stmt s a end_of-Stmt)) r loop k = refl
-after_clean v stmt.Break r loop k = refl
-after_clean v stmt.Continue r loop k = refl
-after_clean v (stmt.Return e) r loop k = refl
-after_clean v stmt.Empty r loop k = refl
+after_clean v s r loop k = refl
 
 after_row_clean : {n : Count} (v : Sorts) (row : Row_of-Stmt n) (r : Option Ty) (loop : Bool) → TypingStmts row r loop (names_of v) → names_of (sorts_after_row v row) ≡ names_after_row (names_of v) row
 after_row_clean v end_of-Stmt r loop k = refl
@@ -433,13 +422,6 @@ zero_free (d ∷ ds) k = rw (not_zero d (All-head (λ d. 0 < d) d ds k)) (zero_f
     not_zero : (d : ℕ) → 0 < d → nat_eq d 0 ≡ false
     not_zero d h = grind (arith, nat_tests)
 
-not_true : (b : Bool) → not b ≡ true → b ≡ false
-not_true true h = absurd (cc)
-not_true false h = refl
-
-at_most : (a b : ℕ) → nat_lt a b ≡ false → b ≤ a
-at_most a b h = grind (arith, nat_tests)
-
 not_below : (a b : ℕ) → b ≤ a → nat_lt a b ≡ false
 not_below a b h = grind (arith, nat_tests)
 
@@ -450,12 +432,12 @@ param_kept s v n p h =
     let new : List Fault = unless (is_new_in (s ∷ v) p.name) rule.Redeclared p.at in
     let few : List Fault = unless (not (nat_lt max_dimensions (length p.dims))) rule.Dimensions p.at in
     let rest : few ++ unless fits rule.Length p.at ≡ [] = second_empty new (few ++ unless fits rule.Length p.at) h in
-    let small : list_any (λ d. nat_eq d 0) p.dims || nat_lt max_elements total ≡ false = not_true (list_any (λ d. nat_eq d 0) p.dims || nat_lt max_elements total) (holds_unless fits rule.Length p.at (second_empty few (unless fits rule.Length p.at) rest)) in
+    let small : list_any (λ d. nat_eq d 0) p.dims || nat_lt max_elements total ≡ false = not-true (list_any (λ d. nat_eq d 0) p.dims || nat_lt max_elements total) (holds_unless fits rule.Length p.at (second_empty few (unless fits rule.Length p.at) rest)) in
     record {
       rule_21_new = is_new (s ∷ v) p.name (holds_unless (is_new_in (s ∷ v) p.name) rule.Redeclared p.at (first_empty new (few ++ unless fits rule.Length p.at) h));
-      rule_24_dimensions = at_most max_dimensions (length p.dims) (not_true (nat_lt max_dimensions (length p.dims)) (holds_unless (not (nat_lt max_dimensions (length p.dims))) rule.Dimensions p.at (first_empty few (unless fits rule.Length p.at) rest)));
+      rule_24_dimensions = ltb-false max_dimensions (length p.dims) (not-true (nat_lt max_dimensions (length p.dims)) (holds_unless (not (nat_lt max_dimensions (length p.dims))) rule.Dimensions p.at (first_empty few (unless fits rule.Length p.at) rest)));
       rule_25_no_zero = no_zero p.dims (or_first (list_any (λ d. nat_eq d 0) p.dims) (nat_lt max_elements total) small);
-      rule_25_elements = at_most max_elements total (or_second (list_any (λ d. nat_eq d 0) p.dims) (nat_lt max_elements total) small);
+      rule_25_elements = ltb-false max_elements total (or_second (list_any (λ d. nat_eq d 0) p.dims) (nat_lt max_elements total) small);
     }
 
 param_clean : (s : List (List ℕ × Sort)) (v : Sorts) (n : ℕ) (p : Param) → IsParameter (scope_for s) n p → param_faults p (is_new_in (s ∷ v) p.name) (n + elements_of p.dims) ≡ []

@@ -27,7 +27,6 @@ pub mod ProgramStatementParts
 pub mod ProgramsKept
 pub mod Refusals
 pub mod Renamed
-pub mod StatementNodes
 pub mod TypingRows
 pub mod UsedNames
 pub mod Worked

@@ -20,18 +20,18 @@ use Rattle.c_ast.specs.ResultTypes.{promoted, usual, joint_type, result_type, un
 use Rattle.c_ast.specs.Casts.{Context, declared_as, left_type, right_type, expr_at}
 use Rattle.c_ast.specs.Casts as casts
 use Rattle.c_ast.specs.ProgramCasts as rule
-use Rattle.c_ast.specs.ProgramCasts.{known_of, helper_from, helper_of, prog_of, prog_converted, prog_converted_all, CastsCallExpr, CastsCallExprs, CastsCallTarget, CastsCallOption, CastsCallStmt, CastsCallHeld, CastsCallStmts}
+use Rattle.c_ast.specs.ProgramCasts.{known_of, helper_from, helper_of, prog_of, prog_converted, prog_converted_all, CastsCallExpr, CastsCallExprs, CastsCallTarget, CastsCallStmt, CastsCallHeld, CastsCallStmts}
 use Rattle.c_types.specs.declared.known.Binding.TheVariants as binding
 use Rattle.c_types.specs.Scopes.{declared_in}
 use Rattle.c_types.specs.Contexts.{Bindings, context_in, IsObject, a_variable, an_element}
 use Rattle.c_types.specs.ProgramContexts.{callees, types_of, IsProgName, IsProgElement, IsProgExpr, AreProgExprs, AreArguments, IsProgOption, IsProgTarget, IsProgValue, IsProgConverted, a_value}
 use Rattle.c_types.specs.ProgramParts.{IsCallee, HasCallee}
 use Rattle.std.proofs.lemmas.Bool.{false≢true}
-use Rattle.std.proofs.lemmas.List.{length-map}
+use Rattle.std.proofs.lemmas.List.{length-map, nil_from_length}
 use Rattle.std.proofs.Math.ListN.{drop_of_length-le}
 use Rattle.c_types.proofs.Lookups.{same_name}
 use Rattle.c_types.proofs.Items.{item_here}
-use Rattle.c_types.proofs.ContextLemmas.{outside, innermost_outside, found, unfound, no_dims, no_items, variable_of, array_of, no_index}
+use Rattle.c_types.proofs.ContextLemmas.{outside, innermost_outside, found, unfound, no_dims, variable_of, array_of, no_index}
 
 module _ (helpers : List Helper) where
   pub held_scopes : {r : Option Ty} {c d : Context} {o : Option Stmt} {p : Option ProgStmt} → CastsCallHeld (callees helpers) r c o p d → d.scopes ≡ c.scopes
@@ -39,20 +39,10 @@ module _ (helpers : List Helper) where
   held_scopes (rule.a_statement r c d a b h) = refl
 
   pub stmt_outside : {r : Option Ty} {c d : Context} {a : Stmt} {b : ProgStmt} → CastsCallStmt (callees helpers) r c a b d → outside d.scopes ≡ outside c.scopes
-  stmt_outside (rule.block r c d ss ts s h) = refl
   stmt_outside (rule.declare r c x t s) = innermost_outside (x, casts.a_var (length c.types) t) c.scopes
   stmt_outside (rule.declare_value r c x t e f s h) = innermost_outside (x, casts.a_var (length c.types) t) c.scopes
-  stmt_outside (rule.assign r c target to t op e f s h i) = refl
-  stmt_outside (rule.step r c target to t up s h) = refl
   stmt_outside (rule.choice r c d d2 e f a b o p s h i j) = ap outside (held_scopes j)
-  stmt_outside (rule.while_loop r c d e f a b s h i) = refl
-  stmt_outside (rule.do_loop r c d e f a b s h i) = refl
-  stmt_outside (rule.for_loop r c d d2 d3 ss ts e f o p a b s h i j k) = refl
-  stmt_outside (rule.leaving r c s) = refl
-  stmt_outside (rule.continuing r c s) = refl
-  stmt_outside (rule.return_nothing r c s) = refl
-  stmt_outside (rule.return_value t c e f s h) = refl
-  stmt_outside (rule.empty r c s) = refl
+  stmt_outside _ = refl
 
   pub stmts_outside : {r : Option Ty} {c d : Context} {ss : List Stmt} {ts : List ProgStmt} → CastsCallStmts (callees helpers) r c ss ts d → outside d.scopes ≡ outside c.scopes
   stmts_outside (rule.done r c) = refl
@@ -182,7 +172,7 @@ pub whole_made : (scopes : Bindings) (x : List ℕ) (v n : ℕ) (t : Ty) (fs : L
     → f ≡ prog_of (typed.Var v) t s → IsProgElement scopes x fs s f
 whole_made scopes x v n t fs s o f h long is made =
     subst (IsProgElement scopes x fs s) (sym made)
-    (record { casts = λ gs es hs. whole_node gs scopes x v t es s (variable_of v h is) (no_items es (sym (long_as gs scopes es fs hs) ∙ sym long ∙ no_index v h is)) })
+    (record { casts = λ gs es hs. whole_node gs scopes x v t es s (variable_of v h is) (nil_from_length es (sym (long_as gs scopes es fs hs) ∙ sym long ∙ no_index v h is)) })
 
 pub element_made : (scopes : Bindings) (x : List ℕ) (a n : ℕ) (t : Ty) (fs : List ProgExpr) (s : Span) (o : Object) (f : ProgExpr) → IsObject scopes x n o t → o ≡ object.Array a
     → f ≡ prog_of (typed.Element a fs) t s → IsProgElement scopes x fs s f

@@ -6,7 +6,7 @@ use Rattle.std.specs.Cmp.Lexicographic.{bytes_decides}
 use Rattle.std.specs.Map.{lookup}
 use Rattle.c_ast.specs.declared.tree.Param.{Param}
 use Rattle.c_ast.specs.declared.tree.Stmt.{Stmt}
-use Rattle.c_ast.specs.declared.tree.StmtKind.{StmtKind, Row_of-Stmt, end_of-Stmt, more_of-Stmt}
+use Rattle.c_ast.specs.declared.tree.StmtKind.{StmtKind, end_of-Stmt, more_of-Stmt}
 use Rattle.c_ast.specs.declared.tree.StmtKind as row
 use Rattle.c_ast.specs.declared.tree.Helper.{Helper}
 use Rattle.c_ast.specs.Typing.{Sort, a_scalar, a_helper, Names, sort_in, sort_of, with_name, names_after, IsUsable, IsCallable}
@@ -86,17 +86,11 @@ name_inside (s ∷ ss) x known some = refl
 
 pub after_inside : (names : Names) (s : StmtKind) (known : List (List ℕ × Sort)) → 0 < length names → names_after (names ++ known ∷ []) s ≡ names_after names s ++ known ∷ []
 after_inside names (row.Declare x t e) known some = name_inside names x known some
-after_inside names (row.Block' n r) known some = refl
-after_inside names (row.Assign target op e) known some = refl
-after_inside names (row.Step target up) known some = refl
 after_inside names (row.If' e b (more_of-Stmt s a end_of-Stmt) o) known some = refl
 after_inside names (row.While' e b (more_of-Stmt s a end_of-Stmt)) known some = refl
 after_inside names (row.DoWhile' b (more_of-Stmt s a end_of-Stmt) e) known some = refl
 after_inside names (row.For' n r e o b (more_of-Stmt s a end_of-Stmt)) known some = refl
-after_inside names row.Break known some = refl
-after_inside names row.Continue known some = refl
-after_inside names (row.Return e) known some = refl
-after_inside names row.Empty known some = refl
+after_inside names s known some = refl
 
 name_some : (names : Names) (x : List ℕ) → 0 < length names → 0 < length (with_name x names)
 name_some [] x some = absurd (omega (arith, some))
@@ -104,17 +98,11 @@ name_some (s ∷ ss) x some = omega arith
 
 pub after_some : (names : Names) (s : StmtKind) → 0 < length names → 0 < length (names_after names s)
 after_some names (row.Declare x t e) some = name_some names x some
-after_some names (row.Block' n r) some = some
-after_some names (row.Assign target op e) some = some
-after_some names (row.Step target up) some = some
 after_some names (row.If' e b (more_of-Stmt s a end_of-Stmt) o) some = some
 after_some names (row.While' e b (more_of-Stmt s a end_of-Stmt)) some = some
 after_some names (row.DoWhile' b (more_of-Stmt s a end_of-Stmt) e) some = some
 after_some names (row.For' n r e o b (more_of-Stmt s a end_of-Stmt)) some = some
-after_some names row.Break some = some
-after_some names row.Continue some = some
-after_some names (row.Return e) some = some
-after_some names row.Empty some = some
+after_some names s some = some
 
 pub list_inside : (ss : List Stmt) (names : Names) (known : List (List ℕ × Sort)) → 0 < length names → names_after_list (names ++ known ∷ []) ss ≡ names_after_list names ss ++ known ∷ []
 list_inside [] names known some = refl

@@ -1,5 +1,6 @@
 -- The parts of a statement of a program that keeps the typing rules keep them where they stand, and the variables up to their ends can be numbered.
 use Rattle.std.proofs.Common.{◌≡◌, ℕ, suc, ◌+◌, ◌<◌, ◌≤◌, ◌^◌, Bool, true, false, List, [], ◌∷◌, ◌++◌, length, drop, get_or, Option, Some, None, IsSome, refl, sym, ap, subst, ◌∙◌, arith}
+use Rattle.std.proofs.lemmas.List.Sums.{sum_by-cons}
 use Rattle.std.specs.Prelude.{IfSome}
 use Rattle.el_base.specs.declared.ty.Ty.{Ty}
 use Rattle.c_ast.specs.declared.tree.Binary.{Binary}
@@ -14,6 +15,7 @@ use Rattle.c_ast.specs.Nodes.{stmt_nodes, stmts_nodes, held_nodes}
 use Rattle.c_ast.specs.Typing.{with_name, names_after, IsNew, IsReturnable, TypingExpr, TypingOption, TypingStmt, TypingList}
 use Rattle.c_ast.specs.Programs.{names_after_list}
 use Rattle.c_ast.specs.Casts.{stmt_at}
+use Rattle.c_ast.proofs.NodeEquations.{stmt_block, stmt_choice, stmt_while_loop, stmt_do_loop, stmt_for_loop}
 use Rattle.c_types.specs.declared.known.Binding.TheVariants as binding
 use Rattle.c_types.specs.declared.known.Known.{Known}
 use Rattle.c_types.specs.Scopes.{is_new_in, with_entry, scopes_by}
@@ -22,7 +24,6 @@ use Rattle.c_types.specs.TypingParts.{names_as, names_in}
 use Rattle.c_types.specs.ProgramContexts.{IsProgStmt, AreProgStmts, IsProgHeld, IsProgWithin, IsProgInside}
 use Rattle.c_types.specs.ProgramParts.{Around, names_with, TypingExprWith, TypingTargetWith, TypingStmtWith, TypingListWith}
 use Rattle.c_types.proofs.ContextLemmas as made
-use Rattle.c_types.proofs.StatementNodes.{block_nodes, if_nodes, while_nodes, do_nodes, for_nodes, one_more_nodes}
 use Rattle.c_types.proofs.UsedNames.{new_in}
 use Rattle.c_types.proofs.Items.{item_here}
 use Rattle.c_types.proofs.TypingRows.{in_option, in_block, in_if, in_while, in_do, InFor, in_for}
@@ -83,7 +84,7 @@ module _ (helpers : List Helper) where
 
   pub block_part : (r : Option Ty) (v w : Bindings) (n m : ℕ) (s : Stmt) (ss us : List Stmt) → TypingStmtWith helpers r v n s → s.kind ≡ stmt.Block ss → us ≡ ss → w ≡ [] ∷ v → m ≡ n → TypingListWith helpers r w m us
   block_part r v w n m s ss us h is same entered long =
-      let few : n + (1 + stmts_nodes ss) < 2 ^ 32 = kind_numbered r v n (1 + stmts_nodes ss) s (stmt.Block ss) h is (block_nodes ss s.at) in
+      let few : n + (1 + stmts_nodes ss) < 2 ^ 32 = kind_numbered r v n (1 + stmts_nodes ss) s (stmt.Block ss) h is (stmt_block ss s.at) in
       list_at r ([] ∷ v) w n m ss us same entered long
       (record { around = h.around; loop = h.loop; some = omega arith; typing = in_block ss r h.loop (names_with h.around v) (kind_typing r v n s (stmt.Block ss) h is); numbered = omega (arith, few) })
 
@@ -145,13 +146,13 @@ module _ (helpers : List Helper) where
 
   pub if_then : (r : Option Ty) (v : Bindings) (n : ℕ) (s : Stmt) (e : Expr) (a : Stmt) (o : Option Stmt) → TypingStmtWith helpers r v n s → s.kind ≡ stmt.If e a o → TypingStmtWith helpers r ([] ∷ v) n a
   if_then r v n s e a o h is =
-      let few = kind_numbered r v n _ s (stmt.If e a o) h is (if_nodes e a o s.at) in
+      let few = kind_numbered r v n _ s (stmt.If e a o) h is (stmt_choice e a o s.at) in
       record { around = h.around; loop = h.loop; some = omega arith; typing = (in_if e a o r h.loop (names_with h.around v) (kind_typing r v n s (stmt.If e a o) h is)).1; numbered = omega (arith, few) }
 
   pub if_other : (r : Option Ty) (k m : Known) (s : Stmt) (e : Expr) (a : Stmt) (o : Option Stmt) (b : ProgStmt) → TypingStmtWith helpers r k.scopes (length k.types) s → s.kind ≡ stmt.If e a o
       → IsProgInside helpers r k a b m → IfSome o (TypingStmtWith helpers r ([] ∷ m.scopes) (length m.types))
   if_other r k m s e a o b h is done =
-      let few = kind_numbered r k.scopes (length k.types) _ s (stmt.If e a o) h is (if_nodes e a o s.at) in
+      let few = kind_numbered r k.scopes (length k.types) _ s (stmt.If e a o) h is (stmt_choice e a o s.at) in
       let vars : length m.types ≤ length k.types + stmt_nodes a = inside_vars r k m a b done in
       held_in r h.around h.loop m.scopes (length m.types) o
       (subst (λ names. IfSome o (λ s. TypingStmt s.kind r h.loop ([] ∷ names))) (sym (inside_names r h.around k m a b done))
@@ -165,7 +166,7 @@ module _ (helpers : List Helper) where
 
   pub while_body : (r : Option Ty) (v : Bindings) (n : ℕ) (s : Stmt) (e : Expr) (a : Stmt) → TypingStmtWith helpers r v n s → s.kind ≡ stmt.While e a → TypingStmtWith helpers r ([] ∷ v) n a
   while_body r v n s e a h is =
-      let few = kind_numbered r v n _ s (stmt.While e a) h is (while_nodes e a s.at) in
+      let few = kind_numbered r v n _ s (stmt.While e a) h is (stmt_while_loop e a s.at) in
       record { around = h.around; loop = true; some = omega arith; typing = (in_while e a r h.loop (names_with h.around v) (kind_typing r v n s (stmt.While e a) h is)).1; numbered = omega (arith, few) }
 
   pub do_cond : (r : Option Ty) (v : Bindings) (n : ℕ) (s a : Stmt) (e : Expr) → TypingStmtWith helpers r v n s → s.kind ≡ stmt.DoWhile a e → TypingExprWith helpers v e
@@ -173,7 +174,7 @@ module _ (helpers : List Helper) where
 
   pub do_body : (r : Option Ty) (v : Bindings) (n : ℕ) (s a : Stmt) (e : Expr) → TypingStmtWith helpers r v n s → s.kind ≡ stmt.DoWhile a e → TypingStmtWith helpers r ([] ∷ v) n a
   do_body r v n s a e h is =
-      let few = kind_numbered r v n _ s (stmt.DoWhile a e) h is (do_nodes a e s.at) in
+      let few = kind_numbered r v n _ s (stmt.DoWhile a e) h is (stmt_do_loop a e s.at) in
       record { around = h.around; loop = true; some = omega arith; typing = (in_do a e r h.loop (names_with h.around v) (kind_typing r v n s (stmt.DoWhile a e) h is)).0; numbered = omega (arith, few) }
 
   -- a for that keeps the rules where such declarations are in force, and the parts of it
@@ -185,7 +186,7 @@ module _ (helpers : List Helper) where
   for_in : (r : Option Ty) (k : Known) (s : Stmt) (ss : List Stmt) (e : Option Expr) (o : Option Stmt) (a : Stmt) → TypingStmtWith helpers r k.scopes (length k.types) s → s.kind ≡ stmt.For ss e o a
       → ForIn r k ss e o a
   for_in r k s ss e o a h is =
-      let few = kind_numbered r k.scopes (length k.types) _ s (stmt.For ss e o a) h is (for_nodes ss e o a s.at) in
+      let few = kind_numbered r k.scopes (length k.types) _ s (stmt.For ss e o a) h is (stmt_for_loop ss e o a s.at) in
       record { around = h.around; parts = in_for ss e o a r h.loop (names_with h.around k.scopes) (kind_typing r k.scopes (length k.types) s (stmt.For ss e o a) h is); numbered = omega (arith, few) }
 
   pub for_first : (r : Option Ty) (k : Known) (w : Bindings) (m : ℕ) (s : Stmt) (ss us : List Stmt) (e : Option Expr) (o : Option Stmt) (a : Stmt) → TypingStmtWith helpers r k.scopes (length k.types) s
@@ -246,7 +247,7 @@ module _ (helpers : List Helper) where
   first_item r v n ss i s lt is h =
       let k : TypingListWith helpers r v n (s ∷ drop (i + 1) ss) = subst (TypingListWith helpers r v n) (item_here ss i s lt is) h in
       let few : n + stmts_nodes (s ∷ drop (i + 1) ss) < 2 ^ 32 = k.numbered in
-      record { around = k.around; loop = k.loop; some = k.some; typing = k.typing.0; numbered = omega (arith, few, one_more_nodes s (drop (i + 1) ss)) }
+      record { around = k.around; loop = k.loop; some = k.some; typing = k.typing.0; numbered = omega (arith, few, sum_by-cons stmt_nodes s (drop (i + 1) ss)) }
 
   pub other_items : (r : Option Ty) (k l : Known) (ss : List Stmt) (i : ℕ) (s : Stmt) (t : ProgStmt) → i < length ss → s ≡ get_or ss i s → TypingListWith helpers r k.scopes (length k.types) (drop i ss)
       → IsProgStmt helpers r k s t l → TypingListWith helpers r l.scopes (length l.types) (drop (i + 1) ss)
@@ -260,5 +261,5 @@ module _ (helpers : List Helper) where
         loop = j.loop;
         some = some_after r k l s t j.some done;
         typing = subst (TypingList rest r j.loop) (sym (after_statement r j.around k l s t j.some done)) j.typing.1;
-        numbered = omega (arith, few, vars, one_more_nodes s rest);
+        numbered = omega (arith, few, vars, sum_by-cons stmt_nodes s rest);
       }
