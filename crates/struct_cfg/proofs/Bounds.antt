@@ -9,7 +9,7 @@ use Rattle.el_base.specs.declared.operation.Op1.TheVariants.{Zero32, Zero64, U8t
 use Rattle.el_base.specs.declared.operation.Op2.TheVariants.{Mul64, Add64}
 use Rattle.el_base.specs.Widths.{ty_width}
 use Rattle.c_ast.specs.declared.tree.Binary.{Binary}
-use Rattle.c_ast.specs.declared.tree.Binary.TheVariants.{Mul, Div, Rem, Add, Sub, Shl, Shr, Lt, Gt, Le, Ge, Eq, Ne, And, Xor, Or, Both, Either}
+use Rattle.c_ast.specs.declared.tree.Binary.TheVariants.{Shl, Shr, Gt, Ge, Both, Either}
 use Rattle.c_ast.specs.declared.typed.ArrayOf.{ArrayOf}
 use Rattle.c_ast.specs.declared.typed.TypedExprKind.{TypedExprKind, Row_of-TypedExpr, end_of-TypedExpr, more_of-TypedExpr}
 use Rattle.c_ast.specs.declared.typed.TypedExprKind as tree
@@ -81,10 +81,7 @@ module _ (c : List Instr → ℕ) (adding : Adding c) where
     narrow_flag U8 v e = step_most (One U8to32 v) one refl (omega arith)
     narrow_flag I16 v e = step_most (One U16to32 v) one refl (omega arith)
     narrow_flag U16 v e = step_most (One U16to32 v) one refl (omega arith)
-    narrow_flag I32 v e = absurd (cc)
-    narrow_flag U32 v e = absurd (cc)
-    narrow_flag I64 v e = absurd (cc)
-    narrow_flag U64 v e = absurd (cc)
+    narrow_flag t v e = absurd (cc)
 
     test_most : (t : Ty) (v : ℕ) → AtMost c (zero_test t v) (one + one)
     test_most I8 v = twice_most U8to32 Zero32 v (one + one) (omega arith)
@@ -97,14 +94,11 @@ module _ (c : List Instr → ℕ) (adding : Adding c) where
     test_most U64 v = step_most (One Zero64 v) (one + one) refl (omega arith)
 
     wide_test : (t : Ty) (v : ℕ) → is_narrow t ≡ false → AtMost c (zero_test t v) one
-    wide_test I8 v e = absurd (cc)
-    wide_test U8 v e = absurd (cc)
-    wide_test I16 v e = absurd (cc)
-    wide_test U16 v e = absurd (cc)
     wide_test I32 v e = step_most (One Zero32 v) one refl (omega arith)
     wide_test U32 v e = step_most (One Zero32 v) one refl (omega arith)
     wide_test I64 v e = step_most (One Zero64 v) one refl (omega arith)
     wide_test U64 v e = step_most (One Zero64 v) one refl (omega arith)
+    wide_test t v e = absurd (cc)
 
     -- two sides, a selection by them, and one or two steps more
     sides_most : (a b : Laying) (f : ℕ → ℕ → Laying) (g : ℕ → Laying) (m k l r : ℕ) → AtMost c a m → AtMost c b k → ((x y : ℕ) → AtMost c (f x y) one) → ((x : ℕ) → AtMost c (g x) l) → m + (k + (one + l)) ≤ r
@@ -127,24 +121,13 @@ module _ (c : List Instr → ℕ) (adding : Adding c) where
     either_most false q t u a b e f = sides_most (zero_test t a) (zero_test u b) first_then (λ s. one_step (One Zero32 s)) one (one + one) one _ (wide_test t a e) (test_most u b) (λ x y. chosen_most x y x) (λ x. step_most (One Zero32 x) one refl (omega arith)) (omega arith)
 
     pub joined_most : (op : Binary) (t u : Ty) (a b m : ℕ) → one * (1 + operator_price op) ≤ m → AtMost c (joined op t u a b) m
-    joined_most Mul t u a b m le = step_most (Two _ a b) m refl (omega arith)
-    joined_most Div t u a b m le = step_most (Two _ a b) m refl (omega arith)
-    joined_most Rem t u a b m le = step_most (Two _ a b) m refl (omega arith)
-    joined_most Add t u a b m le = step_most (Two _ a b) m refl (omega arith)
-    joined_most Sub t u a b m le = step_most (Two _ a b) m refl (omega arith)
     joined_most Shl t u a b m le = after_most (converted u t b) _ one one m (applied_most (conversion_op u t) b one (omega arith)) (λ v. step_most (Two _ a v) one refl (omega arith)) (omega arith)
     joined_most Shr t u a b m le = after_most (converted u t b) _ one one m (applied_most (conversion_op u t) b one (omega arith)) (λ v. step_most (Two _ a v) one refl (omega arith)) (omega arith)
-    joined_most Lt t u a b m le = step_most (Two _ a b) m refl (omega arith)
     joined_most Gt t u a b m le = step_most (Two _ b a) m refl (omega arith)
-    joined_most Le t u a b m le = step_most (Two _ a b) m refl (omega arith)
     joined_most Ge t u a b m le = step_most (Two _ b a) m refl (omega arith)
-    joined_most Eq t u a b m le = step_most (Two _ a b) m refl (omega arith)
-    joined_most Ne t u a b m le = step_most (Two _ a b) m refl (omega arith)
-    joined_most And t u a b m le = step_most (Two _ a b) m refl (omega arith)
-    joined_most Xor t u a b m le = step_most (Two _ a b) m refl (omega arith)
-    joined_most Or t u a b m le = step_most (Two _ a b) m refl (omega arith)
     joined_most Both t u a b m le = λ n. let h = both_most (is_narrow t) (is_narrow u) t u a b refl refl n in omega (arith, h)
     joined_most Either t u a b m le = λ n. let h = either_most (is_narrow t) (is_narrow u) t u a b refl refl n in omega (arith, h)
+    joined_most op t u a b m le = step_most (Two _ a b) m refl (omega arith)
 
     -- ---- places
 

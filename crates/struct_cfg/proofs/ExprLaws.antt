@@ -4,10 +4,10 @@ use Rattle.std.specs.Prelude.{Bool, true, false, ℤ, pos, slice_get, All, not, 
 use Rattle.std.proofs.lemmas.Int.{ints}
 use Rattle.std.proofs.lemmas.List.Elements.{All-get_or, All-head, All-tail, All-nil, All-cons}
 use Rattle.std.proofs.Math.Nat.{mod-eq_of_lt, mul-le-mul_left}
-use Rattle.std.proofs.lemmas.Option.{get_or_from_slice_get, none-some, slice_get_within}
+use Rattle.std.proofs.lemmas.Option.{get_or_from_slice_get, none-some, slice_get_within, same_Some}
 use mathlib.Core.Former.{Count}
 use Rattle.el_base.specs.declared.ty.Ty.{Ty}
-use Rattle.el_base.specs.declared.ty.Ty.TheVariants.{I8, U8, I16, U16, I32, U32, I64, U64}
+use Rattle.el_base.specs.declared.ty.Ty.TheVariants.{I8, I32}
 use Rattle.el_base.specs.declared.span.Span.{Span}
 use Rattle.el_base.specs.Numbers.{IsInRange, pattern}
 use Rattle.el_base.specs.Widths.{ty_width}
@@ -26,8 +26,14 @@ use Rattle.c_meaning.specs.Operators.{is_zero, truth, unary_value, binary_value}
 use Rattle.c_meaning.specs.Patterns.{KeepsPatterns, KeepsPattern, ShiftKeepsPatterns, on_patterns, on_pattern}
 use Rattle.c_meaning.specs.Stores.{Store, Objects, IsFitting, elements, place, place_from, dims_of, read_element}
 use Rattle.c_meaning.specs.Expressions.{Val, undefined_value, value, Vals, undefined_values, values, Meaning, after_turns, on_one, on_two, later, as_truth, chosen, one_of, always, element, element_at, all_values, kind_meaning, row_meanings}
-use Rattle.c_meaning.specs.Lawful.{LawfulKind, LawfulRow, IsElement, row_length, ReadsNone, ReadsOutside, RowReadsOutside, SidesReadNone, both_or_either, LawfulNormalExpr}
+use Rattle.c_meaning.specs.Lawful.{LawfulKind, LawfulRow, IsElement, row_length, ReadsNone, ReadsOutside, RowReadsOutside, both_or_either, LawfulNormalExpr}
 use Rattle.c_meaning.specs.Sizes.{reads}
+use Rattle.c_meaning.proofs.TypeLemmas.{promoted_usual}
+use Rattle.c_meaning.proofs.OperatorLaws.{is_plain}
+use Rattle.c_meaning.proofs.ValueParts.{value_one}
+use Rattle.c_meaning.proofs.ReadLemmas.{sides_none}
+use Rattle.c_meaning.proofs.ParameterLists.{some_elements}
+use Rattle.c_meaning.proofs.StoreParts.{dims_is}
 use Rattle.struct_cfg.specs.Layings.{Laying, one_step, after, applied, Piece}
 use Rattle.struct_cfg.specs.Operators.{converted, unary_op, flag, is_narrow, joined, place_laid}
 use Rattle.struct_cfg.specs.Exprs.{kind_laying, row_pieces, expr_laying}
@@ -37,18 +43,15 @@ use Rattle.struct_cfg.proofs.Works as works
 use Rattle.struct_cfg.proofs.Works.{const_makes, no_step_makes, makes_equal, after_makes, after_any, still_seen, steps_add, select_zero, select_more}
 use Rattle.struct_cfg.proofs.Bounds.{kind_reads}
 use Rattle.struct_cfg.proofs.Truths.{flag_makes, both_none, both_zero, both_some, either_some, either_zero, either_more}
-use Rattle.struct_cfg.proofs.Types.{OpLaws, is_plain, promoted_usual, pattern_none, pattern_some, pattern_conv}
+use Rattle.struct_cfg.proofs.Types.{OpLaws, pattern_none, pattern_some, pattern_conv}
 use Rattle.struct_cfg.proofs.JoinLaws.{plain_makes, unary_makes, converted_makes, left_shift_makes, right_shift_makes}
-use Rattle.struct_cfg.proofs.Places.{PieceLaw, PieceLaws, no_piece, one_piece, place_makes, load_makes, dims_is, cells_are}
+use Rattle.struct_cfg.proofs.Places.{PieceLaw, PieceLaws, no_piece, one_piece, place_makes, load_makes, cells_are}
 
 -- ---- what makes up a value
 
-value_is : (x y : ℤ) (t u : ℕ) → value x t ≡ value y u → x ≡ y
-value_is x y t u e = cc
-
 after_some : (p : Span) (n m : ℕ) (r : Option ℤ) (z : ℤ) → after_turns p n r ≡ value z m → r ≡ Some z
 after_some p n m None z e = absurd (cc)
-after_some p n m (Some x) z e = ap Some (value_is x z n m e)
+after_some p n m (Some x) z e = ap Some (value_one x z n m e)
 
 pub record OneValue (f : ℤ → Option ℤ) (a : Val) (z : ℤ) : Type 0 where
   pub x : ℤ
@@ -85,7 +88,7 @@ pub record Chosen (c : Val) (a b : Meaning) (s : Store) (z : ℤ) : Type 0 where
 
 later_value : (t : ℕ) (v : Val) (z : ℤ) (n : ℕ) → later t v ≡ value z n → (u : ℕ) × (v ≡ value z u)
 later_value t (undefined_value p) z n e = absurd (cc)
-later_value t (value x u) z n e = (u, ap (λ y. value y u) (value_is x z (t + u) n e))
+later_value t (value x u) z n e = (u, ap (λ y. value y u) (value_one x z (t + u) n e))
 
 chosen_is : (c : Val) (a b : Meaning) (s : Store) (z : ℤ) (n : ℕ) → chosen c a b s ≡ value z n → Chosen c a b s z
 chosen_is (undefined_value p) a b s z n e = absurd (cc)
@@ -99,19 +102,13 @@ pub record Truth (v : Val) (z : ℤ) : Type 0 where
 
 truth_value : (v : Val) (z : ℤ) (n : ℕ) → as_truth v ≡ value z n → Truth v z
 truth_value (undefined_value p) z n e = absurd (cc)
-truth_value (value y u) z n e = record { y = y; u = u; is = refl; truth_is = value_is (truth (not (is_zero y))) z u n e }
+truth_value (value y u) z n e = record { y = y; u = u; is = refl; truth_is = value_one (truth (not (is_zero y))) z u n e }
 
 -- ---- numbers
 
 pub below_width : (t : Ty) (m : ℕ) → IsInRange t (pos m) → m < 2 ^ ty_width t
 below_width I8 m h = let b = h.below in omega (arith, ints)
-below_width U8 m h = let b = h.below in omega (arith, ints)
-below_width I16 m h = let b = h.below in omega (arith, ints)
-below_width U16 m h = let b = h.below in omega (arith, ints)
-below_width I32 m h = let b = h.below in omega (arith, ints)
-below_width U32 m h = let b = h.below in omega (arith, ints)
-below_width I64 m h = let b = h.below in omega (arith, ints)
-below_width U64 m h = let b = h.below in omega (arith, ints)
+below_width t m h = let b = h.below in omega (arith, ints)
 
 pub pattern_number : (t : Ty) (m : ℕ) → IsInRange t (pos m) → pattern t (pos m) ≡ m
 pattern_number t m h = mod-eq_of_lt (below_width t m h)
@@ -128,10 +125,6 @@ none_reads (tree.Binary' op b (more_of-TypedExpr e u at end_of-TypedExpr) b2 (mo
 none_reads (tree.Choose' b (more_of-TypedExpr e u at end_of-TypedExpr) b2 (more_of-TypedExpr e2 u2 at2 end_of-TypedExpr) b3 (more_of-TypedExpr e3 u3 at3 end_of-TypedExpr)) h =
     omega (arith, none_reads e h.0, none_reads e2 h.1, none_reads e3 h.2)
 
-sides_outside : (p : Bool) (e e2 : TypedExprKind) → ReadsNone e → ReadsNone e2 → SidesReadNone p e e2
-sides_outside true e e2 h i = (h, i)
-sides_outside false e e2 h i = tt
-
 none_outside : (e : TypedExprKind) → ReadsNone e → ReadsOutside e
 none_outside (tree.Number n) h = tt
 none_outside (tree.Var v) h = tt
@@ -139,7 +132,7 @@ none_outside (tree.Element' a n row) h = absurd h
 none_outside (tree.Unary' op b (more_of-TypedExpr e u at end_of-TypedExpr)) h = none_outside e h
 none_outside (tree.Cast' implied b (more_of-TypedExpr e u at end_of-TypedExpr)) h = none_outside e h
 none_outside (tree.Binary' op b (more_of-TypedExpr e u at end_of-TypedExpr) b2 (more_of-TypedExpr e2 u2 at2 end_of-TypedExpr)) h =
-    (sides_outside (both_or_either op) e e2 h.0 h.1, none_outside e h.0, none_outside e2 h.1)
+    (sides_none (both_or_either op) e e2 h.0 h.1, none_outside e h.0, none_outside e2 h.1)
 none_outside (tree.Choose' b (more_of-TypedExpr e u at end_of-TypedExpr) b2 (more_of-TypedExpr e2 u2 at2 end_of-TypedExpr) b3 (more_of-TypedExpr e3 u3 at3 end_of-TypedExpr)) h =
     (none_outside e h.0, h.1, h.2)
 
@@ -147,13 +140,6 @@ none_outside (tree.Choose' b (more_of-TypedExpr e u at end_of-TypedExpr) b2 (mor
 
 pub all_at : {A : Type 0} (P : A → Type 0) (xs : List A) (i : ℕ) (x : A) → All P xs → slice_get xs i ≡ Some x → P x
 all_at P xs i x h e = subst P (get_or_from_slice_get xs i x x e) (All-get_or P xs i x (slice_get_within xs i x e) h)
-
-some_elements : (ds : List ℕ) → All (λ d. 0 < d) ds → 0 < elements ds
-some_elements [] h = omega arith
-some_elements (d ∷ ds) h =
-    let p : 1 ≤ elements ds = omega (arith, some_elements ds (All-tail (λ d. 0 < d) d ds h)) in
-    let q : 0 < d = All-head (λ d. 0 < d) d ds h in
-    let r = mul-le-mul_left d p in omega arith
 
 le_one : (d : ℕ) → 0 < d → 1 ≤ d
 le_one d h = omega arith
@@ -185,9 +171,6 @@ placed_is k s a is t z (Some to) e i = record { indices = is; turns = t; to = to
 pub element_is : (k : Objects) (at : Span) (s : Store) (a : ℕ) (vs : Vals) (z : ℤ) (n : ℕ) → element k at s a vs ≡ value z n → ElementAt k s a vs z
 element_is k at s a (undefined_values p) z n e = absurd (cc)
 element_is k at s a (values is t) z n e = placed_is k s a is t z (place k.arrays a is) refl (after_some at t n (element_at s a (place k.arrays a is)) z e)
-
-some_is : (x y : ℤ) → Some x ≡ Some y → x ≡ y
-some_is x y e = cc
 
 module _ (laws : OpLaws) (k : Objects) (env : List ℕ) where
   -- the result of a unary operator depends on the type of its operand alone
@@ -269,7 +252,7 @@ module _ (laws : OpLaws) (k : Objects) (env : List ℕ) where
 
     both_first : (w : Work) (s : Store) (x z : ℤ) (u n : ℕ) (b : Bool) → ReadsNone e2 → Sees k env w s → m s ≡ value x u → is_zero x ≡ b → one_of b (always (pos 0)) (λ s. as_truth (o s)) s ≡ value z n → Makes w (both_text (length w.values)) (pattern I32 z)
     both_first w s x z u n true free sees ex zx r =
-        let is : 0 ≡ pattern I32 z = ap (pattern I32) (value_is (pos 0) z 0 n r) in
+        let is : 0 ≡ pattern I32 z = ap (pattern I32) (value_one (pos 0) z 0 n r) in
         makes_equal w _ _ _ is (after_makes (kind_laying k.arrays env e t) (λ a. after (kind_laying k.arrays env e2 t2) (λ b. joined Both t t2 a b)) w (pattern t x) 0 (la.gives w s x u sees ex)
         (λ a w1 a1 j. let add = free_side e2 t2 w1 free in
         let l = kind_laying k.arrays env e2 t2 (length w1.values) in
@@ -295,7 +278,7 @@ module _ (laws : OpLaws) (k : Objects) (env : List ℕ) where
 
     either_first : (w : Work) (s : Store) (x z : ℤ) (u n : ℕ) (b : Bool) → ReadsNone e2 → Sees k env w s → m s ≡ value x u → is_zero x ≡ b → one_of b (λ s. as_truth (o s)) (always (pos 1)) s ≡ value z n → Makes w (either_text (length w.values)) (pattern I32 z)
     either_first w s x z u n false free sees ex zx r =
-        let is : 1 ≡ pattern I32 z = ap (pattern I32) (value_is (pos 1) z 0 n r) in
+        let is : 1 ≡ pattern I32 z = ap (pattern I32) (value_one (pos 1) z 0 n r) in
         let rx = la.range s x u sees.fitting ex in
         makes_equal w _ _ _ is (after_makes (kind_laying k.arrays env e t) (λ a. after (kind_laying k.arrays env e2 t2) (λ b. joined Either t t2 a b)) w (pattern t x) 1 (la.gives w s x u sees ex)
         (λ a w1 a1 j. let add = free_side e2 t2 w1 free in
@@ -388,7 +371,7 @@ module _ (laws : OpLaws) (k : Objects) (env : List ℕ) where
     mutual
       pub kind_law : (e : TypedExprKind) (ty : Ty) (at : Span) → LawfulKind k e ty → ReadsOutside e → KindLaw e ty at
       kind_law (tree.Number m) ty at h o = record {
-        gives = λ w s x t sees g. let is : pos m ≡ x = value_is (pos m) x 0 t g in makes_equal w _ _ _ (sym (pattern_number ty m h) ∙ ap (pattern ty) is) (const_makes w (ty_width ty) m);
+        gives = λ w s x t sees g. let is : pos m ≡ x = value_one (pos m) x 0 t g in makes_equal w _ _ _ (sym (pattern_number ty m h) ∙ ap (pattern ty) is) (const_makes w (ty_width ty) m);
         range = in_range (tree.Number m) ty at h;
       }
       kind_law (tree.Var v) ty at h o = record {
@@ -419,7 +402,7 @@ module _ (laws : OpLaws) (k : Objects) (env : List ℕ) where
             gives = λ w s x n sees g.
                 let q = one_value at (λ y. Some (conv ty y)) (kind_meaning k e t a1 s) x n g in
                 let r = la.range s q.x q.t sees.fitting q.part in
-                let is : pattern ty q.x ≡ pattern ty x = sym (pattern_conv laws ty q.x) ∙ ap (pattern ty) (some_is (conv ty q.x) x q.whole) in
+                let is : pattern ty q.x ≡ pattern ty x = sym (pattern_conv laws ty q.x) ∙ ap (pattern ty) (same_Some (conv ty q.x) x q.whole) in
                 after_makes (kind_laying k.arrays env e t) (λ v. converted t ty v) w (pattern t q.x) (pattern ty x) (la.gives w s q.x q.t sees q.part)
                 (λ v u add i. makes_equal u _ _ _ is (converted_makes laws t ty u v q.x r i));
             range = in_range (tree.Cast' implied b (more_of-TypedExpr e t a1 end_of-TypedExpr)) ty at h;

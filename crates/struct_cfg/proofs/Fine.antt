@@ -4,7 +4,7 @@ use Rattle.std.specs.Prelude.{true, false, IsTrue, slice_get, set, All, option_m
 use mathlib.Core.Former.{Count}
 use Rattle.std.proofs.lemmas.List.{length-map, length-set, get_or-set_same, get_or-set_other}
 use Rattle.std.proofs.lemmas.List.Elements.{All-append, All-cons, All-nil, All-head, All-tail}
-use Rattle.std.proofs.lemmas.Option.{slice_get_within, slice_get-get_or, slice_get-map}
+use Rattle.std.proofs.lemmas.Option.{slice_get_within, slice_get-get_or, slice_get-map, same_Some}
 use Rattle.std.proofs.lemmas.Bool.{cases_eq}
 use Rattle.std.proofs.Math.Seq.{get_or-append_seam}
 use Rattle.el_base.specs.declared.ty.Ty.{Ty}
@@ -36,9 +36,6 @@ use Rattle.struct_cfg.proofs.Fitting.{shape_append, steps_append, width_stays, l
 use Rattle.struct_cfg.proofs.Stores.{store_fits}
 use Rattle.struct_cfg.proofs.Blocks.{length_count_from, get_count_from}
 use Rattle.struct_cfg.proofs.Lays.{grown_kind, grown_row, grown_close, here_close, loop_grown}
-
-some_width : {w u : ℕ} → Some w ≡ Some u → w ≡ u
-some_width e = cc
 
 abbrev pub open_shape : VarGraph → Draft → Shape
 open_shape g d = shape_after g.arrays (map Some g.vars) d.steps
@@ -135,7 +132,7 @@ module _ (g : VarGraph) where
       by = λ y u e.
           ⊎_elim
           (λ q.
-          let same : w ≡ u = some_width (sym named ∙ ap (slice_get g.vars) (sym q) ∙ e) in
+          let same : w ≡ u = same_Some _ _ (sym named ∙ ap (slice_get g.vars) (sym q) ∙ e) in
           let val : get_or (set d.env x a) y 0 ≡ a = ap (λ i. get_or (set d.env x a) i 0) q ∙ get_or-set_same d.env x a 0 (omega (arith, slice_get_within g.vars x w named, f.long)) in
           subst (λ i. IsOfWidth (open_shape g d) i u) (sym val) (subst (IsOfWidth (open_shape g d) a) same h))
           (λ ne. subst (λ i. IsOfWidth (open_shape g d) i u) (sym (get_or-set_other d.env x y a 0 ne)) (f.env.by y u e))

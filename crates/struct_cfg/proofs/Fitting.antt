@@ -1,5 +1,5 @@
 -- Lawful expressions lay steps that fit.
-use Rattle.std.proofs.Common.{◌≡◌, ℕ, zero, suc, ◌+◌, ◌^◌, ◌<◌, List, [], ◌∷◌, ◌++◌, length, get_or, Option, Some, None, refl, sym, ◌∙◌, ap, subst, arith, length-append, inl, inr}
+use Rattle.std.proofs.Common.{◌≡◌, ℕ, ◌+◌, ◌^◌, ◌<◌, List, [], ◌∷◌, ◌++◌, length, get_or, Option, Some, None, refl, sym, ◌∙◌, ap, subst, arith, length-append, inl, inr}
 use Rattle.std.specs.Prelude.{Bool, true, false, slice_get, All, ◌&&◌}
 use Rattle.std.proofs.lemmas.List.Elements.{All-head, All-tail}
 use Rattle.std.proofs.lemmas.Option.{slice_get-get_or}
@@ -28,13 +28,14 @@ use Rattle.ir.specs.Shapes.{IsWidth, Shape, IsOfWidth, StepFits, StepsFit, step_
 use Rattle.c_meaning.specs.Patterns.{by_type, conversion_op}
 use Rattle.c_meaning.specs.Stores.{Objects, dims_of}
 use Rattle.c_meaning.specs.Lawful.{LawfulKind, LawfulRow, LawfulExpr, IsElement, row_length}
+use Rattle.c_meaning.proofs.TypeLemmas.{promoted_usual}
+use Rattle.c_meaning.proofs.LawfulExpressions.{get_kept}
+use Rattle.c_meaning.proofs.StoreParts.{dims_is}
 use Rattle.struct_cfg.specs.Layings.{Laying, no_step, one_step, after, applied, Piece}
 use Rattle.struct_cfg.specs.Operators.{converted, unary_op, flag, zero_test, is_narrow, truth_of, first_else, first_then, both_laid, either_laid, joined, index_laid, next_place, further_places, place_laid}
 use Rattle.struct_cfg.specs.Exprs.{kind_laying, row_pieces, expr_laying, condition_laying}
 use Rattle.struct_cfg.specs.Shares.{IsSmallArray, AreSmallArrays}
 use Rattle.struct_cfg.specs.Fits.{EnvFits, Fits, HasObjects, AlwaysFits}
-use Rattle.struct_cfg.proofs.Types.{promoted_usual}
-use Rattle.struct_cfg.proofs.Places.{dims_is}
 use Rattle.struct_cfg.proofs.ExprLaws.{all_at, dims_few, below_width}
 
 -- ---- shapes
@@ -47,14 +48,9 @@ pub steps_append : (arrays : List Array) (ws : Shape) (is js : List Instr) → S
 steps_append arrays ws [] js a b = b
 steps_append arrays ws (i ∷ is) js a b = (a.0, steps_append arrays (ws ++ step_width arrays i ∷ []) is js a.1 b)
 
-front_get : {A : Type 0} (xs ys : List A) (i : ℕ) (x : A) → slice_get xs i ≡ Some x → slice_get (xs ++ ys) i ≡ Some x
-front_get [] ys i x e = absurd (cc)
-front_get (z ∷ xs) ys zero x e = e
-front_get (z ∷ xs) ys (suc i) x e = front_get xs ys i x e
-
 pub width_stays : (arrays : List Array) (is : List Instr) (ws : Shape) (a w : ℕ) → IsOfWidth ws a w → IsOfWidth (shape_after arrays ws is) a w
 width_stays arrays [] ws a w h = h
-width_stays arrays (i ∷ is) ws a w h = width_stays arrays is (ws ++ step_width arrays i ∷ []) a w (front_get ws (step_width arrays i ∷ []) a (Some w) h)
+width_stays arrays (i ∷ is) ws a w h = width_stays arrays is (ws ++ step_width arrays i ∷ []) a w (get_kept ws (step_width arrays i ∷ []) a (Some w) h)
 
 pub length_shape : (arrays : List Array) (is : List Instr) (ws : Shape) → length (shape_after arrays ws is) ≡ length ws + length is
 length_shape arrays [] ws = omega arith
@@ -192,25 +188,18 @@ conversion_fits U64 U64 = refl
 
 -- one of four operations, of 32, 32, 64 and 64 bits
 by_widths : {A : Type 0} (f : A → ℕ) (t : Ty) (a b c d : A) → promoted t ≡ t → f a ≡ 32 → f b ≡ 32 → f c ≡ 64 → f d ≡ 64 → f (by_type t a b c d) ≡ ty_width t
-by_widths f I8 a b c d e p q r s = absurd (cc)
-by_widths f U8 a b c d e p q r s = absurd (cc)
-by_widths f I16 a b c d e p q r s = absurd (cc)
-by_widths f U16 a b c d e p q r s = absurd (cc)
 by_widths f I32 a b c d e p q r s = p
 by_widths f U32 a b c d e p q r s = q
 by_widths f I64 a b c d e p q r s = r
 by_widths f U64 a b c d e p q r s = s
+by_widths f t a b c d e p q r s = absurd (cc)
 
 -- one of four operations, all of them with a result of w bits
 by_one : {A : Type 0} (f : A → ℕ) (t : Ty) (a b c d : A) (w : ℕ) → f a ≡ w → f b ≡ w → f c ≡ w → f d ≡ w → f (by_type t a b c d) ≡ w
-by_one f I8 a b c d w p q r s = p
-by_one f U8 a b c d w p q r s = p
-by_one f I16 a b c d w p q r s = p
-by_one f U16 a b c d w p q r s = p
-by_one f I32 a b c d w p q r s = p
 by_one f U32 a b c d w p q r s = q
 by_one f I64 a b c d w p q r s = r
 by_one f U64 a b c d w p q r s = s
+by_one f t a b c d w p q r s = p
 
 module _ (arrays : List Array) where
   applied_fits : (op : Option Op1) (s t : Ty) (ws : Shape) (v : ℕ) → ConversionFits op s t → IsOfWidth ws v (ty_width s) → Fits arrays ws (applied op v (length ws)) (ty_width t)

@@ -6,7 +6,7 @@ use Rattle.std.proofs.lemmas.List.Sums.{sum_by-cons}
 use Rattle.std.proofs.lemmas.List.Elements.{All-nil, All-cons}
 use Rattle.std.proofs.lemmas.Option.{slice_get-map}
 use Rattle.el_base.specs.declared.ty.Ty.{Ty}
-use Rattle.el_base.specs.declared.ty.Ty.TheVariants.{I8, U8, I16, U16, I32, U32, I64, U64}
+use Rattle.el_base.specs.declared.ty.Ty.TheVariants.{I8}
 use Rattle.el_base.specs.declared.ty.Scalar.{Scalar}
 use Rattle.el_base.specs.Widths.{ty_width}
 use Rattle.c_ast.specs.declared.tree.Param.{Param}
@@ -53,13 +53,7 @@ has_objects p f = record {
 
 zero_below : (t : Ty) → 0 < 2 ^ ty_width t
 zero_below I8 = omega arith
-zero_below U8 = omega arith
-zero_below I16 = omega arith
-zero_below U16 = omega arith
-zero_below I32 = omega arith
-zero_below U32 = omega arith
-zero_below I64 = omega arith
-zero_below U64 = omega arith
+zero_below t = omega arith
 
 -- ---- lists of statements
 

@@ -1,5 +1,6 @@
 -- Where a normal form ends, the run of its graph returns with the patterns of its arrays and result.
 use Rattle.std.proofs.Common.{◌≡◌, ℕ, ◌+◌, ◌≤◌, List, [], ◌∷◌, ◌++◌, map, length, Option, Some, None, refl, sym, ◌∙◌, ap, subst, arith, length-append}
+use Rattle.std.proofs.lemmas.Option.{same_Some}
 use Rattle.std.specs.Prelude.{true, false, ℤ, flat_map}
 use Rattle.el_base.specs.declared.ty.Ty.{Ty}
 use Rattle.c_ast.specs.declared.typed.ArrayOf.{ArrayOf}
@@ -22,6 +23,7 @@ use Rattle.struct_cfg.specs.Kernels.{empty, finish, kernel_draft}
 use Rattle.struct_cfg.specs.Runs.{ShowsVariables, variables_after, last_of}
 use Rattle.struct_cfg.specs.Places.{Setting, Spot, spot, count, At, Path, Gone, Frame, Follow}
 use Rattle.c_meaning.specs.KernelPatterns.{array_patterns, result_pattern}
+use Rattle.c_meaning.proofs.CountGrowth.{list_acts}
 use Rattle.struct_cfg.proofs.Walks.{Does, ends_do, turn_does, both_do, gone_then, gone_more}
 use Rattle.struct_cfg.proofs.Blocks.{returns, length_count_from}
 use Rattle.struct_cfg.proofs.Lays.{Holds, before_close, stands_last, before_kind, grown_kind}
@@ -33,10 +35,6 @@ use Rattle.struct_cfg.proofs.Trees.{Leaves, kind_does}
 abbrev pub AllLawful : Objects → Option Ty → List NormalStmt → Type 0
 AllLawful k r [] = Unit {0}
 AllLawful k r (s ∷ ss) = LawfulNormalStmt k r false s.kind × Quiet true s.kind × AllLawful k r ss
-
-list_acts : (k : Objects) (xs : List NormalStmt) → acts_of (map (counted k) xs) ≡ map (normal_act k) xs
-list_acts k [] = refl
-list_acts k (x ∷ xs) = ap (λ u. normal_act k x ∷ u) (list_acts k xs)
 
 pub before_all : (arrays : List ArrayOf) (g : VarGraph) (x y : ℕ) (ss : List NormalStmt) (d : Draft) → Holds g (lower_all arrays x y ss d).blocks → Holds g d.blocks
 before_all arrays g x y [] d h = h
@@ -81,10 +79,6 @@ behind_long : (xs : List Visit) (w : Visit) → length (behind xs w) ≡ length 
 behind_long [] w = refl
 behind_long (x ∷ xs) w = omega (arith, length-append xs (w ∷ []))
 
--- a run has one last visit
-some_same : {A : Type 0} (a b : A) → Some a ≡ Some b → a ≡ b
-some_same a b e = cc
-
 no_next : (g : VarGraph) (v w : Visit) (r : Option ℕ) (arrays : List (List ℕ)) → Returns (var_passage g) v r arrays → next_visit (var_passage g) v ≡ Some w → ⊥
 no_next g v w r arrays ret e = let n : next_visit (var_passage g) v ≡ None = ap (λ o. next_of o (var_passage g v).arrays) ret.result in absurd (cc)
 
@@ -93,7 +87,7 @@ one_end g v [] [] r q as_of bs a b = refl
 one_end g v [] (y ∷ ys) r q as_of bs a b = absurd (no_next g v y r as_of a b.0)
 one_end g v (x ∷ xs) [] r q as_of bs a b = absurd (no_next g v x q bs b a.0)
 one_end g v (x ∷ xs) (y ∷ ys) r q as_of bs a b =
-    let same : y ≡ x = some_same y x (sym b.0 ∙ a.0) in
+    let same : y ≡ x = same_Some y x (sym b.0 ∙ a.0) in
     one_end g x xs ys r q as_of bs a.1 (subst (λ u. Finishes (var_passage g) u ys q bs) same b.1) ∙ ap (λ u. last_of u ys) (sym same)
 
 module _ (o : Setting) where

@@ -3,7 +3,7 @@ use Rattle.std.proofs.Common.{◌≡◌, ℕ, zero, suc, ◌+◌, ◌<◌, ◌�
 use Rattle.std.specs.Prelude.{true, false, ℤ, pos, IsTrue, set, slice_get, All}
 use Rattle.std.proofs.lemmas.Bool.{cases_eq}
 use Rattle.std.proofs.lemmas.List.{length-set, get_or-set_same, get_or-set_other}
-use Rattle.std.proofs.lemmas.Option.{slice_get_within, get_or_from_slice_get, none-some}
+use Rattle.std.proofs.lemmas.Option.{slice_get_within, get_or_from_slice_get, none-some, same_Some}
 use Rattle.el_base.specs.declared.ty.Ty.{Ty}
 use Rattle.el_base.specs.declared.ty.Ty.TheVariants.{I32}
 use Rattle.el_base.specs.Numbers.{IsInRange, pattern}
@@ -26,7 +26,7 @@ use Rattle.c_meaning.specs.Statements.{of_var, of_element, placed_after, place_b
 use Rattle.c_meaning.specs.Counts.{tally, only, expr_price, option_price, target_price}
 use Rattle.c_meaning.specs.Lawful.{LawfulNormalExpr, IsVar, IsElement, LawfulDeclaration, LawfulAssignment}
 use Rattle.struct_cfg.specs.declared.draft.Draft.{Draft}
-use Rattle.struct_cfg.specs.Drafts.{here, close, next_value, with_steps}
+use Rattle.struct_cfg.specs.Drafts.{here, next_value}
 use Rattle.struct_cfg.specs.Drafts as drafts
 use Rattle.struct_cfg.specs.Exprs.{expr_laying, condition_laying, store_laying}
 use Rattle.struct_cfg.specs.Lowering.{with_expr, value_of, with_condition, condition_of, assign_var, assign_element, assign_to, declare}
@@ -39,9 +39,6 @@ use Rattle.struct_cfg.proofs.Stores.{store_cheap, condition_cheap}
 use Rattle.struct_cfg.proofs.Walks.{Does, reach_more, stay}
 use Rattle.struct_cfg.proofs.Blocks.{Stands, ExprLaw, evaluated, told, next_is, leads, goes, returns, within_some}
 use Rattle.struct_cfg.proofs.Loops.{Picks}
-
-some_is : {A : Type 0} (a b : A) → Some a ≡ Some b → a ≡ b
-some_is a b e = cc
 
 -- a variable's number may be set where it lies in the type
 set_in : (ts : List Ty) (xs : List (Option ℤ)) (i : ℕ) (v : Option ℤ) → AreSetIn ts xs → ((t : Ty) → slice_get ts i ≡ Some t → IsSetIn t v) → AreSetIn ts (set xs i v)
@@ -90,7 +87,7 @@ module _ (o : Setting) where
         sees = record {
           each = λ y u e.
               ⊎_elim
-              (λ q. let is : u ≡ z = some_is u z (sym e ∙ ap (λ i. get_or (set s.vars x (Some z)) i None) q ∙ get_or-set_same s.vars x (Some z) None (omega (arith, at.vars))) in
+              (λ q. let is : u ≡ z = same_Some u z (sym e ∙ ap (λ i. get_or (set s.vars x (Some z)) i None) q ∙ get_or-set_same s.vars x (Some z) None (omega (arith, at.vars))) in
               let place_is : get_or (set d.env x a) y 0 ≡ a = ap (λ i. get_or (set d.env x a) i 0) q ∙ get_or-set_same d.env x a 0 (omega (arith, at.env)) in
               let p_is : pattern t z ≡ pattern (type_of o.objects y) u = ap (λ i. pattern i z) (sym typed) ∙ ap (λ i. pattern (type_of o.objects i) z) (sym q) ∙ ap (pattern (type_of o.objects y)) (sym is) in
               subst (λ i. IsValue (work (spot d) v) i (pattern (type_of o.objects y) u)) (sym place_is) (subst (IsValue (work (spot d) v) a) p_is h))
@@ -99,7 +96,7 @@ module _ (o : Setting) where
               (cases_eq y x);
           arrays = at.sees.arrays;
           fitting = record {
-            vars = set_in o.objects.vars s.vars x (Some z) at.sees.fitting.vars (λ u e. subst (λ i. IsInRange i z) (some_is t u (sym named ∙ e)) range);
+            vars = set_in o.objects.vars s.vars x (Some z) at.sees.fitting.vars (λ u e. subst (λ i. IsInRange i z) (same_Some t u (sym named ∙ e)) range);
             arrays = at.sees.fitting.arrays;
           };
           clean = at.sees.clean;
@@ -163,7 +160,7 @@ module _ (o : Setting) where
 
     element_typed : (as_of : List ArrayOf) (a : ℕ) (x : ArrayOf) → slice_get as_of a ≡ Some x → array_type as_of a ≡ x.ty
     element_typed [] a x e = absurd (none-some x e)
-    element_typed (y ∷ ys) zero x e = ap (λ q. q.ty) (some_is y x e)
+    element_typed (y ∷ ys) zero x e = ap (λ q. q.ty) (same_Some y x e)
     element_typed (y ∷ ys) (suc a) x e = element_typed ys a x e
 
     element_set : (a : ℕ) (is : List TypedExpr) (e : TypedExpr) (d : Draft) (v : Visit) (s : Store) (js : List ℤ) (t at : ℕ) (z : ℤ) (u : ℕ) → ((env : List ℕ) → GivesStore o.objects env a is e) → ExprLaw o.objects e → IsElement o.objects a (length is) e.ty → At o (spot d) v s

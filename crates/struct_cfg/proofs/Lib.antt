@@ -22,7 +22,6 @@ pub mod Parts
 pub mod ExprCode
 pub mod PlaceCode
 pub mod Formed
-pub mod OpCases
 pub mod Sized
 pub mod Rows
 pub mod Grows

@@ -6,7 +6,7 @@ use Rattle.ir.specs.declared.cfg.CfgJump.TheVariants.{Go}
 use Rattle.c_meaning.specs.Operators.{is_zero}
 use Rattle.c_meaning.specs.Stores.{Store}
 use Rattle.c_meaning.specs.Expressions.{Val, undefined_value, value, Meaning}
-use Rattle.c_meaning.specs.Runs.{How, normally, by_break, by_continue, by_return, undefined, out_of_turns, Ended, Run, ends, taking, turn, go_on, both_runs, with_val, with_value, branch, after_body, looped, rounds, loop}
+use Rattle.c_meaning.specs.Runs.{How, normally, by_break, by_continue, by_return, undefined, out_of_turns, Run, ends, taking, turn, both_runs, with_val, with_value, branch, after_body, looped, rounds, loop}
 use Rattle.c_meaning.specs.Runs as runs
 use Rattle.c_meaning.specs.Statements.{in_order, part}
 use Rattle.c_meaning.specs.Counts.{tally, Counting, counting, only, counting_after, Counted, counts_part, counts_both, counts_in_order, acts_of, with_counts, counts_of, counts_branch, where_looped, counts_looped, step_run, step_counts, counts_rounds, counts_loop}
@@ -81,12 +81,10 @@ module _ (o : Setting) where
 
   -- less is owed by a return
   fewer_owed : (n g h : ℕ) → h ≤ g → (f : Frame) (p q : Spot) (w : How) (v : Visit) (s : Store) (j l : ℕ) → Follow o n g f p v q w s j l → Follow o n h f p v q w s j l
-  fewer_owed n g h le f p q normally v s j l z = z
-  fewer_owed n g h le f p q by_break v s j l z = z
-  fewer_owed n g h le f p q by_continue v s j l z = z
   fewer_owed n g h le f p q (by_return t) v s j l z = (z.0, gone_more o g h p v t s j l j l z.1 (omega arith) (omega arith))
   fewer_owed n g h le f p q (undefined at) v s j l z = tt
   fewer_owed n g h le f p q out_of_turns v s j l z = tt
+  fewer_owed n g h le f p q _ v s j l z = z
 
   pub owing_less : (n g h : ℕ) → h ≤ g → (f : Frame) (p q : Spot) (a : Run) (c : Counting) → Does o n g f p q a c → Does o n h f p q a c
   owing_less n g h le f p q a c z v s m at = fewer_owed n g h le f p q (a s m).how v (a s m).store (c s m).jumps (c s m).price (z v s m at)

@@ -6,7 +6,7 @@ use Rattle.std.proofs.lemmas.Bool.{ltb-true, lt-ltb}
 use Rattle.std.proofs.Math.Nat.{mod-eq_of_lt, mul-le-mul_left, mul_comm, mul_assoc}
 use Rattle.std.proofs.Math.IntN.{pos-*ℤ-pos}
 use Rattle.std.proofs.lemmas.List.{get_or-map, length-map}
-use Rattle.std.proofs.lemmas.Option.{get_or_from_slice_get, none-some, slice_get_within}
+use Rattle.std.proofs.lemmas.Option.{get_or_from_slice_get, none-some, slice_get_within, same_Some}
 use Rattle.el_base.specs.declared.ty.Ty.TheVariants.{I64}
 use Rattle.el_base.specs.declared.operation.Op2.TheVariants.{Mul64, Add64}
 use Rattle.el_base.specs.Numbers.{IsInRange, pattern, residue}
@@ -14,18 +14,16 @@ use Rattle.c_ast.specs.declared.typed.ArrayOf.{ArrayOf}
 use Rattle.word_ops.specs.Operations.{op2_result}
 use Rattle.ir.specs.declared.instr.Instr.TheVariants.{Const, Two, Load}
 use Rattle.ir.specs.Steps.{Work, value_at, cells, after_step, strays_past}
-use Rattle.c_meaning.specs.Stores.{Store, Objects, IsFitting, AreArraysOf, elements, place_from, dims_of}
+use Rattle.c_meaning.specs.Stores.{Store, Objects, IsFitting, AreArraysOf, elements, place_from}
 use Rattle.c_meaning.specs.KernelPatterns.{array_patterns}
 use Rattle.c_meaning.specs.Expressions.{Val, undefined_value, value, Vals, undefined_values, values, Meaning, with_first, all_values}
+use Rattle.c_meaning.proofs.ValueParts.{values_one}
 use Rattle.struct_cfg.specs.Layings.{one_step, after, Piece}
 use Rattle.struct_cfg.specs.Operators.{converted, index_laid, next_place, further_places, place_laid}
 use Rattle.struct_cfg.specs.Seen.{IsValue, Sees, Adds, Makes}
 use Rattle.struct_cfg.proofs.Works.{two_makes, const_makes, no_step_makes, makes_equal, after_makes, later, last_value, still_seen}
 use Rattle.struct_cfg.proofs.Types.{OpLaws}
 use Rattle.struct_cfg.proofs.JoinLaws.{converted_makes}
-
-some_same : {A : Type 0} (a b : A) → Some a ≡ Some b → a ≡ b
-some_same a b e = cc
 
 residue_small : (m : ℕ) → m < 2 ^ 64 → residue 64 (pos m) ≡ m
 residue_small m h = mod-eq_of_lt h
@@ -36,15 +34,10 @@ pub record CellsAre (as_of : List ArrayOf) (zss : List (List ℤ)) (a : ℕ) (x 
   pub patterns : cells (array_patterns as_of zss) a ≡ map (pattern x.ty) (get_or zss a [])
   pub long : length (get_or zss a []) ≡ elements x.dims
 
-pub dims_is : (as_of : List ArrayOf) (a : ℕ) (x : ArrayOf) → slice_get as_of a ≡ Some x → dims_of as_of a ≡ x.dims
-dims_is [] a x e = absurd (none-some x e)
-dims_is (y ∷ ys) zero x e = ap (λ q. q.dims) (some_same y x e)
-dims_is (y ∷ ys) (suc a) x e = dims_is ys a x e
-
 pub cells_are : (as_of : List ArrayOf) (zss : List (List ℤ)) (a : ℕ) (x : ArrayOf) → AreArraysOf as_of zss → slice_get as_of a ≡ Some x → CellsAre as_of zss a x
 cells_are [] zss a x f e = absurd (none-some x e)
 cells_are (y ∷ ys) [] a x f e = absurd f
-cells_are (y ∷ ys) (z ∷ zss) zero x f e = subst (λ q. CellsAre (y ∷ ys) (z ∷ zss) 0 q) (some_same y x e) (record { patterns = refl; long = f.0 })
+cells_are (y ∷ ys) (z ∷ zss) zero x f e = subst (λ q. CellsAre (y ∷ ys) (z ∷ zss) 0 q) (same_Some y x e) (record { patterns = refl; long = f.0 })
 cells_are (y ∷ ys) (z ∷ zss) (suc a) x f e = let r = cells_are ys zss a x f.2 e in record { patterns = r.patterns; long = r.long }
 
 -- ---- values of several expressions
@@ -58,13 +51,10 @@ pub record Firsts (m : Val) (vs : Vals) (is : List ℤ) : Type 0 where
   pub others : vs ≡ values xs u
   pub all : is ≡ x ∷ xs
 
-values_same : (is js : List ℤ) (t u : ℕ) → values is t ≡ values js u → is ≡ js
-values_same is js t u e = cc
-
 pub firsts : (m : Val) (vs : Vals) (is : List ℤ) (t : ℕ) → with_first m vs ≡ values is t → Firsts m vs is
 firsts (undefined_value p) vs is t e = absurd (cc)
 firsts (value x u) (undefined_values p) is t e = absurd (cc)
-firsts (value x u) (values xs v) is t e = record { x = x; t = u; xs = xs; u = v; first = refl; others = refl; all = sym (values_same (x ∷ xs) is (u + v) t e) }
+firsts (value x u) (values xs v) is t e = record { x = x; t = u; xs = xs; u = v; first = refl; others = refl; all = sym (values_one (x ∷ xs) is (u + v) t e) }
 
 -- ---- places
 
@@ -89,7 +79,7 @@ times_more at d h = let l : 1 ≤ d = omega arith in let r = mul-le-mul_left at 
 
 -- a place lies behind the place of what is before
 place_behind : (at : ℕ) (ds : List ℕ) (is : List ℤ) (to : ℕ) → place_from at ds is ≡ Some to → at ≤ to
-place_behind at [] [] to e = let q = some_same at to e in omega arith
+place_behind at [] [] to e = let q = same_Some at to e in omega arith
 place_behind at [] (i ∷ is) to e = absurd (none-some to e)
 place_behind at (d ∷ ds) [] to e = absurd (none-some to e)
 place_behind at (d ∷ ds) (i ∷ is) to e =
@@ -98,7 +88,7 @@ place_behind at (d ∷ ds) (i ∷ is) to e =
     let t = times_more at d (omega (arith, w.below)) in omega arith
 
 place_below : (at : ℕ) (ds : List ℕ) (is : List ℤ) (to : ℕ) → place_from at ds is ≡ Some to → to < (at + 1) * elements ds
-place_below at [] [] to e = let q = some_same at to e in omega arith
+place_below at [] [] to e = let q = same_Some at to e in omega arith
 place_below at [] (i ∷ is) to e = absurd (none-some to e)
 place_below at (d ∷ ds) [] to e = absurd (none-some to e)
 place_below at (d ∷ ds) (i ∷ is) to e =
@@ -161,8 +151,8 @@ module _ (laws : OpLaws) (k : Objects) (env : List ℕ) where
   further_makes : (ds : List ℕ) (ps : List Piece) (ms : List Meaning) (w : Work) (s : Store) (at a : ℕ) (is : List ℤ) (t to : ℕ) → PieceLaws k env ps ms → All (λ d. d < 2 ^ 63) ds → Sees k env w s → IsValue w at a → all_values ms s ≡ values is t → place_from a ds is ≡ Some to → to < 2 ^ 63
       → Makes w (further_places at ds ps (length w.values)) to
   further_makes [] [] [] w s at a is t to laws_of small sees v e f b =
-      let n : [] ≡ is = values_same [] is 0 t e in
-      let same : a ≡ to = some_same a to (ap (place_from a []) n ∙ f) in
+      let n : [] ≡ is = values_one [] is 0 t e in
+      let same : a ≡ to = same_Some a to (ap (place_from a []) n ∙ f) in
       makes_equal w _ _ _ same (no_step_makes w at a (length w.values) v)
   further_makes [] [] (m ∷ ms) w s at a is t to laws_of small sees v e f b = elim laws_of [ ]
   further_makes [] (p ∷ ps) [] w s at a is t to laws_of small sees v e f b = elim laws_of [ ]
@@ -171,7 +161,7 @@ module _ (laws : OpLaws) (k : Objects) (env : List ℕ) where
   further_makes [] (p ∷ ps) (m ∷ ms) w s at a is t to laws_of small sees v e f b =
       let q = firsts (m s) (all_values ms s) is t e in absurd (none-some to (ap (place_from a []) (sym q.all) ∙ f))
   further_makes (d ∷ ds) [] [] w s at a is t to laws_of small sees v e f b =
-      let n : [] ≡ is = values_same [] is 0 t e in absurd (none-some to (ap (place_from a (d ∷ ds)) n ∙ f))
+      let n : [] ≡ is = values_one [] is 0 t e in absurd (none-some to (ap (place_from a (d ∷ ds)) n ∙ f))
   further_makes (d ∷ ds) (p ∷ ps) (m ∷ ms) w s at a is t to (one_piece _ _ _ _ law rest) small sees v e f b =
       let q = firsts (m s) (all_values ms s) is t e in
       let i = within_is a d ds q.x q.xs to (ap (place_from a (d ∷ ds)) (sym q.all) ∙ f) in
@@ -190,7 +180,7 @@ module _ (laws : OpLaws) (k : Objects) (env : List ℕ) where
   place_makes (d ∷ ds) [] (m ∷ ms) w s is t to laws_of some small sees e f b = elim laws_of [ ]
   place_makes (d ∷ ds) (p ∷ ps) [] w s is t to laws_of some small sees e f b = elim laws_of [ ]
   place_makes (d ∷ ds) [] [] w s is t to laws_of some small sees e f b =
-      let n : [] ≡ is = values_same [] is 0 t e in absurd (none-some to (ap (place_from 0 (d ∷ ds)) n ∙ f))
+      let n : [] ≡ is = values_one [] is 0 t e in absurd (none-some to (ap (place_from 0 (d ∷ ds)) n ∙ f))
   place_makes (d ∷ ds) (p ∷ ps) (m ∷ ms) w s is t to (one_piece _ _ _ _ law rest) some small sees e f b =
       let q = firsts (m s) (all_values ms s) is t e in
       let i = within_is 0 d ds q.x q.xs to (ap (place_from 0 (d ∷ ds)) (sym q.all) ∙ f) in

@@ -1,6 +1,5 @@
 -- Statements by their parts, as the code takes them apart: the blocks that they close, their steps, and what is laid for them.
 use Rattle.std.proofs.Common.{◌≡◌, ℕ, ◌+◌, List, [], ◌∷◌, Option, Some, None, refl, ap, ◌∙◌, arith}
-use Rattle.std.proofs.lemmas.List.Sums.{sum_by-cons}
 use denote.Hole.Carrier.{hidden}
 use Rattle.c_ast.specs.declared.typed.ArrayOf.{ArrayOf}
 use Rattle.c_ast.specs.declared.typed.TypedExpr.{TypedExpr}
@@ -10,81 +9,57 @@ use Rattle.c_ast.specs.declared.normal.NormalStmtKind.TheVariants as normal
 use Rattle.c_ast.specs.declared.normal.NormalStmtKind.TheBlock.{shape-the_row-NormalStmt-0, hidden-the_row-NormalStmt-0, shape-the_row-NormalStmt-1, hidden-the_row-NormalStmt-1, back-NormalStmtKind-If-3}
 use Rattle.ir.specs.declared.cfg.CfgJump.TheVariants.{Go}
 use Rattle.c_meaning.specs.Counts.{expr_price, option_price}
-use Rattle.c_meaning.specs.Sizes.{closes, closes_row, closes_held, closes_step, steps, steps_row, steps_held}
+use Rattle.c_meaning.specs.Sizes.{closes, closes_row, closes_held, steps}
 use Rattle.struct_cfg.specs.declared.draft.Draft.{Draft}
 use Rattle.struct_cfg.specs.Drafts.{here, close}
 use Rattle.struct_cfg.specs.Lowering.{if_parts, lower, lower_row, lower_held}
 use Rattle.c_meaning.specs.PartLaws.{blocks_of, blocks_if_any, blocks_of_step, steps_of, steps_if_any}
+use Rattle.c_meaning.proofs.PartsOfSizes.{rows_close, rows_step, held_closes, step_closes, held_steps}
 use Rattle.struct_cfg.specs.Lists.{lower_all, lower_any, branched, entered, lower_if, lower_while, lower_do, lower_for, again_in, stepped}
-
-row_closes : (ss : List NormalStmt) → closes_row (hidden-the_row-NormalStmt-0 ss) ≡ blocks_of ss
-unfolding shape-the_row-NormalStmt-0 hidden-the_row-NormalStmt-0 shape-the_row-NormalStmt-1 hidden-the_row-NormalStmt-1 hidden
-row_closes [] = refl
-row_closes (s ∷ ss) = omega (arith, row_closes ss, sum_by-cons (λ s. closes s.kind) s ss)
-
-held_closes : (o : Option NormalStmt) → closes_held (back-NormalStmtKind-If-3 o) ≡ blocks_if_any o
-unfolding shape-the_row-NormalStmt-0 hidden-the_row-NormalStmt-0 shape-the_row-NormalStmt-1 hidden-the_row-NormalStmt-1 hidden
-held_closes None = refl
-held_closes (Some s) = refl
-
-step_closes : (o : Option NormalStmt) → closes_step (back-NormalStmtKind-If-3 o) ≡ blocks_of_step o
-unfolding shape-the_row-NormalStmt-0 hidden-the_row-NormalStmt-0 shape-the_row-NormalStmt-1 hidden-the_row-NormalStmt-1 hidden
-step_closes None = refl
-step_closes (Some s) = refl
 
 -- ---- blocks that are closed
 
 pub closes_block : (k : NormalStmtKind) (ss : List NormalStmt) → k ≡ normal.Block ss → closes k ≡ blocks_of ss
 unfolding shape-the_row-NormalStmt-0 hidden-the_row-NormalStmt-0 shape-the_row-NormalStmt-1 hidden-the_row-NormalStmt-1 hidden
-closes_block k ss is = ap closes is ∙ row_closes ss
+closes_block k ss is = ap closes is ∙ rows_close ss
 
 pub closes_if : (k : NormalStmtKind) (before : List NormalStmt) (c : TypedExpr) (s : NormalStmt) (o : Option NormalStmt) → k ≡ normal.If before c s o → closes k ≡ blocks_of before + 1 + closes s.kind + 1 + blocks_if_any o + 1
 unfolding shape-the_row-NormalStmt-0 hidden-the_row-NormalStmt-0 shape-the_row-NormalStmt-1 hidden-the_row-NormalStmt-1 hidden
-closes_if k before c s o is = ap closes is ∙ omega (arith, row_closes before, held_closes o)
+closes_if k before c s o is = ap closes is ∙ omega (arith, rows_close before, held_closes o)
 
 pub closes_while : (k : NormalStmtKind) (before : List NormalStmt) (c : TypedExpr) (s : NormalStmt) → k ≡ normal.While before c s → closes k ≡ 1 + blocks_of before + 1 + closes s.kind + 1
 unfolding shape-the_row-NormalStmt-0 hidden-the_row-NormalStmt-0 shape-the_row-NormalStmt-1 hidden-the_row-NormalStmt-1 hidden
-closes_while k before c s is = ap closes is ∙ omega (arith, row_closes before)
+closes_while k before c s is = ap closes is ∙ omega (arith, rows_close before)
 
 pub closes_do : (k : NormalStmtKind) (s : NormalStmt) (before : List NormalStmt) (c : TypedExpr) → k ≡ normal.DoWhile s before c → closes k ≡ 1 + closes s.kind + 1 + blocks_of before + 1
 unfolding shape-the_row-NormalStmt-0 hidden-the_row-NormalStmt-0 shape-the_row-NormalStmt-1 hidden-the_row-NormalStmt-1 hidden
-closes_do k s before c is = ap closes is ∙ omega (arith, row_closes before)
+closes_do k s before c is = ap closes is ∙ omega (arith, rows_close before)
 
 pub closes_for : (k : NormalStmtKind) (first before : List NormalStmt) (c : Option TypedExpr) (o : Option NormalStmt) (s : NormalStmt) → k ≡ normal.For first before c o s → closes k ≡ blocks_of first + 1 + blocks_of before + 1 + closes s.kind + 1 + blocks_of_step o
 unfolding shape-the_row-NormalStmt-0 hidden-the_row-NormalStmt-0 shape-the_row-NormalStmt-1 hidden-the_row-NormalStmt-1 hidden
-closes_for k first before c o s is = ap closes is ∙ omega (arith, row_closes first, row_closes before, step_closes o)
+closes_for k first before c o s is = ap closes is ∙ omega (arith, rows_close first, rows_close before, step_closes o)
 
 -- ---- steps
 
-row_steps : (ss : List NormalStmt) → steps_row (hidden-the_row-NormalStmt-0 ss) ≡ steps_of ss
-unfolding shape-the_row-NormalStmt-0 hidden-the_row-NormalStmt-0 shape-the_row-NormalStmt-1 hidden-the_row-NormalStmt-1 hidden
-row_steps [] = refl
-row_steps (s ∷ ss) = omega (arith, row_steps ss, sum_by-cons (λ s. steps s.kind) s ss)
-
-held_steps : (o : Option NormalStmt) → steps_held (back-NormalStmtKind-If-3 o) ≡ steps_if_any o
-unfolding shape-the_row-NormalStmt-0 hidden-the_row-NormalStmt-0 shape-the_row-NormalStmt-1 hidden-the_row-NormalStmt-1 hidden
-held_steps None = refl
-held_steps (Some s) = refl
-
 pub steps_block : (k : NormalStmtKind) (ss : List NormalStmt) → k ≡ normal.Block ss → steps k ≡ steps_of ss
 unfolding shape-the_row-NormalStmt-0 hidden-the_row-NormalStmt-0 shape-the_row-NormalStmt-1 hidden-the_row-NormalStmt-1 hidden
-steps_block k ss is = ap steps is ∙ row_steps ss
+steps_block k ss is = ap steps is ∙ rows_step ss
 
 pub steps_if : (k : NormalStmtKind) (before : List NormalStmt) (c : TypedExpr) (s : NormalStmt) (o : Option NormalStmt) → k ≡ normal.If before c s o → steps k ≡ steps_of before + (expr_price c + 2) + steps s.kind + steps_if_any o
 unfolding shape-the_row-NormalStmt-0 hidden-the_row-NormalStmt-0 shape-the_row-NormalStmt-1 hidden-the_row-NormalStmt-1 hidden
-steps_if k before c s o is = ap steps is ∙ omega (arith, row_steps before, held_steps o)
+steps_if k before c s o is = ap steps is ∙ omega (arith, rows_step before, held_steps o)
 
 pub steps_while : (k : NormalStmtKind) (before : List NormalStmt) (c : TypedExpr) (s : NormalStmt) → k ≡ normal.While before c s → steps k ≡ steps_of before + (expr_price c + 2) + steps s.kind
 unfolding shape-the_row-NormalStmt-0 hidden-the_row-NormalStmt-0 shape-the_row-NormalStmt-1 hidden-the_row-NormalStmt-1 hidden
-steps_while k before c s is = ap steps is ∙ omega (arith, row_steps before)
+steps_while k before c s is = ap steps is ∙ omega (arith, rows_step before)
 
 pub steps_do : (k : NormalStmtKind) (s : NormalStmt) (before : List NormalStmt) (c : TypedExpr) → k ≡ normal.DoWhile s before c → steps k ≡ steps s.kind + steps_of before + (expr_price c + 2)
 unfolding shape-the_row-NormalStmt-0 hidden-the_row-NormalStmt-0 shape-the_row-NormalStmt-1 hidden-the_row-NormalStmt-1 hidden
-steps_do k s before c is = ap steps is ∙ omega (arith, row_steps before)
+steps_do k s before c is = ap steps is ∙ omega (arith, rows_step before)
 
 pub steps_for : (k : NormalStmtKind) (first before : List NormalStmt) (c : Option TypedExpr) (o : Option NormalStmt) (s : NormalStmt) → k ≡ normal.For first before c o s → steps k ≡ steps_of first + steps_of before + (option_price c + 2) + steps s.kind + steps_if_any o
 unfolding shape-the_row-NormalStmt-0 hidden-the_row-NormalStmt-0 shape-the_row-NormalStmt-1 hidden-the_row-NormalStmt-1 hidden
-steps_for k first before c o s is = ap steps is ∙ omega (arith, row_steps first, row_steps before, held_steps o)
+steps_for k first before c o s is = ap steps is ∙ omega (arith, rows_step first, rows_step before, held_steps o)
 
 -- ---- drafts
 
@@ -131,7 +106,7 @@ module _ (arrays : List ArrayOf) (x y : ℕ) where
       let head = here d + 1 in
       let exit = head + blocks_of before + 1 + closes s.kind + 1 in
       ap (λ k. lower arrays x y k d) is
-      ∙ ap (λ n. while_shape c s n (lower_row arrays x y (hidden-the_row-NormalStmt-0 before)) d) (row_closes before)
+      ∙ ap (λ n. while_shape c s n (lower_row arrays x y (hidden-the_row-NormalStmt-0 before)) d) (rows_close before)
       ∙ ap (λ e. close (Go head) (lower arrays exit head s.kind (branched arrays c (here e + 1) exit e))) (row_lowers before (close (Go head) d))
 
   abbrev do_shape : TypedExpr → NormalStmt → ℕ → (Draft → Draft) → Draft → Draft
@@ -148,7 +123,7 @@ module _ (arrays : List ArrayOf) (x y : ℕ) where
       let head = first + closes s.kind + 1 in
       let exit = head + blocks_of before + 1 in
       ap (λ k. lower arrays x y k d) is
-      ∙ ap (λ n. do_shape c s n (lower_row arrays x y (hidden-the_row-NormalStmt-0 before)) d) (row_closes before)
+      ∙ ap (λ n. do_shape c s n (lower_row arrays x y (hidden-the_row-NormalStmt-0 before)) d) (rows_close before)
       ∙ ap (λ e. branched arrays c first exit e) (row_lowers before (close (Go head) (lower arrays exit head s.kind (close (Go first) d))))
 
   -- a for by the draft after its first part, by the blocks of what stands before its condition, and by what that makes
@@ -178,5 +153,5 @@ module _ (arrays : List ArrayOf) (x y : ℕ) where
       ap (λ k. lower arrays x y k d) is
       ∙ for_rows first before c o s d
       ∙ ap (λ e. for_shape c o s e (closes_row row) (lower_row arrays x y row)) (row_lowers first d)
-      ∙ ap (λ n. for_shape c o s d0 n (lower_row arrays x y row)) (row_closes before)
+      ∙ ap (λ n. for_shape c o s d0 n (lower_row arrays x y row)) (rows_close before)
       ∙ ap (λ e. close (Go head) (stepped arrays x y o after (lower arrays exit (again_in o head after) s.kind (entered arrays c exit e)))) (row_lowers before (close (Go head) d0))

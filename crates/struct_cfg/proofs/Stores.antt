@@ -22,6 +22,7 @@ use Rattle.c_meaning.specs.Sizes.{expr_reads}
 use Rattle.c_meaning.specs.Stores.{Store, Objects, AreArraysOf, elements, place_from, dims_of, set_element}
 use Rattle.c_meaning.specs.Expressions.{meaning}
 use Rattle.c_meaning.specs.Lawful.{LawfulExpr, LawfulNormalExpr, LawfulHeader, AreDimensions, IsElement}
+use Rattle.c_meaning.proofs.StoreParts.{dims_is}
 use Rattle.el_base.specs.Limits.{max_elements}
 use Rattle.struct_cfg.specs.Layings.{Laying, one_step, after}
 use Rattle.struct_cfg.specs.Operators.{place_laid, flag}
@@ -30,15 +31,15 @@ use Rattle.struct_cfg.specs.Seen.{IsValue, Sees, Makes}
 use Rattle.struct_cfg.specs.Shares.{IsSmallArray, AreSmallArrays, GivesStore}
 use Rattle.struct_cfg.specs.Fits.{EnvFits, Fits, HasObjects}
 use Rattle.struct_cfg.proofs.Works as works
-use Rattle.struct_cfg.proofs.Works.{through_append, length_through, still_seen, adds_then}
+use Rattle.struct_cfg.proofs.Works.{through_append, length_through, still_seen}
 use Rattle.struct_cfg.proofs.Bounds as bounds
 use Rattle.struct_cfg.proofs.Bounds.{AtMost, after_most, steps_adding, accesses_adding, PiecesMost, one_long, none_free, place_most, flag_most, kind_cheap, kind_reads}
 use Rattle.struct_cfg.proofs.Types.{OpLaws}
-use Rattle.struct_cfg.proofs.Places.{PieceLaw, PieceLaws, place_makes, dims_is, cells_are, within_clean}
+use Rattle.struct_cfg.proofs.Places.{PieceLaws, place_makes, cells_are, within_clean}
 use Rattle.struct_cfg.proofs.Places as places
 use Rattle.struct_cfg.proofs.ExprLaws.{kind_law, all_at, dims_few}
 use Rattle.struct_cfg.proofs.Fitting as fitting
-use Rattle.struct_cfg.proofs.Fitting.{steps_append, shape_append, length_shape, steps_keep, env_kept, PiecesFit, expr_fits, array_place_fits}
+use Rattle.struct_cfg.proofs.Fitting.{steps_append, length_shape, steps_keep, env_kept, PiecesFit, expr_fits, array_place_fits}
 
 -- ---- an element is set on both sides
 

@@ -78,11 +78,9 @@ module _ (o : Setting) (leaves : Leaves o) where
 
   quiet_at : (f : Frame) (p q : Spot) (w : How) (v : Visit) (s : Store) (j l : ℕ) → Follow o 0 0 (quiet o f) p v q w s j l → Follow o 0 1 (no_loop o f) p v q w s j l
   quiet_at f p q normally v s j l z = z
-  quiet_at f p q by_break v s j l z = absurd (not_false o z.0)
-  quiet_at f p q by_continue v s j l z = absurd (not_false o z.0)
-  quiet_at f p q (by_return r) v s j l z = absurd (not_false o z.0)
   quiet_at f p q (undefined at) v s j l z = tt
   quiet_at f p q out_of_turns v s j l z = tt
+  quiet_at f p q w v s j l z = absurd (not_false o z.0)
 
   quietly : (f : Frame) (p q : Spot) (a : Run) (c : Counting) → Does o 0 0 (quiet o f) p q a c → Does o 0 1 (no_loop o f) p q a c
   quietly f p q a c z v s m at = quiet_at f p q (a s m).how v (a s m).store (c s m).jumps (c s m).price (z v s m at)

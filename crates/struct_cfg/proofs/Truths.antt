@@ -133,24 +133,16 @@ unfolding after
 free_after a f n e g = accesses_append (a n).steps (f (a n).value (n + length (a n).steps)).steps ∙ (omega (arith, e, g (a n).value (n + length (a n).steps)))
 
 pub flag_free : (t : Ty) (v n : ℕ) → accesses_in (flag t v n).steps ≡ 0
-flag_free I8 v n = refl
-flag_free U8 v n = refl
-flag_free I16 v n = refl
-flag_free U16 v n = refl
-flag_free I32 v n = refl
-flag_free U32 v n = refl
 flag_free I64 v n = free_after (one_step (One Zero64 v)) (λ z. one_step (One Zero32 z)) n refl (λ z m. refl)
 flag_free U64 v n = free_after (one_step (One Zero64 v)) (λ z. one_step (One Zero32 z)) n refl (λ z m. refl)
+flag_free t v n = refl
 
 pub test_free : (t : Ty) (v n : ℕ) → accesses_in (zero_test t v n).steps ≡ 0
 test_free I8 v n = free_after (one_step (One U8to32 v)) (λ z. one_step (One Zero32 z)) n refl (λ z m. refl)
 test_free U8 v n = free_after (one_step (One U8to32 v)) (λ z. one_step (One Zero32 z)) n refl (λ z m. refl)
 test_free I16 v n = free_after (one_step (One U16to32 v)) (λ z. one_step (One Zero32 z)) n refl (λ z m. refl)
 test_free U16 v n = free_after (one_step (One U16to32 v)) (λ z. one_step (One Zero32 z)) n refl (λ z m. refl)
-test_free I32 v n = refl
-test_free U32 v n = refl
-test_free I64 v n = refl
-test_free U64 v n = refl
+test_free t v n = refl
 
 -- ---- && and ||: of the side that is not needed nothing is known
 

@@ -17,7 +17,6 @@ use Rattle.ir.specs.Variables.{VarGraph, var_passage}
 use Rattle.c_meaning.specs.declared.profile.Profile.{Profile}
 use Rattle.c_meaning.specs.KernelPatterns.{scalar_patterns, array_patterns, result_pattern}
 use Rattle.c_meaning.specs.Ranges.{NormalOpeningFits}
-use Rattle.c_meaning.specs.Bounds.{IsOver}
 use Rattle.c_meaning.specs.Runs.{How, normally, by_break, by_continue, by_return, undefined, out_of_turns}
 use Rattle.c_meaning.specs.Stores.{Objects, Inputs, AreInRanges, AreFitting, opening, scalar_types}
 use Rattle.c_meaning.specs.Statements.{IsResult, kernel_end}
@@ -25,6 +24,7 @@ use Rattle.c_meaning.specs.Normals.{normal_objects, normal_body_run, normal_run}
 use Rattle.c_meaning.specs.Counts.{NormalCosts, CostsAreOne, normal_tally}
 use Rattle.c_meaning.specs.Quiet.{Quiet}
 use Rattle.c_meaning.specs.Lawful.{LawfulNormal, LawfulNormalStmt}
+use Rattle.c_meaning.proofs.Ends.{result_over}
 use Rattle.struct_cfg.specs.Drafts.{own_values}
 use Rattle.struct_cfg.specs.Seen.{IsValue, type_of}
 use Rattle.struct_cfg.specs.Shares.{AreSmallArrays}
@@ -53,17 +53,6 @@ body_result None at (undefined p) r i = i
 body_result (Some t) at (undefined p) r i = i
 body_result None at out_of_turns r i = i
 body_result (Some t) at out_of_turns r i = i
-
-result_over : (t : Option Ty) (h : How) (r : Option ℤ) → IsResult t h r → IsOver h
-result_over t normally r i = tt
-result_over None by_break r i = tt
-result_over (Some t) by_break r i = tt
-result_over None by_continue r i = tt
-result_over (Some t) by_continue r i = tt
-result_over t (by_return v) r i = tt
-result_over t (undefined p) r i = tt
-result_over None out_of_turns r i = absurd i
-result_over (Some t) out_of_turns r i = absurd i
 
 pub all_lawful : (k : Objects) (r : Option Ty) (ss : List NormalStmt) → All (λ s. LawfulNormalStmt k r false s.kind) ss → All (λ s. Quiet true s.kind) ss → AllLawful k r ss
 all_lawful k r [] h q = tt

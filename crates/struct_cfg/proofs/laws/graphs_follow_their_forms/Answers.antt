@@ -1,6 +1,6 @@
 use Rattle.std.proofs.Common.{refl}
 use Rattle.struct_cfg.proofs.Types.{OpLaws}
-use Rattle.struct_cfg.proofs.OpCases.{plain_laws, unary_laws}
+use Rattle.c_meaning.proofs.OperatorLaws.{plain_laws, unary_laws}
 use Rattle.struct_cfg.proofs.Formed.{form_fits}
 use Rattle.struct_cfg.proofs.Sized.{sizes_kept}
 use Rattle.struct_cfg.proofs.Whole.{runs_follow, variables_follow}
