@@ -4,7 +4,7 @@ use Rattle.std.specs.Prelude.{Bool, true, false, ℤ, pos, slice_get}
 use Rattle.std.proofs.lemmas.List.{nil_from_length}
 use Rattle.el_base.specs.declared.span.Span.{Span}
 use Rattle.el_base.specs.declared.ty.Ty.{Ty}
-use Rattle.el_base.specs.declared.ty.Ty.TheVariants.{I8, U8, I16, U16, I32, U32, I64, U64}
+use Rattle.el_base.specs.declared.ty.Ty.TheVariants.{I8, I32}
 use Rattle.el_base.specs.Numbers.{number}
 use Rattle.el_base.specs.Widths.{ty_width}
 use Rattle.c_ast.specs.declared.tree.Binary.{Binary}
@@ -24,6 +24,8 @@ use Rattle.c_meaning.specs.Expressions.{Val, undefined_value, value, Meaning, af
 use Rattle.c_meaning.specs.Runs.{undefined, out_of_turns, normally, ends, with_val}
 use Rattle.c_meaning.specs.Statements.{Place, of_var, of_element, Placed, no_place, placed, place_by, read_place, write_place, object_type, array_type, MeantTarget, target_place, meant_target, storing, stored, assigned, assigned_to, updated, updated_at, joined_in, joined_with, step_operator}
 use Rattle.c_meaning.specs.Lawful.{LawfulExpr, LawfulTarget, IsObject, IsElement}
+use Rattle.c_meaning.proofs.TypeLemmas.{promoted_usual}
+use Rattle.c_meaning.proofs.StoreParts.{array_type_is}
 use Rattle.ref_interp.specs.declared.cells.Cells.{Cells}
 use Rattle.ref_interp.specs.declared.cells.Trace.{Trace}
 use Rattle.ref_interp.specs.declared.machine.Ending.{Ending}
@@ -37,20 +39,11 @@ use Rattle.ref_interp.specs.Laws.{PatternLaws}
 use Rattle.ref_interp.specs.Operators.{IsRightType}
 use Rattle.ref_interp.specs.Targets.{IsSeen, Sought, Aimed, OldGives}
 use Rattle.ref_interp.proofs.Values.{failed_is, gives_is, gives}
-use Rattle.ref_interp.proofs.Exprs.{promoted_usual}
 use Rattle.ref_interp.proofs.Places.{located}
 use Rattle.ref_interp.proofs.Running.{taking_some, taking_all}
 use Rattle.ref_interp.proofs.Written.{Stands}
 
 -- ---- types of objects
-
-pub array_type_is : (xs : List ArrayOf) (a : ℕ) (x : ArrayOf) → slice_get xs a ≡ Some x → array_type xs a ≡ x.ty
-array_type_is [] a x e = absurd (cc)
-array_type_is (y ∷ xs) zero x e = ap (λ (y : ArrayOf). y.ty) (same y x e)
-  where
-    same : (y x : ArrayOf) → Some y ≡ Some x → y ≡ x
-    same y x e = cc
-array_type_is (y ∷ xs) (suc a) x e = array_type_is xs a x e
 
 pub array_type_none : (xs : List ArrayOf) (a : ℕ) → slice_get xs a ≡ None → array_type xs a ≡ I32
 array_type_none [] a e = refl
@@ -269,24 +262,12 @@ joint_promoted Shl a b = twice a
   where
     twice : (a : Ty) → promoted a ≡ promoted (promoted a)
     twice I8 = refl
-    twice U8 = refl
-    twice I16 = refl
-    twice U16 = refl
-    twice I32 = refl
-    twice U32 = refl
-    twice I64 = refl
-    twice U64 = refl
+    twice a = refl
 joint_promoted Shr a b = twice a
   where
     twice : (a : Ty) → promoted a ≡ promoted (promoted a)
     twice I8 = refl
-    twice U8 = refl
-    twice I16 = refl
-    twice U16 = refl
-    twice I32 = refl
-    twice U32 = refl
-    twice I64 = refl
-    twice U64 = refl
+    twice a = refl
 joint_promoted Lt a b = sym (promoted_usual a b)
 joint_promoted Gt a b = sym (promoted_usual a b)
 joint_promoted Le a b = sym (promoted_usual a b)
@@ -300,45 +281,18 @@ joint_promoted Both a b = sym (promoted_usual a b)
 joint_promoted Either a b = sym (promoted_usual a b)
 
 pub right_of : (op : Binary) (t b : Ty) → b ≡ assigned_type (Some op) t b → IsRightType op (joint_type op t b) b
-right_of Mul t b e = e
-right_of Div t b e = e
-right_of Rem t b e = e
-right_of Add t b e = e
-right_of Sub t b e = e
-right_of Shl t b e = e
-right_of Shr t b e = e
-right_of Lt t b e = e
-right_of Gt t b e = e
-right_of Le t b e = e
-right_of Ge t b e = e
-right_of Eq t b e = e
-right_of Ne t b e = e
-right_of And t b e = e
-right_of Xor t b e = e
-right_of Or t b e = e
 right_of Both t b e = tt
 right_of Either t b e = tt
+right_of op t b e = e
 
 -- the 1 of a step, in the type in which it is joined
 one_number : (t : Ty) → number t 1 ≡ pos 1
 one_number I8 = refl
-one_number U8 = refl
-one_number I16 = refl
-one_number U16 = refl
-one_number I32 = refl
-one_number U32 = refl
-one_number I64 = refl
-one_number U64 = refl
+one_number t = refl
 
 one_below : (t : Ty) → 1 < 2 ^ ty_width t
 one_below I8 = omega arith
-one_below U8 = omega arith
-one_below I16 = omega arith
-one_below U16 = omega arith
-one_below I32 = omega arith
-one_below U32 = omega arith
-one_below I64 = omega arith
-one_below U64 = omega arith
+one_below t = omega arith
 
 pub one_answers : (t : Ty) (s : Store) (m u : ℕ) (mid : Trace) → mid.failed ≡ false → mid.turns ≡ m → m ≡ plus_turns 0 u → Answered mid.failed t (always (pos 1) s) m mid 1
 one_answers t s m u mid clear e used = gives mid.failed t _ m 1 mid clear (record { turns = 0; is = ap (λ z. value z 0) (sym (one_number t)); below = one_below t; used = omega (arith, e, used) })

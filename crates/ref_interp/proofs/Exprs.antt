@@ -5,14 +5,14 @@ use Rattle.std.proofs.lemmas.Int.{ints}
 use denote.Hole.Carrier.{hidden}
 use Rattle.el_base.specs.declared.span.Span.{Span}
 use Rattle.el_base.specs.declared.ty.Ty.{Ty}
-use Rattle.el_base.specs.declared.ty.Ty.TheVariants.{I8, U8, I16, U16, I32, U32, I64, U64}
+use Rattle.el_base.specs.declared.ty.Ty.TheVariants.{U8, U16, I32, U32, U64}
 use Rattle.el_base.specs.Numbers.{number, IsInRange}
 use Rattle.el_base.specs.Widths.{ty_width}
 use Rattle.c_ast.specs.declared.tree.Unary.{Unary}
-use Rattle.c_ast.specs.declared.tree.Unary.TheVariants.{Plus, Minus, Flip, Not}
+use Rattle.c_ast.specs.declared.tree.Unary.TheVariants.{Plus}
 use Rattle.c_ast.specs.declared.tree.Binary.{Binary}
 use Rattle.c_ast.specs.declared.tree.Binary.TheVariants.{Mul, Div, Rem, Add, Sub, Shl, Shr, Lt, Gt, Le, Ge, Eq, Ne, And, Xor, Or, Both, Either}
-use Rattle.c_ast.specs.ResultTypes.{promoted, common, usual, result_type, unary_type}
+use Rattle.c_ast.specs.ResultTypes.{promoted, usual, result_type, unary_type}
 use Rattle.c_ast.specs.declared.typed.TypedExpr.{TypedExpr}
 use Rattle.c_ast.specs.declared.typed.TypedExprKind.{TypedExprKind}
 use Rattle.c_ast.specs.declared.typed.TypedExprKind.TheVariants as expr
@@ -36,43 +36,6 @@ use Rattle.ref_interp.specs.Operators.{IsRightType}
 use Rattle.ref_interp.proofs.Values.{failed_is, gives_is, fails, gives, answers_as, first_answers, second_answers, truth_answers, always_gives}
 
 -- ---- types
-
-promoted_twice : (a : Ty) → promoted (promoted a) ≡ promoted a
-promoted_twice I8 = refl
-promoted_twice U8 = refl
-promoted_twice I16 = refl
-promoted_twice U16 = refl
-promoted_twice I32 = refl
-promoted_twice U32 = refl
-promoted_twice I64 = refl
-promoted_twice U64 = refl
-
-promoted_common : (a b : Ty) → promoted b ≡ b → promoted (common a b) ≡ common a b
-promoted_common U64 b e = refl
-promoted_common I64 I8 e = refl
-promoted_common I64 U8 e = refl
-promoted_common I64 I16 e = refl
-promoted_common I64 U16 e = refl
-promoted_common I64 I32 e = refl
-promoted_common I64 U32 e = refl
-promoted_common I64 I64 e = refl
-promoted_common I64 U64 e = refl
-promoted_common U32 I8 e = refl
-promoted_common U32 U8 e = refl
-promoted_common U32 I16 e = refl
-promoted_common U32 U16 e = refl
-promoted_common U32 I32 e = refl
-promoted_common U32 U32 e = refl
-promoted_common U32 I64 e = refl
-promoted_common U32 U64 e = refl
-promoted_common I32 b e = e
-promoted_common U16 b e = e
-promoted_common I16 b e = e
-promoted_common U8 b e = e
-promoted_common I8 b e = e
-
-pub promoted_usual : (a b : Ty) → promoted (usual a b) ≡ usual a b
-promoted_usual a b = promoted_common (promoted a) (promoted b) (promoted_twice b)
 
 -- the types of operands that are both evaluated
 pub record OperandTypes (op : Binary) (a b t : Ty) : Type 0 where
@@ -112,29 +75,11 @@ operand_types Either a b t n m h = absurd (m refl)
 -- an operator means the same in the type of its operands as in that of its result
 pub same_unary : (p : Profile) (op : Unary) (t : Ty) → unary_value p op (unary_type op t) ≡ unary_value p op t
 same_unary p Plus t = refl
-same_unary p Minus t = refl
-same_unary p Flip t = refl
-same_unary p Not t = refl
+same_unary p op t = refl
 
 pub same_binary : (p : Profile) (op : Binary) (t : Ty) → binary_value p op (result_type op t) ≡ binary_value p op t
 same_binary p Mul t = refl
-same_binary p Div t = refl
-same_binary p Rem t = refl
-same_binary p Add t = refl
-same_binary p Sub t = refl
-same_binary p Shl t = refl
-same_binary p Shr t = refl
-same_binary p Lt t = refl
-same_binary p Gt t = refl
-same_binary p Le t = refl
-same_binary p Ge t = refl
-same_binary p Eq t = refl
-same_binary p Ne t = refl
-same_binary p And t = refl
-same_binary p Xor t = refl
-same_binary p Or t = refl
-same_binary p Both t = refl
-same_binary p Either t = refl
+same_binary p op t = refl
 
 -- ---- what an expression of a kind means
 
@@ -157,24 +102,9 @@ means_cast k kind t at s i a is = ap (λ x. kind_meaning k x t at s) is
 -- both operands are evaluated
 joins_both : (k : Objects) (op : Binary) (t : Ty) (at : Span) (s : Store) (a b : TypedExpr) → (op ≡ Both → ⊥) → (op ≡ Either → ⊥) → kind_meaning k (expr.Binary op a b) t at s ≡ on_two at (binary_value k.profile op t) (meaning k a s) (meaning k b s)
 unfolding shape-the_row-TypedExpr-0 hidden-the_row-TypedExpr-0 shape-the_row-TypedExpr-1 hidden-the_row-TypedExpr-1 hidden
-joins_both k Mul t at s a b n m = refl
-joins_both k Div t at s a b n m = refl
-joins_both k Rem t at s a b n m = refl
-joins_both k Add t at s a b n m = refl
-joins_both k Sub t at s a b n m = refl
-joins_both k Shl t at s a b n m = refl
-joins_both k Shr t at s a b n m = refl
-joins_both k Lt t at s a b n m = refl
-joins_both k Gt t at s a b n m = refl
-joins_both k Le t at s a b n m = refl
-joins_both k Ge t at s a b n m = refl
-joins_both k Eq t at s a b n m = refl
-joins_both k Ne t at s a b n m = refl
-joins_both k And t at s a b n m = refl
-joins_both k Xor t at s a b n m = refl
-joins_both k Or t at s a b n m = refl
 joins_both k Both t at s a b n m = absurd (n refl)
 joins_both k Either t at s a b n m = absurd (m refl)
+joins_both k op t at s a b n m = refl
 
 pub means_strict : (k : Objects) (kind : TypedExprKind) (t : Ty) (at : Span) (s : Store) (op : Binary) (a b : TypedExpr) → kind ≡ expr.Binary op a b → (op ≡ Both → ⊥) → (op ≡ Either → ⊥)
     → kind_meaning k kind t at s ≡ on_two at (binary_value k.profile op t) (meaning k a s) (meaning k b s)
@@ -224,14 +154,11 @@ choice_lawful k kind t c a b is h = subst (λ x. LawfulKind k x t) is h
 -- ---- a number
 
 small_number : (t : Ty) (n : ℕ) → IsInRange t (pos n) → (number t n ≡ pos n) × (n < 2 ^ ty_width t)
-small_number I8 n h = let a = h.below in (grind (arith, ints), grind (arith, ints))
 small_number U8 n h = let a = h.below in (refl, grind (arith, ints))
-small_number I16 n h = let a = h.below in (grind (arith, ints), grind (arith, ints))
 small_number U16 n h = let a = h.below in (refl, grind (arith, ints))
-small_number I32 n h = let a = h.below in (grind (arith, ints), grind (arith, ints))
 small_number U32 n h = let a = h.below in (refl, grind (arith, ints))
-small_number I64 n h = let a = h.below in (grind (arith, ints), grind (arith, ints))
 small_number U64 n h = let a = h.below in (refl, grind (arith, ints))
+small_number t n h = let a = h.below in (grind (arith, ints), grind (arith, ints))
 
 pub number_answers : (k : Objects) (c : Cells) (kind : TypedExprKind) (t : Ty) (at : Span) (old : Trace) (n : ℕ) → kind ≡ expr.Number n → LawfulKind k kind t → IsReady k c old → Answers t (kind_meaning k kind t at (store_of k c)) old old n
 number_answers k c kind t at old n is h q =

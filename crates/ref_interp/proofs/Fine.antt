@@ -56,11 +56,7 @@ fine_val l (value x t) next f s n = fine_taking l t (next x) (f x) s n
 
 fine_go_on : (l : Bool) (how : How) (next : Run) (s : Store) (m n : ℕ) → Fine l next → FineEnd l n (ends how s m) → FineEnd l n (go_on how next s m)
 fine_go_on l normally next s m n f e = less l m n (next s m) e.fewer (f s m)
-fine_go_on l by_break next s m n f e = e
-fine_go_on l by_continue next s m n f e = e
-fine_go_on l (by_return v) next s m n f e = e
-fine_go_on l (undefined at) next s m n f e = e
-fine_go_on l out_of_turns next s m n f e = e
+fine_go_on l how next s m n f e = e
 
 as_end : (l : Bool) (n : ℕ) (e : Ended) → FineEnd l n e → FineEnd l n (ends e.how e.store e.left)
 as_end l n e f = record { leaves = f.leaves; fewer = f.fewer }
@@ -71,10 +67,7 @@ fine_both l first next f g s n = let e = first s n in fine_go_on l e.how next e.
 fine_after : (l : Bool) (how : How) (next : Run) (s : Store) (m n : ℕ) → Fine l next → FineEnd true n (ends how s m) → FineEnd l n (after_body how next s m)
 fine_after l normally next s m n f e = less l m n (next s m) e.fewer (f s m)
 fine_after l by_continue next s m n f e = less l m n (next s m) e.fewer (f s m)
-fine_after l by_break next s m n f e = record { leaves = tt; fewer = e.fewer }
-fine_after l (by_return v) next s m n f e = record { leaves = tt; fewer = e.fewer }
-fine_after l (undefined at) next s m n f e = record { leaves = tt; fewer = e.fewer }
-fine_after l out_of_turns next s m n f e = record { leaves = tt; fewer = e.fewer }
+fine_after l how next s m n f e = record { leaves = tt; fewer = e.fewer }
 
 fine_looped : (l : Bool) (body next : Run) → Fine true body → Fine l next → Fine l (looped body next)
 fine_looped l body next f g s n = let e = body s n in fine_after l e.how next e.store e.left n g (as_end true n e (f s n))
@@ -156,12 +149,9 @@ fine_returned l (Some m) s n = fine_val l (m s) (λ x. ends (by_return (Some x))
 
 -- what leaves no loop leaves none in a loop
 leaves_in : (l : Bool) (how : How) → Leaves false how → Leaves l how
-leaves_in l normally h = tt
 leaves_in l by_break h = absurd (cc)
 leaves_in l by_continue h = absurd (cc)
-leaves_in l (by_return v) h = tt
-leaves_in l (undefined at) h = tt
-leaves_in l out_of_turns h = tt
+leaves_in l how h = tt
 
 outside : (l : Bool) (run : Run) → Fine false run → Fine l run
 outside l run f s n = let e = f s n in record { leaves = leaves_in l (run s n).how e.leaves; fewer = e.fewer }

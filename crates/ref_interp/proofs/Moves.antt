@@ -129,18 +129,12 @@ given_some k r v e x t m m2 is rt can f an left same val =
 -- ---- entering
 
 declares_none : (k : Objects) (x : TypedStmtKind) → ((v : ℕ) (e : Option TypedExpr) → x ≡ stmt.Declare v e → ⊥) → (kind_act k x).declares ≡ []
-declares_none k (tree.Block' n row) h = refl
 declares_none k (tree.Declare v init) h = absurd (h v init refl)
-declares_none k (tree.Assign target op e) h = refl
-declares_none k (tree.Step target up) h = refl
 declares_none k (tree.If' cond b (more_of-TypedStmt x at end_of-TypedStmt) o) h = refl
 declares_none k (tree.While' cond b (more_of-TypedStmt x at end_of-TypedStmt)) h = refl
 declares_none k (tree.DoWhile' b (more_of-TypedStmt x at end_of-TypedStmt) cond) h = refl
 declares_none k (tree.For' n first cond step b (more_of-TypedStmt x at end_of-TypedStmt)) h = refl
-declares_none k tree.Break h = refl
-declares_none k tree.Continue h = refl
-declares_none k (tree.Return e) h = refl
-declares_none k tree.Empty h = refl
+declares_none k x h = refl
 
 declares_one : (k : Objects) (x : TypedStmt) (v : ℕ) (e : Option TypedExpr) → x.kind ≡ stmt.Declare v e → (act k x).declares ≡ v ∷ []
 declares_one k x v e is = ap (λ x. (kind_act k x).declares) is

@@ -6,11 +6,10 @@ use Rattle.std.proofs.lemmas.Bool.Decides.{nat_tests}
 use denote.Hole.Carrier.{hidden}
 use Rattle.el_base.specs.declared.span.Span.{Span}
 use Rattle.el_base.specs.declared.ty.Ty.{Ty}
-use Rattle.el_base.specs.declared.ty.Ty.TheVariants.{I8, U8, I16, U16, I32, U32, I64, U64}
+use Rattle.el_base.specs.declared.ty.Ty.TheVariants.{I8, I32, U32, I64, U64}
 use Rattle.el_base.specs.Numbers.{number, pattern, IsInRange}
 use Rattle.el_base.specs.Widths.{ty_width}
 use Rattle.c_ast.specs.declared.tree.Unary.{Unary}
-use Rattle.c_ast.specs.declared.tree.Unary.TheVariants.{Plus, Minus, Flip, Not}
 use Rattle.c_ast.specs.declared.tree.Binary.{Binary}
 use Rattle.c_ast.specs.declared.tree.Binary.TheVariants.{Mul, Div, Rem, Add, Sub, Shl, Shr, Lt, Gt, Le, Ge, Eq, Ne, And, Xor, Or, Both, Either}
 use Rattle.c_ast.specs.ResultTypes.{promoted, usual, result_type, unary_type}
@@ -23,15 +22,16 @@ use Rattle.c_meaning.specs.Operators.{unary_value, binary_value, amount, left_sh
 use Rattle.c_meaning.specs.Patterns.{KeepsPatterns, ShiftKeepsPatterns, KeepsPattern, ConvertsPattern, on_patterns, on_pattern, conversion_op, converted_by}
 use Rattle.c_meaning.specs.Ranges.{ValuesFit}
 use Rattle.c_meaning.specs.Stores.{Store, Objects, IsFitting}
-use Rattle.c_meaning.specs.Expressions.{value, after_turns}
+use Rattle.c_meaning.specs.Expressions.{after_turns}
 use Rattle.c_meaning.specs.Lawful.{AreOperands}
+use Rattle.c_meaning.proofs.OperatorLaws.{is_plain}
 use Rattle.ref_interp.specs.Laws.{IsPattern, Joins, MakesOf}
 use Rattle.ref_interp.specs.Operators.{IsRightType}
 use Rattle.ref_interp.proofs.Exprs.{means_strict, means_unary, same_binary, same_unary}
 
 -- what the laws of the crates below say
 pub record OpLaws : Type 0 where
-  pub plain : (op : Binary) (t : Ty) → (op ≡ Shl → ⊥) → (op ≡ Shr → ⊥) → (op ≡ Both → ⊥) → (op ≡ Either → ⊥) → KeepsPatterns op (promoted t)
+  pub plain : (op : Binary) (t : Ty) → is_plain op ≡ true → KeepsPatterns op (promoted t)
   pub left_shifts : (t : Ty) → ShiftKeepsPatterns Shl (promoted t)
   pub right_shifts : (t : Ty) → ShiftKeepsPatterns Shr (promoted t)
   pub unary : (op : Unary) (t : Ty) → KeepsPattern op (promoted t)
@@ -60,9 +60,6 @@ two_set x y = record { vars = Some x ∷ Some y ∷ []; arrays = [] }
 two_fit : (p : Profile) (t by : Ty) (x y : ℤ) → IsInRange t x → IsInRange by y → IsFitting (two_vars p t by) (two_set x y)
 two_fit p t by x y a b = record { vars = (a, (b, tt)); arrays = tt }
 
-value_is : (z w : ℤ) (t u : ℕ) → value z t ≡ value w u → z ≡ w
-value_is z w t u e = cc
-
 binary_in : OpLaws → (p : Profile) (op : Binary) (t by r : Ty) (x y z : ℤ) → (op ≡ Both → ⊥) → (op ≡ Either → ⊥) → AreOperands op t by r → IsInRange t x → IsInRange by y → binary_value p op r x y ≡ Some z → IsInRange r z
 unfolding shape-the_row-TypedExpr-0 hidden-the_row-TypedExpr-0 shape-the_row-TypedExpr-1 hidden-the_row-TypedExpr-1 hidden
 binary_in laws p op t by r x y z n m types a b e =
@@ -86,14 +83,11 @@ number_of laws t p z r e = (ap (number t) e ∙ laws.numbers t z r, subst (λ p.
 
 -- types of operands by the rule on the right type
 the_usual : (t : Ty) → t ≡ promoted t → t ≡ usual t t
-the_usual I8 e = absurd (cc)
-the_usual U8 e = absurd (cc)
-the_usual I16 e = absurd (cc)
-the_usual U16 e = absurd (cc)
 the_usual I32 e = refl
 the_usual U32 e = refl
 the_usual I64 e = refl
 the_usual U64 e = refl
+the_usual t e = absurd (cc)
 
 -- the pattern of a shift amount is the same in each type
 small_amount : (t by : Ty) (y k : ℕ) → amount t (number by y) ≡ Some k → (number by y ≡ pos k) × (k < ty_width t)
@@ -108,34 +102,22 @@ small_amount t by y k e = of_number (number by y) e
     of_number (negsuc i) e = absurd (cc)
 
 small_number : (t : Ty) (k : ℕ) → t ≡ promoted t → k < 64 → number t k ≡ pos k
-small_number I8 k e l = absurd (cc)
-small_number U8 k e l = absurd (cc)
-small_number I16 k e l = absurd (cc)
-small_number U16 k e l = absurd (cc)
 small_number I32 k e l = grind (arith, ints)
 small_number U32 k e l = refl
 small_number I64 k e l = grind (arith, ints)
 small_number U64 k e l = refl
+small_number t k e l = absurd (cc)
 
 width_most : (t : Ty) → ty_width t ≤ 64
 width_most I8 = omega arith
-width_most U8 = omega arith
-width_most I16 = omega arith
-width_most U16 = omega arith
-width_most I32 = omega arith
-width_most U32 = omega arith
-width_most I64 = omega arith
-width_most U64 = omega arith
+width_most t = omega arith
 
 small_below : (t : Ty) (k : ℕ) → t ≡ promoted t → k < 64 → k < 2 ^ ty_width t
-small_below I8 k e l = absurd (cc)
-small_below U8 k e l = absurd (cc)
-small_below I16 k e l = absurd (cc)
-small_below U16 k e l = absurd (cc)
 small_below I32 k e l = omega arith
 small_below U32 k e l = omega arith
 small_below I64 k e l = omega arith
 small_below U64 k e l = omega arith
+small_below t k e l = absurd (cc)
 
 -- the amount has the same pattern in the type of what is shifted
 amount_pattern : OpLaws → (t by : Ty) (y k : ℕ) → t ≡ promoted t → by ≡ promoted by → y < 2 ^ ty_width by → amount t (number by y) ≡ Some k → pattern t (number by y) ≡ y
@@ -156,14 +138,14 @@ amount_of t f y z e = by_cases (amount t y) refl e
 
 -- ---- operators
 
-plain_joins : OpLaws → (op : Binary) (t by : Ty) (x y : ℕ) → (op ≡ Shl → ⊥) → (op ≡ Shr → ⊥) → (op ≡ Both → ⊥) → (op ≡ Either → ⊥) → AreOperands op t t (result_type op t) → t ≡ promoted t → by ≡ t → x < 2 ^ ty_width t → y < 2 ^ ty_width by → Joins op t by x y
-plain_joins laws op t by x y nl nr nb ne types pt same bx byy p z e =
+plain_joins : OpLaws → (op : Binary) (t by : Ty) (x y : ℕ) → is_plain op ≡ true → (op ≡ Both → ⊥) → (op ≡ Either → ⊥) → AreOperands op t t (result_type op t) → t ≡ promoted t → by ≡ t → x < 2 ^ ty_width t → y < 2 ^ ty_width by → Joins op t by x y
+plain_joins laws op t by x y plain nb ne types pt same bx byy p z e =
     let by2 : y < 2 ^ ty_width t = subst (λ b. y < 2 ^ ty_width b) same byy in
     let rx = laws.in_range t x bx in
     let ry = laws.in_range t y by2 in
     let e2 : binary_value p op t (number t x) (number t y) ≡ Some z = ap (λ b. binary_value p op t (number t x) (number b y)) (sym same) ∙ e in
     let e3 : binary_value p op (result_type op t) (number t x) (number t y) ≡ Some z = ap (λ f. f (number t x) (number t y)) (same_binary p op t) ∙ e2 in
-    let keeps = subst (KeepsPatterns op) (sym pt) (laws.plain op t nl nr nb ne) in
+    let keeps = subst (KeepsPatterns op) (sym pt) (laws.plain op t plain) in
     number_of laws (result_type op t) (on_patterns op t x y) z (binary_in laws p op t t (result_type op t) (number t x) (number t y) z nb ne types rx ry e3)
     (ap (λ x. on_patterns op t x y) (sym (laws.round t x bx)) ∙ ap (on_patterns op t (pattern t (number t x))) (sym (laws.round t y by2)) ∙ keeps p (number t x) (number t y) z rx ry e2)
 
@@ -177,22 +159,22 @@ shift_joins laws op t by x y keeps nb ne rt types pt pby bx byy am p z e =
     (ap (λ x. on_patterns op t x y) (sym (laws.round t x bx)) ∙ ap (on_patterns op t (pattern t (number t x))) (sym (amount_pattern laws t by y k.0 pt pby byy k.1)) ∙ keeps p (number t x) (number by y) z rx e))
 
 pub joins : OpLaws → (op : Binary) (t by : Ty) (x y : ℕ) → t ≡ promoted t → IsRightType op t by → x < 2 ^ ty_width t → y < 2 ^ ty_width by → Joins op t by x y
-joins laws Mul t by x y pt r a b = plain_joins laws Mul t by x y (λ e. cc) (λ e. cc) (λ e. cc) (λ e. cc) (the_usual t pt, the_usual t pt, the_usual t pt) pt r a b
-joins laws Div t by x y pt r a b = plain_joins laws Div t by x y (λ e. cc) (λ e. cc) (λ e. cc) (λ e. cc) (the_usual t pt, the_usual t pt, the_usual t pt) pt r a b
-joins laws Rem t by x y pt r a b = plain_joins laws Rem t by x y (λ e. cc) (λ e. cc) (λ e. cc) (λ e. cc) (the_usual t pt, the_usual t pt, the_usual t pt) pt r a b
-joins laws Add t by x y pt r a b = plain_joins laws Add t by x y (λ e. cc) (λ e. cc) (λ e. cc) (λ e. cc) (the_usual t pt, the_usual t pt, the_usual t pt) pt r a b
-joins laws Sub t by x y pt r a b = plain_joins laws Sub t by x y (λ e. cc) (λ e. cc) (λ e. cc) (λ e. cc) (the_usual t pt, the_usual t pt, the_usual t pt) pt r a b
+joins laws Mul t by x y pt r a b = plain_joins laws Mul t by x y refl (λ e. cc) (λ e. cc) (the_usual t pt, the_usual t pt, the_usual t pt) pt r a b
+joins laws Div t by x y pt r a b = plain_joins laws Div t by x y refl (λ e. cc) (λ e. cc) (the_usual t pt, the_usual t pt, the_usual t pt) pt r a b
+joins laws Rem t by x y pt r a b = plain_joins laws Rem t by x y refl (λ e. cc) (λ e. cc) (the_usual t pt, the_usual t pt, the_usual t pt) pt r a b
+joins laws Add t by x y pt r a b = plain_joins laws Add t by x y refl (λ e. cc) (λ e. cc) (the_usual t pt, the_usual t pt, the_usual t pt) pt r a b
+joins laws Sub t by x y pt r a b = plain_joins laws Sub t by x y refl (λ e. cc) (λ e. cc) (the_usual t pt, the_usual t pt, the_usual t pt) pt r a b
 joins laws Shl t by x y pt r a b = shift_joins laws Shl t by x y (subst (ShiftKeepsPatterns Shl) (sym pt) (laws.left_shifts t)) (λ e. cc) (λ e. cc) refl (pt, r, pt) pt r a b (λ p z e. amount_of t (left_shift p t (number t x)) (number by y) z e)
 joins laws Shr t by x y pt r a b = shift_joins laws Shr t by x y (subst (ShiftKeepsPatterns Shr) (sym pt) (laws.right_shifts t)) (λ e. cc) (λ e. cc) refl (pt, r, pt) pt r a b (λ p z e. amount_of t (right_shift (number t x)) (number by y) z e)
-joins laws Lt t by x y pt r a b = plain_joins laws Lt t by x y (λ e. cc) (λ e. cc) (λ e. cc) (λ e. cc) (the_usual t pt, the_usual t pt, refl) pt r a b
-joins laws Gt t by x y pt r a b = plain_joins laws Gt t by x y (λ e. cc) (λ e. cc) (λ e. cc) (λ e. cc) (the_usual t pt, the_usual t pt, refl) pt r a b
-joins laws Le t by x y pt r a b = plain_joins laws Le t by x y (λ e. cc) (λ e. cc) (λ e. cc) (λ e. cc) (the_usual t pt, the_usual t pt, refl) pt r a b
-joins laws Ge t by x y pt r a b = plain_joins laws Ge t by x y (λ e. cc) (λ e. cc) (λ e. cc) (λ e. cc) (the_usual t pt, the_usual t pt, refl) pt r a b
-joins laws Eq t by x y pt r a b = plain_joins laws Eq t by x y (λ e. cc) (λ e. cc) (λ e. cc) (λ e. cc) (the_usual t pt, the_usual t pt, refl) pt r a b
-joins laws Ne t by x y pt r a b = plain_joins laws Ne t by x y (λ e. cc) (λ e. cc) (λ e. cc) (λ e. cc) (the_usual t pt, the_usual t pt, refl) pt r a b
-joins laws And t by x y pt r a b = plain_joins laws And t by x y (λ e. cc) (λ e. cc) (λ e. cc) (λ e. cc) (the_usual t pt, the_usual t pt, the_usual t pt) pt r a b
-joins laws Xor t by x y pt r a b = plain_joins laws Xor t by x y (λ e. cc) (λ e. cc) (λ e. cc) (λ e. cc) (the_usual t pt, the_usual t pt, the_usual t pt) pt r a b
-joins laws Or t by x y pt r a b = plain_joins laws Or t by x y (λ e. cc) (λ e. cc) (λ e. cc) (λ e. cc) (the_usual t pt, the_usual t pt, the_usual t pt) pt r a b
+joins laws Lt t by x y pt r a b = plain_joins laws Lt t by x y refl (λ e. cc) (λ e. cc) (the_usual t pt, the_usual t pt, refl) pt r a b
+joins laws Gt t by x y pt r a b = plain_joins laws Gt t by x y refl (λ e. cc) (λ e. cc) (the_usual t pt, the_usual t pt, refl) pt r a b
+joins laws Le t by x y pt r a b = plain_joins laws Le t by x y refl (λ e. cc) (λ e. cc) (the_usual t pt, the_usual t pt, refl) pt r a b
+joins laws Ge t by x y pt r a b = plain_joins laws Ge t by x y refl (λ e. cc) (λ e. cc) (the_usual t pt, the_usual t pt, refl) pt r a b
+joins laws Eq t by x y pt r a b = plain_joins laws Eq t by x y refl (λ e. cc) (λ e. cc) (the_usual t pt, the_usual t pt, refl) pt r a b
+joins laws Ne t by x y pt r a b = plain_joins laws Ne t by x y refl (λ e. cc) (λ e. cc) (the_usual t pt, the_usual t pt, refl) pt r a b
+joins laws And t by x y pt r a b = plain_joins laws And t by x y refl (λ e. cc) (λ e. cc) (the_usual t pt, the_usual t pt, the_usual t pt) pt r a b
+joins laws Xor t by x y pt r a b = plain_joins laws Xor t by x y refl (λ e. cc) (λ e. cc) (the_usual t pt, the_usual t pt, the_usual t pt) pt r a b
+joins laws Or t by x y pt r a b = plain_joins laws Or t by x y refl (λ e. cc) (λ e. cc) (the_usual t pt, the_usual t pt, the_usual t pt) pt r a b
 joins laws Both t by x y pt r a b = λ p z e. absurd (never z e)
   where
     never : (z : ℤ) → None ≡ Some z → ⊥
@@ -214,37 +196,3 @@ converts laws s t x b =
     let rx = laws.in_range s x b in
     let made = ap (converted_by (conversion_op s t)) (sym (laws.round s x b)) ∙ laws.conversions s t (number s x) rx in
     number_of laws t (converted_by (conversion_op s t) x) (conv t (number s x)) (laws.in_range t (pattern t (number s x)) (laws.width t (number s x))) made
-
--- ---- the laws of single operators, put together
-
-abbrev Two : Binary → Type 0
-Two op = (t : Ty) → KeepsPatterns op (promoted t)
-
-abbrev One : Unary → Type 0
-One op = (t : Ty) → KeepsPattern op (promoted t)
-
-pub plain_laws : Two Mul → Two Div → Two Rem → Two Add → Two Sub → Two Lt → Two Gt → Two Le → Two Ge → Two Eq → Two Ne → Two And → Two Xor → Two Or → (op : Binary) (t : Ty) → (op ≡ Shl → ⊥) → (op ≡ Shr → ⊥) → (op ≡ Both → ⊥) → (op ≡ Either → ⊥) → KeepsPatterns op (promoted t)
-plain_laws l_mul l_div l_rem l_add l_sub l_lt l_gt l_le l_ge l_eq l_ne l_and l_xor l_or Mul t a b c d = l_mul t
-plain_laws l_mul l_div l_rem l_add l_sub l_lt l_gt l_le l_ge l_eq l_ne l_and l_xor l_or Div t a b c d = l_div t
-plain_laws l_mul l_div l_rem l_add l_sub l_lt l_gt l_le l_ge l_eq l_ne l_and l_xor l_or Rem t a b c d = l_rem t
-plain_laws l_mul l_div l_rem l_add l_sub l_lt l_gt l_le l_ge l_eq l_ne l_and l_xor l_or Add t a b c d = l_add t
-plain_laws l_mul l_div l_rem l_add l_sub l_lt l_gt l_le l_ge l_eq l_ne l_and l_xor l_or Sub t a b c d = l_sub t
-plain_laws l_mul l_div l_rem l_add l_sub l_lt l_gt l_le l_ge l_eq l_ne l_and l_xor l_or Shl t a b c d = absurd (a refl)
-plain_laws l_mul l_div l_rem l_add l_sub l_lt l_gt l_le l_ge l_eq l_ne l_and l_xor l_or Shr t a b c d = absurd (b refl)
-plain_laws l_mul l_div l_rem l_add l_sub l_lt l_gt l_le l_ge l_eq l_ne l_and l_xor l_or Lt t a b c d = l_lt t
-plain_laws l_mul l_div l_rem l_add l_sub l_lt l_gt l_le l_ge l_eq l_ne l_and l_xor l_or Gt t a b c d = l_gt t
-plain_laws l_mul l_div l_rem l_add l_sub l_lt l_gt l_le l_ge l_eq l_ne l_and l_xor l_or Le t a b c d = l_le t
-plain_laws l_mul l_div l_rem l_add l_sub l_lt l_gt l_le l_ge l_eq l_ne l_and l_xor l_or Ge t a b c d = l_ge t
-plain_laws l_mul l_div l_rem l_add l_sub l_lt l_gt l_le l_ge l_eq l_ne l_and l_xor l_or Eq t a b c d = l_eq t
-plain_laws l_mul l_div l_rem l_add l_sub l_lt l_gt l_le l_ge l_eq l_ne l_and l_xor l_or Ne t a b c d = l_ne t
-plain_laws l_mul l_div l_rem l_add l_sub l_lt l_gt l_le l_ge l_eq l_ne l_and l_xor l_or And t a b c d = l_and t
-plain_laws l_mul l_div l_rem l_add l_sub l_lt l_gt l_le l_ge l_eq l_ne l_and l_xor l_or Xor t a b c d = l_xor t
-plain_laws l_mul l_div l_rem l_add l_sub l_lt l_gt l_le l_ge l_eq l_ne l_and l_xor l_or Or t a b c d = l_or t
-plain_laws l_mul l_div l_rem l_add l_sub l_lt l_gt l_le l_ge l_eq l_ne l_and l_xor l_or Both t a b c d = absurd (c refl)
-plain_laws l_mul l_div l_rem l_add l_sub l_lt l_gt l_le l_ge l_eq l_ne l_and l_xor l_or Either t a b c d = absurd (d refl)
-
-pub unary_laws : One Plus → One Minus → One Flip → One Not → (op : Unary) (t : Ty) → KeepsPattern op (promoted t)
-unary_laws p m f n Plus t = p t
-unary_laws p m f n Minus t = m t
-unary_laws p m f n Flip t = f t
-unary_laws p m f n Not t = n t

@@ -20,6 +20,7 @@ use Rattle.c_meaning.specs.Stores.{Store, Objects, read_var, index_within, place
 use Rattle.c_meaning.specs.Expressions.{Val, undefined_value, value, Vals, undefined_values, values, Meaning, after_turns, all_values, with_first, meaning}
 use Rattle.c_meaning.specs.Statements.{Placed, no_place, place_by, placed_after, element_place}
 use Rattle.c_meaning.specs.Lawful.{LawfulExpr, IsVar, IsElement}
+use Rattle.c_meaning.proofs.StoreParts.{dims_is}
 use Rattle.ref_interp.specs.declared.cells.Cells.{Cells}
 use Rattle.ref_interp.specs.declared.cells.Trace.{Trace}
 use Rattle.ref_interp.specs.declared.expressions.Spot.{Spot}
@@ -207,14 +208,6 @@ spot_start = record { in_all = λ t. (0, refl, refl); out_of_one = λ f. absurd 
   where
     never : true ≡ false → ⊥
     never f = cc
-
-pub dims_is : (xs : List ArrayOf) (a : ℕ) (x : ArrayOf) → slice_get xs a ≡ Some x → dims_of xs a ≡ x.dims
-dims_is [] a x e = absurd (cc)
-dims_is (y ∷ xs) zero x e = ap (λ (y : ArrayOf). y.dims) (same y x e)
-  where
-    same : (y x : ArrayOf) → Some y ≡ Some x → y ≡ x
-    same y x e = cc
-dims_is (y ∷ xs) (suc a) x e = dims_is xs a x e
 
 pub dims_none : (xs : List ArrayOf) (a : ℕ) → slice_get xs a ≡ None → dims_of xs a ≡ []
 dims_none [] a e = refl

@@ -68,18 +68,11 @@ after_turn k r x y a run w m m2 e is by t u h =
     record { is = ap (λ (f : Run). f (store_of k m.cells) (suc m.left)) same ∙ h.is; cells = h.cells; few = h.few; given = h.given }
 
 starts_with_turn : (k : Objects) (x : TypedStmtKind) (s : Store) → (kind_act k x).run s 0 ≡ ends out_of_turns s 0
-starts_with_turn k (tree.Block' n row) s = refl
-starts_with_turn k (tree.Declare v init) s = refl
-starts_with_turn k (tree.Assign target op e) s = refl
-starts_with_turn k (tree.Step target up) s = refl
 starts_with_turn k (tree.If' cond b (more_of-TypedStmt x at end_of-TypedStmt) o) s = refl
 starts_with_turn k (tree.While' cond b (more_of-TypedStmt x at end_of-TypedStmt)) s = refl
 starts_with_turn k (tree.DoWhile' b (more_of-TypedStmt x at end_of-TypedStmt) cond) s = refl
 starts_with_turn k (tree.For' n first cond step b (more_of-TypedStmt x at end_of-TypedStmt)) s = refl
-starts_with_turn k tree.Break s = refl
-starts_with_turn k tree.Continue s = refl
-starts_with_turn k (tree.Return e) s = refl
-starts_with_turn k tree.Empty s = refl
+starts_with_turn k x s = refl
 
 pub kind_starved : (k : Objects) (r : Option Ty) (x : TypedStmtKind) (m m2 : Machine) → CanRun k m → m.left < 1 → m2.cells ≡ m.cells → m2.left ≡ 0 → Ran k r (kind_act k x).run m ending.OutOfTurns m2
 kind_starved k r x m m2 c starved same none = record {
@@ -92,43 +85,25 @@ kind_starved k r x m m2 c starved same none = record {
 -- what ends at once, with nothing changed
 go_on_stops : (r : Option Ty) (e : Ending) (m : Machine) (next : Run) (s : Store) (n : ℕ) → is_normal e ≡ false → go_on (how_of r e m) next s n ≡ ends (how_of r e m) s n
 go_on_stops r ending.Normally m next s n x = absurd (cc)
-go_on_stops r ending.Break m next s n x = refl
-go_on_stops r ending.Continue m next s n x = refl
-go_on_stops r ending.Return m next s n x = refl
-go_on_stops r ending.Undefined m next s n x = refl
-go_on_stops r ending.OutOfTurns m next s n x = refl
+go_on_stops r e m next s n x = refl
 
 go_on_goes : (r : Option Ty) (e : Ending) (m : Machine) (next : Run) (s : Store) (n : ℕ) → is_normal e ≡ true → go_on (how_of r e m) next s n ≡ next s n
 go_on_goes r ending.Normally m next s n x = refl
-go_on_goes r ending.Break m next s n x = absurd (cc)
-go_on_goes r ending.Continue m next s n x = absurd (cc)
-go_on_goes r ending.Return m next s n x = absurd (cc)
-go_on_goes r ending.Undefined m next s n x = absurd (cc)
-go_on_goes r ending.OutOfTurns m next s n x = absurd (cc)
+go_on_goes r e m next s n x = absurd (cc)
 
 after_goes : (r : Option Ty) (e : Ending) (m : Machine) (next : Run) (s : Store) (n : ℕ) → goes_on e ≡ true → after_body (how_of r e m) next s n ≡ next s n
 after_goes r ending.Normally m next s n x = refl
 after_goes r ending.Continue m next s n x = refl
-after_goes r ending.Break m next s n x = absurd (cc)
-after_goes r ending.Return m next s n x = absurd (cc)
-after_goes r ending.Undefined m next s n x = absurd (cc)
-after_goes r ending.OutOfTurns m next s n x = absurd (cc)
+after_goes r e m next s n x = absurd (cc)
 
 after_leaves : (r : Option Ty) (e : Ending) (m : Machine) (next : Run) (s : Store) (n : ℕ) → goes_on e ≡ false → after_body (how_of r e m) next s n ≡ ends (how_of r (left_loop e) m) s n
 after_leaves r ending.Normally m next s n x = absurd (cc)
 after_leaves r ending.Continue m next s n x = absurd (cc)
-after_leaves r ending.Break m next s n x = refl
-after_leaves r ending.Return m next s n x = refl
-after_leaves r ending.Undefined m next s n x = refl
-after_leaves r ending.OutOfTurns m next s n x = refl
+after_leaves r e m next s n x = refl
 
 given_left : (r : Option Ty) (e : Ending) (m : Machine) → Given r e m → Given r (left_loop e) m
-given_left r ending.Normally m h = tt
-given_left r ending.Continue m h = tt
-given_left r ending.Break m h = tt
 given_left r ending.Return m h = h
-given_left r ending.Undefined m h = tt
-given_left r ending.OutOfTurns m h = tt
+given_left r e m h = tt
 
 -- one run after another
 pub both_go : (k : Objects) (r : Option Ty) (first next : Run) (m m2 : Machine) (e : Ending) → Ran k r first m e m2 → is_normal e ≡ true → run_on k (both_runs first next) m ≡ run_on k next m2

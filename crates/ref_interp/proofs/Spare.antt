@@ -18,6 +18,7 @@ use Rattle.c_meaning.specs.Expressions.{Val, undefined_value, value, Meaning, me
 use Rattle.c_meaning.specs.Runs.{How, normally, by_break, by_continue, by_return, undefined, out_of_turns, Ended, Run, ends, taking, turn, go_on, both_runs, with_val, with_value, run_of, branch, after_body, looped, rounds, loop}
 use Rattle.c_meaning.specs.Statements.{Act, act, kind_act, act_if_any, row_acts, Place, of_var, Placed, no_place, placed, MeantTarget, target_place, object_type, storing, stored, assigned_to, updated_at, assignment, updated, joined_in, joined_with, read_place, entering, in_order, block, nothing, part, run_if_any, condition, declared_run, returned, body_run, meant_target, meant_if_any, step_operator}
 use Rattle.c_meaning.specs.Bounds.{IsOver, with_more}
+use Rattle.c_meaning.proofs.Growth.{add_suc}
 
 -- it takes turns away alone
 abbrev Takes : Run → Type 0
@@ -31,9 +32,6 @@ pub record Spare (N : ℕ) (a b : Run) : Type 0 where
 
 abbrev pub Sparing : Run → Type 0
 Sparing a = (N : ℕ) → Spare N a a
-
-add_suc : (n m : ℕ) → suc (n + m) ≡ suc n + m
-add_suc n m = omega arith
 
 add_none : (m : ℕ) → zero + m ≡ m
 add_none m = omega arith
@@ -99,19 +97,11 @@ run_of_spare N false a b c d g h = record { fewer = λ s n. h.fewer s n; less = 
 
 go_on_takes : (h : How) (c : Run) (s : Store) (k n : ℕ) → Takes c → k ≤ n → (go_on h c s k).left ≤ n
 go_on_takes normally c s k n f le = let g = f s k in omega (arith, g, le)
-go_on_takes by_break c s k n f le = le
-go_on_takes by_continue c s k n f le = le
-go_on_takes (by_return v) c s k n f le = le
-go_on_takes (undefined at) c s k n f le = le
-go_on_takes out_of_turns c s k n f le = le
+go_on_takes h c s k n f le = le
 
 go_on_over : (h : How) (c : Run) (s : Store) (k : ℕ) → IsOver (go_on h c s k).how → IsOver h
-go_on_over normally c s k o = tt
-go_on_over by_break c s k o = tt
-go_on_over by_continue c s k o = tt
-go_on_over (by_return v) c s k o = tt
-go_on_over (undefined at) c s k o = tt
 go_on_over out_of_turns c s k o = o
+go_on_over h c s k o = tt
 
 go_on_same : (N : ℕ) (h : How) (c d : Run) → Spare N c d → (s : Store) (k m : ℕ) → k < N → IsOver (go_on h c s (k + m)).how → m ≤ (go_on h c s (k + m)).left → go_on h c s (k + m) ≡ with_more m (go_on h d s k)
 go_on_same N normally c d h s k m lt o le = h.same s k m lt o le
@@ -142,18 +132,11 @@ both_spare N a b c d g h = record { fewer = both_takes a c g.fewer h.fewer; less
 after_takes : (h : How) (c : Run) (s : Store) (k n : ℕ) → Takes c → k ≤ n → (after_body h c s k).left ≤ n
 after_takes normally c s k n f le = let g = f s k in omega (arith, g, le)
 after_takes by_continue c s k n f le = let g = f s k in omega (arith, g, le)
-after_takes by_break c s k n f le = le
-after_takes (by_return v) c s k n f le = le
-after_takes (undefined at) c s k n f le = le
-after_takes out_of_turns c s k n f le = le
+after_takes h c s k n f le = le
 
 after_over : (h : How) (c : Run) (s : Store) (k : ℕ) → IsOver (after_body h c s k).how → IsOver h
-after_over normally c s k o = tt
-after_over by_break c s k o = tt
-after_over by_continue c s k o = tt
-after_over (by_return v) c s k o = tt
-after_over (undefined at) c s k o = tt
 after_over out_of_turns c s k o = o
+after_over h c s k o = tt
 
 after_same : (N : ℕ) (h : How) (c d : Run) → Spare N c d → (s : Store) (k m : ℕ) → k < N → IsOver (after_body h c s (k + m)).how → m ≤ (after_body h c s (k + m)).left → after_body h c s (k + m) ≡ with_more m (after_body h d s k)
 after_same N normally c d h s k m lt o le = h.same s k m lt o le

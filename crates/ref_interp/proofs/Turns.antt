@@ -1,23 +1,14 @@
 -- A kernel that is over needs no more turns than it took, and so ends within each bound of at least so many.
-use Rattle.std.proofs.Common.{◌≡◌, ℕ, ◌+◌, ◌≤◌, List, Option, Some, None, sym, ◌∙◌, ap, subst, arith}
+use Rattle.std.proofs.Common.{◌≡◌, ℕ, ◌+◌, ◌≤◌, List, Option, sym, ◌∙◌, ap, subst, arith}
 use Rattle.std.specs.Prelude.{ℤ}
-use Rattle.el_base.specs.declared.span.Span.{Span}
 use Rattle.el_base.specs.declared.ty.Ty.{Ty}
 use Rattle.c_meaning.specs.Stores.{opening}
-use Rattle.c_meaning.specs.Runs.{How, normally, by_break, by_continue, by_return, undefined, out_of_turns, Ended}
-use Rattle.c_meaning.specs.Bounds.{IsOver, with_more, KeepsEnd}
-use Rattle.c_meaning.specs.Statements.{objects, body_run, kernel_end, with_kernel_end, IsResult, EndsBy}
+use Rattle.c_meaning.specs.Runs.{Ended}
+use Rattle.c_meaning.specs.Bounds.{with_more, KeepsEnd}
+use Rattle.c_meaning.specs.Statements.{objects, body_run, with_kernel_end, IsResult, EndsBy}
+use Rattle.c_meaning.proofs.Ends.{kernel_end_over, result_over}
 use Rattle.ref_interp.specs.Turns.{NeedsNoMore, KernelsNeedNoMore}
 use Rattle.ref_interp.proofs.Spare.{body_spare}
-
-kernel_end_over : (r : Option Ty) (at : Span) (h : How) → IsOver (kernel_end r at h) → IsOver h
-kernel_end_over (Some t) at normally o = tt
-kernel_end_over None at normally o = tt
-kernel_end_over r at by_break o = tt
-kernel_end_over r at by_continue o = tt
-kernel_end_over r at (by_return v) o = tt
-kernel_end_over r at (undefined p) o = tt
-kernel_end_over r at out_of_turns o = o
 
 pub need_no_more : KernelsNeedNoMore
 need_no_more k p i n m o le =
@@ -27,16 +18,6 @@ need_no_more k p i n m o le =
     ap (with_kernel_end k.result k.at) ((body_spare ko k.body (n + 1)).same s n m (omega arith) (kernel_end_over k.result k.at (run s (n + m)).how o) le)
 
 -- ---- what ends within some bound ends within each of at least its turns
-
-result_over : (t : Option Ty) (h : How) (r : Option ℤ) → IsResult t h r → IsOver h
-result_over None normally r e = tt
-result_over (Some t) normally r e = tt
-result_over t by_break r e = tt
-result_over t by_continue r e = tt
-result_over t (by_return v) r e = tt
-result_over t (undefined at) r e = tt
-result_over None out_of_turns r e = e
-result_over (Some t) out_of_turns r e = e
 
 -- the same end, with a bound of n turns
 pub record EndsAt (t : Option Ty) (run : ℕ → Ended) (out : List (List ℤ)) (r : Option ℤ) (turns n : ℕ) : Type 0 where

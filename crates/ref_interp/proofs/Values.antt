@@ -4,7 +4,7 @@ use Rattle.std.specs.Prelude.{Bool, true, false, not, ℤ, pos, Option, Some, No
 use Rattle.std.proofs.lemmas.Int.{ints}
 use Rattle.std.proofs.lemmas.Bool.Decides.{nat_tests}
 use Rattle.el_base.specs.declared.ty.Ty.{Ty}
-use Rattle.el_base.specs.declared.ty.Ty.TheVariants.{I8, U8, I16, U16, I32, U32, I64, U64}
+use Rattle.el_base.specs.declared.ty.Ty.TheVariants.{I8, I32}
 use Rattle.el_base.specs.declared.span.Span.{Span}
 use Rattle.el_base.specs.Numbers.{number}
 use Rattle.el_base.specs.Widths.{ty_width}
@@ -78,23 +78,11 @@ two_some at f t by r v w x y u m o q z g h e i = record {
 
 pub zero_number : (t : Ty) (p : ℕ) → p < 2 ^ ty_width t → p ≡ 0 → is_zero (number t p) ≡ true
 zero_number I8 p b e = rw e refl
-zero_number U8 p b e = rw e refl
-zero_number I16 p b e = rw e refl
-zero_number U16 p b e = rw e refl
-zero_number I32 p b e = rw e refl
-zero_number U32 p b e = rw e refl
-zero_number I64 p b e = rw e refl
-zero_number U64 p b e = rw e refl
+zero_number t p b e = rw e refl
 
 pub not_zero_number : (t : Ty) (p : ℕ) → p < 2 ^ ty_width t → (p ≡ 0 → ⊥) → is_zero (number t p) ≡ false
 not_zero_number I8 p b e = grind (arith, ints)
-not_zero_number U8 p b e = grind (arith, ints)
-not_zero_number I16 p b e = grind (arith, ints)
-not_zero_number U16 p b e = grind (arith, ints)
-not_zero_number I32 p b e = grind (arith, ints)
-not_zero_number U32 p b e = grind (arith, ints)
-not_zero_number I64 p b e = grind (arith, ints)
-not_zero_number U64 p b e = grind (arith, ints)
+not_zero_number t p b e = grind (arith, ints)
 
 -- ---- sides
 

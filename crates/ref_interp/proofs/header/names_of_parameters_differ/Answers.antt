@@ -1,4 +1,4 @@
-use Rattle.ref_interp.proofs.Params.{names_differ}
+use Rattle.c_meaning.proofs.ParameterLists.{names_differ}
 use Rattle.ref_interp.proofs.header.names_of_parameters_differ.Goals as goal
 
 pub returns : goal.returns

@@ -1,5 +1,6 @@
-use Rattle.ref_interp.proofs.Patterns.{OpLaws, plain_laws, unary_laws, joins, makes, converts}
+use Rattle.ref_interp.proofs.Patterns.{OpLaws, joins, makes, converts}
 use Rattle.ref_interp.proofs.laws.patterns_follow_numbers.Goals as goal
+use Rattle.c_meaning.proofs.OperatorLaws.{plain_laws, unary_laws}
 
 pub returns : goal.returns
 returns c =

@@ -5,6 +5,7 @@ use Rattle.el_base.specs.declared.ty.Ty.TheVariants.{I32}
 use Rattle.c_ast.specs.ResultTypes.{joint_type, promoted, usual}
 use Rattle.c_meaning.specs.Expressions.{always, after_turns}
 use Rattle.c_meaning.specs.Statements.{meant_target, target_place, read_place, stored, joined_with, joined_in, step_operator}
+use Rattle.c_meaning.proofs.TypeLemmas.{promoted_usual}
 use Rattle.ref_interp.specs.Runs.{objects_of}
 use Rattle.ref_interp.specs.declared.machine.Machine.{Machine}
 use Rattle.ref_interp.specs.Answers.{plus_turns}
@@ -13,7 +14,6 @@ use Rattle.ref_interp.specs.Evaluations.{IsReady}
 use Rattle.ref_interp.specs.Machines.{Ran}
 use Rattle.ref_interp.specs.Operators.{IsRightType}
 use Rattle.ref_interp.proofs.Values.{failed_is, gives_is}
-use Rattle.ref_interp.proofs.Exprs.{promoted_usual}
 use Rattle.ref_interp.proofs.Running.{begun}
 use Rattle.ref_interp.proofs.Aims.{type_is, sought_is, missed_is, update_misses, update_unset, update_goes, old_gives, old_turns, one_answers, step_types}
 use Rattle.ref_interp.proofs.expressions.Interpreter.step.Goals as goal

@@ -3,7 +3,8 @@ use Rattle.std.specs.Prelude.{slice_get}
 use Rattle.std.proofs.lemmas.Option.{gets}
 use Rattle.std.proofs.lemmas.Grind.{common_steps}
 use Rattle.c_meaning.specs.Statements.{objects, object_type}
-use Rattle.ref_interp.proofs.Aims.{array_type_is, array_type_none}
+use Rattle.c_meaning.proofs.StoreParts.{array_type_is}
+use Rattle.ref_interp.proofs.Aims.{array_type_none}
 use Rattle.ref_interp.proofs.expressions.Interpreter.type_of.Goals as goal
 
 pub returns-in-Some-get : goal.returns-in-Some-get

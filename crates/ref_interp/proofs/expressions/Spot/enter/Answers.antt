@@ -4,7 +4,8 @@ use Rattle.std.proofs.lemmas.Option.{gets}
 use Rattle.std.proofs.lemmas.Grind.{common_steps}
 use Rattle.el_base.specs.Numbers.{number}
 use Rattle.c_meaning.specs.Stores.{dims_of}
-use Rattle.ref_interp.proofs.Places.{dims_is, dims_none, spot_in, spot_out, inside_is, outside_is, within_below}
+use Rattle.c_meaning.proofs.StoreParts.{dims_is}
+use Rattle.ref_interp.proofs.Places.{dims_none, spot_in, spot_out, inside_is, outside_is, within_below}
 use Rattle.ref_interp.proofs.expressions.Spot.enter.Goals as goal
 use Rattle.ref_interp.proofs.expressions.Spot.enter.Goals.{else-self-via-then-self+else-is_within, else-self-via-else-self}
 
