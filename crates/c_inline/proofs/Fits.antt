@@ -1,7 +1,6 @@
 -- What a part asks follows from what the whole asks: its numbers fit, and there is room for what it makes.
-use Rattle.std.proofs.Common.{◌≡◌, ℕ, ◌+◌, ◌^◌, ◌<◌, ◌≤◌, List, [], ◌∷◌, ◌++◌, length, get_or, drop, take, refl, sym, ◌∙◌, ap, subst, arith, length-append, add-one, Option, Some, None}
+use Rattle.std.proofs.Common.{◌≡◌, ℕ, ◌+◌, ◌<◌, ◌≤◌, List, [], ◌∷◌, ◌++◌, length, get_or, drop, take, refl, sym, ◌∙◌, ap, subst, arith, length-append, Option, Some, None}
 use Rattle.std.specs.Prelude.{Bool, slice_get}
-use Rattle.std.proofs.Math.Seq.{drop-cons}
 use Rattle.el_base.specs.declared.span.Span.{Span}
 use Rattle.el_base.specs.declared.ty.Ty.{Ty}
 use Rattle.el_base.specs.Limits.{IsNumbered}
@@ -18,14 +17,12 @@ use Rattle.c_ast.specs.declared.program.ProgStmtKind.{back-ProgStmtKind-If-2}
 use Rattle.c_ast.specs.declared.program.ProgStmtKind.TheVariants as act
 use Rattle.c_ast.specs.declared.program.ProgStmtKind.TheBlock.{shape-the_row-ProgStmt-0, hidden-the_row-ProgStmt-0, shape-the_row-ProgStmt-1, hidden-the_row-ProgStmt-1}
 use Rattle.c_ast.specs.declared.program.TypedHelper.{TypedHelper}
-use Rattle.c_calls.specs.Inlined.{Out, Outs, OutStmt, OutHeld, Written, written_by, writing, inline_all}
+use Rattle.c_calls.specs.Inlined.{Out, OutStmt, Written, written_by, writing}
 use Rattle.c_calls.specs.Lawful.{row_length}
-use Rattle.c_inline.specs.Making.{KindNumbers, RowNumbers, ExprNumbers, ExprsNumbers, OptionNumbers, ObjectNumbers, TargetNumbers, ActNumbers, ActsNumbers, HeldActNumbers, StmtNumbers, StmtsNumbers, HeldNumbers, FewArguments, HelperNumbers, AllNumbers, HasRoom, writings_of, out_of, outs_of, option_of, call_of, stmt_of, stmts_of, held_of, ExprFits, ExprsFit, OptionFits, CallFits, HelperFits, StmtFits, StmtsFit, HeldFits}
+pub use Rattle.c_meaning.proofs.ListParts.{longer, from_place}
+use Rattle.c_inline.specs.Making.{KindNumbers, RowNumbers, ExprNumbers, ExprsNumbers, OptionNumbers, ObjectNumbers, TargetNumbers, ActNumbers, ActsNumbers, HeldActNumbers, StmtNumbers, StmtsNumbers, HeldNumbers, FewArguments, HasRoom, writings_of, out_of, outs_of, option_of, call_of, stmt_of, stmts_of, held_of, ExprFits, ExprsFit, OptionFits, CallFits, HelperFits, StmtFits, StmtsFit, HeldFits}
 use Rattle.c_inline.proofs.Parts.{out_element, out_unary, out_cast, out_binary, out_choice, out_call, stmt_block, stmt_declare, stmt_return, stmt_assign, stmt_step, stmt_if, stmt_while, stmt_do, stmt_for}
-use Rattle.c_inline.proofs.Tables.{writing_at, no_writing, below_numbers}
-
-pub longer : (vars vars2 ts : List Ty) → vars2 ≡ vars ++ ts → length vars2 ≡ length vars + length ts
-longer vars vars2 ts e = ap length e ∙ length-append vars ts
+use Rattle.c_inline.proofs.Tables.{writing_at, below_numbers}
 
 -- ---- room
 
@@ -183,10 +180,6 @@ call_fits hs b v e h es s is at f =
     }
 
 -- ---- lists of expressions
-
--- the items from a place on
-pub from_place : {A : Type 0} (xs : List A) (i : ℕ) (x : A) → i < length xs → x ≡ get_or xs i x → drop i xs ≡ x ∷ drop (i + 1) xs
-from_place xs i x h e = drop-cons xs i x h ∙ ap (λ n. get_or xs i x ∷ drop n xs) (sym (add-one i)) ∙ ap (λ y. y ∷ drop (i + 1) xs) (sym e)
 
 pub item_fits : (hs : List TypedHelper) (b : ℕ) (v : List Ty) (es : List ProgExpr) (i : ℕ) (e : ProgExpr) → i < length es → e ≡ get_or es i e → ExprsFit hs b v (drop i es) → ExprFits hs b v e
 item_fits hs b v es i e lt is h =

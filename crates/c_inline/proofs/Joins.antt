@@ -1,14 +1,14 @@
 -- What each call made joins to what the whole makes: expressions, calls and the blocks of calls.
-use Rattle.std.proofs.Common.{◌≡◌, ℕ, ◌+◌, ◌<◌, ◌≤◌, List, [], ◌∷◌, ◌++◌, length, get_or, drop, take, refl, sym, ◌∙◌, ap, subst, arith, append_assoc, append-nil, length-append, Option, Some, None}
+use Rattle.std.proofs.Common.{◌≡◌, ℕ, ◌+◌, ◌<◌, ◌≤◌, List, [], ◌∷◌, ◌++◌, length, get_or, drop, take, refl, sym, ◌∙◌, ap, subst, append_assoc, append-nil, Option, Some, None}
 use Rattle.std.proofs.Math.ListN.{drop_of_length-le}
 use Rattle.std.proofs.lemmas.List.{nil_from_length}
+use Rattle.std.proofs.lemmas.Bool.{eqb-true}
 use Rattle.std.specs.Prelude.{Bool, true, false, ◌==◌, slice_get}
 use Rattle.el_base.specs.declared.span.Span.{Span}
 use Rattle.el_base.specs.declared.ty.Ty.{Ty}
 use Rattle.c_ast.specs.declared.tree.Unary.{Unary}
 use Rattle.c_ast.specs.declared.tree.Binary.{Binary}
 use Rattle.c_ast.specs.declared.typed.TypedExpr.{TypedExpr}
-use Rattle.c_ast.specs.declared.typed.TypedExprKind.{TypedExprKind}
 use Rattle.c_ast.specs.declared.typed.TypedExprKind.TheVariants as expr
 use Rattle.c_ast.specs.declared.typed.TypedStmt.{TypedStmt}
 use Rattle.c_ast.specs.declared.typed.TypedStmtKind.{TypedStmtKind}
@@ -18,16 +18,14 @@ use Rattle.c_ast.specs.declared.program.ProgExpr.{ProgExpr}
 use Rattle.c_ast.specs.declared.program.ProgExprKind.TheVariants as prog
 use Rattle.c_ast.specs.declared.program.ProgStmt.{ProgStmt}
 use Rattle.c_ast.specs.declared.program.TypedHelper.{TypedHelper}
-use Rattle.c_calls.specs.Inlined.{Out, Outs, OutStmts, Written, whole, with_call, rest_of, written_by, writing, declaring, behind, fresh_target}
-use Rattle.c_inline.specs.Making.{writings_of, out_of, outs_of, option_of, call_of, stmt_of, stmts_of, IsOut, Makes, AreOut, IsOption, IsWritten, IsCall, GoesOn, AreStmts}
+use Rattle.c_calls.specs.Inlined.{Out, Outs, whole, with_call, rest_of, written_by, writing, declaring, behind, fresh_target}
+use Rattle.c_inline.specs.Making.{writings_of, out_of, outs_of, option_of, call_of, stmts_of, IsOut, Makes, AreOut, IsOption, IsWritten, IsCall, GoesOn, AreStmts}
 use Rattle.c_inline.proofs.Parts.{element_out, unary_out, cast_out, two_out, three_out, out_number, out_var, out_element, out_unary, out_cast, out_binary, out_choice, out_call}
-use Rattle.c_inline.proofs.Fits.{longer, from_place, own_types, written_is}
+use Rattle.c_inline.proofs.Fits.{longer, from_place, written_is}
 use Rattle.c_inline.proofs.Tables.{no_writing}
+use Rattle.c_meaning.proofs.ListParts.{behind as then}
 
 -- ---- one thing after another
-
-pub then : {A : Type 0} (xs ys zs us ws : List A) → ys ≡ xs ++ us → zs ≡ ys ++ ws → zs ≡ xs ++ (us ++ ws)
-then xs ys zs us ws p q = q ∙ ap (λ l. l ++ ws) p ∙ append_assoc xs us ws
 
 as_out : (o o2 : Out) (ty : Ty) (at : Span) (b : List TypedStmt) (v : List Ty) (b2 : List TypedStmt) (v2 : List Ty) (x : TypedExpr) → o ≡ o2 → IsOut o2 ty at b v b2 v2 x → IsOut o ty at b v b2 v2 x
 as_out o o2 ty at b v b2 v2 x e p = subst (λ z. IsOut z ty at b v b2 v2 x) (sym e) p
@@ -190,14 +188,8 @@ declared_end args i w s all ss h g = sym (append-nil ss) ∙ ap (λ l. ss ++ dec
 
 -- ---- a statement behind blocks
 
-zero_of : (n : ℕ) → (n == 0) ≡ true → n ≡ 0
-zero_of n h = grind (arith)
-
-no_items : {A : Type 0} (xs : List A) → (length xs == 0) ≡ true → xs ≡ []
-no_items xs h = nil_from_length xs (zero_of (length xs) h)
-
 pub behind_none : (b : List TypedStmt) (k : TypedStmtKind) (s : Span) → (length b == 0) ≡ true → behind b k s ≡ k
-behind_none b k s h = ap (λ l. behind l k s) (no_items b h)
+behind_none b k s h = ap (λ l. behind l k s) (nil_from_length b (eqb-true (length b) 0 h))
 
 pub behind_some : (b c : List TypedStmt) (k : TypedStmtKind) (s : Span) (x : TypedStmt) → (length b == 0) ≡ false → x ≡ act_at k s → c ≡ b ++ x ∷ [] → behind b k s ≡ stmt.Block c
 behind_some [] c k s x h xe ce = absurd (cc)

@@ -1,8 +1,8 @@
 -- The numbers of a lawful program fit, where its variables do.
-use Rattle.std.proofs.Common.{◌≡◌, ℕ, zero, suc, ◌+◌, ◌<◌, ◌≤◌, min, List, [], ◌∷◌, ◌++◌, length, map, take, refl, sym, ◌∙◌, ap, subst, arith, length-append, append_assoc, append-nil, Option, Some, None}
+use Rattle.std.proofs.Common.{◌≡◌, ℕ, zero, suc, ◌+◌, ◌≤◌, List, [], ◌∷◌, ◌++◌, length, map, take, refl, sym, ◌∙◌, ap, subst, arith, length-append, append_assoc, append-nil, Option, Some, None}
 use Rattle.std.specs.Prelude.{Bool, true, false, slice_get, All, option_map}
 use mathlib.Core.Former.{Count}
-use Rattle.std.proofs.lemmas.Option.{slice_get_within, slice_get-map}
+use Rattle.std.proofs.lemmas.Option.{slice_get_within, slice_get-map, same_Some}
 use Rattle.std.proofs.lemmas.List.{length-map, length-take}
 use Rattle.std.proofs.lemmas.List.Elements.{All-head, All-tail}
 use Rattle.el_base.specs.declared.ty.Ty.{Ty}
@@ -13,7 +13,6 @@ use Rattle.c_ast.specs.declared.typed.Object.TheVariants as object
 use Rattle.c_ast.specs.declared.program.ProgExpr.{ProgExpr}
 use Rattle.c_ast.specs.declared.program.ProgExprKind.{ProgExprKind, Row_of-ProgExpr, end_of-ProgExpr, more_of-ProgExpr}
 use Rattle.c_ast.specs.declared.program.ProgExprKind as tree
-use Rattle.c_ast.specs.declared.program.ProgTarget.{ProgTarget}
 use Rattle.c_ast.specs.declared.program.ProgStmt.{ProgStmt}
 use Rattle.c_ast.specs.declared.program.ProgStmtKind.{ProgStmtKind, Row_of-ProgStmt, end_of-ProgStmt, more_of-ProgStmt, Held-ProgStmtKind-If-2}
 use Rattle.c_ast.specs.declared.program.ProgStmtKind as act
@@ -24,14 +23,14 @@ use Rattle.c_ast.specs.Nodes.{typed_nodes}
 use Rattle.el_base.specs.Limits.{max_nodes}
 use Rattle.c_meaning.specs.declared.profile.Profile.TheVariants.{Plain}
 use Rattle.c_meaning.specs.Stores.{Objects}
-use Rattle.c_meaning.specs.Lawful.{IsVar, IsObject, Lawful}
+use Rattle.c_meaning.specs.Lawful.{IsVar, IsObject}
 use Rattle.c_calls.specs.Meanings.{helper_objects, prog_objects}
 use Rattle.c_ast.specs.declared.typed.ArrayOf.{ArrayOf}
 use Rattle.c_ast.specs.declared.typed.TypedStmt.{TypedStmt}
 use Rattle.c_calls.specs.Inlined.{OutStmts, inlined, body_of}
-use Rattle.c_calls.specs.Lawful.{Signature, signature_of, row_length, row_types, IsCall, may_right, LawfulCallKind, LawfulCallRow, LawfulCallExpr, IfAnyExpr, LawfulCallTarget, LawfulCallReturn, LawfulCallDeclaration, LawfulCallStmt, LawfulCallHeld, LawfulCallStmts, LawfulHelper, LawfulHelpers, LawfulProgram}
-use Rattle.c_inline.proofs.Tables.{get_taken, same_some}
-use Rattle.c_inline.specs.Making.{KindNumbers, RowNumbers, ExprNumbers, ExprsNumbers, OptionNumbers, ObjectNumbers, ActNumbers, ActsNumbers, HeldActNumbers, StmtNumbers, StmtsNumbers, FewArguments, HelperNumbers, AllNumbers, StmtsFit, AreStmts, stmts_of}
+use Rattle.c_calls.specs.Lawful.{Signature, signature_of, row_length, row_types, IsCall, may_right, LawfulCallKind, LawfulCallRow, LawfulCallExpr, IfAnyExpr, LawfulCallReturn, LawfulCallDeclaration, LawfulCallStmt, LawfulCallHeld, LawfulCallStmts, LawfulHelper, LawfulHelpers, LawfulProgram}
+use Rattle.c_inline.proofs.Tables.{get_taken}
+use Rattle.c_inline.specs.Making.{KindNumbers, RowNumbers, ExprNumbers, ExprsNumbers, OptionNumbers, ObjectNumbers, ActNumbers, ActsNumbers, HeldActNumbers, StmtsNumbers, FewArguments, AllNumbers, StmtsFit, AreStmts, stmts_of}
 
 -- no helper has more parameters than variables
 FewParams : List TypedHelper → Type 0
@@ -47,7 +46,7 @@ var_numbers k b v t room is = omega (arith, room, slice_get_within k.vars v t is
 few_arguments : (hs : List TypedHelper) (i : ℕ) (g : Signature) (n : ℕ) (o : Option TypedHelper) → slice_get hs i ≡ o → FewParams hs → option_map signature_of o ≡ Some g → n ≡ length g.params → FewArguments o n
 unfolding FewParams
 few_arguments hs i g n None is few e l = tt
-few_arguments hs i g n (Some h) is few e l = omega (arith, few i h is, l, ap (λ (s : Signature). length s.params) (same_some (signature_of h) g e), length-map h.params (λ (q : Param). q.ty))
+few_arguments hs i g n (Some h) is few e l = omega (arith, few i h is, l, ap (λ (s : Signature). length s.params) (same_Some (signature_of h) g e), length-map h.params (λ (q : Param). q.ty))
 
 call_few : (hs : List TypedHelper) → FewParams hs → (may : Bool) (i : ℕ) (ts : List Ty) (t : Ty) (n : ℕ) → IsCall (map signature_of hs) may i ts t → n ≡ length ts → FewArguments (slice_get hs i) n
 call_few hs few may i ts t n (stands, (g, e, p, r)) l = few_arguments hs i g n (slice_get hs i) refl few (sym (slice_get-map signature_of hs i) ∙ e) (l ∙ ap length p)
@@ -127,7 +126,7 @@ module _ (hs : List TypedHelper) (few : FewParams hs) (k : Objects) (b : ℕ) (r
 
 lawful_at : (gs : List Signature) (hs : List TypedHelper) (i : ℕ) (h : TypedHelper) → LawfulHelpers gs hs → slice_get hs i ≡ Some h → LawfulHelper (gs ++ map signature_of (take i hs)) h
 lawful_at gs [] i h l is = absurd (omega (arith, slice_get_within [] i h is))
-lawful_at gs (g ∷ hs) zero h l is = subst (λ z. LawfulHelper z h) (sym (append-nil gs)) (subst (LawfulHelper gs) (same_some g h is) l.0)
+lawful_at gs (g ∷ hs) zero h l is = subst (λ z. LawfulHelper z h) (sym (append-nil gs)) (subst (LawfulHelper gs) (same_Some g h is) l.0)
 lawful_at gs (g ∷ hs) (suc i) h l is = subst (λ z. LawfulHelper z h) (append_assoc gs (signature_of g ∷ []) (map signature_of (take i hs))) (lawful_at (gs ++ signature_of g ∷ []) hs i h l.1 is)
 
 few_params : (hs : List TypedHelper) → LawfulHelpers [] hs → FewParams hs

@@ -1,5 +1,5 @@
 -- What each call made joins to what the whole makes: statements.
-use Rattle.std.proofs.Common.{◌≡◌, ℕ, ◌+◌, ◌<◌, ◌≤◌, List, [], ◌∷◌, ◌++◌, length, get_or, drop, refl, sym, ◌∙◌, ap, subst, arith, append_assoc, append-nil, Option, Some, None}
+use Rattle.std.proofs.Common.{◌≡◌, ℕ, ◌+◌, ◌<◌, ◌≤◌, List, [], ◌∷◌, ◌++◌, length, get_or, drop, refl, sym, ◌∙◌, ap, subst, append_assoc, append-nil, Option, Some, None}
 use Rattle.std.proofs.Math.ListN.{drop_of_length-le}
 use Rattle.std.specs.Prelude.{Bool}
 use Rattle.el_base.specs.declared.span.Span.{Span}
@@ -20,7 +20,8 @@ use Rattle.c_calls.specs.Inlined.{OutStmt, OutStmts, rest_of, behind, target_to}
 use Rattle.c_inline.specs.Making.{out_of, outs_of, option_of, stmt_of, stmts_of, held_of, Makes, AreOut, IsOption, IsStmt, Becomes, IsHeld, AreStmts, StmtsGoOn}
 use Rattle.c_inline.proofs.Parts.{block_stmt, declare_stmt, return_stmt, assign_stmt, step_stmt, if_stmt, while_stmt, do_stmt, for_stmt, alone, stmt_block, stmt_declare, stmt_return, stmt_assign, stmt_step, stmt_if, stmt_while, stmt_do, stmt_for}
 use Rattle.c_inline.proofs.Fits.{longer, from_place}
-use Rattle.c_inline.proofs.Joins.{then, at_number}
+use Rattle.c_inline.proofs.Joins.{at_number}
+use Rattle.c_meaning.proofs.ListParts.{behind as then}
 
 as_stmt : (o o2 : OutStmt) (at : Span) (v v2 : List Ty) (x : TypedStmt) → o ≡ o2 → IsStmt o2 at v v2 x → IsStmt o at v v2 x
 as_stmt o o2 at v v2 x e p = subst (λ z. IsStmt z at v v2 x) (sym e) p

@@ -1,5 +1,5 @@
 -- How much is left to walk: a call weighs what its helper's block weighs, so that each part of a walk, also the block of a call, weighs less than the whole.
-use Rattle.std.proofs.Common.{◌≡◌, ℕ, zero, suc, ◌+◌, ◌<◌, ◌≤◌, List, [], ◌∷◌, ◌++◌, length, get_or, take, refl, sym, ◌∙◌, ap, arith}
+use Rattle.std.proofs.Common.{◌≡◌, ℕ, zero, suc, ◌+◌, ◌<◌, ◌≤◌, List, [], ◌∷◌, ◌++◌, length, get_or, refl, sym, ◌∙◌, ap, arith}
 use Rattle.std.specs.Prelude.{Bool, slice_get, sum_by, Option, Some, None}
 use mathlib.Core.Former.{Count}
 use denote.Hole.Carrier.{hidden}
@@ -59,10 +59,8 @@ abbrev mutual
   act_weight ws (act.While' cond x (more_of-ProgStmt s at end_of-ProgStmt)) = 1 + expr_weight ws cond + act_weight ws s
   act_weight ws (act.DoWhile' x (more_of-ProgStmt s at end_of-ProgStmt) cond) = 1 + act_weight ws s + expr_weight ws cond
   act_weight ws (act.For' n first cond o x (more_of-ProgStmt s at end_of-ProgStmt)) = 1 + acts_weight ws first + option_weight ws cond + held_act_weight ws o + act_weight ws s
-  act_weight ws act.Break = 1
-  act_weight ws act.Continue = 1
   act_weight ws (act.Return e) = 1 + option_weight ws e
-  act_weight ws act.Empty = 1
+  act_weight ws _ = 1
 
   pub held_act_weight : List ℕ → Held-ProgStmtKind-If-2 → ℕ
   held_act_weight ws act.None' = 0
