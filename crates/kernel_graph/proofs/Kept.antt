@@ -1,9 +1,9 @@
 -- The optimized graph of a kernel keeps what its merged graph keeps.
-use Rattle.std.proofs.Common.{◌≡◌, ◌⊎◌, ℕ, suc, ◌+◌, ◌-◌, ◌*◌, ◌<◌, ◌≤◌, ◌^◌, ◌∙◌, ◌&&◌, min, ℤ, pos, Bool, true, false, List, [], ◌∷◌, ◌++◌, map, length, get_or, refl, sym, ap, subst, arith, inl, inr}
+use Rattle.std.proofs.Common.{◌≡◌, ℕ, suc, ◌+◌, ◌-◌, ◌*◌, ◌<◌, ◌≤◌, ◌^◌, ◌∙◌, min, ℤ, pos, true, List, [], ◌∷◌, ◌++◌, map, length, get_or, refl, sym, ap, subst, arith, inl, inr}
 use Rattle.std.specs.Prelude.{All, Result, Ok, Err, IfOk, nat_le}
 use Rattle.std.specs.List.{list_all}
 use Rattle.std.proofs.Math.Nat.{mul-le-mul}
-use Rattle.std.proofs.lemmas.Bool.{leb-true}
+use Rattle.std.proofs.lemmas.Bool.{leb-true, and_parts}
 use Rattle.std.proofs.lemmas.List.Elements.{All-map, All-weaker, All-from_get_or}
 use Rattle.std.proofs.lemmas.List.Sums.{AllPass-from_list_all}
 use Rattle.el_base.specs.declared.memory.Memory.{Memory}
@@ -83,27 +83,21 @@ visits_within n t more heavy few h =
     let y : 20 * n * (t + 1) ≡ 20 * (n * t) + 20 * n = omega arith in
     omega arith
 
-both_true : (a b : Bool) → (a && b) ≡ true → (a ≡ true) × (b ≡ true)
-both_true true true e = (refl, refl)
-both_true true false e = absurd (cc)
-both_true false true e = absurd (cc)
-both_true false false e = absurd (cc)
-
 module _ (k : Typed) (m h : Graph) (share : GraphShare k m) (pass : PassShare m h) (light : LightVisits) (few : typed_nodes k ≤ max_nodes) (within : is_within (10 * typed_nodes k) h ≡ true) where
   abbrev most : ℕ
   most = 10 * typed_nodes k
 
   tests : (list_all (is_light most) h.blocks ≡ true) × (nat_le (size h) 8000000 ≡ true)
-  tests = both_true (list_all (is_light most) h.blocks) (nat_le (size h) 8000000) within
+  tests = and_parts (list_all (is_light most) h.blocks) (nat_le (size h) 8000000) within
 
   each_light : All (λ b. is_light most b ≡ true) h.blocks
   each_light = AllPass-from_list_all (is_light most) h.blocks tests.0
 
   weights : All (λ (b : Block). block_weight b ≤ most) h.blocks
-  weights = All-weaker (λ b. is_light most b ≡ true) (λ (b : Block). block_weight b ≤ most) (λ b e. leb-true (block_weight b) most (both_true (nat_le (block_weight b) most) (nat_le (accesses_in b.steps) 1024) e).0) h.blocks each_light
+  weights = All-weaker (λ b. is_light most b ≡ true) (λ (b : Block). block_weight b ≤ most) (λ b e. leb-true (block_weight b) most (and_parts (nat_le (block_weight b) most) (nat_le (accesses_in b.steps) 1024) e).0) h.blocks each_light
 
   accesses : All (λ (b : Block). accesses_in b.steps ≤ 1024) h.blocks
-  accesses = All-weaker (λ b. is_light most b ≡ true) (λ (b : Block). accesses_in b.steps ≤ 1024) (λ b e. leb-true (accesses_in b.steps) 1024 (both_true (nat_le (block_weight b) most) (nat_le (accesses_in b.steps) 1024) e).1) h.blocks each_light
+  accesses = All-weaker (λ b. is_light most b ≡ true) (λ (b : Block). accesses_in b.steps ≤ 1024) (λ b e. leb-true (accesses_in b.steps) 1024 (and_parts (nat_le (block_weight b) most) (nat_le (accesses_in b.steps) 1024) e).1) h.blocks each_light
 
   light_runs : KernelRunsFollow k h
   light_runs p i out r t fit ends =

@@ -9,7 +9,7 @@ use Rattle.el_base.specs.declared.operation.Op1.{Op1}
 use Rattle.el_base.specs.declared.operation.Op1.TheVariants.{Zero32, Zero64, U8to32, U16to32}
 use Rattle.el_base.specs.declared.operation.Op2.TheVariants.{Mul64, Add64}
 use Rattle.c_ast.specs.declared.tree.Binary.{Binary}
-use Rattle.c_ast.specs.declared.tree.Binary.TheVariants.{Mul, Div, Rem, Add, Sub, Shl, Shr, Lt, Gt, Le, Ge, Eq, Ne, And, Xor, Or, Both, Either}
+use Rattle.c_ast.specs.declared.tree.Binary.TheVariants.{Shl, Shr, Both, Either}
 use Rattle.ir.specs.declared.instr.Instr.{Instr}
 use Rattle.ir.specs.declared.instr.Instr.TheVariants.{Const, One, Two, Select, Load, Store}
 use Rattle.ir.specs.Renaming.{renamed}
@@ -30,11 +30,7 @@ all_stored is = flat_map stored is
 
 renamed_stored : (f : ℕ → ℕ) (i : Instr) → stored (renamed f i) ≡ stored i
 renamed_stored f (Const w n) = refl
-renamed_stored f (One op a) = refl
-renamed_stored f (Two op a b) = refl
-renamed_stored f (Select w c a b) = refl
-renamed_stored f (Load a p) = refl
-renamed_stored f (Store a p v) = refl
+renamed_stored f i = refl
 
 -- other numbers of operands are no other arrays
 pub renamed_all_stored : (f : ℕ → ℕ) (is : List Instr) → all_stored (map (renamed f) is) ≡ all_stored is
@@ -109,24 +105,11 @@ either_plain true t u a b = sides_plain (flag t a) (flag u b) first_else truth_o
 either_plain false t u a b = sides_plain (zero_test t a) (zero_test u b) first_then (λ s. one_step (One Zero32 s)) (test_plain t a) (test_plain u b) (λ x y n. refl) (λ x n. refl)
 
 pub joined_plain : (op : Binary) (t u : Ty) (a b : ℕ) → Plain (joined op t u a b)
-joined_plain Mul t u a b = λ n. refl
-joined_plain Div t u a b = λ n. refl
-joined_plain Rem t u a b = λ n. refl
-joined_plain Add t u a b = λ n. refl
-joined_plain Sub t u a b = λ n. refl
 joined_plain Shl t u a b = after_plain (converted u t b) _ (applied_plain (conversion_op u t) b) (λ v n. refl)
 joined_plain Shr t u a b = after_plain (converted u t b) _ (applied_plain (conversion_op u t) b) (λ v n. refl)
-joined_plain Lt t u a b = λ n. refl
-joined_plain Gt t u a b = λ n. refl
-joined_plain Le t u a b = λ n. refl
-joined_plain Ge t u a b = λ n. refl
-joined_plain Eq t u a b = λ n. refl
-joined_plain Ne t u a b = λ n. refl
-joined_plain And t u a b = λ n. refl
-joined_plain Xor t u a b = λ n. refl
-joined_plain Or t u a b = λ n. refl
 joined_plain Both t u a b = both_plain (is_narrow t && is_narrow u) t u a b
 joined_plain Either t u a b = either_plain (is_narrow t && is_narrow u) t u a b
+joined_plain op t u a b = λ n. refl
 
 -- ---- places
 

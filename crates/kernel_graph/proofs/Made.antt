@@ -4,7 +4,7 @@ use Rattle.std.specs.Prelude.{slice_get}
 use Rattle.std.specs.List.{Contains, flat_map}
 use Rattle.std.proofs.lemmas.Grind.{flat_map-append}
 use Rattle.ir.specs.declared.instr.Instr.{Instr}
-use Rattle.ir.specs.declared.instr.Instr.TheVariants.{Const, One, Two, Select, Load, Store}
+use Rattle.ir.specs.declared.instr.Instr.TheVariants.{Select, Store}
 use Rattle.ir.specs.declared.cfg.CfgBlock.{CfgBlock}
 use Rattle.ir.specs.declared.graph.Block.{Block}
 use Rattle.ir.specs.Accesses.{IsStoredTo}
@@ -58,13 +58,10 @@ record IsStore (a : ℕ) (i : Instr) : Type 0 where
   is : i ≡ Store a addr value
 
 store_of : (a : ℕ) (i : Instr) → Contains (stored i) a → IsStore a i
-store_of a (Const w n) c = absurd (let l = c.1 in omega arith)
-store_of a (One op x) c = absurd (let l = c.1 in omega arith)
-store_of a (Two op x y) c = absurd (let l = c.1 in omega arith)
 store_of a (Select w c x y) d = absurd (let l = d.1 in omega arith)
-store_of a (Load b p) c = absurd (let l = c.1 in omega arith)
 store_of a (Store b p v) (zero, l, e) = record { addr = p; value = v; is = ap (λ x. Store x p v) e }
 store_of a (Store b p v) (suc i, l, e) = absurd (omega arith)
+store_of a i c = absurd (let l = c.1 in omega arith)
 
 step_of : (g : Graph) (a n : ℕ) (b : Block) → slice_get g.blocks n ≡ Some b → Stands (λ i. Contains (stored i) a) b.steps → IsStoredTo g a
 step_of g a n b e s =

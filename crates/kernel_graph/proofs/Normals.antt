@@ -15,16 +15,12 @@ use Rattle.kernel_graph.specs.Targets.{array_of}
 abbrev mutual
   pub assigned : NormalStmtKind → List ℕ
   assigned (tree.Block' n row) = row_assigned row
-  assigned (tree.Declare v init) = []
   assigned (tree.Assign target e) = array_of target.to
   assigned (tree.If' n before cond b (more_of-NormalStmt s at end_of-NormalStmt) o) = row_assigned before ++ (assigned s ++ held_assigned o)
   assigned (tree.While' n before cond b (more_of-NormalStmt s at end_of-NormalStmt)) = row_assigned before ++ assigned s
   assigned (tree.DoWhile' b (more_of-NormalStmt s at end_of-NormalStmt) n before cond) = assigned s ++ row_assigned before
   assigned (tree.For' n first m before cond o b (more_of-NormalStmt s at end_of-NormalStmt)) = row_assigned first ++ (row_assigned before ++ (assigned s ++ held_assigned o))
-  assigned tree.Break = []
-  assigned tree.Continue = []
-  assigned (tree.Return e) = []
-  assigned tree.Empty = []
+  assigned _ = []
 
   pub held_assigned : Held-NormalStmtKind-If-3 → List ℕ
   held_assigned tree.None' = []
