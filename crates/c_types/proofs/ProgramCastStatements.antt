@@ -1,7 +1,5 @@
 -- What a walk over statements of a program gives for a node, from what it gives for the parts.
 use Rattle.std.proofs.Common.{◌≡◌, ℕ, Bool, true, List, [], ◌∷◌, ◌++◌, length, Option, Some, None, sym, ap, subst, ◌∙◌}
-use Rattle.std.specs.Prelude.{Result, Ok, Err, IfOk}
-use Rattle.el_base.specs.declared.memory.Memory.{Memory}
 use Rattle.el_base.specs.declared.span.Span.{Span}
 use Rattle.el_base.specs.declared.ty.Ty.{Ty}
 use Rattle.c_ast.specs.declared.tree.Binary.{Binary}
@@ -14,6 +12,7 @@ use Rattle.c_ast.specs.declared.tree.Helper.{Helper}
 use Rattle.c_ast.specs.declared.program.ProgTarget.{ProgTarget}
 use Rattle.c_ast.specs.declared.program.ProgExpr.{ProgExpr}
 use Rattle.c_ast.specs.declared.program.ProgStmt.{ProgStmt}
+use Rattle.c_ast.specs.declared.program.ProgStmtKind.{ProgStmtKind}
 use Rattle.c_ast.specs.declared.program.ProgStmtKind.TheVariants as act
 use Rattle.c_ast.specs.Casts.{Context, with_var, opened, closed, stmt_at, assigned_type}
 use Rattle.c_ast.specs.ProgramCasts as rule
@@ -51,28 +50,27 @@ module _ (helpers : List Helper) where
   declared_value r c x dims types s is (a_value t scopes e f h) =
       rule.declare_value r c x t e f s (subst (λ c. CastsCallExpr (callees helpers) c e f) is (h.casts dims types))
 
-  pub declare_arm : (r : Option Ty) (k l : Known) (a : Stmt) (x : List ℕ) (t : Ty) (e : Option Expr) (v : ℕ) (g : Option ProgExpr) (b : ProgStmt) → a.kind ≡ stmt.Declare x t e
-      → v ≡ length k.types → is_new_in k.scopes x ≡ true → l.scopes ≡ with_entry x (binding.Var (length k.types) t) k.scopes → l.types ≡ k.types ++ t ∷ [] → IsProgValue helpers (Some t) l.scopes e g
-      → b ≡ prog_at (act.Declare v g) a.at → IsProgStmt helpers r k a b l
-  declare_arm r k l a x t e v g b is number new scopes types h made =
-      stmt_is r k l a (stmt.Declare x t e) b (prog_at (act.Declare (length k.types) g) a.at) is (made ∙ ap (λ v. prog_at (act.Declare v g) a.at) number)
+  pub declare_arm : (k l : Known) (x : List ℕ) (t : Ty) (e : Option Expr) (v : ℕ) (g : Option ProgExpr) → v ≡ length k.types → is_new_in k.scopes x ≡ true
+      → l.scopes ≡ with_entry x (binding.Var (length k.types) t) k.scopes → l.types ≡ k.types ++ t ∷ [] → IsProgValue helpers (Some t) l.scopes e g → IsProgAct helpers k (stmt.Declare x t e) (act.Declare v g) l
+  declare_arm k l x t e v g number new scopes types h =
+      subst (λ v. IsProgAct helpers k (stmt.Declare x t e) (act.Declare v g) l) (sym number)
       (record {
-        casts = λ dims.
-            let after : context_of dims l ≡ with_var x t (context_of dims k) = with_var_is dims k l x t new scopes types in
-            subst (λ c. CastsCallStmt (callees helpers) r (context_of dims k) (stmt_at (stmt.Declare x t e) a.at) (prog_at (act.Declare (length k.types) g) a.at) c) (sym after)
-            (declared_value r (context_of dims k) x dims l.types a.at after h);
+        casts = λ r at. record {
+          casts = λ dims.
+              let after : context_of dims l ≡ with_var x t (context_of dims k) = with_var_is dims k l x t new scopes types in
+              subst (λ c. CastsCallStmt (callees helpers) r (context_of dims k) (stmt_at (stmt.Declare x t e) at) (prog_at (act.Declare (length k.types) g) at) c) (sym after)
+              (declared_value r (context_of dims k) x dims l.types at after h);
+        };
       })
 
-  pub assign_arm : (r : Option Ty) (k : Known) (a : Stmt) (x : Target) (to : ProgTarget) (t : Ty) (op : Option Binary) (e : Expr) (f g : ProgExpr) (b : ProgStmt) → a.kind ≡ stmt.Assign x op e
-      → IsProgTarget helpers k.scopes x to t → IsProgExpr helpers k.scopes e f → g ≡ prog_converted (assigned_type op t f.ty) f → b ≡ prog_at (act.Assign to op g) a.at → IsProgStmt helpers r k a b k
-  assign_arm r k a x to t op e f g b is p q value made =
-      stmt_is r k k a (stmt.Assign x op e) b (prog_at (act.Assign to op (prog_converted (assigned_type op t f.ty) f)) a.at) is (made ∙ ap (λ g. prog_at (act.Assign to op g) a.at) value)
-      (record { casts = λ dims. rule.assign r (context_of dims k) x to t op e f a.at (p.casts dims k.types) (q.casts dims k.types) })
+  pub assign_arm : (k : Known) (x : Target) (to : ProgTarget) (t : Ty) (op : Option Binary) (e : Expr) (f g : ProgExpr) → IsProgTarget helpers k.scopes x to t → IsProgExpr helpers k.scopes e f
+      → g ≡ prog_converted (assigned_type op t f.ty) f → IsProgAct helpers k (stmt.Assign x op e) (act.Assign to op g) k
+  assign_arm k x to t op e f g p q value =
+      subst (λ g. IsProgAct helpers k (stmt.Assign x op e) (act.Assign to op g) k) (sym value)
+      (record { casts = λ r at. record { casts = λ dims. rule.assign r (context_of dims k) x to t op e f at (p.casts dims k.types) (q.casts dims k.types) } })
 
-  pub step_arm : (r : Option Ty) (k : Known) (a : Stmt) (x : Target) (to : ProgTarget) (t : Ty) (up : Bool) (b : ProgStmt) → a.kind ≡ stmt.Step x up → IsProgTarget helpers k.scopes x to t
-      → b ≡ prog_at (act.Step to up) a.at → IsProgStmt helpers r k a b k
-  step_arm r k a x to t up b is p made =
-      stmt_is r k k a (stmt.Step x up) b (prog_at (act.Step to up) a.at) is made (record { casts = λ dims. rule.step r (context_of dims k) x to t up a.at (p.casts dims k.types) })
+  pub step_arm : (k : Known) (x : Target) (to : ProgTarget) (t : Ty) (up : Bool) → IsProgTarget helpers k.scopes x to t → IsProgAct helpers k (stmt.Step x up) (act.Step to up) k
+  step_arm k x to t up p = record { casts = λ r at. record { casts = λ dims. rule.step r (context_of dims k) x to t up at (p.casts dims k.types) } }
 
   pub if_arm : (r : Option Ty) (k m l : Known) (a : Stmt) (e : Expr) (s : Stmt) (o : Option Stmt) (f : ProgExpr) (t : ProgStmt) (p : Option ProgStmt) (b : ProgStmt) → a.kind ≡ stmt.If e s o
       → IsProgExpr helpers k.scopes e f → IsProgInside helpers r k s t m → IsProgHeld helpers r m o p l → b ≡ prog_at (act.If f t p) a.at → IsProgStmt helpers r k a b l
@@ -146,10 +144,9 @@ module _ (helpers : List Helper) where
   pub empty_arm : (r : Option Ty) (k : Known) (a : Stmt) (b : ProgStmt) → a.kind ≡ stmt.Empty → b ≡ prog_at act.Empty a.at → IsProgStmt helpers r k a b k
   empty_arm r k a b is made = stmt_is r k k a stmt.Empty b (prog_at act.Empty a.at) is made (record { casts = λ dims. rule.empty r (context_of dims k) a.at })
 
-  -- an act that a call gives
-  pub act_made : (r : Option Ty) (k l : Known) (a : Stmt) (x : Result ProgStmt Memory) → IfOk x (λ t. IsProgAct helpers k a t l) → IfOk x (λ t. IsProgStmt helpers r k a t l)
-  act_made r k l a (Ok t) h = h.casts r
-  act_made r k l a (Err e) h = tt
+  -- an act where it stands
+  pub act_made : (r : Option Ty) (k l : Known) (a : Stmt) (kind : StmtKind) (made : ProgStmtKind) (b : ProgStmt) → a.kind ≡ kind → IsProgAct helpers k kind made l → b ≡ prog_at made a.at → IsProgStmt helpers r k a b l
+  act_made r k l a kind made b is h same = stmt_is r k l a kind b (prog_at made a.at) is same (h.casts r a.at)
 
   -- ---- statements inside statements
 

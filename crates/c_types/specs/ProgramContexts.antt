@@ -8,15 +8,17 @@ use Rattle.c_ast.specs.declared.tree.Target.{Target}
 use Rattle.c_ast.specs.declared.tree.Expr.{Expr}
 use Rattle.c_ast.specs.declared.tree.ExprKind.TheVariants as expr
 use Rattle.c_ast.specs.declared.tree.Stmt.{Stmt}
+use Rattle.c_ast.specs.declared.tree.StmtKind.{StmtKind}
 use Rattle.c_ast.specs.declared.tree.Helper.{Helper}
 use Rattle.c_ast.specs.declared.tree.Tree.{Tree}
 use Rattle.c_ast.specs.declared.program.ProgTree.{ProgTree}
 use Rattle.c_ast.specs.declared.program.ProgTarget.{ProgTarget}
 use Rattle.c_ast.specs.declared.program.ProgExpr.{ProgExpr}
 use Rattle.c_ast.specs.declared.program.ProgStmt.{ProgStmt}
-use Rattle.c_ast.specs.Casts.{Context, opened, closed, expr_at, parameters, first_context}
+use Rattle.c_ast.specs.declared.program.ProgStmtKind.{ProgStmtKind}
+use Rattle.c_ast.specs.Casts.{Context, opened, closed, expr_at, stmt_at, parameters, first_context}
 use Rattle.c_ast.specs.ProgramCasts as program
-use Rattle.c_ast.specs.ProgramCasts.{known_of, helper_of, prog_converted, prog_converted_all, CastsCallExpr, CastsCallExprs, CastsCallTarget, CastsCallOption, CastsCallStmt, CastsCallHeld, CastsCallStmts}
+use Rattle.c_ast.specs.ProgramCasts.{known_of, helper_of, prog_at, prog_converted, prog_converted_all, CastsCallExpr, CastsCallExprs, CastsCallTarget, CastsCallOption, CastsCallStmt, CastsCallHeld, CastsCallStmts}
 use Rattle.c_types.specs.declared.known.Known.{Known}
 use Rattle.c_types.specs.Contexts.{Bindings, context_in, context_of}
 
@@ -74,9 +76,9 @@ pub data IsProgValue (hs : List Helper) : Option Ty → Bindings → Option Expr
 pub record IsProgStmt (hs : List Helper) (r : Option Ty) (k : Known) (a : Stmt) (b : ProgStmt) (l : Known) : Type 0 where
   pub casts : (dims : ℕ → List ℕ) → CastsCallStmt (callees hs) r (context_of dims k) a b (context_of dims l)
 
--- a statement that neither holds statements nor returns, whatever type is returned
-pub record IsProgAct (hs : List Helper) (k : Known) (a : Stmt) (b : ProgStmt) (l : Known) : Type 0 where
-  pub casts : (r : Option Ty) → IsProgStmt hs r k a b l
+-- a kind of statement that neither holds statements nor returns, whatever type is returned and wherever it stands
+pub record IsProgAct (hs : List Helper) (k : Known) (a : StmtKind) (b : ProgStmtKind) (l : Known) : Type 0 where
+  pub casts : (r : Option Ty) (at : Span) → IsProgStmt hs r k (stmt_at a at) (prog_at b at) l
 
 pub record AreProgStmts (hs : List Helper) (r : Option Ty) (k : Known) (ss : List Stmt) (ts : List ProgStmt) (l : Known) : Type 0 where
   pub casts : (dims : ℕ → List ℕ) → CastsCallStmts (callees hs) r (context_of dims k) ss ts (context_of dims l)

@@ -169,6 +169,23 @@ struct Caster<'a> {
     returned: Option<Ty>,
 }
 
+// The parts of an `if`.
+#[derive(Clone, Copy)]
+struct IfParts<'a> {
+    cond: &'a Boxed<Expr>,
+    then: &'a Boxed<Stmt>,
+    other: &'a Option<Boxed<Stmt>>,
+}
+
+// The parts of a `for`.
+#[derive(Clone, Copy)]
+struct ForParts<'a> {
+    first: &'a List<Stmt>,
+    cond: &'a Option<Boxed<Expr>>,
+    step: &'a Option<Boxed<Stmt>>,
+    body: &'a Boxed<Stmt>,
+}
+
 impl<'a> Caster<'a> {
     #[cycle(cast_stmt)]
     fn cast_stmts(&self, known: &mut Known, stmts: &[Stmt]) -> Result<List<ProgStmt>, Memory>
@@ -194,13 +211,18 @@ impl<'a> Caster<'a> {
         match &stmt.kind {
             StmtKind::Block(body) => self.cast_block(known, stmt, body),
             StmtKind::Declare { name, ty, init } => {
-                self.cast_declaration(known, stmt, name, *ty, init)
+                Ok(act(self.cast_declaration(known, name, *ty, init)?, stmt.at))
             }
             StmtKind::Assign { target, op, value } => {
-                self.cast_assignment(known, stmt, target, *op, value)
+                Ok(act(self.cast_assignment(known, target, *op, value)?, stmt.at))
             }
-            StmtKind::Step { target, up } => self.cast_step(known, stmt, target, *up),
-            StmtKind::If { cond, then, other } => { self.cast_if(known, stmt, cond, then, other) }
+            StmtKind::Step { target, up } => {
+                Ok(act(self.cast_step(known, target, *up)?, stmt.at))
+            }
+            StmtKind::If { cond, then, other } => {
+                let parts = IfParts { cond, then, other };
+                self.cast_if(known, stmt, parts)
+            }
             StmtKind::While { cond, body } => { self.cast_while(known, stmt, cond, body) }
             StmtKind::DoWhile { body, cond } => { self.cast_do(known, stmt, body, cond) }
             StmtKind::For {
@@ -208,7 +230,15 @@ impl<'a> Caster<'a> {
                 cond,
                 step,
                 body,
-            } => self.cast_for(known, stmt, first, cond, step, body),
+            } => {
+                let parts = ForParts {
+                    first,
+                    cond,
+                    step,
+                    body,
+                };
+                self.cast_for(known, stmt, parts)
+            }
             StmtKind::Break => Ok(act(ProgStmtKind::Break, stmt.at)),
             StmtKind::Continue => Ok(act(ProgStmtKind::Continue, stmt.at)),
             StmtKind::Return(value) => self.cast_return(known, stmt, value),
@@ -238,23 +268,16 @@ impl<'a> Caster<'a> {
 
     // An `if`, with a scope for each branch.
     #[cycle(cast_stmt)]
-    fn cast_if(
-        &self,
-        known: &mut Known,
-        stmt: &Stmt,
-        cond: &Boxed<Expr>,
-        then: &Boxed<Stmt>,
-        other: &Option<Boxed<Stmt>>,
-    ) -> Result<ProgStmt, Memory>
-        requires is { stmt.now.kind ≡ kind.If cond.now then.now other.now }
+    fn cast_if(&self, known: &mut Known, stmt: &Stmt, parts: IfParts) -> Result<ProgStmt, Memory>
+        requires is { stmt.now.kind ≡ kind.If parts.cond.now parts.then.now parts.other.now }
         requires typing { TypingStmtWith self.now.helpers.now self.now.returned known.old.scopes
             (length known.old.types) stmt.now }
         ensures { IfOk result (λ t. IsProgStmt self.now.helpers.now self.now.returned known.old
             stmt.now t known.new) }
     {
-        let cond = self.cast_boxed(&known.scopes, cond)?;
-        let then = self.cast_inside(known, then)?;
-        let other = self.cast_held(known, other)?;
+        let cond = self.cast_boxed(&known.scopes, parts.cond)?;
+        let then = self.cast_inside(known, parts.then)?;
+        let other = self.cast_held(known, parts.other)?;
         let cond = cond.into_inner();
         Ok(act(ProgStmtKind::If { cond, then, other }, stmt.at))
     }
@@ -303,26 +326,19 @@ impl<'a> Caster<'a> {
 
     // A `for` loop, in a scope of its own.
     #[cycle(cast_stmt)]
-    fn cast_for(
-        &self,
-        known: &mut Known,
-        stmt: &Stmt,
-        first: &List<Stmt>,
-        cond: &Option<Boxed<Expr>>,
-        step: &Option<Boxed<Stmt>>,
-        body: &Boxed<Stmt>,
-    ) -> Result<ProgStmt, Memory>
-        requires is { stmt.now.kind ≡ kind.For first.now cond.now step.now body.now }
+    fn cast_for(&self, known: &mut Known, stmt: &Stmt, parts: ForParts) -> Result<ProgStmt, Memory>
+        requires is { stmt.now.kind
+            ≡ kind.For parts.first.now parts.cond.now parts.step.now parts.body.now }
         requires typing { TypingStmtWith self.now.helpers.now self.now.returned known.old.scopes
             (length known.old.types) stmt.now }
         ensures { IfOk result (λ t. IsProgStmt self.now.helpers.now self.now.returned known.old
             stmt.now t known.new) }
     {
         known.enter()?;
-        let first = self.cast_stmts(known, first.as_slice())?;
-        let cond = self.cast_option(&known.scopes, cond)?;
-        let step = self.cast_held(known, step)?;
-        let body = self.cast_inside(known, body)?;
+        let first = self.cast_stmts(known, parts.first.as_slice())?;
+        let cond = self.cast_option(&known.scopes, parts.cond)?;
+        let step = self.cast_held(known, parts.step)?;
+        let body = self.cast_inside(known, parts.body)?;
         known.leave();
         let kind = ProgStmtKind::For {
             first,
@@ -338,21 +354,20 @@ impl<'a> Caster<'a> {
     fn cast_declaration(
         &self,
         known: &mut Known,
-        stmt: &Stmt,
         name: &Name,
         ty: Ty,
         init: &Option<Boxed<Expr>>,
-    ) -> Result<ProgStmt, Memory>
-        requires is { stmt.now.kind ≡ kind.Declare name.now ty init.now }
+    ) -> Result<ProgStmtKind, Memory>
         requires new { is_new_in known.old.scopes name.now ≡ true }
         requires numbered { IsNumbered (length known.old.types) }
         requires typing { IfSome init.now (TypingExprWith self.now.helpers.now
             (with_entry name.now (binding.Var (length known.old.types) ty) known.old.scopes)) }
-        ensures { IfOk result (λ t. IsProgAct self.now.helpers.now known.old stmt.now t known.new) }
+        ensures { IfOk result (λ t. IsProgAct self.now.helpers.now known.old
+            (kind.Declare name.now ty init.now) t known.new) }
     {
         let var = known.declare_var(name, ty)?;
         let init = self.cast_value(&known.scopes, Some(ty), init)?;
-        Ok(act(ProgStmtKind::Declare { var, init }, stmt.at))
+        Ok(ProgStmtKind::Declare { var, init })
     }
 
     // An assignment.
@@ -360,20 +375,19 @@ impl<'a> Caster<'a> {
     fn cast_assignment(
         &self,
         known: &Known,
-        stmt: &Stmt,
         target: &Boxed<Target>,
         op: Option<Binary>,
         value: &Boxed<Expr>,
-    ) -> Result<ProgStmt, Memory>
-        requires is { stmt.now.kind ≡ kind.Assign target.now op value.now }
+    ) -> Result<ProgStmtKind, Memory>
         requires target { TypingTargetWith self.now.helpers.now known.now.scopes target.now }
         requires value { TypingExprWith self.now.helpers.now known.now.scopes value.now }
-        ensures { IfOk result (λ t. IsProgAct self.now.helpers.now known.now stmt.now t known.now) }
+        ensures { IfOk result (λ t. IsProgAct self.now.helpers.now known.now
+            (kind.Assign target.now op value.now) t known.now) }
     {
         let (target, ty) = self.cast_target(&known.scopes, target)?;
         let value = self.cast_boxed(&known.scopes, value)?;
         let value = assigned(self.alloc, op, ty, value)?.into_inner();
-        Ok(act(ProgStmtKind::Assign { target, op, value }, stmt.at))
+        Ok(ProgStmtKind::Assign { target, op, value })
     }
 
     // A step up or down.
@@ -381,16 +395,15 @@ impl<'a> Caster<'a> {
     fn cast_step(
         &self,
         known: &Known,
-        stmt: &Stmt,
         target: &Boxed<Target>,
         up: bool,
-    ) -> Result<ProgStmt, Memory>
-        requires is { stmt.now.kind ≡ kind.Step target.now up }
-        requires target { TypingTargetWith self.now.helpers.now known.now.scopes target.now }
-        ensures { IfOk result (λ t. IsProgAct self.now.helpers.now known.now stmt.now t known.now) }
+    ) -> Result<ProgStmtKind, Memory>
+        requires { TypingTargetWith self.now.helpers.now known.now.scopes target.now }
+        ensures { IfOk result (λ t. IsProgAct self.now.helpers.now known.now
+            (kind.Step target.now up) t known.now) }
     {
         let (target, _) = self.cast_target(&known.scopes, target)?;
-        Ok(act(ProgStmtKind::Step { target, up }, stmt.at))
+        Ok(ProgStmtKind::Step { target, up })
     }
 
     // A return, with or without a value.

@@ -47,7 +47,7 @@ cast_for-returns t c =
     c.in_ok-step.ensures c.in_ok-body.ensures (leaving _ _ c.leave.ensures.scopes c.leave.ensures.types) c.act.ensures
 
 pub cast_stmt-returns-in-Break : goal.cast_stmt-returns-in-Break
-cast_stmt-returns-in-Break t c = break_arm c.args.self.now.helpers.now c.args.self.now.returned c.args.known.now c.args.stmt.now _ c.in-Break.is c.act.ensures
+cast_stmt-returns-in-Break t c = break_arm c.args.self.now.helpers.now c.args.self.now.returned c.args.known.now c.args.stmt.now _ c.in-Break.is c.act-in-Break.ensures
 
 pub cast_stmt-returns-in-Continue : goal.cast_stmt-returns-in-Continue
 cast_stmt-returns-in-Continue t c = continue_arm c.args.self.now.helpers.now c.args.self.now.returned c.args.known.now c.args.stmt.now _ c.in-Continue.is c.act-in-Continue.ensures
@@ -55,14 +55,17 @@ cast_stmt-returns-in-Continue t c = continue_arm c.args.self.now.helpers.now c.a
 pub cast_stmt-returns-in-Empty : goal.cast_stmt-returns-in-Empty
 cast_stmt-returns-in-Empty t c = empty_arm c.args.self.now.helpers.now c.args.self.now.returned c.args.known.now c.args.stmt.now _ c.in-Empty.is c.act-in-Empty.ensures
 
-pub cast_stmt-returns-in-Declare : goal.cast_stmt-returns-in-Declare
-cast_stmt-returns-in-Declare t c = act_made c.args.self.now.helpers.now c.args.self.now.returned c.args.known.now _ c.args.stmt.now _ c.cast_declaration.ensures
+pub cast_stmt-returns-in_ok-cast_declaration-in-Declare : goal.cast_stmt-returns-in_ok-cast_declaration-in-Declare
+cast_stmt-returns-in_ok-cast_declaration-in-Declare t c =
+    act_made c.args.self.now.helpers.now c.args.self.now.returned c.args.known.now _ c.args.stmt.now _ _ _ c.in-Declare.is c.in_ok-cast_declaration-in-Declare.ensures c.act.ensures
 
-pub cast_stmt-returns-in-Assign : goal.cast_stmt-returns-in-Assign
-cast_stmt-returns-in-Assign t c = act_made c.args.self.now.helpers.now c.args.self.now.returned c.args.known.now _ c.args.stmt.now _ c.cast_assignment.ensures
+pub cast_stmt-returns-in_ok-cast_assignment-in-Assign : goal.cast_stmt-returns-in_ok-cast_assignment-in-Assign
+cast_stmt-returns-in_ok-cast_assignment-in-Assign t c =
+    act_made c.args.self.now.helpers.now c.args.self.now.returned c.args.known.now _ c.args.stmt.now _ _ _ c.in-Assign.is c.in_ok-cast_assignment-in-Assign.ensures c.act-in-Assign.ensures
 
-pub cast_stmt-returns-in-Step : goal.cast_stmt-returns-in-Step
-cast_stmt-returns-in-Step t c = act_made c.args.self.now.helpers.now c.args.self.now.returned c.args.known.now _ c.args.stmt.now _ c.cast_step.ensures
+pub cast_stmt-returns-in_ok-cast_step-in-Step : goal.cast_stmt-returns-in_ok-cast_step-in-Step
+cast_stmt-returns-in_ok-cast_step-in-Step t c =
+    act_made c.args.self.now.helpers.now c.args.self.now.returned c.args.known.now _ c.args.stmt.now _ _ _ c.in-Step.is c.in_ok-cast_step-in-Step.ensures c.act-in-Step.ensures
 
 pub cast_stmts-loop-stmt-init : goal.cast_stmts-loop-stmt-init
 cast_stmts-loop-stmt-init t c = record { casts = no_stmts c.args.self.now.helpers.now c.args.self.now.returned c.args.known.now _ c.new-items.ensures; others = c.requires }
@@ -96,8 +99,8 @@ cast_stmt-cast_assignment-requires-clause-target t c = assigned_target c.args.se
 pub cast_stmt-cast_assignment-requires-clause-value : goal.cast_stmt-cast_assignment-requires-clause-value
 cast_stmt-cast_assignment-requires-clause-value t c = assigned_value c.args.self.now.helpers.now c.args.self.now.returned c.args.known.now.scopes (length c.args.known.now.types) c.args.stmt.now _ _ _ c.requires c.in-Assign.is
 
-pub cast_stmt-cast_step-requires-clause-target : goal.cast_stmt-cast_step-requires-clause-target
-cast_stmt-cast_step-requires-clause-target t c = stepped_target c.args.self.now.helpers.now c.args.self.now.returned c.args.known.now.scopes (length c.args.known.now.types) c.args.stmt.now _ _ c.requires c.in-Step.is
+pub cast_stmt-cast_step-requires : goal.cast_stmt-cast_step-requires
+cast_stmt-cast_step-requires t c = stepped_target c.args.self.now.helpers.now c.args.self.now.returned c.args.known.now.scopes (length c.args.known.now.types) c.args.stmt.now _ _ c.requires c.in-Step.is
 
 pub cast_stmt-cast_declaration-requires-clause-numbered : goal.cast_stmt-cast_declaration-requires-clause-numbered
 cast_stmt-cast_declaration-requires-clause-numbered t c = omega (arith, c.requires.numbered)
