@@ -51,6 +51,14 @@ pub(crate) struct Inliner<'a> {
 
 // ---- expressions
 
+/// A call: the number of its helper, its arguments, and where it stands.
+#[derive(Clone, Copy)]
+struct Call<'a> {
+    helper: u32,
+    args: &'a [ProgExpr],
+    at: Span,
+}
+
 impl<'a> Inliner<'a> {
     /// What is left of an expression. The blocks of its calls go behind `before`, and the variables that are made behind `vars`;
     /// the variables of its own helper are numbered from `self.base` on.
@@ -95,8 +103,12 @@ impl<'a> Inliner<'a> {
                 Ok(left_of(e, TypedExprKind::Choose(cond, then, other)))
             }
             ProgExprKind::Call { helper, args } => {
-                let args = args.as_slice();
-                let var = self.call(*helper, args, e.at, before, vars)?;
+                let call = Call {
+                    helper: *helper,
+                    args: args.as_slice(),
+                    at: e.at,
+                };
+                let var = self.call(call, before, vars)?;
                 Ok(left_of(e, TypedExprKind::Var(var)))
             }
         }
@@ -195,20 +207,22 @@ impl<'a> Inliner<'a> {
     #[inline(never)]
     fn call(
         &self,
-        helper: u32,
-        args: &[ProgExpr],
-        at: Span,
+        call: Call,
         before: &mut List<TypedStmt>,
         vars: &mut List<Ty>,
     ) -> Result<u32, Memory>
-        requires { CallFits self.now.helpers.now self.now.base vars.old helper args.now at }
+        requires { CallFits self.now.helpers.now self.now.base vars.old
+            call.helper call.args.now call.at }
         ensures { IfOk result
-            (IsCall (outs_of self.now.helpers.now self.now.base (length vars.old) args.now)
-            (call_of self.now.helpers.now self.now.base (length vars.old) helper args.now at)
+            (IsCall
+            (outs_of self.now.helpers.now self.now.base (length vars.old) call.entry.args.now)
+            (call_of self.now.helpers.now self.now.base (length vars.old)
+            call.entry.helper call.entry.args.now call.entry.at)
             before.old vars.old before.new vars.new) }
     {
-        let args = self.exprs(args, before, vars)?;
-        let place = helper as usize;
+        let args = self.exprs(call.args, before, vars)?;
+        let at = call.at;
+        let place = call.helper as usize;
         match self.helpers.get(place) {
             None => {
                 let var = next_var(vars);
@@ -333,6 +347,31 @@ fn behind(before: List<TypedStmt>, kind: TypedStmtKind, at: Span) -> Result<Type
 
 // ---- statements
 
+/// The parts of an assignment.
+#[derive(Clone, Copy)]
+struct AssignParts<'a> {
+    target: &'a ProgTarget,
+    op: Option<Binary>,
+    value: &'a ProgExpr,
+}
+
+/// The parts of an `if`.
+#[derive(Clone, Copy)]
+struct IfParts<'a> {
+    cond: &'a ProgExpr,
+    then: &'a ProgStmt,
+    other: &'a Option<Boxed<ProgStmt>>,
+}
+
+/// The parts of a `for`.
+#[derive(Clone, Copy)]
+struct ForParts<'a> {
+    first: &'a [ProgStmt],
+    cond: &'a Option<ProgExpr>,
+    step: &'a Option<Boxed<ProgStmt>>,
+    body: &'a ProgStmt,
+}
+
 impl<'a> Inliner<'a> {
     /// The statement that one becomes, behind the blocks of its calls.
     #[cycle(walk)]
@@ -349,11 +388,13 @@ impl<'a> Inliner<'a> {
             }
             ProgStmtKind::Declare { var, init } => { self.declare(stmt, *var, init, vars) }
             ProgStmtKind::Assign { target, op, value } => {
-                self.assign(stmt, target, *op, value, vars)
+                let op = *op;
+                self.assign(stmt, AssignParts { target, op, value }, vars)
             }
             ProgStmtKind::Step { target, up } => { self.step(stmt, target, *up, vars) }
             ProgStmtKind::If { cond, then, other } => {
-                self.choice(stmt, cond, then.get(), other, vars)
+                let then = then.get();
+                self.choice(stmt, IfParts { cond, then, other }, vars)
             }
             ProgStmtKind::While { cond, body } => { self.while_loop(stmt, cond, body.get(), vars) }
             ProgStmtKind::DoWhile { body, cond } => { self.do_loop(stmt, body.get(), cond, vars) }
@@ -363,8 +404,13 @@ impl<'a> Inliner<'a> {
                 step,
                 body,
             } => {
-                let first = first.as_slice();
-                self.for_loop(stmt, first, cond, step, body.get(), vars)
+                let parts = ForParts {
+                    first: first.as_slice(),
+                    cond,
+                    step,
+                    body: body.get(),
+                };
+                self.for_loop(stmt, parts, vars)
             }
             ProgStmtKind::Break => Ok(stmt_at(TypedStmtKind::Break, stmt.at)),
             ProgStmtKind::Continue => Ok(stmt_at(TypedStmtKind::Continue, stmt.at)),
@@ -466,21 +512,20 @@ impl<'a> Inliner<'a> {
     fn assign(
         &self,
         stmt: &ProgStmt,
-        target: &ProgTarget,
-        op: Option<Binary>,
-        value: &ProgExpr,
+        parts: AssignParts,
         vars: &mut List<Ty>,
     ) -> Result<TypedStmt, Memory>
-        requires is { stmt.now.kind ≡ act.Assign target.now op value.now }
+        requires is { stmt.now.kind ≡ act.Assign parts.target.now parts.op parts.value.now }
         requires fits { StmtFits self.now.helpers.now self.now.base vars.old stmt.now }
         ensures { IfOk result
             (Becomes self.now.helpers.now self.now.base stmt.now vars.old vars.new) }
     {
         let mut before = List::new(self.alloc);
-        let list = target.indices.as_slice();
+        let list = parts.target.indices.as_slice();
         let indices = self.exprs(list, &mut before, vars)?;
-        let value = self.expr(value, &mut before, vars)?;
-        let target = target_to(self.base, target, indices);
+        let value = self.expr(parts.value, &mut before, vars)?;
+        let target = target_to(self.base, parts.target, indices);
+        let op = parts.op;
         let kind = behind(before, TypedStmtKind::Assign { target, op, value }, stmt.at)?;
         Ok(stmt_at(kind, stmt.at))
     }
@@ -533,20 +578,18 @@ impl<'a> Inliner<'a> {
     fn choice(
         &self,
         stmt: &ProgStmt,
-        cond: &ProgExpr,
-        then: &ProgStmt,
-        other: &Option<Boxed<ProgStmt>>,
+        parts: IfParts,
         vars: &mut List<Ty>,
     ) -> Result<TypedStmt, Memory>
-        requires is { stmt.now.kind ≡ act.If cond.now then.now other.now }
+        requires is { stmt.now.kind ≡ act.If parts.cond.now parts.then.now parts.other.now }
         requires fits { StmtFits self.now.helpers.now self.now.base vars.old stmt.now }
         ensures { IfOk result
             (Becomes self.now.helpers.now self.now.base stmt.now vars.old vars.new) }
     {
         let mut before = List::new(self.alloc);
-        let cond = self.expr(cond, &mut before, vars)?;
-        let then = self.boxed_stmt(then, vars)?;
-        let other = self.held(other, vars)?;
+        let cond = self.expr(parts.cond, &mut before, vars)?;
+        let then = self.boxed_stmt(parts.then, vars)?;
+        let other = self.held(parts.other, vars)?;
         let kind = behind(before, TypedStmtKind::If { cond, then, other }, stmt.at)?;
         Ok(stmt_at(kind, stmt.at))
     }
@@ -594,23 +637,21 @@ impl<'a> Inliner<'a> {
     fn for_loop(
         &self,
         stmt: &ProgStmt,
-        first: &[ProgStmt],
-        cond: &Option<ProgExpr>,
-        step: &Option<Boxed<ProgStmt>>,
-        body: &ProgStmt,
+        parts: ForParts,
         vars: &mut List<Ty>,
     ) -> Result<TypedStmt, Memory>
-        requires is { stmt.now.kind ≡ act.For first.now cond.now step.now body.now }
+        requires is { stmt.now.kind
+            ≡ act.For parts.first.now parts.cond.now parts.step.now parts.body.now }
         requires fits { StmtFits self.now.helpers.now self.now.base vars.old stmt.now }
         ensures { IfOk result
             (Becomes self.now.helpers.now self.now.base stmt.now vars.old vars.new) }
     {
         let mut opening = List::new(self.alloc);
-        self.stmts(first, &mut opening, vars)?;
+        self.stmts(parts.first, &mut opening, vars)?;
         let mut before = List::new(self.alloc);
-        let cond = self.option(cond, &mut before, vars)?;
-        let step = self.held(step, vars)?;
-        let body = self.boxed_stmt(body, vars)?;
+        let cond = self.option(parts.cond, &mut before, vars)?;
+        let step = self.held(parts.step, vars)?;
+        let body = self.boxed_stmt(parts.body, vars)?;
         let kind = TypedStmtKind::For {
             first: opening,
             cond,

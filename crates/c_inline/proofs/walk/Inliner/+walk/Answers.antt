@@ -49,7 +49,7 @@ expr-boxed-requires-in-Choose-3 t c =
 
 pub expr-call-requires : goal.expr-call-requires
 expr-call-requires t c =
-    let is = is_call c.args.e.now _ _ _ c.in-Call.is c.as_slice-args.ensures in (omega (arith, c.decreases, w_call (weights_of c.args.self.now.helpers.now) c.args.e.now _ _ is), call_fits c.args.self.now.helpers.now c.args.self.now.base c.args.vars.now c.args.e.now _ _ _ is refl c.requires)
+    let is = is_call c.args.e.now _ _ _ c.in-Call.is c.as_slice-in-Call.ensures in (omega (arith, c.decreases, w_call (weights_of c.args.self.now.helpers.now) c.args.e.now _ _ is), call_fits c.args.self.now.helpers.now c.args.self.now.base c.args.vars.now c.args.e.now _ _ _ is refl c.requires)
 
 pub expr-returns-in-Number : goal.expr-returns-in-Number
 expr-returns-in-Number t c =
@@ -81,7 +81,7 @@ expr-returns-in_ok-other-in-Choose t c =
 
 pub expr-returns-in_ok-var-in-Call : goal.expr-returns-in_ok-var-in-Call
 expr-returns-in_ok-var-in-Call t c =
-    call_makes c.args.self.now.helpers.now c.args.self.now.base c.args.e.now _ _ _ _ c.args.before.now c.args.vars.now _ _ _ (is_call c.args.e.now _ _ _ c.in-Call.is c.as_slice-args.ensures) refl c.in_ok-var-in-Call.ensures c.left_of-in-Call.ensures
+    call_makes c.args.self.now.helpers.now c.args.self.now.base c.args.e.now _ _ _ _ c.args.before.now c.args.vars.now _ _ _ (is_call c.args.e.now _ _ _ c.in-Call.is c.as_slice-in-Call.ensures) refl c.in_ok-var-in-Call.ensures c.left_of-in-Call.ensures
 
 pub boxed-expr-requires : goal.boxed-expr-requires
 boxed-expr-requires t c =
@@ -132,11 +132,11 @@ call-next_var-var-requires t c =
 
 pub call-returns-in-None : goal.call-returns-in-None
 call-returns-in-None t c =
-    none_called c.args.self.now.helpers.now c.args.self.now.base c.args.helper c.args.args.now _ c.args.at _ _ c.args.before.now c.args.vars.now _ _ _ (slice_get_past c.args.self.now.helpers.now c.args.helper c.in-None.ensures.lookup.3) c.in_ok-args.ensures c.next_var-var.ensures c.stmt_at.ensures c.in_ok-push-in-None.ensures.ok
+    none_called c.args.self.now.helpers.now c.args.self.now.base c.args.call.helper c.args.call.args.now _ c.args.call.at _ _ c.args.before.now c.args.vars.now _ _ _ (slice_get_past c.args.self.now.helpers.now c.args.call.helper c.in-None.ensures.lookup.3) c.in_ok-args.ensures c.next_var-var.ensures c.stmt_at.ensures c.in_ok-push-in-None.ensures.ok
 
 pub call-written-requires : goal.call-written-requires
 call-written-requires t c =
-    let is = slice_get_read c.args.self.now.helpers.now (length c.args.self.now.helpers.now) c.args.helper c.in-Some.helper.now refl c.in-Some.ensures.lookup.3.0 (c.in-Some.ensures.lookup.3.1 c.in-Some.helper.now) in (omega (arith, c.decreases, ap weight_at (weight_of c.args.self.now.helpers.now _ _ is), ap (λ l. helper_weight (weights_of l) c.in-Some.helper.now) c.below.ensures), (c.next_var.ensures, helper_fits c.args.self.now.helpers.now _ c.args.self.now.base c.args.vars.now _ _ _ _ _ _ is c.below.ensures c.requires c.in_ok-args.ensures.made (c.as_slice.ensures ∙ c.in_ok-args.ensures.rest)))
+    let is = slice_get_read c.args.self.now.helpers.now (length c.args.self.now.helpers.now) c.args.call.helper c.in-Some.helper.now refl c.in-Some.ensures.lookup.3.0 (c.in-Some.ensures.lookup.3.1 c.in-Some.helper.now) in (omega (arith, c.decreases, ap weight_at (weight_of c.args.self.now.helpers.now _ _ is), ap (λ l. helper_weight (weights_of l) c.in-Some.helper.now) c.below.ensures), (c.next_var.ensures, helper_fits c.args.self.now.helpers.now _ c.args.self.now.base c.args.vars.now _ _ _ _ _ _ is c.below.ensures c.requires c.in_ok-args.ensures.made (c.as_slice.ensures ∙ c.in_ok-args.ensures.rest)))
 
 pub call-below-requires : goal.call-below-requires
 call-below-requires t c =
@@ -144,7 +144,7 @@ call-below-requires t c =
 
 pub call-returns : goal.call-returns
 call-returns t c =
-    let is = slice_get_read c.args.self.now.helpers.now (length c.args.self.now.helpers.now) c.args.helper c.in-Some.helper.now refl c.in-Some.ensures.lookup.3.0 (c.in-Some.ensures.lookup.3.1 c.in-Some.helper.now) in some_called c.args.self.now.helpers.now _ c.args.self.now.base c.args.helper c.in-Some.helper.now c.args.args.now _ _ c.args.at _ c.args.before.now c.args.vars.now _ _ _ _ is c.below.ensures c.in_ok-args.ensures c.as_slice.ensures c.in_ok-var-in-Some.ensures
+    let is = slice_get_read c.args.self.now.helpers.now (length c.args.self.now.helpers.now) c.args.call.helper c.in-Some.helper.now refl c.in-Some.ensures.lookup.3.0 (c.in-Some.ensures.lookup.3.1 c.in-Some.helper.now) in some_called c.args.self.now.helpers.now _ c.args.self.now.base c.args.call.helper c.in-Some.helper.now c.args.call.args.now _ _ c.args.call.at _ c.args.before.now c.args.vars.now _ _ _ _ is c.below.ensures c.in_ok-args.ensures c.as_slice.ensures c.in_ok-var-in-Some.ensures
 
 pub written-next_var-var-requires : goal.written-next_var-var-requires
 written-next_var-var-requires t c =
@@ -189,11 +189,11 @@ stmt-step-requires t c =
 
 pub stmt-choice-requires : goal.stmt-choice-requires
 stmt-choice-requires t c =
-    (omega (arith, c.decreases), (is_if c.args.stmt.now _ _ _ _ c.in-If.is c.get.ensures, c.requires))
+    (omega (arith, c.decreases), (is_if c.args.stmt.now _ _ _ _ c.in-If.is c.get-then.ensures, c.requires))
 
 pub stmt-while_loop-requires : goal.stmt-while_loop-requires
 stmt-while_loop-requires t c =
-    (omega (arith, c.decreases), (is_while c.args.stmt.now _ _ _ c.in-While.is c.get-in-While.ensures, c.requires))
+    (omega (arith, c.decreases), (is_while c.args.stmt.now _ _ _ c.in-While.is c.get.ensures, c.requires))
 
 pub stmt-do_loop-requires : goal.stmt-do_loop-requires
 stmt-do_loop-requires t c =
@@ -201,7 +201,7 @@ stmt-do_loop-requires t c =
 
 pub stmt-for_loop-requires : goal.stmt-for_loop-requires
 stmt-for_loop-requires t c =
-    (omega (arith, c.decreases), (is_for c.args.stmt.now _ _ _ _ _ _ c.in-For.is c.as_slice-first.ensures c.get-in-For.ensures, c.requires))
+    (omega (arith, c.decreases), (is_for c.args.stmt.now _ _ _ _ _ _ c.in-For.is c.as_slice-in-For.ensures c.get-in-For.ensures, c.requires))
 
 pub stmt-give-requires : goal.stmt-give-requires
 stmt-give-requires t c =

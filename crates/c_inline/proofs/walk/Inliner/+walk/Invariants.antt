@@ -17,7 +17,7 @@ abbrev pub decreases-option : goal.decreases-option
 decreases-option l = 8 * option_weight (weights_of l.self.now.helpers.now) l.e.now + 2
 
 abbrev pub decreases-call : goal.decreases-call
-decreases-call l = 8 * (exprs_weight (weights_of l.self.now.helpers.now) l.args.now + weight_at (slice_get (weights_of l.self.now.helpers.now) l.helper)) + 5
+decreases-call l = 8 * (exprs_weight (weights_of l.self.now.helpers.now) l.call.args.now + weight_at (slice_get (weights_of l.self.now.helpers.now) l.call.helper)) + 5
 
 abbrev pub decreases-written : goal.decreases-written
 decreases-written l = 8 * helper_weight (weights_of l.self.now.helpers.now) l.helper.now + 1
