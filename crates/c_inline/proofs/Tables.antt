@@ -1,13 +1,20 @@
 -- Tables that are made helper by helper, each entry from those before: an entry is that of its helper behind the helpers before it.
-use Rattle.std.proofs.Common.{◌≡◌, ℕ, zero, suc, ◌+◌, ◌<◌, ◌≤◌, List, [], ◌∷◌, ◌++◌, length, take, refl, sym, ◌∙◌, ap, subst, arith, length-append, Some, None}
+use Rattle.std.proofs.Common.{◌≡◌, ℕ, zero, suc, ◌+◌, ◌<◌, ◌≤◌, List, [], ◌∷◌, ◌++◌, length, take, refl, sym, ◌∙◌, ap, subst, arith, length-append, Option, Some, None}
 use Rattle.std.specs.Prelude.{slice_get}
-use Rattle.std.proofs.lemmas.Option.{slice_get_within, slice_get_past, same_Some}
+use Rattle.std.proofs.lemmas.Option.{slice_get_within, slice_get_past, none-some}
 use Rattle.c_ast.specs.declared.program.TypedHelper.{TypedHelper}
 use Rattle.c_meaning.proofs.LawfulExpressions.{get_last}
-use Rattle.c_calls.specs.Inlined.{writing, writings}
-use Rattle.c_calls.proofs.Arguments.{slice_left}
+use Rattle.c_calls.specs.Inlined.{Writing, writing, writings, written_by}
 use Rattle.c_inline.specs.Making.{AllNumbers, HelperNumbers, writings_of}
 use Rattle.c_inline.proofs.Weights.{helper_weight, weights, weights_of}
+
+pub same_some : {A : Type 0} (x y : A) → Some x ≡ Some y → x ≡ y
+same_some x y e = cc
+
+get_first : {A : Type 0} (xs ys : List A) (i : ℕ) → i < length xs → slice_get (xs ++ ys) i ≡ slice_get xs i
+get_first [] ys i h = absurd (omega (arith, h))
+get_first (x ∷ xs) ys zero h = refl
+get_first (x ∷ xs) ys (suc i) h = get_first xs ys i (omega (arith, h))
 
 none_past : {A : Type 0} (xs : List A) (i : ℕ) → slice_get xs i ≡ None → length xs ≤ i
 none_past [] i e = omega arith
@@ -18,7 +25,7 @@ none_past (x ∷ xs) (suc i) e = omega (arith, none_past xs i e)
 module _ {A : Type 0} (step : List A → TypedHelper → A) (table : List A → List TypedHelper → List A) (end : (ps : List A) → table ps [] ≡ ps) (more : (ps : List A) (h : TypedHelper) (hs : List TypedHelper) → table ps (h ∷ hs) ≡ table (ps ++ step ps h ∷ []) hs) where
   kept : (ps : List A) (hs : List TypedHelper) (i : ℕ) → i < length ps → slice_get (table ps hs) i ≡ slice_get ps i
   kept ps [] i lt = ap (λ l. slice_get l i) (end ps)
-  kept ps (h ∷ hs) i lt = ap (λ l. slice_get l i) (more ps h hs) ∙ kept (ps ++ step ps h ∷ []) hs i (omega (arith, length-append ps (step ps h ∷ []), lt)) ∙ slice_left ps (step ps h ∷ []) i lt
+  kept ps (h ∷ hs) i lt = ap (λ l. slice_get l i) (more ps h hs) ∙ kept (ps ++ step ps h ∷ []) hs i (omega (arith, length-append ps (step ps h ∷ []), lt)) ∙ get_first ps (step ps h ∷ []) i lt
 
   pub entry : (ps : List A) (hs : List TypedHelper) (i : ℕ) (h : TypedHelper) → slice_get hs i ≡ Some h → slice_get (table ps hs) (length ps + i) ≡ Some (step (table ps (take i hs)) h)
   entry ps [] i h is = absurd (omega (arith, slice_get_within [] i h is))
@@ -26,7 +33,7 @@ module _ {A : Type 0} (step : List A → TypedHelper → A) (table : List A → 
       let next = ps ++ step ps g ∷ [] in
       let e : length ps + 0 ≡ length ps = omega arith in
       ap (slice_get (table ps (g ∷ hs))) e ∙ ap (λ l. slice_get l (length ps)) (more ps g hs) ∙ kept next hs (length ps) (omega (arith, length-append ps (step ps g ∷ []))) ∙ get_last ps (step ps g)
-      ∙ ap (λ x. Some (step ps x)) (same_Some g h is) ∙ ap (λ l. Some (step l h)) (sym (end ps))
+      ∙ ap (λ x. Some (step ps x)) (same_some g h is) ∙ ap (λ l. Some (step l h)) (sym (end ps))
   entry ps (g ∷ hs) (suc i) h is =
       let next = ps ++ step ps g ∷ [] in
       let e : length ps + suc i ≡ length next + i = omega (arith, length-append ps (step ps g ∷ [])) in

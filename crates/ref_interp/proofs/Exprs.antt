@@ -18,6 +18,7 @@ use Rattle.c_ast.specs.declared.typed.TypedExprKind.{TypedExprKind}
 use Rattle.c_ast.specs.declared.typed.TypedExprKind.TheVariants as expr
 use Rattle.c_ast.specs.declared.typed.TypedExprKind.TheBlock.{shape-the_row-TypedExpr-0, hidden-the_row-TypedExpr-0, shape-the_row-TypedExpr-1, hidden-the_row-TypedExpr-1}
 use Rattle.c_meaning.specs.declared.profile.Profile.{Profile}
+use Rattle.c_meaning.proofs.TypeLemmas.{promoted_usual}
 use Rattle.c_meaning.specs.Types.{conv}
 use Rattle.c_meaning.specs.Operators.{unary_value, binary_value}
 use Rattle.c_meaning.specs.Patterns.{conversion_op, converted_by}

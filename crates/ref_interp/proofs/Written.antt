@@ -3,7 +3,7 @@ use Rattle.std.proofs.Common.{◌≡◌, ℕ, zero, suc, ◌^◌, ◌<◌, ◌�
 use Rattle.std.specs.Prelude.{ℤ, slice_get}
 use Rattle.std.proofs.lemmas.Bool.{cases_lt}
 use Rattle.std.proofs.lemmas.List.Elements.{All-set}
-use Rattle.std.proofs.lemmas.List.{map-set, set_past}
+use Rattle.std.proofs.lemmas.List.{map-set}
 use Rattle.std.proofs.Common.{⊎_elim}
 use Rattle.el_base.specs.declared.ty.Ty.{Ty}
 use Rattle.el_base.specs.Numbers.{number}
@@ -14,6 +14,11 @@ use Rattle.ref_interp.specs.declared.cells.Cells.{Cells}
 use Rattle.ref_interp.specs.Answers.{most}
 use Rattle.ref_interp.specs.Cells.{AreCells, AreVarCells, AreArrayCells, IsCell, cell_number, var_numbers, array_numbers, store_of}
 use Rattle.ref_interp.specs.Machines.{cell_list}
+
+pub set_beyond : {A : Type 0} (xs : List A) (i : ℕ) (x : A) → length xs ≤ i → set xs i x ≡ xs
+set_beyond [] i x h = refl
+set_beyond (y ∷ xs) zero x h = absurd (omega arith)
+set_beyond (y ∷ xs) (suc i) x h = ap (λ l. y ∷ l) (set_beyond xs i x (omega arith))
 
 -- ---- variables
 
@@ -79,7 +84,7 @@ arrays_set (y ∷ xs) (ps ∷ pss) (suc a) x i p z e all is below =
 set_seen : (ps : List ℕ) (n q p : ℕ) → length ps ≤ most → q ≡ min n most → set ps q p ≡ set ps n p
 set_seen ps n q p few e =
     ⊎_elim
-    (λ big. set_past ps q p (omega (arith, big, few, e)) ∙ sym (set_past ps n p (omega (arith, big, few))))
+    (λ big. set_beyond ps q p (omega (arith, big, few, e)) ∙ sym (set_beyond ps n p (omega (arith, big, few))))
     (λ small. ap (λ q. set ps q p) (omega (arith, small, e)))
     (cases_lt most n)
 
