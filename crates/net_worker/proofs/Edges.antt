@@ -23,11 +23,11 @@ marked_more owners old new cs n a within before kept now i d l = by (cases_lt i 
     by (inr k) = (let e : n ≡ i = omega arith in subst (λ j. IsMarked owners new (get_or cs j d)) e (subst (IsMarked owners new) (get_or_same cs n a d within) now))
 
 -- a unit without a mark has none
-pub inner_unit : (t : Tables) (u : ℕ) → get_or t.crossing.items u true ≡ false → IsInnerUnit t.net (owner_in t) u
-inner_unit t u unmarked c l at = by (cases_eq (owner_in t (chan_at t.net c).from.unit) (owner_in t (chan_at t.net c).to.unit)) at
+pub inner_unit : (t : Tables) (u : ℕ) → get_or t.crossing.items u true ≡ false → IsInnerUnit t.net.now (owner_in t) u
+inner_unit t u unmarked c l at = by (cases_eq (owner_in t (chan_at t.net.now c).from.unit) (owner_in t (chan_at t.net.now c).to.unit)) at
   where
-    by : (owner_in t (chan_at t.net c).from.unit ≡ owner_in t (chan_at t.net c).to.unit) ⊎ (owner_in t (chan_at t.net c).from.unit ≡ owner_in t (chan_at t.net c).to.unit → ⊥)
-        → ((chan_at t.net c).from.unit ≡ u) ⊎ ((chan_at t.net c).to.unit ≡ u) → owner_in t (chan_at t.net c).from.unit ≡ owner_in t (chan_at t.net c).to.unit
+    by : (owner_in t (chan_at t.net.now c).from.unit ≡ owner_in t (chan_at t.net.now c).to.unit) ⊎ (owner_in t (chan_at t.net.now c).from.unit ≡ owner_in t (chan_at t.net.now c).to.unit → ⊥)
+        → ((chan_at t.net.now c).from.unit ≡ u) ⊎ ((chan_at t.net.now c).to.unit ≡ u) → owner_in t (chan_at t.net.now c).from.unit ≡ owner_in t (chan_at t.net.now c).to.unit
     by (inl q) e = q
     by (inr n) (inl e) = (let h = (t.marked c nowhere l n).0 in let k : true ≡ false = sym h ∙ (ap (λ v. get_or t.crossing.items v true) e ∙ unmarked) in cc)
     by (inr n) (inr e) = (let h = (t.marked c nowhere l n).1 in let k : true ≡ false = sym h ∙ (ap (λ v. get_or t.crossing.items v true) e ∙ unmarked) in cc)

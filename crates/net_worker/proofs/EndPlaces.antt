@@ -1,10 +1,11 @@
 -- Ends in their places.
-use Rattle.std.proofs.Common.{◌≡◌, ℕ, zero, suc, ◌+◌, ◌<◌, ◌≤◌, Bool, true, false, cond, Option, None, List, [], ◌∷◌, ◌++◌, length, get_or, set, replicate, Ok, Err, refl, sym, ap, subst, arith, inl, inr, ◌∙◌}
+use Rattle.std.proofs.Common.{◌≡◌, ℕ, zero, suc, ◌+◌, ◌<◌, ◌≤◌, Bool, true, false, cond, Option, Some, None, List, [], ◌∷◌, ◌++◌, length, get_or, set, replicate, Ok, Err, refl, sym, ap, subst, arith, inl, inr, ◌∙◌}
 use Rattle.std.specs.Ordering.{nat_cmp}
+use Rattle.std.specs.List.{Contains}
 use Rattle.std.specs.List.Sorted.{IsBinarySearchResult}
 use Rattle.std.proofs.lemmas.List.Sorted.{searched}
 use Rattle.std.proofs.lemmas.Bool.{cases_lt}
-use Rattle.std.proofs.lemmas.List.{length-set, length-replicate, length-append, get_or_append_left, get_or_at}
+use Rattle.std.proofs.lemmas.List.{get_or_default, set-get_or, length-set, length-replicate, length-append, get_or_append_left, get_or_at}
 use Rattle.net_worker.specs.ChannelEnds.{spread, length-put_over, AreChannels, ArePlaces, StandsAt, IsNotAmong}
 use Rattle.net_worker.proofs.PutOver.{put_over_none, put_over_some, put_over_set}
 
@@ -28,6 +29,18 @@ some_at n cs es c i h s = put_over_some cs es (replicate n None) c i None (subst
 -- another end there, and all others as they were
 pub set_at : {A : Type 0} (n : ℕ) (cs : List ℕ) (es : List (Option A)) (c i : ℕ) (x : Option A) → ArePlaces n cs es → StandsAt cs c i → spread n cs (set es i x) ≡ set (spread n cs es) c x
 set_at n cs es c i x h s = put_over_set n cs es (replicate n None) c i x h.channels h.long s
+
+-- a channel that stands in a list is in it
+pub contains_at : (cs : List ℕ) (c i : ℕ) → StandsAt cs c i → Contains cs c
+contains_at cs c i s = (i, s.0, sym (get_or_default cs i 0 c s.0) ∙ s.1)
+
+-- a channel with a place is within the list
+pub within_places : {A : Type 0} (n : ℕ) (cs : List ℕ) (es : List (Option A)) (c i : ℕ) → ArePlaces n cs es → StandsAt cs c i → c < length (spread n cs es)
+within_places n cs es c i h s = subst (λ m. c < m) (sym (length-spread n cs es)) (subst (λ d. d < n) s.1 (h.channels.within i s.0))
+
+-- nothing is taken away where nothing is
+pub nothing_cleared : {A : Type 0} (n : ℕ) (cs : List ℕ) (es : List (Option A)) (c : ℕ) → IsNotAmong cs c → set (spread n cs es) c None ≡ spread n cs es
+nothing_cleared n cs es c other = subst (λ x. set (spread n cs es) c x ≡ spread n cs es) (spread_none n cs es c other) (set-get_or (spread n cs es) c None)
 
 -- places with another end at one of them
 pub places_set : {A : Type 0} (n : ℕ) (cs : List ℕ) (es : List (Option A)) (i : ℕ) (x : Option A) → ArePlaces n cs es → ArePlaces n cs (set es i x)

@@ -45,16 +45,16 @@ told_sooner (Some p) (Some q) r n h (ms, a, b, is) = (ms, prefix_trans _ _ ms h.
 
 pub told_on : (t : Tables) (z a b : Worker) (u : ℕ) (put : Option Put) (n : ℕ) → SameWorker a b → ToldBy t z a u put n → ToldBy t z b u put n
 told_on t z a b u None n h k = k
-told_on t z a b u (Some w) n h k = told_later (put_end z (out_of u w.place t.net.chans)) (put_end a (out_of u w.place t.net.chans)) (put_end b (out_of u w.place t.net.chans)) n (h.puts (out_of u w.place t.net.chans)) k
+told_on t z a b u (Some w) n h k = told_later (put_end z (out_of u w.place t.net.now.chans)) (put_end a (out_of u w.place t.net.now.chans)) (put_end b (out_of u w.place t.net.now.chans)) n (h.puts (out_of u w.place t.net.now.chans)) k
 
 pub told_since : (t : Tables) (z a b : Worker) (u : ℕ) (put : Option Put) (n : ℕ) → SameWorker z a → ToldBy t a b u put n → ToldBy t z b u put n
 told_since t z a b u None n h k = k
-told_since t z a b u (Some w) n h k = told_sooner (put_end z (out_of u w.place t.net.chans)) (put_end a (out_of u w.place t.net.chans)) (put_end b (out_of u w.place t.net.chans)) n (h.puts (out_of u w.place t.net.chans)) k
+told_since t z a b u (Some w) n h k = told_sooner (put_end z (out_of u w.place t.net.now.chans)) (put_end a (out_of u w.place t.net.now.chans)) (put_end b (out_of u w.place t.net.now.chans)) n (h.puts (out_of u w.place t.net.now.chans)) k
 
 pub exact_on : (t : Tables) (z a b : Worker) (k : ℕ) (s : Stamped) (es : List Entry) → SameWorker a b → AreExact t z a k s es → AreExact t z b k s es
 exact_on t z a b k s [] h e = tt
 exact_on t z a b k s (x ∷ es) h e =
-    ((e.0.0, e.0.1, e.0.2, told_on t z a b x.firing.unit e.0.0.put e.0.2 h e.0.3, e.0.4), exact_on t z a b x.stamp (after_at t.net x.stamp s x.firing) es h e.1)
+    ((e.0.0, e.0.1, e.0.2, told_on t z a b x.firing.unit e.0.0.put e.0.2 h e.0.3, e.0.4), exact_on t z a b x.stamp (after_at t.net.now x.stamp s x.firing) es h e.1)
 
 -- ---- plays in parts
 
@@ -86,16 +86,16 @@ module _ (net : Net) (owner : ℕ → ℕ) (j : ℕ) (xs ns : ℕ → List ℕ) 
   greatest_same : greatest net t f.unit (used net t.state f) ≡ greatest net s f.unit (used net s.state f)
   greatest_same = ap (greatest net t f.unit) (more.uses_same net owner j xs ns from n s t f m w) ∙ greatest_all (used net s.state f) m.above
 
-exact_fuller : (t : Tables) (z a : Worker) (j : ℕ) (xs ns : ℕ → List ℕ) (k c : ℕ) (s s' : Stamped) (es : List Entry) (u : Stamped) → FromOthers t.net (owner_in t) j xs ns → IsFuller t.net (owner_in t) j xs ns s s'
-    → Plays t.net (owner_in t) j c s es u → AreExact t z a k s es → AreExact t z a k s' es
+exact_fuller : (t : Tables) (z a : Worker) (j : ℕ) (xs ns : ℕ → List ℕ) (k c : ℕ) (s s' : Stamped) (es : List Entry) (u : Stamped) → FromOthers t.net.now (owner_in t) j xs ns → IsFuller t.net.now (owner_in t) j xs ns s s'
+    → Plays t.net.now (owner_in t) j c s es u → AreExact t z a k s es → AreExact t z a k s' es
 exact_fuller t z a j xs ns k c s s' [] u from w p e = tt
 exact_fuller t z a j xs ns k c s s' (x ∷ es) u from w p e =
-    let d = more.does t.net (owner_in t) j xs ns from x.stamp s s' x.firing p.1 w in
+    let d = more.does t.net.now (owner_in t) j xs ns from x.stamp s s' x.firing p.1 w in
     let same : d.0 ≡ e.0.0 = (let q : Some d.0 ≡ Some e.0.0 = sym d.1 ∙ e.0.1 in cc) in
-    let too : effect t.net s'.state x.firing ≡ Some e.0.0 = more.does_too t.net (owner_in t) j xs ns from x.stamp s s' x.firing p.1 w ∙ ap Some same in
-    let g = greatest_same t.net (owner_in t) j xs ns from x.stamp s s' x.firing p.1 w in (
+    let too : effect t.net.now s'.state x.firing ≡ Some e.0.0 = more.does_too t.net.now (owner_in t) j xs ns from x.stamp s s' x.firing p.1 w ∙ ap Some same in
+    let g = greatest_same t.net.now (owner_in t) j xs ns from x.stamp s s' x.firing p.1 w in (
       (e.0.0, too, e.0.2, e.0.3, e.0.4 ∙ ap (λ y. suc (max k (max y e.0.2))) (sym g)),
-      exact_fuller t z a j xs ns x.stamp x.stamp (after_at t.net x.stamp s x.firing) (after_at t.net x.stamp s' x.firing) es u from (more.fuller_after t.net (owner_in t) j xs ns from x.stamp s s' x.firing p.1 w) p.2 e.1,
+      exact_fuller t z a j xs ns x.stamp x.stamp (after_at t.net.now x.stamp s x.firing) (after_at t.net.now x.stamp s' x.firing) es u from (more.fuller_after t.net.now (owner_in t) j xs ns from x.stamp s s' x.firing p.1 w) p.2 e.1,
     )
 
 -- the opening states with tokens handed out, and with more of them
@@ -162,33 +162,33 @@ module _ (t : Tables) (z a b : Worker) (m : IsMadeOf t a) (k : IsMadeOf t b) (sa
   none_given : (c : ℕ) → (Rattle.net_worker.specs.Workers.IsInto t b.number c → ⊥) → more_given c ≡ []
   none_given c f = all_none (given c) (more_given c) (now_given c) (joined c) (no_take (take_end b c) (λ e q. f (k.takes_in c e q).0))
 
-  mine_not : (c : ℕ) → putter t.net owner c ≡ j → more_given c ≡ []
+  mine_not : (c : ℕ) → putter t.net.now owner c ≡ j → more_given c ≡ []
   mine_not c q = none_given c (λ i. i.2 (q ∙ sym l.number))
 
-  from_others : FromOthers t.net owner j (λ c. values (more_given c)) (λ c. stamps_of (more_given c))
+  from_others : FromOthers t.net.now owner j (λ c. values (more_given c)) (λ c. stamps_of (more_given c))
   from_others = record { tokens = λ c q. ap values (mine_not c q); stamps = λ c q. ap stamps_of (mine_not c q) }
 
-  fuller : IsFuller t.net owner j (λ c. values (more_given c)) (λ c. stamps_of (more_given c)) (fed_opening t.net t.inputs given) (fed_opening t.net t.inputs now_given)
-  fuller = fed_fuller t.net t.inputs owner j given now_given more_given joined (λ c b. none_given c (λ i. absurd (omega (arith, i.0))))
+  fuller : IsFuller t.net.now owner j (λ c. values (more_given c)) (λ c. stamps_of (more_given c)) (fed_opening t.net.now t.inputs given) (fed_opening t.net.now t.inputs now_given)
+  fuller = fed_fuller t.net.now t.inputs owner j given now_given more_given joined (λ c b. none_given c (λ i. absurd (omega (arith, i.0))))
 
-  plays_all : Plays t.net owner j 0 (fed_opening t.net t.inputs given) (z.log.items ++ s.added) m.after
-  plays_all = subst (λ es. Plays t.net owner j 0 (fed_opening t.net t.inputs given) es m.after) s.log m.local.plays
+  plays_all : Plays t.net.now owner j 0 (fed_opening t.net.now t.inputs given) (z.log.items ++ s.added) m.after
+  plays_all = subst (λ es. Plays t.net.now owner j 0 (fed_opening t.net.now t.inputs given) es m.after) s.log m.local.plays
 
-  plays_first : Plays t.net owner j 0 (fed_opening t.net t.inputs given) z.log.items s.from
-  plays_first = subst (λ i. Plays t.net owner i 0 (fed_opening t.net t.inputs given) z.log.items s.from) (sym same.number) s.plays
+  plays_first : Plays t.net.now owner j 0 (fed_opening t.net.now t.inputs given) z.log.items s.from
+  plays_first = subst (λ i. Plays t.net.now owner i 0 (fed_opening t.net.now t.inputs given) z.log.items s.from) (sym same.number) s.plays
 
-  too : Rattle.net_worker.specs.Steps.PlaysToo t.net owner j 0 (λ c. values (more_given c)) (λ c. stamps_of (more_given c)) (fed_opening t.net t.inputs now_given) (fed_opening t.net t.inputs given) z.log.items s.from
-  too = more.more_handed_out t.net owner j 0 (λ c. values (more_given c)) (λ c. stamps_of (more_given c)) (fed_opening t.net t.inputs given) (fed_opening t.net t.inputs now_given) z.log.items s.from from_others fuller plays_first
+  too : Rattle.net_worker.specs.Steps.PlaysToo t.net.now owner j 0 (λ c. values (more_given c)) (λ c. stamps_of (more_given c)) (fed_opening t.net.now t.inputs now_given) (fed_opening t.net.now t.inputs given) z.log.items s.from
+  too = more.more_handed_out t.net.now owner j 0 (λ c. values (more_given c)) (λ c. stamps_of (more_given c)) (fed_opening t.net.now t.inputs given) (fed_opening t.net.now t.inputs now_given) z.log.items s.from from_others fuller plays_first
 
   swept_then : SweptExactly t z b
   swept_then = record {
     added = s.added;
     log = ap (λ g. g.items) l.log ∙ s.log;
     from = too.to;
-    plays = subst (λ i. Plays t.net owner i 0 (fed_opening t.net t.inputs now_given) z.log.items too.to) same.number too.plays;
+    plays = subst (λ i. Plays t.net.now owner i 0 (fed_opening t.net.now t.inputs now_given) z.log.items too.to) same.number too.plays;
     exact = exact_on t z a b z.clock too.to s.added (looked_same a b l)
         (exact_fuller t z a j (λ c. values (more_given c)) (λ c. stamps_of (more_given c)) z.clock (last_stamp 0 z.log.items) s.from too.to s.added m.after from_others too.fuller
-        (plays_rest t.net owner j 0 (fed_opening t.net t.inputs given) z.log.items s.added s.from m.after plays_all plays_first) s.exact);
+        (plays_rest t.net.now owner j 0 (fed_opening t.net.now t.inputs given) z.log.items s.added s.from m.after plays_all plays_first) s.exact);
   }
 
 pub swept_looked : (t : Tables) (z a b : Worker) → IsMadeOf t a → IsMadeOf t b → SameWorker z a → Rattle.net_worker.specs.Glances.IsLooked a b → SweptExactly t z a → SweptExactly t z b
@@ -196,11 +196,11 @@ swept_looked t z a b m k same l s = swept_then t z a b m k same l s
 
 -- ---- then it made a firing
 
-pub exact_snoc : (t : Tables) (z b : Worker) (j k c : ℕ) (s : Stamped) (es : List Entry) (u : Stamped) (e : Entry) (x : Effect) (r : ℕ) → Plays t.net (owner_in t) j c s es u → AreExact t z b k s es
-    → effect t.net u.state e.firing ≡ Some x → ToldBy t z b e.firing.unit x.put r
-    → e.stamp ≡ suc (max (last_stamp k es) (max (greatest t.net u e.firing.unit (used t.net u.state e.firing)) r))
+pub exact_snoc : (t : Tables) (z b : Worker) (j k c : ℕ) (s : Stamped) (es : List Entry) (u : Stamped) (e : Entry) (x : Effect) (r : ℕ) → Plays t.net.now (owner_in t) j c s es u → AreExact t z b k s es
+    → effect t.net.now u.state e.firing ≡ Some x → ToldBy t z b e.firing.unit x.put r
+    → e.stamp ≡ suc (max (last_stamp k es) (max (greatest t.net.now u e.firing.unit (used t.net.now u.state e.firing)) r))
     → AreExact t z b k s (es ++ e ∷ [])
 exact_snoc t z b j k c s [] u e x r p a does told is =
     subst (λ y. AreExact t z b k y (e ∷ [])) (sym p) ((x, does, r, told, is), tt)
 exact_snoc t z b j k c s (f ∷ es) u e x r p a does told is =
-    (a.0, exact_snoc t z b j f.stamp f.stamp (after_at t.net f.stamp s f.firing) es u e x r p.2 a.1 does told is)
+    (a.0, exact_snoc t z b j f.stamp f.stamp (after_at t.net.now f.stamp s f.firing) es u e x r p.2 a.1 does told is)

@@ -132,53 +132,53 @@ module _ (t : Tables) (a b : Worker) (f : Firing) (x : Effect) (n : ℕ) (m : Is
   e = record { stamp = n; firing = f }
 
   abbrev after : Stamped
-  after = after_at t.net n m.after f
+  after = after_at t.net.now n m.after f
 
-  may : (effect t.net m.after.state f ≡ Some x) × Rattle.net_worker.specs.Plays.MayIn t.net owner j n m.after f
+  may : (effect t.net.now m.after.state f ≡ Some x) × Rattle.net_worker.specs.Plays.MayIn t.net.now owner j n m.after f
   may = worker_may t a m f x n o.may
 
-  one : OneFiring t.net owner j (shown a m.after) (shown b after) e x
+  one : OneFiring t.net.now owner j (shown a m.after) (shown b after) e x
   one = record {
     may = may.1;
     does = may.0;
     later = omega (arith, m.clock, o.may.later);
     log = o.items;
     after = refl;
-    handed = fun_ext (λ c. handed_kept (takes_from t.net f.unit x c) n (take_end a c) (take_end b c) (o.takes c));
-    put = λ c l p q. put_more n (puts_on t.net f.unit x.put c) (put_end a c) (put_end b c) (whole.puts c (l, p, q)) (o.puts c);
-    received = λ c. got_more n (puts_on t.net f.unit x.put c) (put_end a c) (put_end b c) (o.puts c);
-    room = λ c v l p q is. had_room n (chan_at t.net c).slots v (puts_on t.net f.unit x.put c) (put_end a c) (put_end b c) (whole.puts c (l, p, q)) (λ k z. (m.puts_out c k z).1) (o.puts c) is;
+    handed = fun_ext (λ c. handed_kept (takes_from t.net.now f.unit x c) n (take_end a c) (take_end b c) (o.takes c));
+    put = λ c l p q. put_more n (puts_on t.net.now f.unit x.put c) (put_end a c) (put_end b c) (whole.puts c (l, p, q)) (o.puts c);
+    received = λ c. got_more n (puts_on t.net.now f.unit x.put c) (put_end a c) (put_end b c) (o.puts c);
+    room = λ c v l p q is. had_room n (chan_at t.net.now c).slots v (puts_on t.net.now f.unit x.put c) (put_end a c) (put_end b c) (whole.puts c (l, p, q)) (λ k z. (m.puts_out c k z).1) (o.puts c) is;
     repaid = λ c l p q is. repaid_kept n (take_end a c) (take_end b c) (subst (λ g. TakeStep g n (take_end a c) (take_end b c)) is (o.takes c));
     repays = λ c l p q is. repaid_more n (take_end a c) (take_end b c) (whole.takes c (l, p, q)) (subst (λ g. TakeStep g n (take_end a c) (take_end b c)) is (o.takes c));
   }
 
-  measures : Measures t.net (length t.inputs.arrays) (state_of a.portion.state)
+  measures : Measures t.net.now (length t.inputs.arrays) (state_of a.portion.state)
   measures = record { tokens = m.of.long; own = Rattle.std.proofs.lemmas.List.length-map a.portion.state.cells.items Rattle.net_core.specs.Plans.own_of ∙ m.of.cells; arrays = sym m.sees.arrays_long ∙ (after_measures t a m).arrays }
 
-  sight : Rattle.net_worker.specs.Sights.SeesAfter t.net owner j f x (state_of b.portion.state) m.after.state
-  sight = sees_fires t.net owner (length t.inputs.arrays) j f x (state_of a.portion.state) (state_of b.portion.state) m.after.state measures (after_measures t a m) o.may.mine m.sees o.may.does o.state
+  sight : Rattle.net_worker.specs.Sights.SeesAfter t.net.now owner j f x (state_of b.portion.state) m.after.state
+  sight = sees_fires t.net.now owner (length t.inputs.arrays) j f x (state_of a.portion.state) (state_of b.portion.state) m.after.state measures (after_measures t a m) o.may.mine m.sees o.may.does o.state
 
-  is_by : after ≡ after_by t.net n m.after f.unit (Some x)
-  is_by = after_is t.net n m.after f x may.0
+  is_by : after ≡ after_by t.net.now n m.after f.unit (Some x)
+  is_by = after_is t.net.now n m.after f x may.0
 
   held_tokens : (c : ℕ) → IsInto t j c → tokens_at after.state c ≡ values (held_by (take_end b c))
   held_tokens c i =
-      let none : puts_on t.net f.unit x.put c ≡ None = not_put_there t.net f.unit c x.put i.0 (λ z. i.2 (ap owner z ∙ o.may.mine)) in
+      let none : puts_on t.net.now f.unit x.put c ≡ None = not_put_there t.net.now f.unit c x.put i.0 (λ z. i.2 (ap owner z ∙ o.may.mine)) in
       let l : c < length m.after.state.tokens = omega (arith, i.0, (after_measures t a m).tokens) in
       ap (λ (s : Stamped). tokens_at s.state c) is_by
-      ∙ (tokens_after t.net f.unit x m.after.state c l
-      ∙ (ap (λ p. added p (taken (takes_from t.net f.unit x c) (tokens_at m.after.state c))) none
-      ∙ (ap (taken (takes_from t.net f.unit x c)) (m.held c i) ∙ held_moved (λ (y : Token). y.value) (takes_from t.net f.unit x c) n (take_end a c) (take_end b c) (o.takes c))))
+      ∙ (tokens_after t.net.now f.unit x m.after.state c l
+      ∙ (ap (λ p. added p (taken (takes_from t.net.now f.unit x c) (tokens_at m.after.state c))) none
+      ∙ (ap (taken (takes_from t.net.now f.unit x c)) (m.held c i) ∙ held_moved (λ (y : Token). y.value) (takes_from t.net.now f.unit x c) n (take_end a c) (take_end b c) (o.takes c))))
 
   held_stamps : (c : ℕ) → IsInto t j c → stamps_at after c ≡ stamps_of (held_by (take_end b c))
   held_stamps c i =
-      let none : puts_on t.net f.unit x.put c ≡ None = not_put_there t.net f.unit c x.put i.0 (λ z. i.2 (ap owner z ∙ o.may.mine)) in
-      let long = plays_stamps t.net owner j 0 (fed_opening t.net t.inputs (shown a m.after).handed) a.log.items m.after m.local.plays (fed_stamps_long t.net t.inputs (shown a m.after).handed) in
+      let none : puts_on t.net.now f.unit x.put c ≡ None = not_put_there t.net.now f.unit c x.put i.0 (λ z. i.2 (ap owner z ∙ o.may.mine)) in
+      let long = plays_stamps t.net.now owner j 0 (fed_opening t.net.now t.inputs (shown a m.after).handed) a.log.items m.after m.local.plays (fed_stamps_long t.net.now t.inputs (shown a m.after).handed) in
       let l : c < length m.after.stamps = omega (arith, i.0) in
       ap (λ (s : Stamped). stamps_at s c) is_by
-      ∙ (stamps_after t.net n f.unit x m.after c l
-      ∙ (ap (λ p. added (cond (Rattle.std.proofs.Common.is_some p) (Some n) None) (taken (takes_from t.net f.unit x c) (stamps_at m.after c))) none
-      ∙ (ap (taken (takes_from t.net f.unit x c)) (m.held_stamps c i) ∙ held_moved (λ (y : Token). y.stamp) (takes_from t.net f.unit x c) n (take_end a c) (take_end b c) (o.takes c))))
+      ∙ (stamps_after t.net.now n f.unit x m.after c l
+      ∙ (ap (λ p. added (cond (Rattle.std.proofs.Common.is_some p) (Some n) None) (taken (takes_from t.net.now f.unit x c) (stamps_at m.after c))) none
+      ∙ (ap (taken (takes_from t.net.now f.unit x c)) (m.held_stamps c i) ∙ held_moved (λ (y : Token). y.stamp) (takes_from t.net.now f.unit x c) n (take_end a c) (take_end b c) (o.takes c))))
 
   longer : length b.log.items ≡ length a.log.items + 1
   longer = ap length o.items ∙ length-append a.log.items (e ∷ [])
@@ -193,18 +193,18 @@ module _ (t : Tables) (a b : Worker) (f : Firing) (x : Effect) (n : ℕ) (m : Is
     ends_too = o.ends_too ∙ m.ends_too;
     clock = o.clock ∙ (sym (last_snoc 0 a.log.items e) ∙ ap (last_stamp 0) (sym o.items));
     after = after;
-    local = subst (λ k. IsLocal t.net t.inputs owner k (shown b after)) (sym o.number) (local_fires t.net t.inputs owner j (shown a m.after) (shown b after) e x m.local one);
-    sees = subst (λ k. Sees t.net owner k (state_of b.portion.state) after.state) (sym o.number) (subst (λ (s : Stamped). Sees t.net owner j (state_of b.portion.state) s.state) (sym is_by) sight.sees);
-    exit = subst (λ es. HasExited t.net (state_of b.portion.state) ↔ HasExitAmong t.net es) (sym o.items) (exit_more t.net a.portion.state m.of (state_of b.portion.state) f x n a.log.items o.may.does o.state.own m.exit);
+    local = subst (λ k. IsLocal t.net.now t.inputs owner k (shown b after)) (sym o.number) (local_fires t.net.now t.inputs owner j (shown a m.after) (shown b after) e x m.local one);
+    sees = subst (λ k. Sees t.net.now owner k (state_of b.portion.state) after.state) (sym o.number) (subst (λ (s : Stamped). Sees t.net.now owner j (state_of b.portion.state) s.state) (sym is_by) sight.sees);
+    exit = subst (λ es. HasExited t.net.now (state_of b.portion.state) ↔ HasExitAmong t.net.now es) (sym o.items) (exit_more t.net.now a.portion.state m.of (state_of b.portion.state) f x n a.log.items o.may.does o.state.own m.exit);
     held = λ c i. held_tokens c (subst (λ k. IsInto t k c) o.number i);
     held_stamps = λ c i. held_stamps c (subst (λ k. IsInto t k c) o.number i);
-    puts_out = λ c q is. (let p = put_before n (puts_on t.net f.unit x.put c) (put_end a c) q (subst (PutStep n (puts_on t.net f.unit x.put c) (put_end a c)) is (o.puts c)) in let k = m.puts_out c p.end p.is in (subst (λ i. IsOutOf t i c) (sym o.number) k.0, p.slots ∙ k.1));
-    takes_in = λ c q is. (let p = took_before (takes_from t.net f.unit x c) n a.clock (take_end a c) q (subst (TakeStep (takes_from t.net f.unit x c) n (take_end a c)) is (o.takes c)) in let k = m.takes_in c p.end p.is in (subst (λ i. IsInto t i c) (sym o.number) k.0, p.slots ∙ k.1));
+    puts_out = λ c q is. (let p = put_before n (puts_on t.net.now f.unit x.put c) (put_end a c) q (subst (PutStep n (puts_on t.net.now f.unit x.put c) (put_end a c)) is (o.puts c)) in let k = m.puts_out c p.end p.is in (subst (λ i. IsOutOf t i c) (sym o.number) k.0, p.slots ∙ k.1));
+    takes_in = λ c q is. (let p = took_before (takes_from t.net.now f.unit x c) n a.clock (take_end a c) q (subst (TakeStep (takes_from t.net.now f.unit x c) n (take_end a c)) is (o.takes c)) in let k = m.takes_in c p.end p.is in (subst (λ i. IsInto t i c) (sym o.number) k.0, p.slots ∙ k.1));
     outs = λ c i. subst (λ v. Contains v.items c) (sym o.outs) (m.outs c (subst (λ k. IsOutOf t k c) o.number i));
     outs_only = subst (λ v. All (IsOutOf t b.number) v.items) (sym o.outs) (subst (λ k. All (IsOutOf t k) a.outs.items) (sym o.number) m.outs_only);
     ins = λ c i. subst (λ v. Contains v.items c) (sym o.ins) (m.ins c (subst (λ k. IsInto t k c) o.number i));
     ins_only = subst (λ v. All (IsInto t b.number) v.items) (sym o.ins) (subst (λ k. All (IsInto t k) a.ins.items) (sym o.number) m.ins_only);
-    repaid = λ c q is. (let p = took_before (takes_from t.net f.unit x c) n a.clock (take_end a c) q (subst (TakeStep (takes_from t.net f.unit x c) n (take_end a c)) is (o.takes c)) in let k = m.repaid c p.end p.is in (p.repaid k.0, subst (λ i. repaid_stamp q ≤ i) (sym o.clock) (p.stamp k.1 o.may.later)));
+    repaid = λ c q is. (let p = took_before (takes_from t.net.now f.unit x c) n a.clock (take_end a c) q (subst (TakeStep (takes_from t.net.now f.unit x c) n (take_end a c)) is (o.takes c)) in let k = m.repaid c p.end p.is in (p.repaid k.0, subst (λ i. repaid_stamp q ≤ i) (sym o.clock) (p.stamp k.1 o.may.later)));
     rests = λ r. absurd (false≢true (sym o.resting ∙ r));
   }
 

@@ -41,23 +41,23 @@ some_stamp : (o : Option ℕ) (y : ℕ) → o ≡ Some y → stamp_or_0 o ≡ y
 some_stamp o y q = ap stamp_or_0 q
 
 module _ (t : Tables) (a : Worker) (m : IsMadeOf t a) (u : ℕ) (mine : owner_in t u ≡ a.number) where
-  at_place : (p : ℕ) → Has (head_at t.net (state_of a.portion.state) u) p
-      → max a.clock (stamp_or_0 (first (stamps_at m.after (into u p t.net.chans)))) ≡ max a.clock (held_stamp (held_by (take_end a (into u p t.net.chans))))
-  at_place p h = by (cases_eq (putter t.net (owner_in t) c) a.number)
+  at_place : (p : ℕ) → Has (head_at t.net.now (state_of a.portion.state) u) p
+      → max a.clock (stamp_or_0 (first (stamps_at m.after (into u p t.net.now.chans)))) ≡ max a.clock (held_stamp (held_by (take_end a (into u p t.net.now.chans))))
+  at_place p h = by (cases_eq (putter t.net.now (owner_in t) c) a.number)
     where
       c : ℕ
-      c = into u p t.net.chans
+      c = into u p t.net.now.chans
 
-      within : c < length t.net.chans
+      within : c < length t.net.now.chans
       within = let k = first_within (state_of a.portion.state).tokens c h.0 h.1 in omega (arith, m.of.long)
 
-      to : taker t.net (owner_in t) c ≡ a.number
-      to = ap (owner_in t) (is_at-inv (chan_at t.net c).to u p (into-at u p t.net.chans within)).0 ∙ mine
+      to : taker t.net.now (owner_in t) c ≡ a.number
+      to = ap (owner_in t) (is_at-inv (chan_at t.net.now c).to u p (into-at u p t.net.now.chans within)).0 ∙ mine
 
       stamp : (y : ℕ) × (first (stamps_at m.after c) ≡ Some y)
       stamp = stamp_of (tokens_at m.after.state c) (stamps_at m.after c) h.0 (after_paired t a m c) (ap first (m.sees.into c to) ∙ h.1)
 
-      by : (putter t.net (owner_in t) c ≡ a.number) ⊎ (putter t.net (owner_in t) c ≡ a.number → ⊥)
+      by : (putter t.net.now (owner_in t) c ≡ a.number) ⊎ (putter t.net.now (owner_in t) c ≡ a.number → ⊥)
           → max a.clock (stamp_or_0 (first (stamps_at m.after c))) ≡ max a.clock (held_stamp (held_by (take_end a c)))
       by (inl q) =
           let k = inner_most t a m c stamp.0 within (q ∙ sym to) stamp.1 in
@@ -66,8 +66,8 @@ module _ (t : Tables) (a : Worker) (m : IsMadeOf t a) (u : ℕ) (mine : owner_in
           omega arith
       by (inr q) = ap (λ ns. max a.clock (stamp_or_0 (first ns))) (m.held_stamps c (within, to, q)) ∙ ap (max a.clock) (first_stamp (held_by (take_end a c)))
 
-  at_places : (ps : List ℕ) → AllByRecursion (Has (head_at t.net (state_of a.portion.state) u)) ps
-      → max a.clock (greatest t.net m.after u ps) ≡ max a.clock (greatest_in t.net a.takes.items u ps)
+  at_places : (ps : List ℕ) → AllByRecursion (Has (head_at t.net.now (state_of a.portion.state) u)) ps
+      → max a.clock (greatest t.net.now m.after u ps) ≡ max a.clock (greatest_in t.net.now a.takes.items u ps)
   at_places [] h = refl
   at_places (p ∷ ps) h =
       let x = at_place p h.0 in
@@ -91,30 +91,30 @@ module _ (t : Tables) (z a b : Worker) (f : Firing) (m : IsMadeOf t a) (same : S
   given c = handed_by (take_end a c)
 
   given_same : ◌≡◌ {A = ℕ → List Token} (λ c. handed_by (take_end b c)) given
-  given_same = fun_ext (λ c. handed_kept (takes_from t.net f.unit o.effect c) n (take_end a c) (take_end b c) (o.fired.takes c))
+  given_same = fun_ext (λ c. handed_kept (takes_from t.net.now f.unit o.effect c) n (take_end a c) (take_end b c) (o.fired.takes c))
 
-  plays_all : Plays t.net owner j 0 (fed_opening t.net t.inputs given) (z.log.items ++ s.added) m.after
-  plays_all = subst (λ es. Plays t.net owner j 0 (fed_opening t.net t.inputs given) es m.after) s.log m.local.plays
+  plays_all : Plays t.net.now owner j 0 (fed_opening t.net.now t.inputs given) (z.log.items ++ s.added) m.after
+  plays_all = subst (λ es. Plays t.net.now owner j 0 (fed_opening t.net.now t.inputs given) es m.after) s.log m.local.plays
 
-  plays_first : Plays t.net owner j 0 (fed_opening t.net t.inputs given) z.log.items s.from
-  plays_first = subst (λ i. Plays t.net owner i 0 (fed_opening t.net t.inputs given) z.log.items s.from) (sym same.number) s.plays
+  plays_first : Plays t.net.now owner j 0 (fed_opening t.net.now t.inputs given) z.log.items s.from
+  plays_first = subst (λ i. Plays t.net.now owner i 0 (fed_opening t.net.now t.inputs given) z.log.items s.from) (sym same.number) s.plays
 
-  plays_added : Plays t.net owner j (last_stamp 0 z.log.items) s.from s.added m.after
-  plays_added = plays_rest t.net owner j 0 (fed_opening t.net t.inputs given) z.log.items s.added s.from m.after plays_all plays_first
+  plays_added : Plays t.net.now owner j (last_stamp 0 z.log.items) s.from s.added m.after
+  plays_added = plays_rest t.net.now owner j 0 (fed_opening t.net.now t.inputs given) z.log.items s.added s.from m.after plays_all plays_first
 
   clock_is : a.clock ≡ last_stamp z.clock s.added
   clock_is = m.clock ∙ (ap (last_stamp 0) s.log ∙ (last_more 0 z.log.items s.added ∙ ap (λ k. last_stamp k s.added) (sym clock)))
 
-  may : (effect t.net m.after.state f ≡ Some o.effect) × Rattle.net_worker.specs.Plays.MayIn t.net owner j n m.after f
+  may : (effect t.net.now m.after.state f ≡ Some o.effect) × Rattle.net_worker.specs.Plays.MayIn t.net.now owner j n m.after f
   may = worker_may t a m f o.effect n o.fired.may
 
-  greatest_is : max a.clock (greatest t.net m.after f.unit (used t.net m.after.state f)) ≡ max a.clock (greatest_in t.net a.takes.items f.unit (used t.net (state_of a.portion.state) f))
+  greatest_is : max a.clock (greatest t.net.now m.after f.unit (used t.net.now m.after.state f)) ≡ max a.clock (greatest_in t.net.now a.takes.items f.unit (used t.net.now (state_of a.portion.state) f))
   greatest_is =
-      ap (λ ps. max a.clock (greatest t.net m.after f.unit ps)) (uses_same t a m f o.effect n o.fired.may)
-      ∙ at_places t a m f.unit o.fired.may.mine (used t.net (state_of a.portion.state) f)
-      (used_there (row (kind_of t.net f.unit) f.act (get_or (state_of a.portion.state).own f.unit idle) (at_array (state_of a.portion.state).arrays (uses (kind_of t.net f.unit))) (setting t.net (state_of a.portion.state))) (head_at t.net (state_of a.portion.state) f.unit) o.effect o.fired.may.does)
+      ap (λ ps. max a.clock (greatest t.net.now m.after f.unit ps)) (uses_same t a m f o.effect n o.fired.may)
+      ∙ at_places t a m f.unit o.fired.may.mine (used t.net.now (state_of a.portion.state) f)
+      (used_there (row (kind_of t.net.now f.unit) f.act (get_or (state_of a.portion.state).own f.unit idle) (at_array (state_of a.portion.state).arrays (uses (kind_of t.net.now f.unit))) (setting t.net.now (state_of a.portion.state))) (head_at t.net.now (state_of a.portion.state) f.unit) o.effect o.fired.may.does)
 
-  stamp_is : n ≡ suc (max (last_stamp z.clock s.added) (max (greatest t.net m.after f.unit (used t.net m.after.state f)) o.told))
+  stamp_is : n ≡ suc (max (last_stamp z.clock s.added) (max (greatest t.net.now m.after f.unit (used t.net.now m.after.state f)) o.told))
   stamp_is = omega (arith, o.exact, greatest_is, clock_is)
 
   swept_then : SweptExactly t z b
@@ -122,7 +122,7 @@ module _ (t : Tables) (z a b : Worker) (f : Firing) (m : IsMadeOf t a) (same : S
     added = s.added ++ entry ∷ [];
     log = o.fired.items ∙ (ap (λ es. es ++ entry ∷ []) s.log ∙ append_assoc z.log.items s.added (entry ∷ []));
     from = s.from;
-    plays = subst (λ g. Plays t.net owner z.number 0 (fed_opening t.net t.inputs g) z.log.items s.from) (sym given_same) s.plays;
+    plays = subst (λ g. Plays t.net.now owner z.number 0 (fed_opening t.net.now t.inputs g) z.log.items s.from) (sym given_same) s.plays;
     exact = exact_snoc t z b j z.clock (last_stamp 0 z.log.items) s.from s.added m.after entry o.effect o.told plays_added
         (exact_on t z a b z.clock s.from s.added (fired_same t a b f o.effect n o.fired) s.exact) may.0
         (told_since t z a b f.unit o.effect.put o.told same o.by) stamp_is;

@@ -240,8 +240,8 @@ fired_same t a b f x n h = record {
   share = h.share;
   closed = h.closed;
   log = (_, sym h.items);
-  puts = λ c. put_step_same n (Rattle.net_core.specs.Fire.puts_on t.net f.unit x.put c) (put_end a c) (put_end b c) (h.puts c);
-  takes = λ c. take_step_same (Rattle.net_core.specs.Fire.takes_from t.net f.unit x c) n (take_end a c) (take_end b c) (h.takes c);
+  puts = λ c. put_step_same n (Rattle.net_core.specs.Fire.puts_on t.net.now f.unit x.put c) (put_end a c) (put_end b c) (h.puts c);
+  takes = λ c. take_step_same (Rattle.net_core.specs.Fire.takes_from t.net.now f.unit x c) n (take_end a c) (take_end b c) (h.takes c);
 }
 
 -- ---- whole workers stay whole

@@ -109,9 +109,9 @@ no_slot_end (Some p) None k = absurd k
 no_slot_end (Some p) (Some q) k = refl
 
 pub into_or : (t : Tables) (j c : ℕ) → IsInto t j c ⊎ (IsInto t j c → ⊥)
-into_or t j c = by (cases_lt c (length t.net.chans)) (cases_eq (taker t.net (owner_in t) c) j) (cases_eq (putter t.net (owner_in t) c) j)
+into_or t j c = by (cases_lt c (length t.net.now.chans)) (cases_eq (taker t.net.now (owner_in t) c) j) (cases_eq (putter t.net.now (owner_in t) c) j)
   where
-    by : (c < length t.net.chans) ⊎ (length t.net.chans ≤ c) → (taker t.net (owner_in t) c ≡ j) ⊎ (taker t.net (owner_in t) c ≡ j → ⊥) → (putter t.net (owner_in t) c ≡ j) ⊎ (putter t.net (owner_in t) c ≡ j → ⊥)
+    by : (c < length t.net.now.chans) ⊎ (length t.net.now.chans ≤ c) → (taker t.net.now (owner_in t) c ≡ j) ⊎ (taker t.net.now (owner_in t) c ≡ j → ⊥) → (putter t.net.now (owner_in t) c ≡ j) ⊎ (putter t.net.now (owner_in t) c ≡ j → ⊥)
         → IsInto t j c ⊎ (IsInto t j c → ⊥)
     by (inr l) q r = inr (λ i. absurd (omega (arith, i.0)))
     by (inl l) (inr n) r = inr (λ i. n i.1)
@@ -133,17 +133,17 @@ none_b b c None (Some q) e is k = absurd k
 none_b b c (Some p) (Some q) e is k = cc
 
 -- the worker looked at all channels from others, and each enabled firing was held back
-module _ (t : Tables) (a b : Worker) (checked : IsChecked t.net) (whole : IsWhole t a) (now : IsMadeOf t b) (looked : IsLooked a b) (seen : (c : ℕ) → IsInto t a.number c → IsSeen c a b)
-    (barred : (f : Firing) → owner_in t f.unit ≡ a.number → enabled t.net (state_of b.portion.state) f → (x : Effect) → effect t.net (state_of b.portion.state) f ≡ Some x → IsHeldBack t a b f) where
+module _ (t : Tables) (a b : Worker) (checked : IsChecked t.net.now) (whole : IsWhole t a) (now : IsMadeOf t b) (looked : IsLooked a b) (seen : (c : ℕ) → IsInto t a.number c → IsSeen c a b)
+    (barred : (f : Firing) → owner_in t f.unit ≡ a.number → enabled t.net.now (state_of b.portion.state) f → (x : Effect) → effect t.net.now (state_of b.portion.state) f ≡ Some x → IsHeldBack t a b f) where
   abbrev s : State
   s = state_of b.portion.state
 
   whole_b : IsWhole t b
   whole_b = same_whole t a b (looked_same a b looked) whole
 
-  no_token : (f : Firing) → owner_in t f.unit ≡ a.number → (p : ℕ) → head_at t.net s f.unit p ≡ None → IsInto t a.number (into f.unit p t.net.chans) → NoTokenAt (take_end a (into f.unit p t.net.chans)) (take_end b (into f.unit p t.net.chans))
+  no_token : (f : Firing) → owner_in t f.unit ≡ a.number → (p : ℕ) → head_at t.net.now s f.unit p ≡ None → IsInto t a.number (into f.unit p t.net.now.chans) → NoTokenAt (take_end a (into f.unit p t.net.now.chans)) (take_end b (into f.unit p t.net.now.chans))
   no_token f mine p h i =
-      let c = into f.unit p t.net.chans in
+      let c = into f.unit p t.net.now.chans in
       let ib = subst (λ k. IsInto t k c) (sym looked.number) i in
       let q : first (values (held_by (take_end b c))) ≡ None = ap first (sym (now.held c ib) ∙ now.sees.into c ib.1) ∙ h in
       seen c i (none_held (take_end b c) q)
@@ -152,45 +152,45 @@ module _ (t : Tables) (a b : Worker) (checked : IsChecked t.net) (whole : IsWhol
     abbrev Cause : Type 0
     Cause = IsHeldBack t a b f
 
-    of_enabled : (x : Effect) → effect t.net s f ≡ Some x → has_room t.net s f.unit x.put → Cause
-    of_enabled x does room = barred f mine (subst (λ o. IsSomeAnd o (λ y. has_room t.net s f.unit y.put)) (sym does) room) x does
+    of_enabled : (x : Effect) → effect t.net.now s f ≡ Some x → has_room t.net.now s f.unit x.put → Cause
+    of_enabled x does room = barred f mine (subst (λ o. IsSomeAnd o (λ y. has_room t.net.now s f.unit y.put)) (sym does) room) x does
 
-    of_effect : (x : Effect) → effect t.net s f ≡ Some x → (o : Option Put) → x.put ≡ o → Cause
-    of_effect x does None is = of_enabled x does (subst (has_room t.net s f.unit) (sym is) tt)
+    of_effect : (x : Effect) → effect t.net.now s f ≡ Some x → (o : Option Put) → x.put ≡ o → Cause
+    of_effect x does None is = of_enabled x does (subst (has_room t.net.now s f.unit) (sym is) tt)
     of_effect x does (Some w) is = by (put_end b c) refl
       where
         c : ℕ
-        c = out_of f.unit w.place t.net.chans
+        c = out_of f.unit w.place t.net.now.chans
 
-        room : (o : Option PutEnd) → put_end b c ≡ o → Rattle.net_worker.specs.Offers.RoomAt t.net s c o → Cause
-        room o e r = of_enabled x does (room_held t b now checked f.unit (mine ∙ sym looked.number) x.put (subst (λ p. Rattle.net_worker.specs.Offers.RoomFor t.net s f.unit p b.puts.items) (sym is) (subst (Rattle.net_worker.specs.Offers.RoomAt t.net s c) (sym e) r)))
+        room : (o : Option PutEnd) → put_end b c ≡ o → Rattle.net_worker.specs.Offers.RoomAt t.net.now s c o → Cause
+        room o e r = of_enabled x does (room_held t b now checked f.unit (mine ∙ sym looked.number) x.put (subst (λ p. Rattle.net_worker.specs.Offers.RoomFor t.net.now s f.unit p b.puts.items) (sym is) (subst (Rattle.net_worker.specs.Offers.RoomAt t.net.now s c) (sym e) r)))
 
         by : (o : Option PutEnd) → put_end b c ≡ o → Cause
         by (Some p) e = room (Some p) e tt
         by None e =
-            elim (cases_lt (length (tokens_at s c)) (chan_at t.net c).slots) [
+            elim (cases_lt (length (tokens_at s c)) (chan_at t.net.now c).slots) [
               | inl l ↦ room None e l
               | inr l ↦ cause.inner_output x w does is (not_out t a b looked.number whole_b c e) l
             ]
 
-    of_waits : effect t.net s f ≡ None → (o : Option ℕ) → waits t.net s f ≡ o → Cause
+    of_waits : effect t.net.now s f ≡ None → (o : Option ℕ) → waits t.net.now s f ≡ o → Cause
     of_waits none None is = cause.stops none is
     of_waits none (Some p) is =
-        let h = waits_none (row (kind_of t.net f.unit) f.act (get_or s.own f.unit idle) (at_array s.arrays (uses (kind_of t.net f.unit))) (setting t.net s)) (head_at t.net s f.unit) p is in
-        elim (into_or t a.number (into f.unit p t.net.chans)) [
+        let h = waits_none (row (kind_of t.net.now f.unit) f.act (get_or s.own f.unit idle) (at_array s.arrays (uses (kind_of t.net.now f.unit))) (setting t.net.now s)) (head_at t.net.now s f.unit) p is in
+        elim (into_or t a.number (into f.unit p t.net.now.chans)) [
           | inl i ↦ cause.no_token p is i (no_token f mine p h i)
           | inr i ↦ cause.inner_input p is i
         ]
 
-    held_back : (o : Option Effect) → effect t.net s f ≡ o → Cause
-    held_back None is = of_waits is (waits t.net s f) refl
+    held_back : (o : Option Effect) → effect t.net.now s f ≡ o → Cause
+    held_back None is = of_waits is (waits t.net.now s f) refl
     held_back (Some x) is = of_effect x is x.put refl
 
   all_barred : AllHeldBack t a b
-  all_barred f mine = held_back f mine (effect t.net (state_of b.portion.state) f) refl
+  all_barred f mine = held_back f mine (effect t.net.now (state_of b.portion.state) f) refl
 
 -- each enabled firing was tried and refused
-module _ (t : Tables) (a n b : Worker) (checked : IsChecked t.net) (whole : IsWhole t a) (now : IsMadeOf t b) (looked : IsLooked a n) (seen : (c : ℕ) → IsInto t a.number c → IsSeen c a n) (all : IsAllHeld t n b) where
+module _ (t : Tables) (a n b : Worker) (checked : IsChecked t.net.now) (whole : IsWhole t a) (now : IsMadeOf t b) (looked : IsLooked a n) (seen : (c : ℕ) → IsInto t a.number c → IsSeen c a n) (all : IsAllHeld t n b) where
   looked_b : IsLooked a b
   looked_b = looked_trans a n b looked (asked_looked n b all.asked)
 
@@ -200,44 +200,44 @@ module _ (t : Tables) (a n b : Worker) (checked : IsChecked t.net) (whole : IsWh
   state_n : state_of n.portion.state ≡ state_of b.portion.state
   state_n = ap (λ p. state_of p.state) (sym all.asked.portion)
 
-  module _ (f : Firing) (mine : owner_in t f.unit ≡ a.number) (x : Effect) (does : effect t.net (state_of b.portion.state) f ≡ Some x) where
-    base_is : base_of t n f ≡ max b.clock (greatest_in t.net b.takes.items f.unit (used t.net (state_of b.portion.state) f))
+  module _ (f : Firing) (mine : owner_in t f.unit ≡ a.number) (x : Effect) (does : effect t.net.now (state_of b.portion.state) f ≡ Some x) where
+    base_is : base_of t n f ≡ max b.clock (greatest_in t.net.now b.takes.items f.unit (used t.net.now (state_of b.portion.state) f))
     base_is =
-        let x = greatest_asked t.net n.takes.items b.takes.items f.unit (used t.net (state_of b.portion.state) f) all.asked.takes in
-        let y : base_of t n f ≡ max n.clock (greatest_in t.net n.takes.items f.unit (used t.net (state_of b.portion.state) f)) = ap (λ k. max n.clock (greatest_in t.net n.takes.items f.unit (used t.net k f))) state_n in
+        let x = greatest_asked t.net.now n.takes.items b.takes.items f.unit (used t.net.now (state_of b.portion.state) f) all.asked.takes in
+        let y : base_of t n f ≡ max n.clock (greatest_in t.net.now n.takes.items f.unit (used t.net.now (state_of b.portion.state) f)) = ap (λ k. max n.clock (greatest_in t.net.now n.takes.items f.unit (used t.net.now k f))) state_n in
         omega (arith, all.asked.clock)
 
-    of_refusal : IsNotOffered t.net (state_of b.portion.state) f.unit x.put (base_of t n f) n.puts.items b.puts.items → IsHeldBack t a b f
+    of_refusal : IsNotOffered t.net.now (state_of b.portion.state) f.unit x.put (base_of t n f) n.puts.items b.puts.items → IsHeldBack t a b f
     of_refusal (refusal.no_room w is e l) =
-        let c = out_of f.unit w.place t.net.chans in
+        let c = out_of f.unit w.place t.net.now.chans in
         cause.inner_output x w does is (not_out t a b looked_b.number whole_n c (none_b b c (put_end n c) (put_end b c) e refl (all.asked.puts.each c))) l
     of_refusal (refusal.no_credit w is k) =
-        let c = out_of f.unit w.place t.net.chans in
+        let c = out_of f.unit w.place t.net.now.chans in
         cause.no_credit x w does is (is_out t a b looked_b.number now c (put_end b c) refl (no_credit_end (put_end n c) (put_end b c) k)) (no_credit_since (put_end a c) (put_end n c) (put_end b c) (looked.puts.each c) k)
     of_refusal (refusal.no_slot w is k) =
-        let c = out_of f.unit w.place t.net.chans in
+        let c = out_of f.unit w.place t.net.now.chans in
         cause.no_slot x w does is (is_out t a b looked_b.number now c (put_end b c) refl (no_slot_end (put_end n c) (put_end b c) k)) (no_slot_since (put_end a c) (put_end n c) (put_end b c) (looked.puts.each c) k)
     of_refusal (refusal.late r told l) =
-        cause.late x r does (told_for_since t.net f.unit x.put a.puts.items n.puts.items b.puts.items r looked.puts told) (omega (arith, base_is))
+        cause.late x r does (told_for_since t.net.now f.unit x.put a.puts.items n.puts.items b.puts.items r looked.puts told) (omega (arith, base_is))
 
-    refused : enabled t.net (state_of b.portion.state) f → IsHeldBack t a b f
+    refused : enabled t.net.now (state_of b.portion.state) f → IsHeldBack t a b f
     refused e =
-        let r = all.refused f (mine ∙ sym looked.number) (subst (λ k. enabled t.net k f) (sym state_n) e) x (ap (λ k. effect t.net k f) state_n ∙ does) in
-        of_refusal (subst (λ k. IsNotOffered t.net k f.unit x.put (base_of t n f) n.puts.items b.puts.items) state_n r)
+        let r = all.refused f (mine ∙ sym looked.number) (subst (λ k. enabled t.net.now k f) (sym state_n) e) x (ap (λ k. effect t.net.now k f) state_n ∙ does) in
+        of_refusal (subst (λ k. IsNotOffered t.net.now k f.unit x.put (base_of t n f) n.puts.items b.puts.items) state_n r)
 
   pub all_held_back : AllHeldBack t a b
   all_held_back = all_barred t a b checked whole now looked_b (λ c i. seen_later c a n b (seen c i) (asked_looked n b all.asked)) (λ f mine e x does. refused f mine x does e)
 
 -- each enabled firing waits for a credit that was denied
-pub rested_held_back : (t : Tables) (a b : Worker) → IsChecked t.net → IsWhole t a → IsMadeOf t b → IsLookedAll t a b → b.resting ≡ true → AllHeldBack t a b
+pub rested_held_back : (t : Tables) (a b : Worker) → IsChecked t.net.now → IsWhole t a → IsMadeOf t b → IsLookedAll t a b → b.resting ≡ true → AllHeldBack t a b
 rested_held_back t a b checked whole now l rests = all_barred t a b checked whole now l.looked l.seen (λ f mine e x does. by f x does x.put refl (now.rests rests f (mine ∙ sym l.looked.number) e x does))
   where
-    by : (f : Firing) (x : Effect) → effect t.net (state_of b.portion.state) f ≡ Some x → (o : Option Put) → x.put ≡ o → PutWaits t b f.unit x.put → IsHeldBack t a b f
+    by : (f : Firing) (x : Effect) → effect t.net.now (state_of b.portion.state) f ≡ Some x → (o : Option Put) → x.put ≡ o → PutWaits t b f.unit x.put → IsHeldBack t a b f
     by f x does None is h = absurd (subst (PutWaits t b f.unit) is h)
     by f x does (Some w) is h =
         let k = subst (PutWaits t b f.unit) is h in
-        let out = subst (λ i. IsOutOf t i (out_of f.unit w.place t.net.chans)) l.looked.number k.0 in
-        cause.no_credit x w does is out (l.denied rests (out_of f.unit w.place t.net.chans) out k.1)
+        let out = subst (λ i. IsOutOf t i (out_of f.unit w.place t.net.now.chans)) l.looked.number k.0 in
+        cause.no_credit x w does is out (l.denied rests (out_of f.unit w.place t.net.now.chans) out k.1)
 
 -- what held a worker back holds one back that is the same but for its notes
 pub record IsSameStill (b c : Worker) : Type 0 where
@@ -247,29 +247,29 @@ pub record IsSameStill (b c : Worker) : Type 0 where
   pub takes : c.takes ≡ b.takes
 
 module _ (t : Tables) (a b c : Worker) (f : Firing) (h : IsSameStill b c) where
-  does_still : (o : Option Effect) → effect t.net (state_of b.portion.state) f ≡ o → effect t.net (state_of c.portion.state) f ≡ o
-  does_still o x = subst (λ s. effect t.net (state_of s.state) f ≡ o) (sym h.portion) x
+  does_still : (o : Option Effect) → effect t.net.now (state_of b.portion.state) f ≡ o → effect t.net.now (state_of c.portion.state) f ≡ o
+  does_still o x = subst (λ s. effect t.net.now (state_of s.state) f ≡ o) (sym h.portion) x
 
-  waits_still : (o : Option ℕ) → waits t.net (state_of b.portion.state) f ≡ o → waits t.net (state_of c.portion.state) f ≡ o
-  waits_still o x = subst (λ s. waits t.net (state_of s.state) f ≡ o) (sym h.portion) x
+  waits_still : (o : Option ℕ) → waits t.net.now (state_of b.portion.state) f ≡ o → waits t.net.now (state_of c.portion.state) f ≡ o
+  waits_still o x = subst (λ s. waits t.net.now (state_of s.state) f ≡ o) (sym h.portion) x
 
   still_held_back : IsHeldBack t a b f → IsHeldBack t a c f
   still_held_back (cause.stops x y) = cause.stops (does_still None x) (waits_still None y)
   still_held_back (cause.inner_input p x y) = cause.inner_input p (waits_still (Some p) x) y
   still_held_back (cause.inner_output x w y z k l) =
       cause.inner_output x w (does_still (Some x) y) z k
-      (subst (λ s. (chan_at t.net (out_of f.unit w.place t.net.chans)).slots ≤ length (tokens_at (state_of s.state) (out_of f.unit w.place t.net.chans))) (sym h.portion) l)
+      (subst (λ s. (chan_at t.net.now (out_of f.unit w.place t.net.now.chans)).slots ≤ length (tokens_at (state_of s.state) (out_of f.unit w.place t.net.now.chans))) (sym h.portion) l)
   still_held_back (cause.no_token p x y z) =
-      cause.no_token p (waits_still (Some p) x) y (subst (λ v. NoTokenAt (take_end a (into f.unit p t.net.chans)) (get_or v.items (into f.unit p t.net.chans) None)) (sym h.takes) z)
+      cause.no_token p (waits_still (Some p) x) y (subst (λ v. NoTokenAt (take_end a (into f.unit p t.net.now.chans)) (get_or v.items (into f.unit p t.net.now.chans) None)) (sym h.takes) z)
   still_held_back (cause.no_credit x w y z k l) =
-      cause.no_credit x w (does_still (Some x) y) z k (subst (λ v. NoCreditAt (put_end a (out_of f.unit w.place t.net.chans)) (get_or v.items (out_of f.unit w.place t.net.chans) None)) (sym h.puts) l)
+      cause.no_credit x w (does_still (Some x) y) z k (subst (λ v. NoCreditAt (put_end a (out_of f.unit w.place t.net.now.chans)) (get_or v.items (out_of f.unit w.place t.net.now.chans) None)) (sym h.puts) l)
   still_held_back (cause.no_slot x w y z k l) =
-      cause.no_slot x w (does_still (Some x) y) z k (subst (λ v. NoSlotAt (put_end a (out_of f.unit w.place t.net.chans)) (get_or v.items (out_of f.unit w.place t.net.chans) None)) (sym h.puts) l)
+      cause.no_slot x w (does_still (Some x) y) z k (subst (λ v. NoSlotAt (put_end a (out_of f.unit w.place t.net.now.chans)) (get_or v.items (out_of f.unit w.place t.net.now.chans) None)) (sym h.puts) l)
   still_held_back (cause.late x r y z l) =
-      cause.late x r (does_still (Some x) y) (subst (λ v. ToldFor t.net f.unit x.put a.puts.items v.items r) (sym h.puts) z)
-      (subst (λ s. 2 ^ 62 ≤ suc (max c.clock (max (greatest_in t.net c.takes.items f.unit (used t.net (state_of s.state) f)) r))) (sym h.portion)
-      (subst (λ v. 2 ^ 62 ≤ suc (max c.clock (max (greatest_in t.net v.items f.unit (used t.net (state_of b.portion.state) f)) r))) (sym h.takes)
-      (subst (λ n. 2 ^ 62 ≤ suc (max n (max (greatest_in t.net b.takes.items f.unit (used t.net (state_of b.portion.state) f)) r))) (sym h.clock) l)))
+      cause.late x r (does_still (Some x) y) (subst (λ v. ToldFor t.net.now f.unit x.put a.puts.items v.items r) (sym h.puts) z)
+      (subst (λ s. 2 ^ 62 ≤ suc (max c.clock (max (greatest_in t.net.now c.takes.items f.unit (used t.net.now (state_of s.state) f)) r))) (sym h.portion)
+      (subst (λ v. 2 ^ 62 ≤ suc (max c.clock (max (greatest_in t.net.now v.items f.unit (used t.net.now (state_of b.portion.state) f)) r))) (sym h.takes)
+      (subst (λ n. 2 ^ 62 ≤ suc (max n (max (greatest_in t.net.now b.takes.items f.unit (used t.net.now (state_of b.portion.state) f)) r))) (sym h.clock) l)))
 
 pub all_still_held : (t : Tables) (a b c : Worker) → IsSameStill b c → AllHeldBack t a b → AllHeldBack t a c
 all_still_held t a b c h k f mine = still_held_back t a b c f h (k f mine)
@@ -342,14 +342,14 @@ not_offered_since net s u put above zs os qs h (refusal.no_slot w is k) = refusa
 not_offered_since net s u put above zs os qs h (refusal.late r told l) = refusal.late r (told_for_since net u put zs os qs r (puts_asked_looked zs os h) told) l
 
 pub refused_on : (t : Tables) (a b c : Worker) (f : Firing) → IsAsked a b → IsAsked b c → IsRefused t a b f → IsRefused t a c f
-refused_on t a b c f before h r x q = not_offered_on t.net (state_of a.portion.state) f.unit x.put (base_of t a f) a.puts.items b.puts.items c.puts.items before.puts h.puts (r x q)
+refused_on t a b c f before h r x q = not_offered_on t.net.now (state_of a.portion.state) f.unit x.put (base_of t a f) a.puts.items b.puts.items c.puts.items before.puts h.puts (r x q)
 
 pub refused_since : (t : Tables) (a b c : Worker) (f : Firing) → IsAsked a b → IsRefused t b c f → IsRefused t a c f
 refused_since t a b c f h r x q =
-    let g = greatest_asked t.net a.takes.items b.takes.items f.unit (used t.net (state_of a.portion.state) f) h.takes in
+    let g = greatest_asked t.net.now a.takes.items b.takes.items f.unit (used t.net.now (state_of a.portion.state) f) h.takes in
     let s : state_of b.portion.state ≡ state_of a.portion.state = ap (λ p. state_of p.state) h.portion in
-    let k : base_of t b f ≡ max b.clock (greatest_in t.net b.takes.items f.unit (used t.net (state_of a.portion.state) f)) = ap (λ y. max b.clock (greatest_in t.net b.takes.items f.unit (used t.net y f))) s in
+    let k : base_of t b f ≡ max b.clock (greatest_in t.net.now b.takes.items f.unit (used t.net.now (state_of a.portion.state) f)) = ap (λ y. max b.clock (greatest_in t.net.now b.takes.items f.unit (used t.net.now y f))) s in
     let e : base_of t b f ≡ base_of t a f = omega (arith, h.clock) in
-    let old = r x (ap (λ y. effect t.net y f) s ∙ q) in
-    not_offered_since t.net (state_of a.portion.state) f.unit x.put (base_of t a f) a.puts.items b.puts.items c.puts.items h.puts
-    (subst (λ y. IsNotOffered t.net y f.unit x.put (base_of t a f) b.puts.items c.puts.items) s (subst (λ y. IsNotOffered t.net (state_of b.portion.state) f.unit x.put y b.puts.items c.puts.items) e old))
+    let old = r x (ap (λ y. effect t.net.now y f) s ∙ q) in
+    not_offered_since t.net.now (state_of a.portion.state) f.unit x.put (base_of t a f) a.puts.items b.puts.items c.puts.items h.puts
+    (subst (λ y. IsNotOffered t.net.now y f.unit x.put (base_of t a f) b.puts.items c.puts.items) s (subst (λ y. IsNotOffered t.net.now (state_of b.portion.state) f.unit x.put y b.puts.items c.puts.items) e old))

@@ -52,34 +52,34 @@ numbers_ascend f (suc n) =
     subst (λ k. AreChannels k (numbers_where f (suc n))) (add-one n)
     (channels_if n (numbers_where f n) (numbers_where f (suc n)) (f n) (numbers_if (numbers_where f n) n (f n)) (numbers_ascend f n))
 
-pub units_ascend : (t : Tables) (j : ℕ) → AreChannels (length t.net.units) (units_of t.owners j)
+pub units_ascend : (t : Tables) (j : ℕ) → AreChannels (length t.net.now.units) (units_of t.owners j)
 units_ascend t j = subst (λ n. AreChannels n (units_of t.owners j)) t.owned (numbers_ascend (owns_unit t.owners j) (length t.owners))
 
-pub chans_ascend : (t : Tables) (j : ℕ) → AreChannels (length t.net.chans) (chans_of t.net t.owners j)
-chans_ascend t j = numbers_ascend (has_end t.net t.owners j) (length t.net.chans)
+pub chans_ascend : (t : Tables) (j : ℕ) → AreChannels (length t.net.now.chans) (chans_of t.net.now t.owners j)
+chans_ascend t j = numbers_ascend (has_end t.net.now t.owners j) (length t.net.now.chans)
 
 -- the units of the worker j, and the channels at them, are its own
-pub own_opened : (t : Tables) (j : ℕ) (p : PortionView) → p.units ≡ units_of t.owners j → p.chans ≡ chans_of t.net t.owners j → p.places ≡ t.places.value → HoldsOwn t j p
+pub own_opened : (t : Tables) (j : ℕ) (p : PortionView) → p.units ≡ units_of t.owners j → p.chans ≡ chans_of t.net.now t.owners j → p.places ≡ t.places.value → HoldsOwn t j p
 own_opened t j p us cs ps = record {
   unit = λ u l e. subst (λ q. UnitIn q p.units u) (sym ps) (subst (λ x. UnitIn t.places.value x u) (sym us)
       (omega (arith, t.stand.units_long, t.owned), subst (λ k. StandsAt (units_of t.owners k) u (get_or t.places.value.units.items u 0)) e (t.stand.unit u (omega (arith, t.owned)))));
   out = λ c l e. subst (λ q. OutIn q p.chans c) (sym ps) (subst (λ x. OutIn t.places.value x c) (sym cs)
-      (omega (arith, t.stand.outs_long), subst (λ k. StandsAt (chans_of t.net t.owners k) c (get_or t.places.value.outs.items c 0)) e (t.stand.out c l)));
+      (omega (arith, t.stand.outs_long), subst (λ k. StandsAt (chans_of t.net.now t.owners k) c (get_or t.places.value.outs.items c 0)) e (t.stand.out c l)));
   into = λ c l e. subst (λ q. InIn q p.chans c) (sym ps) (subst (λ x. InIn t.places.value x c) (sym cs)
-      (omega (arith, t.stand.ins_long), subst (λ k. StandsAt (chans_of t.net t.owners k) c (get_or t.places.value.ins.items c 0)) e (t.stand.into c l)));
+      (omega (arith, t.stand.ins_long), subst (λ k. StandsAt (chans_of t.net.now t.owners k) c (get_or t.places.value.ins.items c 0)) e (t.stand.into c l)));
 }
 
-pub own_pins : (t : Tables) (j : ℕ) (p : PortionView) (u : ℕ) → HoldsOwn t j p → owner_in t u ≡ j → u < length t.net.units → HasPins t.net p u
+pub own_pins : (t : Tables) (j : ℕ) (p : PortionView) (u : ℕ) → HoldsOwn t j p → owner_in t u ≡ j → u < length t.net.now.units → HasPins t.net.now p u
 own_pins t j p u h e l = record {
   unit = h.unit u l e;
   outs = λ c k q. h.out c k (ap (owner_in t) q ∙ e);
   ins = λ c k q. h.into c k (ap (owner_in t) q ∙ e);
 }
 
-pub made_pins : (t : Tables) (w : Worker) (u : ℕ) → IsMadeOf t w → owner_in t u ≡ w.number → u < length t.net.units → HasPins t.net w.portion u
+pub made_pins : (t : Tables) (w : Worker) (u : ℕ) → IsMadeOf t w → owner_in t u ≡ w.number → u < length t.net.now.units → HasPins t.net.now w.portion u
 made_pins t w u m e l = own_pins t w.number w.portion u m.own e l
 
-pub unit_pins : (t : Tables) (w : Worker) (u : ℕ) → HasUnit t w u → HasPins t.net w.portion u
+pub unit_pins : (t : Tables) (w : Worker) (u : ℕ) → HasUnit t w u → HasPins t.net.now w.portion u
 unit_pins t w u h = made_pins t w u h.made h.mine h.within
 
 pub made_holds : MadeHolds

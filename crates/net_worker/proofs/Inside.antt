@@ -55,35 +55,35 @@ pub handed_inside : (net : Net) (u : ℕ) (put : Option Put) (ps : List (Option 
 handed_inside net u None ps s h = refl
 handed_inside net u (Some w) ps s h = subst (λ o. Rattle.net_worker.specs.Firings.OutAt (out_of u w.place net.chans) o s s) (sym h) refl
 
-module _ (t : Tables) (a : Worker) (m : IsMadeOf t a) (u : ℕ) (inner : IsInnerUnit t.net (owner_in t) u) where
-  no_take : (p : ℕ) → take_end a (into u p t.net.chans) ≡ None
-  no_take p = by (take_end a (into u p t.net.chans)) refl
+module _ (t : Tables) (a : Worker) (m : IsMadeOf t a) (u : ℕ) (inner : IsInnerUnit t.net.now (owner_in t) u) where
+  no_take : (p : ℕ) → take_end a (into u p t.net.now.chans) ≡ None
+  no_take p = by (take_end a (into u p t.net.now.chans)) refl
     where
-      by : (o : Option TakeEnd) → take_end a (into u p t.net.chans) ≡ o → o ≡ None
+      by : (o : Option TakeEnd) → take_end a (into u p t.net.now.chans) ≡ o → o ≡ None
       by None is = refl
       by (Some e) is =
-          let i = (m.takes_in (into u p t.net.chans) e is).0 in
-          let at = (is_at-inv (chan_at t.net (into u p t.net.chans)).to u p (into-at u p t.net.chans i.0)).0 in
-          absurd (i.2 (inner (into u p t.net.chans) i.0 (inr at) ∙ i.1))
+          let i = (m.takes_in (into u p t.net.now.chans) e is).0 in
+          let at = (is_at-inv (chan_at t.net.now (into u p t.net.now.chans)).to u p (into-at u p t.net.now.chans i.0)).0 in
+          absurd (i.2 (inner (into u p t.net.now.chans) i.0 (inr at) ∙ i.1))
 
-  pub no_put : (put : Option Put) → HasNoEnd t.net u put a.puts.items
+  pub no_put : (put : Option Put) → HasNoEnd t.net.now u put a.puts.items
   no_put None = tt
-  no_put (Some w) = by (put_end a (out_of u w.place t.net.chans)) refl
+  no_put (Some w) = by (put_end a (out_of u w.place t.net.now.chans)) refl
     where
-      by : (o : Option PutEnd) → put_end a (out_of u w.place t.net.chans) ≡ o → o ≡ None
+      by : (o : Option PutEnd) → put_end a (out_of u w.place t.net.now.chans) ≡ o → o ≡ None
       by None is = refl
       by (Some p) is =
-          let i = (m.puts_out (out_of u w.place t.net.chans) p is).0 in
-          let at = (is_at-inv (chan_at t.net (out_of u w.place t.net.chans)).from u w.place (out_of-at u w.place t.net.chans i.0)).0 in
-          absurd (i.2 (sym (inner (out_of u w.place t.net.chans) i.0 (inl at)) ∙ i.1))
+          let i = (m.puts_out (out_of u w.place t.net.now.chans) p is).0 in
+          let at = (is_at-inv (chan_at t.net.now (out_of u w.place t.net.now.chans)).from u w.place (out_of-at u w.place t.net.now.chans i.0)).0 in
+          absurd (i.2 (sym (inner (out_of u w.place t.net.now.chans) i.0 (inl at)) ∙ i.1))
 
-  pub taken_inside : (n : ℕ) (ps : List ℕ) → AreTaken t.net u n ps a.takes.items a.takes.items
-  taken_inside n ps = record { long = refl; each = none_taken t.net u n a.takes.items ps no_take }
+  pub taken_inside : (n : ℕ) (ps : List ℕ) → AreTaken t.net.now u n ps a.takes.items a.takes.items
+  taken_inside n ps = record { long = refl; each = none_taken t.net.now u n a.takes.items ps no_take }
 
-  greatest_inside : (ps : List ℕ) → greatest_in t.net a.takes.items u ps ≡ 0
+  greatest_inside : (ps : List ℕ) → greatest_in t.net.now a.takes.items u ps ≡ 0
   greatest_inside [] = refl
-  greatest_inside (p ∷ ps) = (let h : Rattle.net_worker.specs.Offers.held_stamp (held_by (take_end a (into u p t.net.chans))) ≡ 0 = ap (λ o. Rattle.net_worker.specs.Offers.held_stamp (held_by o)) (no_take p) in omega (arith, h, greatest_inside ps))
+  greatest_inside (p ∷ ps) = (let h : Rattle.net_worker.specs.Offers.held_stamp (held_by (take_end a (into u p t.net.now.chans))) ≡ 0 = ap (λ o. Rattle.net_worker.specs.Offers.held_stamp (held_by o)) (no_take p) in omega (arith, h, greatest_inside ps))
 
   -- no token from another worker is above the clock
   pub base_inside : (f : Firing) → f.unit ≡ u → base_of t a f ≡ a.clock
-  base_inside f is = (let h = subst (λ v. greatest_in t.net a.takes.items v (used t.net (state_of a.portion.state) f) ≡ 0) (sym is) (greatest_inside (used t.net (state_of a.portion.state) f)) in omega (arith, h))
+  base_inside f is = (let h = subst (λ v. greatest_in t.net.now a.takes.items v (used t.net.now (state_of a.portion.state) f) ≡ 0) (sym is) (greatest_inside (used t.net.now (state_of a.portion.state) f)) in omega (arith, h))

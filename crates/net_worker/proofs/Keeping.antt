@@ -47,25 +47,25 @@ module _ (t : Tables) (a b : Worker) (m : IsMadeOf t a) (k : IsKept t a b) where
   handed_same : ◌≡◌ {A = ℕ → List Token} (λ c. handed_by (take_end b c)) (λ c. handed_by (take_end a c))
   handed_same = fun_ext (λ c. handed_kept false 0 (take_end a c) (take_end b c) (k.takes c))
 
-  local_same : IsLocal t.net t.inputs owner a.number (shown b m.after)
+  local_same : IsLocal t.net.now t.inputs owner a.number (shown b m.after)
   local_same = record {
-    plays = subst (λ h. Plays t.net owner a.number 0 (fed_opening t.net t.inputs h) b.log.items m.after) (sym handed_same) (subst (λ g. Plays t.net owner a.number 0 (fed_opening t.net t.inputs (λ c. handed_by (take_end a c))) g.items m.after) (sym k.log) m.local.plays);
+    plays = subst (λ h. Plays t.net.now owner a.number 0 (fed_opening t.net.now t.inputs h) b.log.items m.after) (sym handed_same) (subst (λ g. Plays t.net.now owner a.number 0 (fed_opening t.net.now t.inputs (λ c. handed_by (take_end a c))) g.items m.after) (sym k.log) m.local.plays);
     from_others = λ c q. ap (λ h. h c) handed_same ∙ m.local.from_others c q;
     to_itself = λ c q. ap (λ h. h c) handed_same ∙ m.local.to_itself c q;
     values_put = λ c l p q. m.local.values_put c l p q ∙ ap values (sym (put_kept (put_end a c) (put_end b c) (k.puts c)));
     stamps_put = λ c l p q. m.local.stamps_put c l p q ∙ ap stamps_of (sym (put_kept (put_end a c) (put_end b c) (k.puts c)));
     had_room = λ c l p q.
-        subst (λ x. HadRoom (chan_at t.net c).slots x (received_by (put_end b c))) (sym (put_kept (put_end a c) (put_end b c) (k.puts c)))
-        (room_later (chan_at t.net c).slots (put_by (put_end a c)) (received_by (put_end a c)) (received_by (put_end b c)) (got_more 0 None (put_end a c) (put_end b c) (k.puts c)) (m.local.had_room c l p q));
+        subst (λ x. HadRoom (chan_at t.net.now c).slots x (received_by (put_end b c))) (sym (put_kept (put_end a c) (put_end b c) (k.puts c)))
+        (room_later (chan_at t.net.now c).slots (put_by (put_end a c)) (received_by (put_end a c)) (received_by (put_end b c)) (got_more 0 None (put_end a c) (put_end b c) (k.puts c)) (m.local.had_room c l p q));
     stand_for = λ c l p q.
-        subst (λ x. StandFor x (take_stamps t.net c (fed_opening t.net t.inputs (shown b m.after).handed) b.log.items)) (sym (repaid_kept 0 (take_end a c) (take_end b c) (k.takes c)))
-        (subst (λ h. StandFor (repaid_by (take_end a c)) (take_stamps t.net c (fed_opening t.net t.inputs h) b.log.items)) (sym handed_same)
-        (subst (λ g. StandFor (repaid_by (take_end a c)) (take_stamps t.net c (fed_opening t.net t.inputs (λ c. handed_by (take_end a c))) g.items)) (sym k.log) (m.local.stand_for c l p q)));
+        subst (λ x. StandFor x (take_stamps t.net.now c (fed_opening t.net.now t.inputs (shown b m.after).handed) b.log.items)) (sym (repaid_kept 0 (take_end a c) (take_end b c) (k.takes c)))
+        (subst (λ h. StandFor (repaid_by (take_end a c)) (take_stamps t.net.now c (fed_opening t.net.now t.inputs h) b.log.items)) (sym handed_same)
+        (subst (λ g. StandFor (repaid_by (take_end a c)) (take_stamps t.net.now c (fed_opening t.net.now t.inputs (λ c. handed_by (take_end a c))) g.items)) (sym k.log) (m.local.stand_for c l p q)));
   }
 
   kept : IsMadeOf t b
   kept = record {
-    of = subst (λ p. IsOf t.net p.state) (sym k.portion) m.of;
+    of = subst (λ p. IsOf t.net.now p.state) (sym k.portion) m.of;
     own = own_on t a.number b.number a.portion b.portion k.number (here_same a.portion b.portion k.portion) m.own;
     counts = subst (λ g. CountsWithin (max_depth * length g.items) (state_of b.portion.state)) (sym k.log) (subst (λ s. CountsWithin (max_depth * length a.log.items) (state_of s.state)) (sym k.portion) m.counts);
     room = ap (λ g. length g.items + g.room) k.log ∙ (m.room ∙ sym k.share);
@@ -73,9 +73,9 @@ module _ (t : Tables) (a b : Worker) (m : IsMadeOf t a) (k : IsKept t a b) where
     ends_too = k.ends_too ∙ m.ends_too;
     clock = k.clock ∙ (m.clock ∙ ap (λ g. last_stamp 0 g.items) (sym k.log));
     after = m.after;
-    local = subst (λ n. IsLocal t.net t.inputs owner n (shown b m.after)) (sym k.number) local_same;
-    sees = subst (λ n. Sees t.net owner n (state_of b.portion.state) m.after.state) (sym k.number) (subst (λ s. Sees t.net owner a.number (state_of s.state) m.after.state) (sym k.portion) m.sees);
-    exit = exit_kept t.net (state_of a.portion.state) (state_of b.portion.state) a.log.items b.log.items (ap (λ s. (state_of s.state).own) k.portion) (ap (λ g. g.items) k.log) m.exit;
+    local = subst (λ n. IsLocal t.net.now t.inputs owner n (shown b m.after)) (sym k.number) local_same;
+    sees = subst (λ n. Sees t.net.now owner n (state_of b.portion.state) m.after.state) (sym k.number) (subst (λ s. Sees t.net.now owner a.number (state_of s.state) m.after.state) (sym k.portion) m.sees);
+    exit = exit_kept t.net.now (state_of a.portion.state) (state_of b.portion.state) a.log.items b.log.items (ap (λ s. (state_of s.state).own) k.portion) (ap (λ g. g.items) k.log) m.exit;
     held = λ c i. m.held c (subst (λ n. IsInto t n c) k.number i) ∙ ap values (sym (held_kept (take_end a c) (take_end b c) (k.takes c)));
     held_stamps = λ c i. m.held_stamps c (subst (λ n. IsInto t n c) k.number i) ∙ ap stamps_of (sym (held_kept (take_end a c) (take_end b c) (k.takes c)));
     puts_out = λ c q is. (let p = put_before 0 None (put_end a c) q (subst (PutStep 0 None (put_end a c)) is (k.puts c)) in let o = m.puts_out c p.end p.is in (subst (λ i. IsOutOf t i c) (sym k.number) o.0, p.slots ∙ o.1));

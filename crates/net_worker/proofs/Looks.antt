@@ -64,7 +64,7 @@ module _ (t : Tables) (a b : Worker) (c : ℕ) (e e' : TakeEnd) (x : Token) (m :
       let old : handed_by (take_end a c) ≡ tokens_taken e ++ [] = ap handed_by l.old ∙ ap (λ o. tokens_taken e ++ tokens_of o) l.none in
       ap handed_by end_here ∙ (ap (λ o. tokens_taken e' ++ tokens_of o) l.held ∙ (ap (λ ts. ts ++ x ∷ []) (l.taken ∙ sym (append-nil (tokens_taken e))) ∙ ap (λ ts. ts ++ x ∷ []) (sym old)))
 
-  look : OneLook t.net owner j c (x ∷ []) (shown a m.after) (shown b m.after)
+  look : OneLook t.net.now owner j c (x ∷ []) (shown a m.after) (shown b m.after)
   look = record {
     from_other = l.into.2;
     to_me = l.into.1;
@@ -77,8 +77,8 @@ module _ (t : Tables) (a b : Worker) (c : ℕ) (e e' : TakeEnd) (x : Token) (m :
     repaid = fun_ext repaid_at;
   }
 
-  on : LooksOn t.net t.inputs owner j c (x ∷ []) (shown a m.after) (shown b m.after)
-  on = local_looks t.net t.inputs owner j c (x ∷ []) (shown a m.after) (shown b m.after) m.local look
+  on : LooksOn t.net.now t.inputs owner j c (x ∷ []) (shown a m.after) (shown b m.after)
+  on = local_looks t.net.now t.inputs owner j c (x ∷ []) (shown a m.after) (shown b m.after) m.local look
 
   abbrev s : State
   s = state_of a.portion.state
@@ -107,18 +107,18 @@ module _ (t : Tables) (a b : Worker) (c : ℕ) (e e' : TakeEnd) (x : Token) (m :
   stamps_there : (d : ℕ) → d ≢ c → stamps_at on.to d ≡ stamps_at m.after d
   stamps_there d n = on.fuller.stamps d ∙ (ap (λ g. stamps_at m.after d ++ cond g (x.stamp ∷ []) []) (ne_eqb d c n) ∙ append-nil (stamps_at m.after d))
 
-  sees_on : Sees t.net owner j s' on.to.state
+  sees_on : Sees t.net.now owner j s' on.to.state
   sees_on = record {
     scalars = on.fuller.scalars ∙ m.sees.scalars;
     own = λ u q. ap (λ os. get_or os u Rattle.net_core.specs.Fire.idle) on.fuller.own ∙ m.sees.own u q;
-    arrays = λ u q. ap (λ xs. Rattle.net_core.specs.Fire.at_array xs (Rattle.net_types.specs.Nets.uses (Rattle.net_types.specs.Nets.kind_of t.net u))) on.fuller.arrays ∙ m.sees.arrays u q;
+    arrays = λ u q. ap (λ xs. Rattle.net_core.specs.Fire.at_array xs (Rattle.net_types.specs.Nets.uses (Rattle.net_types.specs.Nets.kind_of t.net.now u))) on.fuller.arrays ∙ m.sees.arrays u q;
     into = λ d q. at_in d q (cases_eq d c);
-    out = λ d b q. laid_there d (λ z. q (ap (taker t.net owner) z ∙ l.into.1)) ∙ m.sees.out d b q;
+    out = λ d b q. laid_there d (λ z. q (ap (taker t.net.now owner) z ∙ l.into.1)) ∙ m.sees.out d b q;
     arrays_long = ap length on.fuller.arrays ∙ m.sees.arrays_long;
     strays = on.fuller.strays ∙ m.sees.strays;
   }
     where
-      at_in : (d : ℕ) → taker t.net owner d ≡ j → (d ≡ c) ⊎ (d ≡ c → ⊥) → tokens_at on.to.state d ≡ tokens_at s' d
+      at_in : (d : ℕ) → taker t.net.now owner d ≡ j → (d ≡ c) ⊎ (d ≡ c → ⊥) → tokens_at on.to.state d ≡ tokens_at s' d
       at_in d q (inl z) = subst (λ k. tokens_at on.to.state k ≡ tokens_at s' k) (sym z) (more_here ∙ (ap (λ ts. ts ++ x.value ∷ []) (m.sees.into c l.into.1) ∙ sym laid_here))
       at_in d q (inr n) = more_there d n ∙ (m.sees.into d q ∙ sym (laid_there d n))
 
@@ -138,12 +138,12 @@ module _ (t : Tables) (a b : Worker) (c : ℕ) (e e' : TakeEnd) (x : Token) (m :
     ends_too = ap length l.takes ∙ (length-set a.takes.items c (Some e') ∙ m.ends_too);
     clock = l.clock ∙ (m.clock ∙ ap (λ k. Rattle.net_worker.specs.Steps.last_stamp 0 k.items) (sym l.log));
     after = on.to;
-    local = subst (λ n. IsLocal t.net t.inputs owner n (shown b on.to)) (sym l.number) on.local;
-    sees = subst (λ n. Sees t.net owner n (state_of b.portion.state) on.to.state) (sym l.number) (subst (λ y. Sees t.net owner j y on.to.state) (sym l.state) sees_on);
-    exit = exit_kept t.net (state_of a.portion.state) (state_of b.portion.state) a.log.items b.log.items (ap (λ s. s.own) l.state) (ap (λ g. g.items) l.log) m.exit;
+    local = subst (λ n. IsLocal t.net.now t.inputs owner n (shown b on.to)) (sym l.number) on.local;
+    sees = subst (λ n. Sees t.net.now owner n (state_of b.portion.state) on.to.state) (sym l.number) (subst (λ y. Sees t.net.now owner j y on.to.state) (sym l.state) sees_on);
+    exit = exit_kept t.net.now (state_of a.portion.state) (state_of b.portion.state) a.log.items b.log.items (ap (λ s. s.own) l.state) (ap (λ g. g.items) l.log) m.exit;
     held = λ d i. held_at d i (cases_eq d c);
     held_stamps = λ d i. held_stamps_at d i (cases_eq d c);
-    puts_out = λ d p q. subst (λ n. IsOutOf t n d × (Rattle.elastic_link.specs.Ends.slots_of p ≡ (chan_at t.net d).slots)) (sym l.number) (m.puts_out d p (ap (λ ps. get_or ps d None) (sym l.puts) ∙ q));
+    puts_out = λ d p q. subst (λ n. IsOutOf t n d × (Rattle.elastic_link.specs.Ends.slots_of p ≡ (chan_at t.net.now d).slots)) (sym l.number) (m.puts_out d p (ap (λ ps. get_or ps d None) (sym l.puts) ∙ q));
     takes_in = λ d y q. takes_at d y q (cases_eq d c);
     outs = λ d i. subst (λ v. Contains v.items d) (sym l.outs) (m.outs d (subst (λ k. IsOutOf t k d) l.number i));
     outs_only = subst (λ v. All (IsOutOf t b.number) v.items) (sym l.outs) (subst (λ k. All (IsOutOf t k) a.outs.items) (sym l.number) m.outs_only);
@@ -164,12 +164,12 @@ module _ (t : Tables) (a b : Worker) (c : ℕ) (e e' : TakeEnd) (x : Token) (m :
       held_stamps_at d i (inl z) = subst (λ k. stamps_at on.to k ≡ stamps_of (held_by (take_end b k))) (sym z) (stamps_here ∙ (ap (λ ts. ts ++ x.stamp ∷ []) (m.held_stamps c l.into ∙ ap stamps_of held_none) ∙ sym (ap stamps_of held_one)))
       held_stamps_at d i (inr n) = stamps_there d n ∙ (m.held_stamps d (mine d i) ∙ ap (λ o. stamps_of (held_by o)) (sym (end_there d n)))
 
-      takes_at : (d : ℕ) (y : TakeEnd) → take_end b d ≡ Some y → (d ≡ c) ⊎ (d ≡ c → ⊥) → IsInto t b.number d × (y.slots ≡ (chan_at t.net d).slots)
+      takes_at : (d : ℕ) (y : TakeEnd) → take_end b d ≡ Some y → (d ≡ c) ⊎ (d ≡ c → ⊥) → IsInto t b.number d × (y.slots ≡ (chan_at t.net.now d).slots)
       takes_at d y q (inl z) =
           let k : e' ≡ y = some_inj e' y (sym end_here ∙ (ap (take_end b) (sym z) ∙ q)) in
           let old = m.takes_in c e l.old in
-          subst (λ i. IsInto t b.number i × (y.slots ≡ (chan_at t.net i).slots)) (sym z) (subst (λ n. IsInto t n c) (sym l.number) old.0, ap (λ (y : TakeEnd). y.slots) (sym k) ∙ (l.same.slots ∙ old.1))
-      takes_at d y q (inr n) = subst (λ i. IsInto t i d × (y.slots ≡ (chan_at t.net d).slots)) (sym l.number) (m.takes_in d y (sym (end_there d n) ∙ q))
+          subst (λ i. IsInto t b.number i × (y.slots ≡ (chan_at t.net.now i).slots)) (sym z) (subst (λ n. IsInto t n c) (sym l.number) old.0, ap (λ (y : TakeEnd). y.slots) (sym k) ∙ (l.same.slots ∙ old.1))
+      takes_at d y q (inr n) = subst (λ i. IsInto t i d × (y.slots ≡ (chan_at t.net.now d).slots)) (sym l.number) (m.takes_in d y (sym (end_there d n) ∙ q))
 
       repaid_is : (d : ℕ) (y : TakeEnd) → take_end b d ≡ Some y → (d ≡ c) ⊎ (d ≡ c → ⊥) → (credits_repaid y ≡ length (tokens_taken y)) × (repaid_stamp y ≤ b.clock)
       repaid_is d y q (inl z) =

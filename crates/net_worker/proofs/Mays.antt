@@ -132,60 +132,60 @@ module _ (t : Tables) (a : Worker) (m : IsMadeOf t a) where
   abbrev s : State
   s = state_of a.portion.state
 
-  pub after_measures : Measures t.net (length t.inputs.arrays) m.after.state
-  after_measures = plays_measures t.net owner a.number 0 (length t.inputs.arrays) (fed_opening t.net t.inputs (shown a m.after).handed) a.log.items m.after m.local.plays (fed_measures t.net t.inputs (shown a m.after).handed)
+  pub after_measures : Measures t.net.now (length t.inputs.arrays) m.after.state
+  after_measures = plays_measures t.net.now owner a.number 0 (length t.inputs.arrays) (fed_opening t.net.now t.inputs (shown a m.after).handed) a.log.items m.after m.local.plays (fed_measures t.net.now t.inputs (shown a m.after).handed)
 
   pub after_paired : IsPaired m.after
-  after_paired = plays_paired t.net owner a.number 0 (length t.inputs.arrays) (fed_opening t.net t.inputs (shown a m.after).handed) a.log.items m.after m.local.plays (fed_measures t.net t.inputs (shown a m.after).handed) (fed_stamps_long t.net t.inputs (shown a m.after).handed) (fed_paired t.net t.inputs (shown a m.after).handed)
+  after_paired = plays_paired t.net.now owner a.number 0 (length t.inputs.arrays) (fed_opening t.net.now t.inputs (shown a m.after).handed) a.log.items m.after m.local.plays (fed_measures t.net.now t.inputs (shown a m.after).handed) (fed_stamps_long t.net.now t.inputs (shown a m.after).handed) (fed_paired t.net.now t.inputs (shown a m.after).handed)
 
   -- stamps between the worker's own units are not above the clock
-  pub inner_most : (c k : ℕ) → c < length t.net.chans → putter t.net owner c ≡ taker t.net owner c → first (stamps_at m.after c) ≡ Some k → k ≤ a.clock
+  pub inner_most : (c k : ℕ) → c < length t.net.now.chans → putter t.net.now owner c ≡ taker t.net.now owner c → first (stamps_at m.after c) ≡ Some k → k ≤ a.clock
   inner_most c k l q is =
-      let none : stamps_at (fed_opening t.net t.inputs (shown a m.after).handed) c ≡ [] = fed_stamps t.net t.inputs (shown a m.after).handed c l ∙ ap stamps_of (m.local.from_others c q) in
-      let most = plays_most t.net owner a.number 0 c (fed_opening t.net t.inputs (shown a m.after).handed) a.log.items m.after m.local.plays (fed_stamps_long t.net t.inputs (shown a m.after).handed) l (subst (AllMost 0) (sym none) tt) in
+      let none : stamps_at (fed_opening t.net.now t.inputs (shown a m.after).handed) c ≡ [] = fed_stamps t.net.now t.inputs (shown a m.after).handed c l ∙ ap stamps_of (m.local.from_others c q) in
+      let most = plays_most t.net.now owner a.number 0 c (fed_opening t.net.now t.inputs (shown a m.after).handed) a.log.items m.after m.local.plays (fed_stamps_long t.net.now t.inputs (shown a m.after).handed) l (subst (AllMost 0) (sym none) tt) in
       let r = first_most (last_stamp 0 a.log.items) (stamps_at m.after c) k most is in
       omega (arith, m.clock)
 
-  pub heads_same : (u : ℕ) → owner u ≡ a.number → head_at t.net m.after.state u ≡ head_at t.net s u
-  heads_same u mine = fun_ext (λ p. by p (cases_lt (into u p t.net.chans) (length t.net.chans)))
+  pub heads_same : (u : ℕ) → owner u ≡ a.number → head_at t.net.now m.after.state u ≡ head_at t.net.now s u
+  heads_same u mine = fun_ext (λ p. by p (cases_lt (into u p t.net.now.chans) (length t.net.now.chans)))
     where
-      by : (p : ℕ) → (into u p t.net.chans < length t.net.chans) ⊎ (length t.net.chans ≤ into u p t.net.chans) → head_at t.net m.after.state u p ≡ head_at t.net s u p
+      by : (p : ℕ) → (into u p t.net.now.chans < length t.net.now.chans) ⊎ (length t.net.now.chans ≤ into u p t.net.now.chans) → head_at t.net.now m.after.state u p ≡ head_at t.net.now s u p
       by p (inl l) =
-          let at = (is_at-inv (chan_at t.net (into u p t.net.chans)).to u p (into-at u p t.net.chans l)).0 in
-          ap first (m.sees.into (into u p t.net.chans) (ap owner at ∙ mine))
+          let at = (is_at-inv (chan_at t.net.now (into u p t.net.now.chans)).to u p (into-at u p t.net.now.chans l)).0 in
+          ap first (m.sees.into (into u p t.net.now.chans) (ap owner at ∙ mine))
       by p (inr l) =
-          ap first (get_or_past m.after.state.tokens (into u p t.net.chans) [] (omega (arith, after_measures.tokens)) ∙ sym (get_or_past s.tokens (into u p t.net.chans) [] (omega (arith, m.of.long))))
+          ap first (get_or_past m.after.state.tokens (into u p t.net.now.chans) [] (omega (arith, after_measures.tokens)) ∙ sym (get_or_past s.tokens (into u p t.net.now.chans) [] (omega (arith, m.of.long))))
 
   pub row_same : (f : Firing) → owner f.unit ≡ a.number
-      → row (kind_of t.net f.unit) f.act (get_or m.after.state.own f.unit idle) (at_array m.after.state.arrays (uses (kind_of t.net f.unit))) (setting t.net m.after.state)
-      ≡ row (kind_of t.net f.unit) f.act (get_or s.own f.unit idle) (at_array s.arrays (uses (kind_of t.net f.unit))) (setting t.net s)
+      → row (kind_of t.net.now f.unit) f.act (get_or m.after.state.own f.unit idle) (at_array m.after.state.arrays (uses (kind_of t.net.now f.unit))) (setting t.net.now m.after.state)
+      ≡ row (kind_of t.net.now f.unit) f.act (get_or s.own f.unit idle) (at_array s.arrays (uses (kind_of t.net.now f.unit))) (setting t.net.now s)
   row_same f mine =
       let o = m.sees.own f.unit mine in
       let x = m.sees.arrays f.unit mine in
-      let g : setting t.net m.after.state ≡ setting t.net s = ap (λ l. record { scalars = l; valued = is_some t.net.result }) m.sees.scalars in
+      let g : setting t.net.now m.after.state ≡ setting t.net.now s = ap (λ l. record { scalars = l; valued = is_some t.net.now.result }) m.sees.scalars in
       cc
 
   module _ (f : Firing) (e : Effect) (n : ℕ) (v : MayBeMade t a f e n) where
-    does : effect t.net m.after.state f ≡ Some e
-    does = ap (λ r. effect_of r (head_at t.net m.after.state f.unit)) (row_same f v.mine) ∙ (ap (λ h. effect_of (row (kind_of t.net f.unit) f.act (get_or s.own f.unit idle) (at_array s.arrays (uses (kind_of t.net f.unit))) (setting t.net s)) h) (heads_same f.unit v.mine) ∙ v.does)
+    does : effect t.net.now m.after.state f ≡ Some e
+    does = ap (λ r. effect_of r (head_at t.net.now m.after.state f.unit)) (row_same f v.mine) ∙ (ap (λ h. effect_of (row (kind_of t.net.now f.unit) f.act (get_or s.own f.unit idle) (at_array s.arrays (uses (kind_of t.net.now f.unit))) (setting t.net.now s)) h) (heads_same f.unit v.mine) ∙ v.does)
 
-    pub uses_same : used t.net m.after.state f ≡ used t.net s f
-    uses_same = ap (λ r. used_by r (head_at t.net m.after.state f.unit)) (row_same f v.mine) ∙ ap (λ h. used_by (row (kind_of t.net f.unit) f.act (get_or s.own f.unit idle) (at_array s.arrays (uses (kind_of t.net f.unit))) (setting t.net s)) h) (heads_same f.unit v.mine)
+    pub uses_same : used t.net.now m.after.state f ≡ used t.net.now s f
+    uses_same = ap (λ r. used_by r (head_at t.net.now m.after.state f.unit)) (row_same f v.mine) ∙ ap (λ h. used_by (row (kind_of t.net.now f.unit) f.act (get_or s.own f.unit idle) (at_array s.arrays (uses (kind_of t.net.now f.unit))) (setting t.net.now s)) h) (heads_same f.unit v.mine)
 
     abbrev Above : ℕ → Type 0
-    Above p = IsSomeAnd (first (stamps_at m.after (into f.unit p t.net.chans))) (λ k. k < n)
+    Above p = IsSomeAnd (first (stamps_at m.after (into f.unit p t.net.now.chans))) (λ k. k < n)
 
-    above : (p : ℕ) → Has (head_at t.net s f.unit) p → IsEarlyAt t a f.unit n p → Above p
-    above p h early = finish (below (cases_eq (putter t.net owner c) a.number))
+    above : (p : ℕ) → Has (head_at t.net.now s f.unit) p → IsEarlyAt t a f.unit n p → Above p
+    above p h early = finish (below (cases_eq (putter t.net.now owner c) a.number))
       where
         c : ℕ
-        c = into f.unit p t.net.chans
+        c = into f.unit p t.net.now.chans
 
-        within : c < length t.net.chans
+        within : c < length t.net.now.chans
         within = let k = first_within s.tokens c h.0 h.1 in omega (arith, m.of.long)
 
-        to : taker t.net owner c ≡ a.number
-        to = ap owner (is_at-inv (chan_at t.net c).to f.unit p (into-at f.unit p t.net.chans within)).0 ∙ v.mine
+        to : taker t.net.now owner c ≡ a.number
+        to = ap owner (is_at-inv (chan_at t.net.now c).to f.unit p (into-at f.unit p t.net.now.chans within)).0 ∙ v.mine
 
         token : first (tokens_at m.after.state c) ≡ Some h.0
         token = ap first (m.sees.into c to) ∙ h.1
@@ -193,7 +193,7 @@ module _ (t : Tables) (a : Worker) (m : IsMadeOf t a) where
         stamp : (y : ℕ) × (first (stamps_at m.after c) ≡ Some y)
         stamp = stamp_of (tokens_at m.after.state c) (stamps_at m.after c) h.0 (after_paired c) token
 
-        below : (putter t.net owner c ≡ a.number) ⊎ (putter t.net owner c ≡ a.number → ⊥) → stamp.0 < n
+        below : (putter t.net.now owner c ≡ a.number) ⊎ (putter t.net.now owner c ≡ a.number → ⊥) → stamp.0 < n
         below (inl q) = let k = inner_most c stamp.0 within (q ∙ sym to) stamp.1 in omega (arith, v.later)
         below (inr q) =
             let x = held_once (take_end a c) stamp.0 (ap first (sym (m.held_stamps c (within, to, q))) ∙ stamp.1) in
@@ -202,17 +202,17 @@ module _ (t : Tables) (a : Worker) (m : IsMadeOf t a) where
         finish : stamp.0 < n → Above p
         finish l = subst (λ o. IsSomeAnd o (λ k. k < n)) (sym stamp.1) l
 
-    room : (o : Option Put) → HasRoomIn t.net owner a.number s f.unit o → HasRoomIn t.net owner a.number m.after.state f.unit o
+    room : (o : Option Put) → HasRoomIn t.net.now owner a.number s f.unit o → HasRoomIn t.net.now owner a.number m.after.state f.unit o
     room None h = tt
-    room (Some w) h = (h.0, λ q. (let k : length (tokens_at m.after.state (out_of f.unit w.place t.net.chans)) ≡ length (tokens_at s (out_of f.unit w.place t.net.chans)) = ap length (m.sees.into (out_of f.unit w.place t.net.chans) q) in let r = h.1 q in omega arith))
+    room (Some w) h = (h.0, λ q. (let k : length (tokens_at m.after.state (out_of f.unit w.place t.net.now.chans)) ≡ length (tokens_at s (out_of f.unit w.place t.net.now.chans)) = ap length (m.sees.into (out_of f.unit w.place t.net.now.chans) q) in let r = h.1 q in omega arith))
 
-    may : MayIn t.net owner a.number n m.after f
+    may : MayIn t.net.now owner a.number n m.after f
     may = record {
       mine = v.mine;
-      turn = subst (λ o. IsSomeAnd o (λ e. HasRoomIn t.net owner a.number m.after.state f.unit e.put)) (sym does) (room e.put v.room);
+      turn = subst (λ o. IsSomeAnd o (λ e. HasRoomIn t.net.now owner a.number m.after.state f.unit e.put)) (sym does) (room e.put v.room);
       above = subst (AllByRecursion Above) (sym uses_same)
-          (all_both (Has (head_at t.net s f.unit)) (IsEarlyAt t a f.unit n) Above (used t.net s f)
-          (used_there (row (kind_of t.net f.unit) f.act (get_or s.own f.unit idle) (at_array s.arrays (uses (kind_of t.net f.unit))) (setting t.net s)) (head_at t.net s f.unit) e v.does) v.early above);
+          (all_both (Has (head_at t.net.now s f.unit)) (IsEarlyAt t a f.unit n) Above (used t.net.now s f)
+          (used_there (row (kind_of t.net.now f.unit) f.act (get_or s.own f.unit idle) (at_array s.arrays (uses (kind_of t.net.now f.unit))) (setting t.net.now s)) (head_at t.net.now s f.unit) e v.does) v.early above);
     }
 
 pub worker_may : WorkerMay

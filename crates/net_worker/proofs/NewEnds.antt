@@ -1,5 +1,5 @@
 -- A worker to which an unused end is given.
-use Rattle.std.proofs.Common.{◌≡◌, ◌≢◌, ◌⊎◌, inl, inr, ℕ, ◌+◌, ◌<◌, ◌≤◌, ◌*◌, Option, Some, None, List, [], ◌∷◌, ◌++◌, length, get_or, map, set, refl, ap, ◌∙◌, sym, subst, arith, get_or-set_same, get_or-set_other, length-set}
+use Rattle.std.proofs.Common.{◌≡◌, ◌≢◌, ◌⊎◌, inl, inr, ℕ, ◌+◌, ◌<◌, ◌≤◌, ◌*◌, Option, Some, None, IsSome, List, [], ◌∷◌, ◌++◌, length, get_or, map, set, refl, ap, ◌∙◌, sym, subst, arith, get_or-set_same, get_or-set_other, length-set}
 use mathlib.Core.Path.{fun_ext}
 use Rattle.std.specs.List.{All, Contains}
 use Rattle.std.proofs.lemmas.Bool.{cases_eq}
@@ -34,8 +34,8 @@ slots_at [] c l = absurd (omega arith)
 slots_at (k ∷ cs) Rattle.std.proofs.Common.zero l = refl
 slots_at (k ∷ cs) (Rattle.std.proofs.Common.suc c) l = slots_at cs c (omega arith)
 
-same_slots : (s t : Tables) (w : Worker) (c : ℕ) → IsMadeOf s w → IsMadeOf t w → c < length s.net.chans → c < length t.net.chans → (chan_at s.net c).slots ≡ (chan_at t.net c).slots
-same_slots s t w c m k l n = sym (slots_at s.net.chans c l) ∙ (ap (λ xs. get_or xs c 0) (sym m.of.slots ∙ k.of.slots) ∙ slots_at t.net.chans c n)
+same_slots : (s t : Tables) (w : Worker) (c : ℕ) → IsMadeOf s w → IsMadeOf t w → c < length s.net.now.chans → c < length t.net.now.chans → (chan_at s.net.now c).slots ≡ (chan_at t.net.now c).slots
+same_slots s t w c m k l n = sym (slots_at s.net.now.chans c l) ∙ (ap (λ xs. get_or xs c 0) (sym m.of.slots ∙ k.of.slots) ∙ slots_at t.net.now.chans c n)
 
 within_takes : (xs : List (Option TakeEnd)) (n c : ℕ) → length xs ≡ n → c < n → c < length xs
 within_takes xs n c e l = omega arith
@@ -64,9 +64,9 @@ pub record SameElse (a b : Worker) : Type 0 where
   pub resting : b.resting ≡ a.resting
   pub waits : b.waits ≡ a.waits
 
-module _ (s t : Tables) (a b : Worker) (c : ℕ) (p : PutEnd) (m : IsMadeOf s a) (o : IsOutOf s a.number c) (new : IsNewPut (chan_at s.net c).slots p) (none : put_end a c ≡ None) (k : IsMadeOf t a) (e : SameElse a b) (takes : b.takes ≡ a.takes) (puts : b.puts.items ≡ set a.puts.items c (Some p)) where
+module _ (s t : Tables) (a b : Worker) (c : ℕ) (p : PutEnd) (m : IsMadeOf s a) (o : IsOutOf s a.number c) (new : IsNewPut (chan_at s.net.now c).slots p) (none : put_end a c ≡ None) (k : IsMadeOf t a) (e : SameElse a b) (takes : b.takes ≡ a.takes) (puts : b.puts.items ≡ set a.puts.items c (Some p)) where
   inside : c < length a.puts.items
-  inside = within_puts a.puts.items (length s.net.chans) c m.ends o.0
+  inside = within_puts a.puts.items (length s.net.now.chans) c m.ends o.0
 
   at_c : put_end b c ≡ Some p
   at_c = ap (λ l. get_or l c None) puts ∙ get_or-set_same a.puts.items c (Some p) None inside
@@ -98,17 +98,17 @@ module _ (s t : Tables) (a b : Worker) (c : ℕ) (p : PutEnd) (m : IsMadeOf s a)
       ∙ (ap (λ h. show a.log.items (λ d. handed_by (take_end a d)) h (λ d. received_by (put_end b d)) (λ d. repaid_by (take_end a d))) (fun_ext put_same)
       ∙ ap (λ h. show a.log.items (λ d. handed_by (take_end a d)) (λ d. put_by (put_end a d)) h (λ d. repaid_by (take_end a d))) (fun_ext got_same)))
 
-  ends_out : (d : ℕ) (q : PutEnd) → put_end b d ≡ Some q → (d ≡ c) ⊎ (d ≡ c → ⊥) → IsOutOf t b.number d × (slots_of q ≡ (chan_at t.net d).slots)
+  ends_out : (d : ℕ) (q : PutEnd) → put_end b d ≡ Some q → (d ≡ c) ⊎ (d ≡ c → ⊥) → IsOutOf t b.number d × (slots_of q ≡ (chan_at t.net.now d).slots)
   ends_out d q is (inl z) =
       let same : p ≡ q = some_same p q (sym at_c ∙ (ap (put_end b) (sym z) ∙ is)) in
       let out = same_out s t a c m k o in
-      subst (λ i. IsOutOf t b.number i × (slots_of q ≡ (chan_at t.net i).slots)) (sym z)
+      subst (λ i. IsOutOf t b.number i × (slots_of q ≡ (chan_at t.net.now i).slots)) (sym z)
       (subst (λ n. IsOutOf t n c) (sym e.number) out, ap slots_of (sym same) ∙ (new.slots ∙ same_slots s t a c m k o.0 out.0))
   ends_out d q is (inr n) = (let r = k.puts_out d q (sym (elsewhere d n) ∙ is) in (subst (λ i. IsOutOf t i d) (sym e.number) r.0, r.1))
 
   put_given : IsMadeOf t b
   put_given = record {
-    of = subst (λ p. IsOf t.net p.state) (sym e.portion) k.of;
+    of = subst (λ p. IsOf t.net.now p.state) (sym e.portion) k.of;
     own = own_on t a.number b.number a.portion b.portion e.number (here_same a.portion b.portion e.portion) k.own;
     counts = subst (λ g. CountsWithin (max_depth * length g.items) (state_of b.portion.state)) (sym e.log) (subst (λ s. CountsWithin (max_depth * length a.log.items) (state_of s.state)) (sym e.portion) k.counts);
     room = ap (λ g. length g.items + g.room) e.log ∙ (k.room ∙ sym e.share);
@@ -116,9 +116,9 @@ module _ (s t : Tables) (a b : Worker) (c : ℕ) (p : PutEnd) (m : IsMadeOf s a)
     ends_too = ap (λ v. length v.items) takes ∙ k.ends_too;
     clock = e.clock ∙ (k.clock ∙ ap (λ g. last_stamp 0 g.items) (sym e.log));
     after = k.after;
-    local = subst (λ n. IsLocal t.net t.inputs (owner_in t) n (shown b k.after)) (sym e.number) (subst (IsLocal t.net t.inputs (owner_in t) a.number) (sym shown_same) k.local);
-    sees = subst (λ n. Sees t.net (owner_in t) n (state_of b.portion.state) k.after.state) (sym e.number) (subst (λ s. Sees t.net (owner_in t) a.number (state_of s.state) k.after.state) (sym e.portion) k.sees);
-    exit = exit_kept t.net (state_of a.portion.state) (state_of b.portion.state) a.log.items b.log.items (ap (λ s. (state_of s.state).own) e.portion) (ap (λ g. g.items) e.log) k.exit;
+    local = subst (λ n. IsLocal t.net.now t.inputs (owner_in t) n (shown b k.after)) (sym e.number) (subst (IsLocal t.net.now t.inputs (owner_in t) a.number) (sym shown_same) k.local);
+    sees = subst (λ n. Sees t.net.now (owner_in t) n (state_of b.portion.state) k.after.state) (sym e.number) (subst (λ s. Sees t.net.now (owner_in t) a.number (state_of s.state) k.after.state) (sym e.portion) k.sees);
+    exit = exit_kept t.net.now (state_of a.portion.state) (state_of b.portion.state) a.log.items b.log.items (ap (λ s. (state_of s.state).own) e.portion) (ap (λ g. g.items) e.log) k.exit;
     held = λ d i. k.held d (subst (λ n. IsInto t n d) e.number i) ∙ ap (λ v. values (held_by (get_or v.items d None))) (sym takes);
     held_stamps = λ d i. k.held_stamps d (subst (λ n. IsInto t n d) e.number i) ∙ ap (λ v. stamps_of (held_by (get_or v.items d None))) (sym takes);
     puts_out = λ d q is. ends_out d q is (cases_eq d c);
@@ -128,10 +128,10 @@ module _ (s t : Tables) (a b : Worker) (c : ℕ) (p : PutEnd) (m : IsMadeOf s a)
     ins = λ d i. subst (λ v. Contains v.items d) (sym e.ins) (k.ins d (subst (λ n. IsInto t n d) e.number i));
     ins_only = subst (λ v. All (IsInto t b.number) v.items) (sym e.ins) (subst (λ n. All (IsInto t n) a.ins.items) (sym e.number) k.ins_only);
     repaid = λ d q is. (let r = k.repaid d q (ap (λ v. get_or v.items d None) (sym takes) ∙ is) in (r.0, subst (λ n. Rattle.elastic_link.specs.Ends.repaid_stamp q ≤ n) (sym e.clock) r.1));
-    rests = λ r. waits_on t a b e.number (ap (λ p. state_of p.state) e.portion) (λ d w. ap (λ (v : _). get_or v.items d Rattle.std.proofs.Common.false) e.waits ∙ w) (k.rests (sym e.resting ∙ r));
+    rests = λ r. waits_on t a b e.number (ap (λ p. state_of p.state) e.portion) (λ d w. subst (λ v. IsSome (get_or v.items d None)) (sym e.waits) w) (k.rests (sym e.resting ∙ r));
   }
 
-pub give_put_made : (s t : Tables) (a b : Worker) (c : ℕ) (p : PutEnd) → IsMadeOf s a → IsOutOf s a.number c → IsNewPut (chan_at s.net c).slots p → put_end a c ≡ None → IsMadeOf t a → SameElse a b → b.takes ≡ a.takes → b.puts.items ≡ set a.puts.items c (Some p) → IsMadeOf t b
+pub give_put_made : (s t : Tables) (a b : Worker) (c : ℕ) (p : PutEnd) → IsMadeOf s a → IsOutOf s a.number c → IsNewPut (chan_at s.net.now c).slots p → put_end a c ≡ None → IsMadeOf t a → SameElse a b → b.takes ≡ a.takes → b.puts.items ≡ set a.puts.items c (Some p) → IsMadeOf t b
 give_put_made s t a b c p m o new none k e takes puts = put_given s t a b c p m o new none k e takes puts
 
 -- ---- an end that takes
@@ -145,9 +145,9 @@ no_tokens e new = ap (λ l. l ++ Rattle.elastic_link.specs.Held.tokens_of (Rattl
 none_held : (e : TakeEnd) → IsNewTake e → held_by (Some e) ≡ []
 none_held e new = ap Rattle.elastic_link.specs.Held.tokens_of new.held
 
-module _ (s t : Tables) (a b : Worker) (c : ℕ) (p : TakeEnd) (m : IsMadeOf s a) (o : IsInto s a.number c) (new : IsNewTake p) (slots : p.slots ≡ (chan_at s.net c).slots) (none : take_end a c ≡ None) (k : IsMadeOf t a) (e : SameElse a b) (puts : b.puts ≡ a.puts) (takes : b.takes.items ≡ set a.takes.items c (Some p)) where
+module _ (s t : Tables) (a b : Worker) (c : ℕ) (p : TakeEnd) (m : IsMadeOf s a) (o : IsInto s a.number c) (new : IsNewTake p) (slots : p.slots ≡ (chan_at s.net.now c).slots) (none : take_end a c ≡ None) (k : IsMadeOf t a) (e : SameElse a b) (puts : b.puts ≡ a.puts) (takes : b.takes.items ≡ set a.takes.items c (Some p)) where
   inside_takes : c < length a.takes.items
-  inside_takes = within_takes a.takes.items (length s.net.chans) c m.ends_too o.0
+  inside_takes = within_takes a.takes.items (length s.net.now.chans) c m.ends_too o.0
 
   take_at_c : take_end b c ≡ Some p
   take_at_c = ap (λ l. get_or l c None) takes ∙ get_or-set_same a.takes.items c (Some p) None inside_takes
@@ -172,11 +172,11 @@ module _ (s t : Tables) (a b : Worker) (c : ℕ) (p : TakeEnd) (m : IsMadeOf s a
       ∙ (ap (λ h. show_takes a.log.items h (λ d. put_by (put_end a d)) (λ d. received_by (put_end a d)) (λ d. repaid_by (take_end b d))) (fun_ext (of_takes handed_by (no_tokens p new)))
       ∙ ap (λ h. show_takes a.log.items (λ d. handed_by (take_end a d)) (λ d. put_by (put_end a d)) (λ d. received_by (put_end a d)) h) (fun_ext (of_takes repaid_by (no_messages p new)))))
 
-  takes_in_b : (d : ℕ) (q : TakeEnd) → take_end b d ≡ Some q → (d ≡ c) ⊎ (d ≡ c → ⊥) → IsInto t b.number d × (q.slots ≡ (chan_at t.net d).slots)
+  takes_in_b : (d : ℕ) (q : TakeEnd) → take_end b d ≡ Some q → (d ≡ c) ⊎ (d ≡ c → ⊥) → IsInto t b.number d × (q.slots ≡ (chan_at t.net.now d).slots)
   takes_in_b d q is (inl z) =
       let same : p ≡ q = some_same p q (sym take_at_c ∙ (ap (take_end b) (sym z) ∙ is)) in
       let into = same_into s t a c m k o in
-      subst (λ i. IsInto t b.number i × (q.slots ≡ (chan_at t.net i).slots)) (sym z)
+      subst (λ i. IsInto t b.number i × (q.slots ≡ (chan_at t.net.now i).slots)) (sym z)
       (subst (λ n. IsInto t n c) (sym e.number) into, ap (λ (y : TakeEnd). y.slots) (sym same) ∙ (slots ∙ same_slots s t a c m k o.0 into.0))
   takes_in_b d q is (inr n) = (let r = k.takes_in d q (sym (take_elsewhere d n) ∙ is) in (subst (λ i. IsInto t i d) (sym e.number) r.0, r.1))
 
@@ -191,7 +191,7 @@ module _ (s t : Tables) (a b : Worker) (c : ℕ) (p : TakeEnd) (m : IsMadeOf s a
 
   take_given : IsMadeOf t b
   take_given = record {
-    of = subst (λ p. IsOf t.net p.state) (sym e.portion) k.of;
+    of = subst (λ p. IsOf t.net.now p.state) (sym e.portion) k.of;
     own = own_on t a.number b.number a.portion b.portion e.number (here_same a.portion b.portion e.portion) k.own;
     counts = subst (λ g. CountsWithin (max_depth * length g.items) (state_of b.portion.state)) (sym e.log) (subst (λ s. CountsWithin (max_depth * length a.log.items) (state_of s.state)) (sym e.portion) k.counts);
     room = ap (λ g. length g.items + g.room) e.log ∙ (k.room ∙ sym e.share);
@@ -199,9 +199,9 @@ module _ (s t : Tables) (a b : Worker) (c : ℕ) (p : TakeEnd) (m : IsMadeOf s a
     ends_too = ap length takes ∙ (length-set a.takes.items c (Some p) ∙ k.ends_too);
     clock = e.clock ∙ (k.clock ∙ ap (λ g. last_stamp 0 g.items) (sym e.log));
     after = k.after;
-    local = subst (λ n. IsLocal t.net t.inputs (owner_in t) n (shown b k.after)) (sym e.number) (subst (IsLocal t.net t.inputs (owner_in t) a.number) (sym takes_shown) k.local);
-    sees = subst (λ n. Sees t.net (owner_in t) n (state_of b.portion.state) k.after.state) (sym e.number) (subst (λ s. Sees t.net (owner_in t) a.number (state_of s.state) k.after.state) (sym e.portion) k.sees);
-    exit = exit_kept t.net (state_of a.portion.state) (state_of b.portion.state) a.log.items b.log.items (ap (λ s. (state_of s.state).own) e.portion) (ap (λ g. g.items) e.log) k.exit;
+    local = subst (λ n. IsLocal t.net.now t.inputs (owner_in t) n (shown b k.after)) (sym e.number) (subst (IsLocal t.net.now t.inputs (owner_in t) a.number) (sym takes_shown) k.local);
+    sees = subst (λ n. Sees t.net.now (owner_in t) n (state_of b.portion.state) k.after.state) (sym e.number) (subst (λ s. Sees t.net.now (owner_in t) a.number (state_of s.state) k.after.state) (sym e.portion) k.sees);
+    exit = exit_kept t.net.now (state_of a.portion.state) (state_of b.portion.state) a.log.items b.log.items (ap (λ s. (state_of s.state).own) e.portion) (ap (λ g. g.items) e.log) k.exit;
     held = λ d i. k.held d (subst (λ n. IsInto t n d) e.number i) ∙ ap values (sym (of_takes held_by (none_held p new) d));
     held_stamps = λ d i. k.held_stamps d (subst (λ n. IsInto t n d) e.number i) ∙ ap stamps_of (sym (of_takes held_by (none_held p new) d));
     puts_out = λ d q is. (let r = k.puts_out d q (ap (λ v. get_or v.items d None) (sym puts) ∙ is) in (subst (λ n. IsOutOf t n d) (sym e.number) r.0, r.1));
@@ -211,8 +211,8 @@ module _ (s t : Tables) (a b : Worker) (c : ℕ) (p : TakeEnd) (m : IsMadeOf s a
     ins = λ d i. subst (λ v. Contains v.items d) (sym e.ins) (k.ins d (subst (λ n. IsInto t n d) e.number i));
     ins_only = subst (λ v. All (IsInto t b.number) v.items) (sym e.ins) (subst (λ n. All (IsInto t n) a.ins.items) (sym e.number) k.ins_only);
     repaid = λ d q is. repaid_in_b d q is (cases_eq d c);
-    rests = λ r. waits_on t a b e.number (ap (λ p. state_of p.state) e.portion) (λ d w. ap (λ (v : _). get_or v.items d Rattle.std.proofs.Common.false) e.waits ∙ w) (k.rests (sym e.resting ∙ r));
+    rests = λ r. waits_on t a b e.number (ap (λ p. state_of p.state) e.portion) (λ d w. subst (λ v. IsSome (get_or v.items d None)) (sym e.waits) w) (k.rests (sym e.resting ∙ r));
   }
 
-pub give_take_made : (s t : Tables) (a b : Worker) (c : ℕ) (p : TakeEnd) → IsMadeOf s a → IsInto s a.number c → IsNewTake p → p.slots ≡ (chan_at s.net c).slots → take_end a c ≡ None → IsMadeOf t a → SameElse a b → b.puts ≡ a.puts → b.takes.items ≡ set a.takes.items c (Some p) → IsMadeOf t b
+pub give_take_made : (s t : Tables) (a b : Worker) (c : ℕ) (p : TakeEnd) → IsMadeOf s a → IsInto s a.number c → IsNewTake p → p.slots ≡ (chan_at s.net.now c).slots → take_end a c ≡ None → IsMadeOf t a → SameElse a b → b.puts ≡ a.puts → b.takes.items ≡ set a.takes.items c (Some p) → IsMadeOf t b
 give_take_made s t a b c p m o new slots none k e puts takes = take_given s t a b c p m o new slots none k e puts takes

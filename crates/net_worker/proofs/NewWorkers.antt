@@ -28,16 +28,16 @@ no_entries n k es h = ap (λ l. n * length l) h ∙ omega arith
 
 -- what a worker begins with
 pub record IsBegun (t : Tables) (w : Worker) : Type 0 where
-  pub of : IsOf t.net w.portion.state
+  pub of : IsOf t.net.now w.portion.state
   pub own : HoldsOwn t w.number w.portion
-  pub state : state_of w.portion.state ≡ opening t.net t.inputs
+  pub state : state_of w.portion.state ≡ opening t.net.now t.inputs
   pub counts : CountsWithin 0 (state_of w.portion.state)
   pub log : w.log.items ≡ []
   pub room : w.log.room ≡ w.share
   pub clock : w.clock ≡ 0
   pub resting : w.resting ≡ false
-  pub puts : w.puts.items ≡ replicate (length t.net.chans) None
-  pub takes : w.takes.items ≡ replicate (length t.net.chans) None
+  pub puts : w.puts.items ≡ replicate (length t.net.now.chans) None
+  pub takes : w.takes.items ≡ replicate (length t.net.now.chans) None
   pub outs : (c : ℕ) → IsOutOf t w.number c → Contains w.outs.items c
   pub outs_only : All (IsOutOf t w.number) w.outs.items
   pub ins : (c : ℕ) → IsInto t w.number c → Contains w.ins.items c
@@ -45,43 +45,43 @@ pub record IsBegun (t : Tables) (w : Worker) : Type 0 where
 
 module _ (t : Tables) (w : Worker) (b : IsBegun t w) where
   no_put : (c : ℕ) → put_end w c ≡ None
-  no_put c = ap (λ l. get_or l c None) b.puts ∙ nothing_there (length t.net.chans) c
+  no_put c = ap (λ l. get_or l c None) b.puts ∙ nothing_there (length t.net.now.chans) c
 
   no_take : (c : ℕ) → take_end w c ≡ None
-  no_take c = ap (λ l. get_or l c None) b.takes ∙ nothing_there (length t.net.chans) c
+  no_take c = ap (λ l. get_or l c None) b.takes ∙ nothing_there (length t.net.now.chans) c
 
   abbrev after : Stamped
-  after = fed_opening t.net t.inputs (λ c. handed_by (take_end w c))
+  after = fed_opening t.net.now t.inputs (λ c. handed_by (take_end w c))
 
   empty : (c : ℕ) → tokens_at after.state c ≡ []
-  empty c = by (cases_lt c (length t.net.chans))
+  empty c = by (cases_lt c (length t.net.now.chans))
     where
-      by : (c < length t.net.chans) ⊎ (length t.net.chans ≤ c) → tokens_at after.state c ≡ []
-      by (inl l) = fed_tokens t.net t.inputs (λ c. handed_by (take_end w c)) c l ∙ ap (λ o. values (handed_by o)) (no_take c)
-      by (inr l) = fed_past t.net t.inputs (λ c. handed_by (take_end w c)) c l
+      by : (c < length t.net.now.chans) ⊎ (length t.net.now.chans ≤ c) → tokens_at after.state c ≡ []
+      by (inl l) = fed_tokens t.net.now t.inputs (λ c. handed_by (take_end w c)) c l ∙ ap (λ o. values (handed_by o)) (no_take c)
+      by (inr l) = fed_past t.net.now t.inputs (λ c. handed_by (take_end w c)) c l
 
-  unstamped : (c : ℕ) → c < length t.net.chans → stamps_at after c ≡ []
-  unstamped c l = fed_stamps t.net t.inputs (λ c. handed_by (take_end w c)) c l ∙ ap (λ o. stamps_of (handed_by o)) (no_take c)
+  unstamped : (c : ℕ) → c < length t.net.now.chans → stamps_at after c ≡ []
+  unstamped c l = fed_stamps t.net.now t.inputs (λ c. handed_by (take_end w c)) c l ∙ ap (λ o. stamps_of (handed_by o)) (no_take c)
 
   here_empty : (c : ℕ) → tokens_at (state_of w.portion.state) c ≡ []
-  here_empty c = ap (λ s. tokens_at s c) b.state ∙ opening_tokens t.net t.inputs c
+  here_empty c = ap (λ s. tokens_at s c) b.state ∙ opening_tokens t.net.now t.inputs c
 
-  local : IsLocal t.net t.inputs (owner_in t) w.number (shown w after)
+  local : IsLocal t.net.now t.inputs (owner_in t) w.number (shown w after)
   local = record {
-    plays = subst (λ es. Plays t.net (owner_in t) w.number 0 after es after) (sym b.log) refl;
+    plays = subst (λ es. Plays t.net.now (owner_in t) w.number 0 after es after) (sym b.log) refl;
     from_others = λ c q. ap handed_by (no_take c);
     to_itself = λ c q. ap handed_by (no_take c);
     values_put = λ c l p q. empty c ∙ ap (λ o. values (put_by o)) (sym (no_put c));
     stamps_put = λ c l p q. unstamped c l ∙ ap (λ o. stamps_of (put_by o)) (sym (no_put c));
-    had_room = λ c l p q. subst (λ o. HadRoom (chan_at t.net c).slots (put_by o) (received_by (put_end w c))) (sym (no_put c)) (λ k h. absurd (omega arith));
-    stand_for = λ c l p q. subst (λ o. StandFor (repaid_by o) (take_stamps t.net c after w.log.items)) (sym (no_take c)) (ap (take_stamps t.net c after) b.log);
+    had_room = λ c l p q. subst (λ o. HadRoom (chan_at t.net.now c).slots (put_by o) (received_by (put_end w c))) (sym (no_put c)) (λ k h. absurd (omega arith));
+    stand_for = λ c l p q. subst (λ o. StandFor (repaid_by o) (take_stamps t.net.now c after w.log.items)) (sym (no_take c)) (ap (take_stamps t.net.now c after) b.log);
   }
 
-  sees : Sees t.net (owner_in t) w.number (state_of w.portion.state) after.state
+  sees : Sees t.net.now (owner_in t) w.number (state_of w.portion.state) after.state
   sees = record {
     scalars = ap (λ s. s.scalars) (sym b.state);
     own = λ u q. ap (λ s. get_or s.own u idle) (sym b.state);
-    arrays = λ u q. ap (λ s. at_array s.arrays (uses (kind_of t.net u))) (sym b.state);
+    arrays = λ u q. ap (λ s. at_array s.arrays (uses (kind_of t.net.now u))) (sym b.state);
     into = λ c q. empty c ∙ sym (here_empty c);
     out = λ c l q. here_empty c;
     arrays_long = ap (λ s. length s.arrays) (sym b.state);
@@ -94,13 +94,13 @@ module _ (t : Tables) (w : Worker) (b : IsBegun t w) where
     own = b.own;
     counts = subst (λ n. CountsWithin n (state_of w.portion.state)) (sym (no_entries max_depth 0 w.log.items b.log)) b.counts;
     room = (let e = ap length b.log in omega (arith, b.room));
-    ends = ap length b.puts ∙ Rattle.std.proofs.lemmas.List.length-replicate (length t.net.chans) None;
-    ends_too = ap length b.takes ∙ Rattle.std.proofs.lemmas.List.length-replicate (length t.net.chans) None;
+    ends = ap length b.puts ∙ Rattle.std.proofs.lemmas.List.length-replicate (length t.net.now.chans) None;
+    ends_too = ap length b.takes ∙ Rattle.std.proofs.lemmas.List.length-replicate (length t.net.now.chans) None;
     clock = b.clock ∙ ap (last_stamp 0) (sym b.log);
     after = after;
     local = local;
     sees = sees;
-    exit = exit_opening t.net t.inputs w.portion.state w.log.items b.of b.state b.log;
+    exit = exit_opening t.net.now t.inputs w.portion.state w.log.items b.of b.state b.log;
     held = λ c i. empty c ∙ ap (λ o. values (held_by o)) (sym (no_take c));
     held_stamps = λ c i. unstamped c i.0 ∙ ap (λ o. stamps_of (held_by o)) (sym (no_take c));
     puts_out = λ c p is. absurd (none_is (put_end w c) p (no_put c) is);

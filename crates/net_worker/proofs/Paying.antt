@@ -116,13 +116,13 @@ module _ (n a b d : ℕ) (es e1 e2 e3 : List (Option TakeEnd)) (distinct : AllDi
 -- ---- a worker
 
 module _ (t : Tables) (a : Worker) (m : IsMadeOf t a) (u : ℕ) (mine : owner_in t u ≡ a.number) where
-  pub all_hold : (ps : List ℕ) → AllByRecursion (Has (head_at t.net (state_of a.portion.state) u)) ps → AllHold t.net u a.takes.items ps
+  pub all_hold : (ps : List ℕ) → AllByRecursion (Has (head_at t.net.now (state_of a.portion.state) u)) ps → AllHold t.net.now u a.takes.items ps
   all_hold [] h = tt
   all_hold (p ∷ ps) h = (holds_at t a m u mine p h.0, all_hold ps h.1)
 
-  pub all_payable : (n : ℕ) (es : List (Option TakeEnd)) → a.clock < n → TakesAsked a.takes.items es → (ps : List ℕ) → Each (Has (head_at t.net (state_of a.portion.state) u)) ps → AllPayable t.net u n es ps
+  pub all_payable : (n : ℕ) (es : List (Option TakeEnd)) → a.clock < n → TakesAsked a.takes.items es → (ps : List ℕ) → Each (Has (head_at t.net.now (state_of a.portion.state) u)) ps → AllPayable t.net.now u n es ps
   all_payable n es l k [] h = tt
-  all_payable n es l k (p ∷ ps) h = (payable_at t a m (into u p t.net.chans) n es l k (holds_at t a m u mine p h.0), all_payable n es l k ps h.1)
+  all_payable n es l k (p ∷ ps) h = (payable_at t a m (into u p t.net.now.chans) n es l k (holds_at t a m u mine p h.0), all_payable n es l k ps h.1)
 
 pub three_taken : (net : Net) (u n p q r a b d : ℕ) (es e1 e2 e3 : List (Option TakeEnd)) → a ≡ into u p net.chans → b ≡ into u q net.chans → d ≡ into u r net.chans → AllDistinct (chans_into net u (p ∷ q ∷ r ∷ []))
     → TakeStep true n (get_or es a None) (get_or e1 a None) → ((c : ℕ) → c ≢ a → get_or e1 c None ≡ get_or es c None)

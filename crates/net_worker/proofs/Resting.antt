@@ -24,57 +24,57 @@ no_effect : {X : Type 0} (o : Option X) (P : X → Type 0) → o ≡ None → Is
 no_effect None P q h = h
 no_effect (Some x) P q h = cc
 
-module _ (t : Tables) (a b : Worker) (m : IsMadeOf t a) (k : IsMadeOf t b) (number : b.number ≡ a.number) (log : b.log ≡ a.log) (not_full : IsFull a → ⊥) (f : Firing) (mine : owner_in t f.unit ≡ b.number) (inner : IsInner t.net (owner_in t) f.unit) (e : enabled t.net (state_of b.portion.state) f) where
-  not_into : (p : ℕ) → IsInto t a.number (into f.unit p t.net.chans) → ⊥
+module _ (t : Tables) (a b : Worker) (m : IsMadeOf t a) (k : IsMadeOf t b) (number : b.number ≡ a.number) (log : b.log ≡ a.log) (not_full : IsFull a → ⊥) (f : Firing) (mine : owner_in t f.unit ≡ b.number) (inner : IsInner t.net.now (owner_in t) f.unit) (e : enabled t.net.now (state_of b.portion.state) f) where
+  not_into : (p : ℕ) → IsInto t a.number (into f.unit p t.net.now.chans) → ⊥
   not_into p i =
-      let c = into f.unit p t.net.chans in
-      let at = (is_at-inv (chan_at t.net c).to f.unit p (into-at f.unit p t.net.chans i.0)).0 in
+      let c = into f.unit p t.net.now.chans in
+      let at = (is_at-inv (chan_at t.net.now c).to f.unit p (into-at f.unit p t.net.now.chans i.0)).0 in
       i.2 (inner c (inr at) ∙ i.1)
 
-  not_out : (p : ℕ) → IsOutOf t a.number (out_of f.unit p t.net.chans) → ⊥
+  not_out : (p : ℕ) → IsOutOf t a.number (out_of f.unit p t.net.now.chans) → ⊥
   not_out p i =
-      let c = out_of f.unit p t.net.chans in
-      let at = (is_at-inv (chan_at t.net c).from f.unit p (out_of-at f.unit p t.net.chans i.0)).0 in
+      let c = out_of f.unit p t.net.now.chans in
+      let at = (is_at-inv (chan_at t.net.now c).from f.unit p (out_of-at f.unit p t.net.now.chans i.0)).0 in
       i.2 (sym (inner c (inl at)) ∙ i.1)
 
-  none_held : (p : ℕ) → held_stamp (held_by (take_end b (into f.unit p t.net.chans))) ≡ 0
-  none_held p = by (take_end b (into f.unit p t.net.chans)) refl
+  none_held : (p : ℕ) → held_stamp (held_by (take_end b (into f.unit p t.net.now.chans))) ≡ 0
+  none_held p = by (take_end b (into f.unit p t.net.now.chans)) refl
     where
-      by : (o : Option TakeEnd) → take_end b (into f.unit p t.net.chans) ≡ o → held_stamp (held_by o) ≡ 0
+      by : (o : Option TakeEnd) → take_end b (into f.unit p t.net.now.chans) ≡ o → held_stamp (held_by o) ≡ 0
       by None is = refl
-      by (Some x) is = absurd (not_into p (subst (λ n. IsInto t n (into f.unit p t.net.chans)) number (k.takes_in (into f.unit p t.net.chans) x is).0))
+      by (Some x) is = absurd (not_into p (subst (λ n. IsInto t n (into f.unit p t.net.now.chans)) number (k.takes_in (into f.unit p t.net.now.chans) x is).0))
 
-  none_greatest : (ps : List ℕ) → greatest_in t.net b.takes.items f.unit ps ≡ 0
+  none_greatest : (ps : List ℕ) → greatest_in t.net.now b.takes.items f.unit ps ≡ 0
   none_greatest [] = refl
   none_greatest (p ∷ ps) = (let x = none_held p in let y = none_greatest ps in omega arith)
 
   none_told : (put : Option Put) (r : ℕ) → ToldBy t a b f.unit put r → r ≡ 0
   none_told None r h = h
-  none_told (Some w) r h = by (put_end a (out_of f.unit w.place t.net.chans)) refl h
+  none_told (Some w) r h = by (put_end a (out_of f.unit w.place t.net.now.chans)) refl h
     where
-      by : (o : Option PutEnd) → put_end a (out_of f.unit w.place t.net.chans) ≡ o → ToldAt o (put_end b (out_of f.unit w.place t.net.chans)) r → r ≡ 0
+      by : (o : Option PutEnd) → put_end a (out_of f.unit w.place t.net.now.chans) ≡ o → ToldAt o (put_end b (out_of f.unit w.place t.net.now.chans)) r → r ≡ 0
       by None is h = h
-      by (Some p) is h = absurd (not_out w.place (m.puts_out (out_of f.unit w.place t.net.chans) p is).0)
+      by (Some p) is h = absurd (not_out w.place (m.puts_out (out_of f.unit w.place t.net.now.chans) p is).0)
 
   clock : b.clock ≡ a.clock
   clock = k.clock ∙ (ap (λ g. last_stamp 0 g.items) log ∙ sym m.clock)
 
-  waiting : (p : ℕ) → waits t.net (state_of b.portion.state) f ≡ Some p → ⊥
-  waiting p w = no_effect (effect t.net (state_of b.portion.state) f) (λ y. has_room t.net (state_of b.portion.state) f.unit y.put)
-      (waits_effect (row (kind_of t.net f.unit) f.act (get_or (state_of b.portion.state).own f.unit idle) (at_array (state_of b.portion.state).arrays (uses (kind_of t.net f.unit))) (setting t.net (state_of b.portion.state))) (head_at t.net (state_of b.portion.state) f.unit) p w) e
+  waiting : (p : ℕ) → waits t.net.now (state_of b.portion.state) f ≡ Some p → ⊥
+  waiting p w = no_effect (effect t.net.now (state_of b.portion.state) f) (λ y. has_room t.net.now (state_of b.portion.state) f.unit y.put)
+      (waits_effect (row (kind_of t.net.now f.unit) f.act (get_or (state_of b.portion.state).own f.unit idle) (at_array (state_of b.portion.state).arrays (uses (kind_of t.net.now f.unit))) (setting t.net.now (state_of b.portion.state))) (head_at t.net.now (state_of b.portion.state) f.unit) p w) e
 
-  room : (x : Effect) → effect t.net (state_of b.portion.state) f ≡ Some x → has_room t.net (state_of b.portion.state) f.unit x.put
-  room x does = subst (λ o. IsSomeAnd o (λ y. has_room t.net (state_of b.portion.state) f.unit y.put)) does e
+  room : (x : Effect) → effect t.net.now (state_of b.portion.state) f ≡ Some x → has_room t.net.now (state_of b.portion.state) f.unit x.put
+  room x does = subst (λ o. IsSomeAnd o (λ y. has_room t.net.now (state_of b.portion.state) f.unit y.put)) does e
 
   never : IsHeldBack t a b f → ⊥
-  never (cause.stops none w) = no_effect (effect t.net (state_of b.portion.state) f) (λ y. has_room t.net (state_of b.portion.state) f.unit y.put) none e
+  never (cause.stops none w) = no_effect (effect t.net.now (state_of b.portion.state) f) (λ y. has_room t.net.now (state_of b.portion.state) f.unit y.put) none e
   never (cause.inner_input p w n) = waiting p w
-  never (cause.inner_output x w does is n l) = (let r = subst (has_room t.net (state_of b.portion.state) f.unit) is (room x does) in absurd (omega arith))
+  never (cause.inner_output x w does is n l) = (let r = subst (has_room t.net.now (state_of b.portion.state) f.unit) is (room x does) in absurd (omega arith))
   never (cause.no_token p w i n) = not_into p i
   never (cause.no_credit x w does is i n) = not_out w.place i
   never (cause.no_slot x w does is i n) = not_out w.place i
   never (cause.late x r does told l) =
-      let g = none_greatest (used t.net (state_of b.portion.state) f) in
+      let g = none_greatest (used t.net.now (state_of b.portion.state) f) in
       let z = none_told x.put r told in
       let s = a.stamp in
       let full : a.clock + 1 ≡ 2 ^ 62 = omega (arith, clock) in

@@ -270,7 +270,7 @@ mended_kept t a b m = record {
   outs = m.outs;
   ins = m.ins;
   closed = m.closed;
-  rests = λ r. (sym m.resting ∙ r, λ c w. ap (λ (v : _). get_or v.items c false) m.waits ∙ w);
+  rests = λ r. (sym m.resting ∙ r, λ c w. subst (λ v. IsSome (get_or v.items c None)) (sym m.waits) w);
   puts = λ c. put_step (put_end a c) (put_end b c) (m.puts c);
   takes = λ c. take_step (take_end a c) (take_end b c) (m.takes c);
 }

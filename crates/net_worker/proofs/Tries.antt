@@ -64,7 +64,7 @@ own_other t a u n = (record { asked = asked_self a; refused = λ q. absurd (n q)
 -- ---- the acts of a unit, one after another
 
 module _ (t : Tables) (a m b : Worker) (u : ℕ) (from act : Act) (first : IsAsked a m) (r : Tried) (tried_so : OneTriedAs t r m b (firing u act)) (not_made : r ≡ tried.Made → ⊥)
-    (least : IsLeastAct t.net (state_of m.portion.state) u from act) where
+    (least : IsLeastAct t.net.now (state_of m.portion.state) u from act) where
   held : IsHeld t m b (firing u act)
   held = one_held t m b (firing u act) r tried_so not_made
 
@@ -74,40 +74,40 @@ module _ (t : Tables) (a m b : Worker) (u : ℕ) (from act : Act) (first : IsAsk
   state_m : state_of b.portion.state ≡ state_of m.portion.state
   state_m = ap (λ p. state_of p.state) held.asked.portion
 
-  in_m : (x : Act) → enabled t.net (state_of b.portion.state) (firing u x) → enabled t.net (state_of m.portion.state) (firing u x)
-  in_m x e = subst (λ s. enabled t.net s (firing u x)) state_m e
+  in_m : (x : Act) → enabled t.net.now (state_of b.portion.state) (firing u x) → enabled t.net.now (state_of m.portion.state) (firing u x)
+  in_m x e = subst (λ s. enabled t.net.now s (firing u x)) state_m e
 
-  module _ (sofar : (x : Act) → enabled t.net (state_of m.portion.state) (firing u x) → (ActLe from x → ⊥) → IsRefused t a m (firing u x)) where
+  module _ (sofar : (x : Act) → enabled t.net.now (state_of m.portion.state) (firing u x) → (ActLe from x → ⊥) → IsRefused t a m (firing u x)) where
     abbrev Refused : Act → Type 0
     Refused x = IsRefused t a b (firing u x)
 
-    before : (x : Act) → enabled t.net (state_of m.portion.state) (firing u x) → (ActLe from x → ⊥) → Refused x
+    before : (x : Act) → enabled t.net.now (state_of m.portion.state) (firing u x) → (ActLe from x → ⊥) → Refused x
     before x e n = refused_on t a m b (firing u x) first held.asked (sofar x e n)
 
     here : Refused act
     here = refused_since t a m b (firing u act) first held.refused
 
-    pub refused_up_to : (x : Act) → enabled t.net (state_of b.portion.state) (firing u x) → ActLe x act → IsRefused t a b (firing u x)
-    refused_up_to x e l = up_to t.net (state_of m.portion.state) u from act Refused before least here x (in_m x e) l
+    pub refused_up_to : (x : Act) → enabled t.net.now (state_of b.portion.state) (firing u x) → ActLe x act → IsRefused t a b (firing u x)
+    refused_up_to x e l = up_to t.net.now (state_of m.portion.state) u from act Refused before least here x (in_m x e) l
 
-    pub refused_before : (next : Act) → IsNextAct act next → (x : Act) → ActFits x → enabled t.net (state_of b.portion.state) (firing u x) → (ActLe next x → ⊥) → IsRefused t a b (firing u x)
-    refused_before next i x fits e n = before_next t.net (state_of m.portion.state) u from act Refused before least here next i x fits (in_m x e) n
+    pub refused_before : (next : Act) → IsNextAct act next → (x : Act) → ActFits x → enabled t.net.now (state_of b.portion.state) (firing u x) → (ActLe next x → ⊥) → IsRefused t a b (firing u x)
+    refused_before next i x fits e n = before_next t.net.now (state_of m.portion.state) u from act Refused before least here next i x fits (in_m x e) n
 
-  module _ (waits : r ≡ tried.Waiting) (sofar : (x : Act) → enabled t.net (state_of m.portion.state) (firing u x) → (ActLe from x → ⊥) → IsWaiting t m (firing u x)) where
+  module _ (waits : r ≡ tried.Waiting) (sofar : (x : Act) → enabled t.net.now (state_of m.portion.state) (firing u x) → (ActLe from x → ⊥) → IsWaiting t m (firing u x)) where
     abbrev Waits : Act → Type 0
     Waits x = IsWaiting t b (firing u x)
 
-    waits_sofar : (x : Act) → enabled t.net (state_of m.portion.state) (firing u x) → (ActLe from x → ⊥) → Waits x
+    waits_sofar : (x : Act) → enabled t.net.now (state_of m.portion.state) (firing u x) → (ActLe from x → ⊥) → Waits x
     waits_sofar x e n = waiting_on t m b held.asked.number state_m held.asked.waits (firing u x) (sofar x e n)
 
     waits_here : Waits act
     waits_here = one_waits t m b (firing u act) r tried_so waits
 
-    pub waits_up_to : (x : Act) → enabled t.net (state_of b.portion.state) (firing u x) → ActLe x act → IsWaiting t b (firing u x)
-    waits_up_to x e l = up_to t.net (state_of m.portion.state) u from act Waits waits_sofar least waits_here x (in_m x e) l
+    pub waits_up_to : (x : Act) → enabled t.net.now (state_of b.portion.state) (firing u x) → ActLe x act → IsWaiting t b (firing u x)
+    waits_up_to x e l = up_to t.net.now (state_of m.portion.state) u from act Waits waits_sofar least waits_here x (in_m x e) l
 
-    pub waits_before : (next : Act) → IsNextAct act next → (x : Act) → ActFits x → enabled t.net (state_of b.portion.state) (firing u x) → (ActLe next x → ⊥) → IsWaiting t b (firing u x)
-    waits_before next i x fits e n = before_next t.net (state_of m.portion.state) u from act Waits waits_sofar least waits_here next i x fits (in_m x e) n
+    pub waits_before : (next : Act) → IsNextAct act next → (x : Act) → ActFits x → enabled t.net.now (state_of b.portion.state) (firing u x) → (ActLe next x → ⊥) → IsWaiting t b (firing u x)
+    waits_before next i x fits e n = before_next t.net.now (state_of m.portion.state) u from act Waits waits_sofar least waits_here next i x fits (in_m x e) n
 
 -- ---- the units, one after another
 
@@ -118,8 +118,8 @@ module _ (t : Tables) (a m b : Worker) (u : ℕ) (first : IsAsked a m) (r : Trie
   pub own_asked : IsAsked a b
   own_asked = asked_trans a m b first own.asked
 
-  pub own_refused : ((f : Firing) → f.unit < u → owner_in t f.unit ≡ a.number → enabled t.net (state_of a.portion.state) f → IsRefused t a m f)
-      → (f : Firing) → f.unit < u + 1 → owner_in t f.unit ≡ a.number → enabled t.net (state_of a.portion.state) f → IsRefused t a b f
+  pub own_refused : ((f : Firing) → f.unit < u → owner_in t f.unit ≡ a.number → enabled t.net.now (state_of a.portion.state) f → IsRefused t a m f)
+      → (f : Firing) → f.unit < u + 1 → owner_in t f.unit ≡ a.number → enabled t.net.now (state_of a.portion.state) f → IsRefused t a b f
   own_refused sofar f l mine e =
       elim (cases_lt f.unit u) [
         | inl k ↦ refused_on t a m b f first own.asked (sofar f k mine e)
@@ -128,18 +128,18 @@ module _ (t : Tables) (a m b : Worker) (u : ℕ) (first : IsAsked a m) (r : Trie
             refused_since t a m b f first
             (subst (λ n. IsRefused t m b (firing n f.act)) (sym q)
             (own.refused (ap (owner_in t) (sym q) ∙ (mine ∙ sym first.number)) f.act
-            (subst (λ n. enabled t.net (state_of m.portion.state) (firing n f.act)) q (subst (λ s. enabled t.net (state_of s.state) f) (sym first.portion) e)))))
+            (subst (λ n. enabled t.net.now (state_of m.portion.state) (firing n f.act)) q (subst (λ s. enabled t.net.now (state_of s.state) f) (sym first.portion) e)))))
       ]
 
-  pub own_waiting : r ≡ tried.Waiting → ((f : Firing) → f.unit < u → owner_in t f.unit ≡ m.number → enabled t.net (state_of m.portion.state) f → IsWaiting t m f)
-      → (f : Firing) → f.unit < u + 1 → owner_in t f.unit ≡ b.number → enabled t.net (state_of b.portion.state) f → IsWaiting t b f
+  pub own_waiting : r ≡ tried.Waiting → ((f : Firing) → f.unit < u → owner_in t f.unit ≡ m.number → enabled t.net.now (state_of m.portion.state) f → IsWaiting t m f)
+      → (f : Firing) → f.unit < u + 1 → owner_in t f.unit ≡ b.number → enabled t.net.now (state_of b.portion.state) f → IsWaiting t b f
   own_waiting q sofar f l mine e =
       elim (cases_lt f.unit u) [
-        | inl k ↦ waiting_on t m b own.asked.number (ap (λ p. state_of p.state) own.asked.portion) own.asked.waits f (sofar f k (mine ∙ own.asked.number) (subst (λ s. enabled t.net (state_of s.state) f) own.asked.portion e))
+        | inl k ↦ waiting_on t m b own.asked.number (ap (λ p. state_of p.state) own.asked.portion) own.asked.waits f (sofar f k (mine ∙ own.asked.number) (subst (λ s. enabled t.net.now (state_of s.state) f) own.asked.portion e))
         | inr k ↦
             (let z : f.unit ≡ u = omega arith in
             subst (λ n. IsWaiting t b (firing n f.act)) (sym z)
-            (own_waits t m b u r tried_so q (ap (owner_in t) (sym z) ∙ (mine ∙ own.asked.number)) f.act (subst (λ n. enabled t.net (state_of b.portion.state) (firing n f.act)) z e)))
+            (own_waits t m b u r tried_so q (ap (owner_in t) (sym z) ∙ (mine ∙ own.asked.number)) f.act (subst (λ n. enabled t.net.now (state_of b.portion.state) (firing n f.act)) z e)))
       ]
 
 pub both_true : (a b : Bool) → (a && b) ≡ true → (a ≡ true) × (b ≡ true)

@@ -86,7 +86,7 @@ pub denied_more : (a m b : Worker) (c d : ℕ) → IsLooked a m → IsDenied c m
 denied_more a m b c d l h sofar w = by (cases_eq d c)
   where
     waited : IsAwaited m d
-    waited = ap (λ v. get_or v.items d false) (sym h.waits) ∙ w
+    waited = subst (λ v. IsSome (get_or v.items d None)) h.waits w
 
     by : (d ≡ c) ⊎ (d ≡ c → ⊥) → NoCreditAt (put_end a d) (put_end b d)
     by (inl q) = no_credit_since (put_end a d) (put_end m d) (put_end b d) (l.puts.each d) (subst (λ k. NoCreditAt (put_end m k) (put_end b k)) (sym q) (h.none (subst (IsAwaited m) q waited)))
@@ -119,7 +119,7 @@ looked_again t a m b l k = record {
 }
 
 -- the channel of an effect's token is noted
-pub put_noted : (t : Tables) (b : Worker) (u : ℕ) (x e : Effect) (p : Put) (c : ℕ) → e ≡ x → e.put ≡ Some p → c ≡ out_of u p.place t.net.chans → IsOutOf t b.number c → IsAwaited b c → PutWaits t b u x.put
+pub put_noted : (t : Tables) (b : Worker) (u : ℕ) (x e : Effect) (p : Put) (c : ℕ) → e ≡ x → e.put ≡ Some p → c ≡ out_of u p.place t.net.now.chans → IsOutOf t b.number c → IsAwaited b c → PutWaits t b u x.put
 put_noted t b u x e p c same is at out waits = subst (λ (y : Effect). PutWaits t b u y.put) same (subst (PutWaits t b u) (sym is) (subst (λ k. IsOutOf t b.number k × IsAwaited b k) at (out, waits)))
 
 -- one end was asked

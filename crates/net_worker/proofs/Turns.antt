@@ -82,5 +82,5 @@ pub room_by_moves : (net : Net) (s : State) (u : ℕ) (p : Plan) (m : Moves) →
 room_by_moves net s u p m is h = laid_room net s u p.put (subst (λ (x : Moves). HasRoomToLay net s x.laid) is h)
 
 -- after a firing its unit is here with all channels at it
-pub fired_pins : (t : Tables) (a m : Worker) (f : Firing) → HasUnit t a f.unit → IsFiredExactly t a m f → HasPins t.net m.portion f.unit
-fired_pins t a m f own o = pins_on t.net a.portion m.portion f.unit o.fired.here (unit_pins t a f.unit own)
+pub fired_pins : (t : Tables) (a m : Worker) (f : Firing) → HasUnit t a f.unit → IsFiredExactly t a m f → HasPins t.net.now m.portion f.unit
+fired_pins t a m f own o = pins_on t.net.now a.portion m.portion f.unit o.fired.here (unit_pins t a f.unit own)

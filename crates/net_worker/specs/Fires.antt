@@ -69,18 +69,18 @@ pub record IsFired (t : Tables) (a b : Worker) (f : Firing) (x : Effect) (n : �
   pub items : b.log.items ≡ a.log.items ++ (record { stamp = n; firing = f }) ∷ []
   pub log_room : b.log.room + 1 ≡ a.log.room
   pub clock : b.clock ≡ n
-  pub of : IsOf t.net b.portion.state
+  pub of : IsOf t.net.now b.portion.state
   pub counts : CountsRise max_depth (state_of a.portion.state) (state_of b.portion.state)
   pub here : SameHere a.portion b.portion
-  pub state : IsMadeHere t.net (owner_in t) a.number f.unit x (state_of a.portion.state) (state_of b.portion.state)
+  pub state : IsMadeHere t.net.now (owner_in t) a.number f.unit x (state_of a.portion.state) (state_of b.portion.state)
   pub ends : length b.puts.items ≡ length a.puts.items
   pub ends_too : length b.takes.items ≡ length a.takes.items
   pub outs : b.outs ≡ a.outs
   pub ins : b.ins ≡ a.ins
   pub closed : b.closed ≡ a.closed
   pub resting : b.resting ≡ false
-  pub puts : (c : ℕ) → PutStep n (puts_on t.net f.unit x.put c) (put_end a c) (put_end b c)
-  pub takes : (c : ℕ) → TakeStep (takes_from t.net f.unit x c) n (take_end a c) (take_end b c)
+  pub puts : (c : ℕ) → PutStep n (puts_on t.net.now f.unit x.put c) (put_end a c) (put_end b c)
+  pub takes : (c : ℕ) → TakeStep (takes_from t.net.now f.unit x c) n (take_end a c) (take_end b c)
 
 abbrev pub MadeFires : Type 0
 MadeFires = (t : Tables) (a b : Worker) (f : Firing) (x : Effect) (n : ℕ) → IsMadeOf t a → IsWhole t a → IsFired t a b f x n → IsMadeOf t b

@@ -76,5 +76,5 @@ pub record IsFiredExactly (t : Tables) (a b : Worker) (f : Firing) : Type 0 wher
   pub stamp : ℕ
   pub fired : IsFired t a b f effect stamp
   pub told : ℕ
-  pub by : ToldFor t.net f.unit effect.put a.puts.items b.puts.items told
+  pub by : ToldFor t.net.now f.unit effect.put a.puts.items b.puts.items told
   pub exact : stamp ≡ suc (max (base_of t a f) told)

@@ -34,12 +34,12 @@ HasAdded n a b = length b.log.items ≡ length a.log.items + n
 
 -- the greatest of the clock and the stamps of the tokens that are held at the places that a firing uses
 abbrev pub base_of : Tables → Worker → Firing → ℕ
-base_of t w f = max w.clock (greatest_in t.net w.takes.items f.unit (used t.net (state_of w.portion.state) f))
+base_of t w f = max w.clock (greatest_in t.net.now w.takes.items f.unit (used t.net.now (state_of w.portion.state) f))
 
 -- the firing was not made, although it has an effect: its token was refused
 abbrev pub IsRefused : Tables → Worker → Worker → Firing → Type 0
-IsRefused t a b f = (x : Effect) → effect t.net (state_of a.portion.state) f ≡ Some x
-    → IsNotOffered t.net (state_of a.portion.state) f.unit x.put (base_of t a f) a.puts.items b.puts.items
+IsRefused t a b f = (x : Effect) → effect t.net.now (state_of a.portion.state) f ≡ Some x
+    → IsNotOffered t.net.now (state_of a.portion.state) f.unit x.put (base_of t a f) a.puts.items b.puts.items
 
 -- the worker was only asked, and the firing was not made
 pub record IsHeld (t : Tables) (a b : Worker) (f : Firing) : Type 0 where
@@ -49,16 +49,16 @@ pub record IsHeld (t : Tables) (a b : Worker) (f : Firing) : Type 0 where
 -- of all firings of the unit u, each that is enabled in the state held was refused
 pub record IsUnitHeld (t : Tables) (a b : Worker) (u : ℕ) : Type 0 where
   pub asked : IsAsked a b
-  pub refused : (act : Act) → enabled t.net (state_of a.portion.state) (firing u act) → IsRefused t a b (firing u act)
+  pub refused : (act : Act) → enabled t.net.now (state_of a.portion.state) (firing u act) → IsRefused t a b (firing u act)
 
 -- the same, where the unit is the worker's own
 pub record IsOwnHeld (t : Tables) (a b : Worker) (u : ℕ) : Type 0 where
   pub asked : IsAsked a b
-  pub refused : owner_in t u ≡ a.number → (act : Act) → enabled t.net (state_of a.portion.state) (firing u act) → IsRefused t a b (firing u act)
+  pub refused : owner_in t u ≡ a.number → (act : Act) → enabled t.net.now (state_of a.portion.state) (firing u act) → IsRefused t a b (firing u act)
 
 -- each firing of the unit u that is enabled in the state held waits for a credit
 abbrev pub UnitWaits : Tables → Worker → ℕ → Type 0
-UnitWaits t w u = (act : Act) → enabled t.net (state_of w.portion.state) (firing u act) → IsWaiting t w (firing u act)
+UnitWaits t w u = (act : Act) → enabled t.net.now (state_of w.portion.state) (firing u act) → IsWaiting t w (firing u act)
 
 -- the numbers of the unit's acts that are enabled have their bits
 abbrev pub ActsFit : Net → State → ℕ → Type 0
@@ -67,7 +67,7 @@ ActsFit net s u = (act : Act) → enabled net s (firing u act) → ActFits act
 -- so of all units of the worker
 pub record IsAllHeld (t : Tables) (a b : Worker) : Type 0 where
   pub asked : IsAsked a b
-  pub refused : (f : Firing) → owner_in t f.unit ≡ a.number → enabled t.net (state_of a.portion.state) f → IsRefused t a b f
+  pub refused : (f : Firing) → owner_in t f.unit ≡ a.number → enabled t.net.now (state_of a.portion.state) f → IsRefused t a b f
 
 -- ---- what trying firings came to
 

@@ -28,7 +28,7 @@ IsNotOfferedInside net s u put above = (ps : List (Option PutEnd)) → HasNoEnd 
 
 -- where the channel is one of the net, both its units have one owner
 abbrev pub StaysInside : Tables → ℕ → Type 0
-StaysInside t c = c < length t.net.chans → putter t.net (owner_in t) c ≡ taker t.net (owner_in t) c
+StaysInside t c = c < length t.net.now.chans → putter t.net.now (owner_in t) c ≡ taker t.net.now (owner_in t) c
 
 -- a channel both of whose units have one owner has no end among these
 abbrev pub AreBetween : {A : Type 0} → Tables → List (Option A) → Type 0

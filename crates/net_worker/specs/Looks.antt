@@ -29,7 +29,7 @@ pub record IsLaid (t : Tables) (a b : Worker) (c : ℕ) (e e' : TakeEnd) (x : To
   pub ins : b.ins ≡ a.ins
   pub closed : b.closed ≡ a.closed
   pub resting : b.resting ≡ false
-  pub of : IsOf t.net b.portion.state
+  pub of : IsOf t.net.now b.portion.state
   pub here : SameHere a.portion b.portion
   pub state : state_of b.portion.state ≡ with_tokens (put_at_end c x.value (state_of a.portion.state).tokens) (state_of a.portion.state)
 

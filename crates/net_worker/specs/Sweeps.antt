@@ -1,5 +1,5 @@
 -- What a sweep answers, which stamps it gives, and what held the firings of an idle sweep back.
-use Rattle.std.specs.Prelude.{◌≡◌, ℕ, suc, ◌+◌, ◌<◌, ◌≤◌, ◌^◌, max, Option, Some, None, List, [], ◌∷◌, ◌++◌, length, get_or}
+use Rattle.std.specs.Prelude.{◌≡◌, ◌⊎◌, ℕ, suc, ◌+◌, ◌<◌, ◌≤◌, ◌^◌, max, Option, Some, None, List, [], ◌∷◌, ◌++◌, length, get_or}
 use Rattle.net_types.specs.declared.net.Net.{Net}
 use Rattle.net_types.specs.declared.firing.Firing.{Firing}
 use Rattle.net_types.specs.Nets.{into, out_of, chan_at, kind_of, uses}
@@ -33,24 +33,24 @@ greatest net s u (p ∷ ps) = max (stamp_or_0 (first (stamps_at s (into u p net.
 -- the stamp that the end of the output's channel told when it was asked: that of messages received by then; 0 where the channel goes to
 -- no other worker
 abbrev pub ToldBy : Tables → Worker → Worker → ℕ → Option Put → ℕ → Type 0
-ToldBy t a b u put r = ToldFor t.net u put a.puts.items b.puts.items r
+ToldBy t a b u put r = ToldFor t.net.now u put a.puts.items b.puts.items r
 
 -- from the state s and the clock on, each entry's stamp is one above the greatest of the clock, the stamps of the tokens that it uses and
 -- the stamp that its output's end told
 abbrev pub AreExact : Tables → Worker → Worker → ℕ → Stamped → List Entry → Type 0
 AreExact t a b clock s [] = Unit {0}
 AreExact t a b clock s (e ∷ es) =
-    ((x : Effect) × (effect t.net s.state e.firing ≡ Some x)
+    ((x : Effect) × (effect t.net.now s.state e.firing ≡ Some x)
     × (r : ℕ) × ToldBy t a b e.firing.unit x.put r
-    × (e.stamp ≡ suc (max clock (max (greatest t.net s e.firing.unit (used t.net s.state e.firing)) r))))
-    × AreExact t a b e.stamp (after_at t.net e.stamp s e.firing) es
+    × (e.stamp ≡ suc (max clock (max (greatest t.net.now s e.firing.unit (used t.net.now s.state e.firing)) r))))
+    × AreExact t a b e.stamp (after_at t.net.now e.stamp s e.firing) es
 
 -- the entries that a sweep added have exact stamps, from the state after the log that it found and the tokens that were handed out by its end
 pub record SweptExactly (t : Tables) (a b : Worker) : Type 0 where
   pub added : List Entry
   pub log : b.log.items ≡ a.log.items ++ added
   pub from : Stamped
-  pub plays : Plays t.net (owner_in t) a.number 0 (fed_opening t.net t.inputs (λ c. handed_by (take_end b c))) a.log.items from
+  pub plays : Plays t.net.now (owner_in t) a.number 0 (fed_opening t.net.now t.inputs (λ c. handed_by (take_end b c))) a.log.items from
   pub exact : AreExact t a b a.clock from added
 
 -- ---- what holds a firing back
@@ -88,24 +88,28 @@ greatest_held net w u ps = greatest_in net w.takes.items u ps
 -- why a firing of the worker was not made, from the state of the worker after the sweep, which is that before it but for tokens handed out
 pub data IsHeldBack (t : Tables) (a b : Worker) (f : Firing) : Type 0 where
   -- its unit's own state, or the channels between the worker's own units
-  stops : effect t.net (state_of b.portion.state) f ≡ None → waits t.net (state_of b.portion.state) f ≡ None → IsHeldBack t a b f
-  inner_input : (p : ℕ) → waits t.net (state_of b.portion.state) f ≡ Some p → (IsInto t a.number (into f.unit p t.net.chans) → ⊥) → IsHeldBack t a b f
-  inner_output : (x : Effect) (w : Put) → effect t.net (state_of b.portion.state) f ≡ Some x → x.put ≡ Some w → (IsOutOf t a.number (out_of f.unit w.place t.net.chans) → ⊥)
-      → (chan_at t.net (out_of f.unit w.place t.net.chans)).slots ≤ length (tokens_at (state_of b.portion.state) (out_of f.unit w.place t.net.chans)) → IsHeldBack t a b f
+  stops : effect t.net.now (state_of b.portion.state) f ≡ None → waits t.net.now (state_of b.portion.state) f ≡ None → IsHeldBack t a b f
+  inner_input : (p : ℕ) → waits t.net.now (state_of b.portion.state) f ≡ Some p → (IsInto t a.number (into f.unit p t.net.now.chans) → ⊥) → IsHeldBack t a b f
+  inner_output : (x : Effect) (w : Put) → effect t.net.now (state_of b.portion.state) f ≡ Some x → x.put ≡ Some w → (IsOutOf t a.number (out_of f.unit w.place t.net.now.chans) → ⊥)
+      → (chan_at t.net.now (out_of f.unit w.place t.net.now.chans)).slots ≤ length (tokens_at (state_of b.portion.state) (out_of f.unit w.place t.net.now.chans)) → IsHeldBack t a b f
   -- a channel from or to another worker
-  no_token : (p : ℕ) → waits t.net (state_of b.portion.state) f ≡ Some p → IsInto t a.number (into f.unit p t.net.chans) → NoToken (into f.unit p t.net.chans) a b → IsHeldBack t a b f
-  no_credit : (x : Effect) (w : Put) → effect t.net (state_of b.portion.state) f ≡ Some x → x.put ≡ Some w → IsOutOf t a.number (out_of f.unit w.place t.net.chans)
-      → NoCredit (out_of f.unit w.place t.net.chans) a b → IsHeldBack t a b f
-  no_slot : (x : Effect) (w : Put) → effect t.net (state_of b.portion.state) f ≡ Some x → x.put ≡ Some w → IsOutOf t a.number (out_of f.unit w.place t.net.chans)
-      → NoSlot (out_of f.unit w.place t.net.chans) a b → IsHeldBack t a b f
+  no_token : (p : ℕ) → waits t.net.now (state_of b.portion.state) f ≡ Some p → IsInto t a.number (into f.unit p t.net.now.chans) → NoToken (into f.unit p t.net.now.chans) a b → IsHeldBack t a b f
+  no_credit : (x : Effect) (w : Put) → effect t.net.now (state_of b.portion.state) f ≡ Some x → x.put ≡ Some w → IsOutOf t a.number (out_of f.unit w.place t.net.now.chans)
+      → NoCredit (out_of f.unit w.place t.net.now.chans) a b → IsHeldBack t a b f
+  no_slot : (x : Effect) (w : Put) → effect t.net.now (state_of b.portion.state) f ≡ Some x → x.put ≡ Some w → IsOutOf t a.number (out_of f.unit w.place t.net.now.chans)
+      → NoSlot (out_of f.unit w.place t.net.now.chans) a b → IsHeldBack t a b f
   -- its stamp would be 2^62
-  late : (x : Effect) (r : ℕ) → effect t.net (state_of b.portion.state) f ≡ Some x → ToldBy t a b f.unit x.put r
-      → 2 ^ 62 ≤ suc (max b.clock (max (greatest_held t.net b f.unit (used t.net (state_of b.portion.state) f)) r)) → IsHeldBack t a b f
+  late : (x : Effect) (r : ℕ) → effect t.net.now (state_of b.portion.state) f ≡ Some x → ToldBy t a b f.unit x.put r
+      → 2 ^ 62 ≤ suc (max b.clock (max (greatest_held t.net.now b f.unit (used t.net.now (state_of b.portion.state) f)) r)) → IsHeldBack t a b f
 
 -- ---- answers
 
 abbrev pub AllHeldBack : Tables → Worker → Worker → Type 0
 AllHeldBack t a b = (f : Firing) → owner_in t f.unit ≡ a.number → IsHeldBack t a b f
+
+-- no entry was added: each firing was held back, or none could be added
+abbrev pub IsHeldOrFull : Tables → Worker → Worker → Type 0
+IsHeldOrFull t a b = (b.log ≡ a.log) × (((IsFull a → ⊥) × AllHeldBack t a b) ⊎ IsFull a)
 
 abbrev pub SweptAs : Tables → Swept → Worker → Worker → Type 0
 SweptAs t (swept.Fired n) a b = (0 < n) × (length b.log.items ≡ length a.log.items + n) × (HasLoggedExit t b → ⊥) × (IsFull a → ⊥)

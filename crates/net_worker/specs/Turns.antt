@@ -16,7 +16,7 @@ pub record HasUnit (t : Tables) (w : Worker) (u : ℕ) : Type 0 where
   pub made : IsMadeOf t w
   pub whole : IsWhole t w
   pub mine : owner_in t u ≡ w.number
-  pub within : u < length t.net.units
+  pub within : u < length t.net.now.units
 
 -- the worker made n firings; where it made none, it was only asked
 pub record HasMade (t : Tables) (n : ℕ) (a b : Worker) : Type 0 where

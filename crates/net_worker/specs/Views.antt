@@ -13,7 +13,7 @@ use Rattle.net_worker.specs.declared.entry.Entry.{Entry}
 -- ---- tables
 
 abbrev pub net_of : Tables → Net
-net_of t = t.net
+net_of t = t.net.now
 
 abbrev pub inputs_of : Tables → Inputs
 inputs_of t = t.inputs

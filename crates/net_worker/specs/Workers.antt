@@ -30,10 +30,10 @@ use Rattle.net_worker.specs.declared.worker.Worker.{Worker}
 
 -- the channel goes from a unit of worker j to one of another worker, or the other way
 abbrev pub IsOutOf : Tables → ℕ → ℕ → Type 0
-IsOutOf t j c = (c < length t.net.chans) × (putter t.net (owner_in t) c ≡ j) × (taker t.net (owner_in t) c ≢ j)
+IsOutOf t j c = (c < length t.net.now.chans) × (putter t.net.now (owner_in t) c ≡ j) × (taker t.net.now (owner_in t) c ≢ j)
 
 abbrev pub IsInto : Tables → ℕ → ℕ → Type 0
-IsInto t j c = (c < length t.net.chans) × (taker t.net (owner_in t) c ≡ j) × (putter t.net (owner_in t) c ≢ j)
+IsInto t j c = (c < length t.net.now.chans) × (taker t.net.now (owner_in t) c ≡ j) × (putter t.net.now (owner_in t) c ≢ j)
 
 -- ---- ends
 
@@ -85,7 +85,7 @@ pub record Sees (net : Net) (owner : ℕ → ℕ) (j : ℕ) (s t : State) : Type
 
 -- a firing of the worker waits for a credit of the channel
 abbrev pub IsAwaited : Worker → ℕ → Type 0
-IsAwaited w c = get_or w.waits.items c false ≡ true
+IsAwaited w c = IsSome (get_or w.waits.items c None)
 
 -- each channel that was waited for is waited for still
 abbrev pub WaitsStay : Worker → Worker → Type 0
@@ -94,15 +94,15 @@ WaitsStay a b = (c : ℕ) → IsAwaited a c → IsAwaited b c
 -- this token of the unit u goes to another worker, and its credit is waited for
 abbrev pub PutWaits : Tables → Worker → ℕ → Option Put → Type 0
 PutWaits t w u None = ⊥
-PutWaits t w u (Some p) = IsOutOf t w.number (out_of u p.place t.net.chans) × IsAwaited w (out_of u p.place t.net.chans)
+PutWaits t w u (Some p) = IsOutOf t w.number (out_of u p.place t.net.now.chans) × IsAwaited w (out_of u p.place t.net.now.chans)
 
 -- so does the token of the firing, where it has an effect
 abbrev pub IsWaiting : Tables → Worker → Firing → Type 0
-IsWaiting t w f = (x : Effect) → effect t.net (state_of w.portion.state) f ≡ Some x → PutWaits t w f.unit x.put
+IsWaiting t w f = (x : Effect) → effect t.net.now (state_of w.portion.state) f ≡ Some x → PutWaits t w f.unit x.put
 
 -- so of each firing of the worker's units that is enabled in the state that it holds
 abbrev pub AllWait : Tables → Worker → Type 0
-AllWait t w = (f : Firing) → owner_in t f.unit ≡ w.number → enabled t.net (state_of w.portion.state) f → IsWaiting t w f
+AllWait t w = (f : Firing) → owner_in t f.unit ≡ w.number → enabled t.net.now (state_of w.portion.state) f → IsWaiting t w f
 
 -- ---- the exit
 
@@ -112,37 +112,37 @@ HasExitAmong net es = Any (λ (e : Entry). kind_of net e.firing.unit ≡ Exit) e
 
 -- an entry of the worker's log is a firing of the exit
 abbrev pub HasLoggedExit : Tables → Worker → Type 0
-HasLoggedExit t w = HasExitAmong t.net w.log.items
+HasLoggedExit t w = HasExitAmong t.net.now w.log.items
 
 -- ---- what is here
 
 -- each of the worker's own units is in the portion, with all channels at it
 pub record HoldsOwn (t : Tables) (j : ℕ) (p : PortionView) : Type 0 where
-  pub unit : (u : ℕ) → u < length t.net.units → owner_in t u ≡ j → IsUnitHere p u
-  pub out : (c : ℕ) → c < length t.net.chans → putter t.net (owner_in t) c ≡ j → IsOutHere p c
-  pub into : (c : ℕ) → c < length t.net.chans → taker t.net (owner_in t) c ≡ j → IsInHere p c
+  pub unit : (u : ℕ) → u < length t.net.now.units → owner_in t u ≡ j → IsUnitHere p u
+  pub out : (c : ℕ) → c < length t.net.now.chans → putter t.net.now (owner_in t) c ≡ j → IsOutHere p c
+  pub into : (c : ℕ) → c < length t.net.now.chans → taker t.net.now (owner_in t) c ≡ j → IsInHere p c
 
 -- the worker was made of these tables, and all that holds of it locally
 pub record IsMadeOf (t : Tables) (w : Worker) : Type 0 where
-  pub of : IsOf t.net w.portion.state
+  pub of : IsOf t.net.now w.portion.state
   pub counts : CountsWithin (max_depth * length w.log.items) (state_of w.portion.state)
   pub own : HoldsOwn t w.number w.portion
   pub room : length w.log.items + w.log.room ≡ w.share
-  pub ends : length w.puts.items ≡ length t.net.chans
-  pub ends_too : length w.takes.items ≡ length t.net.chans
+  pub ends : length w.puts.items ≡ length t.net.now.chans
+  pub ends_too : length w.takes.items ≡ length t.net.now.chans
   pub clock : w.clock ≡ last_stamp 0 w.log.items
   -- the state after the log, and what the log and the ends show
   pub after : Stamped
-  pub local : IsLocal t.net t.inputs (owner_in t) w.number (shown w after)
-  pub sees : Sees t.net (owner_in t) w.number (state_of w.portion.state) after.state
+  pub local : IsLocal t.net.now t.inputs (owner_in t) w.number (shown w after)
+  pub sees : Sees t.net.now (owner_in t) w.number (state_of w.portion.state) after.state
   -- in the state that the worker holds the exit has fired exactly where its log says so, whoever owns the exit
-  pub exit : HasExited t.net (state_of w.portion.state) ↔ HasLoggedExit t w
+  pub exit : HasExited t.net.now (state_of w.portion.state) ↔ HasLoggedExit t w
   -- of a channel from another worker the state has the token that the end holds
   pub held : (c : ℕ) → IsInto t w.number c → tokens_at after.state c ≡ values (held_by (take_end w c))
   pub held_stamps : (c : ℕ) → IsInto t w.number c → stamps_at after c ≡ stamps_of (held_by (take_end w c))
   -- ends are those of channels to and from others, with the channels' slots
-  pub puts_out : (c : ℕ) (p : PutEnd) → put_end w c ≡ Some p → IsOutOf t w.number c × (slots_of p ≡ (chan_at t.net c).slots)
-  pub takes_in : (c : ℕ) (e : TakeEnd) → take_end w c ≡ Some e → IsInto t w.number c × (e.slots ≡ (chan_at t.net c).slots)
+  pub puts_out : (c : ℕ) (p : PutEnd) → put_end w c ≡ Some p → IsOutOf t w.number c × (slots_of p ≡ (chan_at t.net.now c).slots)
+  pub takes_in : (c : ℕ) (e : TakeEnd) → take_end w c ≡ Some e → IsInto t w.number c × (e.slots ≡ (chan_at t.net.now c).slots)
   -- the worker knows its channels to and from others
   pub outs : (c : ℕ) → IsOutOf t w.number c → Contains w.outs.items c
   pub outs_only : All (IsOutOf t w.number) w.outs.items
@@ -166,7 +166,7 @@ IsFull w = (w.log.room ≡ 0) ⊎ (w.clock + 1 ≡ 2 ^ 62)
 
 -- no firing of the worker's inner units is enabled in its own units
 abbrev pub HasRested : Tables → Worker → Type 0
-HasRested t w = IsRested t.net (owner_in t) w.number (state_of w.portion.state)
+HasRested t w = IsRested t.net.now (owner_in t) w.number (state_of w.portion.state)
 
 -- ---- the same worker later
 

@@ -42,7 +42,7 @@ impl Worker {
         ensures fired { IfSome result (λ p. IsFiredExactly tables.now self.old self.new firing) }
         ensures held { IfNone result (IsHeld tables.now self.old self.new firing) }
     {
-        let net = &tables.net;
+        let net = tables.net;
         let plan = self.portion.plan(net, firing)?;
         let unit = firing.unit;
         let used = used_places(&net.net().units.as_slice()[unit as usize], plan.takes);
@@ -68,7 +68,7 @@ impl Worker {
         ensures fired { IfSome result (λ p. IsFiredExactly tables.now self.old self.new firing) }
         ensures held { IfNone result (IsHeld tables.now self.old self.new firing) }
     {
-        let net = &tables.net;
+        let net = tables.net;
         let plan = self.portion.plan(net, firing)?;
         let stamp = offer_inside(&self.portion, net, firing.unit, plan.put, self.clock)?;
         self.portion.make(net, firing, plan);

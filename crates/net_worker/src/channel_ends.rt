@@ -38,7 +38,7 @@ impl<T> Model for ChannelEnds<T> {
 
 /// Whether a channel stands at a place.
 #[inline(always)]
-fn stands_at(chans: &[u32], at: usize, chan: u32) -> bool
+pub(crate) fn stands_at(chans: &[u32], at: usize, chan: u32) -> bool
     ensures { IsTrue result → StandsAt chans.now chan at }
 {
     at < chans.len() && chans[at] == chan
@@ -160,6 +160,28 @@ impl<T: Drop> ChannelEnds<T> {
     {
         if let Some(at) = place_of(&self.chans, self.last, chan) {
             self.ends[at] = Some(end);
+        }
+    }
+
+    /// The same. The place is looked for first near a place.
+    pub(crate) fn lay_near(&mut self, chan: u32, near: usize, end: T)
+        requires { Contains self.old.chans chan }
+        ensures within { chan < length self.old.items }
+        ensures items { self.new.items ≡ set self.old.items chan (Some end) }
+        ensures chans { self.new.chans ≡ self.old.chans }
+    {
+        if let Some(at) = place_of(&self.chans, near, chan) {
+            self.ends[at] = Some(end);
+        }
+    }
+
+    /// Drops the end of a channel, where it has one. Its place is looked for first near a place.
+    pub(crate) fn clear_near(&mut self, chan: u32, near: usize)
+        ensures items { self.new.items ≡ set self.old.items chan None }
+        ensures chans { self.new.chans ≡ self.old.chans }
+    {
+        if let Some(at) = place_of(&self.chans, near, chan) {
+            self.ends[at] = None;
         }
     }
 }

@@ -114,11 +114,11 @@ pub(crate) fn offer_on(
         return one_above(above);
     };
     let Some(places) = tables.end_places(laid.chan) else {
-        return offer_inner(portion, &tables.net, laid.chan, above);
+        return offer_inner(portion, tables.net, laid.chan, above);
     };
     match puts.get_mut(laid.chan, places.put as usize) {
         Some(end) => put_above(end, laid.value, above),
-        None => offer_inner(portion, &tables.net, laid.chan, above),
+        None => offer_inner(portion, tables.net, laid.chan, above),
     }
 }
 
@@ -198,6 +198,6 @@ pub(crate) fn hand_over_on(
         return;
     };
     if puts.has_near(laid.chan, places.put as usize) {
-        portion.take_out(&tables.net, laid.chan);
+        portion.take_out(tables.net, laid.chan);
     }
 }

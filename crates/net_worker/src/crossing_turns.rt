@@ -58,7 +58,7 @@ impl Worker {
             self.await_laid(tables, moves.laid);
             return false;
         };
-        self.portion.make_moves(&tables.net, firing, plan, moves);
+        self.portion.make_moves(tables.net, firing, plan, moves);
         hand_over_on(&mut self.portion, &self.puts, tables, offered);
         take_moves(&mut self.takes, tables, moves.taken, stamp);
         self.clock = stamp;
@@ -90,7 +90,7 @@ impl Worker {
         let Some(plan) = plan else {
             return 0;
         };
-        let moves = moves_at(&tables.net, firing.unit, pins, &plan);
+        let moves = moves_at(tables.net, firing.unit, pins, &plan);
         let used = used_on(fork, pins, moves.taken);
         if !self.fire_crossing_moves(tables, firing, plan, moves, used) {
             return 0;
@@ -116,7 +116,7 @@ impl Worker {
         ensures { HasMade tables.now result self.old self.new }
     {
         let pins = tables.net.pins(unit);
-        let plan = self.portion.plan_const_at(&tables.net, unit, value, pins);
+        let plan = self.portion.plan_const_at(tables.net, unit, value, pins);
         let act = Act::Go;
         self.try_crossing_plan(tables, Firing { unit, act }, false, pins, plan)
     }
@@ -130,7 +130,7 @@ impl Worker {
         ensures { HasMade tables.now result self.old self.new }
     {
         let pins = tables.net.pins(unit);
-        let plan = self.portion.plan_op1_at(&tables.net, unit, op, pins);
+        let plan = self.portion.plan_op1_at(tables.net, unit, op, pins);
         let act = Act::Go;
         self.try_crossing_plan(tables, Firing { unit, act }, false, pins, plan)
     }
@@ -144,7 +144,7 @@ impl Worker {
         ensures { HasMade tables.now result self.old self.new }
     {
         let pins = tables.net.pins(unit);
-        let plan = self.portion.plan_op2_at(&tables.net, unit, op, pins);
+        let plan = self.portion.plan_op2_at(tables.net, unit, op, pins);
         let act = Act::Go;
         self.try_crossing_plan(tables, Firing { unit, act }, false, pins, plan)
     }
@@ -158,7 +158,7 @@ impl Worker {
         ensures { HasMade tables.now result self.old self.new }
     {
         let pins = tables.net.pins(unit);
-        let plan = self.portion.plan_select_at(&tables.net, unit, pins);
+        let plan = self.portion.plan_select_at(tables.net, unit, pins);
         let act = Act::Go;
         self.try_crossing_plan(tables, Firing { unit, act }, false, pins, plan)
     }
@@ -172,7 +172,7 @@ impl Worker {
         ensures { HasMade tables.now result self.old self.new }
     {
         let pins = tables.net.pins(unit);
-        let plan = self.portion.plan_mux_at(&tables.net, unit, ins, pins);
+        let plan = self.portion.plan_mux_at(tables.net, unit, ins, pins);
         let act = Act::Go;
         self.try_crossing_plan(tables, Firing { unit, act }, false, pins, plan)
     }
@@ -186,7 +186,7 @@ impl Worker {
         ensures { HasMade tables.now result self.old self.new }
     {
         let pins = tables.net.pins(unit);
-        let plan = self.portion.plan_branch_at(&tables.net, unit, pins);
+        let plan = self.portion.plan_branch_at(tables.net, unit, pins);
         let act = Act::Go;
         self.try_crossing_plan(tables, Firing { unit, act }, false, pins, plan)
     }
@@ -200,7 +200,7 @@ impl Worker {
         ensures { HasMade tables.now result self.old self.new }
     {
         let pins = tables.net.pins(unit);
-        let plan = self.portion.plan_sink_at(&tables.net, unit, pins);
+        let plan = self.portion.plan_sink_at(tables.net, unit, pins);
         let act = Act::Go;
         self.try_crossing_plan(tables, Firing { unit, act }, false, pins, plan)
     }
@@ -214,7 +214,7 @@ impl Worker {
         ensures { HasMade tables.now result self.old self.new }
     {
         let pins = tables.net.pins(unit);
-        let plan = self.portion.plan_read_at(&tables.net, unit, array, pins);
+        let plan = self.portion.plan_read_at(tables.net, unit, array, pins);
         let act = Act::Go;
         self.try_crossing_plan(tables, Firing { unit, act }, false, pins, plan)
     }
@@ -229,7 +229,7 @@ impl Worker {
         ensures { HasMade tables.now result self.old self.new }
     {
         let pins = tables.net.pins(unit);
-        let plan = self.portion.plan_go_at(&tables.net, unit, kind, pins);
+        let plan = self.portion.plan_go_at(tables.net, unit, kind, pins);
         let act = Act::Go;
         self.try_crossing_plan(tables, Firing { unit, act }, false, pins, plan)
     }
@@ -242,7 +242,7 @@ impl Worker {
         requires fork { IsForkOf outs (kind_of (net_of tables.now) unit) }
         ensures { HasMade tables.now result self.old self.new }
     {
-        let net = &tables.net;
+        let net = tables.net;
         let pins = net.pins(unit);
         if self.portion.head(net, pins.first).is_none() {
             return 0;
@@ -265,7 +265,7 @@ impl Worker {
         requires kind { kind_of (net_of tables.now) unit ≡ units.Cmerge ins }
         ensures { HasMade tables.now result self.old self.new }
     {
-        let net = &tables.net;
+        let net = tables.net;
         let Some(input) = input_of(net, self.ready.control(), unit, ins) else {
             return 0;
         };

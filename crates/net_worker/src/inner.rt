@@ -52,7 +52,7 @@ impl Worker {
         ensures fired { IsTrue result → IsFiredExactly tables.now self.old self.new firing }
         ensures kept { IsFalse result → IsAsked self.old self.new }
     {
-        let net = &tables.net;
+        let net = tables.net;
         let stamp = self.clock + 1;
         if stamp >= 1 << 62 || self.log.room() == 0 {
             return false;
@@ -83,14 +83,14 @@ impl Worker {
         let Some(plan) = plan else {
             return 0;
         };
-        let moves = moves_at(&tables.net, firing.unit, pins, &plan);
+        let moves = moves_at(tables.net, firing.unit, pins, &plan);
         if !self.fire_moves(tables, firing, plan, moves) {
             return 0;
         }
         wake_inside(
             &mut self.ready,
             &self.portion,
-            &tables.net,
+            tables.net,
             firing.unit,
             pins,
             moves,
@@ -108,7 +108,7 @@ impl Worker {
         requires pins { pins ≡ pins_of unit (net_of tables.now).chans }
         ensures { HasMade tables.now result self.old self.new }
     {
-        let plan = self.portion.plan_const_at(&tables.net, unit, value, pins);
+        let plan = self.portion.plan_const_at(tables.net, unit, value, pins);
         let act = Act::Go;
         self.try_plan(tables, Firing { unit, act }, pins, plan)
     }
@@ -123,7 +123,7 @@ impl Worker {
         requires pins { pins ≡ pins_of unit (net_of tables.now).chans }
         ensures { HasMade tables.now result self.old self.new }
     {
-        let plan = self.portion.plan_op1_at(&tables.net, unit, op, pins);
+        let plan = self.portion.plan_op1_at(tables.net, unit, op, pins);
         let act = Act::Go;
         self.try_plan(tables, Firing { unit, act }, pins, plan)
     }
@@ -138,7 +138,7 @@ impl Worker {
         requires pins { pins ≡ pins_of unit (net_of tables.now).chans }
         ensures { HasMade tables.now result self.old self.new }
     {
-        let plan = self.portion.plan_op2_at(&tables.net, unit, op, pins);
+        let plan = self.portion.plan_op2_at(tables.net, unit, op, pins);
         let act = Act::Go;
         self.try_plan(tables, Firing { unit, act }, pins, plan)
     }
@@ -153,7 +153,7 @@ impl Worker {
         requires pins { pins ≡ pins_of unit (net_of tables.now).chans }
         ensures { HasMade tables.now result self.old self.new }
     {
-        let plan = self.portion.plan_select_at(&tables.net, unit, pins);
+        let plan = self.portion.plan_select_at(tables.net, unit, pins);
         let act = Act::Go;
         self.try_plan(tables, Firing { unit, act }, pins, plan)
     }
@@ -168,7 +168,7 @@ impl Worker {
         requires pins { pins ≡ pins_of unit (net_of tables.now).chans }
         ensures { HasMade tables.now result self.old self.new }
     {
-        let plan = self.portion.plan_mux_at(&tables.net, unit, ins, pins);
+        let plan = self.portion.plan_mux_at(tables.net, unit, ins, pins);
         let act = Act::Go;
         self.try_plan(tables, Firing { unit, act }, pins, plan)
     }
@@ -183,7 +183,7 @@ impl Worker {
         requires pins { pins ≡ pins_of unit (net_of tables.now).chans }
         ensures { HasMade tables.now result self.old self.new }
     {
-        let plan = self.portion.plan_branch_at(&tables.net, unit, pins);
+        let plan = self.portion.plan_branch_at(tables.net, unit, pins);
         let act = Act::Go;
         self.try_plan(tables, Firing { unit, act }, pins, plan)
     }
@@ -198,7 +198,7 @@ impl Worker {
         requires pins { pins ≡ pins_of unit (net_of tables.now).chans }
         ensures { HasMade tables.now result self.old self.new }
     {
-        let plan = self.portion.plan_sink_at(&tables.net, unit, pins);
+        let plan = self.portion.plan_sink_at(tables.net, unit, pins);
         let act = Act::Go;
         self.try_plan(tables, Firing { unit, act }, pins, plan)
     }
@@ -213,7 +213,7 @@ impl Worker {
         requires pins { pins ≡ pins_of unit (net_of tables.now).chans }
         ensures { HasMade tables.now result self.old self.new }
     {
-        let plan = self.portion.plan_read_at(&tables.net, unit, array, pins);
+        let plan = self.portion.plan_read_at(tables.net, unit, array, pins);
         let act = Act::Go;
         self.try_plan(tables, Firing { unit, act }, pins, plan)
     }
@@ -228,7 +228,7 @@ impl Worker {
         requires pins { pins ≡ pins_of unit (net_of tables.now).chans }
         ensures { HasMade tables.now result self.old self.new }
     {
-        let plan = self.portion.plan_go_at(&tables.net, unit, kind, pins);
+        let plan = self.portion.plan_go_at(tables.net, unit, kind, pins);
         let act = Act::Go;
         self.try_plan(tables, Firing { unit, act }, pins, plan)
     }
@@ -243,7 +243,7 @@ impl Worker {
         requires pins { pins ≡ pins_of unit (net_of tables.now).chans }
         ensures { HasMade tables.now result self.old self.new }
     {
-        let net = &tables.net;
+        let net = tables.net;
         if self.portion.head(net, pins.first).is_none() {
             return 0;
         }
@@ -267,7 +267,7 @@ impl Worker {
         requires pins { pins ≡ pins_of unit (net_of tables.now).chans }
         ensures { HasMade tables.now result self.old self.new }
     {
-        let net = &tables.net;
+        let net = tables.net;
         let Some(input) = input_of(net, self.ready.control(), unit, ins) else {
             return 0;
         };

@@ -56,13 +56,13 @@ impl Worker {
         ensures seen { IsSeen chan self.old self.new }
     {
         flush_at(&mut self.takes, chan, near);
-        if self.portion.held_in(&tables.net, chan) > 0 {
+        if self.portion.held_in(tables.net, chan) > 0 {
             return;
         }
         let Some(token) = peek_at(&mut self.takes, chan, near) else {
             return;
         };
-        self.portion.put_in(&tables.net, chan, token.value);
+        self.portion.put_in(tables.net, chan, token.value);
         self.resting = false;
         self.ready
             .mark_fed(chan, &tables.net.net().chans.as_slice()[chan as usize]);

@@ -15,6 +15,7 @@ ghost use Rattle.net_worker.specs.Workers.{HoldsOwn, IsMadeOf, IsOutOf, IsInto};
 use crate::channel_ends::ChannelEnds;
 use crate::portion::Portion;
 use crate::ready::Ready;
+use crate::spans::Span;
 use crate::tables::Tables;
 use crate::worker::Worker;
 use el_base::Log;
@@ -39,12 +40,12 @@ impl Worker {
         let chans = tables.net.net().chans.len();
         let outs = channels_out(alloc, tables, number)?;
         let ins = channels_in(alloc, tables, number)?;
-        let ready = marks_of(alloc, tables, number)?;
         let log = Log::with_room(alloc, share)?;
         let puts = ChannelEnds::new(alloc, outs.as_slice(), chans)?;
         let takes = ChannelEnds::new(alloc, ins.as_slice(), chans)?;
-        let waits = vec![in alloc; false; chans]?;
+        let waits = ChannelEnds::new(alloc, outs.as_slice(), chans)?;
         let portion = opening_portion(alloc, tables, number)?;
+        let ready = marks_at(alloc, tables.span(number), portion.own())?;
         Ok(Worker {
             number,
             share,
@@ -138,7 +139,7 @@ fn opening_portion(alloc: Global, tables: &Tables, number: u32) -> Result<Portio
         alloc,
         &tables.base,
         &tables.places,
-        &tables.net,
+        tables.net,
         &tables.inputs,
         units,
         chans,
@@ -188,16 +189,11 @@ fn own_chans(alloc: Global, tables: &Tables, number: u32) -> Result<Vec<u32>, Me
     Ok(chans)
 }
 
-/// Marks at all units of a worker.
-fn marks_of(alloc: Global, tables: &Tables, number: u32) -> Result<Ready, Memory> {
-    let owners = tables.owners.as_slice();
-    let mut ready = Ready::new(alloc, owners.len())?;
-    for (unit, owner) in owners.iter().enumerate() {
-        if *owner == number {
-            if let Ok(unit) = u32::try_from(unit) {
-                ready.mark(unit);
-            }
-        }
+/// Marks at these units, which lie in a span.
+fn marks_at(alloc: Global, span: Span, units: &[u32]) -> Result<Ready, Memory> {
+    let mut ready = Ready::new(alloc, span)?;
+    for unit in units {
+        ready.mark(*unit);
     }
     Ok(ready)
 }

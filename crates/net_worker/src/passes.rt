@@ -108,7 +108,7 @@ impl Worker {
                 return fired;
             }
             let next = self.number_from(tables, unit, number);
-            let Some(act) = self.portion.act_at(&tables.net, unit, next) else {
+            let Some(act) = self.portion.act_at(tables.net, unit, next) else {
                 return fired;
             };
             let made = self.try_one(tables, Firing { unit, act });
@@ -125,7 +125,7 @@ impl Worker {
         requires here { IsUnitHere self.now.portion unit }
     {
         let control = self.ready.control();
-        next_number(&tables.net, &self.portion, control, unit, number)
+        next_number(tables.net, &self.portion, control, unit, number)
     }
 
     /// Tries a firing of one of its own units; answers how many it made, one or none.
@@ -190,7 +190,7 @@ impl Worker {
         ensures { ActsFit (net_of tables.now) (held_state self.now) unit }
     {
         let _ = tables.net.net();
-        let Some(queue) = self.portion.queue(&tables.net, unit) else {
+        let Some(queue) = self.portion.queue(tables.net, unit) else {
             return;
         };
         let _ = queue.len();
@@ -212,7 +212,7 @@ impl Worker {
         let mut waiting = true;
         let mut from = Act::Go;
         'acts: loop {
-            let Some(act) = self.portion.find_act(&tables.net, unit, from) else {
+            let Some(act) = self.portion.find_act(tables.net, unit, from) else {
                 return Tried::of(waiting);
             };
             let tried = self.try_again(tables, Firing { unit, act });

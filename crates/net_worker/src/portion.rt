@@ -134,6 +134,13 @@ impl Portion {
         })
     }
 
+    /// The units that are here, ascending.
+    pub(crate) fn own(&self) -> &[u32]
+        ensures { result.now ≡ self.now.units }
+    {
+        &self.units
+    }
+
     /// What a unit that is here keeps.
     #[inline(always)]
     pub(crate) fn cell(&self, unit: u32) -> &Cell

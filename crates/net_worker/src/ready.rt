@@ -1,6 +1,7 @@
 //! Marks at units.
 ghost use Rattle.std.specs.Prelude.{◌≡◌, ◌≤◌, ◌<◌, IfSome};
 
+use crate::spans::Span;
 use net_types::{Chan, Memory};
 use std::alloc::Global;
 
@@ -9,13 +10,15 @@ use std::alloc::Global;
 /// It says where to look first, and no contract says what is in it: a worker that finds nothing there looks at all its units.
 #[derive(Drop)]
 pub struct Ready {
-    /// A bit for each unit.
+    /// The first unit that has a bit.
+    first: usize,
+    /// A bit for each unit from the first on.
     words: Vec<u64>,
     /// A bit for each word, set where the word has a bit.
     blocks: Vec<u64>,
     /// A bit for each block of 64 words, set where one of them has a bit.
     tops: Vec<u64>,
-    /// The unit from which on the next one is looked for.
+    /// The bit from which on the next one is looked for.
     at: usize,
     /// The channel for control on which a token was put last.
     control: u32,
@@ -89,11 +92,12 @@ fn clear_bit(words: &mut Vec<u64>, bit: usize) -> bool {
 impl Ready {
     ghost use Rattle.std.specs.Prelude.{◌≡◌, ◌≤◌, ◌<◌, IfSome};
 
-    /// No marks, and room for those of so many units.
-    pub(crate) fn new(alloc: Global, units: usize) -> Result<Ready, Memory> {
-        let words = units / 64 + 1;
+    /// No marks, and room for those of the units of a span.
+    pub(crate) fn new(alloc: Global, span: Span) -> Result<Ready, Memory> {
+        let words = span.end.saturating_sub(span.first) / 64 + 1;
         let blocks = words / 64 + 1;
         Ok(Ready {
+            first: span.first,
             words: vec![in alloc; 0; words]?,
             blocks: vec![in alloc; 0; blocks]?,
             tops: vec![in alloc; 0; blocks / 64 + 1]?,
@@ -107,12 +111,12 @@ impl Ready {
         self.control
     }
 
-    /// Marks a unit.
+    /// Marks a unit, where it has a bit.
     #[inline(always)]
     pub(crate) fn mark(&mut self, unit: u32) {
-        let unit = unit as usize;
-        if set_bit(&mut self.words, unit) {
-            self.mark_block(unit / 64);
+        let bit = (unit as usize).wrapping_sub(self.first);
+        if set_bit(&mut self.words, bit) {
+            self.mark_block(bit / 64);
         }
     }
 
@@ -139,11 +143,11 @@ impl Ready {
         }
     }
 
-    /// Takes the mark of a unit away.
+    /// Takes the mark at a bit away.
     #[inline(always)]
-    fn unmark(&mut self, unit: usize) {
-        if clear_bit(&mut self.words, unit) {
-            self.unmark_block(unit / 64);
+    fn unmark(&mut self, bit: usize) {
+        if clear_bit(&mut self.words, bit) {
+            self.unmark_block(bit / 64);
         }
     }
 
@@ -154,16 +158,16 @@ impl Ready {
         }
     }
 
-    /// The least marked unit from a unit on.
+    /// The least marked bit from a bit on.
     #[inline(always)]
-    fn next(&self, unit: usize) -> Option<usize> {
-        match next_in_word(self.words.as_slice(), unit) {
-            Some(unit) => Some(unit),
-            None => self.next_after_word(unit / 64),
+    fn next(&self, bit: usize) -> Option<usize> {
+        match next_in_word(self.words.as_slice(), bit) {
+            Some(bit) => Some(bit),
+            None => self.next_after_word(bit / 64),
         }
     }
 
-    /// The least marked unit past those of a word.
+    /// The least marked bit past those of a word.
     #[inline(never)]
     fn next_after_word(&self, word: usize) -> Option<usize> {
         let next = match next_in_word(self.blocks.as_slice(), word.wrapping_add(1)) {
@@ -188,12 +192,12 @@ impl Ready {
 
     /// The next marked unit after the one that was taken last, going round, whose mark is taken away.
     pub(crate) fn take(&mut self) -> Option<u32> {
-        let unit = match self.next(self.at) {
-            Some(unit) => unit,
+        let bit = match self.next(self.at) {
+            Some(bit) => bit,
             None => self.next(0)?,
         };
-        self.unmark(unit);
-        self.at = unit.wrapping_add(1);
-        u32::try_from(unit).ok()
+        self.unmark(bit);
+        self.at = bit.wrapping_add(1);
+        u32::try_from(bit.wrapping_add(self.first)).ok()
     }
 }

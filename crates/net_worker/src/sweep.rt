@@ -1,7 +1,7 @@
 //! One sweep of a worker.
 ghost use Rattle.std.specs.Prelude.{◌≡◌, ◌<◌, ◌↔◌, ◌⊎◌, IsTrue};
 ghost use Rattle.net_worker.specs.Going.{GoesOn, HasAdded};
-ghost use Rattle.net_worker.specs.Sweeps.{SweptAs, SweptExactly, AllHeldBack};
+ghost use Rattle.net_worker.specs.Sweeps.{SweptAs, SweptExactly, AllHeldBack, IsHeldOrFull};
 ghost use Rattle.net_worker.specs.Views.{log_room};
 ghost use Rattle.net_worker.specs.Waits.{IsLookedAll};
 ghost use Rattle.net_worker.specs.Workers.{IsMadeOf, IsWhole, IsFull, SameWorker, HasLoggedExit};
@@ -12,8 +12,9 @@ use crate::passes::Tried;
 use crate::tables::Tables;
 use crate::worker::Worker;
 
-/// How often a sweep looks before it tries all its units.
-const LOOKS: u32 = 32;
+/// How often a sweep looks before it tries all its units: others may be at work beside it, and to try all units takes as long
+/// as many looks.
+const LOOKS: u32 = 256;
 
 impl Worker {
     /// Looks at the channels from other workers and makes firings of the worker's own units: some 4,096 where it sees as
@@ -33,7 +34,7 @@ impl Worker {
         if self.is_full() {
             return Swept::Full;
         }
-        let fired = self.go(tables);
+        let fired = self.go(tables, LOOKS);
         if self.portion.exited() {
             return Swept::Exited;
         }
@@ -41,6 +42,24 @@ impl Worker {
             return Swept::Idle;
         }
         Swept::Fired(fired)
+    }
+
+    /// Goes on as in a sweep, also once the exit has fired; answers how many firings it made. Where it sees none it looks so often
+    /// at most before it tries all its units: once is enough where no other worker is at work beside it. Takes no memory, and
+    /// waits for nobody.
+    pub fn go_on(&mut self, tables: &Tables, looks: u32) -> u32
+        requires made { IsMadeOf tables.now self.old }
+        requires whole { IsWhole tables.now self.old }
+        ensures made { IsMadeOf tables.now self.new }
+        ensures same { SameWorker self.old self.new }
+        ensures stamps { SweptExactly tables.now self.old self.new }
+        ensures added { HasAdded result self.old self.new }
+        ensures none { result ≡ 0 → IsHeldOrFull tables.now self.old self.new }
+    {
+        if self.is_full() {
+            return 0;
+        }
+        self.go(tables, looks)
     }
 
     /// Whether the exit has fired, or the log holds its share, or no stamp is left: no sweep adds an entry then. Takes no
@@ -60,8 +79,8 @@ impl Worker {
         self.log.room() == 0 || self.clock + 1 == 1 << 62
     }
 
-    /// Goes on in a sweep; answers how many firings it made.
-    fn go(&mut self, tables: &Tables) -> u32
+    /// Goes on in a sweep, and looks so often at most; answers how many firings it made.
+    fn go(&mut self, tables: &Tables, looks: u32) -> u32
         requires made { IsMadeOf tables.now self.old }
         requires whole { IsWhole tables.now self.old }
         requires room { 0 < log_room self.old }
@@ -72,7 +91,7 @@ impl Worker {
         ensures held { result ≡ 0 → AllHeldBack tables.now self.old self.new }
     {
         let _ = tables.net.net();
-        let fired = self.turns(tables);
+        let fired = self.turns(tables, looks);
         if fired > 0 {
             return fired;
         }
@@ -89,8 +108,8 @@ impl Worker {
         }
     }
 
-    /// Looks and passes so often as a sweep does, until it makes a firing or rests; answers how many firings it made.
-    fn turns(&mut self, tables: &Tables) -> u32
+    /// Looks and passes so often at most, and once at least, until it makes a firing or rests; answers how many firings it made.
+    fn turns(&mut self, tables: &Tables, looks: u32) -> u32
         requires made { IsMadeOf tables.now self.old }
         requires whole { IsWhole tables.now self.old }
         ensures made { IsMadeOf tables.now self.new }
@@ -99,7 +118,7 @@ impl Worker {
         ensures none { result ≡ 0 → IsLookedAll tables.now self.old self.new }
     {
         let mut fired = self.turn(tables);
-        for _ in 1..LOOKS {
+        for _ in 1..looks {
             if fired > 0 {
                 return fired;
             }

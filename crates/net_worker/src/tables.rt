@@ -18,9 +18,9 @@ use net_types::{Inputs, List, Memory};
 use std::alloc::Global;
 use std::sync::Arc;
 
-/// A net, the owner of each of its units, and inputs.
-pub struct Tables {
-    pub(crate) net: Checked,
+/// A net that is lent, the owner of each of its units, and inputs.
+pub struct Tables<'a> {
+    pub(crate) net: &'a Checked,
     pub(crate) inputs: Inputs,
     pub(crate) owners: List<u32>,
     /// Whether a channel goes from or to another worker, by unit.
@@ -33,18 +33,18 @@ pub struct Tables {
     pub(crate) base: Arc<State>,
     /// Where workers keep the rooms of their units and channels.
     pub(crate) places: Arc<Places>,
-    pub ghost owned: { length owners ≡ length net.units },
+    pub ghost owned: { length owners ≡ length net.now.units },
     pub ghost few: { All (λ o. o < max_workers) owners },
-    pub ghost marked: { AreMarked net.chans owners crossing.items },
+    pub ghost marked: { AreMarked net.now.chans owners crossing.items },
     pub ghost lie: { AreWithin owners spans.items },
-    pub ghost placed: { ArePlaced net.chans owners end_places.items },
-    pub ghost base_of: { IsOf net base.value } by { is_of_prop net base.value },
-    pub ghost base_opens: { state_of base.value ≡ opening net inputs } by { state_set _ _ },
-    pub ghost stand: { ArePlacesOf net owners places.value },
+    pub ghost placed: { ArePlaced net.now.chans owners end_places.items },
+    pub ghost base_of: { IsOf net.now base.value } by { is_of_prop net.now base.value },
+    pub ghost base_opens: { state_of base.value ≡ opening net.now inputs } by { state_set _ _ },
+    pub ghost stand: { ArePlacesOf net.now owners places.value },
 }
 
 // By hand, so that to let go of one is a call.
-impl Drop for Tables {
+impl<'a> Drop for Tables<'a> {
     fn drop(self) {
         let Tables {
             net: _net,
@@ -74,7 +74,7 @@ fn copy_owners(alloc: Global, owners: &[u32]) -> Result<List<u32>, Memory>
     Ok(list)
 }
 
-impl Tables {
+impl<'a> Tables<'a> {
     ghost use Rattle.std.specs.Prelude.{◌≡◌, ◌<◌, ℕ, length, IfNone, IfOk, All, IsFalse};
     ghost use Rattle.el_base.specs.Limits.{max_workers};
     ghost use Rattle.net_types.specs.Inputs.{InputsFit};
@@ -83,17 +83,17 @@ impl Tables {
     ghost use Rattle.net_worker.specs.Spans.{IsWithin};
     ghost use Rattle.net_worker.specs.Views.{net_of, inputs_of, unit_owners, owner_in};
 
-    /// Copies of a net, of inputs that fit it, and of one owner for each unit.
+    /// A net, with copies of inputs that fit it and of one owner for each unit.
     ///
     /// # Errors
     ///
     /// [`Memory`] where memory is wanting.
     pub fn new(
         alloc: Global,
-        net: &Checked,
+        net: &'a Checked,
         inputs: &Inputs,
         owners: &[u32],
-    ) -> Result<Tables, Memory>
+    ) -> Result<Tables<'a>, Memory>
         requires fit { InputsFit net.now inputs.now }
         requires owned { length owners.now ≡ length net.now.units }
         requires few { All (λ o. o < max_workers) owners.now }
@@ -110,7 +110,6 @@ impl Tables {
         let places = Arc::new(alloc, found)?;
         let owners = copy_owners(alloc, owners)?;
         let inputs = inputs.copy(alloc)?;
-        let net = net.copy(alloc)?;
         Ok(Tables {
             net,
             inputs,

@@ -1,13 +1,14 @@
 //! Firings that wait for credits of channels to other workers.
-ghost use Rattle.std.specs.Prelude.{◌≡◌, ◌≢◌, ◌↔◌, ◌<◌, ℕ, true, length, IsFalse, IsTrue, IsSome, None, get_or};
+ghost use Rattle.std.specs.Prelude.{◌≡◌, ◌≢◌, ◌<◌, ℕ, true, length, IsFalse, IsTrue, None, get_or};
+ghost use Rattle.std.specs.List.{Contains};
 ghost use Rattle.net_worker.specs.Asking.{IsAsked};
 ghost use Rattle.net_worker.specs.Glances.{PutsLooked, IsLooked};
 ghost use Rattle.net_worker.specs.Offers.{NoCreditAt};
-ghost use Rattle.net_worker.specs.Views.{net_of, number_of, owner_in, put_end};
+ghost use Rattle.net_worker.specs.Views.{net_of, number_of, owner_in};
 ghost use Rattle.net_worker.specs.Waits.{IsDenied, AllDenied};
-ghost use Rattle.net_worker.specs.Workers.{IsMadeOf, IsOutOf, IsAwaited, IsWaiting};
+ghost use Rattle.net_worker.specs.Workers.{IsAwaited, IsMadeOf, IsOutOf, IsWaiting};
 
-use crate::channel_ends::ChannelEnds;
+use crate::channel_ends::{ChannelEnds, stands_at};
 use crate::tables::Tables;
 use crate::worker::Worker;
 use elastic_link::PutEnd;
@@ -42,39 +43,45 @@ impl Worker {
         if !tables.crosses(firing.unit) {
             return false;
         }
-        let Some(plan) = self.portion.plan(&tables.net, firing) else {
+        let Some(plan) = self.portion.plan(tables.net, firing) else {
             return true;
         };
         let Some(put) = plan.put else {
             return false;
         };
         let chan = tables.net.out_of_place(firing.unit, put.place);
-        if !self.has_out(chan) {
+        if !self.puts.has(chan) {
             return false;
         }
-        self.wait_at(chan);
+        let near = self.puts.last();
+        self.wait_at(chan, near);
         true
     }
 
     /// Notes that a firing waits for a credit of the channel on which it lays a token, where that goes to another worker.
+    #[tactic(auto, using(crate::proofs::EndPlaces::contains_at))]
     pub(crate) fn await_laid(&mut self, tables: &Tables, laid: Option<Laid>)
         ensures { IsAsked self.old self.new }
     {
         let Some(laid) = laid else {
             return;
         };
-        if tables.end_places(laid.chan).is_some() && (laid.chan as usize) < self.waits.len() {
-            self.wait_at(laid.chan);
+        let Some(places) = tables.end_places(laid.chan) else {
+            return;
+        };
+        let near = places.put as usize;
+        if stands_at(self.outs.as_slice(), near, laid.chan) {
+            self.wait_at(laid.chan, near);
         }
     }
 
-    /// Notes that a firing waits for a credit of a channel.
-    fn wait_at(&mut self, chan: u32)
-        requires { chan < length self.old.waits.items }
+    /// Notes that a firing waits for a credit of a channel to another worker, which may stand near a place.
+    fn wait_at(&mut self, chan: u32, near: usize)
+        requires { Contains self.old.outs.items chan }
         ensures asked { IsAsked self.old self.new }
         ensures awaited { IsAwaited self.new chan }
     {
-        self.waits[chan as usize] = true;
+        self.waits.lay_near(chan, near, ());
     }
 
     /// Asks for credits where firings wait for one, and marks the units for which one came.
@@ -99,33 +106,14 @@ impl Worker {
         ensures looked { IsLooked self.old self.new }
         ensures denied { self.new.resting ≡ true → IsDenied chan self.old self.new }
     {
-        if !self.awaits(chan) {
+        if !self.waits.has_near(chan, near) {
             return;
         }
         if has_credit(&mut self.puts, chan, near) {
-            let at = chan as usize;
-            self.waits[at] = false;
+            self.waits.clear_near(chan, near);
             self.resting = false;
             self.ready
-                .mark(tables.net.net().chans.as_slice()[at].from.unit);
+                .mark(tables.net.net().chans.as_slice()[chan as usize].from.unit);
         }
-    }
-
-    /// Whether a firing waits for a credit of a channel.
-    fn awaits(&self, chan: u32) -> bool
-        ensures awaited { IsTrue result ↔ IsAwaited self.now chan }
-        ensures within { IsTrue result → chan < length self.now.waits.items }
-    {
-        let at = chan as usize;
-        at < self.waits.len() && self.waits[at]
-    }
-
-    /// Whether the worker has an end for the tokens of a channel, and a place for its note.
-    fn has_out(&self, chan: u32) -> bool
-        ensures end { IsTrue result → IsSome (put_end self.now chan) }
-        ensures within { IsTrue result → chan < length self.now.waits.items }
-    {
-        let at = chan as usize;
-        at < self.waits.len() && self.puts.has(chan)
     }
 }

@@ -63,7 +63,7 @@ fn wake_put(
     }
     let chan = &chans[at as usize];
     ready.note(at, chan);
-    if portion.held_out(&tables.net, at) <= 1 {
+    if portion.held_out(tables.net, at) <= 1 {
         mark_own(ready, tables, number, chan.to.unit);
     }
 }
@@ -85,7 +85,7 @@ fn wake_taken(
     if (at as usize) >= chans.len() {
         return;
     }
-    let held = portion.held_in(&tables.net, at);
+    let held = portion.held_in(tables.net, at);
     if held > 0 {
         ready.mark(unit);
     }
@@ -201,7 +201,7 @@ pub(crate) fn wake_crossing(
     requires taken { AreTakenHere (net_of tables.now) portion.now moves.taken }
     requires laid { IsLaidHere (net_of tables.now) portion.now moves.laid }
 {
-    let net = &tables.net;
+    let net = tables.net;
     match moves.taken {
         Taken::None => {}
         Taken::One(c) => {
@@ -234,6 +234,6 @@ fn wake_own_source(ready: &mut Ready, portion: &Portion, tables: &Tables, at: u3
     requires here { IsInIfAny (net_of tables.now) portion.now at }
 {
     if tables.end_places(at).is_none() {
-        wake_source(ready, portion, &tables.net, at);
+        wake_source(ready, portion, tables.net, at);
     }
 }

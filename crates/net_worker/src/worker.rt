@@ -28,8 +28,8 @@ pub struct Worker {
     pub(crate) ins: Vec<u32>,
     /// The units that may be able to fire.
     pub(crate) ready: Ready,
-    /// By channel: whether a firing waits for a credit of its end.
-    pub(crate) waits: Vec<bool>,
+    /// By channel to another worker: there where a firing waits for a credit of its end.
+    pub(crate) waits: ChannelEnds<()>,
     /// Each firing of its units that is enabled in its state waits so.
     pub(crate) resting: bool,
     pub(crate) closed: bool,
@@ -39,4 +39,5 @@ pub struct Worker {
     pub ghost stamp: { IsStamp clock },
     pub ghost put_places: { puts.chans ≡ outs.items },
     pub ghost take_places: { takes.chans ≡ ins.items },
+    pub ghost wait_places: { waits.chans ≡ outs.items },
 }

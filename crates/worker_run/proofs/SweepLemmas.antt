@@ -9,7 +9,8 @@ use Rattle.std.proofs.lemmas.List.Sums.{sum_by-set, sum_by-cons}
 use Rattle.net_worker.specs.declared.tables.Tables.{Tables}
 use Rattle.net_worker.specs.declared.worker.Worker.{Worker}
 use Rattle.net_worker.specs.Views.{log_room, log_of, log_share}
-use Rattle.net_worker.specs.Workers.{IsMadeOf, IsWhole, SameWorker}
+use Rattle.net_worker.specs.Steps.{last_stamp}
+use Rattle.net_worker.specs.Workers.{IsFull, IsMadeOf, IsWhole, SameWorker}
 use Rattle.worker_run.specs.private.Sweepings.{IsSweptFrom, AreSwept, AreSweptBy, AllStopped, HasStopped, AreTurnsAsked, AreTurnsOf, IsTurnAsked, rooms_of}
 use Rattle.worker_run.proofs.RunLemmas.{same_worker, same_worker_then, whole_later}
 
@@ -27,6 +28,11 @@ room_later t a b m s =
     let more = ap length s.same.log.1 in
     let long = length-append (log_of a) s.same.log.0 in
     omega (arith, m.room, s.made.room, s.same.share, more, long)
+
+-- where no entry was added a full log is full
+pub full_still : (t : Tables) (a b : Worker) → IsMadeOf t a → IsMadeOf t b → b.log ≡ a.log → IsFull a → IsFull b
+full_still t a b m k log (inl none) = inl (ap (λ l. l.room) log ∙ none)
+full_still t a b m k log (inr last) = inr (let same : b.clock ≡ a.clock = k.clock ∙ (ap (λ l. last_stamp 0 l.items) log ∙ sym m.clock) in omega (arith, last, same))
 
 -- ---- all workers
 

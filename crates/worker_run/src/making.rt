@@ -24,13 +24,13 @@ use std::alloc::Global;
 /// # Errors
 ///
 /// [`Memory`] where memory is wanting.
-pub fn workers(
+pub fn workers<'a>(
     alloc: Global,
-    net: &Checked,
+    net: &'a Checked,
     inputs: &Inputs,
     count: u32,
     limit: u64,
-) -> Result<Crew, Memory>
+) -> Result<Crew<'a>, Memory>
     requires fit { InputsFit net.now inputs.now }
     requires some { 0 < count }
     requires most { count ≤ max_workers }

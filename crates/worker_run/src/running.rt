@@ -27,16 +27,16 @@ use std::thread::Threads;
 ///
 /// `Limit` where the net has runs of more firings than the limit; `Stuck` and `Stray` by the state at rest; `Memory` where
 /// memory is wanting, which is told before the first firing.
-pub fn run_workers<R: Threads + Sync, G: Gate + Sync>(
+pub fn run_workers<'a, R: Threads + Sync, G: Gate + Sync>(
     rt: &R,
     alloc: Global,
-    net: &Checked,
+    net: &'a Checked,
     inputs: &Inputs,
     count: u32,
     limit: u64,
     keep: bool,
     gate: &G,
-) -> Result<Report, RunFault>
+) -> Result<Report<'a>, RunFault>
     requires fit { InputsFit net.now inputs.now }
     requires some { 0 < count }
     requires most { count ≤ max_workers }

@@ -23,6 +23,15 @@ use std::{hint, thread};
 /// Idle sweeps in a row after which a worker leaves its thread.
 const MOST_IDLE: u32 = 10_000;
 
+/// Idle sweeps in a row after which a worker leaves its thread whose exit has fired.
+const MOST_IDLE_PAST_EXIT: u32 = 1_000;
+
+/// How often a sweep after the exit looks before it tries all units.
+const LOOKS: u32 = 256;
+
+/// How often a sweep looks while no other worker is at work.
+const ALONE: u32 = 1;
+
 /// An idle worker gives its turn away after each so many idle sweeps in a row.
 const IDLE_TURN: u32 = 64;
 
@@ -140,7 +149,7 @@ fn sweep_all<R: Threads + Sync, G: Gate + Sync>(
     }
 }
 
-/// Sweeps all workers in turn until each has ended, or threads pay; tells whether each has ended.
+/// Sweeps all workers in turn until no firing is made, or threads pay; tells whether no firing is made.
 fn sweep_in_turn<G: Gate>(
     tables: &Tables,
     neighbours: &Neighbours,
@@ -195,7 +204,7 @@ fn sweep_round<G: Gate>(
     sweep_each(tables, neighbours, workers, gate, awake, Asked::All)
 }
 
-/// Sweeps each worker once that is asked and has not ended; `None` where the gate ends one.
+/// Sweeps each worker once that is asked; `None` where the gate ends one.
 fn sweep_each<G: Gate>(
     tables: &Tables,
     neighbours: &Neighbours,
@@ -219,7 +228,7 @@ fn sweep_each<G: Gate>(
     Some(round)
 }
 
-/// Sweeps a worker once that is asked and has not ended, notes whether that made firings, and answers how many.
+/// Sweeps a worker once that is asked, notes whether that made firings, and answers how many.
 fn sweep_asked<G: Gate>(
     tables: &Tables,
     neighbours: &Neighbours,
@@ -244,8 +253,7 @@ fn sweep_asked<G: Gate>(
     Some(made)
 }
 
-/// Sweeps a worker once that has not ended, and answers how many firings it made before the exit; `None` where the gate ends
-/// it.
+/// Sweeps a worker once, after its exit too, and answers how many firings it made; `None` where the gate ends it.
 fn sweep_once<G: Gate>(worker: &mut Worker, tables: &Tables, gate: &G) -> Option<u32>
     requires made { IsMadeOf tables.now worker.old }
     requires whole { IsWhole tables.now worker.old }
@@ -253,18 +261,10 @@ fn sweep_once<G: Gate>(worker: &mut Worker, tables: &Tables, gate: &G) -> Option
     ensures shut { IfNone result (IsShut (G.is_open gate.now)) }
     ensures turn { IfSome result (λ n. IsTurnOf tables.now n worker.old worker.new) }
 {
-    if worker.has_ended(tables) {
-        return Some(0);
-    }
-    if !gate.turn(worker.number()) {
+    if !worker.has_ended(tables) && !gate.turn(worker.number()) {
         return None;
     }
-    match worker.sweep(tables) {
-        Swept::Fired(made) => Some(made),
-        Swept::Idle => Some(0),
-        Swept::Exited => Some(0),
-        Swept::Full => Some(0),
-    }
+    Some(worker.go_on(tables, ALONE))
 }
 
 /// Sweeps all workers, each in a thread of its own, until each has ended or leaves its thread.
@@ -300,9 +300,9 @@ fn sweep_out<G: Gate>(worker: &mut Worker, tables: &Tables, gate: &G, leave: &At
     sweep_on(worker, tables, gate, leave);
 }
 
-/// Sweeps one worker until the gate ends it, or it has logged its exit, or its log is full; or until it leaves its thread: it
-/// was idle when another had told to leave, or idle so often in a row, or its sweeps do not pay for threads. It tells the others
-/// to leave where it logged the exit, was idle so often, or does not pay.
+/// Sweeps one worker until the gate ends it, or its log is full; or until it leaves its thread: it was idle when another had
+/// told to leave, or idle so often in a row, or its sweeps do not pay for threads. It tells the others to leave where it was
+/// idle so often, after its exit less often, or does not pay.
 fn sweep_on<G: Gate>(worker: &mut Worker, tables: &Tables, gate: &G, leave: &AtomicCell<bool>)
     requires made { IsMadeOf tables.now worker.old }
     requires whole { IsWhole tables.now worker.old }
@@ -332,8 +332,16 @@ fn sweep_on<G: Gate>(worker: &mut Worker, tables: &Tables, gate: &G, leave: &Ato
                 pause(idle);
             }
             Swept::Exited => {
-                leave.store(true);
-                return;
+                if worker.go_on(tables, LOOKS) > 0 {
+                    idle = 0;
+                } else {
+                    idle += 1;
+                    if idle >= MOST_IDLE_PAST_EXIT {
+                        leave.store(true);
+                        return;
+                    }
+                    pause(idle);
+                }
             }
             Swept::Full => return,
         }

@@ -56,8 +56,8 @@ returns-in-Limit-clause-fault g c =
           (sym c.gather-made.ensures.count) f.finishes.ends.reached,
     )
 
-pub returns-in_ok-judge-in-Rest-clause-report : goal.returns-in_ok-judge-in-Rest-clause-report
-returns-in_ok-judge-in-Rest-clause-report g c =
+pub returns-clause-report : goal.returns-clause-report
+returns-clause-report g c =
     let t = c.in_ok-crew.crew.tables in
     let a = c.in_ok-crew.crew.workers.items in
     let y = c.sweep_crew.new.crew.workers.items in

@@ -39,10 +39,10 @@ loop-at-init c = record {
   waits = λ w f l mine e. absurd (below f l mine e);
 }
   where
-    below : (f : Firing) → f.unit < c.span-span.result.first → owner_in c.args.tables.now f.unit ≡ c.args.self.now.number → enabled c.args.tables.now.net (state_of c.args.self.now.portion.state) f → ⊥
-    below f l mine e = elim (cases_lt f.unit (length c.args.tables.now.net.units)) [
+    below : (f : Firing) → f.unit < c.span-span.result.first → owner_in c.args.tables.now f.unit ≡ c.args.self.now.number → enabled c.args.tables.now.net.now (state_of c.args.self.now.portion.state) f → ⊥
+    below f l mine e = elim (cases_lt f.unit (length c.args.tables.now.net.now.units)) [
       | inl k ↦ omega (arith, (c.span-span.ensures f.unit k mine).0)
-      | inr k ↦ past_quiet c.args.tables.now.net (state_of c.args.self.now.portion.state) f c.net.ensures.checked c.requires.made.of.long k e
+      | inr k ↦ past_quiet c.args.tables.now.net.now (state_of c.args.self.now.portion.state) f c.net.ensures.checked c.requires.made.of.long k e
     ]
 
 pub loop-at-preserved : goal.loop-at-preserved
@@ -71,11 +71,11 @@ returns-clause-tried c =
     (record { asked = c.loop-at.invariant.asked; refused = λ f mine e. elim (cases_lt f.unit c.loop-at.at) [ inl l ↦ c.loop-at.invariant.refused f l mine e | inr l ↦ absurd (past f l mine e) ] })
     (λ w f mine e. elim (cases_lt f.unit c.loop-at.at) [
       | inl l ↦ c.loop-at.invariant.waits w f l mine e
-      | inr l ↦ absurd (past f l (mine ∙ c.loop-at.invariant.asked.number) (subst (λ s. enabled c.args.tables.now.net (state_of s.state) f) c.loop-at.invariant.asked.portion e))
+      | inr l ↦ absurd (past f l (mine ∙ c.loop-at.invariant.asked.number) (subst (λ s. enabled c.args.tables.now.net.now (state_of s.state) f) c.loop-at.invariant.asked.portion e))
     ])
   where
-    past : (f : Firing) → c.loop-at.at ≤ f.unit → owner_in c.args.tables.now f.unit ≡ c.args.self.now.number → enabled c.args.tables.now.net (state_of c.args.self.now.portion.state) f → ⊥
-    past f l mine e = elim (cases_lt f.unit (length c.args.tables.now.net.units)) [
+    past : (f : Firing) → c.loop-at.at ≤ f.unit → owner_in c.args.tables.now f.unit ≡ c.args.self.now.number → enabled c.args.tables.now.net.now (state_of c.args.self.now.portion.state) f → ⊥
+    past f l mine e = elim (cases_lt f.unit (length c.args.tables.now.net.now.units)) [
       | inl k ↦ (let s = c.span-span.ensures f.unit k mine in let n = ap (λ (x : _). length x.units) c.net.ensures.net in omega (arith, s.0, s.1))
-      | inr k ↦ past_quiet c.args.tables.now.net (state_of c.args.self.now.portion.state) f c.net.ensures.checked c.requires.made.of.long k e
+      | inr k ↦ past_quiet c.args.tables.now.net.now (state_of c.args.self.now.portion.state) f c.net.ensures.checked c.requires.made.of.long k e
     ]

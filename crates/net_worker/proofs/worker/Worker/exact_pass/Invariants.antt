@@ -11,6 +11,6 @@ abbrev pub invariant-loop-at : goal.invariant-loop-at
 invariant-loop-at l = record {
   made : IsMadeOf l.tables l.self;
   asked : IsAsked l.fn.self l.self;
-  refused : (f : Firing) → f.unit < l.at → owner_in l.tables f.unit ≡ l.fn.self.number → enabled l.tables.net (state_of l.fn.self.portion.state) f → IsRefused l.tables l.fn.self l.self f;
-  waits : l.waiting ≡ true → (f : Firing) → f.unit < l.at → owner_in l.tables f.unit ≡ l.self.number → enabled l.tables.net (state_of l.self.portion.state) f → IsWaiting l.tables l.self f;
+  refused : (f : Firing) → f.unit < l.at → owner_in l.tables f.unit ≡ l.fn.self.number → enabled l.tables.net.now (state_of l.fn.self.portion.state) f → IsRefused l.tables l.fn.self l.self f;
+  waits : l.waiting ≡ true → (f : Firing) → f.unit < l.at → owner_in l.tables f.unit ≡ l.self.number → enabled l.tables.net.now (state_of l.self.portion.state) f → IsWaiting l.tables l.self f;
 }

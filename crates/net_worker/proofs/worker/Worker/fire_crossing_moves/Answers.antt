@@ -37,16 +37,16 @@ returns-clause-fired c = λ _.
     let a = c.args.self.now in
     let f = c.args.firing in
     let p = c.args.plan in
-    let e = effect_by (kind_of t.net f.unit) (own_at a.portion.state f.unit) (array_at t.net a.portion.state f.unit) p in
-    let does : effect t.net (state_of a.portion.state) f ≡ Some e = sym c.requires.effect in
+    let e = effect_by (kind_of t.net.now f.unit) (own_at a.portion.state f.unit) (array_at t.net.now a.portion.state f.unit) p in
+    let does : effect t.net.now (state_of a.portion.state) f ≡ Some e = sym c.requires.effect in
     let base : c.above_on-base.result ≡ base_of t a f = c.above_on-base.ensures.greatest ∙ base_used t a c.requires.own.made f c.requires.own.mine p c.args.moves c.requires.effect c.requires.moves c.args.used c.requires.used in
     made_up t a _ c.requires.own.made c.requires.own.whole f e c.in-Some.stamp c.above_on-base.new.takes.items (state_of c.make_moves.new.self.state)
     (record {
       mine = c.requires.own.mine;
       does = does;
       asked = c.above_on-base.ensures.asked;
-      offered = subst (λ y. IsOffered t.net (state_of a.portion.state) f.unit p.put y c.in-Some.stamp a.puts.items c.offer_on.new.puts.items) base c.in-Some.ensures.some;
-      made = c.make_moves.ensures.state ∙ ap (after_effect t.net (state_of a.portion.state) f.unit) does;
+      offered = subst (λ y. IsOffered t.net.now (state_of a.portion.state) f.unit p.put y c.in-Some.stamp a.puts.items c.offer_on.new.puts.items) base c.in-Some.ensures.some;
+      made = c.make_moves.ensures.state ∙ ap (after_effect t.net.now (state_of a.portion.state) f.unit) does;
       rise = c.make_moves.ensures.counts;
       over = c.hand_over_on.ensures.state;
       taken = taken_by t a c.requires.own.made f c.requires.own.mine p c.args.moves c.requires.effect c.requires.moves c.in-Some.stamp c.above_on-base.new.takes.items c.take_moves.new.takes.items c.take_moves.ensures.taken;

@@ -19,7 +19,7 @@ loop-out-preserved c = made_more c.args.tables.now c.loop-out.made c.try_plan-mo
 
 pub head-requires-clause-here : goal.head-requires-clause-here
 head-requires-clause-here c =
-    in_chan c.args.tables.now.net c.args.self.now.portion c.args.unit 0 c.args.pins.first (ap (λ (p : Pins). p.first) c.requires.pins)
+    in_chan c.args.tables.now.net.now c.args.self.now.portion c.args.unit 0 c.args.pins.first (ap (λ (p : Pins). p.first) c.requires.pins)
     (unit_pins c.args.tables.now c.args.self.now c.args.unit c.requires.own)
 
 pub plan_send_at-plan-requires-clause-here : goal.plan_send_at-plan-requires-clause-here

@@ -19,7 +19,7 @@ loop-out-preserved c = made_more c.args.tables.now c.loop-out.made c.try_crossin
 
 pub head-requires-clause-here : goal.head-requires-clause-here
 head-requires-clause-here c =
-    in_chan c.args.tables.now.net c.args.self.now.portion c.args.unit 0 c.pins-pins.result.first (ap (λ (p : Pins). p.first) c.pins-pins.ensures)
+    in_chan c.args.tables.now.net.now c.args.self.now.portion c.args.unit 0 c.pins-pins.result.first (ap (λ (p : Pins). p.first) c.pins-pins.ensures)
     (unit_pins c.args.tables.now c.args.self.now c.args.unit c.requires.own)
 
 pub plan_send_at-plan-requires-clause-here : goal.plan_send_at-plan-requires-clause-here

@@ -29,15 +29,15 @@ returns c =
 
 pub wake_crossing-requires-clause-first : goal.wake_crossing-requires-clause-first
 wake_crossing-requires-clause-first c =
-    in_chan c.args.tables.now.net c.fire_crossing_moves.new.self.portion c.args.firing.unit 0 c.args.pins.first (ap (λ (p : Pins). p.first) c.requires.pins)
+    in_chan c.args.tables.now.net.now c.fire_crossing_moves.new.self.portion c.args.firing.unit 0 c.args.pins.first (ap (λ (p : Pins). p.first) c.requires.pins)
     (fired_pins c.args.tables.now c.args.self.now c.fire_crossing_moves.new.self c.args.firing c.requires.own (c.fire_crossing_moves.ensures.fired c.if-not-fire_crossing_moves.false))
 
 pub wake_crossing-requires-clause-taken : goal.wake_crossing-requires-clause-taken
 wake_crossing-requires-clause-taken c =
-    moves_taken c.args.tables.now.net c.fire_crossing_moves.new.self.portion c.args.firing.unit c.in-Some.plan c.moves_at-moves.result c.moves_at-moves.ensures
+    moves_taken c.args.tables.now.net.now c.fire_crossing_moves.new.self.portion c.args.firing.unit c.in-Some.plan c.moves_at-moves.result c.moves_at-moves.ensures
     (fired_pins c.args.tables.now c.args.self.now c.fire_crossing_moves.new.self c.args.firing c.requires.own (c.fire_crossing_moves.ensures.fired c.if-not-fire_crossing_moves.false))
 
 pub wake_crossing-requires-clause-laid : goal.wake_crossing-requires-clause-laid
 wake_crossing-requires-clause-laid c =
-    moves_laid c.args.tables.now.net c.fire_crossing_moves.new.self.portion c.args.firing.unit c.in-Some.plan c.moves_at-moves.result c.moves_at-moves.ensures
+    moves_laid c.args.tables.now.net.now c.fire_crossing_moves.new.self.portion c.args.firing.unit c.in-Some.plan c.moves_at-moves.result c.moves_at-moves.ensures
     (fired_pins c.args.tables.now c.args.self.now c.fire_crossing_moves.new.self c.args.firing c.requires.own (c.fire_crossing_moves.ensures.fired c.if-not-fire_crossing_moves.false))

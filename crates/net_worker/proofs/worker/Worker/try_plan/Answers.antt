@@ -19,15 +19,15 @@ returns c =
 
 pub wake_inside-requires-clause-first : goal.wake_inside-requires-clause-first
 wake_inside-requires-clause-first c =
-    in_chan c.args.tables.now.net c.fire_moves.new.self.portion c.args.firing.unit 0 c.args.pins.first (ap (λ (p : Pins). p.first) c.requires.pins)
+    in_chan c.args.tables.now.net.now c.fire_moves.new.self.portion c.args.firing.unit 0 c.args.pins.first (ap (λ (p : Pins). p.first) c.requires.pins)
     (fired_pins c.args.tables.now c.args.self.now c.fire_moves.new.self c.args.firing c.requires.own (c.fire_moves.ensures.fired c.if-not-fire_moves.false))
 
 pub wake_inside-requires-clause-taken : goal.wake_inside-requires-clause-taken
 wake_inside-requires-clause-taken c =
-    moves_taken c.args.tables.now.net c.fire_moves.new.self.portion c.args.firing.unit c.in-Some.plan c.moves_at-moves.result c.moves_at-moves.ensures
+    moves_taken c.args.tables.now.net.now c.fire_moves.new.self.portion c.args.firing.unit c.in-Some.plan c.moves_at-moves.result c.moves_at-moves.ensures
     (fired_pins c.args.tables.now c.args.self.now c.fire_moves.new.self c.args.firing c.requires.own (c.fire_moves.ensures.fired c.if-not-fire_moves.false))
 
 pub wake_inside-requires-clause-laid : goal.wake_inside-requires-clause-laid
 wake_inside-requires-clause-laid c =
-    moves_laid c.args.tables.now.net c.fire_moves.new.self.portion c.args.firing.unit c.in-Some.plan c.moves_at-moves.result c.moves_at-moves.ensures
+    moves_laid c.args.tables.now.net.now c.fire_moves.new.self.portion c.args.firing.unit c.in-Some.plan c.moves_at-moves.result c.moves_at-moves.ensures
     (fired_pins c.args.tables.now c.args.self.now c.fire_moves.new.self c.args.firing c.requires.own (c.fire_moves.ensures.fired c.if-not-fire_moves.false))

@@ -37,12 +37,12 @@ returns-in_default-clause-tried c =
     unit_of t a m u c.acts.waiting c.of.result c.of.ensures
     (record {
       asked = c.acts.invariant.asked;
-      refused = λ x e. absurd_quiet x (subst (λ s. enabled t.net (state_of s.state) (firing u x)) (sym c.acts.invariant.asked.portion) e);
+      refused = λ x e. absurd_quiet x (subst (λ s. enabled t.net.now (state_of s.state) (firing u x)) (sym c.acts.invariant.asked.portion) e);
     })
-    (λ w x e. all_quiet t.net (state_of m.portion.state) u c.acts.from (λ x. IsWaiting t m (firing u x)) (c.acts.invariant.waits w) c.in_default.ensures x e)
+    (λ w x e. all_quiet t.net.now (state_of m.portion.state) u c.acts.from (λ x. IsWaiting t m (firing u x)) (c.acts.invariant.waits w) c.in_default.ensures x e)
   where
-    absurd_quiet : (x : _) → enabled c.args.tables.now.net (state_of c.acts.self.portion.state) (firing c.args.unit x) → Rattle.net_worker.specs.Going.IsRefused c.args.tables.now c.args.self.now c.acts.self (firing c.args.unit x)
-    absurd_quiet x e = all_quiet c.args.tables.now.net (state_of c.acts.self.portion.state) c.args.unit c.acts.from (λ y. Rattle.net_worker.specs.Going.IsRefused c.args.tables.now c.args.self.now c.acts.self (firing c.args.unit y)) c.acts.invariant.refused c.in_default.ensures x e
+    absurd_quiet : (x : _) → enabled c.args.tables.now.net.now (state_of c.acts.self.portion.state) (firing c.args.unit x) → Rattle.net_worker.specs.Going.IsRefused c.args.tables.now c.args.self.now c.acts.self (firing c.args.unit x)
+    absurd_quiet x e = all_quiet c.args.tables.now.net.now (state_of c.acts.self.portion.state) c.args.unit c.acts.from (λ y. Rattle.net_worker.specs.Going.IsRefused c.args.tables.now c.args.self.now c.acts.self (firing c.args.unit y)) c.acts.invariant.refused c.in_default.ensures x e
 
 pub returns-then-is_made-clause-later : goal.returns-then-is_made-clause-later
 returns-then-is_made-clause-later c = λ z l. c.try_again-tried.ensures.later z (goes_asked c.args.tables.now c.args.self.now c.acts.self c.requires.made c.acts.invariant.asked z l)
@@ -69,16 +69,16 @@ returns-in_default-next-clause-tried c =
     let n : r ≡ tried.Made → ⊥ = λ q. false≢true (sym c.if-is_made.false ∙ c.is_made.ensures.1 q) in
     let h = c.try_again-tried.ensures.tried in
     let on = asked_on t a m b u c.acts.from act first r h n c.in-Some.ensures in
-    let fits = c.acts_fit.ensures act (subst (λ s. enabled t.net (state_of s.state) (firing u act)) first.portion c.in-Some.ensures.fires) in
-    let last : (x : Act) → enabled t.net (state_of a.portion.state) (firing u x) → ActLe x act = λ x e. c.acts_follow.ensures.last act x fits (sym c.in_default-next.ensures) (c.acts_fit.ensures x e) in
+    let fits = c.acts_fit.ensures act (subst (λ s. enabled t.net.now (state_of s.state) (firing u act)) first.portion c.in-Some.ensures.fires) in
+    let last : (x : Act) → enabled t.net.now (state_of a.portion.state) (firing u x) → ActLe x act = λ x e. c.acts_follow.ensures.last act x fits (sym c.in_default-next.ensures) (c.acts_fit.ensures x e) in
     unit_of t a b u (c.acts.waiting && c.is_waiting-waiting.result) c.of-in_default-next.result c.of-in_default-next.ensures
     (record {
       asked = on;
-      refused = λ x e. refused_up_to t a m b u c.acts.from act first r h n c.in-Some.ensures c.acts.invariant.refused x (subst (λ s. enabled t.net (state_of s.state) (firing u x)) (sym on.portion) e) (last x e);
+      refused = λ x e. refused_up_to t a m b u c.acts.from act first r h n c.in-Some.ensures c.acts.invariant.refused x (subst (λ s. enabled t.net.now (state_of s.state) (firing u x)) (sym on.portion) e) (last x e);
     })
     (λ w x e.
     (let v = both_true c.acts.waiting c.is_waiting-waiting.result w in
-    waits_up_to t a m b u c.acts.from act first r h n c.in-Some.ensures (c.is_waiting-waiting.ensures.0 v.1) (c.acts.invariant.waits v.0) x e (last x (subst (λ s. enabled t.net (state_of s.state) (firing u x)) on.portion e))))
+    waits_up_to t a m b u c.acts.from act first r h n c.in-Some.ensures (c.is_waiting-waiting.ensures.0 v.1) (c.acts.invariant.waits v.0) x e (last x (subst (λ s. enabled t.net.now (state_of s.state) (firing u x)) on.portion e))))
 
 pub acts-preserved : goal.acts-preserved
 acts-preserved c =
@@ -93,14 +93,14 @@ acts-preserved c =
     let n : r ≡ tried.Made → ⊥ = λ q. false≢true (sym c.if-is_made.false ∙ c.is_made.ensures.1 q) in
     let h = c.try_again-tried.ensures.tried in
     let on = asked_on t a m b u c.acts.from act first r h n c.in-Some.ensures in
-    let fits = c.acts_fit.ensures act (subst (λ s. enabled t.net (state_of s.state) (firing u act)) first.portion c.in-Some.ensures.fires) in
+    let fits = c.acts_fit.ensures act (subst (λ s. enabled t.net.now (state_of s.state) (firing u act)) first.portion c.in-Some.ensures.fires) in
     let next = c.acts_follow.ensures.next act c.in-Some-next.next fits (sym c.in-Some-next.ensures) in
     record {
       made = c.try_again-tried.ensures.made;
       asked = on;
       fits = c.acts_follow.ensures.fits act c.in-Some-next.next fits (sym c.in-Some-next.ensures);
-      refused = λ x e k. refused_before t a m b u c.acts.from act first r h n c.in-Some.ensures c.acts.invariant.refused c.in-Some-next.next next x (c.acts_fit.ensures x (subst (λ s. enabled t.net (state_of s.state) (firing u x)) on.portion e)) e k;
+      refused = λ x e k. refused_before t a m b u c.acts.from act first r h n c.in-Some.ensures c.acts.invariant.refused c.in-Some-next.next next x (c.acts_fit.ensures x (subst (λ s. enabled t.net.now (state_of s.state) (firing u x)) on.portion e)) e k;
       waits = λ w x e k.
           (let v = both_true c.acts.waiting c.is_waiting-waiting.result w in
-          waits_before t a m b u c.acts.from act first r h n c.in-Some.ensures (c.is_waiting-waiting.ensures.0 v.1) (c.acts.invariant.waits v.0) c.in-Some-next.next next x (c.acts_fit.ensures x (subst (λ s. enabled t.net (state_of s.state) (firing u x)) on.portion e)) e k);
+          waits_before t a m b u c.acts.from act first r h n c.in-Some.ensures (c.is_waiting-waiting.ensures.0 v.1) (c.acts.invariant.waits v.0) c.in-Some-next.next next x (c.acts_fit.ensures x (subst (λ s. enabled t.net.now (state_of s.state) (firing u x)) on.portion e)) e k);
     }

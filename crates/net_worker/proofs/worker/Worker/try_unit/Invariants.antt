@@ -14,8 +14,8 @@ invariant-acts l = record {
   made : IsMadeOf l.tables l.self;
   asked : IsAsked l.fn.self l.self;
   fits : ActFits l.from;
-  refused : (b : Act) → enabled l.tables.net (state_of l.self.portion.state) (firing l.unit b) → (ActLe l.from b → ⊥) → IsRefused l.tables l.fn.self l.self (firing l.unit b);
-  waits : l.waiting ≡ true → (b : Act) → enabled l.tables.net (state_of l.self.portion.state) (firing l.unit b) → (ActLe l.from b → ⊥) → IsWaiting l.tables l.self (firing l.unit b);
+  refused : (b : Act) → enabled l.tables.net.now (state_of l.self.portion.state) (firing l.unit b) → (ActLe l.from b → ⊥) → IsRefused l.tables l.fn.self l.self (firing l.unit b);
+  waits : l.waiting ≡ true → (b : Act) → enabled l.tables.net.now (state_of l.self.portion.state) (firing l.unit b) → (ActLe l.from b → ⊥) → IsWaiting l.tables l.self (firing l.unit b);
 }
 
 abbrev pub decreases-acts : goal.decreases-acts
