@@ -146,9 +146,9 @@ fn report_text(
 ) -> Result<Vec<u8>, RunRefusal>
     requires of { IsOf net.now report.state }
     requires rest { AtRest net.now (state_of report.state) }
-    ensures ok { IfOk result (λ text. IsRunText net.now (state_of report.state) options
-        report.firings 0 report.log.items text.items) }
-    ensures err { IfErr result (IsRestFault net.now (state_of report.state)) }
+    ensures ok { IfOk result (λ text. IsRunText net.now (state_of report.entry.state) options
+        report.entry.firings 0 report.entry.log.items text.items) }
+    ensures err { IfErr result (IsRestFault net.now (state_of report.entry.state)) }
 {
     let firings = report.firings;
     run_text_of(
