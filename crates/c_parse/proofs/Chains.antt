@@ -45,6 +45,10 @@ fails_then {p} {q} {a} {b} {e} f g = record { holds = λ symbols. subst (λ v. T
 pub same_part : (part : List Symbol) {more : List Symbol} {a b : List Token} → ((symbols : List Symbol) → judge (part ++ symbols) a ≡ judge symbols b) → Same (part ++ more) more a b
 same_part part {more} {a} {b} f = record { holds = λ symbols. ap (λ st. judge st a) (append_assoc part more symbols) ∙ f (more ++ symbols) }
 
+-- a part was read but for what is left of it, with more behind
+pub same_left : (part left more : List Symbol) {a b : List Token} → ((symbols : List Symbol) → judge (part ++ symbols) a ≡ judge (left ++ symbols) b) → Same (part ++ more) (left ++ more) a b
+same_left part left more {a} {b} f = record { holds = λ symbols. ap (λ st. judge st a) (append_assoc part more symbols) ∙ f (more ++ symbols) ∙ ap (λ st. judge st b) (sym (append_assoc left more symbols)) }
+
 -- it was refused
 pub part_fails : (part more : List Symbol) {a : List Token} {e : Stop} → ((symbols : List Symbol) → Tells e (judge (part ++ symbols) a)) → Fails (part ++ more) a e
 part_fails part more {a} {e} f = record { holds = λ symbols. subst (λ st. Tells e (judge st a)) (sym (append_assoc part more symbols)) (f (more ++ symbols)) }
@@ -127,15 +131,9 @@ takes_spelled f w h = absurd (cc)
 
 spelled_takes : (f : Fixed) → takes f (spelled f) ≡ true
 spelled_takes Fixed.opening = refl
-spelled_takes Fixed.closing = refl
-spelled_takes Fixed.closing_bracket = refl
-spelled_takes Fixed.colon = refl
-spelled_takes Fixed.semicolon = refl
-spelled_takes Fixed.opening_brace = refl
-spelled_takes Fixed.closing_brace = refl
-spelled_takes Fixed.while_word = refl
+spelled_takes f = refl
 
-fixed_takes : (n : ℕ) (f : Fixed) (w : Word) → spelled f ≡ w → move (Symbol.fixed n f) w ≡ Move.take n []
+pub fixed_takes : (n : ℕ) (f : Fixed) (w : Word) → spelled f ≡ w → move (Symbol.fixed n f) w ≡ Move.take n []
 fixed_takes n f w is = ap (fixed_move n) (ap (takes f) (sym is) ∙ spelled_takes f)
 
 fixed_stuck : (n : ℕ) (f : Fixed) (v w : Word) → spelled f ≡ w → (v ≡ w → ⊥) → move (Symbol.fixed n f) v ≡ Move.stuck
@@ -222,15 +220,10 @@ told part f = f.holds
 pub went : (part left : List Symbol) {before after : List Token} → Same part left before after → (symbols : List Symbol) → judge (part ++ symbols) before ≡ judge (left ++ symbols) after
 went part left f = f.holds
 
--- an outcome that is handed on
-pub judges_on : {A : Type 0} {p q : List Symbol} {a : List Token} (left : List Symbol) (b : List Token) (r : Result A Stop) → Same p q a a → Judges q left a b r → Judges p left a b r
-judges_on left b (Ok x) f h = λ symbols. f.holds symbols ∙ h symbols
-judges_on left b (Err e) f h = λ symbols. subst (λ v. Tells e v) (sym (f.holds symbols)) (h symbols)
-
--- with a reduction behind
-pub judges_reduced : {A : Type 0} (p : List Symbol) (d : Reduction) (a b : List Token) (r : Result A Stop) → Judges p [] a b r → Judges (p ++ Symbol.reduce d ∷ []) [] a b r
-judges_reduced p d a b (Ok x) h = λ symbols. ap (λ st. judge st a) (append_assoc p (Symbol.reduce d ∷ []) symbols) ∙ h (Symbol.reduce d ∷ symbols) ∙ judge_reduces d symbols b
-judges_reduced p d a b (Err e) h = λ symbols. subst (λ st. Tells e (judge st a)) (sym (append_assoc p (Symbol.reduce d ∷ []) symbols)) (h (Symbol.reduce d ∷ symbols))
+-- the outcome of a part is that of a rule that begins with it, where what follows it becomes what is left
+pub judges_part : {A : Type 0} {p : List Symbol} {a m : List Token} (part more left : List Symbol) (b : List Token) (r : Result A Stop) → Same p (part ++ more) a m → Same more left b b → Judges part [] m b r → Judges p left a b r
+judges_part part more left b (Ok x) f g h = (same_then f (same_then (same_part part h) g)).holds
+judges_part part more left b (Err e) f g h = (fails_then f (part_fails part more h)).holds
 
 -- ---- the depth that is left
 

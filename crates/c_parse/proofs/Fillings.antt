@@ -10,11 +10,12 @@ use Rattle.c_ast.specs.declared.key.Key.TheVariants as key
 use Rattle.c_ast.specs.declared.mark.Mark.TheVariants as mark
 use Rattle.c_parse.specs.declared.bar.Bar.{Bar}
 use Rattle.c_parse.specs.declared.bar.Bar.TheVariants as bar
-use Rattle.c_parse.specs.Symbols.{Symbol, Reduction, Fixed, Move, move, bars, limited, spelled, looser, tails, may_be_absent, maybe_int_move, operators_move, indices_move, value_move, more_declared_move, other_move, more_params_move, dims_move, more_arguments_move}
+use Rattle.c_parse.specs.Symbols.{Symbol, Reduction, Fixed, Move, move, bars, limited, spelled, looser, tails, may_be_absent}
 use Rattle.c_parse.specs.Values.{Value, reduced}
 use Rattle.c_parse.specs.Traces.{Trace, settled, trace, laid}
+use Rattle.c_parse.proofs.Chains.{fixed_takes}
 use Rattle.c_parse.proofs.EachToken.{NoneBarred}
-use Rattle.c_parse.proofs.KernelParts.{is_part, is_sound, AreSound, part_sound}
+use Rattle.c_parse.proofs.KernelParts.{is_part, is_sound, AreSound, part_sound, first_sound}
 use Rattle.c_parse.proofs.Passing.{without_runs}
 use Rattle.c_parse.proofs.Tracing.{trace_passes}
 use Rattle.c_parse.proofs.Runs.{Runs, runs_join, runs_from, runs_to, runs_take}
@@ -40,92 +41,23 @@ pub data IsCalm : Word → Type 0 where
   closing_brace : IsCalm (word.Mark mark.CloseBrace)
   fixed : (f : Fixed) → IsCalm (spelled f)
 
-calm_int : (n : ℕ) (w : Word) → IsCalm w → maybe_int_move n w ≡ Move.pass
-calm_int n w (IsCalm.fixed Fixed.opening) = refl
-calm_int n w (IsCalm.fixed f) = refl
-calm_int n w c = refl
-
-calm_operators : (n l : ℕ) (w : Word) → IsCalm w → operators_move n l w ≡ Move.pass
-calm_operators n zero w (IsCalm.fixed Fixed.opening) = refl
-calm_operators n zero w (IsCalm.fixed f) = refl
-calm_operators n zero w c = refl
-calm_operators n (suc l) w (IsCalm.fixed Fixed.opening) = refl
-calm_operators n (suc l) w (IsCalm.fixed f) = refl
-calm_operators n (suc l) w c = refl
-
-calm_indices : (n : ℕ) (w : Word) → IsCalm w → indices_move n w ≡ Move.pass
-calm_indices n w (IsCalm.fixed Fixed.opening) = refl
-calm_indices n w (IsCalm.fixed f) = refl
-calm_indices n w c = refl
-
-calm_value : (n : ℕ) (w : Word) → IsCalm w → value_move n w ≡ Move.pass
-calm_value n w (IsCalm.fixed Fixed.opening) = refl
-calm_value n w (IsCalm.fixed f) = refl
-calm_value n w c = refl
-
-calm_more_declared : (n : ℕ) (w : Word) → IsCalm w → more_declared_move n w ≡ Move.pass
-calm_more_declared n w (IsCalm.fixed Fixed.opening) = refl
-calm_more_declared n w (IsCalm.fixed f) = refl
-calm_more_declared n w c = refl
-
-calm_other : (n : ℕ) (w : Word) → IsCalm w → other_move n w ≡ Move.pass
-calm_other n w (IsCalm.fixed Fixed.opening) = refl
-calm_other n w (IsCalm.fixed f) = refl
-calm_other n w c = refl
-
-calm_more_params : (n : ℕ) (w : Word) → IsCalm w → more_params_move n w ≡ Move.pass
-calm_more_params n w (IsCalm.fixed Fixed.opening) = refl
-calm_more_params n w (IsCalm.fixed f) = refl
-calm_more_params n w c = refl
-
-calm_dims : (n : ℕ) (w : Word) → IsCalm w → dims_move n w ≡ Move.pass
-calm_dims n w (IsCalm.fixed Fixed.opening) = refl
-calm_dims n w (IsCalm.fixed f) = refl
-calm_dims n w c = refl
-
-calm_more_arguments : (n : ℕ) (w : Word) → IsCalm w → more_arguments_move n w ≡ Move.pass
-calm_more_arguments n w (IsCalm.fixed Fixed.opening) = refl
-calm_more_arguments n w (IsCalm.fixed f) = refl
-calm_more_arguments n w c = refl
-
 calm_passes : (s : Symbol) (w : Word) → IsCalm w → may_be_omitted s ≡ true → move s w ≡ Move.pass
-calm_passes (Symbol.maybe_int n) w c h = calm_int n w c
-calm_passes (Symbol.operators n l) w c h = calm_operators n l w c
-calm_passes (Symbol.indices n) w c h = calm_indices n w c
-calm_passes (Symbol.more_arguments n) w c h = calm_more_arguments n w c
-calm_passes (Symbol.value n) w c h = calm_value n w c
-calm_passes (Symbol.more_declared n) w c h = calm_more_declared n w c
-calm_passes (Symbol.other n) w c h = calm_other n w c
-calm_passes (Symbol.more_params n) w c h = calm_more_params n w c
-calm_passes (Symbol.dims n) w c h = calm_dims n w c
 calm_passes (Symbol.without b s) w c h = ap (λ m. limited b (may_be_absent s) m (bars b w)) (calm_passes s w c h)
-calm_passes (Symbol.reduce r) w c h = refl
-calm_passes s w c h = absurd (cc)
+calm_passes (Symbol.operators n zero) w (IsCalm.fixed Fixed.opening) h = refl
+calm_passes s w (IsCalm.fixed Fixed.opening) h = cc
+calm_passes s w c h = cc
 
 -- the word return, by which the block of a helper may end
 return_passes : (s : Symbol) → may_be_omitted s ≡ true → move s (word.Key key.Return) ≡ Move.pass
-return_passes (Symbol.maybe_int n) h = refl
-return_passes (Symbol.operators n zero) h = refl
-return_passes (Symbol.operators n (suc l)) h = refl
-return_passes (Symbol.indices n) h = refl
-return_passes (Symbol.more_arguments n) h = refl
-return_passes (Symbol.value n) h = refl
-return_passes (Symbol.more_declared n) h = refl
-return_passes (Symbol.other n) h = refl
-return_passes (Symbol.more_params n) h = refl
-return_passes (Symbol.dims n) h = refl
 return_passes (Symbol.without b s) h = ap (λ m. limited b (may_be_absent s) m (bars b (word.Key key.Return))) (return_passes s h)
-return_passes (Symbol.reduce r) h = refl
-return_passes s h = absurd (cc)
+return_passes (Symbol.operators n zero) h = refl
+return_passes s h = cc
 
 -- calm words are not barred
 calm_free : (b : Bar) (w : Word) → IsCalm w → bars b w ≡ false
 calm_free bar.Returns w (IsCalm.fixed Fixed.opening) = refl
-calm_free bar.Returns w (IsCalm.fixed f) = refl
-calm_free bar.Returns w c = refl
-calm_free bar.Brackets w (IsCalm.fixed Fixed.opening) = refl
-calm_free bar.Brackets w (IsCalm.fixed f) = refl
-calm_free bar.Brackets w c = refl
+calm_free b w (IsCalm.fixed Fixed.opening) = refl
+calm_free b w c = refl
 
 -- tokens before which whatever may be absent is passed over
 abbrev Calm : List Token → Type 0
@@ -215,16 +147,11 @@ by_two s w z n m new vs us c c2 absent h = record {
   free = λ part b. (calm_free b w c, (calm_free b z c2, tt));
 }
 
-takes_spelled : (n : ℕ) (f : Fixed) → move (Symbol.fixed n f) (spelled f) ≡ Move.take n []
-takes_spelled n Fixed.opening = refl
-takes_spelled n f = refl
-
 -- several tokens, behind which all may be absent
 runs_laid : (ns : List ℕ) (ts : List Token) (a : Trace) → length ns ≡ length ts → Runs ns ts (laid ns ts a) a
 runs_laid [] [] a h = Runs.done a
-runs_laid [] (t ∷ ts) a h = absurd (cc)
-runs_laid (n ∷ ns) [] a h = absurd (cc)
 runs_laid (n ∷ ns) (t ∷ ts) a h = Runs.onward n t ns ts (laid ns ts a) a (runs_laid ns ts a (omega arith))
+runs_laid ns ts a h = absurd (cc)
 
 by_many : (s : Symbol) (ts : List Token) (ns : List ℕ) (new : List Symbol) (vs us : List Value) → length ns ≡ length ts → ((rest : List Token) → Calm (ts ++ rest)) → (is_part s ≡ true → ⊥) → AllMayBeAbsent new
     → ((symbols : List Symbol) (rest : List Token) → trace (s ∷ symbols) vs (ts ++ rest) ≡ laid ns ts (trace (new ++ symbols) us rest)) → Filler s vs
@@ -273,7 +200,7 @@ without_filler b s vs part f = record {
 }
 
 filler : (s : Symbol) (vs : List Value) → may_be_omitted s ≡ false → is_sound s ≡ true → Filler s vs
-filler (Symbol.fixed n f) vs h sound = by_one (Symbol.fixed n f) (spelled f) n [] vs (IsCalm.fixed f) (takes_spelled n f) AllMayBeAbsent.no_more
+filler (Symbol.fixed n f) vs h sound = by_one (Symbol.fixed n f) (spelled f) n [] vs (IsCalm.fixed f) (fixed_takes n f (spelled f) refl) AllMayBeAbsent.no_more
 filler (Symbol.a_name n) vs h sound = by_one (Symbol.a_name n) some_name n [] vs (IsCalm.name []) refl AllMayBeAbsent.no_more
 filler (Symbol.a_number n) vs h sound = by_one (Symbol.a_number n) some_number n [] vs (IsCalm.number 0 I32) refl AllMayBeAbsent.no_more
 filler (Symbol.a_type n) vs h sound = by_one (Symbol.a_type n) (word.Key key.Int8) n (Symbol.reduce Reduction.plain ∷ []) vs IsCalm.int_8 refl (reducing Reduction.plain)
@@ -348,7 +275,7 @@ by_kind s symbols vs sound behind false h = let one : Filler s vs = filler s vs 
 
 calmly_fill : (symbols : List Symbol) (vs : List Value) → AreSound symbols → CalmlyFilled symbols vs
 calmly_fill [] vs sound = record { filled = record { rest = []; ns = []; ws = vs; runs = Runs.done (Trace.complete vs) }; calm = calm_end }
-calmly_fill (s ∷ symbols) vs sound = by_kind s symbols vs sound.0 (λ us. calmly_fill symbols us sound.1) (may_be_omitted s) refl
+calmly_fill (s ∷ symbols) vs sound = let both = first_sound s symbols sound in by_kind s symbols vs both.0 (λ us. calmly_fill symbols us both.1) (may_be_omitted s) refl
 
 pub fill : (symbols : List Symbol) (vs : List Value) → AreSound symbols → Filled symbols vs
 fill symbols vs sound = (calmly_fill symbols vs sound).filled

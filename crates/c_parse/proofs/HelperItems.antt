@@ -22,12 +22,11 @@ use Rattle.c_parse.proofs.EachToken.{Each, NoneBarred, each_of, each_front, each
 use Rattle.c_parse.proofs.StmtRules.{items_after}
 use Rattle.c_parse.proofs.DenotedPrograms.{all_free}
 use Rattle.c_parse.proofs.Judging.{judge_unfolds, judge_reduces}
-use Rattle.c_parse.proofs.JudgedExprs.{type_stays}
 use Rattle.c_parse.proofs.Slices.{slice_read, slice_stops}
 use Rattle.c_parse.proofs.TracedParts.{leads_declaration}
 use Rattle.c_parse.proofs.TracedStmts.{leads_stmt}
 use Rattle.c_parse.proofs.TracedPrograms.{plain_more, plain_item_is, declared_more, limited_stays}
-use Rattle.c_parse.proofs.Openings.{statement_stays}
+use Rattle.c_parse.proofs.Starting.{type_stays, statement_stays}
 
 -- ---- what the symbol of a helper's statements becomes
 

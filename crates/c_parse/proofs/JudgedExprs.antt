@@ -1,5 +1,5 @@
 -- How the verdict goes on where a type or an expression is expected.
-use Rattle.std.proofs.Common.{◌≡◌, ℕ, zero, suc, ◌+◌, ◌≤◌, List, [], ◌∷◌, ◌++◌, Bool, true, false, if◌then◌else◌, Option, Some, None, is_some, arith, refl, sym, ◌∙◌, ap, subst}
+use Rattle.std.proofs.Common.{◌≡◌, ℕ, zero, suc, ◌+◌, ◌≤◌, List, [], ◌∷◌, ◌++◌, true, false, if◌then◌else◌, Option, Some, None, is_some, arith, refl, sym, ◌∙◌, ap, subst}
 use Rattle.std.proofs.lemmas.Bool.{ne_eqb}
 use Rattle.el_base.specs.Limits.{max_nesting}
 use Rattle.el_base.specs.declared.span.Span.{Span}
@@ -21,9 +21,9 @@ use Rattle.c_parse.specs.Symbols.{Symbol, Reduction, Fixed, Move, move, is_type_
 use Rattle.c_parse.specs.Traces.{verdict}
 use Rattle.c_parse.specs.Reads.{Operates, Signs, NamesType, MaySkip, mark_of, mark_at, key_of}
 use Rattle.c_parse.specs.Stops.{Refuses, opens_operand, is_operand_at, is_type_at, is_type_behind, is_name, is_number, is_name_at, is_number_at, meaning, meaning_at}
-use Rattle.c_parse.proofs.Tracing.{is_pass}
 use Rattle.c_parse.proofs.Judging.{judge_unfolds, judge_alike}
 use Rattle.c_parse.proofs.Levels.{trace_unrolls, expression_stays}
+use Rattle.c_parse.proofs.Starting.{type_stays}
 use Rattle.c_parse.proofs.Looseness.{binds, operator_taken}
 use Rattle.c_parse.proofs.Chains.{Same, Fails, same_then, same_takes, same_passes, passes_unless_mark, passes_unless_key, same_reduces, same_alike, deep_fails, refused_fails, refuses_as, marked_word}
 
@@ -44,17 +44,6 @@ type_stuck n (word.Key key.Signed) h = absurd (cc)
 type_stuck n (word.Key key.Unsigned) h = absurd (cc)
 type_stuck n (word.Key k) h = ap (λ b. if b then Move.take n (Symbol.reduce Reduction.plain ∷ []) else Move.stuck) h
 type_stuck n w h = refl
-
-stays_either : (n : ℕ) (b : Bool) → is_pass (if b then Move.take n (Symbol.reduce Reduction.plain ∷ []) else Move.stuck) ≡ false
-stays_either n true = refl
-stays_either n false = refl
-
--- a type is never passed over
-pub type_stays : (n : ℕ) (w : Word) → is_pass (type_move n w) ≡ false
-type_stays n (word.Key key.Signed) = refl
-type_stays n (word.Key key.Unsigned) = refl
-type_stays n (word.Key k) = stays_either n (is_some (plain_type k))
-type_stays n w = refl
 
 int_passes : (n : ℕ) (w : Word) → (key_of w ≡ Some key.Int → ⊥) → maybe_int_move n w ≡ Move.pass
 int_passes n (word.Key key.Int) other = absurd (other refl)

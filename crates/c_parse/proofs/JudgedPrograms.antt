@@ -1,5 +1,5 @@
 -- The verdict over helpers and programs, by what was read of them.
-use Rattle.std.proofs.Common.{◌≡◌, ℕ, List, [], ◌∷◌, ◌++◌, Some, true, refl, sym, ◌∙◌, ap, subst, arith, append_assoc}
+use Rattle.std.proofs.Common.{◌≡◌, ℕ, List, [], ◌∷◌, ◌++◌, Some, true, refl, sym, ◌∙◌, ap, subst, append_assoc}
 use Rattle.std.proofs.lemmas.List.{append-nil}
 use Rattle.el_base.specs.declared.span.Span.{Span}
 use Rattle.el_base.specs.declared.ty.Ty.{Ty}
@@ -21,13 +21,13 @@ use Rattle.c_parse.specs.declared.refusal.Stop.{Stop}
 use Rattle.c_parse.specs.Bars.{IsFreeOf, BeginsBarred, IsParted}
 use Rattle.c_parse.specs.Reads.{Reads, ClosedParams, ClosedScalars, PlainItems, key_at, key_of}
 use Rattle.c_parse.specs.Stops.{Refuses, stop_at, stop_before}
-use Rattle.c_parse.specs.Symbols.{Symbol, Fixed, Reduction, bars, followed, program_symbols, kernel_symbols, program_move, result_move}
+use Rattle.c_parse.specs.Symbols.{Symbol, Reduction, bars, followed, program_symbols, kernel_symbols, program_move, result_move}
 use Rattle.c_parse.specs.Traces.{Verdict, judge}
 use Rattle.c_parse.specs.Values.{Value}
 use Rattle.c_parse.specs.Verdicts.{Tells}
 use Rattle.c_parse.proofs.EachToken.{NoneBarred, each_of, each_front}
 use Rattle.c_parse.proofs.Rules.{heads, joins, enclose}
-use Rattle.c_parse.proofs.Chains.{Same, Fails, same_then, fails_then, same_part, same_takes, same_reduces, fails_from, memory_fails, same_fixed, fixed_fails, same_name}
+use Rattle.c_parse.proofs.Chains.{Same, Fails, fails_from, memory_fails}
 use Rattle.c_parse.proofs.Judging.{judge_unfolds, judge_misses, judge_reduces}
 use Rattle.c_parse.proofs.Slices.{slice_read, slice_stops}
 use Rattle.c_parse.proofs.DenotedPrograms.{scalars}
@@ -77,43 +77,6 @@ scalars_stop all front back d e parted told is symbols =
     subst (λ x. Tells x (judge (Symbol.without bar.Brackets (Symbol.params 1) ∷ symbols) all)) (sym is)
     (subst (λ ts. Tells (stop_before back d) (judge (Symbol.without bar.Brackets (Symbol.params 1) ∷ symbols) ts)) (sym parted.split)
     (slice_stops bar.Brackets (Symbol.params 1 ∷ []) front back d (each_of (IsFreeOf bar.Brackets) front parted.free) parted.begins told symbols))
-
--- ---- helpers
-
--- what is expected of a helper behind the word static
-abbrev behind_static : List Symbol
-behind_static = Symbol.a_name 0 ∷ Symbol.fixed 1 Fixed.opening ∷ Symbol.without bar.Brackets (Symbol.params 1) ∷ Symbol.fixed 1 Fixed.opening_brace ∷ Symbol.reduce Reduction.no_items ∷ Symbol.helper_body 1 ∷ Symbol.reduce Reduction.helper ∷ Symbol.program ∷ []
-
-abbrev behind_params : List Symbol
-behind_params = Symbol.fixed 1 Fixed.opening_brace ∷ Symbol.reduce Reduction.no_items ∷ Symbol.helper_body 1 ∷ Symbol.reduce Reduction.helper ∷ Symbol.program ∷ []
-
-abbrev pub behind_return : List Symbol
-behind_return = Symbol.fixed 1 Fixed.semicolon ∷ Symbol.fixed 1 Fixed.closing_brace ∷ Symbol.reduce Reduction.helper ∷ Symbol.program ∷ []
-
-pub helper_begun : (f : Span) (before m1 : List Token) → before ≡ keyed key.Static f ∷ m1 → Same (Symbol.program ∷ []) (Symbol.a_type 0 ∷ behind_static) before m1
-helper_begun f before m1 p = same_takes p refl (omega arith)
-
-pub helper_typed : (m1 m2 : List Token) → ((symbols : List Symbol) → judge (Symbol.a_type 0 ∷ symbols) m1 ≡ judge symbols m2) → Same (Symbol.a_type 0 ∷ behind_static) behind_static m1 m2
-helper_typed m1 m2 type = same_part (Symbol.a_type 0 ∷ []) type
-
-pub helper_opened : (x : List ℕ) (s a : Span) (m2 m3 m4 : List Token) → m2 ≡ named x s ∷ m3 → m3 ≡ marked mark.Open a ∷ m4 → Same behind_static (Symbol.without bar.Brackets (Symbol.params 1) ∷ behind_params) m2 m4
-helper_opened x s a m2 m3 m4 p q = same_then (same_name (omega arith) p) (same_fixed refl (omega arith) q)
-
-pub helper_params : (m4 m5 : List Token) → ((symbols : List Symbol) → judge (Symbol.without bar.Brackets (Symbol.params 1) ∷ symbols) m4 ≡ judge symbols m5)
-    → Same (Symbol.without bar.Brackets (Symbol.params 1) ∷ behind_params) behind_params m4 m5
-helper_params m4 m5 params = same_part (Symbol.without bar.Brackets (Symbol.params 1) ∷ []) params
-
-pub helper_braced : (b : Span) (m5 m6 m7 : List Token) → m5 ≡ marked mark.OpenBrace b ∷ m6 → ((symbols : List Symbol) → judge (Symbol.helper_body 1 ∷ symbols) m6 ≡ judge (Symbol.helper_body 1 ∷ symbols) m7)
-    → Same behind_params (Symbol.helper_body 1 ∷ Symbol.reduce Reduction.helper ∷ Symbol.program ∷ []) m5 m7
-helper_braced b m5 m6 m7 p items =
-    same_then (same_fixed refl (omega arith) p) (same_then same_reduces (record { holds = λ symbols. items (Symbol.reduce Reduction.helper ∷ Symbol.program ∷ symbols) }))
-
-pub helper_returns : (r : Span) (m7 m8 m9 : List Token) → m7 ≡ keyed key.Return r ∷ m8 → ((symbols : List Symbol) → judge (Symbol.expression 1 0 ∷ symbols) m8 ≡ judge symbols m9)
-    → Same (Symbol.helper_body 1 ∷ Symbol.reduce Reduction.helper ∷ Symbol.program ∷ []) behind_return m7 m9
-helper_returns r m7 m8 m9 p value = same_then (same_takes p refl (omega arith)) (same_part (Symbol.expression 1 0 ∷ []) value)
-
-pub helper_closed : (e y : Span) (m9 m10 after : List Token) → m9 ≡ marked mark.Semicolon e ∷ m10 → m10 ≡ marked mark.CloseBrace y ∷ after → Same behind_return (Symbol.program ∷ []) m9 after
-helper_closed e y m9 m10 after p q = same_then (same_fixed refl (omega arith) p) (same_then (same_fixed refl (omega arith) q) same_reduces)
 
 -- ---- programs
 
@@ -174,64 +137,7 @@ program_read hs tree before mid after r1 r2 none =
     (sym (r1.split ∙ ap (λ ts. r1.used ++ ts) (r2.split ∙ ap (λ ts. r2.used ++ ts) none ∙ append-nil r2.used)))
     (DerivesProgram.program r1.used r2.used hs tree r1.derived r2.derived)
 
--- ---- parameters and the closing parenthesis
-
-pub closed_stops : (before mid : List Token) (e : Stop) → ((symbols : List Symbol) → judge (Symbol.params 1 ∷ symbols) before ≡ judge (Symbol.fixed 1 Fixed.closing ∷ symbols) mid)
-    → Refuses (λ w. w ≡ word.Mark mark.Close → ⊥) mid e → (symbols : List Symbol) → Tells e (judge (Symbol.params 1 ∷ symbols) before)
-closed_stops before mid e params refused =
-    let f : Fails (Symbol.params 1 ∷ []) before e = fails_then {p = Symbol.params 1 ∷ []} {q = Symbol.fixed 1 Fixed.closing ∷ []} {a = before} {b = mid} (record { holds = params }) (fixed_fails {more = []} refl refused) in f.holds
-
-pub closed_read : (before mid after : List Token) (z : Span) → ((symbols : List Symbol) → judge (Symbol.params 1 ∷ symbols) before ≡ judge (Symbol.fixed 1 Fixed.closing ∷ symbols) mid)
-    → mid ≡ marked mark.Close z ∷ after → (symbols : List Symbol) → judge (Symbol.params 1 ∷ symbols) before ≡ judge symbols after
-closed_read before mid after z params p =
-    let f : Same (Symbol.params 1 ∷ []) [] before after = same_then {p = Symbol.params 1 ∷ []} {q = Symbol.fixed 1 Fixed.closing ∷ []} {r = []} {a = before} {b = mid} {c = after} (record { holds = params }) (same_fixed {more = []} refl (omega arith) p) in f.holds
-
 -- ---- a whole helper
-
-pub helper_judged : (x : List ℕ) (f s a b r e y : Span) (before m1 m2 m3 m4 m5 m6 m7 m8 m9 m10 after : List Token) → before ≡ keyed key.Static f ∷ m1
-    → ((symbols : List Symbol) → judge (Symbol.a_type 0 ∷ symbols) m1 ≡ judge symbols m2) → m2 ≡ named x s ∷ m3 → m3 ≡ marked mark.Open a ∷ m4
-    → ((symbols : List Symbol) → judge (Symbol.without bar.Brackets (Symbol.params 1) ∷ symbols) m4 ≡ judge symbols m5) → m5 ≡ marked mark.OpenBrace b ∷ m6
-    → ((symbols : List Symbol) → judge (Symbol.helper_body 1 ∷ symbols) m6 ≡ judge (Symbol.helper_body 1 ∷ symbols) m7) → m7 ≡ keyed key.Return r ∷ m8
-    → ((symbols : List Symbol) → judge (Symbol.expression 1 0 ∷ symbols) m8 ≡ judge symbols m9) → m9 ≡ marked mark.Semicolon e ∷ m10 → m10 ≡ marked mark.CloseBrace y ∷ after
-    → Same (Symbol.program ∷ []) (Symbol.program ∷ []) before after
-helper_judged x f s a b r e y before m1 m2 m3 m4 m5 m6 m7 m8 m9 m10 after p1 type p2 p3 params p4 items p5 value p6 p7 =
-    same_then (helper_begun f before m1 p1) (same_then (helper_typed m1 m2 type) (same_then (helper_opened x s a m2 m3 m4 p2 p3) (same_then (helper_params m4 m5 params)
-    (same_then (helper_braced b m5 m6 m7 p4 items) (same_then (helper_returns r m7 m8 m9 p5 value) (helper_closed e y m9 m10 after p6 p7))))))
-
--- where a helper stops
-pub helper_at_type : (f : Span) (before m1 : List Token) → before ≡ keyed key.Static f ∷ m1 → Same (Symbol.program ∷ []) (Symbol.a_type 0 ∷ behind_static) before m1
-helper_at_type f before m1 p1 = helper_begun f before m1 p1
-
-pub helper_at_name : (f : Span) (before m1 m2 : List Token) → before ≡ keyed key.Static f ∷ m1 → ((symbols : List Symbol) → judge (Symbol.a_type 0 ∷ symbols) m1 ≡ judge symbols m2) → Same (Symbol.program ∷ []) behind_static before m2
-helper_at_name f before m1 m2 p1 type = same_then (helper_begun f before m1 p1) (helper_typed m1 m2 type)
-
-pub helper_at_opening : (x : List ℕ) (f s : Span) (before m1 m2 m3 : List Token) → before ≡ keyed key.Static f ∷ m1 → ((symbols : List Symbol) → judge (Symbol.a_type 0 ∷ symbols) m1 ≡ judge symbols m2) → m2 ≡ named x s ∷ m3
-    → Same (Symbol.program ∷ []) (Symbol.fixed 1 Fixed.opening ∷ Symbol.without bar.Brackets (Symbol.params 1) ∷ behind_params) before m3
-helper_at_opening x f s before m1 m2 m3 p1 type p2 = same_then (helper_at_name f before m1 m2 p1 type) (same_name (omega arith) p2)
-
-pub helper_at_params : (x : List ℕ) (f s a : Span) (before m1 m2 m3 m4 : List Token) → before ≡ keyed key.Static f ∷ m1 → ((symbols : List Symbol) → judge (Symbol.a_type 0 ∷ symbols) m1 ≡ judge symbols m2) → m2 ≡ named x s ∷ m3
-    → m3 ≡ marked mark.Open a ∷ m4 → Same (Symbol.program ∷ []) (Symbol.without bar.Brackets (Symbol.params 1) ∷ behind_params) before m4
-helper_at_params x f s a before m1 m2 m3 m4 p1 type p2 p3 = same_then (helper_at_opening x f s before m1 m2 m3 p1 type p2) (same_fixed refl (omega arith) p3)
-
-pub helper_at_brace : (x : List ℕ) (f s a : Span) (before m1 m2 m3 m4 m5 : List Token) → before ≡ keyed key.Static f ∷ m1 → ((symbols : List Symbol) → judge (Symbol.a_type 0 ∷ symbols) m1 ≡ judge symbols m2) → m2 ≡ named x s ∷ m3
-    → m3 ≡ marked mark.Open a ∷ m4 → ((symbols : List Symbol) → judge (Symbol.without bar.Brackets (Symbol.params 1) ∷ symbols) m4 ≡ judge symbols m5) → Same (Symbol.program ∷ []) behind_params before m5
-helper_at_brace x f s a before m1 m2 m3 m4 m5 p1 type p2 p3 params = same_then (helper_at_params x f s a before m1 m2 m3 m4 p1 type p2 p3) (helper_params m4 m5 params)
-
-pub helper_at_items : (b : Span) (before m5 m6 : List Token) → Same (Symbol.program ∷ []) behind_params before m5 → m5 ≡ marked mark.OpenBrace b ∷ m6
-    → Same (Symbol.program ∷ []) (Symbol.helper_body 1 ∷ Symbol.reduce Reduction.helper ∷ Symbol.program ∷ []) before m6
-helper_at_items b before m5 m6 g p4 = same_then g (same_then (same_fixed refl (omega arith) p4) same_reduces)
-
-pub helper_at_return : (before m6 m7 : List Token) → Same (Symbol.program ∷ []) (Symbol.helper_body 1 ∷ Symbol.reduce Reduction.helper ∷ Symbol.program ∷ []) before m6
-    → ((symbols : List Symbol) → judge (Symbol.helper_body 1 ∷ symbols) m6 ≡ judge (Symbol.helper_body 1 ∷ symbols) m7) → Same (Symbol.program ∷ []) (Symbol.helper_body 1 ∷ Symbol.reduce Reduction.helper ∷ Symbol.program ∷ []) before m7
-helper_at_return before m6 m7 g items = same_then g (record { holds = λ symbols. items (Symbol.reduce Reduction.helper ∷ Symbol.program ∷ symbols) })
-
-pub helper_at_value : (r : Span) (before m7 m8 : List Token) → Same (Symbol.program ∷ []) (Symbol.helper_body 1 ∷ Symbol.reduce Reduction.helper ∷ Symbol.program ∷ []) before m7 → m7 ≡ keyed key.Return r ∷ m8
-    → Same (Symbol.program ∷ []) (Symbol.expression 1 0 ∷ behind_return) before m8
-helper_at_value r before m7 m8 g p5 = same_then g (same_takes p5 refl (omega arith))
-
-pub helper_at_end : (before m8 m9 : List Token) → Same (Symbol.program ∷ []) (Symbol.expression 1 0 ∷ behind_return) before m8 → ((symbols : List Symbol) → judge (Symbol.expression 1 0 ∷ symbols) m8 ≡ judge symbols m9)
-    → Same (Symbol.program ∷ []) behind_return before m9
-helper_at_end before m8 m9 g value = same_then g (same_part (Symbol.expression 1 0 ∷ []) value)
 
 -- behind the items of a helper no token is left, or the word return comes
 pub helper_word_fails : {more : List Symbol} (before : List Token) (e : Stop) → BeginsBarred bar.Returns before → Refuses (λ w. w ≡ word.Key key.Return → ⊥) before e → Fails (Symbol.helper_body 1 ∷ more) before e
@@ -246,9 +152,6 @@ helper_word_fails {more} before e begins (Refuses.unfit t ts split misfit told) 
     by (word.Key key.Return) h = refl
     by w h = absurd (cc)
 helper_word_fails before e begins (Refuses.memory told) = memory_fails told
-
-pub brace_fails : (m9 m10 : List Token) (s : Span) (e : Stop) → m9 ≡ marked mark.Semicolon s ∷ m10 → Refuses (λ w. w ≡ word.Mark mark.CloseBrace → ⊥) m10 e → Fails behind_return m9 e
-brace_fails m9 m10 s e p refused = fails_then (same_fixed refl (omega arith) p) (fixed_fails refl refused)
 
 -- ---- whole programs
 

@@ -21,16 +21,7 @@ declaration_length ts ds (DerivesDeclaration.declaration vs us z t xs ty rest) =
 
 stmt_length : (f : Bool) (ts : List Token) (s : Stmt) → DerivesStmt f ts s → 0 < length ts
 stmt_length f ts s (DerivesStmt.simple us z x d) = behind us [] (marked mark.Semicolon z)
-stmt_length f ts s (DerivesStmt.block us a z ss d) = omega arith
-stmt_length f ts s (DerivesStmt.empty a) = omega arith
-stmt_length f ts s (DerivesStmt.without_else g a b z us vs c x cd d) = omega arith
-stmt_length f ts s (DerivesStmt.with_else g a b z e us vs ws c x y cd d o) = omega arith
-stmt_length f ts s (DerivesStmt.while_loop g a b z us vs c x cd d) = omega arith
-stmt_length f ts s (DerivesStmt.do_loop g a w b z y us vs c x d cd) = omega arith
-stmt_length f ts s (DerivesStmt.for_loop g a b e z us vs ws qs fs c st x fd cd sd d) = omega arith
-stmt_length f ts s (DerivesStmt.leaving a z) = omega arith
-stmt_length f ts s (DerivesStmt.continuing a z) = omega arith
-stmt_length f ts s (DerivesStmt.returning a z us e d) = omega arith
+stmt_length f ts s d = omega arith
 
 shorter : (used before after : List Token) → before ≡ used ++ after → 0 < length used → length after < length before
 shorter used before after split some = let e : length before ≡ length used + length after = ap length split ∙ length-append used after in omega arith

@@ -9,17 +9,13 @@ pub mod DenotedExprs
 pub mod DenotedKernels
 pub mod DenotedPrograms
 pub mod DenotedStmts
-pub mod Determined
-pub mod DeterminedPrograms
 pub mod EachToken
 pub mod Exactness
 pub mod Exits
 pub mod Fillings
 pub mod Fitting
 pub mod HelperItems
-pub mod JudgedCalls
 pub mod JudgedExprs
-pub mod JudgedParts
 pub mod JudgedPrograms
 pub mod JudgedSimple
 pub mod JudgedStmts
@@ -32,6 +28,7 @@ pub mod Lengths
 pub mod Levels
 pub mod Looseness
 pub mod Meanings
+pub mod NoResults
 pub mod NoReturns
 pub mod OneVerdict
 pub mod Openings
@@ -39,7 +36,6 @@ pub mod Outcomes
 pub mod Parting
 pub mod Passing
 pub mod Places
-pub mod ProgramAnswers
 pub mod ProgramExactness
 pub mod ProgramFitting
 pub mod Refusing

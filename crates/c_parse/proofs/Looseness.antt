@@ -88,28 +88,9 @@ pub record Binds (m : Mark) (op : Binary) (l : ℕ) : Type 0 where
   pub most : l ≤ 10
   pub index : PassesIndex m
 
-abbrev binds_so : (m : Mark) (op : Binary) (l : ℕ) → operator_of m ≡ Some (op, l) → 1 ≤ l → l ≤ 10 → PassesIndex m → Binds m op l
-binds_so m op l h least most index = record { known = h; least = least; most = most; index = index }
-
 pub binds : (m : Mark) (op : Binary) (l : ℕ) → IsBinary m op l → Binds m op l
-binds m op l IsBinary.or_else = binds_so m op l refl (omega arith) (omega arith) (λ n. refl)
-binds m op l IsBinary.and_also = binds_so m op l refl (omega arith) (omega arith) (λ n. refl)
-binds m op l IsBinary.bits_or = binds_so m op l refl (omega arith) (omega arith) (λ n. refl)
-binds m op l IsBinary.bits_xor = binds_so m op l refl (omega arith) (omega arith) (λ n. refl)
-binds m op l IsBinary.bits_and = binds_so m op l refl (omega arith) (omega arith) (λ n. refl)
-binds m op l IsBinary.equal = binds_so m op l refl (omega arith) (omega arith) (λ n. refl)
-binds m op l IsBinary.unequal = binds_so m op l refl (omega arith) (omega arith) (λ n. refl)
-binds m op l IsBinary.less = binds_so m op l refl (omega arith) (omega arith) (λ n. refl)
-binds m op l IsBinary.greater = binds_so m op l refl (omega arith) (omega arith) (λ n. refl)
-binds m op l IsBinary.at_most = binds_so m op l refl (omega arith) (omega arith) (λ n. refl)
-binds m op l IsBinary.at_least = binds_so m op l refl (omega arith) (omega arith) (λ n. refl)
-binds m op l IsBinary.left_shift = binds_so m op l refl (omega arith) (omega arith) (λ n. refl)
-binds m op l IsBinary.right_shift = binds_so m op l refl (omega arith) (omega arith) (λ n. refl)
-binds m op l IsBinary.plus = binds_so m op l refl (omega arith) (omega arith) (λ n. refl)
-binds m op l IsBinary.minus = binds_so m op l refl (omega arith) (omega arith) (λ n. refl)
-binds m op l IsBinary.times = binds_so m op l refl (omega arith) (omega arith) (λ n. refl)
-binds m op l IsBinary.divided = binds_so m op l refl (omega arith) (omega arith) (λ n. refl)
-binds m op l IsBinary.modulo = binds_so m op l refl (omega arith) (omega arith) (λ n. refl)
+binds m op l IsBinary.or_else = record { known = refl; least = omega arith; most = omega arith; index = λ n. refl }
+binds m op l i = record { known = refl; least = omega arith; most = omega arith; index = λ n. refl }
 
 other_level : (l k : ℕ) → l < k → (l == k) ≡ false
 other_level l k h = ne_eqb l k (λ same. absurd (omega arith))

@@ -16,8 +16,7 @@ use Rattle.c_parse.proofs.Tracing.{is_pass}
 use Rattle.c_parse.proofs.Judging.{judge_misses, judge_unfolds}
 use Rattle.c_parse.proofs.Chains.{Same, same_done, same_passes, same_alike, same_reduces, marked_word}
 use Rattle.c_parse.proofs.Levels.{expression_stays}
-use Rattle.c_parse.proofs.JudgedExprs.{type_stays}
-use Rattle.c_parse.proofs.StmtStarts.{followed_twice}
+use Rattle.c_parse.proofs.Starting.{type_stays, simple_stays, statement_stays, followed_twice}
 
 -- the next word has P, if one comes
 abbrev pub Next : (Word → Type 0) → List Token → Type 0
@@ -69,18 +68,6 @@ block_opened n (t ∷ ts) h =
 name_stays : (n : ℕ) (w : Word) → is_pass (move (Symbol.a_name n) w) ≡ false
 name_stays n (word.Name x) = refl
 name_stays n w = refl
-
-simple_stays : (n : ℕ) (w : Word) → is_pass (move (Symbol.simple n) w) ≡ false
-simple_stays n (word.Mark mark.Increment) = refl
-simple_stays n (word.Mark m) = refl
-simple_stays n w = refl
-
-pub statement_stays : (n : ℕ) (w : Word) → is_pass (move (Symbol.statement n) w) ≡ false
-statement_stays n (word.Key key.If) = refl
-statement_stays n (word.Key k) = refl
-statement_stays n (word.Mark mark.OpenBrace) = refl
-statement_stays n (word.Mark m) = refl
-statement_stays n w = refl
 
 param_stays : (n : ℕ) (w : Word) → is_pass (move (Symbol.a_param n) w) ≡ false
 param_stays n (word.Key key.Signed) = refl

@@ -9,7 +9,7 @@ use Rattle.c_parse.specs.Values.{Value}
 use Rattle.c_parse.specs.Traces.{Trace, Verdict, settled, ending, trace, verdict}
 use Rattle.c_parse.proofs.Tracing.{trace_takes, trace_sticks, trace_passes}
 use Rattle.c_parse.proofs.Runs.{Runs, runs_from}
-use Rattle.c_parse.proofs.KernelParts.{AreSound, sound_append, sound_taken}
+use Rattle.c_parse.proofs.KernelParts.{AreSound, sound_append, sound_taken, first_sound}
 
 -- ---- one token
 
@@ -20,9 +20,9 @@ pub data Entered (symbols : List Symbol) (vs : List Value) (t : Token) : Type 0 
 
 entered_by : (s : Symbol) (symbols : List Symbol) (vs : List Value) (t : Token) (m : Move) → move s t.word ≡ m → Entered symbols (settled s vs) t → Entered (s ∷ symbols) vs t
 entered_by s symbols vs t Move.pass h (Entered.sticks f) = Entered.sticks (λ ts. trace_passes s symbols vs t ts h ∙ f ts)
-entered_by s symbols vs t Move.pass h (Entered.enters n new us f kept) = Entered.enters n new us (λ ts. trace_passes s symbols vs t ts h ∙ f ts) (λ sound. kept sound.1)
+entered_by s symbols vs t Move.pass h (Entered.enters n new us f kept) = Entered.enters n new us (λ ts. trace_passes s symbols vs t ts h ∙ f ts) (λ sound. kept (first_sound s symbols sound).1)
 entered_by s symbols vs t (Move.take n new) h e = Entered.enters n (new ++ symbols) (Value.of_token t ∷ vs) (λ ts. trace_takes s n new symbols vs t ts h)
-    (λ sound. sound_append new symbols (sound_taken s t.word n new h sound.0) sound.1)
+    (λ sound. let both = first_sound s symbols sound in sound_append new symbols (sound_taken s t.word n new h both.0) both.1)
 entered_by s symbols vs t Move.stuck h e = Entered.sticks (λ ts. trace_sticks s symbols vs t ts h)
 
 pub entered : (symbols : List Symbol) (vs : List Value) (t : Token) → Entered symbols vs t

@@ -7,7 +7,7 @@ use Rattle.c_ast.specs.declared.key.Key.TheVariants as key
 use Rattle.c_ast.specs.declared.mark.Mark.TheVariants as mark
 use Rattle.c_ast.specs.declared.tree.Binary.{Binary}
 use Rattle.c_parse.specs.declared.bar.Bar.{Bar}
-use Rattle.c_parse.specs.Symbols.{Symbol, Reduction, Move, move, bars, limited, may_be_absent, maybe_int_move, operator_move, operators_move, indices_move, postfix_move, more_arguments_move, value_move, more_declared_move, other_move, more_params_move, dims_move}
+use Rattle.c_parse.specs.Symbols.{Symbol, Reduction, Move, move, bars, limited, may_be_absent, operator_move}
 use Rattle.c_parse.specs.Tables.{operator_of}
 use Rattle.c_parse.specs.Values.{Value}
 use Rattle.c_parse.specs.Traces.{Trace, settled, ending, trace}
@@ -31,69 +31,26 @@ operator_goes n l (Some (op, k)) = either (k == l)
     either true = refl
     either false = refl
 
-operators_go : (n l : ℕ) (w : Word) → is_stuck (operators_move n l w) ≡ false
-operators_go n zero (word.Mark mark.Question) = refl
-operators_go n zero w = refl
-operators_go n (suc l) (word.Mark m) = operator_goes n (suc l) (operator_of m)
-operators_go n (suc l) w = refl
-
 limited_goes : (b : Bar) (m : Move) (x : Bool) → is_stuck m ≡ false → is_stuck (limited b true m x) ≡ false
-limited_goes b Move.pass x h = refl
-limited_goes b (Move.take n new) true h = refl
-limited_goes b (Move.take n new) false h = refl
 limited_goes b Move.stuck x h = h
-
-maybe_int_goes : (n : ℕ) (w : Word) → is_stuck (maybe_int_move n w) ≡ false
-maybe_int_goes n (word.Key key.Int) = refl
-maybe_int_goes n w = refl
-
-indices_go : (n : ℕ) (w : Word) → is_stuck (indices_move n w) ≡ false
-indices_go n (word.Mark mark.OpenBracket) = refl
-indices_go n w = refl
-
-postfix_goes : (n : ℕ) (w : Word) → is_stuck (postfix_move n w) ≡ false
-postfix_goes n (word.Mark mark.Open) = refl
-postfix_goes n (word.Mark mark.OpenBracket) = refl
-postfix_goes n w = refl
-
-more_arguments_go : (n : ℕ) (w : Word) → is_stuck (more_arguments_move n w) ≡ false
-more_arguments_go n (word.Mark mark.Comma) = refl
-more_arguments_go n w = refl
-
-value_goes : (n : ℕ) (w : Word) → is_stuck (value_move n w) ≡ false
-value_goes n (word.Mark mark.Assign) = refl
-value_goes n w = refl
-
-more_declared_go : (n : ℕ) (w : Word) → is_stuck (more_declared_move n w) ≡ false
-more_declared_go n (word.Mark mark.Comma) = refl
-more_declared_go n w = refl
-
-other_goes : (n : ℕ) (w : Word) → is_stuck (other_move n w) ≡ false
-other_goes n (word.Key key.Else) = refl
-other_goes n w = refl
-
-more_params_go : (n : ℕ) (w : Word) → is_stuck (more_params_move n w) ≡ false
-more_params_go n (word.Mark mark.Comma) = refl
-more_params_go n w = refl
-
-dims_go : (n : ℕ) (w : Word) → is_stuck (dims_move n w) ≡ false
-dims_go n (word.Mark mark.OpenBracket) = refl
-dims_go n w = refl
+limited_goes b (Move.take n new) true h = refl
+limited_goes b m x h = refl
 
 never_stuck : (s : Symbol) (w : Word) → may_be_absent s ≡ true → is_stuck (move s w) ≡ false
-never_stuck (Symbol.maybe_int n) w h = maybe_int_goes n w
-never_stuck (Symbol.operators n l) w h = operators_go n l w
-never_stuck (Symbol.indices n) w h = indices_go n w
-never_stuck (Symbol.postfix n) w h = postfix_goes n w
-never_stuck (Symbol.more_arguments n) w h = more_arguments_go n w
-never_stuck (Symbol.value n) w h = value_goes n w
-never_stuck (Symbol.more_declared n) w h = more_declared_go n w
-never_stuck (Symbol.other n) w h = other_goes n w
-never_stuck (Symbol.more_params n) w h = more_params_go n w
-never_stuck (Symbol.dims n) w h = dims_go n w
 never_stuck (Symbol.without b s) w h = ap (λ a. is_stuck (limited b a (move s w) (bars b w))) h ∙ limited_goes b (move s w) (bars b w) (never_stuck s w h)
-never_stuck (Symbol.reduce r) w h = refl
-never_stuck s w h = absurd (cc)
+never_stuck (Symbol.maybe_int n) (word.Key key.Int) h = refl
+never_stuck (Symbol.operators n zero) (word.Mark mark.Question) h = refl
+never_stuck (Symbol.operators n (suc l)) (word.Mark m) h = operator_goes n (suc l) (operator_of m)
+never_stuck (Symbol.indices n) (word.Mark mark.OpenBracket) h = refl
+never_stuck (Symbol.postfix n) (word.Mark mark.Open) h = refl
+never_stuck (Symbol.postfix n) (word.Mark mark.OpenBracket) h = refl
+never_stuck (Symbol.more_arguments n) (word.Mark mark.Comma) h = refl
+never_stuck (Symbol.value n) (word.Mark mark.Assign) h = refl
+never_stuck (Symbol.more_declared n) (word.Mark mark.Comma) h = refl
+never_stuck (Symbol.other n) (word.Key key.Else) h = refl
+never_stuck (Symbol.more_params n) (word.Mark mark.Comma) h = refl
+never_stuck (Symbol.dims n) (word.Mark mark.OpenBracket) h = refl
+never_stuck s w h = cc
 
 pub not_stuck : (s : Symbol) (w : Word) → may_be_absent s ≡ true → move s w ≡ Move.stuck → ⊥
 not_stuck s w h k = let e : true ≡ false = sym (ap is_stuck k) ∙ never_stuck s w h in cc

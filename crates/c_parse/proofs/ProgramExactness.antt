@@ -15,7 +15,7 @@ same_program : (ts : List Token) (a b : Program) → Trace.complete (Value.of_pr
 same_program ts a b h = cc
 
 pub traced_programs : Traced DerivesProgram program_nesting program_symbols
-traced_programs = record { whole = λ ts p. Value.of_program p ∷ []; one = same_program; traced = traced_program; derives = λ ts h. complete_program ts [] h; sound = (refl, (refl, tt)) }
+traced_programs = record { whole = λ ts p. Value.of_program p ∷ []; one = same_program; traced = traced_program; derives = λ ts h. complete_program ts [] h; sound = refl }
 
 -- what a verdict says of the tokens
 abbrev pub Means : List Token → Verdict → Type 0

@@ -14,7 +14,10 @@ use Rattle.c_ast.specs.declared.tree.Stmt.{Stmt}
 use Rattle.c_ast.specs.declared.tree.StmtKind.TheVariants as stmt
 use Rattle.c_ast.specs.Derives.{marked, keyed, named, numbered, place_of, between, expr_of, stmt_of, IsUnary, IsAssigning, DerivesExpr, DerivesIndices, DerivesTarget, DerivesSimple, DerivesStmt, DerivesItems, DerivesParams, DerivesResult, Derives}
 use Rattle.c_parse.specs.Traces.{Verdict}
-use Rattle.c_parse.proofs.KernelExactness.{judged_means}
+use Rattle.c_ast.specs.Prefixes.{kernel_nesting}
+use Rattle.c_parse.specs.Symbols.{kernel_symbols}
+use Rattle.c_parse.proofs.KernelExactness.{traced_kernels}
+use Rattle.c_parse.proofs.Exactness.{judged_means}
 use Rattle.c_parse.specs.Sample.{value_tokens, stmt_tokens, SampleNests, cut_tokens, unexpected_tokens, SampleRefuses}
 
 abbrev one : Span → Expr
@@ -56,4 +59,6 @@ sample_nests s = record {
 }
 
 pub sample_refuses : (s z : Span) → SampleRefuses s z
-sample_refuses s z = record { cut = judged_means (cut_tokens s) Verdict.cut refl; unexpected = judged_means (unexpected_tokens s z) (Verdict.unexpected z) refl }
+sample_refuses s z =
+    let means = judged_means Derives kernel_nesting kernel_symbols traced_kernels in
+    record { cut = means (cut_tokens s) Verdict.cut refl; unexpected = means (unexpected_tokens s z) (Verdict.unexpected z) refl }

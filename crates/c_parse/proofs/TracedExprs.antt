@@ -26,7 +26,7 @@ use Rattle.c_parse.proofs.Runs.{Runs}
 use Rattle.c_parse.proofs.Leading.{Leads, leads_none, leads_join, leads_taking, leads_take, leads_from, leads_to, leads_reducing, leads_reduced}
 use Rattle.c_parse.proofs.Levels.{expression_stays, trace_unrolls}
 use Rattle.c_parse.proofs.Looseness.{NoIndex, NoPostfix, Loose, Binds, loose_more, closed_loose, question_loose, binds, operator_taken, operator_loose, operator_means}
-use Rattle.c_parse.proofs.Starting.{StartsType, StartsExpr, is_expr_word, type_starts, expr_starts}
+use Rattle.c_parse.proofs.Starting.{StartsBy, trace_starts, IsTypeWord, type_starts, type_stays, IsExprWord, is_expr_word, expr_starts, expr_no_type}
 use Rattle.c_parse.proofs.TracedTypes.{leads_type}
 
 -- ---- levels
@@ -163,19 +163,13 @@ leads_choice n ns ms ks ts us ws rest q c a b d symbols vs cond yes_part no_part
 -- ---- parentheses and brackets
 
 -- what stands in parentheses is a type or an expression, by its first token
-inside_type : (n : ℕ) (ts rest : List Token) (symbols : List Symbol) (vs : List Value) → StartsType ts
+inside_type : (n : ℕ) (ts rest : List Token) (symbols : List Symbol) (vs : List Value) → StartsBy IsTypeWord ts
     → trace (Symbol.inside n ∷ symbols) vs (ts ++ rest) ≡ trace (Symbol.a_type n ∷ Symbol.fixed n Fixed.closing ∷ Symbol.expression n 11 ∷ Symbol.reduce Reduction.cast ∷ symbols) vs (ts ++ rest)
-inside_type n ts rest symbols vs s =
-    let more : List Symbol = Symbol.fixed n Fixed.closing ∷ Symbol.expression n 11 ∷ Symbol.reduce Reduction.cast ∷ [] in
-    subst (λ us. trace (Symbol.inside n ∷ symbols) vs (us ++ rest) ≡ trace (Symbol.a_type n ∷ (more ++ symbols)) vs (us ++ rest)) (sym s.split)
-    (trace_unfolds (Symbol.inside n) (Symbol.a_type n) more symbols vs s.first (s.more ++ rest) (ap (λ b. inside_move n b s.first.word) s.is_type) (s.some n))
+inside_type n ts rest symbols vs s = trace_starts IsTypeWord (Symbol.inside n) (Symbol.a_type n) (Symbol.fixed n Fixed.closing ∷ Symbol.expression n 11 ∷ Symbol.reduce Reduction.cast ∷ []) symbols vs ts rest s (λ w h. ap (λ b. inside_move n b w) h) (type_stays n)
 
-inside_expr : (n : ℕ) (ts rest : List Token) (symbols : List Symbol) (vs : List Value) → StartsExpr ts
+inside_expr : (n : ℕ) (ts rest : List Token) (symbols : List Symbol) (vs : List Value) → StartsBy IsExprWord ts
     → trace (Symbol.inside n ∷ symbols) vs (ts ++ rest) ≡ trace (Symbol.expression n 0 ∷ Symbol.fixed n Fixed.closing ∷ Symbol.reduce Reduction.group ∷ symbols) vs (ts ++ rest)
-inside_expr n ts rest symbols vs s =
-    let more : List Symbol = Symbol.fixed n Fixed.closing ∷ Symbol.reduce Reduction.group ∷ [] in
-    subst (λ us. trace (Symbol.inside n ∷ symbols) vs (us ++ rest) ≡ trace (Symbol.expression n 0 ∷ (more ++ symbols)) vs (us ++ rest)) (sym s.split)
-    (trace_unfolds (Symbol.inside n) (Symbol.expression n 0) more symbols vs s.first (s.more ++ rest) (ap (λ b. inside_move n b s.first.word) s.no_type) (s.some n))
+inside_expr n ts rest symbols vs s = trace_starts IsExprWord (Symbol.inside n) (Symbol.expression n 0) (Symbol.fixed n Fixed.closing ∷ Symbol.reduce Reduction.group ∷ []) symbols vs ts rest s (λ w h. ap (λ b. inside_move n b w) (expr_no_type w h)) (expression_stays n 0)
 
 leads_cast : (n : ℕ) (ns : List ℕ) (ts us rest : List Token) (s z : Span) (t : Ty) (a : Expr) (symbols : List Symbol) (vs : List Value) → DerivesType ts t
     → Through (suc n) 11 ns us rest (Value.of_token (marked mark.Close z) ∷ Value.of_ty ts t ∷ Value.of_token (marked mark.Open s) ∷ vs)
@@ -193,7 +187,7 @@ leads_cast n ns ts us rest s z t a symbols vs ty arg =
     leads_join first (leads_take (Symbol.fixed (suc n) Fixed.closing) (marked mark.Close z) refl) in
     leads_reduced Reduction.cast (leads_taking (Symbol.expression n 11) (marked mark.Open s) refl (leads_join group (arg (Symbol.reduce Reduction.cast ∷ symbols))))
 
-leads_group : (n : ℕ) (ns : List ℕ) (ts rest : List Token) (s z : Span) (e : Expr) (symbols : List Symbol) (vs : List Value) → StartsExpr ts
+leads_group : (n : ℕ) (ns : List ℕ) (ts rest : List Token) (s z : Span) (e : Expr) (symbols : List Symbol) (vs : List Value) → StartsBy IsExprWord ts
     → Through (suc n) 0 ns ts (marked mark.Close z ∷ rest) (Value.of_token (marked mark.Open s) ∷ vs) (Value.of_expr ts e ∷ Value.of_token (marked mark.Open s) ∷ vs)
     → Leads (enclosed (suc n) ns) (between mark.Open s ts mark.Close z) rest (Symbol.expression n 12 ∷ symbols) vs symbols (Value.of_expr (between mark.Open s ts mark.Close z) e ∷ vs)
 leads_group n ns ts rest s z e symbols vs starts inner =
@@ -246,13 +240,11 @@ arguments_unfold n (word.Mark mark.Close) h = absurd (cc)
 arguments_unfold n w h = refl
 
 -- arguments begin with an expression
-arguments_begin : (n : ℕ) (ts rest : List Token) (symbols : List Symbol) (vs : List Value) → StartsExpr ts
+arguments_begin : (n : ℕ) (ts rest : List Token) (symbols : List Symbol) (vs : List Value) → StartsBy IsExprWord ts
     → trace (Symbol.arguments n ∷ symbols) vs (ts ++ rest)
     ≡ trace (Symbol.expression n 0 ∷ Symbol.reduce Reduction.first_argument ∷ Symbol.more_arguments n ∷ Symbol.fixed n Fixed.closing ∷ symbols) vs (ts ++ rest)
 arguments_begin n ts rest symbols vs s =
-    let more : List Symbol = Symbol.reduce Reduction.first_argument ∷ Symbol.more_arguments n ∷ Symbol.fixed n Fixed.closing ∷ [] in
-    subst (λ us. trace (Symbol.arguments n ∷ symbols) vs (us ++ rest) ≡ trace (Symbol.expression n 0 ∷ (more ++ symbols)) vs (us ++ rest)) (sym s.split)
-    (trace_unfolds (Symbol.arguments n) (Symbol.expression n 0) more symbols vs s.first (s.more ++ rest) (arguments_unfold n s.first.word s.begins) (s.some n))
+    trace_starts IsExprWord (Symbol.arguments n) (Symbol.expression n 0) (Symbol.reduce Reduction.first_argument ∷ Symbol.more_arguments n ∷ Symbol.fixed n Fixed.closing ∷ []) symbols vs ts rest s (arguments_unfold n) (expression_stays n 0)
 
 -- behind an argument a comma or the closing parenthesis stands
 argument_ends : (ts rest : List Token) (es : List Expr) (z : Span) → DerivesMoreArgs ts es → Closed (ts ++ marked mark.Close z ∷ rest)

@@ -18,7 +18,7 @@ use Rattle.c_parse.specs.Traces.{Trace, trace}
 use Rattle.c_parse.proofs.Runs.{Runs}
 use Rattle.c_parse.proofs.Closing.{Closed, is_int}
 use Rattle.c_parse.proofs.Leading.{Leads, leads_none, leads_join, leads_taking, leads_take, leads_from, leads_to, leads_reducing, leads_reduced}
-use Rattle.c_parse.proofs.StmtStarts.{followed_twice}
+use Rattle.c_parse.proofs.Starting.{followed_twice}
 use Rattle.c_parse.proofs.TracedParts.{type_unfolds}
 use Rattle.c_parse.proofs.TracedTypes.{leads_type}
 use Rattle.c_parse.proofs.TracedStmts.{leads_items}
@@ -27,10 +27,7 @@ use Rattle.c_parse.proofs.TracedStmts.{leads_items}
 
 no_dims : (n : ℕ) (rest : List Token) (symbols : List Symbol) (vs : List Value) → Closed rest → trace (Symbol.dims n ∷ symbols) vs rest ≡ trace symbols vs rest
 no_dims n rest symbols vs (Closed.closing s ts) = refl
-no_dims n rest symbols vs (Closed.bracket s ts) = refl
-no_dims n rest symbols vs (Closed.colon s ts) = refl
-no_dims n rest symbols vs (Closed.semicolon s ts) = refl
-no_dims n rest symbols vs (Closed.comma s ts) = refl
+no_dims n rest symbols vs c = refl
 
 same_dims : (ts us rest : List Token) (ds es : List ℕ) (symbols : List Symbol) (vs : List Value) → ts ≡ us → ds ≡ es → trace symbols (Value.of_dims ts ds ∷ vs) rest ≡ trace symbols (Value.of_dims us es ∷ vs) rest
 same_dims ts us rest ds es symbols vs p q = ap (λ v. trace symbols (Value.of_dims v ds ∷ vs) rest) p ∙ ap (λ v. trace symbols (Value.of_dims us v ∷ vs) rest) q

@@ -13,10 +13,10 @@ use Rattle.c_ast.specs.Nesting.{expr_nesting, option_nesting, step_nesting, decl
 use Rattle.c_parse.specs.Symbols.{Symbol, Reduction, Fixed, move, followed, is_type_word, type_move, expression_move, first_move, condition_move, declarators}
 use Rattle.c_parse.specs.Values.{Value, reduced}
 use Rattle.c_parse.specs.Traces.{trace}
-use Rattle.c_parse.proofs.Tracing.{trace_unfolds}
 use Rattle.c_parse.proofs.Closing.{Closed, is_int}
 use Rattle.c_parse.proofs.Leading.{Leads, leads_join, leads_taking, leads_take, leads_from, leads_to, leads_reducing, leads_reduced}
-use Rattle.c_parse.proofs.Starting.{StartsType, type_starts, StartsExpr, expr_starts}
+use Rattle.c_parse.proofs.Levels.{expression_stays}
+use Rattle.c_parse.proofs.Starting.{trace_starts, IsTypeWord, type_starts, type_stays, IsExprWord, expr_starts, expr_no_semicolon}
 use Rattle.c_parse.proofs.TracedTypes.{leads_type}
 use Rattle.c_parse.proofs.TracedExprs.{traced_expr}
 use Rattle.c_parse.proofs.TracedSimple.{leads_simple}
@@ -32,10 +32,7 @@ leads_whole n ts rest e d symbols vs h = record { runs = traced_expr n ts rest e
 no_value : (n : ℕ) (x : Token) (rest : List Token) (symbols : List Symbol) (vs : List Value) → Closed rest
     → trace (Symbol.reduce Reduction.no_value ∷ Symbol.value n ∷ symbols) (Value.of_token x ∷ vs) rest ≡ trace symbols (Value.of_maybe_expr [] None ∷ Value.of_token x ∷ vs) rest
 no_value n x rest symbols vs (Closed.closing s ts) = refl
-no_value n x rest symbols vs (Closed.bracket s ts) = refl
-no_value n x rest symbols vs (Closed.colon s ts) = refl
-no_value n x rest symbols vs (Closed.semicolon s ts) = refl
-no_value n x rest symbols vs (Closed.comma s ts) = refl
+no_value n x rest symbols vs c = refl
 
 -- the values where a declared name was read, with its value if it has one
 abbrev values_of : {t : Ty} {ts : List Token} {s : Stmt} → DerivesDeclared t ts s → List Value → List Value
@@ -118,10 +115,7 @@ leads_declaration n ts rest ds (DerivesDeclaration.declaration us ws z t xs ty d
 -- a symbol whose rule begins with a type, before one
 pub type_unfolds : (n : ℕ) (s : Symbol) (more symbols : List Symbol) (vs : List Value) (ts rest : List Token) (t : Ty) → DerivesType ts t → ((w : Word) → is_type_word w ≡ true → move s w ≡ followed (type_move n w) more)
     → trace (s ∷ symbols) vs (ts ++ rest) ≡ trace (Symbol.a_type n ∷ (more ++ symbols)) vs (ts ++ rest)
-type_unfolds n s more symbols vs ts rest t d h =
-    let b : StartsType ts = type_starts ts t d in
-    subst (λ us. trace (s ∷ symbols) vs (us ++ rest) ≡ trace (Symbol.a_type n ∷ (more ++ symbols)) vs (us ++ rest)) (sym b.split)
-    (trace_unfolds s (Symbol.a_type n) more symbols vs b.first (b.more ++ rest) (h b.first.word b.is_type) (b.some n))
+type_unfolds n s more symbols vs ts rest t d h = trace_starts IsTypeWord s (Symbol.a_type n) more symbols vs ts rest (type_starts ts t d) h (type_stays n)
 
 -- the same before a declaration
 declaration_first : (n : ℕ) (ts rest : List Token) (ds : List Stmt) (symbols : List Symbol) (vs : List Value) → DerivesDeclaration ts ds
@@ -157,11 +151,8 @@ condition_unfolds n w h = refl
 
 expr_condition : (n : ℕ) (ts rest : List Token) (e : Expr) (symbols : List Symbol) (vs : List Value) → DerivesExpr 0 ts e
     → trace (Symbol.condition n ∷ symbols) vs (ts ++ rest) ≡ trace (Symbol.expression n 0 ∷ Symbol.reduce Reduction.some_condition ∷ Symbol.fixed n Fixed.semicolon ∷ symbols) vs (ts ++ rest)
-expr_condition n ts rest e symbols vs d =
-    let b : StartsExpr ts = expr_starts 0 ts e d in
-    let more : List Symbol = Symbol.reduce Reduction.some_condition ∷ Symbol.fixed n Fixed.semicolon ∷ [] in
-    subst (λ us. trace (Symbol.condition n ∷ symbols) vs (us ++ rest) ≡ trace (Symbol.expression n 0 ∷ (more ++ symbols)) vs (us ++ rest)) (sym b.split)
-    (trace_unfolds (Symbol.condition n) (Symbol.expression n 0) more symbols vs b.first (b.more ++ rest) (condition_unfolds n b.first.word b.no_semicolon) (b.some n))
+expr_condition n ts rest e symbols vs d = trace_starts IsExprWord (Symbol.condition n) (Symbol.expression n 0) (Symbol.reduce Reduction.some_condition ∷ Symbol.fixed n Fixed.semicolon ∷ []) symbols vs ts rest
+    (expr_starts 0 ts e d) (λ w h. condition_unfolds n w (expr_no_semicolon w h)) (expression_stays n 0)
 
 pub leads_condition : (n : ℕ) (ts rest : List Token) (e : Option Expr) (d : DerivesOption ts e) (z : Span) (symbols : List Symbol) (vs : List Value)
     → Leads (option_nesting n d ++ n ∷ []) (ts ++ marked mark.Semicolon z ∷ []) rest (Symbol.condition n ∷ symbols) vs symbols (Value.of_token (marked mark.Semicolon z) ∷ Value.of_maybe_expr ts e ∷ vs)

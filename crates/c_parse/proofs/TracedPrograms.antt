@@ -30,10 +30,9 @@ use Rattle.c_parse.proofs.Passing.{without_runs}
 use Rattle.c_parse.proofs.Closing.{Closed}
 use Rattle.c_parse.proofs.Tracing.{is_pass, trace_unfolds}
 use Rattle.c_parse.proofs.Runs.{Runs}
-use Rattle.c_parse.proofs.Starting.{StartsType, type_starts}
+use Rattle.c_parse.proofs.Starting.{StartsBy, starts_behind, trace_starts, IsTypeWord, type_starts, type_stays, IsStmtWord, stmt_starts, statement_stays}
 use Rattle.c_parse.proofs.Leading.{Leads, leads_none, leads_join, leads_taking, leads_take, leads_from, leads_to, leads_reducing, leads_reduced}
-use Rattle.c_parse.proofs.StmtStarts.{StartsStmt, stmt_starts, items_no_else}
-use Rattle.c_parse.proofs.JudgedExprs.{type_stays}
+use Rattle.c_parse.proofs.StmtStarts.{items_no_else}
 use Rattle.c_parse.proofs.TracedTypes.{leads_type}
 use Rattle.c_parse.proofs.TracedExprs.{traced_expr}
 use Rattle.c_parse.proofs.TracedParts.{leads_declaration}
@@ -54,19 +53,9 @@ abbrev IsPlain : Token → Type 0
 IsPlain t = bars bar.Brackets t.word ≡ false
 
 type_plain : (ts : List Token) (t : Ty) → DerivesType ts t → NoneBarred bar.Brackets ts
-type_plain ts t (DerivesType.fixed_8 s) = (refl, tt)
-type_plain ts t (DerivesType.fixed_16 s) = (refl, tt)
-type_plain ts t (DerivesType.fixed_32 s) = (refl, tt)
-type_plain ts t (DerivesType.fixed_64 s) = (refl, tt)
-type_plain ts t (DerivesType.unsigned_8 s) = (refl, tt)
-type_plain ts t (DerivesType.unsigned_16 s) = (refl, tt)
-type_plain ts t (DerivesType.unsigned_32 s) = (refl, tt)
-type_plain ts t (DerivesType.unsigned_64 s) = (refl, tt)
-type_plain ts t (DerivesType.plain_int s) = (refl, tt)
-type_plain ts t (DerivesType.plain_signed s) = (refl, tt)
 type_plain ts t (DerivesType.signed_int s z) = (refl, (refl, tt))
-type_plain ts t (DerivesType.plain_unsigned s) = (refl, tt)
 type_plain ts t (DerivesType.unsigned_int s z) = (refl, (refl, tt))
+type_plain ts t d = (refl, tt)
 
 dims_plain : (ts : List Token) (ds : List ℕ) → DerivesDims ts ds → ds ≡ [] → NoneBarred bar.Brackets ts
 dims_plain ts ds DerivesDims.no_more h = tt
@@ -89,9 +78,8 @@ params_plain ts ps (DerivesParams.some us qs d) h = list_plain us qs d h
 
 pub limited_stays : (b : Bar) (m : Move) (x : Bool) → is_pass m ≡ false → is_pass (limited b false m x) ≡ false
 limited_stays b Move.pass x h = h
-limited_stays b Move.stuck x h = refl
 limited_stays b (Move.take n new) true h = refl
-limited_stays b (Move.take n new) false h = refl
+limited_stays b m x h = refl
 
 -- what follows a statement of a helper
 abbrev pub plain_more : ℕ → List Symbol
@@ -101,14 +89,13 @@ pub plain_item_is : (n : ℕ) (w : Word) → bars bar.Returns w ≡ false → pl
 plain_item_is n (word.Key key.Return) h = absurd (cc)
 plain_item_is n w h = refl
 
-pub plain_statement_item : (n : ℕ) (ts rest : List Token) (symbols : List Symbol) (vs : List Value) → StartsStmt ts → NoneBarred bar.Returns ts
+pub plain_statement_item : (n : ℕ) (ts rest : List Token) (symbols : List Symbol) (vs : List Value) → StartsBy IsStmtWord ts → NoneBarred bar.Returns ts
     → trace (Symbol.helper_body n ∷ symbols) vs (ts ++ rest) ≡ trace (Symbol.without bar.Returns (Symbol.statement n) ∷ (plain_more n ++ symbols)) vs (ts ++ rest)
-plain_statement_item n ts rest symbols vs start free =
-    let first : bars bar.Returns start.first.word ≡ false = (subst (NoneBarred bar.Returns) start.split free).0 in
-    subst (λ us. trace (Symbol.helper_body n ∷ symbols) vs (us ++ rest) ≡ trace (Symbol.without bar.Returns (Symbol.statement n) ∷ (plain_more n ++ symbols)) vs (us ++ rest)) (sym start.split)
-    (trace_unfolds (Symbol.helper_body n) (Symbol.without bar.Returns (Symbol.statement n)) (plain_more n) symbols vs start.first (start.more ++ rest)
-    (ap (λ b. helper_body_move n b start.first.word) start.no_type ∙ plain_item_is n start.first.word first)
-    (limited_stays bar.Returns (move (Symbol.statement n) start.first.word) (bars bar.Returns start.first.word) (start.some n)))
+plain_statement_item n [] rest symbols vs start free = absurd start
+plain_statement_item n (t ∷ ts) rest symbols vs start free =
+    trace_unfolds (Symbol.helper_body n) (Symbol.without bar.Returns (Symbol.statement n)) (plain_more n) symbols vs t (ts ++ rest)
+    (ap (λ b. helper_body_move n b t.word) start.no_type ∙ plain_item_is n t.word free.0)
+    (limited_stays bar.Returns (move (Symbol.statement n) t.word) (bars bar.Returns t.word) (statement_stays n t.word))
 
 -- a statement, where the word return is barred
 leads_plain_stmt : (f : Bool) (ts : List Token) (s : Stmt) (d : DerivesStmt f ts s) (n : ℕ) (rest : List Token) → NoneBarred bar.Returns ts → (f ≡ true → is_else rest ≡ false) → (symbols : List Symbol) (vs : List Value)
@@ -124,12 +111,8 @@ declared_more n = without_all bar.Returns (declarators n) ++ Symbol.reduce Reduc
 plain_declaration_item : (n : ℕ) (ts rest : List Token) (ds : List Stmt) (symbols : List Symbol) (vs : List Value) → DerivesDeclaration ts ds
     → trace (Symbol.helper_body n ∷ symbols) vs (ts ++ rest) ≡ trace (Symbol.without bar.Returns (Symbol.a_type n) ∷ (declared_more n ++ symbols)) vs (ts ++ rest)
 plain_declaration_item n ts rest ds symbols vs (DerivesDeclaration.declaration us ws z t xs ty d) =
-    let start : StartsType us = type_starts us t ty in
-    let more : List Token = ws ++ marked mark.Semicolon z ∷ [] in
-    subst (λ v. trace (Symbol.helper_body n ∷ symbols) vs ((v ++ more) ++ rest) ≡ trace (Symbol.without bar.Returns (Symbol.a_type n) ∷ (declared_more n ++ symbols)) vs ((v ++ more) ++ rest)) (sym start.split)
-    (trace_unfolds (Symbol.helper_body n) (Symbol.without bar.Returns (Symbol.a_type n)) (declared_more n) symbols vs start.first ((start.more ++ more) ++ rest)
-    (ap (λ b. helper_body_move n b start.first.word) start.is_type)
-    (limited_stays bar.Returns (move (Symbol.a_type n) start.first.word) (bars bar.Returns start.first.word) (start.some n)))
+    trace_starts IsTypeWord (Symbol.helper_body n) (Symbol.without bar.Returns (Symbol.a_type n)) (declared_more n) symbols vs (us ++ (ws ++ marked mark.Semicolon z ∷ [])) rest
+    (starts_behind IsTypeWord us (ws ++ marked mark.Semicolon z ∷ []) (type_starts us t ty)) (λ w h. ap (λ b. helper_body_move n b w) h) (λ w. limited_stays bar.Returns (move (Symbol.a_type n) w) (bars bar.Returns w) (type_stays n w))
 
 leads_plain_declaration : (n : ℕ) (ts rest : List Token) (ds : List Stmt) (d : DerivesDeclaration ts ds) (symbols : List Symbol) (vs : List Value) → NoneBarred bar.Returns ts
     → Leads (declaration_nesting n d) ts rest (Symbol.without bar.Returns (Symbol.a_type n) ∷ (without_all bar.Returns (declarators n) ++ symbols)) vs symbols (Value.of_stmts ts ds ∷ vs)
@@ -243,10 +226,8 @@ kernel_begins : (ts rest : List Token) (tree : Tree) (vs : List Value) → Deriv
 kernel_begins ts rest tree vs (Derives.kernel rs ps us x s a z b e r params body (DerivesResult.void k) inside items) =
     trace_unfolds Symbol.program (Symbol.result 0) kernel_more [] vs (keyed key.Void k) ((named x s ∷ (between mark.Open a ps mark.Close z ++ between mark.OpenBrace b us mark.CloseBrace e)) ++ rest) refl refl
 kernel_begins ts rest tree vs (Derives.kernel rs ps us x s a z b e r params body (DerivesResult.a_type qs t type) inside items) =
-    let start : StartsType qs = type_starts qs t type in
     let more : List Token = named x s ∷ (between mark.Open a ps mark.Close z ++ between mark.OpenBrace b us mark.CloseBrace e) in
-    subst (λ v. trace (Symbol.program ∷ []) vs ((v ++ more) ++ rest) ≡ trace (Symbol.result 0 ∷ kernel_more) vs ((v ++ more) ++ rest)) (sym start.split)
-    (trace_unfolds Symbol.program (Symbol.result 0) kernel_more [] vs start.first ((start.more ++ more) ++ rest) (type_no_static start.first.word start.is_type) (result_stays start.first.word))
+    trace_starts IsTypeWord Symbol.program (Symbol.result 0) kernel_more [] vs (qs ++ more) rest (starts_behind IsTypeWord qs more (type_starts qs t type)) type_no_static result_stays
 
 leads_program : (ts : List Token) (p : Program) (d : DerivesProgram ts p) → Leads (program_nesting ts p d) ts [] program_symbols [] [] (Value.of_program p ∷ [])
 leads_program ts p (DerivesProgram.program us ws hs tree ds d) =

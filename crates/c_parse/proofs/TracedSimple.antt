@@ -48,21 +48,9 @@ record Puts (m : Mark) (op : Option Binary) : Type 0 where
   known : assigning_of m ≡ Some op
   index : PassesIndex m
 
-abbrev puts_so : (m : Mark) (op : Option Binary) → assigning_of m ≡ Some op → PassesIndex m → Puts m op
-puts_so m op h index = record { known = h; index = index }
-
 puts : (m : Mark) (op : Option Binary) → IsAssigning m op → Puts m op
-puts m op IsAssigning.plain = puts_so m op refl (λ n. refl)
-puts m op IsAssigning.times = puts_so m op refl (λ n. refl)
-puts m op IsAssigning.divided = puts_so m op refl (λ n. refl)
-puts m op IsAssigning.modulo = puts_so m op refl (λ n. refl)
-puts m op IsAssigning.plus = puts_so m op refl (λ n. refl)
-puts m op IsAssigning.minus = puts_so m op refl (λ n. refl)
-puts m op IsAssigning.left_shift = puts_so m op refl (λ n. refl)
-puts m op IsAssigning.right_shift = puts_so m op refl (λ n. refl)
-puts m op IsAssigning.bits_and = puts_so m op refl (λ n. refl)
-puts m op IsAssigning.bits_xor = puts_so m op refl (λ n. refl)
-puts m op IsAssigning.bits_or = puts_so m op refl (λ n. refl)
+puts m op IsAssigning.plain = record { known = refl; index = λ n. refl }
+puts m op i = record { known = refl; index = λ n. refl }
 
 -- the mark and the value of an assignment, behind its target
 leads_assigned : (n : ℕ) (m : Mark) (op : Option Binary) (ts us rest : List Token) (s : Span) (t : Target) (e : Expr) (d : DerivesExpr 0 us e) (symbols : List Symbol) (vs : List Value) → Puts m op → Loose 0 rest

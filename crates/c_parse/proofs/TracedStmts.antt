@@ -20,7 +20,8 @@ use Rattle.c_parse.proofs.TracedExprs.{traced_expr}
 use Rattle.c_parse.proofs.TracedSimple.{leads_simple}
 use Rattle.c_parse.proofs.TracedParts.{leads_declaration, leads_first, leads_condition, leads_last}
 use Rattle.c_parse.proofs.StmtRules.{closed_end}
-use Rattle.c_parse.proofs.StmtStarts.{trace_other, simple_stmt, stmt_starts, statement_item, declaration_item, items_no_else}
+use Rattle.c_parse.proofs.StmtStarts.{trace_other, simple_stmt, statement_item, declaration_item, items_no_else}
+use Rattle.c_parse.proofs.Starting.{stmt_starts}
 
 -- a statement with these nestings is read before the rest, whatever is expected behind it
 abbrev LeadsStmt : ℕ → List ℕ → List Token → List Token → Stmt → Type 0

@@ -1,4 +1,6 @@
 //! Kernels.
+#![tactic(auto, using(crate::proofs::NoResults::no_result, crate::proofs::NoResults::no_verdict))]
+
 ghost use Rattle.std.specs.Prelude.{◌≡◌, ◌≤◌, ℕ, List, [], ◌∷◌, All, IfOk, IfErr};
 ghost use Rattle.el_base.specs.Limits.{max_nesting, max_nodes};
 ghost use Rattle.c_ast.specs.declared.token.Token.{Token};

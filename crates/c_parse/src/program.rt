@@ -1,4 +1,6 @@
 //! Programs: helpers before a kernel.
+#![tactic(auto, using(crate::proofs::NoResults::no_result, crate::proofs::NoResults::no_verdict))]
+
 ghost use Rattle.std.specs.Prelude.{◌≡◌, ◌<◌, ◌≤◌, ◌↔◌, List, [], ◌∷◌, ◌++◌, length, All, Some, Result, IfOk, IfErr, IsTrue};
 ghost use Rattle.el_base.specs.Limits.{max_nodes};
 ghost use Rattle.el_base.specs.declared.span.Span.{Span};

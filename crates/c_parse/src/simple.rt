@@ -1,4 +1,6 @@
 //! Assignments, steps and declarations.
+#![tactic(auto, using(crate::proofs::NoResults::no_result, crate::proofs::NoResults::no_verdict))]
+
 ghost use Rattle.std.specs.Prelude.{◌≡◌, ◌+◌, ℕ, List, [], ◌∷◌, None, IfOk};
 ghost use Rattle.el_base.specs.Limits.{max_nesting};
 ghost use Rattle.c_ast.specs.declared.token.Token.{Token};

@@ -1,4 +1,6 @@
 //! Statements.
+#![tactic(auto, using(crate::proofs::NoResults::no_result, crate::proofs::NoResults::no_verdict))]
+
 ghost use Rattle.std.specs.Prelude.{◌≡◌, ◌<◌, ◌≤◌, ◌+◌, ℕ, suc, List, [], ◌∷◌, All, length, Some, None, IfOk};
 ghost use Rattle.el_base.specs.Limits.{max_nesting};
 ghost use Rattle.c_ast.specs.declared.key.Key.TheVariants as key;

@@ -1,4 +1,6 @@
 //! Types.
+#![tactic(auto, using(crate::proofs::NoResults::no_result, crate::proofs::NoResults::no_verdict))]
+
 ghost use Rattle.std.specs.Prelude.{◌≡◌, ◌≤◌, ℕ, List, [], ◌∷◌, false, IfOk, IfErr};
 ghost use Rattle.el_base.specs.Limits.{max_nesting};
 ghost use Rattle.c_ast.specs.Derives.{DerivesType};

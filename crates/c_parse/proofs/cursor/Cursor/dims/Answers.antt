@@ -1,16 +1,13 @@
-use Rattle.std.proofs.Common.{refl}
+use Rattle.std.proofs.Common.{[], ◌∷◌, refl}
+use Rattle.c_parse.specs.Symbols.{Symbol}
 use Rattle.c_parse.proofs.KernelRules.{reads_no_dims, reads_dim_after}
-use Rattle.c_parse.proofs.Chains.{same_done}
-use Rattle.c_parse.proofs.Chains.{stopped}
+use Rattle.c_parse.proofs.Chains.{stopped, told, went, same_done, same_then, fails_then}
 use Rattle.c_parse.proofs.Exits.{untrue}
-use Rattle.c_parse.proofs.JudgedParts.{dims_more, dims_read, dims_stop}
+use Rattle.c_parse.proofs.Openings.{dims_end}
 use Rattle.c_parse.proofs.cursor.Cursor.dims.Goals as goal
 
-pub returns-in_err-dim : goal.returns-in_err-dim
-returns-in_err-dim c = record {
-  derived = rw (stopped _ _ c.from_residual.ensures.1) tt;
-  judged = λ n small. rw (stopped _ _ c.from_residual.ensures.1) (dims_stop n _ _ _ (c.dims.invariant.judged n small) (c.in_err-dim.ensures.judged n small (c.dims-test.ensures.0 refl))).holds;
-}
+pub returns-in_err-dim-clause-judged : goal.returns-in_err-dim-clause-judged
+returns-in_err-dim-clause-judged c = λ n small. rw (stopped _ _ c.from_residual.ensures.1) (told (Symbol.dims n ∷ []) (fails_then (c.dims.invariant.judged n small) (record { holds = c.in_err-dim.ensures.judged n small (c.dims-test.ensures.0 refl) })))
 
 pub dims-init : goal.dims-init
 dims-init c = record {
@@ -21,11 +18,8 @@ dims-init c = record {
 pub dims-preserved : goal.dims-preserved
 dims-preserved c = record {
   read = reads_dim_after _ _ _ _ _ _ c.dims.invariant.read c.in_ok-dim.ensures.derived c.in_ok-push.ensures.ok;
-  judged = λ n small. dims_more n _ _ _ (c.dims.invariant.judged n small) (c.in_ok-dim.ensures.judged n small (c.dims-test.ensures.0 refl));
+  judged = λ n small. same_then (c.dims.invariant.judged n small) (record { holds = c.in_ok-dim.ensures.judged n small (c.dims-test.ensures.0 refl) });
 }
 
-pub returns : goal.returns
-returns c = record {
-  derived = c.dims.invariant.read;
-  judged = λ n small. (dims_read n _ _ (c.dims.invariant.judged n small) (untrue c.dims-test.ensures.1)).holds;
-}
+pub returns-clause-judged : goal.returns-clause-judged
+returns-clause-judged c = λ n small. went (Symbol.dims n ∷ []) [] (same_then (c.dims.invariant.judged n small) (dims_end n _ (untrue c.dims-test.ensures.1)))

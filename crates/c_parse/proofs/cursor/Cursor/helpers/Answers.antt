@@ -1,5 +1,5 @@
 use Rattle.std.proofs.Common.{rules}
-use Rattle.c_parse.proofs.Chains.{stopped, same_then, same_reduces}
+use Rattle.c_parse.proofs.Chains.{same_then, same_reduces}
 use Rattle.c_parse.proofs.JudgedPrograms.{reads_no_helpers, reads_helper_after}
 use Rattle.c_parse.proofs.cursor.Cursor.helpers.Goals as goal
 
@@ -11,16 +11,3 @@ helpers-preserved c = record {
   read = reads_helper_after _ _ _ _ _ _ c.helpers.invariant.read c.in_ok-helper.ensures.derived c.in_ok-push.ensures.ok;
   judged = same_then c.helpers.invariant.judged (record { holds = c.in_ok-helper.ensures.judged (search rules) });
 }
-
-pub returns-in_err-push : goal.returns-in_err-push
-returns-in_err-push c = record {
-  derived = rw (stopped _ _ c.from_residual-in_err-push.ensures.1) tt;
-  judged = rw (stopped _ _ c.from_residual-in_err-push.ensures.1) (λ symbols. tt);
-  behind = rw (stopped _ _ c.from_residual-in_err-push.ensures.1) tt;
-}
-
-pub returns-in_err-helper-clause-derived : goal.returns-in_err-helper-clause-derived
-returns-in_err-helper-clause-derived c = rw (stopped _ _ c.from_residual.ensures.1) tt
-
-pub returns-in_err-helper-clause-behind : goal.returns-in_err-helper-clause-behind
-returns-in_err-helper-clause-behind c = rw (stopped _ _ c.from_residual.ensures.1) tt

@@ -13,12 +13,8 @@ returns-then-is_at_type c = record {
   judged = λ behind begins free some. declared_before behind _ _ _ _ _ (sym c.is_at_type.ensures ∙ c.if-is_at_type.true) begins free (added_where _ _ c.declaration.ensures.derived) (c.declaration.ensures.judged 1 (omega arith));
 }
 
-pub returns-in_err-stmt : goal.returns-in_err-stmt
-returns-in_err-stmt c = record {
-  added = rw (stopped _ _ c.from_residual.ensures.1) tt;
-  shorter = rw (stopped _ _ c.from_residual.ensures.1) tt;
-  judged = λ behind begins free some. rw (stopped _ _ c.from_residual.ensures.1) (statement_stops_before behind _ _ (sym c.is_at_type.ensures ∙ c.if-is_at_type.false) some begins free (c.in_err-stmt.ensures.judged 1 (omega arith)));
-}
+pub returns-in_err-stmt-clause-judged : goal.returns-in_err-stmt-clause-judged
+returns-in_err-stmt-clause-judged c = λ behind begins free some. rw (stopped _ _ c.from_residual.ensures.1) (statement_stops_before behind _ _ (sym c.is_at_type.ensures ∙ c.if-is_at_type.false) some begins free (c.in_err-stmt.ensures.judged 1 (omega arith)))
 
 pub returns : goal.returns
 returns c = record {

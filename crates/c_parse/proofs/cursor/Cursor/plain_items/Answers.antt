@@ -22,12 +22,8 @@ items-preserved c = record {
   judged = λ symbols. c.items.invariant.judged symbols ∙ c.in_ok-item_before.ensures.judged c.items.invariant.begins (all_free_of _ c.items.invariant.free) (some_items c.items.part.rest.now (search rules)) symbols;
 }
 
-pub returns-in_err-item_before : goal.returns-in_err-item_before
-returns-in_err-item_before c = record {
-  derived = rw (stopped _ _ c.from_residual.ensures.1) tt;
-  judged = rw (stopped _ _ c.from_residual.ensures.1) (items_stop c.args.self.now.rest.now c.items.part.rest.now c.parted.result.1.now _ c.items.invariant.judged (c.in_err-item_before.ensures.judged c.items.invariant.begins (all_free_of _ c.items.invariant.free) (some_items c.items.part.rest.now (search rules))));
-  behind = rw (stopped _ _ c.from_residual.ensures.1) tt;
-}
+pub returns-in_err-item_before-clause-judged : goal.returns-in_err-item_before-clause-judged
+returns-in_err-item_before-clause-judged c = rw (stopped _ _ c.from_residual.ensures.1) (items_stop c.args.self.now.rest.now c.items.part.rest.now c.parted.result.1.now _ c.items.invariant.judged (c.in_err-item_before.ensures.judged c.items.invariant.begins (all_free_of _ c.items.invariant.free) (some_items c.items.part.rest.now (search rules))))
 
 pub returns : goal.returns
 returns c = record {
