@@ -36,19 +36,11 @@ use Rattle.kernel_front.specs.Answers.{end_of_text, SpellsWithin, SpellsTyped, I
 
 pub lexer_says : (bytes : List ℕ) (e : LexRefusal) → lexer.Says bytes (Err e) → Says bytes (Err (of_lexer e))
 lexer_says bytes lex.Memory h = tt
-lexer_says bytes (lex.BadByte s) h = record { told = λ e. absurd (cc); cause = h }
-lexer_says bytes (lex.OpenComment s) h = record { told = λ e. absurd (cc); cause = h }
-lexer_says bytes (lex.BadNumber s) h = record { told = λ e. absurd (cc); cause = h }
-lexer_says bytes (lex.WideNumber s) h = record { told = λ e. absurd (cc); cause = h }
-lexer_says bytes (lex.Directive s) h = record { told = λ e. absurd (cc); cause = h }
-lexer_says bytes (lex.Redefined s) h = record { told = λ e. absurd (cc); cause = h }
+lexer_says bytes e h = record { told = λ e. absurd (cc); cause = h }
 
 parser_says_of : (bytes : List ℕ) (tokens : List Token) (e : ParseRefusal) → Tokens bytes tokens → parser.SaysProgram tokens (end_of_text bytes) (Err e) → Says bytes (Err (of_parser e))
 parser_says_of bytes tokens parse.Memory read h = tt
-parser_says_of bytes tokens (parse.Unexpected s) read h = record { told = λ e. absurd (cc); tokens = tokens; read = read; cause = h }
-parser_says_of bytes tokens (parse.EndOfText s) read h = record { told = λ e. absurd (cc); tokens = tokens; read = read; cause = h }
-parser_says_of bytes tokens (parse.TooDeep s) read h = record { told = λ e. absurd (cc); tokens = tokens; read = read; cause = h }
-parser_says_of bytes tokens (parse.TooLarge s n) read h = record { told = λ e. absurd (cc); tokens = tokens; read = read; cause = h }
+parser_says_of bytes tokens e read h = record { told = λ e. absurd (cc); tokens = tokens; read = read; cause = h }
 
 -- what the parser says of these tokens, and of the place at which it is told that the text ends
 said_of : (bytes : List ℕ) (tokens ts : List Token) (end : Span) (r : Result Program ParseRefusal) → ts ≡ tokens → end ≡ end_of_text bytes → parser.SaysProgram ts end r → parser.SaysProgram tokens (end_of_text bytes) r

@@ -121,39 +121,34 @@ module _ (Q : Span → Type 0) where
   ExprsPlaced [] = Unit {0}
   ExprsPlaced (e ∷ es) = ExprPlaced e × ExprsPlaced es
 
-  row_placed : (names : Sorts) (es : List Expr) → ExprsPlaced es → ArePlaced (row_faults names (hidden-the_row-Expr-0 es))
+  row_placed : (es : List Expr) → ExprsPlaced es → ((names : Sorts) → ArePlaced (row_faults names (hidden-the_row-Expr-0 es))) × ((may : Bool) → ArePlaced (row_places may (hidden-the_row-Expr-0 es)))
   unfolding shape-the_row-Expr-0 hidden-the_row-Expr-0 shape-the_row-Expr-1 hidden-the_row-Expr-1 hidden
-  row_placed names [] h = tt
-  row_placed names (e ∷ es) h = both (expr_faults names e) (row_faults names (hidden-the_row-Expr-0 es)) (h.0.0 names) (row_placed names es h.1)
+  row_placed [] h = (λ names. tt, λ may. tt)
+  row_placed (e ∷ es) h =
+      let more = row_placed es h.1 in
+      (λ names. both (expr_faults names e) (row_faults names (hidden-the_row-Expr-0 es)) (h.0.0 names) (more.0 names), λ may. both (expr_places may e) (row_places may (hidden-the_row-Expr-0 es)) (h.0.1 may) (more.1 may))
 
-  row_calls_placed : (may : Bool) (es : List Expr) → ExprsPlaced es → ArePlaced (row_places may (hidden-the_row-Expr-0 es))
-  unfolding shape-the_row-Expr-0 hidden-the_row-Expr-0 shape-the_row-Expr-1 hidden-the_row-Expr-1 hidden
-  row_calls_placed may [] h = tt
-  row_calls_placed may (e ∷ es) h = both (expr_places may e) (row_places may (hidden-the_row-Expr-0 es)) (h.0.1 may) (row_calls_placed may es h.1)
-
-  exprs_placed : (names : Sorts) (es : List Expr) → ExprsPlaced es → ArePlaced (exprs_faults names es)
-  exprs_placed names [] h = tt
-  exprs_placed names (e ∷ es) h = both (expr_faults names e) (exprs_faults names es) (h.0.0 names) (exprs_placed names es h.1)
-
-  exprs_calls_placed : (may : Bool) (es : List Expr) → ExprsPlaced es → ArePlaced (exprs_places may es)
-  exprs_calls_placed may [] h = tt
-  exprs_calls_placed may (e ∷ es) h = both (expr_places may e) (exprs_places may es) (h.0.1 may) (exprs_calls_placed may es h.1)
+  exprs_placed : (es : List Expr) → ExprsPlaced es → ((names : Sorts) → ArePlaced (exprs_faults names es)) × ((may : Bool) → ArePlaced (exprs_places may es))
+  exprs_placed [] h = (λ names. tt, λ may. tt)
+  exprs_placed (e ∷ es) h =
+      let more = exprs_placed es h.1 in
+      (λ names. both (expr_faults names e) (exprs_faults names es) (h.0.0 names) (more.0 names), λ may. both (expr_places may e) (exprs_places may es) (h.0.1 may) (more.1 may))
 
   element_placed : (x : List ℕ) (es : List Expr) (s : Span) (ts : List Token) → Laid Q (named x s ∷ ts) → ExprsPlaced es
       → KindPlaced (expr.Element x es) (place_of (named x s ∷ ts))
   element_placed x es s ts h parts = (
     λ names. both (use_faults names x (row_length (hidden-the_row-Expr-0 es)) (place_of (named x s ∷ ts))) (row_faults names (hidden-the_row-Expr-0 es))
-        (use_placed names x (row_length (hidden-the_row-Expr-0 es)) s ts h) (row_placed names es parts),
-    λ may. row_calls_placed may es parts,
+        (use_placed names x (row_length (hidden-the_row-Expr-0 es)) s ts h) ((row_placed es parts).0 names),
+    (row_placed es parts).1,
   )
 
   call_placed : (x : List ℕ) (es : List Expr) (s : Span) (ts : List Token) → Laid Q (named x s ∷ ts) → ExprsPlaced es
       → KindPlaced (expr.Call x es) (place_of (named x s ∷ ts))
   call_placed x es s ts h parts = (
     λ names. both (call_faults names x (row_length (hidden-the_row-Expr-0 es)) (place_of (named x s ∷ ts))) (row_faults names (hidden-the_row-Expr-0 es))
-        (if_broken_placed (broken_by_call (declared_in names x) (row_length (hidden-the_row-Expr-0 es))) _ (name_place x s ts h)) (row_placed names es parts),
+        (if_broken_placed (broken_by_call (declared_in names x) (row_length (hidden-the_row-Expr-0 es))) _ (name_place x s ts h)) ((row_placed es parts).0 names),
     λ may. both (unless may rule.CallPlace (first_bytes (length x) (place_of (named x s ∷ ts)))) (row_places may (hidden-the_row-Expr-0 es))
-        (unless_placed may rule.CallPlace _ (name_place x s ts h)) (row_calls_placed may es parts),
+        (unless_placed may rule.CallPlace _ (name_place x s ts h)) ((row_placed es parts).1 may),
   )
 
   unary_placed : (op : Unary) (a : Expr) (at : Span) → ExprPlaced a → KindPlaced (expr.Unary op a) at
@@ -229,8 +224,8 @@ module _ (Q : Span → Type 0) where
   target_placed : (ts : List Token) (t : Target) → DerivesTarget ts t → Laid Q ts → TargetPlaced t
   target_placed ts t (DerivesTarget.target x s us es d) h =
       let parts = indices_placed us es d (rest (named x s) us h) in (
-        λ names. both (use_faults names x (length es) (place_of (named x s ∷ us))) (exprs_faults names es) (use_placed names x (length es) s us h) (exprs_placed names es parts),
-        exprs_calls_placed true es parts,
+        λ names. both (use_faults names x (length es) (place_of (named x s ∷ us))) (exprs_faults names es) (use_placed names x (length es) s us h) ((exprs_placed es parts).0 names),
+        (exprs_placed es parts).1 true,
       )
 
   abbrev Placed : Stmt → Type 0
@@ -292,40 +287,33 @@ module _ (Q : Span → Type 0) where
 
   -- ---- statements
 
-  acts_placed : (ss : List Stmt) → AllPlaced ss → (r : Option Ty) (loop : Bool) (names : Sorts) → ArePlaced (acts_faults (hidden-the_row-Stmt-0 ss) r loop names)
+  acts_placed : (ss : List Stmt) → AllPlaced ss → ((r : Option Ty) (loop : Bool) (names : Sorts) → ArePlaced (acts_faults (hidden-the_row-Stmt-0 ss) r loop names)) × ArePlaced (acts_places (hidden-the_row-Stmt-0 ss))
   unfolding shape-the_row-Stmt-0 hidden-the_row-Stmt-0 shape-the_row-Stmt-1 hidden-the_row-Stmt-1 hidden
-  acts_placed [] h r loop names = tt
-  acts_placed (s ∷ ss) h r loop names =
-      both (stmt_faults s r loop names) (acts_faults (hidden-the_row-Stmt-0 ss) r loop (sorts_after names s.kind)) (h.0.0 r loop names) (acts_placed ss h.1 r loop (sorts_after names s.kind))
+  acts_placed [] h = (λ r loop names. tt, tt)
+  acts_placed (s ∷ ss) h =
+      let more = acts_placed ss h.1 in (
+        λ r loop names. both (stmt_faults s r loop names) (acts_faults (hidden-the_row-Stmt-0 ss) r loop (sorts_after names s.kind)) (h.0.0 r loop names) (more.0 r loop (sorts_after names s.kind)),
+        both (stmt_places s) (acts_places (hidden-the_row-Stmt-0 ss)) h.0.1 more.1,
+      )
 
-  acts_calls_placed : (ss : List Stmt) → AllPlaced ss → ArePlaced (acts_places (hidden-the_row-Stmt-0 ss))
+  held_placed : (o : Option Stmt) → PlacedIfAny o → ((r : Option Ty) (loop : Bool) (names : Sorts) → ArePlaced (held_faults (back-StmtKind-If-2 o) r loop names)) × ArePlaced (held_places (back-StmtKind-If-2 o))
   unfolding shape-the_row-Stmt-0 hidden-the_row-Stmt-0 shape-the_row-Stmt-1 hidden-the_row-Stmt-1 hidden
-  acts_calls_placed [] h = tt
-  acts_calls_placed (s ∷ ss) h = both (stmt_places s) (acts_places (hidden-the_row-Stmt-0 ss)) h.0.1 (acts_calls_placed ss h.1)
-
-  held_placed : (o : Option Stmt) → PlacedIfAny o → (r : Option Ty) (loop : Bool) (names : Sorts) → ArePlaced (held_faults (back-StmtKind-If-2 o) r loop names)
-  unfolding shape-the_row-Stmt-0 hidden-the_row-Stmt-0 shape-the_row-Stmt-1 hidden-the_row-Stmt-1 hidden
-  held_placed None h r loop names = tt
-  held_placed (Some s) h r loop names = h.0 r loop ([] ∷ names)
-
-  held_calls_placed : (o : Option Stmt) → PlacedIfAny o → ArePlaced (held_places (back-StmtKind-If-2 o))
-  unfolding shape-the_row-Stmt-0 hidden-the_row-Stmt-0 shape-the_row-Stmt-1 hidden-the_row-Stmt-1 hidden
-  held_calls_placed None h = tt
-  held_calls_placed (Some s) h = h.1
+  held_placed None h = (λ r loop names. tt, tt)
+  held_placed (Some s) h = (λ r loop names. h.0 r loop ([] ∷ names), h.1)
 
   -- a statement with its place
   abbrev ActPlaced : StmtKind → Span → Type 0
   ActPlaced kind at = ((r : Option Ty) (loop : Bool) (names : Sorts) → ArePlaced (act_faults kind at r loop names)) × ArePlaced (act_places kind)
 
   block_placed : (ss : List Stmt) (at : Span) → AllPlaced ss → ActPlaced (stmt.Block ss) at
-  block_placed ss at h = (λ r loop names. acts_placed ss h r loop ([] ∷ names), acts_calls_placed ss h)
+  block_placed ss at h = (λ r loop names. (acts_placed ss h).0 r loop ([] ∷ names), (acts_placed ss h).1)
 
   if_placed : (c : Expr) (b : Stmt) (o : Option Stmt) (at : Span) → ExprPlaced c → Placed b → PlacedIfAny o → ActPlaced (stmt.If c b o) at
   unfolding shape-the_row-Stmt-0 hidden-the_row-Stmt-0 shape-the_row-Stmt-1 hidden-the_row-Stmt-1 hidden
   if_placed c b o at p q s = (
     λ r loop names. both (expr_faults names c) (stmt_faults b r loop ([] ∷ names) ++ held_faults (back-StmtKind-If-2 o) r loop names) (p.0 names)
-        (both (stmt_faults b r loop ([] ∷ names)) (held_faults (back-StmtKind-If-2 o) r loop names) (q.0 r loop ([] ∷ names)) (held_placed o s r loop names)),
-    both (expr_places true c) (stmt_places b ++ held_places (back-StmtKind-If-2 o)) (p.1 true) (both (stmt_places b) (held_places (back-StmtKind-If-2 o)) q.1 (held_calls_placed o s)),
+        (both (stmt_faults b r loop ([] ∷ names)) (held_faults (back-StmtKind-If-2 o) r loop names) (q.0 r loop ([] ∷ names)) ((held_placed o s).0 r loop names)),
+    both (expr_places true c) (stmt_places b ++ held_places (back-StmtKind-If-2 o)) (p.1 true) (both (stmt_places b) (held_places (back-StmtKind-If-2 o)) q.1 (held_placed o s).1),
   )
 
   while_placed : (c : Expr) (b : Stmt) (at : Span) → ExprPlaced c → Placed b → ActPlaced (stmt.While c b) at
@@ -349,12 +337,12 @@ module _ (Q : Span → Type 0) where
         let after : Sorts = sorts_after_row ([] ∷ names) (hidden-the_row-Stmt-0 ss) in
         both (acts_faults (hidden-the_row-Stmt-0 ss) r false ([] ∷ names))
         (option_faults after c ++ (held_faults (back-StmtKind-If-2 o) r false after ++ stmt_faults b r true ([] ∷ after)))
-        (acts_placed ss p r false ([] ∷ names))
+        ((acts_placed ss p).0 r false ([] ∷ names))
         (both (option_faults after c) (held_faults (back-StmtKind-If-2 o) r false after ++ stmt_faults b r true ([] ∷ after)) (q.0 after)
-        (both (held_faults (back-StmtKind-If-2 o) r false after) (stmt_faults b r true ([] ∷ after)) (held_placed o s r false after) (k.0 r true ([] ∷ after)))),
-    both (acts_places (hidden-the_row-Stmt-0 ss)) (option_places false c ++ (held_places (back-StmtKind-If-2 o) ++ stmt_places b)) (acts_calls_placed ss p)
+        (both (held_faults (back-StmtKind-If-2 o) r false after) (stmt_faults b r true ([] ∷ after)) ((held_placed o s).0 r false after) (k.0 r true ([] ∷ after)))),
+    both (acts_places (hidden-the_row-Stmt-0 ss)) (option_places false c ++ (held_places (back-StmtKind-If-2 o) ++ stmt_places b)) (acts_placed ss p).1
         (both (option_places false c) (held_places (back-StmtKind-If-2 o) ++ stmt_places b) (q.1 false)
-        (both (held_places (back-StmtKind-If-2 o)) (stmt_places b) (held_calls_placed o s) k.1)),
+        (both (held_places (back-StmtKind-If-2 o)) (stmt_places b) (held_placed o s).1 k.1)),
   )
 
   mutual
@@ -401,14 +389,13 @@ module _ (Q : Span → Type 0) where
     items_placed ts ss (DerivesItems.statement f us ws s more d ds) h = (stmt_placed f us s d (front us ws h), items_placed ws more ds (back us ws h))
     items_placed ts ss (DerivesItems.declares us ws ds more d others) h = all_both ds more (declaration_placed us ds d (front us ws h)) (items_placed ws more others (back us ws h))
 
-  stmts_placed : (ss : List Stmt) → AllPlaced ss → (r : Option Ty) (loop : Bool) (names : Sorts) → ArePlaced (stmts_faults ss r loop names)
-  stmts_placed [] h r loop names = tt
-  stmts_placed (s ∷ ss) h r loop names =
-      both (stmt_faults s r loop names) (stmts_faults ss r loop (sorts_after names s.kind)) (h.0.0 r loop names) (stmts_placed ss h.1 r loop (sorts_after names s.kind))
-
-  stmts_calls_placed : (ss : List Stmt) → AllPlaced ss → ArePlaced (stmts_places ss)
-  stmts_calls_placed [] h = tt
-  stmts_calls_placed (s ∷ ss) h = both (stmt_places s) (stmts_places ss) h.0.1 (stmts_calls_placed ss h.1)
+  stmts_placed : (ss : List Stmt) → AllPlaced ss → ((r : Option Ty) (loop : Bool) (names : Sorts) → ArePlaced (stmts_faults ss r loop names)) × ArePlaced (stmts_places ss)
+  stmts_placed [] h = (λ r loop names. tt, tt)
+  stmts_placed (s ∷ ss) h =
+      let more = stmts_placed ss h.1 in (
+        λ r loop names. both (stmt_faults s r loop names) (stmts_faults ss r loop (sorts_after names s.kind)) (h.0.0 r loop names) (more.0 r loop (sorts_after names s.kind)),
+        both (stmt_places s) (stmts_places ss) h.0.1 more.1,
+      )
 
   -- ---- parameters
 
@@ -446,7 +433,7 @@ module _ (Q : Span → Type 0) where
   -- the parameters and the statements of a block
   block_faults_placed : (names : Sorts) (ps : List Param) (ss : List Stmt) (r : Option Ty) → ParamsPlaced ps → AllPlaced ss → ArePlaced (block_faults names ps ss r)
   block_faults_placed names ps ss r h k =
-      both (params_faults ps names 0) (stmts_faults ss r false (sorts_after_params names ps)) (params_faults_placed ps names 0 h) (stmts_placed ss k r false (sorts_after_params names ps))
+      both (params_faults ps names 0) (stmts_faults ss r false (sorts_after_params names ps)) (params_faults_placed ps names 0 h) ((stmts_placed ss k).0 r false (sorts_after_params names ps))
 
   -- ---- helpers
 
@@ -463,7 +450,7 @@ module _ (Q : Span → Type 0) where
         (unless_placed (is_new_in names f.name) rule.Redeclared f.at name)
         (both (block_faults ([] ∷ names) f.params f.body (Some f.result)) (expr_faults (sorts_at_end ([] ∷ names) f.params f.body) f.value)
         (block_faults_placed ([] ∷ names) f.params f.body (Some f.result) params body) (value.0 (sorts_at_end ([] ∷ names) f.params f.body))),
-    both (stmts_places f.body) (expr_places true f.value) (stmts_calls_placed f.body body) (value.1 true),
+    both (stmts_places f.body) (expr_places true f.value) (stmts_placed f.body body).1 (value.1 true),
   )
 
   helper_placed : (ts : List Token) (f : Helper) → DerivesHelper ts f → Laid Q ts → HelperPlaced f
@@ -482,14 +469,11 @@ module _ (Q : Span → Type 0) where
   helpers_placed ts fs DerivesHelpers.no_more h = tt
   helpers_placed ts fs (DerivesHelpers.one_more us ws f more d ds) h = (helper_placed us f d (front us ws h), helpers_placed ws more ds (back us ws h))
 
-  helpers_faults_placed : (names : Sorts) (fs : List Helper) → HelpersPlaced fs → ArePlaced (helpers_faults names fs)
-  helpers_faults_placed names [] h = tt
-  helpers_faults_placed names (f ∷ fs) h =
-      both (helper_faults names f) (helpers_faults (sorts_after_helper names f) fs) (h.0.0 names) (helpers_faults_placed (sorts_after_helper names f) fs h.1)
-
-  helpers_calls_placed : (fs : List Helper) → HelpersPlaced fs → ArePlaced (helpers_places fs)
-  helpers_calls_placed [] h = tt
-  helpers_calls_placed (f ∷ fs) h = both (helper_places f) (helpers_places fs) h.0.1 (helpers_calls_placed fs h.1)
+  helpers_faults_placed : (fs : List Helper) → HelpersPlaced fs → ((names : Sorts) → ArePlaced (helpers_faults names fs)) × ArePlaced (helpers_places fs)
+  helpers_faults_placed [] h = (λ names. tt, tt)
+  helpers_faults_placed (f ∷ fs) h =
+      let more = helpers_faults_placed fs h.1 in
+      (λ names. both (helper_faults names f) (helpers_faults (sorts_after_helper names f) fs) (h.0.0 names) (more.0 (sorts_after_helper names f)), both (helper_places f) (helpers_places fs) h.0.1 more.1)
 
   -- ---- kernels and programs
 
@@ -506,7 +490,7 @@ module _ (Q : Span → Type 0) where
       let all_items = items_placed us body items (inside mark.OpenBrace mark.CloseBrace b e us (back head block behind)) in (
         λ names. both (unless (is_new_in names x) rule.Redeclared s) (block_faults ([] ∷ names) params body r) (unless_placed (is_new_in names x) rule.Redeclared s name.laid.2.0)
             (block_faults_placed ([] ∷ names) params body r all_params all_items),
-        stmts_calls_placed body all_items,
+        (stmts_placed body all_items).1,
       )
 
   pub program_placed : (ts : List Token) (p : Program) → DerivesProgram ts p → Laid Q ts → ArePlaced (program_faults p)
@@ -515,5 +499,5 @@ module _ (Q : Span → Type 0) where
       let kernel = kernel_placed ws tree d (back us ws h) in
       let names : Sorts = sorts_after_helpers ([] ∷ []) fs in
       both (helpers_faults ([] ∷ []) fs ++ kernel_faults names tree) (helpers_places fs ++ stmts_places tree.body)
-      (both (helpers_faults ([] ∷ []) fs) (kernel_faults names tree) (helpers_faults_placed ([] ∷ []) fs helpers) (kernel.0 names))
-      (both (helpers_places fs) (stmts_places tree.body) (helpers_calls_placed fs helpers) kernel.1)
+      (both (helpers_faults ([] ∷ []) fs) (kernel_faults names tree) ((helpers_faults_placed fs helpers).0 ([] ∷ [])) (kernel.0 names))
+      (both (helpers_places fs) (stmts_places tree.body) (helpers_faults_placed fs helpers).1 kernel.1)

@@ -206,12 +206,8 @@ module _ (one_reading : OneReading) (one_parse : OneParse) (one_typed : TypedIsO
   err_is_memory bytes r other which n h k = ⊎_elim (λ memory. inr memory) (λ m. inl (same bytes r other m n h k)) which
 
   memory_or_not : (r : Result Kernel KernelRefusal) → (r ≡ Err refusal.Memory) ⊎ (r ≢ Err refusal.Memory)
-  memory_or_not (Ok k) = inr (λ e. absurd (cc))
-  memory_or_not (Err (refusal.Lex e)) = inr (λ h. absurd (cc))
-  memory_or_not (Err (refusal.Parse e)) = inr (λ h. absurd (cc))
-  memory_or_not (Err (refusal.Types e)) = inr (λ h. absurd (cc))
-  memory_or_not (Err (refusal.Inline e)) = inr (λ h. absurd (cc))
   memory_or_not (Err refusal.Memory) = inl refl
+  memory_or_not r = inr (λ h. absurd (cc))
 
   pub one_answer : (bytes : List ℕ) → HasOneAnswer bytes
   one_answer bytes r h other n k = err_is_memory bytes r other (memory_or_not r) n h k

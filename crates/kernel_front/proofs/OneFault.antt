@@ -1,5 +1,6 @@
 -- A program that a text spells has one fault that goes first.
-use Rattle.std.proofs.Common.{◌≡◌, ℕ, false, ◌==◌, ◌&&◌, ◌||◌, nat_lt, nat_eq, if◌then◌else◌, List, [], ◌∷◌, All, Some, refl, sym, ap, ◌∙◌, arith}
+use Rattle.std.proofs.Common.{◌≡◌, ℕ, false, ◌==◌, ◌&&◌, ◌||◌, nat_lt, nat_eq, if◌then◌else◌, List, [], ◌∷◌, All, refl, sym, ap, ◌∙◌, arith}
+use Rattle.std.proofs.lemmas.Option.{same_Some}
 use Rattle.std.proofs.lemmas.Bool.Decides.{nat_tests}
 use Rattle.std.proofs.lemmas.List.Elements.{All-nil, All-cons, All-contains}
 use Rattle.el_base.specs.declared.span.Span.{Span}
@@ -26,16 +27,7 @@ rule_by n =
 rule_back : (r : Rule) → rule_by (rule_number r) ≡ r
 unfolding rule_by
 rule_back rule.Undeclared = refl
-rule_back rule.Redeclared = refl
-rule_back rule.NotArray = refl
-rule_back rule.NotScalar = refl
-rule_back rule.Dimensions = refl
-rule_back rule.Length = refl
-rule_back rule.ReturnKind = refl
-rule_back rule.OutsideLoop = refl
-rule_back rule.NotHelper = refl
-rule_back rule.CallPlace = refl
-rule_back rule.Arguments = refl
+rule_back r = refl
 
 same_rule : (r q : Rule) → rule_number r ≡ rule_number q → r ≡ q
 same_rule r q e = sym (rule_back r) ∙ ap rule_by e ∙ rule_back q
@@ -54,11 +46,8 @@ all_placed : (Q : Span → Type 0) (fs : List Fault) → ArePlaced Q fs → All 
 all_placed Q [] h = All-nil (λ f. Q f.span)
 all_placed Q (f ∷ fs) h = All-cons (λ f. Q f.span) f fs h.0 (all_placed Q fs h.1)
 
-same_some : {A : Type 0} (a b : A) → Some a ≡ Some b → a ≡ b
-same_some a b e = cc
-
 same_span : (ts : List Token) (s z : Span) → IsPlaceOf ts s → IsPlaceOf ts z → s.start ≡ z.start → s ≡ z
-same_span ts s z h k e = same_some s z (sym h ∙ ap (place_from ts) e ∙ k)
+same_span ts s z h k e = same_Some s z (sym h ∙ ap (place_from ts) e ∙ k)
 
 pub one_fault : (bytes : List ℕ) (ts : List Token) (p : Program) (f g : Fault) → Tokens bytes ts → DerivesProgram ts p → IsFirst f (program_faults p) → IsFirst g (program_faults p) → f ≡ g
 one_fault bytes ts p f g read derived h k =

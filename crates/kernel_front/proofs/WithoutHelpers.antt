@@ -38,11 +38,11 @@ use Rattle.c_ast.specs.ResultTypes.{promoted, usual, joint_type, result_type, un
 use Rattle.c_ast.specs.Casts.{Declared, a_var, an_array, Context, declared_as, with_var, opened, closed, of_type, same_type, converted, left_type, right_type, assigned_type, act_at, parameters, first_context, Casts}
 use Rattle.c_ast.specs.ProgramCasts.{prog_of, prog_converted, prog_at, CastsProgram}
 use Rattle.c_ast.proofs.CastNodes.{tree_same}
-use Rattle.c_calls.specs.Inlined.{Out, Outs, OutOption, OutStmt, OutStmts, OutHeld, whole, rest_of, behind, target_to, inlined, Inlined}
+use Rattle.c_calls.specs.Inlined.{Outs, OutOption, OutStmts, OutHeld, whole, target_to, inlined, Inlined}
 use Rattle.c_calls.specs.Laws.{InlinedIsLawful}
 use Rattle.c_calls.specs.Texts.{TypedIsOne, TypedIsLawful}
 use Rattle.c_inline.specs.Making.{out_of, outs_of, option_of, stmt_of, stmts_of, held_of}
-use Rattle.c_inline.proofs.Parts.{element_out, unary_out, cast_out, out_number, out_var, out_element, out_unary, out_cast, out_binary, out_choice, block_stmt, stmt_block, stmt_declare, stmt_return, stmt_assign, stmt_step, stmt_if, stmt_while, stmt_do, stmt_for, stmt_break, stmt_continue, stmt_empty}
+use Rattle.c_inline.proofs.Parts.{out_number, out_var, out_element, out_unary, out_cast, out_binary, out_choice, block_stmt, stmt_block, stmt_declare, stmt_return, stmt_assign, stmt_step, stmt_if, stmt_while, stmt_do, stmt_for, stmt_break, stmt_continue, stmt_empty}
 use Rattle.c_inline.proofs.Parts.{alone as only}
 use Rattle.c_types.specs.Laws.{alone, AloneKeepsRules}
 use Rattle.c_meaning.proofs.Elaboration as kernel
@@ -72,16 +72,6 @@ all_left fs = record { before = []; exprs = fs; types = [] }
 abbrev AreLeft : List ProgExpr → List TypedExpr → Type 0
 AreLeft gs fs = (n : ℕ) → outs_of [] 0 n gs ≡ all_left fs
 
-abbrev two : Binary → ProgExpr → ProgExpr → Out → Out → Out
-two op x y o o2 = record { before = o.before ++ o2.before; kind = expr.Binary op (rest_of o x) (rest_of o2 y); types = o.types ++ o2.types }
-
-abbrev three : ProgExpr → ProgExpr → ProgExpr → Out → Out → Out → Out
-three x y z o o2 o3 =
-    record { before = o.before ++ (o2.before ++ o3.before); kind = expr.Choose (rest_of o x) (rest_of o2 y) (rest_of o3 z); types = o.types ++ (o2.types ++ o3.types) }
-
-abbrev one_more : ProgExpr → Out → Outs → Outs
-one_more g o r = record { before = o.before ++ r.before; exprs = rest_of o g ∷ r.exprs; types = o.types ++ r.types }
-
 number_left : (v : ℕ) (t : Ty) (s : Span) → IsLeft (prog_of (prog.Number v) t s) (of_type (expr.Number v) t s)
 number_left v t s = record { kind = expr.Number v; out = λ n. out_number [] 0 n (prog_of (prog.Number v) t s) v refl; is = refl }
 
@@ -91,53 +81,40 @@ var_left v t s = record { kind = expr.Var v; out = λ n. out_var [] 0 n (prog_of
 element_left : (a : ℕ) (gs : List ProgExpr) (fs : List TypedExpr) (t : Ty) (s : Span) → AreLeft gs fs → IsLeft (prog_of (prog.Element a gs) t s) (of_type (expr.Element a fs) t s)
 element_left a gs fs t s h = record {
   kind = expr.Element a fs;
-  out = λ n. out_element [] 0 n (prog_of (prog.Element a gs) t s) a gs refl ∙ ap (element_out a) (h n);
+  out = λ n. rw (out_element [] 0 n (prog_of (prog.Element a gs) t s) a gs refl, h n);
   is = refl;
 }
 
 unary_left : (op : Unary) (x : ProgExpr) (v : TypedExpr) (t : Ty) (s : Span) → IsLeft x v → IsLeft (prog_of (prog.Unary op x) t s) (of_type (expr.Unary op v) t s)
 unary_left op x v t s h = record {
   kind = expr.Unary op v;
-  out = λ n. out_unary [] 0 n (prog_of (prog.Unary op x) t s) op x refl ∙ ap (unary_out op x.ty x.at) (h.out n) ∙ ap (λ z. whole (expr.Unary op z)) h.is;
+  out = λ n. rw (out_unary [] 0 n (prog_of (prog.Unary op x) t s) op x refl, h.out n, h.is);
   is = refl;
 }
 
 cast_left : (implied : Bool) (x : ProgExpr) (v : TypedExpr) (t : Ty) (s : Span) → IsLeft x v → IsLeft (prog_of (prog.Cast implied x) t s) (of_type (expr.Cast implied v) t s)
 cast_left implied x v t s h = record {
   kind = expr.Cast implied v;
-  out = λ n. out_cast [] 0 n (prog_of (prog.Cast implied x) t s) implied x refl ∙ ap (cast_out implied x.ty x.at) (h.out n) ∙ ap (λ z. whole (expr.Cast implied z)) h.is;
+  out = λ n. rw (out_cast [] 0 n (prog_of (prog.Cast implied x) t s) implied x refl, h.out n, h.is);
   is = refl;
 }
 
 binary_left : (op : Binary) (x y : ProgExpr) (v w : TypedExpr) (t : Ty) (s : Span) → IsLeft x v → IsLeft y w → IsLeft (prog_of (prog.Binary op x y) t s) (of_type (expr.Binary op v w) t s)
 binary_left op x y v w t s h k = record {
   kind = expr.Binary op v w;
-  out = λ n. out_binary [] 0 n (prog_of (prog.Binary op x y) t s) op x y refl
-      ∙ ap (λ o. two op x y o (out_of [] 0 (n + length o.types) y)) (h.out n)
-      ∙ ap (two op x y (whole h.kind)) (k.out (n + 0))
-      ∙ ap (λ z. whole (expr.Binary op z (of_type k.kind y.ty y.at))) h.is
-      ∙ ap (λ z. whole (expr.Binary op v z)) k.is;
+  out = λ n. rw (out_binary [] 0 n (prog_of (prog.Binary op x y) t s) op x y refl, h.out n, k.out (n + 0), h.is, k.is);
   is = refl;
 }
 
 choose_left : (x y z : ProgExpr) (u v w : TypedExpr) (t : Ty) (s : Span) → IsLeft x u → IsLeft y v → IsLeft z w → IsLeft (prog_of (prog.Choose x y z) t s) (of_type (expr.Choose u v w) t s)
 choose_left x y z u v w t s h k l = record {
   kind = expr.Choose u v w;
-  out = λ n. out_choice [] 0 n (prog_of (prog.Choose x y z) t s) x y z refl
-      ∙ ap (λ o. let o2 = out_of [] 0 (n + length o.types) y in three x y z o o2 (out_of [] 0 (n + length o.types + length o2.types) z)) (h.out n)
-      ∙ ap (λ o2. three x y z (whole h.kind) o2 (out_of [] 0 (n + 0 + length o2.types) z)) (k.out (n + 0))
-      ∙ ap (three x y z (whole h.kind) (whole k.kind)) (l.out (n + 0 + 0))
-      ∙ ap (λ a. whole (expr.Choose a (of_type k.kind y.ty y.at) (of_type l.kind z.ty z.at))) h.is
-      ∙ ap (λ a. whole (expr.Choose u a (of_type l.kind z.ty z.at))) k.is
-      ∙ ap (λ a. whole (expr.Choose u v a)) l.is;
+  out = λ n. rw (out_choice [] 0 n (prog_of (prog.Choose x y z) t s) x y z refl, h.out n, k.out (n + 0), l.out (n + 0 + 0), h.is, k.is, l.is);
   is = refl;
 }
 
 more_left : (g : ProgExpr) (f : TypedExpr) (gs : List ProgExpr) (fs : List TypedExpr) → IsLeft g f → AreLeft gs fs → AreLeft (g ∷ gs) (f ∷ fs)
-more_left g f gs fs h k n =
-    ap (λ o. one_more g o (outs_of [] 0 (n + length o.types) gs)) (h.out n)
-    ∙ ap (one_more g (whole h.kind)) (k (n + 0))
-    ∙ ap (λ z. all_left (z ∷ fs)) h.is
+more_left g f gs fs h k n = rw (h.out n, k (n + 0), h.is)
 
 converted_if : (b : Bool) (t : Ty) (g : ProgExpr) (f : TypedExpr) → IsLeft g f
     → IsLeft (if b then g else prog_of (prog.Cast true g) t g.at) (if b then f else of_type (expr.Cast true f) t g.at)
@@ -222,7 +199,7 @@ abbrev IsLeftIfAny : Option ProgExpr → Option TypedExpr → Type 0
 IsLeftIfAny g f = (n : ℕ) → option_of [] 0 n g ≡ if_left f
 
 some_left : (g : ProgExpr) (f : TypedExpr) → IsLeft g f → IsLeftIfAny (Some g) (Some f)
-some_left g f h n = ap (λ o. let r : OutOption = record { before = o.before; expr = Some (rest_of o g); types = o.types } in r) (h.out n) ∙ ap (λ z. if_left (Some z)) h.is
+some_left g f h n = rw (h.out n, h.is)
 
 option_left : (c : Context) (e : Option Expr) → IsLeftIfAny (program.cast_option [] c e) (kernel.cast_option c e)
 option_left c None = λ n. refl
@@ -287,122 +264,70 @@ IsLeftHeld g f = (n : ℕ) → held_of [] 0 n g ≡ held_left f
 block_left : (gs : List ProgStmt) (fs : List TypedStmt) (s : Span) → AreLeftStmts gs fs → IsLeftStmt (prog_at (act.Block gs) s) (act_at (stmt.Block fs) s)
 block_left gs fs s h = record { kind = stmt.Block fs; out = λ n. stmt_block [] 0 n (prog_at (act.Block gs) s) gs refl ∙ ap block_stmt (h n); is = refl }
 
-abbrev declare_by : ℕ → Span → OutOption → OutStmt
-declare_by v at o = record { kind = behind o.before (stmt.Declare v o.expr) at; types = o.types }
-
 declare_left : (v : ℕ) (g : Option ProgExpr) (f : Option TypedExpr) (s : Span) → IsLeftIfAny g f → IsLeftStmt (prog_at (act.Declare v g) s) (act_at (stmt.Declare v f) s)
 declare_left v g f s h = record {
   kind = stmt.Declare v f;
-  out = λ n. stmt_declare [] 0 n (prog_at (act.Declare v g) s) v g refl ∙ ap (declare_by (0 + v) s) (h n) ∙ ap (λ m. only (stmt.Declare m f)) (none_before v);
+  out = λ n. rw (stmt_declare [] 0 n (prog_at (act.Declare v g) s) v g refl, h n, none_before v);
   is = refl;
 }
-
-abbrev return_by : Span → OutOption → OutStmt
-return_by at o = record { kind = behind o.before (stmt.Return o.expr) at; types = o.types }
 
 returns_left : (g : Option ProgExpr) (f : Option TypedExpr) (s : Span) → IsLeftIfAny g f → IsLeftStmt (prog_at (act.Return g) s) (act_at (stmt.Return f) s)
 returns_left g f s h = record {
   kind = stmt.Return f;
-  out = λ n. stmt_return [] 0 n (prog_at (act.Return g) s) g refl ∙ ap (return_by s) (h n);
+  out = λ n. rw (stmt_return [] 0 n (prog_at (act.Return g) s) g refl, h n);
   is = refl;
 }
-
-abbrev assign_by : ProgTarget → Option Binary → ProgExpr → Span → Outs → Out → OutStmt
-assign_by t op e at i o = record { kind = behind (i.before ++ o.before) (stmt.Assign (target_to 0 t i.exprs) op (rest_of o e)) at; types = i.types ++ o.types }
 
 assign_left : (t : ProgTarget) (u : TypedTarget) (op : Option Binary) (g : ProgExpr) (f : TypedExpr) (s : Span) → IsLeftTarget t u → IsLeft g f
     → IsLeftStmt (prog_at (act.Assign t op g) s) (act_at (stmt.Assign u op f) s)
 assign_left t u op g f s h k = record {
   kind = stmt.Assign u op f;
-  out = λ n. stmt_assign [] 0 n (prog_at (act.Assign t op g) s) t op g refl
-      ∙ ap (λ i. assign_by t op g s i (out_of [] 0 (n + length i.types) g)) (h.left n)
-      ∙ ap (assign_by t op g s (all_left h.exprs)) (k.out (n + 0))
-      ∙ ap (λ z. only (stmt.Assign z op (of_type k.kind g.ty g.at))) h.is
-      ∙ ap (λ z. only (stmt.Assign u op z)) k.is;
+  out = λ n. rw (stmt_assign [] 0 n (prog_at (act.Assign t op g) s) t op g refl, h.left n, k.out (n + 0), h.is, k.is);
   is = refl;
 }
-
-abbrev step_by : ProgTarget → Bool → Span → Outs → OutStmt
-step_by t up at i = record { kind = behind i.before (stmt.Step (target_to 0 t i.exprs) up) at; types = i.types }
 
 step_left : (t : ProgTarget) (u : TypedTarget) (up : Bool) (s : Span) → IsLeftTarget t u → IsLeftStmt (prog_at (act.Step t up) s) (act_at (stmt.Step u up) s)
 step_left t u up s h = record {
   kind = stmt.Step u up;
-  out = λ n. stmt_step [] 0 n (prog_at (act.Step t up) s) t up refl ∙ ap (step_by t up s) (h.left n) ∙ ap (λ z. only (stmt.Step z up)) h.is;
+  out = λ n. rw (stmt_step [] 0 n (prog_at (act.Step t up) s) t up refl, h.left n, h.is);
   is = refl;
 }
-
-abbrev if_by : ProgExpr → ProgStmt → Span → Out → OutStmt → OutHeld → OutStmt
-if_by e y at c m n = record { kind = behind c.before (stmt.If (rest_of c e) (act_at m.kind y.at) n.stmt) at; types = c.types ++ (m.types ++ n.types) }
 
 choice_left : (e : ProgExpr) (y : ProgStmt) (o : Option ProgStmt) (f : TypedExpr) (z : TypedStmt) (p : Option TypedStmt) (s : Span) → IsLeft e f → IsLeftStmt y z → IsLeftHeld o p
     → IsLeftStmt (prog_at (act.If e y o) s) (act_at (stmt.If f z p) s)
 choice_left e y o f z p s h k l = record {
   kind = stmt.If f z p;
-  out = λ n. stmt_if [] 0 n (prog_at (act.If e y o) s) e y o refl
-      ∙ ap (λ c. let m = stmt_of [] 0 (n + length c.types) y in if_by e y s c m (held_of [] 0 (n + length c.types + length m.types) o)) (h.out n)
-      ∙ ap (λ m. if_by e y s (whole h.kind) m (held_of [] 0 (n + 0 + length m.types) o)) (k.out (n + 0))
-      ∙ ap (if_by e y s (whole h.kind) (only k.kind)) (l (n + 0 + 0))
-      ∙ ap (λ a. only (stmt.If a (act_at k.kind y.at) p)) h.is
-      ∙ ap (λ a. only (stmt.If f a p)) k.is;
+  out = λ n. rw (stmt_if [] 0 n (prog_at (act.If e y o) s) e y o refl, h.out n, k.out (n + 0), l (n + 0 + 0), h.is, k.is);
   is = refl;
 }
-
-abbrev while_by : ProgExpr → ProgStmt → Out → OutStmt → OutStmt
-while_by e y c m = record { kind = stmt.While (rest_of c e) (act_at m.kind y.at); types = c.types ++ m.types }
 
 while_left : (e : ProgExpr) (y : ProgStmt) (f : TypedExpr) (z : TypedStmt) (s : Span) → IsLeft e f → IsLeftStmt y z → IsLeftStmt (prog_at (act.While e y) s) (act_at (stmt.While f z) s)
 while_left e y f z s h k = record {
   kind = stmt.While f z;
-  out = λ n. stmt_while [] 0 n (prog_at (act.While e y) s) e y refl
-      ∙ ap (λ c. while_by e y c (stmt_of [] 0 (n + length c.types) y)) (h.out n)
-      ∙ ap (while_by e y (whole h.kind)) (k.out (n + 0))
-      ∙ ap (λ a. only (stmt.While a (act_at k.kind y.at))) h.is
-      ∙ ap (λ a. only (stmt.While f a)) k.is;
+  out = λ n. rw (stmt_while [] 0 n (prog_at (act.While e y) s) e y refl, h.out n, k.out (n + 0), h.is, k.is);
   is = refl;
 }
-
-abbrev do_by : ProgStmt → ProgExpr → OutStmt → Out → OutStmt
-do_by y e m c = record { kind = stmt.DoWhile (act_at m.kind y.at) (rest_of c e); types = m.types ++ c.types }
 
 do_left : (y : ProgStmt) (e : ProgExpr) (z : TypedStmt) (f : TypedExpr) (s : Span) → IsLeftStmt y z → IsLeft e f → IsLeftStmt (prog_at (act.DoWhile y e) s) (act_at (stmt.DoWhile z f) s)
 do_left y e z f s h k = record {
   kind = stmt.DoWhile z f;
-  out = λ n. stmt_do [] 0 n (prog_at (act.DoWhile y e) s) y e refl
-      ∙ ap (λ m. do_by y e m (out_of [] 0 (n + length m.types) e)) (h.out n)
-      ∙ ap (do_by y e (only h.kind)) (k.out (n + 0))
-      ∙ ap (λ a. only (stmt.DoWhile a (of_type k.kind e.ty e.at))) h.is
-      ∙ ap (λ a. only (stmt.DoWhile z a)) k.is;
+  out = λ n. rw (stmt_do [] 0 n (prog_at (act.DoWhile y e) s) y e refl, h.out n, k.out (n + 0), h.is, k.is);
   is = refl;
 }
-
-abbrev for_by : ProgStmt → OutStmts → OutOption → OutHeld → OutStmt → OutStmt
-for_by y i c p m = record { kind = stmt.For i.stmts c.expr p.stmt (act_at m.kind y.at); types = i.types ++ (c.types ++ (p.types ++ m.types)) }
 
 for_left : (gs : List ProgStmt) (e : Option ProgExpr) (o : Option ProgStmt) (y : ProgStmt) (fs : List TypedStmt) (f : Option TypedExpr) (p : Option TypedStmt) (z : TypedStmt) (s : Span)
     → AreLeftStmts gs fs → IsLeftIfAny e f → IsLeftHeld o p → IsLeftStmt y z → IsLeftStmt (prog_at (act.For gs e o y) s) (act_at (stmt.For fs f p z) s)
 for_left gs e o y fs f p z s h k l q = record {
   kind = stmt.For fs f p z;
-  out = λ n. stmt_for [] 0 n (prog_at (act.For gs e o y) s) gs e o y refl
-      ∙ ap (λ i. let c = option_of [] 0 (n + length i.types) e in let w = held_of [] 0 (n + length i.types + length c.types) o in for_by y i c w (stmt_of [] 0 (n + length i.types + length c.types + length w.types) y)) (h n)
-      ∙ ap (λ c. let w = held_of [] 0 (n + 0 + length c.types) o in for_by y (stmts_left fs) c w (stmt_of [] 0 (n + 0 + length c.types + length w.types) y)) (k (n + 0))
-      ∙ ap (λ w. for_by y (stmts_left fs) (if_left f) w (stmt_of [] 0 (n + 0 + 0 + length w.types) y)) (l (n + 0 + 0))
-      ∙ ap (for_by y (stmts_left fs) (if_left f) (held_left p)) (q.out (n + 0 + 0 + 0))
-      ∙ ap (λ a. only (stmt.For fs f p a)) q.is;
+  out = λ n. rw (stmt_for [] 0 n (prog_at (act.For gs e o y) s) gs e o y refl, h n, k (n + 0), l (n + 0 + 0), q.out (n + 0 + 0 + 0), q.is);
   is = refl;
 }
 
-abbrev one_more_stmt : ProgStmt → OutStmt → OutStmts → OutStmts
-one_more_stmt g o r = record { stmts = act_at o.kind g.at ∷ r.stmts; types = o.types ++ r.types }
-
 more_stmts_left : (g : ProgStmt) (f : TypedStmt) (gs : List ProgStmt) (fs : List TypedStmt) → IsLeftStmt g f → AreLeftStmts gs fs → AreLeftStmts (g ∷ gs) (f ∷ fs)
-more_stmts_left g f gs fs h k n =
-    ap (λ o. one_more_stmt g o (stmts_of [] 0 (n + length o.types) gs)) (h.out n)
-    ∙ ap (one_more_stmt g (only h.kind)) (k (n + 0))
-    ∙ ap (λ z. stmts_left (z ∷ fs)) h.is
+more_stmts_left g f gs fs h k n = rw (h.out n, k (n + 0), h.is)
 
 some_stmt_left : (g : ProgStmt) (f : TypedStmt) → IsLeftStmt g f → IsLeftHeld (Some g) (Some f)
-some_stmt_left g f h n = ap (λ (o : OutStmt). let r : OutHeld = record { stmt = Some (act_at o.kind g.at); types = o.types } in r) (h.out n) ∙ ap (λ z. held_left (Some z)) h.is
+some_stmt_left g f h n = rw (h.out n, h.is)
 
 -- ---- statements of a kernel, and the contexts after them
 
