@@ -14,7 +14,7 @@ use Rattle.el_base.specs.Widths.{ty_width}
 use Rattle.c_ast.specs.declared.tree.Unary.{Unary}
 use Rattle.c_ast.specs.declared.tree.Unary.TheVariants.{Plus, Minus, Flip, Not}
 use Rattle.c_ast.specs.declared.tree.Binary.{Binary}
-use Rattle.c_ast.specs.declared.tree.Binary.TheVariants.{Mul, Div, Rem, Add, Sub, Shl, Shr, Lt, Gt, Le, Ge, Eq, Ne, And, Xor, Or, Both, Either}
+use Rattle.c_ast.specs.declared.tree.Binary.TheVariants.{Shl, Shr, Lt, Gt, Le, Ge, Eq, Ne, Both, Either}
 use Rattle.c_ast.specs.ResultTypes.{promoted, usual, result_type, unary_type}
 use Rattle.c_ast.specs.declared.typed.TypedExpr.{TypedExpr}
 use Rattle.c_ast.specs.declared.typed.TypedExprKind.{TypedExprKind, Row_of-TypedExpr, end_of-TypedExpr, more_of-TypedExpr}
@@ -180,6 +180,18 @@ module _ (laws : OpLaws) (k : Objects) (env : List ℕ) where
   unary_same Flip t ty x e = ap (λ u. unary_value k.profile Flip u x) (sym e)
   unary_same Not t ty x e = refl
 
+  -- the result of a binary operator depends on the type of its operands alone
+  plain_same : (op : Binary) (t t2 ty : Ty) → t ≡ usual t t2 → ty ≡ result_type op (usual t t2) → (x y : ℤ) → binary_value k.profile op ty x y ≡ binary_value k.profile op t x y
+  plain_same Lt t t2 ty tp tr x y = refl
+  plain_same Gt t t2 ty tp tr x y = refl
+  plain_same Le t t2 ty tp tr x y = refl
+  plain_same Ge t t2 ty tp tr x y = refl
+  plain_same Eq t t2 ty tp tr x y = refl
+  plain_same Ne t t2 ty tp tr x y = refl
+  plain_same Both t t2 ty tp tr x y = refl
+  plain_same Either t t2 ty tp tr x y = refl
+  plain_same op t t2 ty tp tr x y = ap (λ u. binary_value k.profile op u x y) (tr ∙ sym tp)
+
   abbrev kind_piece : TypedExprKind → Ty → Piece
   kind_piece e t = record { ty = t; laying = kind_laying k.arrays env e t }
 
@@ -194,10 +206,9 @@ module _ (laws : OpLaws) (k : Objects) (env : List ℕ) where
 
   plain_law : (op : Binary) (p q : Piece) (m o : Meaning) (ty : Ty) (at : Span) (w : Work) (s : Store) (z : ℤ) (n : ℕ) → is_plain op ≡ true → PieceLaw k env p m → PieceLaw k env q o
       → p.ty ≡ usual p.ty q.ty → q.ty ≡ usual p.ty q.ty → ty ≡ result_type op (usual p.ty q.ty)
-      → ((x y : ℤ) → binary_value k.profile op ty x y ≡ binary_value k.profile op p.ty x y)
       → Sees k env w s → on_two at (binary_value k.profile op ty) (m s) (o s) ≡ value z n
       → Makes w (after p.laying (λ a. after q.laying (λ b. joined op p.ty q.ty a b)) (length w.values)) (pattern ty z)
-  plain_law op p q m o ty at w s z n plain la lb tp tq tr same sees e =
+  plain_law op p q m o ty at w s z n plain la lb tp tq tr sees e =
       let j = two_values at (binary_value k.profile op ty) (m s) (o s) z n e in
       let up : promoted p.ty ≡ p.ty = ap promoted tp ∙ promoted_usual p.ty q.ty ∙ sym tp in
       let equal : q.ty ≡ p.ty = tq ∙ sym tp in
@@ -205,7 +216,7 @@ module _ (laws : OpLaws) (k : Objects) (env : List ℕ) where
       let rx = la.range s j.x j.t sees.fitting j.left in
       let ry : IsInRange p.ty j.y = subst (λ t. IsInRange t j.y) equal (lb.range s j.y j.u sees.fitting j.right) in
       let is : on_patterns op p.ty (pattern p.ty j.x) (pattern q.ty j.y) ≡ pattern ty z =
-      ap (λ t. on_patterns op p.ty (pattern p.ty j.x) (pattern t j.y)) equal ∙ keeps k.profile j.x j.y z rx ry (sym (same j.x j.y) ∙ j.both) ∙ ap (λ t. pattern (result_type op t) z) tp ∙ ap (λ t. pattern t z) (sym tr) in
+      ap (λ t. on_patterns op p.ty (pattern p.ty j.x) (pattern t j.y)) equal ∙ keeps k.profile j.x j.y z rx ry (sym (plain_same op p.ty q.ty ty tp tr j.x j.y) ∙ j.both) ∙ ap (λ t. pattern (result_type op t) z) tp ∙ ap (λ t. pattern t z) (sym tr) in
       two_parts p q m o (joined op p.ty q.ty) w s j.x j.y j.t j.u (pattern ty z) la lb sees j.left j.right
       (λ w2 a b ia ib. makes_equal w2 _ _ _ is (plain_makes op p.ty q.ty w2 a b (pattern p.ty j.x) (pattern q.ty j.y) plain ia ib))
 
@@ -359,14 +370,10 @@ module _ (laws : OpLaws) (k : Objects) (env : List ℕ) where
 
   module _ (small : AreSmallArrays k.arrays) where
     plain_kind : (op : Binary) (e e2 : TypedExprKind) (t t2 ty : Ty) (at a1 a2 : Span) → is_plain op ≡ true → KindLaw e t a1 → KindLaw e2 t2 a2 → t ≡ usual t t2 → t2 ≡ usual t t2 → ty ≡ result_type op (usual t t2)
-        → ((x y : ℤ) → binary_value k.profile op ty x y ≡ binary_value k.profile op t x y)
         → (w : Work) (s : Store) (x : ℤ) (u : ℕ) → Sees k env w s → on_two at (binary_value k.profile op ty) (kind_meaning k e t a1 s) (kind_meaning k e2 t2 a2 s) ≡ value x u
         → Makes w (after (kind_laying k.arrays env e t) (λ a. after (kind_laying k.arrays env e2 t2) (λ b. joined op t t2 a b)) (length w.values)) (pattern ty x)
-    plain_kind op e e2 t t2 ty at a1 a2 plain la lb tp tq tr same w s x u sees g =
-        plain_law op (kind_piece e t) (kind_piece e2 t2) (kind_meaning k e t a1) (kind_meaning k e2 t2 a2) ty at w s x u plain la lb tp tq tr same sees g
-
-    same_type : (op : Binary) (t t2 ty : Ty) → t ≡ usual t t2 → ty ≡ usual t t2 → (x y : ℤ) → binary_value k.profile op ty x y ≡ binary_value k.profile op t x y
-    same_type op t t2 ty tp tr x y = ap (λ u. binary_value k.profile op u x y) (tr ∙ sym tp)
+    plain_kind op e e2 t t2 ty at a1 a2 plain la lb tp tq tr w s x u sees g =
+        plain_law op (kind_piece e t) (kind_piece e2 t2) (kind_meaning k e t a1) (kind_meaning k e2 t2 a2) ty at w s x u plain la lb tp tq tr sees g
 
     mutual
       pub kind_law : (e : TypedExprKind) (ty : Ty) (at : Span) → LawfulKind k e ty → ReadsOutside e → KindLaw e ty at
@@ -407,62 +414,6 @@ module _ (laws : OpLaws) (k : Objects) (env : List ℕ) where
                 (λ v u add i. makes_equal u _ _ _ is (converted_makes laws t ty u v q.x r i));
             range = in_range (tree.Cast' implied b (more_of-TypedExpr e t a1 end_of-TypedExpr)) ty at h;
           }
-      kind_law (tree.Binary' Mul b (more_of-TypedExpr e t a1 end_of-TypedExpr) b2 (more_of-TypedExpr e2 t2 a2 end_of-TypedExpr)) ty at h o = record {
-        gives = λ w s x u sees g. plain_kind Mul e e2 t t2 ty at a1 a2 refl (kind_law e t a1 h.1 o.1) (kind_law e2 t2 a2 h.2 o.2) h.0.0 h.0.1 h.0.2 (same_type Mul t t2 ty h.0.0 h.0.2) w s x u sees g;
-        range = in_range (tree.Binary' Mul b (more_of-TypedExpr e t a1 end_of-TypedExpr) b2 (more_of-TypedExpr e2 t2 a2 end_of-TypedExpr)) ty at h;
-      }
-      kind_law (tree.Binary' Div b (more_of-TypedExpr e t a1 end_of-TypedExpr) b2 (more_of-TypedExpr e2 t2 a2 end_of-TypedExpr)) ty at h o = record {
-        gives = λ w s x u sees g. plain_kind Div e e2 t t2 ty at a1 a2 refl (kind_law e t a1 h.1 o.1) (kind_law e2 t2 a2 h.2 o.2) h.0.0 h.0.1 h.0.2 (same_type Div t t2 ty h.0.0 h.0.2) w s x u sees g;
-        range = in_range (tree.Binary' Div b (more_of-TypedExpr e t a1 end_of-TypedExpr) b2 (more_of-TypedExpr e2 t2 a2 end_of-TypedExpr)) ty at h;
-      }
-      kind_law (tree.Binary' Rem b (more_of-TypedExpr e t a1 end_of-TypedExpr) b2 (more_of-TypedExpr e2 t2 a2 end_of-TypedExpr)) ty at h o = record {
-        gives = λ w s x u sees g. plain_kind Rem e e2 t t2 ty at a1 a2 refl (kind_law e t a1 h.1 o.1) (kind_law e2 t2 a2 h.2 o.2) h.0.0 h.0.1 h.0.2 (same_type Rem t t2 ty h.0.0 h.0.2) w s x u sees g;
-        range = in_range (tree.Binary' Rem b (more_of-TypedExpr e t a1 end_of-TypedExpr) b2 (more_of-TypedExpr e2 t2 a2 end_of-TypedExpr)) ty at h;
-      }
-      kind_law (tree.Binary' Add b (more_of-TypedExpr e t a1 end_of-TypedExpr) b2 (more_of-TypedExpr e2 t2 a2 end_of-TypedExpr)) ty at h o = record {
-        gives = λ w s x u sees g. plain_kind Add e e2 t t2 ty at a1 a2 refl (kind_law e t a1 h.1 o.1) (kind_law e2 t2 a2 h.2 o.2) h.0.0 h.0.1 h.0.2 (same_type Add t t2 ty h.0.0 h.0.2) w s x u sees g;
-        range = in_range (tree.Binary' Add b (more_of-TypedExpr e t a1 end_of-TypedExpr) b2 (more_of-TypedExpr e2 t2 a2 end_of-TypedExpr)) ty at h;
-      }
-      kind_law (tree.Binary' Sub b (more_of-TypedExpr e t a1 end_of-TypedExpr) b2 (more_of-TypedExpr e2 t2 a2 end_of-TypedExpr)) ty at h o = record {
-        gives = λ w s x u sees g. plain_kind Sub e e2 t t2 ty at a1 a2 refl (kind_law e t a1 h.1 o.1) (kind_law e2 t2 a2 h.2 o.2) h.0.0 h.0.1 h.0.2 (same_type Sub t t2 ty h.0.0 h.0.2) w s x u sees g;
-        range = in_range (tree.Binary' Sub b (more_of-TypedExpr e t a1 end_of-TypedExpr) b2 (more_of-TypedExpr e2 t2 a2 end_of-TypedExpr)) ty at h;
-      }
-      kind_law (tree.Binary' And b (more_of-TypedExpr e t a1 end_of-TypedExpr) b2 (more_of-TypedExpr e2 t2 a2 end_of-TypedExpr)) ty at h o = record {
-        gives = λ w s x u sees g. plain_kind And e e2 t t2 ty at a1 a2 refl (kind_law e t a1 h.1 o.1) (kind_law e2 t2 a2 h.2 o.2) h.0.0 h.0.1 h.0.2 (same_type And t t2 ty h.0.0 h.0.2) w s x u sees g;
-        range = in_range (tree.Binary' And b (more_of-TypedExpr e t a1 end_of-TypedExpr) b2 (more_of-TypedExpr e2 t2 a2 end_of-TypedExpr)) ty at h;
-      }
-      kind_law (tree.Binary' Xor b (more_of-TypedExpr e t a1 end_of-TypedExpr) b2 (more_of-TypedExpr e2 t2 a2 end_of-TypedExpr)) ty at h o = record {
-        gives = λ w s x u sees g. plain_kind Xor e e2 t t2 ty at a1 a2 refl (kind_law e t a1 h.1 o.1) (kind_law e2 t2 a2 h.2 o.2) h.0.0 h.0.1 h.0.2 (same_type Xor t t2 ty h.0.0 h.0.2) w s x u sees g;
-        range = in_range (tree.Binary' Xor b (more_of-TypedExpr e t a1 end_of-TypedExpr) b2 (more_of-TypedExpr e2 t2 a2 end_of-TypedExpr)) ty at h;
-      }
-      kind_law (tree.Binary' Or b (more_of-TypedExpr e t a1 end_of-TypedExpr) b2 (more_of-TypedExpr e2 t2 a2 end_of-TypedExpr)) ty at h o = record {
-        gives = λ w s x u sees g. plain_kind Or e e2 t t2 ty at a1 a2 refl (kind_law e t a1 h.1 o.1) (kind_law e2 t2 a2 h.2 o.2) h.0.0 h.0.1 h.0.2 (same_type Or t t2 ty h.0.0 h.0.2) w s x u sees g;
-        range = in_range (tree.Binary' Or b (more_of-TypedExpr e t a1 end_of-TypedExpr) b2 (more_of-TypedExpr e2 t2 a2 end_of-TypedExpr)) ty at h;
-      }
-      kind_law (tree.Binary' Lt b (more_of-TypedExpr e t a1 end_of-TypedExpr) b2 (more_of-TypedExpr e2 t2 a2 end_of-TypedExpr)) ty at h o = record {
-        gives = λ w s x u sees g. plain_kind Lt e e2 t t2 ty at a1 a2 refl (kind_law e t a1 h.1 o.1) (kind_law e2 t2 a2 h.2 o.2) h.0.0 h.0.1 h.0.2 (λ x y. refl) w s x u sees g;
-        range = in_range (tree.Binary' Lt b (more_of-TypedExpr e t a1 end_of-TypedExpr) b2 (more_of-TypedExpr e2 t2 a2 end_of-TypedExpr)) ty at h;
-      }
-      kind_law (tree.Binary' Gt b (more_of-TypedExpr e t a1 end_of-TypedExpr) b2 (more_of-TypedExpr e2 t2 a2 end_of-TypedExpr)) ty at h o = record {
-        gives = λ w s x u sees g. plain_kind Gt e e2 t t2 ty at a1 a2 refl (kind_law e t a1 h.1 o.1) (kind_law e2 t2 a2 h.2 o.2) h.0.0 h.0.1 h.0.2 (λ x y. refl) w s x u sees g;
-        range = in_range (tree.Binary' Gt b (more_of-TypedExpr e t a1 end_of-TypedExpr) b2 (more_of-TypedExpr e2 t2 a2 end_of-TypedExpr)) ty at h;
-      }
-      kind_law (tree.Binary' Le b (more_of-TypedExpr e t a1 end_of-TypedExpr) b2 (more_of-TypedExpr e2 t2 a2 end_of-TypedExpr)) ty at h o = record {
-        gives = λ w s x u sees g. plain_kind Le e e2 t t2 ty at a1 a2 refl (kind_law e t a1 h.1 o.1) (kind_law e2 t2 a2 h.2 o.2) h.0.0 h.0.1 h.0.2 (λ x y. refl) w s x u sees g;
-        range = in_range (tree.Binary' Le b (more_of-TypedExpr e t a1 end_of-TypedExpr) b2 (more_of-TypedExpr e2 t2 a2 end_of-TypedExpr)) ty at h;
-      }
-      kind_law (tree.Binary' Ge b (more_of-TypedExpr e t a1 end_of-TypedExpr) b2 (more_of-TypedExpr e2 t2 a2 end_of-TypedExpr)) ty at h o = record {
-        gives = λ w s x u sees g. plain_kind Ge e e2 t t2 ty at a1 a2 refl (kind_law e t a1 h.1 o.1) (kind_law e2 t2 a2 h.2 o.2) h.0.0 h.0.1 h.0.2 (λ x y. refl) w s x u sees g;
-        range = in_range (tree.Binary' Ge b (more_of-TypedExpr e t a1 end_of-TypedExpr) b2 (more_of-TypedExpr e2 t2 a2 end_of-TypedExpr)) ty at h;
-      }
-      kind_law (tree.Binary' Eq b (more_of-TypedExpr e t a1 end_of-TypedExpr) b2 (more_of-TypedExpr e2 t2 a2 end_of-TypedExpr)) ty at h o = record {
-        gives = λ w s x u sees g. plain_kind Eq e e2 t t2 ty at a1 a2 refl (kind_law e t a1 h.1 o.1) (kind_law e2 t2 a2 h.2 o.2) h.0.0 h.0.1 h.0.2 (λ x y. refl) w s x u sees g;
-        range = in_range (tree.Binary' Eq b (more_of-TypedExpr e t a1 end_of-TypedExpr) b2 (more_of-TypedExpr e2 t2 a2 end_of-TypedExpr)) ty at h;
-      }
-      kind_law (tree.Binary' Ne b (more_of-TypedExpr e t a1 end_of-TypedExpr) b2 (more_of-TypedExpr e2 t2 a2 end_of-TypedExpr)) ty at h o = record {
-        gives = λ w s x u sees g. plain_kind Ne e e2 t t2 ty at a1 a2 refl (kind_law e t a1 h.1 o.1) (kind_law e2 t2 a2 h.2 o.2) h.0.0 h.0.1 h.0.2 (λ x y. refl) w s x u sees g;
-        range = in_range (tree.Binary' Ne b (more_of-TypedExpr e t a1 end_of-TypedExpr) b2 (more_of-TypedExpr e2 t2 a2 end_of-TypedExpr)) ty at h;
-      }
       kind_law (tree.Binary' Shl b (more_of-TypedExpr e t a1 end_of-TypedExpr) b2 (more_of-TypedExpr e2 t2 a2 end_of-TypedExpr)) ty at h o = record {
         gives = λ w s x u sees g. shift_law Shl (kind_piece e t) (kind_piece e2 t2) (kind_meaning k e t a1) (kind_meaning k e2 t2 a2) ty at w s x u (kind_law e t a1 h.1 o.1) (kind_law e2 t2 a2 h.2 o.2) h.0.0 h.0.2 laws.left_shifts (λ w2 c d p y r i j. left_shift_makes laws t t2 w2 c d p y r i j) sees g;
         range = in_range (tree.Binary' Shl b (more_of-TypedExpr e t a1 end_of-TypedExpr) b2 (more_of-TypedExpr e2 t2 a2 end_of-TypedExpr)) ty at h;
@@ -478,6 +429,10 @@ module _ (laws : OpLaws) (k : Objects) (env : List ℕ) where
       kind_law (tree.Binary' Either b (more_of-TypedExpr e t a1 end_of-TypedExpr) b2 (more_of-TypedExpr e2 t2 a2 end_of-TypedExpr)) ty at h o = record {
         gives = λ w s x u sees g. makes_equal w _ _ _ (ap (λ i. pattern i x) (sym h.0.2)) (either_law e e2 t t2 (kind_meaning k e t a1) (kind_meaning k e2 t2 a2) (kind_law e t a1 h.1 o.1) (kind_law e2 t2 a2 h.2 o.2) w s x u o.0.1 sees g);
         range = in_range (tree.Binary' Either b (more_of-TypedExpr e t a1 end_of-TypedExpr) b2 (more_of-TypedExpr e2 t2 a2 end_of-TypedExpr)) ty at h;
+      }
+      kind_law (tree.Binary' op b (more_of-TypedExpr e t a1 end_of-TypedExpr) b2 (more_of-TypedExpr e2 t2 a2 end_of-TypedExpr)) ty at h o = record {
+        gives = λ w s x u sees g. plain_kind op e e2 t t2 ty at a1 a2 refl (kind_law e t a1 h.1 o.1) (kind_law e2 t2 a2 h.2 o.2) h.0.0 h.0.1 h.0.2 w s x u sees g;
+        range = in_range (tree.Binary' op b (more_of-TypedExpr e t a1 end_of-TypedExpr) b2 (more_of-TypedExpr e2 t2 a2 end_of-TypedExpr)) ty at h;
       }
       kind_law (tree.Choose' b (more_of-TypedExpr e t a1 end_of-TypedExpr) b2 (more_of-TypedExpr e2 t2 a2 end_of-TypedExpr) b3 (more_of-TypedExpr e3 t3 a3 end_of-TypedExpr)) ty at h o = record {
         gives = λ w s x u sees g. choice_law e e2 e3 t t2 t3 ty (kind_meaning k e t a1) (kind_meaning k e2 t2 a2) (kind_meaning k e3 t3 a3) (kind_law e t a1 h.1 o.0) (kind_law e2 t2 a2 h.2 (none_outside e2 o.1)) (kind_law e3 t3 a3 h.3 (none_outside e3 o.2))

@@ -116,73 +116,12 @@ width_is U64 = inr (inr (inr refl))
 
 abbrev ConversionFits : Option Op1 → Ty → Ty → Type 0
 ConversionFits None s t = ty_width s ≡ ty_width t
-ConversionFits (Some op) s t = (op1_in op ≡ ty_width s) × (op1_out op ≡ ty_width t)
+ConversionFits (Some op) s t = ◌≡◌ {A = ℕ × ℕ} (op1_in op, op1_out op) (ty_width s, ty_width t)
 
 conversion_fits : (s t : Ty) → ConversionFits (conversion_op s t) s t
 conversion_fits I8 I8 = refl
-conversion_fits I8 U8 = refl
-conversion_fits I8 I16 = (refl, refl)
-conversion_fits I8 U16 = (refl, refl)
-conversion_fits I8 I32 = (refl, refl)
-conversion_fits I8 U32 = (refl, refl)
-conversion_fits I8 I64 = (refl, refl)
-conversion_fits I8 U64 = (refl, refl)
-conversion_fits U8 I8 = refl
-conversion_fits U8 U8 = refl
-conversion_fits U8 I16 = (refl, refl)
-conversion_fits U8 U16 = (refl, refl)
-conversion_fits U8 I32 = (refl, refl)
-conversion_fits U8 U32 = (refl, refl)
-conversion_fits U8 I64 = (refl, refl)
-conversion_fits U8 U64 = (refl, refl)
-conversion_fits I16 I8 = (refl, refl)
-conversion_fits I16 U8 = (refl, refl)
-conversion_fits I16 I16 = refl
-conversion_fits I16 U16 = refl
-conversion_fits I16 I32 = (refl, refl)
-conversion_fits I16 U32 = (refl, refl)
-conversion_fits I16 I64 = (refl, refl)
-conversion_fits I16 U64 = (refl, refl)
-conversion_fits U16 I8 = (refl, refl)
-conversion_fits U16 U8 = (refl, refl)
-conversion_fits U16 I16 = refl
-conversion_fits U16 U16 = refl
-conversion_fits U16 I32 = (refl, refl)
-conversion_fits U16 U32 = (refl, refl)
-conversion_fits U16 I64 = (refl, refl)
-conversion_fits U16 U64 = (refl, refl)
-conversion_fits I32 I8 = (refl, refl)
-conversion_fits I32 U8 = (refl, refl)
-conversion_fits I32 I16 = (refl, refl)
-conversion_fits I32 U16 = (refl, refl)
-conversion_fits I32 I32 = refl
-conversion_fits I32 U32 = refl
-conversion_fits I32 I64 = (refl, refl)
-conversion_fits I32 U64 = (refl, refl)
-conversion_fits U32 I8 = (refl, refl)
-conversion_fits U32 U8 = (refl, refl)
-conversion_fits U32 I16 = (refl, refl)
-conversion_fits U32 U16 = (refl, refl)
-conversion_fits U32 I32 = refl
-conversion_fits U32 U32 = refl
-conversion_fits U32 I64 = (refl, refl)
-conversion_fits U32 U64 = (refl, refl)
-conversion_fits I64 I8 = (refl, refl)
-conversion_fits I64 U8 = (refl, refl)
-conversion_fits I64 I16 = (refl, refl)
-conversion_fits I64 U16 = (refl, refl)
-conversion_fits I64 I32 = (refl, refl)
-conversion_fits I64 U32 = (refl, refl)
-conversion_fits I64 I64 = refl
-conversion_fits I64 U64 = refl
-conversion_fits U64 I8 = (refl, refl)
-conversion_fits U64 U8 = (refl, refl)
-conversion_fits U64 I16 = (refl, refl)
-conversion_fits U64 U16 = (refl, refl)
-conversion_fits U64 I32 = (refl, refl)
-conversion_fits U64 U32 = (refl, refl)
-conversion_fits U64 I64 = refl
-conversion_fits U64 U64 = refl
+conversion_fits s I8 = refl
+conversion_fits s t = refl
 
 -- ---- operations by promoted types
 
@@ -204,7 +143,7 @@ by_one f t a b c d w p q r s = p
 module _ (arrays : List Array) where
   applied_fits : (op : Option Op1) (s t : Ty) (ws : Shape) (v : ℕ) → ConversionFits op s t → IsOfWidth ws v (ty_width s) → Fits arrays ws (applied op v (length ws)) (ty_width t)
   applied_fits None s t ws v e h = none_fits arrays ws v (length ws) (ty_width t) (subst (IsOfWidth ws v) e h)
-  applied_fits (Some op) s t ws v e h = one_fits arrays op ws v (ty_width s) (ty_width t) e.0 e.1 h
+  applied_fits (Some op) s t ws v e h = one_fits arrays op ws v (ty_width s) (ty_width t) (ap (λ (p : ℕ × ℕ). p.0) e) (ap (λ (p : ℕ × ℕ). p.1) e) h
 
   pub converted_fits : (s t : Ty) (ws : Shape) (v : ℕ) → IsOfWidth ws v (ty_width s) → Fits arrays ws (converted s t v (length ws)) (ty_width t)
   converted_fits s t ws v h = applied_fits (conversion_op s t) s t ws v (conversion_fits s t) h
@@ -268,11 +207,6 @@ module _ (arrays : List Array) where
 
   -- what an operator asks of the types of its operands and result
   abbrev JoinedTypes : Binary → Ty → Ty → Ty → Type 0
-  JoinedTypes Mul t u ty = (promoted t ≡ t) × (u ≡ t) × (ty ≡ t)
-  JoinedTypes Div t u ty = (promoted t ≡ t) × (u ≡ t) × (ty ≡ t)
-  JoinedTypes Rem t u ty = (promoted t ≡ t) × (u ≡ t) × (ty ≡ t)
-  JoinedTypes Add t u ty = (promoted t ≡ t) × (u ≡ t) × (ty ≡ t)
-  JoinedTypes Sub t u ty = (promoted t ≡ t) × (u ≡ t) × (ty ≡ t)
   JoinedTypes Shl t u ty = (promoted t ≡ t) × (ty ≡ t)
   JoinedTypes Shr t u ty = (promoted t ≡ t) × (ty ≡ t)
   JoinedTypes Lt t u ty = (promoted t ≡ t) × (u ≡ t) × (ty ≡ I32)
@@ -281,11 +215,9 @@ module _ (arrays : List Array) where
   JoinedTypes Ge t u ty = (promoted t ≡ t) × (u ≡ t) × (ty ≡ I32)
   JoinedTypes Eq t u ty = (promoted t ≡ t) × (u ≡ t) × (ty ≡ I32)
   JoinedTypes Ne t u ty = (promoted t ≡ t) × (u ≡ t) × (ty ≡ I32)
-  JoinedTypes And t u ty = (promoted t ≡ t) × (u ≡ t) × (ty ≡ t)
-  JoinedTypes Xor t u ty = (promoted t ≡ t) × (u ≡ t) × (ty ≡ t)
-  JoinedTypes Or t u ty = (promoted t ≡ t) × (u ≡ t) × (ty ≡ t)
   JoinedTypes Both t u ty = ty ≡ I32
   JoinedTypes Either t u ty = ty ≡ I32
+  JoinedTypes op t u ty = (promoted t ≡ t) × (u ≡ t) × (ty ≡ t)
 
   joined_fits : (op : Binary) (t u ty : Ty) (ws : Shape) (a b : ℕ) → JoinedTypes op t u ty → IsOfWidth ws a (ty_width t) → IsOfWidth ws b (ty_width u) → Fits arrays ws (joined op t u a b (length ws)) (ty_width ty)
   joined_fits Mul t u ty ws a b j h i = two_fits arrays _ ws a b (ty_width t) (ty_width ty) (by_widths op2_in t Mul32 Mul32 Mul64 Mul64 j.0 refl refl refl refl) (by_widths op2_out t Mul32 Mul32 Mul64 Mul64 j.0 refl refl refl refl ∙ ap ty_width (sym j.2)) h (subst (λ v. IsOfWidth ws b (ty_width v)) j.1 i)

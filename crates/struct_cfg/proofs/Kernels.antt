@@ -10,7 +10,7 @@ use Rattle.ir.specs.Visits.{Visit, next_visit, next_of, Returns, Finishes, over_
 use Rattle.ir.specs.Finished.{Finished}
 use Rattle.ir.specs.Variables.{VarGraph, var_passage, steps_made}
 use Rattle.c_meaning.specs.Stores.{Store, Objects, unset_vars}
-use Rattle.c_meaning.specs.Runs.{How, normally, by_break, by_continue, by_return, undefined, out_of_turns, turn}
+use Rattle.c_meaning.specs.Runs.{How, normally, by_return, turn}
 use Rattle.c_meaning.specs.Statements.{Act, entering, in_order, block, IsResult}
 use Rattle.c_meaning.specs.Normals.{normal_act, normal_kind_act}
 use Rattle.c_meaning.specs.Counts.{counting_after, counts_in_order, counts_entering, acts_of, counted, kind_counts}
@@ -139,17 +139,10 @@ module _ (o : Setting) where
         let g = returns o d f.to s None None f.at (stands_last o.graph d (Return None) h) is in
         let all = gone_then o 0 p (spot d) v None s s j c 1 0 f g in
         subst (λ z. Gone o 0 p v z s (1 + j) c) (sym i) (gone_more o 0 0 p v None s (j + 1) (c + 0) (1 + j) c all (omega arith) (omega arith))
-    ended body v normally s r j c (Some t) e h f i = absurd i
-    ended body v by_break s r j c None e h f i = absurd i
-    ended body v by_break s r j c (Some t) e h f i = absurd i
-    ended body v by_continue s r j c None e h f i = absurd i
-    ended body v by_continue s r j c (Some t) e h f i = absurd i
     ended body v (by_return z) s r j c None e h f i = subst (λ u. Gone o 0 (spot (empty (count o))) v u s (1 + j) c) (sym i) (gone_more o 0 0 (spot (empty (count o))) v z s j c (1 + j) c f.1 (omega arith) (omega arith))
-    ended body v (by_return z) s r j c (Some t) e h f i = subst (λ u. Gone o 0 (spot (empty (count o))) v u s (1 + j) c) (sym i) (gone_more o 0 0 (spot (empty (count o))) v z s j c (1 + j) c f.1 (omega arith) (omega arith))
-    ended body v (undefined at) s r j c None e h f i = absurd i
-    ended body v (undefined at) s r j c (Some t) e h f i = absurd i
-    ended body v out_of_turns s r j c None e h f i = absurd i
-    ended body v out_of_turns s r j c (Some t) e h f i = absurd i
+    ended body v (by_return z) s r j c t e h f i = subst (λ u. Gone o 0 (spot (empty (count o))) v u s (1 + j) c) (sym i) (gone_more o 0 0 (spot (empty (count o))) v z s j c (1 + j) c f.1 (omega arith) (omega arith))
+    ended body v w s r j c None e h f i = absurd i
+    ended body v w s r j c t e h f i = absurd i
 
     before_finish : (t : Option Ty) (d : Draft) → Holds o.graph (finish t d).blocks → Holds o.graph d.blocks
     before_finish None d h = before_close o.graph d (Return None) h

@@ -17,7 +17,7 @@ use Rattle.ir.specs.Variables.{VarGraph, var_passage}
 use Rattle.c_meaning.specs.declared.profile.Profile.{Profile}
 use Rattle.c_meaning.specs.KernelPatterns.{scalar_patterns, array_patterns, result_pattern}
 use Rattle.c_meaning.specs.Ranges.{NormalOpeningFits}
-use Rattle.c_meaning.specs.Runs.{How, normally, by_break, by_continue, by_return, undefined, out_of_turns}
+use Rattle.c_meaning.specs.Runs.{How, normally, by_break}
 use Rattle.c_meaning.specs.Stores.{Objects, Inputs, AreInRanges, AreFitting, opening, scalar_types}
 use Rattle.c_meaning.specs.Statements.{IsResult, kernel_end}
 use Rattle.c_meaning.specs.Normals.{normal_objects, normal_body_run, normal_run}
@@ -41,18 +41,9 @@ use Rattle.struct_cfg.proofs.Kernels.{AllLawful, Ended, kernel_runs, one_end}
 -- ---- the end of a form's body
 
 body_result : (t : Option Ty) (at : Span) (h : How) (r : Option ℤ) → IsResult t (kernel_end t at h) r → IsResult t h r
-body_result None at normally r i = i
 body_result (Some t) at normally r i = absurd i
 body_result None at by_break r i = i
-body_result (Some t) at by_break r i = i
-body_result None at by_continue r i = i
-body_result (Some t) at by_continue r i = i
-body_result None at (by_return v) r i = i
-body_result (Some t) at (by_return v) r i = i
-body_result None at (undefined p) r i = i
-body_result (Some t) at (undefined p) r i = i
-body_result None at out_of_turns r i = i
-body_result (Some t) at out_of_turns r i = i
+body_result t at h r i = i
 
 pub all_lawful : (k : Objects) (r : Option Ty) (ss : List NormalStmt) → All (λ s. LawfulNormalStmt k r false s.kind) ss → All (λ s. Quiet true s.kind) ss → AllLawful k r ss
 all_lawful k r [] h q = tt
@@ -90,15 +81,13 @@ scalar_shown (t ∷ ts) (u ∷ us) (y ∷ zs) n m (suc x) z r e i =
 
 pattern_count : (ts : List Ty) (zs : List ℤ) → AreInRanges ts zs → length (scalar_patterns ts zs) ≡ length zs
 pattern_count [] [] r = refl
-pattern_count [] (z ∷ zs) r = absurd r
-pattern_count (t ∷ ts) [] r = absurd r
 pattern_count (t ∷ ts) (z ∷ zs) r = omega (arith, pattern_count ts zs r.1)
+pattern_count ts zs r = absurd r
 
 scalar_count : (ts : List Ty) (zs : List ℤ) → AreInRanges ts zs → length zs ≡ length ts
 scalar_count [] [] r = refl
-scalar_count [] (z ∷ zs) r = absurd r
-scalar_count (t ∷ ts) [] r = absurd r
 scalar_count (t ∷ ts) (z ∷ zs) r = omega (arith, scalar_count ts zs r.1)
+scalar_count ts zs r = absurd r
 
 take_short : {A : Type 0} (n : ℕ) (xs : List A) → length (take n xs) ≤ length xs
 take_short zero xs = omega arith

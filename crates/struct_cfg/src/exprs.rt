@@ -21,6 +21,22 @@ pub(crate) struct Scope<'a> {
     pub(crate) arrays: &'a [ArrayOf],
 }
 
+/// The parts of a choice.
+#[derive(Clone, Copy)]
+struct ChoiceParts<'a> {
+    cond: &'a TypedExpr,
+    yes: &'a TypedExpr,
+    no: &'a TypedExpr,
+}
+
+/// A dimension in a place: whether it is the first, the place so far, and its length.
+#[derive(Clone, Copy)]
+struct Dimension {
+    first: bool,
+    at: u32,
+    size: u64,
+}
+
 impl<'a> Scope<'a> {
     /// The value of a variable in the open block.
     fn variable(&self, var: u32) -> u32
@@ -92,7 +108,12 @@ impl<'a> Scope<'a> {
                 join(steps, self.env, *op, left, right)
             }
             TypedExprKind::Choose(cond, yes, no) => {
-                self.choose(steps, e, cond.get(), yes.get(), no.get())
+                let parts = ChoiceParts {
+                    cond: cond.get(),
+                    yes: yes.get(),
+                    no: no.get(),
+                };
+                self.choose(steps, e, parts)
             }
         }
     }
@@ -102,21 +123,20 @@ impl<'a> Scope<'a> {
         &self,
         steps: &mut List<Instr>,
         e: &TypedExpr,
-        cond: &TypedExpr,
-        yes: &TypedExpr,
-        no: &TypedExpr,
+        parts: ChoiceParts,
     ) -> Result<u32, Memory>
-        requires is { e.now.kind ≡ expr.Choose cond.now yes.now no.now }
+        requires is { e.now.kind ≡ expr.Choose parts.cond.now parts.yes.now parts.no.now }
         requires room { HasRoom self.now.env.now steps.old
-            (2 * (3 + expr_price cond.now + expr_price yes.now + expr_price no.now)) }
+            (2 * (3 + expr_price parts.cond.now + expr_price parts.yes.now
+            + expr_price parts.no.now)) }
         ensures { IfOk result
             (IsLaid (expr_laying self.now.arrays.now self.now.env.now e.now)
             self.now.env.now steps.old steps.new) }
     {
-        let test = self.expr(steps, cond)?;
-        let flag = flag(steps, self.env, cond.ty, test)?;
-        let a = self.expr(steps, yes)?;
-        let b = self.expr(steps, no)?;
+        let test = self.expr(steps, parts.cond)?;
+        let flag = flag(steps, self.env, parts.cond.ty, test)?;
+        let a = self.expr(steps, parts.yes)?;
+        let b = self.expr(steps, parts.no)?;
         let select = Instr::Select {
             width: e.ty.width(),
             cond: flag,
@@ -170,7 +190,12 @@ impl<'a> Scope<'a> {
         let mut k = 0;
         for e in indices {
             if k < dims.len() {
-                at = self.one_place(steps, k == 0, at, dims[k], e)?;
+                let dim = Dimension {
+                    first: k == 0,
+                    at,
+                    size: dims[k],
+                };
+                at = self.one_place(steps, dim, e)?;
                 k += 1;
             }
         }
@@ -182,22 +207,21 @@ impl<'a> Scope<'a> {
     fn one_place(
         &self,
         steps: &mut List<Instr>,
-        first: bool,
-        at: u32,
-        size: u64,
+        dim: Dimension,
         e: &TypedExpr,
     ) -> Result<u32, Memory>
         requires { HasRoom self.now.env.now steps.old (2 * (4 + expr_price e.now)) }
         ensures laid { IfOk result
             (IsLaid
-            (one_place first at size (piece self.now.arrays.now self.now.env.now e.now))
+            (one_place dim.first dim.at dim.size
+            (piece self.now.arrays.now self.now.env.now e.now))
             self.now.env.now steps.old steps.new) }
         ensures few { OnOk result (length steps.new ≤ length steps.old + (4 + expr_price e.now)) }
     {
-        if first {
+        if dim.first {
             self.index(steps, e)
         } else {
-            self.next_place(steps, at, size, e)
+            self.next_place(steps, dim, e)
         }
     }
 
@@ -220,23 +244,23 @@ impl<'a> Scope<'a> {
     fn next_place(
         &self,
         steps: &mut List<Instr>,
-        at: u32,
-        size: u64,
+        dim: Dimension,
         e: &TypedExpr,
     ) -> Result<u32, Memory>
         requires { HasRoom self.now.env.now steps.old (2 * (4 + expr_price e.now)) }
         ensures laid { IfOk result
-            (IsLaid (next_place at size (piece self.now.arrays.now self.now.env.now e.now))
+            (IsLaid
+            (next_place dim.at dim.size (piece self.now.arrays.now self.now.env.now e.now))
             self.now.env.now steps.old steps.new) }
         ensures few { OnOk result (length steps.new ≤ length steps.old + (4 + expr_price e.now)) }
     {
         let j = self.index(steps, e)?;
         let dimension = Instr::Const {
             width: 64,
-            value: size,
+            value: dim.size,
         };
         let width = put(steps, self.env, dimension)?;
-        let row = put(steps, self.env, Instr::Two(Op2::Mul64, at, width))?;
+        let row = put(steps, self.env, Instr::Two(Op2::Mul64, dim.at, width))?;
         let place = put(steps, self.env, Instr::Two(Op2::Add64, row, j))?;
         Ok(place)
     }

@@ -148,6 +148,32 @@ impl<'a> Lowering<'a> {
 
 // ---- all statements
 
+/// The parts of an `if`: the statements before its condition, the condition, and its two parts.
+#[derive(Clone, Copy)]
+struct IfParts<'a> {
+    before: &'a [NormalStmt],
+    cond: &'a TypedExpr,
+    then: &'a NormalStmt,
+    other: &'a Option<Boxed<NormalStmt>>,
+}
+
+/// The parts of a `while` or a `do`: the statements before its condition, the condition, and its body.
+#[derive(Clone, Copy)]
+struct LoopParts<'a> {
+    before: &'a [NormalStmt],
+    cond: &'a TypedExpr,
+    body: &'a NormalStmt,
+}
+
+/// The parts of a `for` behind its first part.
+#[derive(Clone, Copy)]
+struct ForParts<'a> {
+    before: &'a [NormalStmt],
+    cond: &'a Option<TypedExpr>,
+    step: &'a Option<Boxed<NormalStmt>>,
+    body: &'a NormalStmt,
+}
+
 impl<'a> Lowering<'a> {
     /// The blocks of a statement.
     #[cycle(lower)]
@@ -178,12 +204,30 @@ impl<'a> Lowering<'a> {
                 cond,
                 then,
                 other,
-            } => self.lower_if(draft, stmt, before.as_slice(), cond, then.get(), other),
+            } => {
+                let parts = IfParts {
+                    before: before.as_slice(),
+                    cond,
+                    then: then.get(),
+                    other,
+                };
+                self.lower_if(draft, stmt, parts)
+            }
             NormalStmtKind::While { before, cond, body } => {
-                self.lower_while(draft, stmt, before.as_slice(), cond, body.get())
+                let parts = LoopParts {
+                    before: before.as_slice(),
+                    cond,
+                    body: body.get(),
+                };
+                self.lower_while(draft, stmt, parts)
             }
             NormalStmtKind::DoWhile { body, before, cond } => {
-                self.lower_do(draft, stmt, body.get(), before.as_slice(), cond)
+                let parts = LoopParts {
+                    before: before.as_slice(),
+                    cond,
+                    body: body.get(),
+                };
+                self.lower_do(draft, stmt, parts)
             }
             NormalStmtKind::For {
                 first,
@@ -193,7 +237,13 @@ impl<'a> Lowering<'a> {
                 body,
             } => {
                 self.lower_all(draft, first.as_slice())?;
-                self.lower_for(draft, stmt, before.as_slice(), cond, step, body.get())
+                let parts = ForParts {
+                    before: before.as_slice(),
+                    cond,
+                    step,
+                    body: body.get(),
+                };
+                self.lower_for(draft, stmt, parts)
             }
             NormalStmtKind::Break => draft.close(self.alloc, CfgJump::Go(self.exit)),
             NormalStmtKind::Continue => draft.close(self.alloc, CfgJump::Go(self.again)),
@@ -205,31 +255,26 @@ impl<'a> Lowering<'a> {
     /// An `if`: its first part begins in the block after that of its condition. Both parts have a block, and lead to the one
     /// behind them.
     #[cycle(lower)]
-    fn lower_if(
-        &self,
-        draft: &mut Draft,
-        stmt: &NormalStmt,
-        before: &[NormalStmt],
-        cond: &TypedExpr,
-        then: &NormalStmt,
-        other: &Option<Boxed<NormalStmt>>,
-    ) -> Result<(), Memory>
-        requires is { stmt.now.kind ≡ normal.If before.now cond.now then.now other.now }
+    fn lower_if(&self, draft: &mut Draft, stmt: &NormalStmt, parts: IfParts) -> Result<(), Memory>
+        requires is { stmt.now.kind
+            ≡ normal.If parts.before.now parts.cond.now parts.then.now parts.other.now }
         requires room { HasSpace draft.old
-            (blocks_of before.now + closes then.now.kind + blocks_if_any other.now + 3)
-            (steps_of before.now + (expr_price cond.now + 2) + steps then.now.kind
-            + steps_if_any other.now) }
+            (blocks_of parts.before.now + closes parts.then.now.kind
+            + blocks_if_any parts.other.now + 3)
+            (steps_of parts.before.now + (expr_price parts.cond.now + 2)
+            + steps parts.then.now.kind + steps_if_any parts.other.now) }
         ensures { OnOk result (draft.new ≡ lower_if self.now.arrays.now self.now.exit self.now.again
-            before.now cond.now then.now other.now draft.old) }
+            parts.entry.before.now parts.entry.cond.now parts.entry.then.now parts.entry.other.now
+            draft.old) }
     {
-        self.lower_all(draft, before)?;
+        self.lower_all(draft, parts.before)?;
         let yes = draft.here() + 1;
-        let no = yes + closes(then) + 1;
-        let join = no + blocks_if_any(other) + 1;
-        self.branch(draft, cond, yes, no)?;
-        self.lower(draft, then)?;
+        let no = yes + closes(parts.then) + 1;
+        let join = no + blocks_if_any(parts.other) + 1;
+        self.branch(draft, parts.cond, yes, no)?;
+        self.lower(draft, parts.then)?;
         draft.close(self.alloc, CfgJump::Go(join))?;
-        self.lower_any(draft, other)?;
+        self.lower_any(draft, parts.other)?;
         draft.close(self.alloc, CfgJump::Go(join))?;
         Ok(())
     }
@@ -240,97 +285,90 @@ impl<'a> Lowering<'a> {
         &self,
         draft: &mut Draft,
         stmt: &NormalStmt,
-        before: &[NormalStmt],
-        cond: &TypedExpr,
-        body: &NormalStmt,
+        parts: LoopParts,
     ) -> Result<(), Memory>
-        requires is { stmt.now.kind ≡ normal.While before.now cond.now body.now }
-        requires room { HasSpace draft.old (blocks_of before.now + closes body.now.kind + 3)
-            (steps_of before.now + (expr_price cond.now + 2) + steps body.now.kind) }
+        requires is { stmt.now.kind
+            ≡ normal.While parts.before.now parts.cond.now parts.body.now }
+        requires room { HasSpace draft.old
+            (blocks_of parts.before.now + closes parts.body.now.kind + 3)
+            (steps_of parts.before.now + (expr_price parts.cond.now + 2)
+            + steps parts.body.now.kind) }
         ensures { OnOk result (draft.new ≡ lower_while self.now.arrays.now self.now.exit
-            self.now.again before.now cond.now body.now draft.old) }
+            self.now.again parts.entry.before.now parts.entry.cond.now parts.entry.body.now
+            draft.old) }
     {
         let head = draft.here() + 1;
-        let exit = head + blocks_of(before) + 1 + closes(body) + 1;
+        let exit = head + blocks_of(parts.before) + 1 + closes(parts.body) + 1;
         draft.close(self.alloc, CfgJump::Go(head))?;
-        self.lower_all(draft, before)?;
+        self.lower_all(draft, parts.before)?;
         let yes = draft.here() + 1;
-        self.branch(draft, cond, yes, exit)?;
+        self.branch(draft, parts.cond, yes, exit)?;
         let inside = Lowering {
             exit,
             again: head,
             ..*self
         };
-        inside.lower(draft, body)?;
+        inside.lower(draft, parts.body)?;
         draft.close(self.alloc, CfgJump::Go(head))?;
         Ok(())
     }
 
     /// A `do`: its body comes first, and `continue` leads to the block of its condition.
     #[cycle(lower)]
-    fn lower_do(
-        &self,
-        draft: &mut Draft,
-        stmt: &NormalStmt,
-        body: &NormalStmt,
-        before: &[NormalStmt],
-        cond: &TypedExpr,
-    ) -> Result<(), Memory>
-        requires is { stmt.now.kind ≡ normal.DoWhile body.now before.now cond.now }
-        requires room { HasSpace draft.old (closes body.now.kind + blocks_of before.now + 3)
-            (steps body.now.kind + steps_of before.now + (expr_price cond.now + 2)) }
+    fn lower_do(&self, draft: &mut Draft, stmt: &NormalStmt, parts: LoopParts) -> Result<(), Memory>
+        requires is { stmt.now.kind
+            ≡ normal.DoWhile parts.body.now parts.before.now parts.cond.now }
+        requires room { HasSpace draft.old
+            (closes parts.body.now.kind + blocks_of parts.before.now + 3)
+            (steps parts.body.now.kind + steps_of parts.before.now
+            + (expr_price parts.cond.now + 2)) }
         ensures { OnOk result (draft.new ≡ lower_do self.now.arrays.now self.now.exit self.now.again
-            body.now before.now cond.now draft.old) }
+            parts.entry.body.now parts.entry.before.now parts.entry.cond.now draft.old) }
     {
         let first = draft.here() + 1;
-        let head = first + closes(body) + 1;
-        let exit = head + blocks_of(before) + 1;
+        let head = first + closes(parts.body) + 1;
+        let exit = head + blocks_of(parts.before) + 1;
         draft.close(self.alloc, CfgJump::Go(first))?;
         let inside = Lowering {
             exit,
             again: head,
             ..*self
         };
-        inside.lower(draft, body)?;
+        inside.lower(draft, parts.body)?;
         draft.close(self.alloc, CfgJump::Go(head))?;
-        self.lower_all(draft, before)?;
-        self.branch(draft, cond, first, exit)?;
+        self.lower_all(draft, parts.before)?;
+        self.branch(draft, parts.cond, first, exit)?;
         Ok(())
     }
 
     /// A `for` behind its first part: `continue` leads to its step, which leads back to the block of its condition.
     #[cycle(lower)]
-    fn lower_for(
-        &self,
-        draft: &mut Draft,
-        stmt: &NormalStmt,
-        before: &[NormalStmt],
-        cond: &Option<TypedExpr>,
-        step: &Option<Boxed<NormalStmt>>,
-        body: &NormalStmt,
-    ) -> Result<(), Memory>
-        requires is { IsFor stmt.now.kind before.now cond.now step.now body.now }
+    fn lower_for(&self, draft: &mut Draft, stmt: &NormalStmt, parts: ForParts) -> Result<(), Memory>
+        requires is { IsFor stmt.now.kind
+            parts.before.now parts.cond.now parts.step.now parts.body.now }
         requires room { HasSpace draft.old
-            (blocks_of before.now + closes body.now.kind + blocks_of_step step.now + 3)
-            (steps_of before.now + (option_price cond.now + 2) + steps body.now.kind
-            + steps_if_any step.now) }
+            (blocks_of parts.before.now + closes parts.body.now.kind
+            + blocks_of_step parts.step.now + 3)
+            (steps_of parts.before.now + (option_price parts.cond.now + 2)
+            + steps parts.body.now.kind + steps_if_any parts.step.now) }
         ensures { OnOk result (draft.new ≡ lower_for self.now.arrays.now self.now.exit
-            self.now.again before.now cond.now step.now body.now draft.old) }
+            self.now.again parts.entry.before.now parts.entry.cond.now parts.entry.step.now
+            parts.entry.body.now draft.old) }
     {
         let head = draft.here() + 1;
-        let after = head + blocks_of(before) + 1 + closes(body) + 1;
-        let exit = after + blocks_of_step(step);
+        let after = head + blocks_of(parts.before) + 1 + closes(parts.body) + 1;
+        let exit = after + blocks_of_step(parts.step);
         draft.close(self.alloc, CfgJump::Go(head))?;
-        self.lower_all(draft, before)?;
-        self.enter(draft, cond, exit)?;
-        let again = again_in(step, head, after);
+        self.lower_all(draft, parts.before)?;
+        self.enter(draft, parts.cond, exit)?;
+        let again = again_in(parts.step, head, after);
         let inside = Lowering {
             exit,
             again,
             ..*self
         };
-        inside.lower(draft, body)?;
-        self.lower_step(draft, step, after)?;
+        inside.lower(draft, parts.body)?;
+        self.lower_step(draft, parts.step, after)?;
         draft.close(self.alloc, CfgJump::Go(head))?;
         Ok(())
     }

@@ -75,7 +75,7 @@ kind-choose-requires t c =
 
 pub choose-returns : goal.choose-returns
 choose-returns t c =
-    choice_laid c.args.self.now.arrays.now c.args.self.now.env.now c.args.e.now c.args.cond.now c.args.yes.now c.args.no.now _ c.args.steps.now _ _ _ _ _ _ _ _ _ _ c.requires.is c.width.ensures c.in_ok-test.ensures.laid c.in_ok-flag.ensures.laid c.in_ok-a.ensures.laid c.in_ok-b.ensures.laid c.in_ok-value.ensures.laid
+    choice_laid c.args.self.now.arrays.now c.args.self.now.env.now c.args.e.now c.args.parts.cond.now c.args.parts.yes.now c.args.parts.no.now _ c.args.steps.now _ _ _ _ _ _ _ _ _ _ c.requires.is c.width.ensures c.in_ok-test.ensures.laid c.in_ok-flag.ensures.laid c.in_ok-a.ensures.laid c.in_ok-b.ensures.laid c.in_ok-value.ensures.laid
 
 pub element-returns : goal.element-returns
 element-returns t c =
@@ -86,7 +86,7 @@ index-returns-clause-laid t c = index_put c.args.self.now.arrays.now c.args.self
 
 pub next_place-returns-clause-laid : goal.next_place-returns-clause-laid
 next_place-returns-clause-laid t c =
-    next_put c.args.self.now.arrays.now c.args.self.now.env.now c.args.at c.args.size c.args.e.now c.args.steps.now _ _ _ _ _ _ _ _ c.in_ok-j.ensures.laid c.in_ok-width.ensures.laid c.in_ok-row.ensures.laid c.in_ok-place.ensures.laid
+    next_put c.args.self.now.arrays.now c.args.self.now.env.now c.args.dim.at c.args.dim.size c.args.e.now c.args.steps.now _ _ _ _ _ _ _ _ c.in_ok-j.ensures.laid c.in_ok-width.ensures.laid c.in_ok-row.ensures.laid c.in_ok-place.ensures.laid
 
 pub place-one_place-requires : goal.place-one_place-requires
 place-one_place-requires t c =
@@ -118,12 +118,12 @@ kind-returns-in-Choose t c = c.choose.ensures
 pub kind-returns-in-Element : goal.kind-returns-in-Element
 kind-returns-in-Element t c = c.element.ensures
 
-pub one_place-returns-else-first-clause-laid : goal.one_place-returns-else-first-clause-laid
-one_place-returns-else-first-clause-laid t c =
+pub one_place-returns-else-dim-clause-laid : goal.one_place-returns-else-dim-clause-laid
+one_place-returns-else-dim-clause-laid t c =
     let p = piece c.args.self.now.arrays.now c.args.self.now.env.now c.args.e.now in
-    subst (λ (first : Bool). IfOk c.next_place.result (IsLaid (one_place first c.args.at c.args.size p) c.args.self.now.env.now c.args.steps.now c.next_place.new.steps)) (sym c.if-first.false) c.next_place.ensures.laid
+    subst (λ (first : Bool). IfOk c.next_place.result (IsLaid (one_place first c.args.dim.at c.args.dim.size p) c.args.self.now.env.now c.args.steps.now c.next_place.new.steps)) (sym c.if-dim.false) c.next_place.ensures.laid
 
-pub one_place-returns-then-first-clause-laid : goal.one_place-returns-then-first-clause-laid
-one_place-returns-then-first-clause-laid t c =
+pub one_place-returns-then-dim-clause-laid : goal.one_place-returns-then-dim-clause-laid
+one_place-returns-then-dim-clause-laid t c =
     let p = piece c.args.self.now.arrays.now c.args.self.now.env.now c.args.e.now in
-    subst (λ (first : Bool). IfOk c.index.result (IsLaid (one_place first c.args.at c.args.size p) c.args.self.now.env.now c.args.steps.now c.index.new.steps)) (sym c.if-first.true) c.index.ensures.laid
+    subst (λ (first : Bool). IfOk c.index.result (IsLaid (one_place first c.args.dim.at c.args.dim.size p) c.args.self.now.env.now c.args.steps.now c.index.new.steps)) (sym c.if-dim.true) c.index.ensures.laid

@@ -98,22 +98,22 @@ lower-returns-clause-few t c = kind_grows c.args.self.now.arrays.now c.args.self
 
 pub lower_if-returns : goal.lower_if-returns
 lower_if-returns t c =
-    if_made c.args.self.now.arrays.now c.args.self.now.exit c.args.self.now.again c.args.before.now c.args.cond.now c.args.then.now c.args.other.now c.args.draft.now _ _ _ _ _ _ c.here-yes.result c.closes.result c.blocks_if_any.result
+    if_made c.args.self.now.arrays.now c.args.self.now.exit c.args.self.now.again c.args.parts.before.now c.args.parts.cond.now c.args.parts.then.now c.args.parts.other.now c.args.draft.now _ _ _ _ _ _ c.here-yes.result c.closes.result c.blocks_if_any.result
     c.in_ok-lower_all.ensures.made c.here-yes.ensures c.closes.ensures c.blocks_if_any.ensures c.in_ok-branch.ensures.made c.in_ok-lower.ensures.made c.in_ok-close.ensures.made c.in_ok-lower_any.ensures.made c.in_ok-close-2.ensures.made
 
 pub lower_while-returns : goal.lower_while-returns
 lower_while-returns t c =
-    while_made c.args.self.now.arrays.now c.args.self.now.exit c.args.self.now.again c.args.before.now c.args.cond.now c.args.body.now c.args.draft.now _ _ _ _ _ c.here-head.result c.blocks_of.result c.closes.result c.here-yes.result
+    while_made c.args.self.now.arrays.now c.args.self.now.exit c.args.self.now.again c.args.parts.before.now c.args.parts.cond.now c.args.parts.body.now c.args.draft.now _ _ _ _ _ c.here-head.result c.blocks_of.result c.closes.result c.here-yes.result
     c.here-head.ensures c.blocks_of.ensures c.closes.ensures c.in_ok-close.ensures.made c.in_ok-lower_all.ensures.made c.here-yes.ensures c.in_ok-branch.ensures.made c.in_ok-lower.ensures.made c.in_ok-close-2.ensures.made
 
 pub lower_do-returns : goal.lower_do-returns
 lower_do-returns t c =
-    do_made c.args.self.now.arrays.now c.args.self.now.exit c.args.self.now.again c.args.body.now c.args.before.now c.args.cond.now c.args.draft.now _ _ _ _ _ c.here-first.result c.closes.result c.blocks_of.result
+    do_made c.args.self.now.arrays.now c.args.self.now.exit c.args.self.now.again c.args.parts.body.now c.args.parts.before.now c.args.parts.cond.now c.args.draft.now _ _ _ _ _ c.here-first.result c.closes.result c.blocks_of.result
     c.here-first.ensures c.closes.ensures c.blocks_of.ensures c.in_ok-close.ensures.made c.in_ok-lower.ensures.made c.in_ok-close-2.ensures.made c.in_ok-lower_all.ensures.made c.in_ok-branch.ensures.made
 
 pub lower_for-returns : goal.lower_for-returns
 lower_for-returns t c =
-    for_made c.args.self.now.arrays.now c.args.self.now.exit c.args.self.now.again c.args.before.now c.args.cond.now c.args.step.now c.args.body.now c.args.draft.now _ _ _ _ _ _ c.here-head.result c.blocks_of.result c.closes.result c.blocks_of_step.result c.again_in-again.result
+    for_made c.args.self.now.arrays.now c.args.self.now.exit c.args.self.now.again c.args.parts.before.now c.args.parts.cond.now c.args.parts.step.now c.args.parts.body.now c.args.draft.now _ _ _ _ _ _ c.here-head.result c.blocks_of.result c.closes.result c.blocks_of_step.result c.again_in-again.result
     c.here-head.ensures c.blocks_of.ensures c.closes.ensures c.blocks_of_step.ensures c.in_ok-close.ensures.made c.in_ok-lower_all.ensures.made c.in_ok-enter.ensures.made c.again_in-again.ensures c.in_ok-lower.ensures.made
     c.in_ok-lower_step.ensures.made c.in_ok-close-2.ensures.made
 
