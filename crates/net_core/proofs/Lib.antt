@@ -27,7 +27,6 @@ pub mod PlanUses
 pub mod AtRestTests
 pub mod UncheckedLemmas
 pub mod SentLemmas
-pub mod ChannelLemmas
 pub mod TokenLemmas
 pub mod MoveLemmas
 pub mod RaiseLemmas

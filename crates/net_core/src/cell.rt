@@ -2,8 +2,9 @@
 
 ghost use Rattle.std.specs.Prelude.{◌≡◌, ◌≤◌, ◌^◌, true, [], get_or, IfOk};
 ghost use Rattle.net_types.specs.Nets.{owns};
+ghost use Rattle.net_types.specs.Queues.{IsQueueShape};
 ghost use Rattle.net_check.specs.Shapes.{HasShape};
-ghost use Rattle.lsq_core.specs.Views.{count_of};
+ghost use Rattle.lsq_core.specs.Views.{count_of, shaped};
 ghost use Rattle.net_core.specs.Fire.{opened, at_array};
 ghost use Rattle.net_core.specs.Plans.{own_of, admits, keeps, next_of, cell_after, started, finished, strays_after, IsShaped};
 ghost use Rattle.net_core.specs.States.{queue_array};
@@ -12,7 +13,7 @@ ghost use Rattle.net_core.specs.declared.plan.Change.TheVariants as change;
 use crate::plan::Change;
 use crate::sent::Sent;
 use lsq_core::{Lsq, Queue};
-use net_types::{Act, List, Memory, Unit};
+use net_types::{Act, List, Memory, Port, Unit};
 use std::alloc::Global;
 
 /// The queue of a unit.
@@ -27,6 +28,24 @@ pub enum Cell {
     Fork(Sent),
     /// A queue, with its array. It lies behind a box, since most units have none.
     Queue(Box<UnitQueue>),
+}
+
+/// An empty queue behind a box. It stands apart so that the cell of a unit without one is made at little cost.
+#[inline(never)]
+fn boxed_queue(
+    alloc: Global,
+    elements: &[u64],
+    depth: u32,
+    ports: &[Port],
+    groups: &[List<u32>],
+    forward: bool,
+) -> Result<Box<UnitQueue>, Memory>
+    requires { IsQueueShape depth ports.now groups.now }
+    ensures { IfOk result
+        (λ b. b.value ≡ shaped elements.now depth ports.now groups.now forward) }
+{
+    let queue = UnitQueue::new(alloc, elements, depth, ports, groups, forward)?;
+    Ok(Box::new(alloc, queue)?)
 }
 
 impl Cell {
@@ -65,8 +84,8 @@ impl Cell {
                 let elements = elements_of(arrays, *array);
                 let ports = ports.as_slice();
                 let groups = groups.as_slice();
-                let queue = UnitQueue::new(alloc, elements, *depth, ports, groups, *forward)?;
-                Ok(Cell::Queue(Box::new(alloc, queue)?))
+                let queue = boxed_queue(alloc, elements, *depth, ports, groups, *forward)?;
+                Ok(Cell::Queue(queue))
             }
         }
     }
