@@ -38,13 +38,12 @@ impl Worker {
         ensures takes { IfOk result (λ w. (c : ℕ) → take_end w c ≡ None) }
     {
         let chans = tables.net.net().chans.len();
-        let outs = channels_out(alloc, tables, number)?;
-        let ins = channels_in(alloc, tables, number)?;
+        let Around { outs, ins, all } = channels_around(alloc, tables, number)?;
         let log = Log::with_room(alloc, share)?;
         let puts = ChannelEnds::new(alloc, outs.as_slice(), chans)?;
         let takes = ChannelEnds::new(alloc, ins.as_slice(), chans)?;
         let waits = ChannelEnds::new(alloc, outs.as_slice(), chans)?;
-        let portion = opening_portion(alloc, tables, number)?;
+        let portion = opening_portion(alloc, tables, number, all)?;
         let ready = marks_at(alloc, tables.span(number), portion.own())?;
         Ok(Worker {
             number,
@@ -92,41 +91,55 @@ fn note_if(chans: &mut Vec<u32>, chan: u32, noted: bool) -> Result<(), Memory>
     Ok(())
 }
 
-/// The channels from units of a worker to those of others, ascending.
-fn channels_out(alloc: Global, tables: &Tables, number: u32) -> Result<Vec<u32>, Memory>
-    ensures all { IfOk result (λ v. (c : ℕ) → IsOutOf tables.now number c → Contains v.items c) }
-    ensures only { IfOk result (λ v. All (IsOutOf tables.now number) v.items) }
-    ensures ascending { IfOk result
-        (λ v. AreChannels (length (net_of tables.now).chans) v.items) }
+/// The channels at the units of a worker, ascending.
+struct Around {
+    /// From its units to those of others.
+    outs: Vec<u32>,
+    /// To its units from those of others.
+    ins: Vec<u32>,
+    /// From or to its units.
+    all: Vec<u32>,
+}
+
+/// The channels at the units of a worker, ascending.
+fn channels_around(alloc: Global, tables: &Tables, number: u32) -> Result<Around, Memory>
+    ensures outs { IfOk result (λ a. (c : ℕ) → IsOutOf tables.now number c
+        → Contains a.outs.items c) }
+    ensures outs_only { IfOk result (λ a. All (IsOutOf tables.now number) a.outs.items) }
+    ensures outs_ascend { IfOk result
+        (λ a. AreChannels (length (net_of tables.now).chans) a.outs.items) }
+    ensures ins { IfOk result (λ a. (c : ℕ) → IsInto tables.now number c
+        → Contains a.ins.items c) }
+    ensures ins_only { IfOk result (λ a. All (IsInto tables.now number) a.ins.items) }
+    ensures ins_ascend { IfOk result
+        (λ a. AreChannels (length (net_of tables.now).chans) a.ins.items) }
+    ensures all { IfOk result (λ a. a.all.items
+        ≡ chans_of (net_of tables.now) (unit_owners tables.now) number) }
 {
     let count = tables.net.net().chans.len();
     let mut outs = Vec::new(alloc);
-    for at in 0..count {
-        let crosses = is_out(tables, number, at as u32);
-        note_if(&mut outs, at as u32, crosses)?;
-    }
-    Ok(outs)
-}
-
-/// The channels to units of a worker from those of others, ascending.
-fn channels_in(alloc: Global, tables: &Tables, number: u32) -> Result<Vec<u32>, Memory>
-    ensures all { IfOk result (λ v. (c : ℕ) → IsInto tables.now number c → Contains v.items c) }
-    ensures only { IfOk result (λ v. All (IsInto tables.now number) v.items) }
-    ensures ascending { IfOk result
-        (λ v. AreChannels (length (net_of tables.now).chans) v.items) }
-{
-    let count = tables.net.net().chans.len();
     let mut ins = Vec::new(alloc);
+    let mut all = Vec::new(alloc);
     for at in 0..count {
-        let crosses = is_into(tables, number, at as u32);
-        note_if(&mut ins, at as u32, crosses)?;
+        let goes_out = is_out(tables, number, at as u32);
+        note_if(&mut outs, at as u32, goes_out)?;
+        let comes_in = is_into(tables, number, at as u32);
+        note_if(&mut ins, at as u32, comes_in)?;
+        let own = is_at(tables, number, at as u32);
+        note_if(&mut all, at as u32, own)?;
     }
-    Ok(ins)
+    Ok(Around { outs, ins, all })
 }
 
 /// The rooms of the units of a worker, and of the channels at them, in the opening state.
-fn opening_portion(alloc: Global, tables: &Tables, number: u32) -> Result<Portion, Memory>
-    requires { InputsFit (net_of tables.now) (inputs_of tables.now) }
+fn opening_portion(
+    alloc: Global,
+    tables: &Tables,
+    number: u32,
+    chans: Vec<u32>,
+) -> Result<Portion, Memory>
+    requires chans { chans.items ≡ chans_of (net_of tables.now) (unit_owners tables.now) number }
+    requires fit { InputsFit (net_of tables.now) (inputs_of tables.now) }
     ensures of { IfOk result (λ p. IsOf (net_of tables.now) p.state) }
     ensures state { IfOk result (λ p. state_of p.state
         ≡ opening (net_of tables.now) (inputs_of tables.now)) }
@@ -134,7 +147,6 @@ fn opening_portion(alloc: Global, tables: &Tables, number: u32) -> Result<Portio
     ensures own { IfOk result (λ p. HoldsOwn tables.now number p) }
 {
     let units = own_units(alloc, tables, number)?;
-    let chans = own_chans(alloc, tables, number)?;
     Portion::new(
         alloc,
         &tables.base,
@@ -173,20 +185,6 @@ fn is_at(tables: &Tables, number: u32, chan: u32) -> bool
     ensures { result ≡ has_end (net_of tables.now) (unit_owners tables.now) number chan }
 {
     tables.putter(chan) == number || tables.taker(chan) == number
-}
-
-/// The channels from or to the units of a worker, ascending.
-fn own_chans(alloc: Global, tables: &Tables, number: u32) -> Result<Vec<u32>, Memory>
-    ensures { IfOk result (λ v. v.items
-        ≡ chans_of (net_of tables.now) (unit_owners tables.now) number) }
-{
-    let count = tables.net.net().chans.len();
-    let mut chans = Vec::new(alloc);
-    for at in 0..count {
-        let own = is_at(tables, number, at as u32);
-        note_if(&mut chans, at as u32, own)?;
-    }
-    Ok(chans)
 }
 
 /// Marks at these units, which lie in a span.

@@ -12,9 +12,14 @@ use crate::passes::Tried;
 use crate::tables::Tables;
 use crate::worker::Worker;
 
-/// How often a sweep looks before it tries all its units: others may be at work beside it, and to try all units takes as long
-/// as many looks.
-const LOOKS: u32 = 256;
+/// How often a sweep looks at least before it tries all its units.
+const LEAST_LOOKS: u32 = 256;
+
+/// How often it looks at most before that.
+const MOST_LOOKS: u32 = 1024;
+
+/// How often a sweep looks at most where the worker rests.
+const MOST_RESTING: u32 = 64;
 
 impl Worker {
     /// Looks at the channels from other workers and makes firings of the worker's own units: some 4,096 where it sees as
@@ -34,7 +39,7 @@ impl Worker {
         if self.is_full() {
             return Swept::Full;
         }
-        let fired = self.go(tables, LOOKS);
+        let fired = self.go(tables, self.looks());
         if self.portion.exited() {
             return Swept::Exited;
         }
@@ -45,8 +50,8 @@ impl Worker {
     }
 
     /// Goes on as in a sweep, also once the exit has fired; answers how many firings it made. Where it sees none it looks so often
-    /// at most before it tries all its units: once is enough where no other worker is at work beside it. Takes no memory, and
-    /// waits for nobody.
+    /// at most before it tries all its units: once is enough where no other worker is at work beside it. Where it rests it looks
+    /// once. Takes no memory, and waits for nobody.
     pub fn go_on(&mut self, tables: &Tables, looks: u32) -> u32
         requires made { IsMadeOf tables.now self.old }
         requires whole { IsWhole tables.now self.old }
@@ -59,6 +64,7 @@ impl Worker {
         if self.is_full() {
             return 0;
         }
+        let looks = if self.resting { 1 } else { looks };
         self.go(tables, looks)
     }
 
@@ -70,6 +76,19 @@ impl Worker {
     {
         let _ = tables;
         self.portion.exited() || self.is_full()
+    }
+
+    /// How often a sweep looks before it is idle: others may be at work beside it, and the more units these have, the longer they
+    /// take. To try all units takes as long as many looks, so it looks more often where it would do that.
+    fn looks(&self) -> u32 {
+        let units = self.portion.own().len();
+        let looked = self.ins.len() + 1;
+        let looks = u32::try_from(units / looked).unwrap_or(MOST_LOOKS);
+        if self.resting {
+            looks.min(MOST_RESTING).max(1)
+        } else {
+            looks.min(MOST_LOOKS).max(LEAST_LOOKS)
+        }
     }
 
     /// Whether the log holds its share, or no stamp is left.
@@ -108,7 +127,7 @@ impl Worker {
         }
     }
 
-    /// Looks and passes so often at most, and once at least, until it makes a firing or rests; answers how many firings it made.
+    /// Looks and passes so often at most, and once at least, until it makes a firing; answers how many firings it made.
     fn turns(&mut self, tables: &Tables, looks: u32) -> u32
         requires made { IsMadeOf tables.now self.old }
         requires whole { IsWhole tables.now self.old }
@@ -121,9 +140,6 @@ impl Worker {
         for _ in 1..looks {
             if fired > 0 {
                 return fired;
-            }
-            if self.resting {
-                return 0;
             }
             fired = self.turn(tables);
         }

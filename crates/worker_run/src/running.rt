@@ -1,9 +1,10 @@
 //! A run of a net by several workers.
 
-ghost use Rattle.std.specs.Prelude.{◌≡◌, ◌≤◌, ◌<◌, All, IfOk, IfErr, length, true};
-ghost use Rattle.el_base.specs.Limits.{max_workers};
+ghost use Rattle.std.specs.Prelude.{◌≡◌, ◌+◌, ◌≤◌, ◌<◌, ◌^◌, All, IfOk, IfErr, length, true};
+ghost use Rattle.el_base.specs.Limits.{max_firings, max_workers};
 ghost use Rattle.net_types.specs.Inputs.{InputsFit};
-ghost use Rattle.net_core.specs.States.{IsOf, state_of};
+ghost use Rattle.net_core.specs.States.{CountsWithin, IsOf, state_of};
+ghost use Rattle.net_replay.specs.Finishes.{Finished};
 ghost use Rattle.net_worker.specs.Shares.{max_share};
 ghost use Rattle.worker_run.specs.Reports.{IsReport, IsRunFault};
 
@@ -16,7 +17,7 @@ use el_io::Gate;
 use net_check::Checked;
 use net_core::State;
 use net_replay::{Ended, RunFault, finish, judge};
-use net_types::Inputs;
+use net_types::{Firing, Inputs};
 use std::alloc::Global;
 use std::thread::Threads;
 
@@ -54,7 +55,7 @@ pub fn run_workers<'a, R: Threads + Sync, G: Gate + Sync>(
     sweep_crew(rt, net, &mut crew, gate);
     let made = gather(net, &mut crew, &mut state);
     add_merged(&crew, keep, &mut log);
-    match finish(net, &mut state, made, limit, keep, &mut log) {
+    match finish_gathered(net, &mut state, made, limit, keep, &mut log) {
         Ended::Limit => Err(RunFault::Limit { limit }),
         Ended::Rest { made } => {
             judge(net, &state)?;
@@ -73,4 +74,28 @@ fn room_for(keep: bool, limit: u64) -> u64
     ensures { keep ≡ true → result ≡ limit }
 {
     if keep { limit } else { 0 }
+}
+
+/// Goes on to rest as `finish` does. Where no firing is enabled, as after workers that came to rest, it looks at each unit once.
+fn finish_gathered(
+    net: &Checked,
+    state: &mut State,
+    made: u64,
+    limit: u64,
+    keep: bool,
+    log: &mut Log<Firing>,
+) -> Ended
+    requires of { IsOf net.now state.old }
+    requires made { made ≤ limit }
+    requires limit { limit ≤ max_firings }
+    requires counts { CountsWithin (2 ^ 60) (state_of state.old) }
+    requires room { keep ≡ true → limit ≤ made + log.old.room }
+    ensures of { IsOf net.now state.new }
+    ensures finished { Finished net.now (state_of state.old) (state_of state.new) made limit
+        keep log.old log.new result }
+{
+    match state.find(net) {
+        None => Ended::Rest { made },
+        Some(_) => finish(net, state, made, limit, keep, log),
+    }
 }

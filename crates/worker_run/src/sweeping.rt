@@ -302,7 +302,7 @@ fn sweep_out<G: Gate>(worker: &mut Worker, tables: &Tables, gate: &G, leave: &At
 
 /// Sweeps one worker until the gate ends it, or its log is full; or until it leaves its thread: it was idle when another had
 /// told to leave, or idle so often in a row, or its sweeps do not pay for threads. It tells the others to leave where it was
-/// idle so often, after its exit less often, or does not pay.
+/// idle so often, after its exit less often, or does not pay, or its log is full.
 fn sweep_on<G: Gate>(worker: &mut Worker, tables: &Tables, gate: &G, leave: &AtomicCell<bool>)
     requires made { IsMadeOf tables.now worker.old }
     requires whole { IsWhole tables.now worker.old }
@@ -343,7 +343,10 @@ fn sweep_on<G: Gate>(worker: &mut Worker, tables: &Tables, gate: &G, leave: &Ato
                     pause(idle);
                 }
             }
-            Swept::Full => return,
+            Swept::Full => {
+                leave.store(true);
+                return;
+            }
         }
     }
 }

@@ -7,4 +7,4 @@ pub new-requires-clause-units : goal.new-requires-clause-units
 new-requires-clause-units c = subst (AreChannels (length c.args.tables.now.net.now.units)) (sym c.in_ok-units.ensures) (units_ascend c.args.tables.now c.args.number)
 
 pub new-requires-clause-chans : goal.new-requires-clause-chans
-new-requires-clause-chans c = subst (AreChannels (length c.args.tables.now.net.now.chans)) (sym c.in_ok-chans.ensures) (chans_ascend c.args.tables.now c.args.number)
+new-requires-clause-chans c = subst (AreChannels (length c.args.tables.now.net.now.chans)) (sym c.requires.chans) (chans_ascend c.args.tables.now c.args.number)

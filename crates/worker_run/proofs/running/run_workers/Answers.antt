@@ -24,8 +24,8 @@ add_merged-requires-clause-room g c keep =
     let logs = ap entries_of c.gather-made.ensures.logs in
     omega (arith, few, logs, c.in_ok-log.ensures.room, c.room_for.ensures keep)
 
-pub finish-requires-clause-made : goal.finish-requires-clause-made
-finish-requires-clause-made g c =
+pub finish_gathered-requires-clause-made : goal.finish_gathered-requires-clause-made
+finish_gathered-requires-clause-made g c =
     let few = swept_within _ _ _ _ _ _ _ _ c.requires.some c.in_ok-crew.ensures.crew c.in_ok-crew.ensures.made.0 c.sweep_crew.ensures.swept in
     let logs = ap entries_of c.gather-made.ensures.logs in
     omega (arith, few, logs, c.gather-made.ensures.all)
@@ -38,9 +38,9 @@ returns-in_err-judge-in-Rest-clause-fault g c =
     let gathered = state_of c.gather-made.new.into in
     let run : Run net inputs (merged_of x) gathered = subst (λ i. Run net i (merged_of x) gathered) (ap inputs_of c.sweep_crew.ensures.tables ∙ c.in_ok-crew.ensures.crew.inputs_are) c.gather-made.ensures.run in
     let f = c.in-Rest.ensures.finished in
-    let whole = leads_on net (opening net inputs) (merged_of x) f.firings gathered (state_of c.finish.new.state) run f.finishes.leads in
+    let whole = leads_on net (opening net inputs) (merged_of x) f.firings gathered (state_of c.finish_gathered.new.state) run f.finishes.leads in
     let within : length (merged_of x ++ f.firings) ≤ c.args.limit = omega (arith, length-append (merged_of x) f.firings, c.gather-made.ensures.count, f.finishes.ends.counted, f.finishes.ends.within) in
-    let judged = judged_fault net inputs c.args.limit (merged_of x ++ f.firings) (state_of c.finish.new.state) c.in_err-judge-in-Rest.field-0.0 whole within f.finishes.ends.rest c.in_err-judge-in-Rest.ensures in
+    let judged = judged_fault net inputs c.args.limit (merged_of x ++ f.firings) (state_of c.finish_gathered.new.state) c.in_err-judge-in-Rest.field-0.0 whole within f.finishes.ends.rest c.in_err-judge-in-Rest.ensures in
     err_by c.from_residual-in_err-judge-in-Rest.result _ (IsRunFault net inputs c.args.limit) c.from_residual-in_err-judge-in-Rest.ensures.1 (λ e p. subst (IsRunFault net inputs c.args.limit) (sym p) judged)
 
 pub returns-in-Limit-clause-fault : goal.returns-in-Limit-clause-fault
@@ -52,7 +52,7 @@ returns-in-Limit-clause-fault g c =
     let run : Run net inputs (merged_of x) gathered = subst (λ i. Run net i (merged_of x) gathered) (ap inputs_of c.sweep_crew.ensures.tables ∙ c.in_ok-crew.ensures.crew.inputs_are) c.gather-made.ensures.run in
     let f = c.in-Limit.ensures.finished in (
       refl,
-      longer net inputs c.args.limit c.gather-made.result (merged_of x) f.firings gathered (state_of c.finish.new.state) f.finishes.ends.next run f.finishes.leads f.finishes.ends.goes
+      longer net inputs c.args.limit c.gather-made.result (merged_of x) f.firings gathered (state_of c.finish_gathered.new.state) f.finishes.ends.next run f.finishes.leads f.finishes.ends.goes
           (sym c.gather-made.ensures.count) f.finishes.ends.reached,
     )
 
@@ -85,7 +85,7 @@ returns-clause-report g c =
       sound = c.in_ok-judge-in-Rest.ensures;
       firings_are = omega (arith, f.finishes.ends.counted, c.gather-made.ensures.count);
       within = f.finishes.ends.within;
-      kept = kept_log c.args.keep c.add_merged.new.log.items c.finish.new.log.items (merged_of x) f.firings c.add_merged.ensures.items f.logged.items;
+      kept = kept_log c.args.keep c.add_merged.new.log.items c.finish_gathered.new.log.items (merged_of x) f.firings c.add_merged.ensures.items f.logged.items;
       ended = λ opened j d l. (
           let in_y : j < length y = subst (λ n. j < n) (sym crew.count_is) l in
           subst (λ u. HasEnded u gathered (get_or x j d)) (sym kept)

@@ -18,10 +18,10 @@ returns-clause-made c =
       resting = refl;
       puts = c.in_ok-puts.ensures.items ∙ ap (λ k. replicate k None) n;
       takes = c.in_ok-takes.ensures.items ∙ ap (λ k. replicate k None) n;
-      outs = c.in_ok-outs.ensures.all;
-      outs_only = c.in_ok-outs.ensures.only;
-      ins = c.in_ok-ins.ensures.all;
-      ins_only = c.in_ok-ins.ensures.only;
+      outs = c.in_ok-outs.ensures.outs;
+      outs_only = c.in_ok-outs.ensures.outs_only;
+      ins = c.in_ok-outs.ensures.ins;
+      ins_only = c.in_ok-outs.ensures.ins_only;
     })
 
 pub returns-clause-puts : goal.returns-clause-puts
