@@ -79,18 +79,11 @@ def counted_loop(net):
     return (index, 1), (goes, 1)
 
 
-def spread(net, source, count, groups=16):
-    """Hands an output out to so many inputs through groups of forks, and gives the outputs, group by group."""
-    groups = min(groups, count)
-    top = net.unit(f"fork 32 {groups}")
-    net.chan(source, (top, 0))
-    outs = []
-    for group in range(groups):
-        here = count // groups + (group < count % groups)
-        fork = net.unit(f"fork 32 {here}")
-        net.chan((top, group), (fork, 0))
-        outs += [(fork, out) for out in range(here)]
-    return outs
+def fork(net, source, count):
+    """Hands an output out to so many inputs, and gives the outputs."""
+    unit = net.unit(f"fork 32 {count}")
+    net.chan(source, (unit, 0))
+    return [(unit, out) for out in range(count)]
 
 
 def chain(net, source, length):
@@ -102,20 +95,26 @@ def chain(net, source, length):
     return source
 
 
-def recurrences(count, length):
-    """So many values, each of which depends on itself alone by so many operations a turn, in one loop of n turns."""
+def recurrences(count, length, groups=16, apart=False):
+    """So many values, each of which depends on itself alone by so many operations a turn, in one loop of n turns. What each needs of
+    the loop comes through forks for groups of them. The forks of a group stand beside its values, or all stand apart, beside the loop."""
     net = Net()
     index, goes = counted_loop(net)
     first = net.unit("param 1")
-    indices, conditions, firsts = (spread(net, source, count) for source in (index, goes, (first, 0)))
-    for which in range(count):
-        mux, branch, sink = net.unit("mux 32 2"), net.unit("branch 32"), net.unit("sink 32")
-        net.chan(indices[which], (mux, 0))
-        net.chan(firsts[which], (mux, 1))
-        net.chan((mux, 0), (branch, 1))
-        net.chan(conditions[which], (branch, 0))
-        net.chan((branch, 1), (sink, 0))
-        net.chan(chain(net, (branch, 0), length), (mux, 2), 1)
+    groups = min(groups, count)
+    tops = [fork(net, source, groups) for source in (index, goes, (first, 0))]
+    sizes = [count // groups + (group < count % groups) for group in range(groups)]
+    forked = [[fork(net, outs[group], sizes[group]) for outs in tops] for group in range(groups)] if apart else []
+    for group in range(groups):
+        indices, conditions, firsts = forked[group] if apart else [fork(net, outs[group], sizes[group]) for outs in tops]
+        for which in range(sizes[group]):
+            mux, branch, sink = net.unit("mux 32 2"), net.unit("branch 32"), net.unit("sink 32")
+            net.chan(indices[which], (mux, 0))
+            net.chan(firsts[which], (mux, 1))
+            net.chan((mux, 0), (branch, 1))
+            net.chan(conditions[which], (branch, 0))
+            net.chan((branch, 1), (sink, 0))
+            net.chan(chain(net, (branch, 0), length), (mux, 2), 1)
     return net.text(["n", "c"])
 
 

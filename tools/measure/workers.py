@@ -1,6 +1,6 @@
 #!/usr/bin/env python3
-"""Times runs by cycles, by the plain runner and by workers: nets of 100 and of 1,000 recurrences of 100 operations each in one loop,
-chains of 10,000 and of 10^6 operations behind a loop, a kernel of 20 recurrences, 20 loops in a row, a histogram, `examples/matrix`, a
+"""Times runs by cycles, by the plain runner and by workers: nets of 100 and of 1,000 recurrences of 100 operations each in one loop
+(the second also with all forks beside the loop), chains of 10,000 and of 10^6 operations behind a loop, a kernel of 20 recurrences, 20 loops in a row, a histogram, `examples/matrix`, a
 loop over an array of 2^20 elements, and a net of 983,044 units. It tells how many channels go between two and between four workers, which
 share of the firings put a token on such a channel or took one from it, the seconds of a run by cycles, and how many times as long each other way takes, the least of some runs each; and the most memory of
 each. Then it counts, where valgrind is there, what sweeping and gathering cost. A run by the plain runner is `resume` of the state
@@ -126,8 +126,8 @@ def tell(elastic):
     """Prints the tables."""
     with tempfile.TemporaryDirectory() as name:
         folder = pathlib.Path(name)
-        for name, text, inputs in (("rec100", nets.recurrences(100, 100), "n = 1500\nc = 7\n"), ("rec1000", nets.recurrences(1_000, 100), "n = 150\nc = 7\n"),
-                                   ("chain", nets.pipeline(10_000), "n = 1500\n"), ("long", nets.pipeline(1_000_000), "n = 2\n")):
+        for name, text, inputs in (("rec100", nets.recurrences(100, 100), "n = 1400\nc = 7\n"), ("rec1000", nets.recurrences(1_000, 100), "n = 140\nc = 7\n"),
+                                   ("apart", nets.recurrences(1_000, 100, apart=True), "n = 140\nc = 7\n"), ("chain", nets.pipeline(10_000), "n = 1500\n"), ("long", nets.pipeline(1_000_000), "n = 2\n")):
             (folder / f"{name}.net").write_text(text)
             (folder / f"{name}.in").write_text(inputs)
         compiled(elastic, folder, "loops", loops())
@@ -145,6 +145,7 @@ def tell(elastic):
         print("| Net | Firings | Channels between 2, 4 | Share of firings | By cycles | Plain runner | 1 worker | 2 | 4 | 64 |\n|---|---|---|---|---|---|---|---|---|---|")
         put_row(elastic, folder, "rec100", "100 recurrences of 100 operations", (1, 2, 4, 64), 5)
         put_row(elastic, folder, "rec1000", "1,000 recurrences of 100 operations", (1, 2, 4, 64), 5)
+        put_row(elastic, folder, "apart", "the same, all forks beside the loop", (1, 2, 4, 64), 5)
         put_row(elastic, folder, "chain", "a chain of 10,000 operations", (1, 2, 4, 64), 5)
         put_row(elastic, folder, "loops", f"20 loops of {TURNS // 20:,} turns in a row", (1, 2, 4, 64), 5)
         put_row(elastic, folder, "hist", "a histogram of 1,024 turns", (1, 2, 4, 64), 5)
