@@ -8,6 +8,8 @@
   map.py meaning [CRATE]       the definition files of a crate, or of all, with what their head comments say
   map.py words                 words of specs/ that have two definitions: in a crate, or in it and one below it
   map.py like NAME             the files that name a variant, a field or another word, by crate, with how often
+  map.py groups [LINES]        how many groups of equations over kinds of units and acts there are, and their lines; each group
+                               from so many lines on
   map.py proofs CRATE          the proof files of a crate, with what their first line says
   map.py counted [--write]     numbers of README.md and docs/ that are counted here, and differ; --write puts them right
   map.py names                 backticked names of README.md and docs/ that stand nowhere in the repository
@@ -245,6 +247,39 @@ def like(name):
     print(f"{sum(map(len, found.values()))} files in {len(found)} crates or folders")
 
 
+def variants(name, file):
+    """The variants of an enum of net_types."""
+    text = (CRATES / "net_types" / "src" / file).read_text()
+    body = re.search(rf"^pub enum {name} {{\n(.*?)^}}", text, re.M | re.S).group(1)
+    return set(re.findall(r"^    (\w+)\b", body, re.M))
+
+
+def equation_groups():
+    """Each group of equations that go through kinds of units or acts: where it begins, its name, how many lines it has, and how many
+    of these have the right side that most of them have. A group has at least four equations, in each of which such a variant stands."""
+    known = variants("Unit", "net.rt") | variants("Act", "firing.rt")
+    one = re.compile(r"^(\s*)([^\s:()]+)((?: [^=\n]*)?) = (.*)$")
+    for file in tracked("antt"):
+        lines = file.read_text().splitlines()
+        rows = ((at, one.match(line)) for at, line in enumerate(lines, 1) if not re.match(r"\s*(let|where|in)\b", line))
+        rows = ((at, row) for at, row in rows if row and known & set(re.findall(r"\w+", row.group(3))))
+        for (_, name), group in itertools.groupby(rows, key=lambda pair: (pair[1].group(1), pair[1].group(2))):
+            group = list(group)
+            if len(group) >= 4:
+                rights = collections.Counter(row.group(4) for _, row in group)
+                yield file, group[0][0], name, len(group), rights.most_common(1)[0][1]
+
+
+def groups(least):
+    """Prints how many groups of equations over kinds and acts there are, and each that has at least so many lines."""
+    found = list(equation_groups())
+    for file, at, name, many, alike in sorted(found, key=lambda row: -row[3]):
+        if many >= least:
+            print(f"{many:4} {alike:4}  {file.relative_to(TOP)}:{at} {name}")
+    print(f"{len(found)} groups of equations over kinds and acts have {sum(row[3] for row in found):,} lines, "
+          f"{sum(row[4] for row in found):,} with the right side that is most common in their group")
+
+
 def proofs(crate):
     for file in sorted((CRATES / crate).glob("proofs/**/*.antt")):
         if file.name != "Lib.antt":
@@ -357,6 +392,11 @@ def counted_documents():
         row = r"\| `" + re.escape(source) + r"` \| (\d+), ([\d,]+) \| (\d+), ([\d,]+) \|"
         text = number_in(text, row, weight(source), theorem)
     yield theorem, text
+    changing = TOP / "docs" / "CHANGING.md"
+    found = list(equation_groups())
+    tally = [f"{number:,}" for number in (len(found), sum(row[3] for row in found), sum(row[4] for row in found))]
+    pattern = r"([\d,]+) groups of equations over kinds and acts have ([\d,]+) lines, ([\d,]+) of them"
+    yield changing, number_in(changing.read_text(), pattern, tally, changing)
     edits = [str(len(list(CRATES.glob("*/must-fail/*.edit"))))]
     yield tested, number_in(tested.read_text(), r"the gate tries the (\d+) of `must-fail/`", edits, tested)
 
@@ -386,6 +426,8 @@ if __name__ == "__main__":
         definitions(given[1:])
     elif len(given) == 2 and given[0] == "like":
         like(given[1])
+    elif given[:1] == ["groups"] and len(given) < 3 and all(word.isdigit() for word in given[1:]):
+        groups(int(given[1]) if len(given) == 2 else sys.maxsize)
     elif given == ["meaning"]:
         meaning(dependencies())
     elif len(given) == 2 and given[0] == "meaning" and (CRATES / given[1]).is_dir():

@@ -1,41 +1,35 @@
 -- A run of a kernel's circuit shows exactly the results that the plain interpreter shows.
-use Rattle.std.proofs.Common.{◌≡◌, ℕ, ◌^◌, ◌<◌, List, [], ◌∷◌, ◌++◌, length, map, refl, sym, ap, ◌∙◌, subst}
-use Rattle.std.specs.Prelude.{All, codes, Ok}
-use Rattle.std.specs.List.{AllZip}
-use Rattle.std.proofs.lemmas.List.Elements.{All-head, All-tail}
+use Rattle.std.proofs.Common.{◌≡◌, ℕ, ◌^◌, ◌<◌, List, ◌++◌, length, map, sym, ap, ◌∙◌, subst}
+use Rattle.std.specs.Prelude.{codes, Ok}
 use Rattle.el_base.specs.declared.ty.Ty.{Ty}
 use Rattle.el_base.specs.Numbers.{number, pattern}
 use Rattle.el_base.specs.Widths.{ty_width}
 use Rattle.c_ast.specs.declared.typed.Typed.{Typed}
-use Rattle.c_ast.specs.declared.typed.ArrayOf.{ArrayOf}
 use Rattle.c_meaning.specs.declared.profile.Profile.{Profile}
 use Rattle.c_meaning.specs.declared.profile.Profile.TheVariants.{Plain}
 use Rattle.c_meaning.specs.Headers.{flat}
-use Rattle.c_meaning.specs.KernelPatterns.{scalar_patterns, array_patterns, result_pattern}
+use Rattle.c_meaning.specs.KernelPatterns.{result_pattern}
 use Rattle.c_meaning.specs.Lawful.{Lawful}
 use Rattle.c_meaning.specs.Ranges.{ResultsFit}
-use Rattle.c_meaning.specs.Stores.{scalar_types}
 use Rattle.net_types.specs.declared.net.Net.{Net}
-use Rattle.net_types.specs.declared.firing.Inputs.{Inputs}
-use Rattle.net_types.specs.Inputs.{IsPatternOf, AreElementsOf}
 use Rattle.net_core.specs.Runs.{Run}
 use Rattle.inputs_text.specs.Results.{array_lines, return_line}
 use Rattle.inputs_text.specs.Texts.{IsOfOneInputs}
-use Rattle.ref_interp.specs.Cells.{array_numbers}
-use Rattle.ref_interp.specs.Outcomes.{InputsFit, scalar_numbers, input_numbers}
-use Rattle.ref_interp.proofs.Headers.{StandInRange, scalars_fit, inputs_fit}
+use Rattle.ref_interp.specs.Outcomes.{input_numbers}
+use Rattle.ref_interp.proofs.Headers.{StandInRange}
 use Rattle.kernel_front.specs.declared.reading.Kernel.{Kernel}
 use Rattle.kernel_front.specs.Answers.{HasOneAnswer}
 use Rattle.kernel_compile.specs.Goods.{Good, GoodNetsCompute, HoldsEnd, input_patterns}
 use Rattle.kernel_ref.specs.declared.options.InterpretOptions.{InterpretOptions}
 use Rattle.kernel_ref.specs.Answers.{Interprets}
-use Rattle.kernel_ref.specs.Texts.{On, Gives}
+use Rattle.kernel_ref.specs.Texts.{On}
 use Rattle.kernel_ref.specs.Results.{EndsWith}
 use Rattle.net_runs.specs.declared.options.RunOptions.{RunOptions}
 use Rattle.net_runs.specs.Given.{Bytes}
 use Rattle.net_runs.specs.Results.{count_line, cycles_line, log_lines}
 use Rattle.net_runs.specs.Runs.{Runs}
 use Rattle.kernel_runs.specs.Goes.{GivesNumbers, Goes}
+use Rattle.kernel_runs.proofs.InterpretedLemmas.{given_numbers}
 use Rattle.kernel_runs.proofs.RefusedLemmas.{one_kernel}
 use Rattle.kernel_runs.proofs.RightLemmas.{same_inputs, text_is}
 use Rattle.command_words.specs.declared.verb.Verb.TheVariants.{Go, Ref}
@@ -44,43 +38,7 @@ use Rattle.elastic_top.specs.Options.{circuit_of, interpretation_of, options_of}
 use Rattle.elastic_top.specs.Printed.{RefAndGoShowOneEnd}
 use Rattle.elastic_top.proofs.OneAnswerLemmas.{by_verb}
 
--- ---- inputs are the patterns of the numbers that they stand for
-
 module _ (again : (t : Ty) (p : ℕ) → p < 2 ^ ty_width t → pattern t (number t p) ≡ p) where
-  scalars_back : (ts : List Ty) (vs : List ℕ) → AllZip IsPatternOf ts vs → scalar_patterns ts (scalar_numbers ts vs) ≡ vs
-  scalars_back [] [] h = refl
-  scalars_back [] (v ∷ vs) h = absurd h
-  scalars_back (t ∷ ts) [] h = absurd h
-  scalars_back (t ∷ ts) (v ∷ vs) h =
-      let a = again t v h.0 in
-      let b = scalars_back ts vs h.1 in
-      λ i. a i ∷ b i
-
-  elements_back : (t : Ty) (ps : List ℕ) → All (IsPatternOf t) ps → map (pattern t) (map (number t) ps) ≡ ps
-  elements_back t [] h = refl
-  elements_back t (p ∷ ps) h =
-      let a = again t p (All-head (IsPatternOf t) p ps h) in
-      let b = elements_back t ps (All-tail (IsPatternOf t) p ps h) in
-      λ i. a i ∷ b i
-
-  arrays_back : (xs : List ArrayOf) (pss : List (List ℕ)) → AllZip AreElementsOf (map flat xs) pss → array_patterns xs (array_numbers xs pss) ≡ pss
-  arrays_back [] [] h = refl
-  arrays_back [] (ps ∷ pss) h = absurd h
-  arrays_back (x ∷ xs) [] h = absurd h
-  arrays_back (x ∷ xs) (ps ∷ pss) h =
-      let a = elements_back x.ty ps h.0.patterns in
-      let b = arrays_back xs pss h.1 in
-      λ i. a i ∷ b i
-
-  inputs_back : (k : Typed) (i : Inputs) → InputsFit k i → input_patterns k (input_numbers k i) ≡ i
-  inputs_back k i fit =
-      let a = scalars_back (scalar_types k.params) i.scalars (scalars_fit k i fit) in
-      let b = arrays_back k.arrays i.arrays fit.arrays in
-      λ j. record { scalars = a j; arrays = b j }
-
-  given_numbers : StandInRange → (k : Typed) (bytes : Bytes) (i : Inputs) → Gives k bytes i → InputsFit k i → GivesNumbers k bytes (input_numbers k i)
-  given_numbers stand k bytes i given fit = record { fitting = inputs_fit k i stand fit; given = subst (Gives k bytes) (sym (inputs_back k i fit)) given }
-
   -- ---- the results
 
   module _ (stand : StandInRange) (one : IsOfOneInputs) (computing : GoodNetsCompute) (fits : ResultsFit) where
@@ -90,7 +48,7 @@ module _ (again : (t : Ty) (p : ℕ) → p < 2 ^ ty_width t → pattern t (numbe
         let e = on.holds in
         let so = e.ends in
         let z = input_numbers k on.inputs in
-        let g : GivesNumbers k bytes z = given_numbers stand k bytes on.inputs on.given on.fit in
+        let g : GivesNumbers k bytes z = given_numbers again stand k bytes on.inputs on.given on.fit in
         let run_is : Run net (input_patterns k z) runs.holds.firings runs.holds.state
         = subst (λ j. Run net j runs.holds.firings runs.holds.state) (same_inputs k net (good Plain).header one bytes z runs.inputs g runs.given) runs.holds.one.run.run in
         let holds : HoldsEnd net k so.out so.r runs.holds.state

@@ -14,7 +14,7 @@ use net_check::Checked;
 use net_core::State;
 use net_replay::print_schedule;
 use net_types::{Firing, Inputs};
-use net_worker::{Entry, Swept};
+use net_worker::{Entries, Entry, Swept};
 use row_fields::{Output, escaped};
 use std::alloc::Global;
 use worker_run::{Crew, gather, merged_log, workers};
@@ -115,7 +115,7 @@ fn put_swept(
     alloc: Global,
     number: u32,
     swept: Swept,
-    log: &[Entry],
+    log: Entries,
     out: &mut Output,
 ) -> Result<()> {
     out.number(number);
@@ -129,14 +129,14 @@ fn put_swept(
 }
 
 /// Writes an entry of a log behind a space: its firing and its stamp.
-fn put_entry(alloc: Global, entry: &Entry, out: &mut Output) -> Result<()> {
-    let Ok(text) = print_schedule(alloc, &[entry.firing()]) else {
+fn put_entry(alloc: Global, entry: Entry, out: &mut Output) -> Result<()> {
+    let Ok(text) = print_schedule(alloc, &[entry.firing]) else {
         bail!("want of memory");
     };
     out.word(" ");
     out.bytes(text.as_slice().trim_ascii_end());
     out.word("@");
-    out.number(entry.stamp());
+    out.number(entry.stamp);
     Ok(())
 }
 

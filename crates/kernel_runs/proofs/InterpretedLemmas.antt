@@ -66,7 +66,7 @@ module _ (again : (t : Ty) (p : ℕ) → p < 2 ^ ty_width t → pattern t (numbe
   -- ---- the results
 
   module _ (stand : StandInRange) where
-    given_numbers : (k : Typed) (bytes : Bytes) (i : Inputs) → Gives k bytes i → InputsFit k i → GivesNumbers k bytes (input_numbers k i)
+    pub given_numbers : (k : Typed) (bytes : Bytes) (i : Inputs) → Gives k bytes i → InputsFit k i → GivesNumbers k bytes (input_numbers k i)
     given_numbers k bytes i given fit = record { fitting = inputs_fit k i stand fit; given = subst (Gives k bytes) (sym (inputs_back k i fit)) given }
 
     begins : (k : Typed) (bytes text : Bytes) (made : ℕ) (o : InterpretOptions) (told : Bytes) → IsRight k bytes text made → (on : On k bytes (EndsWith o told k)) → IsFront on.holds.results text

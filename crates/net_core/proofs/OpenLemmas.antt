@@ -20,6 +20,7 @@ use Rattle.net_core.specs.declared.state.State.{State as Stored}
 use Rattle.net_core.specs.declared.opening.Home.{Home}
 use Rattle.net_core.specs.declared.opening.Home.TheVariants as home
 use Rattle.net_core.specs.Fire.{idle, opened, at_array}
+use Rattle.net_core.specs.Held.{Held}
 use Rattle.net_core.specs.Plans.{own_of, keeps, IsShaped}
 use Rattle.net_core.specs.Runs.{opening}
 use Rattle.net_core.specs.States.{state_of, arrays_of, array_in, queue_array, cell_at, home_at, own_at, CountsWithin, IsOf}
@@ -233,6 +234,20 @@ module _ (net : Net) (inputs : Inputs) (s : Stored) (owners : List (Option ℕ))
       λ i. record { scalars = sc i; tokens = tok i; own = o i; arrays = a i; strays = z i }
 
 -- nothing is counted yet
+-- channels without tokens, by the slots of the channels
+pub no_tokens : (cs : List Chan) → ◌≡◌ {A = List (List ℕ)} (map (λ (n : ℕ). []) (map (λ (c : Chan). c.slots) cs)) (map (λ (c : Chan). []) cs)
+no_tokens [] = refl
+no_tokens (c ∷ cs) = ap (λ (xss : List (List ℕ)). [] ∷ xss) (no_tokens cs)
+
+-- channels that have no token, by what each of them has
+pub same_held : (h : Held) (cs : List Chan) → h.tokens ≡ map (λ (c : Chan). []) cs → h.slots ≡ map (λ (c : Chan). c.slots) cs → h.dates ≡ map (λ (c : Chan). []) cs
+    → record { tokens = map (λ n. []) (map (λ (c : Chan). c.slots) cs); slots = map (λ (c : Chan). c.slots) cs; dates = map (λ n. []) (map (λ (c : Chan). c.slots) cs) } ≡ h
+same_held h cs tokens slots dates =
+    let t = no_tokens cs ∙ sym tokens in
+    let s = sym slots in
+    let d = no_tokens cs ∙ sym dates in
+    λ i. record { tokens = t i; slots = s i; dates = d i }
+
 pub opening_counts : (net : Net) (inputs : Inputs) → CountsWithin 0 (opening net inputs)
 opening_counts net inputs = record { serials = serials; strays = zero_at inputs.arrays }
   where

@@ -49,6 +49,14 @@ dates_of s = s.tokens.dates
 abbrev pub with_tokens : List (List ℕ) → State → State
 with_tokens xss s = record s { tokens = xss }
 
+-- the slots of the channels of a net
+abbrev pub slots_in : Net → List ℕ
+slots_in net = map (λ (c : Chan). c.slots) net.chans
+
+-- the state with channels of so many slots, on which there is no token
+abbrev pub with_slots : List ℕ → Stored → Stored
+with_slots ns s = record s { tokens = record { tokens = map (λ n. []) ns; slots = ns; dates = map (λ n. []) ns } }
+
 -- the cells of the units, where the arrays lie, and the number of the exit
 abbrev pub cells_of : Stored → List Cell
 cells_of s = s.cells.items

@@ -14,7 +14,7 @@ ghost use Rattle.net_core.specs.Held.{dated_laid, laid_on, put_at_end, take_at, 
 ghost use Rattle.net_core.specs.Parts.{IsByUnit, Stands, state_from};
 ghost use Rattle.net_core.specs.Plans.{apart, admits, chans_of, moves_of};
 ghost use Rattle.net_core.specs.Runs.{HasExited, opening};
-ghost use Rattle.net_core.specs.States.{CountsRise, CountsWithin, IsOf, IsPlanOf, IsQueueAt, TookAtExit, after_where, array_in, arrays_of, cell_at, dates_of, elements_at, exit_at, home_at, homes_of, queue_array, state_of, strays_at, with_tokens};
+ghost use Rattle.net_core.specs.States.{CountsRise, CountsWithin, IsOf, IsPlanOf, IsQueueAt, TookAtExit, after_where, array_in, arrays_of, cell_at, dates_of, elements_at, exit_at, home_at, homes_of, queue_array, slots_in, state_of, strays_at, with_slots, with_tokens};
 
 use crate::cell::{Cell, UnitQueue};
 use crate::opening::{Home, exit_of, fresh_cells, homes, owners};
@@ -103,9 +103,25 @@ impl State {
         ensures dates { IfOk result
             (λ s. dates_of s ≡ map (λ (c : ChanValue). []) net.now.chans) }
     {
+        let mut state = State::without_channels(alloc, net, inputs)?;
+        state.tokens = Tokens::new(alloc, net.net().chans.as_slice())?;
+        Ok(state)
+    }
+
+    /// What the opening state of a net on inputs has beside its channels: it has none. No firing is to be made in it.
+    ///
+    /// # Errors
+    ///
+    /// [`Memory`] where memory is wanting.
+    pub fn without_channels(alloc: Global, net: &Checked, inputs: &Inputs) -> Result<State, Memory>
+        requires { InputsFit net.now inputs.now }
+        ensures of { IfOk result (λ s. IsOf net.now (with_slots (slots_in net.now) s)) }
+        ensures state { IfOk result
+            (λ s. state_of (with_slots (slots_in net.now) s) ≡ opening net.now inputs.now) }
+    {
         let units = net.net().units.as_slice();
         let arrays = inputs.arrays.as_slice();
-        let tokens = Tokens::new(alloc, net.net().chans.as_slice())?;
+        let tokens = Tokens::new(alloc, &[])?;
         let cells = fresh_cells(alloc, units, arrays)?;
         let owners = owners(alloc, units, arrays.len())?;
         let homes = homes(alloc, owners.as_slice(), arrays)?;

@@ -13,7 +13,7 @@ use Rattle.net_replay.specs.Finishes.{Finished, IsLogged}
 use Rattle.net_replay.specs.private.Advances.{Advances, MayAdvance}
 use Rattle.net_replay.proofs.PathLemmas.{leads_on, counts_less, counts_more}
 
-logged_none : (keep : Bool) (log : Logged Firing) → IsLogged keep [] log log
+pub logged_none : (keep : Bool) (log : Logged Firing) → IsLogged keep [] log log
 logged_none true log = record { items = sym (append-nil log.items); room = omega arith }
 logged_none false log = record { items = sym (append-nil log.items); room = omega arith }
 

@@ -7,7 +7,7 @@ use Rattle.std.proofs.lemmas.List.Kept.{AllPairs-cons}
 use Rattle.net_types.specs.declared.firing.Firing.{Firing}
 use Rattle.net_worker.specs.Merged.{Head, earlier, earliest, go_on, merged_in, entries_of, RisesFrom}
 use Rattle.net_worker.specs.Ascending.{LoggedEntry, entries_by, IsNotAfter, IsInOrder, MergedAscends}
-use Rattle.net_worker.specs.declared.entry.Entry.{Entry}
+use Rattle.firing_log.specs.declared.entry.Entry.{Entry}
 use Rattle.net_worker.proofs.Logs.{earliest_none, earliest_is, entries_set, none_left, rises_later}
 
 abbrev of : ℕ → Entry → LoggedEntry

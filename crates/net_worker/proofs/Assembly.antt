@@ -33,7 +33,7 @@ use Rattle.net_worker.specs.Fires.{TakeStep, IsFired}
 use Rattle.net_worker.specs.Going.{base_of}
 use Rattle.net_worker.specs.Offers.{held_stamp, greatest_in, RoomAt, RoomFor, IsOffered}
 use Rattle.net_worker.specs.Workers.{owner_in, IsMadeOf, IsWhole, put_end, take_end, held_by, handed_by, repaid_by}
-use Rattle.net_worker.specs.declared.entry.Entry.{Entry}
+use Rattle.firing_log.specs.declared.entry.Entry.{Entry}
 use Rattle.net_worker.specs.declared.tables.Tables.{Tables}
 use Rattle.net_worker.specs.Portions.{SameHere}
 use Rattle.net_worker.specs.declared.worker.Worker.{Worker}

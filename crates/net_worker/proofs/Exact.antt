@@ -19,7 +19,7 @@ use Rattle.net_worker.specs.Steps.{last_stamp, IsFuller, FromOthers}
 use Rattle.net_worker.specs.Offers.{ToldAt}
 use Rattle.net_worker.specs.Sweeps.{greatest, stamp_or_0, ToldBy, AreExact, SweptExactly}
 use Rattle.net_worker.specs.Workers.{owner_in, IsMadeOf, SamePut, SameWorker, put_end, take_end, handed_by, received_by}
-use Rattle.net_worker.specs.declared.entry.Entry.{Entry}
+use Rattle.firing_log.specs.declared.entry.Entry.{Entry}
 use Rattle.net_worker.specs.declared.tables.Tables.{Tables}
 use Rattle.net_worker.specs.declared.worker.Worker.{Worker}
 use Rattle.net_worker.proofs.Asking.{prefix_trans}

@@ -18,7 +18,7 @@ use Rattle.net_core.specs.Plans.{own_of}
 use Rattle.net_core.specs.States.{IsOf, state_of}
 use Rattle.net_core.proofs.EffectLemmas.{EachEffect, each_effect, each_go, each_when}
 use Rattle.net_worker.specs.Workers.{HasExitAmong}
-use Rattle.net_worker.specs.declared.entry.Entry.{Entry}
+use Rattle.firing_log.specs.declared.entry.Entry.{Entry}
 
 -- ---- lists
 

@@ -27,7 +27,7 @@ use Rattle.net_worker.specs.Locally.{token_put, Repays, OneFiring}
 use Rattle.net_worker.specs.Steps.{last_stamp}
 use Rattle.net_worker.specs.Fires.{PutStep, TakesIf, TakeStep, IsFired, MadeFires}
 use Rattle.net_worker.specs.Workers.{owner_in, IsInto, IsOutOf, IsWhole, HasExitAmong, IsMadeOf, Sees, shown, take_end, put_end, held_by, handed_by, put_by, received_by, repaid_by}
-use Rattle.net_worker.specs.declared.entry.Entry.{Entry}
+use Rattle.firing_log.specs.declared.entry.Entry.{Entry}
 use Rattle.net_worker.specs.declared.tables.Tables.{Tables}
 use Rattle.net_worker.specs.declared.worker.Worker.{Worker}
 use Rattle.net_worker.proofs.Moves.{tokens_after, stamps_after, not_put_there}

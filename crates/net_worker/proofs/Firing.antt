@@ -21,7 +21,7 @@ use Rattle.net_worker.specs.Going.{IsLater, GoesOn}
 use Rattle.net_worker.specs.Offers.{held_stamp, greatest_in}
 use Rattle.net_worker.specs.Sweeps.{greatest, stamp_or_0, SweptExactly}
 use Rattle.net_worker.specs.Workers.{owner_in, IsMadeOf, IsInto, SameWorker, put_end, take_end, handed_by, held_by}
-use Rattle.net_worker.specs.declared.entry.Entry.{Entry}
+use Rattle.firing_log.specs.declared.entry.Entry.{Entry}
 use Rattle.net_worker.specs.declared.tables.Tables.{Tables}
 use Rattle.net_worker.specs.declared.worker.Worker.{Worker}
 use Rattle.net_worker.proofs.Exact.{exact_on, exact_snoc, plays_rest, last_more, told_since, swept_self, swept_looked}

@@ -1,6 +1,5 @@
 pub mod PutOver
 pub mod EndPlaces
-pub mod Entries
 pub mod Lists
 pub mod Crossings
 pub mod ForkKinds

@@ -14,7 +14,7 @@ use Rattle.net_core.specs.Uses.{used}
 use Rattle.net_worker.specs.Plays.{putter, taker}
 use Rattle.net_worker.specs.Merge.{AllFrom, Merges, ends, next, Alike}
 use Rattle.net_worker.specs.Merged.{Head, earlier, head_of, earliest, go_on, merged_in, entries_of, merged, RisesFrom, MergedMerges, RestIsShared}
-use Rattle.net_worker.specs.declared.entry.Entry.{Entry}
+use Rattle.firing_log.specs.declared.entry.Entry.{Entry}
 use Rattle.net_worker.proofs.Steps.{same_effect}
 
 -- ---- the earliest head

@@ -24,7 +24,7 @@ use Rattle.net_worker.specs.Local.{stamps_of, fed_opening}
 use Rattle.net_worker.specs.Steps.{last_stamp}
 use Rattle.net_worker.specs.Mays.{IsEarlyAt, MayBeMade, WorkerMay}
 use Rattle.net_worker.specs.Workers.{owner_in, IsMadeOf, take_end, held_by, shown}
-use Rattle.net_worker.specs.declared.entry.Entry.{Entry}
+use Rattle.firing_log.specs.declared.entry.Entry.{Entry}
 use Rattle.net_worker.specs.declared.tables.Tables.{Tables}
 use Rattle.net_worker.specs.declared.worker.Worker.{Worker}
 use Rattle.net_worker.proofs.Moves.{stamps_after}

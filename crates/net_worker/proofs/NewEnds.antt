@@ -15,7 +15,7 @@ use Rattle.net_core.specs.States.{IsOf, CountsWithin, state_of}
 use Rattle.net_worker.specs.Local.{values, stamps_of, Shown, IsLocal}
 use Rattle.net_worker.specs.Steps.{last_stamp}
 use Rattle.net_worker.specs.Workers.{owner_in, IsMadeOf, IsInto, IsOutOf, Sees, shown, put_end, take_end, held_by, handed_by, put_by, received_by, repaid_by}
-use Rattle.net_worker.specs.declared.entry.Entry.{Entry}
+use Rattle.firing_log.specs.declared.entry.Entry.{Entry}
 use Rattle.net_worker.specs.declared.tables.Tables.{Tables}
 use Rattle.net_worker.specs.declared.worker.Worker.{Worker}
 use Rattle.net_worker.proofs.Exits.{exit_kept}

@@ -12,7 +12,7 @@ use Rattle.net_worker.specs.Plays.{Plays, take_stamps}
 use Rattle.net_worker.specs.Local.{values, stamps_of, StandFor, HadRoom, IsLocal, fed_opening}
 use Rattle.net_worker.specs.Steps.{last_stamp}
 use Rattle.net_worker.specs.Workers.{owner_in, HoldsOwn, IsMadeOf, IsInto, IsOutOf, Sees, shown, put_end, take_end, held_by, handed_by, put_by, received_by, repaid_by}
-use Rattle.net_worker.specs.declared.entry.Entry.{Entry}
+use Rattle.firing_log.specs.declared.entry.Entry.{Entry}
 use Rattle.net_worker.specs.declared.tables.Tables.{Tables}
 use Rattle.net_worker.specs.declared.worker.Worker.{Worker}
 use Rattle.net_core.proofs.RegularLemmas.{opening_tokens}

@@ -17,7 +17,7 @@ use Rattle.net_core.proofs.UsesLemmas.{rows_use_only}
 use Rattle.net_worker.specs.Stamped.{Stamped, stamps_at, stamped, after_by, after_at}
 use Rattle.net_worker.specs.Plays.{putter, taker, HasRoomIn, MayIn, Plays, takes_by, take_stamps}
 use Rattle.net_worker.specs.Merge.{AllFrom, count_below, IsPaired, Measures, Alike}
-use Rattle.net_worker.specs.declared.entry.Entry.{Entry}
+use Rattle.firing_log.specs.declared.entry.Entry.{Entry}
 use Rattle.net_worker.proofs.Lists.{first_inv, prefix_refl, prefix_place}
 use Rattle.net_worker.proofs.Moves.{set_alike, changed_past, tokens_after, not_taken_there, not_put_there, stamps_after, same_lengths}
 

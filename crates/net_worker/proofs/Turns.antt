@@ -29,7 +29,7 @@ pub made_none : (t : Tables) (a b : Worker) → IsMadeOf t a → IsAsked a b →
 made_none t a b m h = record {
   made = asked_made t a b m h;
   later = goes_asked t a b m h;
-  added = (let e = ap (λ (l : Rattle.el_base.specs.Logs.Logged Rattle.net_worker.specs.declared.entry.Entry.Entry). length l.items) h.log in omega arith);
+  added = (let e = ap (λ (l : Rattle.el_base.specs.Logs.Logged Rattle.firing_log.specs.declared.entry.Entry.Entry). length l.items) h.log in omega arith);
   none = λ _. h;
 }
 
@@ -41,7 +41,7 @@ made_one t a m b f own o h =
       made = asked_made t m b k h;
       later = λ z l. goes_asked t m b k h z (goes_fired t a m f own.made o z l);
       added =
-          (let e = ap (λ (l : Rattle.el_base.specs.Logs.Logged Rattle.net_worker.specs.declared.entry.Entry.Entry). length l.items) h.log in
+          (let e = ap (λ (l : Rattle.el_base.specs.Logs.Logged Rattle.firing_log.specs.declared.entry.Entry.Entry). length l.items) h.log in
           let g : length m.log.items ≡ length a.log.items + 1 = ap length o.fired.items ∙ length-append a.log.items ((record { stamp = o.stamp; firing = f }) ∷ []) in
           omega arith);
       none = λ q. absurd (omega arith);
@@ -53,7 +53,7 @@ made_looked t a m w b f own o h l k = record {
   made = k;
   later = goes_again t a m w b f l k own.made own.whole o h;
   added = (let s : length w.log.items ≡ length a.log.items + 1 = (made_one t a m w f own o h).added in
-      let e = ap (λ (l : Rattle.el_base.specs.Logs.Logged Rattle.net_worker.specs.declared.entry.Entry.Entry). length l.items) l.log in
+      let e = ap (λ (l : Rattle.el_base.specs.Logs.Logged Rattle.firing_log.specs.declared.entry.Entry.Entry). length l.items) l.log in
       omega arith);
   none = λ q. absurd (omega arith);
 }

@@ -2,7 +2,7 @@
 use Rattle.std.specs.Prelude.{◌≡◌, ℕ, ◌≤◌, ◌==◌, List, [], get_or, map}
 use Rattle.std.specs.List.{AllPairs, filter}
 use Rattle.net_worker.specs.Merged.{merged, RisesFrom}
-use Rattle.net_worker.specs.declared.entry.Entry.{Entry}
+use Rattle.firing_log.specs.declared.entry.Entry.{Entry}
 
 -- an entry, with the number of the worker in whose log it is
 pub record LoggedEntry : Type 0 where

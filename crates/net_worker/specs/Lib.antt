@@ -1,5 +1,3 @@
-pub mod StampedFirings
-pub mod Families
 pub mod Stamped
 pub mod Plays
 pub mod Merge

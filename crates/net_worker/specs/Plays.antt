@@ -8,7 +8,7 @@ use Rattle.net_core.specs.declared.plan.Put.{Put}
 use Rattle.net_core.specs.Fire.{State, Effect, effect, first, tokens_at, takes_from}
 use Rattle.net_core.specs.Uses.{used}
 use Rattle.net_worker.specs.Stamped.{Stamped, stamps_at, after_at}
-use Rattle.net_worker.specs.declared.entry.Entry.{Entry}
+use Rattle.firing_log.specs.declared.entry.Entry.{Entry}
 
 -- the workers at both ends of a channel
 abbrev pub putter : Net → (ℕ → ℕ) → ℕ → ℕ

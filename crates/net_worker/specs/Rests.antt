@@ -2,7 +2,7 @@
 use Rattle.std.specs.Prelude.{◌≡◌}
 use Rattle.net_worker.specs.Sweeps.{SweptAs}
 use Rattle.net_worker.specs.Workers.{IsMadeOf, HasRested}
-use Rattle.net_worker.specs.declared.entry.Swept.TheVariants as swept
+use Rattle.net_worker.specs.declared.swept.Swept.TheVariants as swept
 use Rattle.net_worker.specs.declared.tables.Tables.{Tables}
 use Rattle.net_worker.specs.declared.worker.Worker.{Worker}
 

@@ -15,9 +15,9 @@ use Rattle.net_worker.specs.Local.{fed_opening}
 use Rattle.net_worker.specs.Workers.{owner_in, IsOutOf, IsInto, put_end, take_end, handed_by, IsFull, HasLoggedExit}
 use Rattle.net_worker.specs.declared.tables.Tables.{Tables}
 use Rattle.net_worker.specs.declared.worker.Worker.{Worker}
-use Rattle.net_worker.specs.declared.entry.Entry.{Entry}
-use Rattle.net_worker.specs.declared.entry.Swept.{Swept}
-use Rattle.net_worker.specs.declared.entry.Swept.TheVariants as swept
+use Rattle.firing_log.specs.declared.entry.Entry.{Entry}
+use Rattle.net_worker.specs.declared.swept.Swept.{Swept}
+use Rattle.net_worker.specs.declared.swept.Swept.TheVariants as swept
 
 -- ---- stamps
 

@@ -8,7 +8,7 @@ use Rattle.net_core.specs.Fire.{State}
 use Rattle.net_core.specs.States.{state_of}
 use Rattle.net_worker.specs.declared.tables.Tables.{Tables}
 use Rattle.net_worker.specs.declared.worker.Worker.{Worker}
-use Rattle.net_worker.specs.declared.entry.Entry.{Entry}
+use Rattle.firing_log.specs.declared.entry.Entry.{Entry}
 
 -- ---- tables
 

@@ -24,7 +24,7 @@ use Rattle.net_worker.specs.Local.{values, stamps_of, Shown, IsLocal}
 use Rattle.net_worker.specs.Merged.{IsRested}
 use Rattle.net_worker.specs.Portions.{PortionView, IsUnitHere, IsOutHere, IsInHere}
 use Rattle.net_worker.specs.Steps.{last_stamp}
-use Rattle.net_worker.specs.declared.entry.Entry.{Entry}
+use Rattle.firing_log.specs.declared.entry.Entry.{Entry}
 use Rattle.net_worker.specs.declared.tables.Tables.{Tables}
 use Rattle.net_worker.specs.declared.worker.Worker.{Worker}
 

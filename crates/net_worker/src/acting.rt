@@ -6,7 +6,6 @@ ghost use Rattle.net_worker.specs.Inside.{IsInnerUnit};
 ghost use Rattle.net_worker.specs.Views.{net_of, number_of, log_room, owner_in};
 ghost use Rattle.net_worker.specs.Workers.{IsMadeOf, IsWhole};
 
-use crate::entry::Entry;
 use crate::parts::{above, hand_over, offer, offer_inside, take_all, used_places};
 use crate::tables::Tables;
 use crate::waking::wake;
@@ -53,7 +52,7 @@ impl Worker {
         take_all(&mut self.takes, net, unit, plan.takes, stamp);
         self.clock = stamp;
         self.resting = false;
-        self.log.add(Entry::new(stamp, firing));
+        self.log.add(stamp, firing);
         Some(plan)
     }
 
@@ -74,7 +73,7 @@ impl Worker {
         self.portion.make(net, firing, plan);
         self.clock = stamp;
         self.resting = false;
-        self.log.add(Entry::new(stamp, firing));
+        self.log.add(stamp, firing);
         Some(plan)
     }
 

@@ -13,7 +13,6 @@ ghost use Rattle.net_worker.specs.Turns.{HasUnit, HasMade};
 ghost use Rattle.net_worker.specs.Views.{net_of};
 
 use crate::crossing_parts::{Offered, above_on, hand_over_on, offer_on, take_moves, used_on};
-use crate::entry::Entry;
 use crate::skips::input_of;
 use crate::tables::Tables;
 use crate::waking::wake_crossing;
@@ -63,7 +62,7 @@ impl Worker {
         take_moves(&mut self.takes, tables, moves.taken, stamp);
         self.clock = stamp;
         self.resting = false;
-        self.log.add(Entry::new(stamp, firing));
+        self.log.add(stamp, firing);
         true
     }
 

@@ -14,7 +14,6 @@ ghost use Rattle.net_worker.specs.MovesHere.{IsLaidHere};
 ghost use Rattle.net_worker.specs.Turns.{HasUnit, HasMade, HasRoomToLay};
 ghost use Rattle.net_worker.specs.Views.{net_of, owner_in};
 
-use crate::entry::Entry;
 use crate::portion::Portion;
 use crate::skips::input_of;
 use crate::tables::Tables;
@@ -63,7 +62,7 @@ impl Worker {
         self.portion.make_moves(net, firing, plan, moves);
         self.clock = stamp;
         self.resting = false;
-        self.log.add(Entry::new(stamp, firing));
+        self.log.add(stamp, firing);
         true
     }
 

@@ -18,7 +18,7 @@ use crate::ready::Ready;
 use crate::spans::Span;
 use crate::tables::Tables;
 use crate::worker::Worker;
-use el_base::Log;
+use firing_log::FiringLog;
 use net_types::Memory;
 use std::alloc::Global;
 
@@ -39,7 +39,7 @@ impl Worker {
     {
         let chans = tables.net.net().chans.len();
         let Around { outs, ins, all } = channels_around(alloc, tables, number)?;
-        let log = Log::with_room(alloc, share)?;
+        let log = FiringLog::with_room(alloc, share)?;
         let puts = ChannelEnds::new(alloc, outs.as_slice(), chans)?;
         let takes = ChannelEnds::new(alloc, ins.as_slice(), chans)?;
         let waits = ChannelEnds::new(alloc, outs.as_slice(), chans)?;

@@ -12,10 +12,11 @@ ghost use Rattle.net_core.specs.States.{CountsWithin, IsOf, IsQueueAt, arrays_of
 ghost use Rattle.net_worker.specs.ChannelEnds.{AreChannels, IsNotAmong, StandsAt};
 ghost use Rattle.net_worker.specs.Portions.{AreFirstCells, IsInHere, IsOutHere, IsUnitHere, SameButTokens, SameHere, first_lanes};
 
+use crate::base::Base;
 use crate::channel_ends::place_of;
 use crate::places::Places;
 use net_check::Checked;
-use net_core::{Cell, Channel, Home, State, UnitQueue};
+use net_core::{Cell, Channel, Home, UnitQueue};
 use net_types::{Inputs, Memory, Unit};
 use std::alloc::Global;
 use std::marker::Model;
@@ -28,7 +29,7 @@ use std::sync::Arc;
 #[derive(Drop)]
 pub struct Portion {
     /// The opening state, which all workers share.
-    pub(crate) base: Arc<State>,
+    pub(crate) base: Arc<Base>,
     pub(crate) places: Arc<Places>,
     /// The own units, ascending, and what they keep.
     pub(crate) units: Vec<u32>,
@@ -99,7 +100,7 @@ impl Portion {
     /// [`Memory`] where memory is wanting.
     pub(crate) fn new(
         alloc: Global,
-        base: &Arc<State>,
+        base: &Arc<Base>,
         places: &Arc<Places>,
         net: &Checked,
         inputs: &Inputs,

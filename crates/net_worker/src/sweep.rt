@@ -5,10 +5,10 @@ ghost use Rattle.net_worker.specs.Sweeps.{SweptAs, SweptExactly, AllHeldBack, Is
 ghost use Rattle.net_worker.specs.Views.{log_room};
 ghost use Rattle.net_worker.specs.Waits.{IsLookedAll};
 ghost use Rattle.net_worker.specs.Workers.{IsMadeOf, IsWhole, IsFull, SameWorker, HasLoggedExit};
-ghost use Rattle.net_worker.specs.declared.entry.Swept.TheVariants as swept;
+ghost use Rattle.net_worker.specs.declared.swept.Swept.TheVariants as swept;
 
-use crate::entry::Swept;
 use crate::passes::Tried;
+use crate::swept::Swept;
 use crate::tables::Tables;
 use crate::worker::Worker;
 

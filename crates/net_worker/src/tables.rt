@@ -8,12 +8,12 @@ ghost use Rattle.net_worker.specs.Crossing.{AreMarked, ArePlaced};
 ghost use Rattle.net_worker.specs.Places.{ArePlacesOf};
 ghost use Rattle.net_worker.specs.Spans.{AreWithin};
 
+use crate::base::Base;
 use crate::crossing::crossing_units;
 use crate::end_places::{EndPlaces, places_of_ends};
 use crate::places::Places;
 use crate::spans::{NOWHERE, Span, spans_of};
 use net_check::Checked;
-use net_core::State;
 use net_types::{Inputs, List, Memory};
 use std::alloc::Global;
 use std::sync::Arc;
@@ -30,7 +30,7 @@ pub struct Tables<'a> {
     /// By channel: where its ends stand, where it goes from one worker to another.
     pub(crate) end_places: Vec<Option<EndPlaces>>,
     /// The opening state, of which each worker keeps a part of its own.
-    pub(crate) base: Arc<State>,
+    pub(crate) base: Arc<Base>,
     /// Where workers keep the rooms of their units and channels.
     pub(crate) places: Arc<Places>,
     pub ghost owned: { length owners ≡ length net.now.units },
@@ -104,7 +104,7 @@ impl<'a> Tables<'a> {
         let crossing = crossing_units(alloc, net, owners)?;
         let spans = spans_of(alloc, owners)?;
         let end_places = places_of_ends(alloc, net, owners)?;
-        let opening = State::new(alloc, net, inputs)?;
+        let opening = Base::new(alloc, net, inputs)?;
         let base = Arc::new(alloc, opening)?;
         let found = Places::new(alloc, net, owners)?;
         let places = Arc::new(alloc, found)?;

@@ -2,8 +2,8 @@
 ghost use Rattle.std.specs.Prelude.{◌≡◌};
 ghost use Rattle.net_worker.specs.Views.{number_of, log_of};
 
-use crate::entry::Entry;
 use crate::worker::Worker;
+use firing_log::Entries;
 
 impl Worker {
     /// The worker's number.
@@ -14,9 +14,9 @@ impl Worker {
     }
 
     /// The worker's log, oldest entry first.
-    pub fn log(&self) -> &[Entry]
-        ensures { result.now ≡ log_of self.now }
+    pub fn log(&self) -> Entries<'_>
+        ensures { result ≡ log_of self.now }
     {
-        self.log.as_slice()
+        self.log.entries()
     }
 }

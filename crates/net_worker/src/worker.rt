@@ -4,11 +4,10 @@ ghost use Rattle.elastic_link.specs.Credits.{IsStamp};
 ghost use Rattle.net_worker.specs.Shares.{max_share};
 
 use crate::channel_ends::ChannelEnds;
-use crate::entry::Entry;
 use crate::portion::Portion;
 use crate::ready::Ready;
-use el_base::Log;
 use elastic_link::{PutEnd, TakeEnd};
+use firing_log::FiringLog;
 
 /// The units that one worker owns, its ends of links, and the log of its firings.
 #[derive(Drop)]
@@ -16,7 +15,7 @@ pub struct Worker {
     pub(crate) number: u32,
     pub(crate) share: u64,
     pub(crate) clock: u64,
-    pub(crate) log: Log<Entry>,
+    pub(crate) log: FiringLog,
     /// What its own units keep and the tokens of the channels at them: of a channel from another worker the token that the end
     /// holds, and of a channel to another worker none.
     pub(crate) portion: Portion,

@@ -1,27 +1,18 @@
 -- The order of the entries that are left of several logs.
-use Rattle.std.proofs.Common.{◌≡◌, ◌≢◌, ◌⊎◌, inl, inr, ℕ, zero, suc, ◌+◌, ◌^◌, ◌<◌, ◌≤◌, Bool, true, false, cond, nat_lt, List, [], ◌∷◌, length, get_or, set, drop, replicate, Option, Some, None, refl, ap, ◌∙◌, sym, subst, arith, get_or-set_same, get_or-set_other, drop-cons}
+use Rattle.std.proofs.Common.{◌≡◌, ◌≢◌, ◌⊎◌, inl, inr, ℕ, zero, suc, ◌+◌, ◌^◌, ◌<◌, ◌≤◌, Bool, true, false, cond, nat_lt, List, [], ◌∷◌, ◌++◌, length, get_or, set, drop, take, Option, Some, None, refl, ap, ◌∙◌, sym, subst, arith, drop-cons, length-set}
 use Rattle.std.proofs.lemmas.Grind.{common_steps}
 use Rattle.std.proofs.lemmas.Bool.{cases_lt}
-use Rattle.std.proofs.lemmas.List.{get_or-replicate, get_or_past, length-replicate}
+use Rattle.std.proofs.lemmas.List.{get_or_read}
+use Rattle.std.proofs.Math.Seq.{take-append_seam}
+use Rattle.std.proofs.lemmas.Option.{none-some, same_Some}
+use Rattle.std.specs.Iterator.{YieldsFirst}
+use Rattle.std.specs.List.{slice_get, refill}
 use Rattle.net_types.specs.declared.firing.Firing.{Firing}
-use Rattle.net_worker.specs.declared.entry.Entry.{Entry}
+use Rattle.firing_log.specs.declared.entry.Entry.{Entry}
 use Rattle.net_worker.specs.Merged.{Head, earlier, head_of, earliest, go_on, merged_in, entries_of, merged}
 use Rattle.net_worker.proofs.Logs.{earliest_none, earliest_is, entries_set}
 use Rattle.worker_run.specs.declared.order.Left.{Left}
-use Rattle.worker_run.specs.declared.order.Rests.{Rests}
-use Rattle.worker_run.specs.Crews.{logs_of}
-use Rattle.worker_run.specs.private.Orders.{rests_past, rests_of, head_as, head_if, earlier_of, IsLeft, IsFirstLeft, IsNextOf}
-
--- no entry is gone at first
-abbrev pub zeros_of : ℕ → List ℕ
-zeros_of n = replicate n 0
-
-pub zeros : (n i : ℕ) → get_or (zeros_of n) i 0 ≡ 0
-zeros n i = by (cases_lt i n)
-  where
-    by : (i < n) ⊎ (n ≤ i) → get_or (zeros_of n) i 0 ≡ 0
-    by (inl l) = get_or-replicate n i 0 0 l
-    by (inr l) = get_or_past (zeros_of n) i 0 (let len : length (zeros_of n) ≡ n = length-replicate n 0 in omega (arith, l, len))
+use Rattle.worker_run.specs.private.Orders.{head_as, head_if, earlier_of, IsLeft, IsFirstLeft, IsNextOf}
 
 -- ---- the earlier of two heads
 
@@ -58,101 +49,72 @@ earlier_assoc (Some h) None c = refl
 earlier_assoc (Some h) (Some k) None = none_after (earlier (Some h) (Some k))
 earlier_assoc (Some h) (Some k) (Some m) = three h k m (cases_lt k.entry.stamp h.entry.stamp) (cases_lt m.entry.stamp k.entry.stamp)
 
-either_head : (gone : List ℕ) (logs : List (List Entry)) (b : Bool) (l m : Left) → Some (head_as gone logs (cond b m l)) ≡ cond b (Some (head_as gone logs m)) (Some (head_as gone logs l))
-either_head gone logs true l m = refl
-either_head gone logs false l m = refl
+either_head : (rests : List (List Entry)) (b : Bool) (l m : Left) → Some (head_as rests (cond b m l)) ≡ cond b (Some (head_as rests m)) (Some (head_as rests l))
+either_head rests true l m = refl
+either_head rests false l m = refl
 
-earlier_head : (gone : List ℕ) (logs : List (List Entry)) (o : Option Left) (m : Left) → head_if gone logs (Some (earlier_of o m)) ≡ earlier (head_if gone logs o) (Some (head_as gone logs m))
-earlier_head gone logs None m = refl
-earlier_head gone logs (Some l) m = either_head gone logs (nat_lt m.entry.stamp l.entry.stamp) l m
+earlier_head : (rests : List (List Entry)) (o : Option Left) (m : Left) → head_if rests (Some (earlier_of o m)) ≡ earlier (head_if rests o) (Some (head_as rests m))
+earlier_head rests None m = refl
+earlier_head rests (Some l) m = either_head rests (nat_lt m.entry.stamp l.entry.stamp) l m
 
-earlier_left : (gone : List ℕ) (logs : List (List Entry)) (b : Bool) (l m : Left) → IsLeft gone logs (Some l) → IsLeft gone logs (Some m) → IsLeft gone logs (Some (cond b m l))
-earlier_left gone logs true l m p q = q
-earlier_left gone logs false l m p q = p
+earlier_left : (rests : List (List Entry)) (b : Bool) (l m : Left) → l.worker < length rests → m.worker < length rests → (cond b m l).worker < length rests
+earlier_left rests true l m p q = q
+earlier_left rests false l m p q = p
+
+left_more : (rests : List (List Entry)) (o : Option Left) (m : Left) → IsLeft rests o → m.worker < length rests → (earlier_of o m).worker < length rests
+left_more rests None m p q = q
+left_more rests (Some l) m p q = earlier_left rests (nat_lt m.entry.stamp l.entry.stamp) l m p q
 
 -- ---- one worker more
 
 -- what is known of the first workers, and of those from worker i on
-pub record IsFirstOf (gone : List ℕ) (logs : List (List Entry)) (i : ℕ) (o : Option Left) : Type 0 where
-  pub rest : earlier (head_if gone logs o) (earliest i (rests_past gone i (drop i logs))) ≡ earliest 0 (rests_past gone 0 logs)
-  pub left : IsLeft gone logs o
+pub record IsFirstOf (rests : List (List Entry)) (i : ℕ) (o : Option Left) : Type 0 where
+  pub rest : earlier (head_if rests o) (earliest i (drop i rests)) ≡ earliest 0 rests
+  pub left : IsLeft rests o
 
-pub first_none : (gone : List ℕ) (logs : List (List Entry)) → IsFirstOf gone logs 0 None
-first_none gone logs = record { rest = refl; left = tt }
+pub first_none : (rests : List (List Entry)) → IsFirstOf rests 0 None
+first_none rests = record { rest = refl; left = tt }
 
-past_cons : (gone : List ℕ) (logs : List (List Entry)) (i : ℕ) → i < length logs
-    → earliest i (rests_past gone i (drop i logs)) ≡ earlier (head_of i (drop (get_or gone i 0) (get_or logs i []))) (earliest (suc i) (rests_past gone (suc i) (drop (suc i) logs)))
-past_cons gone logs i l = ap (λ ls. earliest i (rests_past gone i ls)) (drop-cons logs i [] l)
+past_cons : (rests : List (List Entry)) (i : ℕ) → i < length rests → earliest i (drop i rests) ≡ earlier (head_of i (get_or rests i [])) (earliest (suc i) (drop (suc i) rests))
+past_cons rests i l = ap (earliest i) (drop-cons rests i [] l)
 
-head_there : (gone : List ℕ) (logs : List (List Entry)) (i : ℕ) (e d : Entry) → get_or gone i 0 < length (get_or logs i []) → e ≡ get_or (get_or logs i []) (get_or gone i 0) d
-    → head_of i (drop (get_or gone i 0) (get_or logs i [])) ≡ Some (head_as gone logs (record { worker = i; entry = e }))
-head_there gone logs i e d l is =
-    let g = get_or gone i 0 in
-    let log = get_or logs i [] in
-    ap (head_of i) (drop-cons log g d l)
-    ∙ ap (λ x. Some (record { at = i; entry = x; rest = drop (suc g) log })) (sym is)
+head_there : (i : ℕ) (log : List Entry) (e : Entry) → Some e ≡ slice_get log 0 → head_of i log ≡ Some (record { at = i; entry = e; rest = drop 1 log })
+head_there i [] e is = absurd (none-some e (sym is))
+head_there i (x ∷ xs) e is = ap (λ (y : Entry). Some (record { at = i; entry = y; rest = xs })) (sym (same_Some e x is))
 
-past_end : (xs : List Entry) (n : ℕ) → length xs ≤ n → drop n xs ≡ []
-past_end [] n l = grind (arith, common_steps)
-past_end (x ∷ xs) n l = grind (arith, common_steps)
+no_head : (i : ℕ) (log : List Entry) → None ≡ slice_get log 0 → head_of i log ≡ None
+no_head i [] is = refl
+no_head i (x ∷ xs) is = absurd (none-some x is)
 
-pub first_skips : (gone : List ℕ) (logs : List (List Entry)) (i : ℕ) (o : Option Left) → i < length logs → length (get_or logs i []) ≤ get_or gone i 0
-    → IsFirstOf gone logs i o → IsFirstOf gone logs (suc i) o
-first_skips gone logs i o l none f = record {
-  rest = ap (earlier (head_if gone logs o)) (sym (past_cons gone logs i l ∙ ap (λ x. earlier (head_of i x) (earliest (suc i) (rests_past gone (suc i) (drop (suc i) logs)))) (past_end (get_or logs i []) (get_or gone i 0) none))) ∙ f.rest;
+pub first_skips : (rests : List (List Entry)) (i : ℕ) (o : Option Left) → i < length rests → None ≡ slice_get (get_or rests i []) 0 → IsFirstOf rests i o → IsFirstOf rests (suc i) o
+first_skips rests i o l none f = record {
+  rest = ap (earlier (head_if rests o)) (sym (past_cons rests i l ∙ ap (λ h. earlier h (earliest (suc i) (drop (suc i) rests))) (no_head i (get_or rests i []) none))) ∙ f.rest;
   left = f.left;
 }
 
-left_more : (gone : List ℕ) (logs : List (List Entry)) (o : Option Left) (m : Left) → IsLeft gone logs o → IsLeft gone logs (Some m) → IsLeft gone logs (Some (earlier_of o m))
-left_more gone logs None m p q = q
-left_more gone logs (Some l) m p q = earlier_left gone logs (nat_lt m.entry.stamp l.entry.stamp) l m p q
-
-pub first_more : (gone : List ℕ) (logs : List (List Entry)) (i : ℕ) (e d : Entry) (o p : Option Left) → i < length logs → get_or gone i 0 < length (get_or logs i []) → get_or gone i 0 + 1 < 2 ^ 64
-    → e ≡ get_or (get_or logs i []) (get_or gone i 0) d → p ≡ Some (earlier_of o (record { worker = i; entry = e }))
-    → IsFirstOf gone logs i o → IsFirstOf gone logs (suc i) p
-first_more gone logs i e d o p l some few is chosen f =
+pub first_more : (rests : List (List Entry)) (i : ℕ) (e : Entry) (o p : Option Left) → i < length rests → Some e ≡ slice_get (get_or rests i []) 0
+    → p ≡ Some (earlier_of o (record { worker = i; entry = e })) → IsFirstOf rests i o → IsFirstOf rests (suc i) p
+first_more rests i e o p l is chosen f =
     let m : Left = record { worker = i; entry = e } in
-    let more = earliest (suc i) (rests_past gone (suc i) (drop (suc i) logs)) in
-    let one : head_if gone logs p ≡ earlier (head_if gone logs o) (Some (head_as gone logs m)) = ap (head_if gone logs) chosen ∙ earlier_head gone logs o m in
-    let two : earliest i (rests_past gone i (drop i logs)) ≡ earlier (Some (head_as gone logs m)) more =
-    past_cons gone logs i l ∙ ap (λ h. earlier h more) (head_there gone logs i e d some is) in
+    let more = earliest (suc i) (drop (suc i) rests) in
+    let one : head_if rests p ≡ earlier (head_if rests o) (Some (head_as rests m)) = ap (head_if rests) chosen ∙ earlier_head rests o m in
+    let two : earliest i (drop i rests) ≡ earlier (Some (head_as rests m)) more = past_cons rests i l ∙ ap (λ h. earlier h more) (head_there i (get_or rests i []) e is) in
     record {
-      rest = ap (λ h. earlier h more) one ∙ (earlier_assoc (head_if gone logs o) (Some (head_as gone logs m)) more ∙ (ap (earlier (head_if gone logs o)) (sym two) ∙ f.rest));
-      left = subst (IsLeft gone logs) (sym chosen) (left_more gone logs o m f.left (l, some, few));
+      rest = ap (λ h. earlier h more) one ∙ (earlier_assoc (head_if rests o) (Some (head_as rests m)) more ∙ (ap (earlier (head_if rests o)) (sym two) ∙ f.rest));
+      left = subst (IsLeft rests) (sym chosen) (left_more rests o m f.left l);
     }
 
-nothing_past : (logs : List (List Entry)) (n : ℕ) → length logs ≤ n → drop n logs ≡ []
+nothing_past : (rests : List (List Entry)) (n : ℕ) → length rests ≤ n → drop n rests ≡ []
 nothing_past [] n l = grind (arith, common_steps)
 nothing_past (x ∷ xs) n l = grind (arith, common_steps)
 
-pub first_all : (r : Rests) (n : ℕ) (o : Option Left) → length (logs_of r.workers.now) ≤ n → IsFirstOf r.gone (logs_of r.workers.now) n o → IsFirstLeft r o
-first_all r n o l f = record {
-  is = sym (none_after (head_if r.gone (logs_of r.workers.now) o)) ∙ (ap (λ ls. earlier (head_if r.gone (logs_of r.workers.now) o) (earliest n (rests_past r.gone n ls))) (sym (nothing_past (logs_of r.workers.now) n l)) ∙ f.rest);
+pub first_all : (rests : List (List Entry)) (n : ℕ) (o : Option Left) → length rests ≤ n → IsFirstOf rests n o → IsFirstLeft rests o
+first_all rests n o l f = record {
+  is = sym (none_after (head_if rests o)) ∙ (ap (λ ls. earlier (head_if rests o) (earliest n ls)) (sym (nothing_past rests n l)) ∙ f.rest);
   left = f.left;
 }
 
 -- ---- one entry more is gone
-
-rests_other : (gone : List ℕ) (j k x : ℕ) (logs : List (List Entry)) → k < j → rests_past (set gone k x) j logs ≡ rests_past gone j logs
-rests_other gone j k x [] l = refl
-rests_other gone j k x (log ∷ logs) l =
-    let a : get_or (set gone k x) j 0 ≡ get_or gone j 0 = get_or-set_other gone k j x 0 (λ q. absurd (omega arith)) in
-    ap (λ g. drop g log ∷ rests_past (set gone k x) (suc j) logs) a ∙ ap (λ ls. drop (get_or gone j 0) log ∷ ls) (rests_other gone (suc j) k x logs (omega arith))
-
-pub rests_set : (gone : List ℕ) (j k w x : ℕ) (logs : List (List Entry)) → k ≡ j + w → w < length logs → k < length gone
-    → rests_past (set gone k x) j logs ≡ set (rests_past gone j logs) w (drop x (get_or logs w []))
-rests_set gone j k w x [] is l b = absurd (omega arith)
-rests_set gone j k zero x (log ∷ logs) is l b =
-    let e : j ≡ k = omega arith in
-    let a : get_or (set gone k x) j 0 ≡ x = ap (λ i. get_or (set gone k x) i 0) e ∙ get_or-set_same gone k x 0 b in
-    ap (λ g. drop g log ∷ rests_past (set gone k x) (suc j) logs) a ∙ ap (λ ls. drop x log ∷ ls) (rests_other gone (suc j) k x logs (omega arith))
-rests_set gone j k (suc w) x (log ∷ logs) is l b =
-    let a : get_or (set gone k x) j 0 ≡ get_or gone j 0 = get_or-set_other gone k j x 0 (λ q. absurd (omega arith)) in
-    ap (λ g. drop g log ∷ rests_past (set gone k x) (suc j) logs) a ∙ ap (λ ls. drop (get_or gone j 0) log ∷ ls) (rests_set gone (suc j) k w x logs (omega arith) (omega arith) b)
-
-pub rests_all : (gone : List ℕ) (j : ℕ) (logs : List (List Entry)) → ((i : ℕ) → get_or gone i 0 ≡ 0) → rests_past gone j logs ≡ logs
-rests_all gone j [] none = refl
-rests_all gone j (log ∷ logs) none = ap (λ g. drop g log ∷ rests_past gone (suc j) logs) (none j) ∙ ap (λ ls. log ∷ ls) (rests_all gone (suc j) logs none)
 
 no_entries : (ls : List (List Entry)) → ((v : ℕ) → get_or ls v [] ≡ []) → entries_of ls ≡ 0
 no_entries [] e = refl
@@ -182,10 +144,21 @@ next_some ls ms h is then =
     let count : entries_of ls ≡ suc (entries_of (set ls h.at h.rest)) = entries_set ls h.at h.entry h.rest within here in
     (merged_one ls h (entries_of ls) (entries_of (set ls h.at h.rest)) count is ∙ ap (λ l. h.entry.firing ∷ merged l) (sym then), count ∙ ap (λ l. suc (entries_of l)) (sym then))
 
--- what is left after the first entry
-pub rests_next : (gone : List ℕ) (logs : List (List Entry)) (l : Left) → l.worker < length logs → l.worker < length gone
-    → rests_past (set gone l.worker (get_or gone l.worker 0 + 1)) 0 logs ≡ set (rests_past gone 0 logs) (head_as gone logs l).at (head_as gone logs l).rest
-rests_next gone logs l within known =
-    let one : get_or gone l.worker 0 + 1 ≡ suc (get_or gone l.worker 0) = omega arith in
-    rests_set gone 0 l.worker l.worker (get_or gone l.worker 0 + 1) logs (omega arith) within known
-    ∙ ap (λ n. set (rests_past gone 0 logs) l.worker (drop n (get_or logs l.worker []))) one
+-- ---- what is left after the first entry
+
+-- a log without its first entry, as its iterator leaves it
+pub next_drops : (log next : List Entry) (o : Option Entry) → YieldsFirst (λ (es : List Entry). es) log o next → next ≡ drop 1 log
+next_drops log next None gives = gives.1 ∙ sym (ap (drop 1) gives.0)
+next_drops log next (Some e) gives = sym (ap (drop 1) gives)
+
+pub refilled : (rests ms : List (List Entry)) (i : ℕ) (log : List Entry) → ms ≡ rests → refill (length rests) rests (set ms i log) ≡ set rests i log
+refilled rests ms i log is =
+    subst (λ n. take n (set ms i log ++ drop (length (set ms i log)) rests) ≡ set ms i log) (length-set ms i log ∙ ap length is) (take-append_seam (set ms i log) (drop (length (set ms i log)) rests))
+    ∙ ap (λ ls. set ls i log) is
+
+-- what is left once the first entry of a log is gone
+pub taken : (rests lent : List (List Entry)) (l : Left) (log next : List Entry) (o : Option Entry) → lent ≡ rests → l.worker < length rests → log ≡ get_or lent l.worker log
+    → YieldsFirst (λ (es : List Entry). es) (get_or lent l.worker log) o next → refill (length rests) rests (set lent l.worker next) ≡ set rests (head_as rests l).at (head_as rests l).rest
+taken rests lent l log next o is within here gives =
+    let there : get_or lent l.worker log ≡ get_or rests l.worker [] = sym here ∙ get_or_read lent l.worker log (omega (arith, ap length is, within)) here [] ∙ ap (λ ls. get_or ls l.worker []) is in
+    refilled rests lent l.worker next is ∙ ap (λ (es : List Entry). set rests l.worker es) (next_drops (get_or lent l.worker log) next o gives ∙ ap (drop 1) there)

@@ -6,7 +6,6 @@ use Rattle.worker_run.proofs.gathering.add_merged.Given as goal
 
 abbrev pub invariant-entries : goal.invariant-entries
 invariant-entries l = record {
-  workers : l.rests.workers.now ≡ l.crew.workers.items;
   whole : l.log.items ++ merged (rests_of l.rests) ≡ merged_of l.crew.workers.items;
   room : l.log.room + entries_of (logs_of l.crew.workers.items) ≡ l.fn.log.room + entries_of (rests_of l.rests);
 }

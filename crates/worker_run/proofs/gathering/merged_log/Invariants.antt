@@ -5,10 +5,7 @@ use Rattle.worker_run.specs.private.Orders.{rests_of}
 use Rattle.worker_run.proofs.gathering.merged_log.Given as goal
 
 abbrev pub invariant-entries : goal.invariant-entries
-invariant-entries l = record {
-  workers : l.rests.workers.now ≡ l.crew.workers.items;
-  whole : l.log ++ merged (rests_of l.rests) ≡ merged_of l.crew.workers.items;
-}
+invariant-entries l = l.log ++ merged (rests_of l.rests) ≡ merged_of l.crew.workers.items
 
 abbrev pub decreases-entries : goal.decreases-entries
 decreases-entries l = entries_of (rests_of l.rests)

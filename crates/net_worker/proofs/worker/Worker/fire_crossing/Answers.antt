@@ -16,7 +16,6 @@ use Rattle.net_worker.specs.Offers.{greatest_in, IsOffered, IsNotOffered}
 use Rattle.net_worker.proofs.Assembly.{made_up, room_held, few_counts}
 use Rattle.net_worker.proofs.Mays.{used_there}
 use Rattle.net_worker.proofs.Paying.{all_hold, all_payable, all_distinct}
-use Rattle.net_worker.proofs.Entries.{one_entry}
 use Rattle.net_worker.proofs.Holdings.{here_trans}
 use Rattle.net_worker.proofs.Holdings.{made_pins, pins_on}
 use Rattle.net_worker.proofs.worker.Worker.fire_crossing.Goals as goal
@@ -108,7 +107,7 @@ returns-clause-fired c =
       taken = c.take_all.ensures.taken;
       number = refl;
       share = refl;
-      items = c.add.ensures.items ∙ one_entry a.log.items c.new.result c.in_ok-stamp.stamp f c.new.ensures.stamp c.new.ensures.firing;
+      items = c.add.ensures.items;
       log_room = c.add.ensures.room;
       clock = refl;
       of = c.hand_over.ensures.of;

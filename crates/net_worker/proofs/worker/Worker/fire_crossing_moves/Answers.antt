@@ -8,7 +8,6 @@ use Rattle.net_worker.specs.Offers.{IsOffered}
 use Rattle.net_worker.proofs.Asking.{asked_trans}
 use Rattle.net_worker.proofs.Assembly.{made_up}
 use Rattle.net_worker.proofs.Crossings.{held_used, base_used, payable_taken, distinct_taken, taken_by}
-use Rattle.net_worker.proofs.Entries.{one_entry}
 use Rattle.net_worker.proofs.Holdings.{here_trans}
 use Rattle.net_worker.proofs.worker.Worker.fire_crossing_moves.Goals as goal
 
@@ -52,7 +51,7 @@ returns-clause-fired c = λ _.
       taken = taken_by t a c.requires.own.made f c.requires.own.mine p c.args.moves c.requires.effect c.requires.moves c.in-Some.stamp c.above_on-base.new.takes.items c.take_moves.new.takes.items c.take_moves.ensures.taken;
       number = refl;
       share = refl;
-      items = c.add.ensures.items ∙ one_entry a.log.items c.new.result c.in-Some.stamp f c.new.ensures.stamp c.new.ensures.firing;
+      items = c.add.ensures.items;
       log_room = c.add.ensures.room;
       clock = refl;
       of = c.hand_over_on.ensures.of;

@@ -8,7 +8,6 @@ use Rattle.net_worker.specs.Offers.{IsOffered, IsNotOffered}
 use Rattle.net_worker.proofs.Asking.{puts_asked_self, takes_asked_self}
 use Rattle.net_worker.proofs.Assembly.{made_up}
 use Rattle.net_worker.proofs.Inside.{no_put, taken_inside, base_inside, handed_inside}
-use Rattle.net_worker.proofs.Entries.{one_entry}
 use Rattle.net_worker.proofs.worker.Worker.fire_inner.Goals as goal
 
 pub returns-in_err-stamp-clause-held : goal.returns-in_err-stamp-clause-held
@@ -49,7 +48,7 @@ returns-clause-fired c =
       taken = taken_inside t a c.requires.made f.unit c.requires.inner c.in_ok-stamp.stamp (places_of p.takes);
       number = refl;
       share = refl;
-      items = c.add.ensures.items ∙ one_entry a.log.items c.new.result c.in_ok-stamp.stamp f c.new.ensures.stamp c.new.ensures.firing;
+      items = c.add.ensures.items;
       log_room = c.add.ensures.room;
       clock = refl;
       of = c.make.ensures.of;

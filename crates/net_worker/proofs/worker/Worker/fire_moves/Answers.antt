@@ -8,7 +8,6 @@ use Rattle.net_worker.proofs.Asking.{takes_asked_self}
 use Rattle.net_worker.proofs.Assembly.{made_up, few_counts}
 use Rattle.net_worker.proofs.Inside.{no_put, taken_inside, base_inside, handed_inside, inside_some}
 use Rattle.net_worker.proofs.Turns.{room_by_moves}
-use Rattle.net_worker.proofs.Entries.{one_entry}
 use Rattle.net_worker.proofs.Holdings.{moves_laid, unit_pins}
 use Rattle.net_worker.proofs.worker.Worker.fire_moves.Goals as goal
 
@@ -43,7 +42,7 @@ returns-clause-fired c = λ _.
       taken = taken_inside t a c.requires.own.made f.unit c.requires.inner (a.clock + 1) (places_of p.takes);
       number = refl;
       share = refl;
-      items = c.add.ensures.items ∙ one_entry a.log.items c.new.result (a.clock + 1) f c.new.ensures.stamp c.new.ensures.firing;
+      items = c.add.ensures.items;
       log_room = c.add.ensures.room;
       clock = refl;
       of = c.make_moves.ensures.of;
