@@ -151,20 +151,8 @@ module _ (t : Timing) (depth : ℕ) (level : ℕ → ℕ) (old new : Net) (same 
     light1 op1.Cut64to32 = omega arith
 
     light : (k : Kind) → weight k ≤ 1
-    light kind.Entry = omega arith
-    light (kind.Param j) = omega arith
-    light (kind.Const w n) = omega arith
     light (kind.Op1 op) = light1 op
-    light (kind.Op2 op) = omega arith
-    light (kind.Select w) = omega arith
-    light (kind.Fork w n) = omega arith
-    light (kind.Mux w n) = omega arith
-    light (kind.Cmerge n) = omega arith
-    light (kind.Branch w) = omega arith
-    light (kind.Sink w) = omega arith
-    light (kind.Read a) = omega arith
-    light (kind.Lsq a d ps gs f) = omega arith
-    light kind.Exit = omega arith
+    light _ = omega arith
 
     level_within : 0 < depth → (u : ℕ) → level u ≤ depth
     level_within some u = elim (levels.least u) [

@@ -9,7 +9,7 @@ use Rattle.el_base.specs.Limits.{max_delay}
 use Rattle.net_types.specs.declared.net.Chan.{Chan}
 use Rattle.net_types.specs.declared.net.Net.{Net}
 use Rattle.net_types.specs.declared.net.Unit.{Unit as Kind}
-use Rattle.net_types.specs.declared.net.Unit.TheVariants.{Entry, Param, Const, Op1, Op2 as Two, Select, Fork, Mux, Cmerge, Branch, Sink, Read, Lsq, Exit}
+use Rattle.net_types.specs.declared.net.Unit.TheVariants.{Read, Lsq}
 use Rattle.net_types.specs.Nets.{kind_of, chan_at}
 use Rattle.net_check.specs.Sizes.{IsSized, KeepsC3}
 use Rattle.net_check.specs.Cycles.{WaitsAfter, IsDelayed}
@@ -81,20 +81,8 @@ module _ (t : Timing) (net : Net) (delay : Chan → ℕ) (slots : ℕ) where
   -- ---- delays out of queues
 
   waits : IsTiming t → (k : Kind) (d : ℕ) → (0 < class_delay t (class_of k) → 0 < d) → WaitsAfter k d
-  waits h Entry d s = tt
-  waits h (Param j) d s = tt
-  waits h (Const w n) d s = tt
-  waits h (Op1 op) d s = tt
-  waits h (Two op) d s = tt
-  waits h (Select w) d s = tt
-  waits h (Fork w n) d s = tt
-  waits h (Mux w n) d s = tt
-  waits h (Cmerge n) d s = tt
-  waits h (Branch w) d s = tt
-  waits h (Sink w) d s = tt
-  waits h (Read b) d s = tt
   waits h (Lsq b d2 ps gs f) d s = s h.lsq_some
-  waits h Exit d s = tt
+  waits h _ d s = tt
 
   pub delayed_each : IsTiming t → ((c : Chan) → 0 < source_delay t net c → 0 < delay c) → (cs : List Chan) → All (IsDelayed after) (map timed cs)
   delayed_each h s [] = All-nil (IsDelayed after)

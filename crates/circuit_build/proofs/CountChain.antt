@@ -8,7 +8,7 @@ use Rattle.net_types.specs.declared.net.Place.{Place}
 use Rattle.net_types.specs.declared.net.Chan.{Chan}
 use Rattle.net_types.specs.declared.net.Net.{Net}
 use Rattle.net_types.specs.declared.net.Unit.{Unit as Kind}
-use Rattle.net_types.specs.declared.net.Unit.TheVariants.{Entry, Param, Const, Op1, Op2, Select, Fork, Mux, Cmerge, Branch, Sink, Read, Lsq, Exit}
+use Rattle.net_types.specs.declared.net.Unit.TheVariants.{Exit}
 use Rattle.net_check.specs.Headers.{is_exit}
 use Rattle.net_types.specs.Nets.{is_at, at, into, out_of, nowhere, kind_of, chan_at}
 use Rattle.net_check.specs.Ends.{is_lsq, end_place, IsEnd, IsAtExit, IsQueue, end_target, EndsWell, source_of, WalksBack, stops, meets, times_met}
@@ -204,16 +204,4 @@ module _ (net : Net) (one_in : (u p : ℕ) → tos (at_place u p) net.chans ≤ 
     where
       no_exit : (k : Kind) → is_lsq k ≡ true → is_exit k ≡ true → ⊥
       no_exit Exit e f = absurd (cc)
-      no_exit (Lsq a d qs gs b) e f = absurd (cc)
-      no_exit Entry e f = absurd (cc)
-      no_exit (Param j) e f = absurd (cc)
-      no_exit (Const w n) e f = absurd (cc)
-      no_exit (Op1 op) e f = absurd (cc)
-      no_exit (Op2 op) e f = absurd (cc)
-      no_exit (Select w) e f = absurd (cc)
-      no_exit (Fork w n) e f = absurd (cc)
-      no_exit (Mux w n) e f = absurd (cc)
-      no_exit (Cmerge n) e f = absurd (cc)
-      no_exit (Branch w) e f = absurd (cc)
-      no_exit (Sink w) e f = absurd (cc)
-      no_exit (Read a) e f = absurd (cc)
+      no_exit _ e f = absurd (cc)

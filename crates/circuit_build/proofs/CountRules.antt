@@ -8,7 +8,7 @@ use Rattle.net_types.specs.declared.net.Place.{Place}
 use Rattle.net_types.specs.declared.net.Chan.{Chan}
 use Rattle.net_types.specs.declared.net.Net.{Net}
 use Rattle.net_types.specs.declared.net.Unit.{Unit as Kind}
-use Rattle.net_types.specs.declared.net.Unit.TheVariants.{Entry, Param, Const, Op1, Op2, Select, Fork, Mux, Cmerge, Branch, Sink, Read, Lsq, Exit}
+use Rattle.net_types.specs.declared.net.Unit.TheVariants.{Fork, Branch, Sink, Exit}
 use Rattle.net_types.specs.Nets.{is_at, at, into, out_of, nowhere, kind_of}
 use Rattle.net_types.specs.Tables.{Spot, spot, ins, outs}
 use Rattle.net_types.specs.Rules.{places_at, in_places_from, out_places_from, times_in, HasWidth, IsOfWidth, KeepsC1, KeepsC2}
@@ -90,37 +90,13 @@ row_times u p n [] = refl
 row_times u p n (s ∷ ss) = let a = sum_by-cons (λ q. cond (is_at q u p) 1 0) (at n s.place) (places_at n ss) in let ih = row_times u p n ss in omega (arith, a, ih)
 
 ins_same : (net : Net) (u p n : ℕ) (m : Bool) (k : Kind) → row (at_place u p) n (ins net m k) ≡ row (at_place u p) n (ins net false k)
-ins_same net u p n m Entry = refl
-ins_same net u p n m (Param j) = refl
-ins_same net u p n m (Const w v) = refl
-ins_same net u p n m (Op1 op) = refl
-ins_same net u p n m (Op2 op) = refl
-ins_same net u p n m (Select w) = refl
-ins_same net u p n m (Fork w o) = refl
-ins_same net u p n m (Mux w i) = refl
-ins_same net u p n m (Cmerge i) = refl
-ins_same net u p n m (Branch w) = refl
-ins_same net u p n m (Sink w) = refl
-ins_same net u p n m (Read a) = refl
-ins_same net u p n m (Lsq a d ps gs f) = refl
 ins_same net u p n m Exit = refl
+ins_same net u p n m _ = refl
 
 outs_same : (net : Net) (u p n : ℕ) (m : Bool) (k : Kind) → row (at_place u p) n (outs net m k) ≡ row (at_place u p) n (outs net false k)
-outs_same net u p n m Entry = refl
-outs_same net u p n m (Param j) = refl
-outs_same net u p n m (Const w v) = refl
-outs_same net u p n m (Op1 op) = refl
-outs_same net u p n m (Op2 op) = refl
-outs_same net u p n m (Select w) = refl
 outs_same net u p n m (Fork w zero) = refl
 outs_same net u p n m (Fork w (suc o)) = refl
-outs_same net u p n m (Mux w i) = refl
-outs_same net u p n m (Cmerge i) = refl
-outs_same net u p n m (Branch w) = refl
-outs_same net u p n m (Sink w) = refl
-outs_same net u p n m (Read a) = refl
-outs_same net u p n m (Lsq a d ps gs f) = refl
-outs_same net u p n m Exit = refl
+outs_same net u p n m _ = refl
 
 abbrev Few : ℕ → List Kind → Type 0
 Few n ks = n + length ks ≤ 2 ^ 32
@@ -179,37 +155,13 @@ row_has u p w c n (s ∷ ss) h =
     ]
 
 out_width : (net : Net) (p w : ℕ) (m : Bool) (k : Kind) → HasWidth (outs net m k) p w → HasWidth (outs net false k) p w
-out_width net p w m Entry h = h
-out_width net p w m (Param j) h = h
-out_width net p w m (Const x v) h = h
-out_width net p w m (Op1 op) h = h
-out_width net p w m (Op2 op) h = h
-out_width net p w m (Select x) h = h
 out_width net p w m (Fork x zero) h = h
 out_width net p w m (Fork x (suc o)) h = h
-out_width net p w m (Mux x i) h = h
-out_width net p w m (Cmerge i) h = h
-out_width net p w m (Branch x) h = h
-out_width net p w m (Sink x) h = h
-out_width net p w m (Read a) h = h
-out_width net p w m (Lsq a d ps gs f) h = h
-out_width net p w m Exit h = h
+out_width net p w m _ h = h
 
 in_width : (net : Net) (p w : ℕ) (m : Bool) (k : Kind) → HasWidth (ins net m k) p w → HasWidth (ins net false k) p w
-in_width net p w m Entry h = h
-in_width net p w m (Param j) h = h
-in_width net p w m (Const x v) h = h
-in_width net p w m (Op1 op) h = h
-in_width net p w m (Op2 op) h = h
-in_width net p w m (Select x) h = h
-in_width net p w m (Fork x o) h = h
-in_width net p w m (Mux x i) h = h
-in_width net p w m (Cmerge i) h = h
-in_width net p w m (Branch x) h = h
-in_width net p w m (Sink x) h = h
-in_width net p w m (Read a) h = h
-in_width net p w m (Lsq a d ps gs f) h = h
 in_width net p w m Exit h = h
+in_width net p w m _ h = h
 
 outs_before : (net : Net) (u p w : ℕ) (c : Bool) (n : ℕ) (ks : List Kind) (ms : List Bool) → Few n ks → u < n → outs_of net (at_port u p w c) n ks ms ≡ 0
 outs_before net u p w c n [] ms h l = refl
@@ -329,24 +281,13 @@ each_spot u g (s ∷ ss) h =
 -- a fork passes what comes into it, and a branch what comes into its data
 marked : (net : Net) (f g : ℕ → Bool) (m : Bool) (k : Kind) → All (λ (s : Spot). f s.place ≡ s.ctl) (ins net m k) → All (λ (s : Spot). g s.place ≡ s.ctl) (outs net m k)
     → All (λ (s : Spot). f s.place ≡ s.ctl) (ins net (passes f k) k) × All (λ (s : Spot). g s.place ≡ s.ctl) (outs net (passes f k) k)
-marked net f g m Entry a b = (a, b)
-marked net f g m (Param j) a b = (a, b)
-marked net f g m (Const w n) a b = (a, b)
-marked net f g m (Op1 op) a b = (a, b)
-marked net f g m (Op2 op) a b = (a, b)
-marked net f g m (Select w) a b = (a, b)
 marked net f g m (Fork w n) a b =
     let e : f 0 ≡ m = All-head (λ (s : Spot). f s.place ≡ s.ctl) (spot 0 w m) [] a in
     subst (λ x. All (λ (s : Spot). f s.place ≡ s.ctl) (ins net x (Fork w n)) × All (λ (s : Spot). g s.place ≡ s.ctl) (outs net x (Fork w n))) (sym e) (a, b)
-marked net f g m (Mux w n) a b = (a, b)
-marked net f g m (Cmerge n) a b = (a, b)
 marked net f g m (Branch w) a b =
     let e : f 1 ≡ m = All-head (λ (s : Spot). f s.place ≡ s.ctl) (spot 1 w m) [] (All-tail (λ (s : Spot). f s.place ≡ s.ctl) (spot 0 32 false) (spot 1 w m ∷ []) a) in
     subst (λ x. All (λ (s : Spot). f s.place ≡ s.ctl) (ins net x (Branch w)) × All (λ (s : Spot). g s.place ≡ s.ctl) (outs net x (Branch w))) (sym e) (a, b)
-marked net f g m (Sink w) a b = (a, b)
-marked net f g m (Read x) a b = (a, b)
-marked net f g m (Lsq x d ps gs y) a b = (a, b)
-marked net f g m Exit a b = (a, b)
+marked net f g m _ a b = (a, b)
 
 -- a place stands once in a row, which rises, and at one unit
 pub place_no : (u p n q : ℕ) → q ≢ p → at_place u p (at n q) 0 false ≡ 0

@@ -20,7 +20,7 @@ use Rattle.ir.specs.Shapes.{Shape, IsWidth, StepFits, StepsFit, step_width}
 use Rattle.el_base.specs.declared.ty.Array.{Array}
 use Rattle.ir.specs.Graphs.{Graph, IsGraph, IsBlock, size, block_weight, handed_on}
 use Rattle.net_types.specs.declared.net.Unit.{Unit as Kind}
-use Rattle.net_types.specs.declared.net.Unit.TheVariants.{Entry, Param, Const, Op1, Op2, Select, Fork, Mux, Cmerge, Branch, Sink, Read, Lsq, Exit}
+use Rattle.net_types.specs.declared.net.Unit.TheVariants.{Const, Select, Fork, Exit}
 use Rattle.net_types.specs.Nets.{at}
 use Rattle.net_types.specs.Tables.{array_width, ins, outs}
 use Rattle.circuit_build.specs.declared.draft.Draft.{Draft}
@@ -106,37 +106,13 @@ result_fits (Some t) h = All-cons IsWidth (ty_width t) [] (h t) (All-nil IsWidth
 
 -- rows read the header alone
 outs_header : (g : Graph) (gs : Groups) (m : Bool) (k : Kind) → outs (heading g) m k ≡ outs (built g gs) m k
-outs_header g gs m Entry = refl
-outs_header g gs m (Param j) = refl
-outs_header g gs m (Const w v) = refl
-outs_header g gs m (Op1 op) = refl
-outs_header g gs m (Op2 op) = refl
-outs_header g gs m (Select w) = refl
 outs_header g gs m (Fork w zero) = refl
 outs_header g gs m (Fork w (suc o)) = refl
-outs_header g gs m (Mux w i) = refl
-outs_header g gs m (Cmerge i) = refl
-outs_header g gs m (Branch w) = refl
-outs_header g gs m (Sink w) = refl
-outs_header g gs m (Read a) = refl
-outs_header g gs m (Lsq a d ps hs f) = refl
-outs_header g gs m Exit = refl
+outs_header g gs m _ = refl
 
 ins_header : (g : Graph) (gs : Groups) (m : Bool) (k : Kind) → ins (heading g) m k ≡ ins (built g gs) m k
-ins_header g gs m Entry = refl
-ins_header g gs m (Param j) = refl
-ins_header g gs m (Const w v) = refl
-ins_header g gs m (Op1 op) = refl
-ins_header g gs m (Op2 op) = refl
-ins_header g gs m (Select w) = refl
-ins_header g gs m (Fork w o) = refl
-ins_header g gs m (Mux w i) = refl
-ins_header g gs m (Cmerge i) = refl
-ins_header g gs m (Branch w) = refl
-ins_header g gs m (Sink w) = refl
-ins_header g gs m (Read a) = refl
-ins_header g gs m (Lsq a d ps hs f) = refl
 ins_header g gs m Exit = refl
+ins_header g gs m _ = refl
 
 outs_all : (g : Graph) (gs : Groups) (f : Weight) (n : ℕ) (ks : List Kind) (ms : List Bool) → out_sum (heading g) f n ks ms ≡ out_sum (built g gs) f n ks ms
 outs_all g gs f n [] ms = refl

@@ -136,20 +136,8 @@ module _ (net : Net) (scalars : List ℕ) (t : State) (a : Aside) (calm : Calm n
   all_started fired u go = by (cases_eq u x)
     where
       owns_none : (k : Kind) → starts k ≡ true → owns k ≡ None
-      owns_none Entry e = refl
-      owns_none (Param j) e = refl
-      owns_none (Const w n) e = refl
-      owns_none (Op1 op) e = refl
-      owns_none (Op2 op) e = refl
-      owns_none (Select w) e = refl
-      owns_none (Fork w outs) e = refl
-      owns_none (Mux w ins) e = refl
-      owns_none (Cmerge ins) e = refl
-      owns_none (Branch w) e = refl
-      owns_none (Sink w) e = refl
-      owns_none (Read b) e = refl
       owns_none (Lsq b d ports groups forward) e = absurd (cc)
-      owns_none Exit e = refl
+      owns_none _ e = refl
 
       at_unit : (k : Option Kind) → slice_get net.units u ≡ k → u ≢ x → (get_or t.own u idle).fired ≡ true
       at_unit None e n = let z : starts (Sink 0) ≡ true = ap starts (sym (past_slice net.units u e).1) ∙ go in absurd (cc)

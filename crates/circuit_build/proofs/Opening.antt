@@ -8,7 +8,7 @@ use Rattle.net_types.specs.declared.net.Chan.{Chan}
 use Rattle.net_types.specs.declared.net.Net.{Net}
 use Rattle.net_types.specs.declared.net.Place.{Place}
 use Rattle.net_types.specs.declared.net.Unit.{Unit as Kind}
-use Rattle.net_types.specs.declared.net.Unit.TheVariants.{Entry, Param, Const, Op1, Op2, Select, Fork, Mux, Cmerge, Branch, Sink, Read, Lsq, Exit}
+use Rattle.net_types.specs.declared.net.Unit.TheVariants.{Entry, Param, Sink, Lsq}
 use Rattle.net_types.specs.declared.firing.Act.TheVariants.{Go}
 use Rattle.net_types.specs.declared.firing.Firing.{Firing}
 use Rattle.net_types.specs.declared.firing.Inputs.{Inputs}
@@ -71,18 +71,7 @@ opening_shows net i = record {
 settled_opened : (k : Kind) → (k ≡ Entry → ⊥) → ((j : ℕ) → k ≡ Param j → ⊥) → opened k ≡ settled k
 settled_opened Entry e f = absurd (e refl)
 settled_opened (Param j) e f = absurd (f j refl)
-settled_opened (Const w n) e f = refl
-settled_opened (Op1 op) e f = refl
-settled_opened (Op2 op) e f = refl
-settled_opened (Select w) e f = refl
-settled_opened (Fork w outs) e f = refl
-settled_opened (Mux w ins) e f = refl
-settled_opened (Cmerge ins) e f = refl
-settled_opened (Branch w) e f = refl
-settled_opened (Sink w) e f = refl
-settled_opened (Read a) e f = refl
-settled_opened (Lsq a d ps gs b) e f = refl
-settled_opened Exit e f = refl
+settled_opened _ e f = refl
 
 pub slice_kind : (ks : List Kind) (u : ℕ) (k : Kind) → (Sink 0 ≡ k → ⊥) → get_or ks u (Sink 0) ≡ k → slice_get ks u ≡ Some k
 slice_kind [] u k n e = absurd (n e)

@@ -18,7 +18,7 @@ use Rattle.ir.specs.Shapes.{Shape, StepsFit, step_width}
 use Rattle.net_types.specs.declared.net.Net.{Net}
 use Rattle.net_types.specs.declared.net.Port.{Port}
 use Rattle.net_types.specs.declared.net.Unit.{Unit as Kind}
-use Rattle.net_types.specs.declared.net.Unit.TheVariants.{Entry, Param, Const, Op1, Op2, Select, Fork, Mux, Cmerge, Branch, Sink, Read, Lsq, Exit}
+use Rattle.net_types.specs.declared.net.Unit.TheVariants.{Entry, Param, Const, Select, Read, Lsq}
 use Rattle.net_check.specs.Headers.{is_read, is_queue, IsNamed}
 use Rattle.circuit_build.specs.declared.draft.Draft.{Draft}
 use Rattle.circuit_build.specs.Asks.{IsAsked}
@@ -71,40 +71,19 @@ no_loads_of g a (b ∷ bs) le h =
 -- ---- each unit names a scalar or an array of the header
 
 abbrev NamedUnlessRead : ℕ → ℕ → Kind → Type 0
-NamedUnlessRead s a Entry = Unit {0}
 NamedUnlessRead s a (Param j) = j < s
-NamedUnlessRead s a (Const w n) = Unit {0}
-NamedUnlessRead s a (Op1 op) = Unit {0}
-NamedUnlessRead s a (Op2 op) = Unit {0}
-NamedUnlessRead s a (Select w) = Unit {0}
-NamedUnlessRead s a (Fork w n) = Unit {0}
-NamedUnlessRead s a (Mux w n) = Unit {0}
-NamedUnlessRead s a (Cmerge n) = Unit {0}
-NamedUnlessRead s a (Branch w) = Unit {0}
-NamedUnlessRead s a (Sink w) = Unit {0}
-NamedUnlessRead s a (Read b) = Unit {0}
 NamedUnlessRead s a (Lsq b d ps gs f) = b < a
-NamedUnlessRead s a Exit = Unit {0}
+NamedUnlessRead s a _ = Unit {0}
 
 named_kind : (net : Net) (k : Kind) → NamedUnlessRead (length net.scalars) (length net.arrays) k → ((b : ℕ) → length net.arrays ≤ b → is_read b k ≡ false) → IsNamed net k
-named_kind net Entry h r = tt
 named_kind net (Param j) h r = h
-named_kind net (Const w n) h r = tt
-named_kind net (Op1 op) h r = tt
-named_kind net (Op2 op) h r = tt
-named_kind net (Select w) h r = tt
-named_kind net (Fork w n) h r = tt
-named_kind net (Mux w n) h r = tt
-named_kind net (Cmerge n) h r = tt
-named_kind net (Branch w) h r = tt
-named_kind net (Sink w) h r = tt
 named_kind net (Read b) h r =
     elim (cases_lt b (length net.arrays)) [
       | inl lt ↦ lt
       | inr le ↦ (let e : true ≡ false = sym (eq-eqb b b refl) ∙ r b le in absurd (cc))
     ]
 named_kind net (Lsq b d ps gs f) h r = h
-named_kind net Exit h r = tt
+named_kind net _ h r = tt
 
 none_of : (t : Bool) → cond t 1 0 ≡ zero → t ≡ false
 none_of true e = absurd (omega arith)

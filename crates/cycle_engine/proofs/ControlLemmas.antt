@@ -6,7 +6,7 @@ use Rattle.net_types.specs.declared.net.Net.{Net}
 use Rattle.net_types.specs.declared.net.Unit.{Unit as Kind}
 use Rattle.net_types.specs.declared.net.Unit.TheVariants.{Cmerge, Lsq}
 use Rattle.net_types.specs.declared.firing.Act.{Act}
-use Rattle.net_types.specs.declared.firing.Act.TheVariants.{Go, From, Send, Alloc, Addr, Data, Exec, Reply, Retire, End}
+use Rattle.net_types.specs.declared.firing.Act.TheVariants.{From, Alloc, End}
 use Rattle.net_types.specs.declared.firing.Firing.{Firing}
 use Rattle.net_types.specs.Nets.{into, out_of, kind_of, uses, chan_at, firing}
 use Rattle.net_types.specs.Order.{act_rank, act_number}
@@ -173,16 +173,10 @@ module _ (net : Net) (s : State) (u : ℕ) where
 
   -- an act that takes the token at a place finds it there
   token_by : (a : Act) (p : ℕ) → takes_at (kind_of net u) a ≡ Some p → enabled net s (firing u a) → HasToken net s u p
-  token_by Go p i n = cc
   token_by (From j) p i n = let e : j ≡ p = cc in subst (HasToken net s u) e (from_token j n)
-  token_by (Send j) p i n = cc
   token_by (Alloc j) p i n = let e : j ≡ p = cc in subst (HasToken net s u) e (alloc_token j n)
-  token_by (Addr j) p i n = cc
-  token_by (Data j) p i n = cc
-  token_by (Exec j) p i n = cc
-  token_by (Reply j) p i n = cc
-  token_by Retire p i n = cc
   token_by End p i n = let e : groups_in (kind_of net u) ≡ p = cc in subst (HasToken net s u) e (end_token n)
+  token_by _ p i n = cc
 
 -- a token at such a place is where the noted channel leads to
 place_noted : (net : Net) (s : State) (u p noted : ℕ) → IsChecked net → IsRegular net s → HasControl net s noted → HasToken net s u p → noted_place net noted u ≡ Some p

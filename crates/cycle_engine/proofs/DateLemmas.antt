@@ -6,7 +6,7 @@ use Rattle.net_types.specs.declared.net.Net.{Net}
 use Rattle.net_types.specs.declared.net.Unit.{Unit as Kind}
 use Rattle.net_types.specs.declared.net.Unit.TheVariants.{Lsq}
 use Rattle.net_types.specs.declared.firing.Act.{Act}
-use Rattle.net_types.specs.declared.firing.Act.TheVariants.{Go, From, Send, Alloc, Addr, Data, Exec, Reply, Retire, End}
+use Rattle.net_types.specs.declared.firing.Act.TheVariants.{Alloc}
 use Rattle.net_types.specs.declared.firing.Firing.{Firing}
 use Rattle.net_types.specs.Nets.{into, out_of, kind_of, uses, chan_at}
 use Rattle.net_core.specs.Fire.{State, Own, Row, Stop, Look, Take, Fires, Effect, effect_of, with_head, taking, idle, row, setting, at_array, head_at, tokens_at, first, effect, has_room, enabled, moved, applied, changed_from, puts_on, takes_from, added, taken}
@@ -166,15 +166,7 @@ depth_of (Lsq a d ps gs fw) (Alloc g) o xs h e net s q = by (nat_lt g (length gs
     by true true z x = leb-true _ _ z
     by true false z x = cc
     by false t z x = cc
-depth_of (Lsq a d ps gs fw) Go o xs h e net s q = tt
-depth_of (Lsq a d ps gs fw) (From j) o xs h e net s q = tt
-depth_of (Lsq a d ps gs fw) (Send j) o xs h e net s q = tt
-depth_of (Lsq a d ps gs fw) (Addr j) o xs h e net s q = tt
-depth_of (Lsq a d ps gs fw) (Data j) o xs h e net s q = tt
-depth_of (Lsq a d ps gs fw) (Exec j) o xs h e net s q = tt
-depth_of (Lsq a d ps gs fw) (Reply j) o xs h e net s q = tt
-depth_of (Lsq a d ps gs fw) Retire o xs h e net s q = tt
-depth_of (Lsq a d ps gs fw) End o xs h e net s q = tt
+depth_of (Lsq a d ps gs fw) _ o xs h e net s q = tt
 depth_of _ act o xs h e net s q = tt
 
 -- where all tokens are ripe, what is enabled may be made

@@ -4,7 +4,7 @@ use Rattle.std.proofs.lemmas.Bool.{cases_lt}
 use Rattle.std.proofs.lemmas.List.{get_or_append_left, get_or_past}
 use Rattle.net_types.specs.declared.net.Net.{Net}
 use Rattle.net_types.specs.declared.net.Unit.{Unit as Kind}
-use Rattle.net_types.specs.declared.net.Unit.TheVariants.{Entry, Param, Const, Op1, Op2, Select, Fork, Mux, Cmerge, Branch, Sink, Read, Lsq, Exit}
+use Rattle.net_types.specs.declared.net.Unit.TheVariants.{Op2, Select, Mux, Branch}
 use Rattle.net_types.specs.declared.firing.Act.{Act}
 use Rattle.net_types.specs.declared.firing.Act.TheVariants.{Go}
 use Rattle.net_types.specs.declared.firing.Firing.{Firing}
@@ -82,21 +82,12 @@ three_none a p last h n = none_on_go a (Take 0 from_second) h (by p n)
 
 lacks_none : (k : Kind) (p : ℕ) (a : Act) (o : Own) (xs : List ℕ) (ss : Setting) (h : ℕ → Option ℕ) → IsSomeAnd (partner_place k p) (λ q. h q ≡ None) → effect_of (row k a o xs ss) h ≡ None
 unfolding row
-lacks_none Entry p a o xs ss h n = absurd n
-lacks_none (Param j) p a o xs ss h n = absurd n
-lacks_none (Const w x) p a o xs ss h n = absurd n
-lacks_none (Op1 op) p a o xs ss h n = absurd n
 lacks_none (Op2 op) p a o xs ss h n = two_none a p _ h n
 lacks_none (Select w) p a o xs ss h n = three_none a p _ h n
-lacks_none (Fork w outs) p a o xs ss h n = absurd n
 lacks_none (Mux w ins) zero a o xs ss h n = absurd n
 lacks_none (Mux w ins) (suc p) a o xs ss h n = one_none a _ h n
-lacks_none (Cmerge ins) p a o xs ss h n = absurd n
 lacks_none (Branch w) p a o xs ss h n = two_none a p _ h n
-lacks_none (Sink w) p a o xs ss h n = absurd n
-lacks_none (Read x) p a o xs ss h n = absurd n
-lacks_none (Lsq x d ps gs fw) p a o xs ss h n = absurd n
-lacks_none Exit p a o xs ss h n = absurd n
+lacks_none _ p a o xs ss h n = absurd n
 
 -- a unit that wants a token beside another does not fire
 pub lacking_quiet : (net : Net) (s : State) (g : Firing) (d : ℕ) (e : Effect) → effect net s g ≡ Some e → (chan_at net d).to.unit ≡ g.unit → IsLacking net s d → ⊥

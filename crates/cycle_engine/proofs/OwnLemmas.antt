@@ -7,7 +7,7 @@ use Rattle.net_types.specs.declared.net.Net.{Net}
 use Rattle.net_types.specs.declared.net.Unit.{Unit as Kind}
 use Rattle.net_types.specs.declared.net.Unit.TheVariants.{Entry, Param, Const, Op1, Op2, Select, Fork, Mux, Cmerge, Branch, Sink, Read, Lsq, Exit}
 use Rattle.net_types.specs.declared.firing.Act.{Act}
-use Rattle.net_types.specs.declared.firing.Act.TheVariants.{Go, From, Send, Alloc, Addr, Data, Exec, Reply, Retire, End}
+use Rattle.net_types.specs.declared.firing.Act.TheVariants.{Go, From, Send}
 use Rattle.net_types.specs.Nets.{into, out_of, kind_of, uses, chan_at, firing}
 use Rattle.net_core.specs.Fire.{State, Own, Row, Take, Fires, Effect, Setting, effect_of, with_head, taking, on_go, when, put_at, idle, row, cmerge_row, fork_row, sent_to, setting, at_array, head_at, tokens_at, effect, has_room, moved, puts_on, takes_from, among, added, taken}
 use Rattle.net_core.specs.Uses.{used_by, used}
@@ -24,20 +24,10 @@ use Rattle.cycle_engine.proofs.RousingLemmas.{late_or, slots_within}
 
 -- a unit of one place
 abbrev pub is_goer : Kind → Bool
-is_goer Entry = true
-is_goer (Param j) = true
-is_goer (Const w n) = true
-is_goer (Op1 op) = true
-is_goer (Op2 op) = true
-is_goer (Select w) = true
 is_goer (Fork w outs) = false
-is_goer (Mux w ins) = true
 is_goer (Cmerge ins) = false
-is_goer (Branch w) = true
-is_goer (Sink w) = true
-is_goer (Read a) = true
 is_goer (Lsq a d ps gs f) = false
-is_goer Exit = true
+is_goer _ = true
 
 -- the kinds that only go
 pub on_go_is : (a : Act) (r : Row) (h : ℕ → Option ℕ) (e : Effect) → effect_of (on_go a r) h ≡ Some e → a ≡ Go
@@ -49,17 +39,7 @@ unfolding row
 goes_only (Fork w outs) a o xs ss h e g q = cc
 goes_only (Cmerge ins) a o xs ss h e g q = cc
 goes_only (Lsq n d ps gs fw) a o xs ss h e g q = cc
-goes_only Entry a o xs ss h e g q = on_go_is a _ h e q
-goes_only (Param j) a o xs ss h e g q = on_go_is a _ h e q
-goes_only (Const w n) a o xs ss h e g q = on_go_is a _ h e q
-goes_only (Op1 op) a o xs ss h e g q = on_go_is a _ h e q
-goes_only (Op2 op) a o xs ss h e g q = on_go_is a _ h e q
-goes_only (Select w) a o xs ss h e g q = on_go_is a _ h e q
-goes_only (Mux w n) a o xs ss h e g q = on_go_is a _ h e q
-goes_only (Branch w) a o xs ss h e g q = on_go_is a _ h e q
-goes_only (Sink w) a o xs ss h e g q = on_go_is a _ h e q
-goes_only (Read n) a o xs ss h e g q = on_go_is a _ h e q
-goes_only Exit a o xs ss h e g q = on_go_is a _ h e q
+goes_only _ a o xs ss h e g q = on_go_is a _ h e q
 
 -- merges
 abbrev merge_eff : ℕ → Own → List ℕ → Effect
@@ -67,15 +47,6 @@ merge_eff j o xs = record { takes = j ∷ []; put = put_at 0 j; own = o; array =
 
 merge_inv : (ins : ℕ) (a : Act) (o : Own) (xs : List ℕ) (h : ℕ → Option ℕ) (e : Effect) → effect_of (cmerge_row ins a o xs) h ≡ Some e
     → (j : ℕ) × (a ≡ From j) × (nat_lt j ins ≡ true) × (v : ℕ) × (h j ≡ Some v) × (e ≡ merge_eff j o xs)
-merge_inv ins Go o xs h e q = cc
-merge_inv ins (Send j) o xs h e q = cc
-merge_inv ins (Alloc g) o xs h e q = cc
-merge_inv ins (Addr p) o xs h e q = cc
-merge_inv ins (Data p) o xs h e q = cc
-merge_inv ins (Exec x) o xs h e q = cc
-merge_inv ins (Reply p) o xs h e q = cc
-merge_inv ins Retire o xs h e q = cc
-merge_inv ins End o xs h e q = cc
 merge_inv ins (From j) o xs h e q = by (nat_lt j ins) refl (h j) refl q
   where
     by : (b : Bool) → nat_lt j ins ≡ b → (t : Option ℕ) → h j ≡ t → effect_of (when b (Take j (λ v. Fires (put_at 0 j) o xs 0))) h ≡ Some e
@@ -89,6 +60,7 @@ merge_inv ins (From j) o xs h e q = by (nat_lt j ins) refl (h j) refl q
         let w : Some (merge_eff j o xs) ≡ Some e = subst P is q in
         let z : e ≡ merge_eff j o xs = cc in
         (j, refl, l, v, is, z)
+merge_inv ins _ o xs h e q = cc
 
 merge_goes : (ins j : ℕ) (o : Own) (xs : List ℕ) (h : ℕ → Option ℕ) (v : ℕ) → nat_lt j ins ≡ true → h j ≡ Some v → effect_of (cmerge_row ins (From j) o xs) h ≡ Some (merge_eff j o xs)
 merge_goes ins j o xs h v l e = rw (l, e) refl

@@ -3,7 +3,7 @@ use Rattle.std.proofs.Common.{is_some, suc, zero, cond, eqb-true, ◌≡◌, ◌
 use Rattle.std.proofs.lemmas.Bool.{cases_lt, and_parts, le-leb, lt-leb, eq-eqb, false≢true}
 use Rattle.net_types.specs.declared.net.Net.{Net}
 use Rattle.net_types.specs.declared.net.Unit.{Unit as Kind}
-use Rattle.net_types.specs.declared.net.Unit.TheVariants.{Entry, Param, Const, Op1, Op2, Select, Fork, Mux, Cmerge, Branch, Sink, Read, Lsq, Exit}
+use Rattle.net_types.specs.declared.net.Unit.TheVariants.{Entry, Param, Fork, Cmerge, Lsq, Exit}
 use Rattle.net_types.specs.declared.firing.Act.{Act}
 use Rattle.net_types.specs.declared.firing.Act.TheVariants.{Go, From, Send, Alloc, Addr, Data, Exec, Reply, Retire, End}
 use Rattle.net_types.specs.declared.firing.Firing.{Firing}
@@ -126,15 +126,7 @@ act_by (suc (suc (suc (suc (suc (suc (suc (suc (suc n))))))))) j = End
 
 act_back : (b : Act) → b ≡ act_by (act_rank b) (act_number b)
 act_back Go = refl
-act_back (From j) = refl
-act_back (Send j) = refl
-act_back (Alloc j) = refl
-act_back (Addr j) = refl
-act_back (Data j) = refl
-act_back (Exec j) = refl
-act_back (Reply j) = refl
-act_back Retire = refl
-act_back End = refl
+act_back _ = refl
 
 -- an act of a rank is that of its number
 pub act_is : (r : ℕ) (b : Act) → act_rank b ≡ r → b ≡ act_by r (act_number b)
@@ -151,27 +143,11 @@ exec_is b e = act_is 6 b e
 
 pub place_rank : (a : Act) → act_rank (act_place a) ≡ act_rank a
 place_rank Go = refl
-place_rank (From j) = refl
-place_rank (Send j) = refl
-place_rank (Alloc j) = refl
-place_rank (Addr j) = refl
-place_rank (Data j) = refl
-place_rank (Exec j) = refl
-place_rank (Reply j) = refl
-place_rank Retire = refl
-place_rank End = refl
+place_rank _ = refl
 
 pub place_fixed : (a : Act) → act_rank a ≢ 6 → act_place a ≡ a
-place_fixed Go n = refl
-place_fixed (From j) n = refl
-place_fixed (Send j) n = refl
-place_fixed (Alloc j) n = refl
-place_fixed (Addr j) n = refl
-place_fixed (Data j) n = refl
 place_fixed (Exec j) n = absurd (n refl)
-place_fixed (Reply j) n = refl
-place_fixed Retire n = refl
-place_fixed End n = refl
+place_fixed _ n = refl
 
 pub end_is : (b : Act) → act_rank b ≡ 9 → act_place b ≡ End
 end_is b e = ap act_place (act_is 9 b e)
@@ -240,15 +216,7 @@ fires_within net s f checked long n = by (cases_lt f.unit (length net.units))
 
 pub rank_most : (a : Act) → act_rank a ≤ 9
 rank_most Go = omega arith
-rank_most (From j) = omega arith
-rank_most (Send j) = omega arith
-rank_most (Alloc j) = omega arith
-rank_most (Addr j) = omega arith
-rank_most (Data j) = omega arith
-rank_most (Exec j) = omega arith
-rank_most (Reply j) = omega arith
-rank_most Retire = omega arith
-rank_most End = omega arith
+rank_most _ = omega arith
 
 -- ---- units that want a token
 
@@ -258,15 +226,7 @@ none_head (Some v) k e n q = cc
 
 go_asks : (a : Act) (next : ℕ → Row) (h : ℕ → Option ℕ) (e : Effect) → h 0 ≡ None → effect_of (on_go a (Take 0 next)) h ≡ Some e → ⊥
 go_asks Go next h e n q = none_head (h 0) (λ v. taking 0 (effect_of (next v) h)) e n q
-go_asks (From j) next h e n q = cc
-go_asks (Send j) next h e n q = cc
-go_asks (Alloc j) next h e n q = cc
-go_asks (Addr j) next h e n q = cc
-go_asks (Data j) next h e n q = cc
-go_asks (Exec j) next h e n q = cc
-go_asks (Reply j) next h e n q = cc
-go_asks Retire next h e n q = cc
-go_asks End next h e n q = cc
+go_asks _ next h e n q = cc
 
 fork_asks : (outs : ℕ) (a : Act) (o : Own) (xs : List ℕ) (h : ℕ → Option ℕ) (e : Effect) → h 0 ≡ None → effect_of (fork_row outs a o xs) h ≡ Some e → ⊥
 fork_asks outs a o xs h e n q =
@@ -282,14 +242,7 @@ asks (Cmerge ins) a o xs ss h e t n q = cc
 asks (Lsq x d ps gs fw) a o xs ss h e t n q = cc
 asks Exit a o xs ss h e t n q = cc
 asks (Fork w outs) a o xs ss h e t n q = fork_asks outs a o xs h e n q
-asks (Const w x) a o xs ss h e t n q = go_asks a _ h e n q
-asks (Op1 op) a o xs ss h e t n q = go_asks a _ h e n q
-asks (Op2 op) a o xs ss h e t n q = go_asks a _ h e n q
-asks (Select w) a o xs ss h e t n q = go_asks a _ h e n q
-asks (Mux w ins) a o xs ss h e t n q = go_asks a _ h e n q
-asks (Branch w) a o xs ss h e t n q = go_asks a _ h e n q
-asks (Sink w) a o xs ss h e t n q = go_asks a _ h e n q
-asks (Read x) a o xs ss h e t n q = go_asks a _ h e n q
+asks _ a o xs ss h e t n q = go_asks a _ h e n q
 
 -- a unit that wants a token does nothing
 pub starved_none : (net : Net) (s : State) (u : ℕ) (a : Act) (e : Effect) → IsStarved net s u → effect net s (firing u a) ≡ Some e → ⊥
@@ -304,20 +257,8 @@ starved_quiet net s u a h n =
 -- ---- ports at which a queue does not allow an act
 
 plain_low : (k : Kind) → is_lsq k ≡ false → act_rank (first_of k) ≤ 2
-plain_low Entry l = omega arith
-plain_low (Param j) l = omega arith
-plain_low (Const w n) l = omega arith
-plain_low (Op1 op) l = omega arith
-plain_low (Op2 op) l = omega arith
-plain_low (Select w) l = omega arith
-plain_low (Fork w outs) l = omega arith
-plain_low (Mux w ins) l = omega arith
-plain_low (Cmerge ins) l = omega arith
-plain_low (Branch w) l = omega arith
-plain_low (Sink w) l = omega arith
-plain_low (Read a) l = omega arith
 plain_low (Lsq a d ps gs f) l = cc
-plain_low Exit l = omega arith
+plain_low _ l = omega arith
 
 -- a unit that is no queue has no acts of ports
 pub no_ports : (net : Net) (s : State) (u : ℕ) (kind : Act) (from : ℕ) → is_lsq (kind_of net u) ≡ false → 4 ≤ act_rank kind → HasNoneFrom net s u kind from

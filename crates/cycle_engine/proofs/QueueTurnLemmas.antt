@@ -5,7 +5,7 @@ use Rattle.std.proofs.lemmas.Bool.{cases_eq, le-leb}
 use Rattle.net_types.specs.declared.net.Net.{Net}
 use Rattle.net_types.specs.declared.net.Port.{Port}
 use Rattle.net_types.specs.declared.net.Unit.{Unit as Kind}
-use Rattle.net_types.specs.declared.net.Unit.TheVariants.{Entry, Param, Const, Op1, Op2, Select, Fork, Mux, Cmerge, Branch, Sink, Read, Lsq, Exit}
+use Rattle.net_types.specs.declared.net.Unit.TheVariants.{Entry, Fork, Cmerge, Sink, Lsq}
 use Rattle.net_types.specs.declared.firing.Act.{Act}
 use Rattle.net_types.specs.declared.firing.Act.TheVariants.{Go, From, Send, Alloc, Addr, Data, Exec, Reply, Retire, End}
 use Rattle.net_types.specs.declared.firing.Firing.{Firing}
@@ -224,19 +224,7 @@ one_token net s f e g ins x w checked good plain ef ne kg eg px t =
 
 pub merge_kind : (k : Kind) → (is_merge k ≡ false) ⊎ ((ins : ℕ) × (k ≡ Cmerge ins))
 merge_kind (Cmerge ins) = inr (ins, refl)
-merge_kind Entry = inl refl
-merge_kind (Param j) = inl refl
-merge_kind (Const w n) = inl refl
-merge_kind (Op1 op) = inl refl
-merge_kind (Op2 op) = inl refl
-merge_kind (Select w) = inl refl
-merge_kind (Fork w n) = inl refl
-merge_kind (Mux w n) = inl refl
-merge_kind (Branch w) = inl refl
-merge_kind (Sink w) = inl refl
-merge_kind (Read a) = inl refl
-merge_kind (Lsq a d ps gs fw) = inl refl
-merge_kind Exit = inl refl
+merge_kind _ = inl refl
 
 -- another unit's place that may fire after a firing of a queue might have fired before it
 pub others_back : (net : Net) (c : ℕ) (start : Dated) (fs : List Firing) (s : Dated) (u n d : ℕ) (ps : List Port) (gs : List (List ℕ)) (fw : Bool) (a : Act) (e : Effect) (g : Firing) → IsChecked net → IsRegular net s.state
@@ -305,27 +293,11 @@ unit_rouses net c start fs s f g e checked ks k m un is may = by (rouses net c s
 
 phase_same : (a : Act) → lsq_phase a ≡ phase a
 phase_same Go = refl
-phase_same (From j) = refl
-phase_same (Send j) = refl
-phase_same (Alloc j) = refl
-phase_same (Addr j) = refl
-phase_same (Data j) = refl
-phase_same (Exec j) = refl
-phase_same (Reply j) = refl
-phase_same Retire = refl
-phase_same End = refl
+phase_same _ = refl
 
 place_same : (a : Act) → lsq_place a ≡ act_place a
 place_same Go = refl
-place_same (From j) = refl
-place_same (Send j) = refl
-place_same (Alloc j) = refl
-place_same (Addr j) = refl
-place_same (Data j) = refl
-place_same (Exec j) = refl
-place_same (Reply j) = refl
-place_same Retire = refl
-place_same End = refl
+place_same _ = refl
 
 pub queue_used : (net : Net) (u n d : ℕ) (ps : List Port) (gs : List (List ℕ)) (fw : Bool) → kind_of net u ≡ Lsq n d ps gs fw → (s : State) (b : Act) (v : ℕ)
     → can d gs (get_or s.own u idle).queue b ≡ true → Given (in_place gs b) (head_at net s u) v → used net s (firing u b) ≡ place_list (in_place gs b)
@@ -345,16 +317,10 @@ queue_used net u n d ps gs fw is s b v c g =
 -- the room for what an act puts rests on the act alone
 room_same : (net : Net) (t : State) (u : ℕ) (ps : List Port) (gs : List (List ℕ)) (q r : QueueState) (xs ys : List ℕ) (b : Act) (v w : ℕ) → has_room net t u (put_out (out_place gs b) (step ps gs q xs b v).put)
     → has_room net t u (put_out (out_place gs b) (step ps gs r ys b w).put)
-room_same net t u ps gs q r xs ys Go v w h = tt
-room_same net t u ps gs q r xs ys (From j) v w h = tt
-room_same net t u ps gs q r xs ys (Send j) v w h = tt
 room_same net t u ps gs q r xs ys (Alloc j) v w h = h
-room_same net t u ps gs q r xs ys (Addr j) v w h = tt
-room_same net t u ps gs q r xs ys (Data j) v w h = tt
-room_same net t u ps gs q r xs ys (Exec j) v w h = tt
 room_same net t u ps gs q r xs ys (Reply j) v w h = h
-room_same net t u ps gs q r xs ys Retire v w h = tt
 room_same net t u ps gs q r xs ys End v w h = h
+room_same net t u ps gs q r xs ys _ v w h = tt
 
 own_after : (net : Net) (s : State) (u : ℕ) (e : Effect) → u < length s.own → get_or (applied net u e s).own u idle ≡ e.own
 own_after net s u e l = get_or-set_same s.own u e.own idle l
@@ -546,15 +512,7 @@ allocs_more net c fs s v nv dv pv gv fv act e checked good k kv ev once u a b n 
       where
         alloc_fixed : (x : Act) (y : ℕ) → act_place x ≡ Alloc y → x ≡ Alloc y
         alloc_fixed (Alloc x) y q = q
-        alloc_fixed Go y q = cc
-        alloc_fixed (From j) y q = cc
-        alloc_fixed (Send j) y q = cc
-        alloc_fixed (Addr j) y q = cc
-        alloc_fixed (Data j) y q = cc
-        alloc_fixed (Exec j) y q = cc
-        alloc_fixed (Reply j) y q = cc
-        alloc_fixed Retire y q = cc
-        alloc_fixed End y q = cc
+        alloc_fixed _ y q = cc
 
 -- before a queue fires there is no allocation
 pub allocs_none : (net : Net) (c : ℕ) (fs : List Firing) (s : Dated) → AllByRecursion (λ g. (is_lsq (kind_of net g.unit) ≡ false) × (phase g.act ≡ 0)) fs → AllocsOnce net c fs s
@@ -580,10 +538,7 @@ step_most ps gs q xs Retire v not_so = by q.items
     by : (items : List Item) → length (rest items) ≤ length items
     by [] = omega arith
     by (x ∷ items) = omega arith
-step_most ps gs q xs Go v not_so = omega arith
-step_most ps gs q xs (From j) v not_so = omega arith
-step_most ps gs q xs (Send j) v not_so = omega arith
-step_most ps gs q xs End v not_so = omega arith
+step_most ps gs q xs _ v not_so = omega arith
 
 abbrev entries : State → ℕ → ℕ
 entries s u = length (get_or s.own u idle).queue.items
@@ -623,27 +578,11 @@ items_most net c start s (f ∷ fs) t u m un =
 
 no_alloc : (b : Act) → ((k : ℕ) → b ≡ Alloc k → ⊥) ⊎ ((k : ℕ) × (b ≡ Alloc k))
 no_alloc (Alloc k) = inr (k, refl)
-no_alloc Go = inl (λ k z. cc)
-no_alloc (From j) = inl (λ k z. cc)
-no_alloc (Send j) = inl (λ k z. cc)
-no_alloc (Addr j) = inl (λ k z. cc)
-no_alloc (Data j) = inl (λ k z. cc)
-no_alloc (Exec j) = inl (λ k z. cc)
-no_alloc (Reply j) = inl (λ k z. cc)
-no_alloc Retire = inl (λ k z. cc)
-no_alloc End = inl (λ k z. cc)
+no_alloc _ = inl (λ k z. cc)
 
 is_retire : (a : Act) → (a ≡ Retire) ⊎ (a ≢ Retire)
 is_retire Retire = inl refl
-is_retire Go = inr (λ z. cc)
-is_retire (From j) = inr (λ z. cc)
-is_retire (Send j) = inr (λ z. cc)
-is_retire (Alloc j) = inr (λ z. cc)
-is_retire (Addr j) = inr (λ z. cc)
-is_retire (Data j) = inr (λ z. cc)
-is_retire (Exec j) = inr (λ z. cc)
-is_retire (Reply j) = inr (λ z. cc)
-is_retire End = inr (λ z. cc)
+is_retire _ = inr (λ z. cc)
 
 -- what may not be made before a firing of a queue may not be made after it, where it has not fired and is of another unit, or
 -- of no later phase

@@ -7,7 +7,7 @@ use Rattle.net_types.specs.declared.net.Port.{Port}
 use Rattle.net_types.specs.declared.net.Unit.{Unit as Kind}
 use Rattle.net_types.specs.declared.net.Unit.TheVariants.{Sink, Lsq}
 use Rattle.net_types.specs.declared.firing.Act.{Act}
-use Rattle.net_types.specs.declared.firing.Act.TheVariants.{Go, From, Send, Alloc, Addr, Data, Exec, Reply, Retire, End}
+use Rattle.net_types.specs.declared.firing.Act.TheVariants.{Go, Alloc, Exec, Reply, Retire, End}
 use Rattle.net_types.specs.declared.firing.Firing.{Firing}
 use Rattle.net_types.specs.Nets.{kind_of, uses, firing}
 use Rattle.net_types.specs.Order.{act_rank, act_number}
@@ -39,27 +39,11 @@ use Rattle.cycle_engine.proofs.TurnLemmas.{makes_regular, cycles_regular, cycles
 
 phase_place : (a : Act) → phase (act_place a) ≡ phase a
 phase_place Go = refl
-phase_place (From j) = refl
-phase_place (Send j) = refl
-phase_place (Alloc j) = refl
-phase_place (Addr j) = refl
-phase_place (Data j) = refl
-phase_place (Exec j) = refl
-phase_place (Reply j) = refl
-phase_place Retire = refl
-phase_place End = refl
+phase_place _ = refl
 
 phase_exec : (a : Act) → phase a ≡ 2 → act_place a ≡ Exec 0
 phase_exec (Exec j) e = refl
-phase_exec Go e = absurd (omega arith)
-phase_exec (From j) e = absurd (omega arith)
-phase_exec (Send j) e = absurd (omega arith)
-phase_exec (Alloc j) e = absurd (omega arith)
-phase_exec (Addr j) e = absurd (omega arith)
-phase_exec (Data j) e = absurd (omega arith)
-phase_exec (Reply j) e = absurd (omega arith)
-phase_exec Retire e = absurd (omega arith)
-phase_exec End e = absurd (omega arith)
+phase_exec _ e = absurd (omega arith)
 
 -- acts of one place are one, or both execute
 one_place : (a b : Act) → act_place a ≡ act_place b → (a ≡ b) ⊎ ((x : ℕ) × (y : ℕ) × (a ≡ Exec x) × (b ≡ Exec y))
@@ -84,30 +68,17 @@ same_place g f = by (cases_eq g.unit f.unit) (cases_eq (act_rank (act_place g.ac
 
 low_oldest : (net : Net) (s : State) (u : ℕ) (a : Act) → phase a < 2 → IsOldest net s u a
 low_oldest net s u (Exec j) l = absurd (omega arith)
-low_oldest net s u Go l = tt
-low_oldest net s u (From j) l = tt
-low_oldest net s u (Send j) l = tt
-low_oldest net s u (Alloc j) l = tt
-low_oldest net s u (Addr j) l = tt
-low_oldest net s u (Data j) l = tt
-low_oldest net s u (Reply j) l = tt
-low_oldest net s u Retire l = tt
-low_oldest net s u End l = tt
+low_oldest net s u _ l = tt
 
 -- the acts from the executions on are a queue's
 late_kind : (k : Kind) (a : Act) (o : Own) (xs : List ℕ) (ss : Setting) (h : ℕ → Option ℕ) (e : Effect) → 2 ≤ phase a → effect_of (row k a o xs ss) h ≡ Some e → IsLsq k
 unfolding row
 late_kind (Lsq a d ps gs fw) act o xs ss h e l q = record { array = a; depth = d; ports = ps; groups = gs; mark = fw; is = refl }
-late_kind k Go o xs ss h e l q = absurd (omega arith)
-late_kind k (From j) o xs ss h e l q = absurd (omega arith)
-late_kind k (Send j) o xs ss h e l q = absurd (omega arith)
-late_kind k (Alloc j) o xs ss h e l q = absurd (omega arith)
-late_kind k (Addr j) o xs ss h e l q = absurd (omega arith)
-late_kind k (Data j) o xs ss h e l q = absurd (omega arith)
 late_kind _ (Exec j) o xs ss h e l q = cc
 late_kind _ (Reply j) o xs ss h e l q = cc
 late_kind _ Retire o xs ss h e l q = cc
 late_kind _ End o xs ss h e l q = cc
+late_kind _ _ o xs ss h e l q = absurd (omega arith)
 
 late_lsq : (net : Net) (s : State) (u : ℕ) (a : Act) → 2 ≤ phase a → enabled net s (firing u a) → IsLsq (kind_of net u)
 late_lsq net s u a l n =
@@ -186,15 +157,7 @@ module _ (net : Net) (c : ℕ) (checked : IsChecked net) where
 
       by : (a : Act) → g.act ≡ a → O g.act
       by (Exec x) e = subst O (sym e) (exec x e)
-      by Go e = subst O (sym e) (λ z. tt)
-      by (From j) e = subst O (sym e) (λ z. tt)
-      by (Send j) e = subst O (sym e) (λ z. tt)
-      by (Alloc j) e = subst O (sym e) (λ z. tt)
-      by (Addr j) e = subst O (sym e) (λ z. tt)
-      by (Data j) e = subst O (sym e) (λ z. tt)
-      by (Reply j) e = subst O (sym e) (λ z. tt)
-      by Retire e = subst O (sym e) (λ z. tt)
-      by End e = subst O (sym e) (λ z. tt)
+      by _ e = subst O (sym e) (λ z. tt)
 
 -- ---- lists with one firing in their midst
 

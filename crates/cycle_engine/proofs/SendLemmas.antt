@@ -7,7 +7,7 @@ use Rattle.net_types.specs.declared.net.Net.{Net}
 use Rattle.net_types.specs.declared.net.Unit.{Unit as Kind}
 use Rattle.net_types.specs.declared.net.Unit.TheVariants.{Fork}
 use Rattle.net_types.specs.declared.firing.Act.{Act}
-use Rattle.net_types.specs.declared.firing.Act.TheVariants.{Go, From, Send, Alloc, Addr, Data, Exec, Reply, Retire, End}
+use Rattle.net_types.specs.declared.firing.Act.TheVariants.{Send}
 use Rattle.net_types.specs.declared.firing.Firing.{Firing}
 use Rattle.net_core.specs.declared.plan.Laid.{Laid}
 use Rattle.net_types.specs.Nets.{into, out_of, kind_of, chan_at, firing}
@@ -339,15 +339,7 @@ send_below k outs a fork fits = by a (let P : Kind → Type 0 = λ x. Fits x a i
   where
     by : (x : Act) → IsSendBelow outs x → (j : ℕ) × (j < outs) × (x ≡ Send j)
     by (Send j) h = (j, h, refl)
-    by Go h = absurd h
-    by (From j) h = absurd h
-    by (Alloc j) h = absurd h
-    by (Addr j) h = absurd h
-    by (Data j) h = absurd h
-    by (Exec j) h = absurd h
-    by (Reply j) h = absurd h
-    by Retire h = absurd h
-    by End h = absurd h
+    by _ h = absurd h
 
 -- where a fork has fired, one of its outputs has
 pub fork_sent : (net : Net) (past : Past) (b : Bounds) (c : ℕ) (start : Dated) (e : Engine) (u outs : ℕ) → u < length net.units → IsForkOf outs (kind_of net u) → InCycle net past b c start e → HasUnit u e.fired.items

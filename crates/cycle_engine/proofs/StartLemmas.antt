@@ -8,7 +8,7 @@ use Rattle.net_types.specs.declared.net.Net.{Net}
 use Rattle.net_types.specs.declared.firing.Firing.{Firing}
 use Rattle.net_types.specs.declared.firing.Inputs.{Inputs}
 use Rattle.net_types.specs.declared.net.Unit.{Unit as Kind}
-use Rattle.net_types.specs.declared.net.Unit.TheVariants.{Entry, Param, Const, Op1, Op2, Select, Fork, Mux, Cmerge, Branch, Sink, Read, Lsq, Exit}
+use Rattle.net_types.specs.declared.net.Unit.TheVariants.{Exit}
 use Rattle.net_types.specs.Nets.{into, chan_at}
 use Rattle.net_check.specs.Checks.{IsChecked}
 use Rattle.net_core.specs.Fire.{State, idle, opened, first, head_at, tokens_at}
@@ -82,20 +82,8 @@ opened_ready net inputs b e of same few made fired counts room chans queues mark
 items_none : (us : List Kind) (u : ℕ) → length (get_or (map opened us) u idle).queue.items ≡ 0
 items_none [] zero = refl
 items_none [] (suc u) = refl
-items_none (Lsq a d ps gs fw ∷ us) zero = refl
-items_none (Entry ∷ us) zero = refl
-items_none (Param j ∷ us) zero = refl
-items_none (Const w n ∷ us) zero = refl
-items_none (Op1 op ∷ us) zero = refl
-items_none (Op2 op ∷ us) zero = refl
-items_none (Select w ∷ us) zero = refl
-items_none (Fork w n ∷ us) zero = refl
-items_none (Mux w n ∷ us) zero = refl
-items_none (Cmerge n ∷ us) zero = refl
-items_none (Branch w ∷ us) zero = refl
-items_none (Sink w ∷ us) zero = refl
-items_none (Read a ∷ us) zero = refl
 items_none (Exit ∷ us) zero = refl
+items_none (_ ∷ us) zero = refl
 items_none (k ∷ us) (suc u) = items_none us u
 
 lists_none : (cs : List Chan) (d : ℕ) → get_or (map (λ (c : Chan). no_dates) cs) d no_dates ≡ no_dates

@@ -4,7 +4,7 @@ use Rattle.std.proofs.lemmas.Bool.{cases_lt}
 use Rattle.net_types.specs.declared.net.Net.{Net}
 use Rattle.net_types.specs.declared.net.Unit.{Unit as Kind}
 use Rattle.net_types.specs.declared.firing.Act.{Act}
-use Rattle.net_types.specs.declared.firing.Act.TheVariants.{Go, From, Send, Alloc, Addr, Data, Exec, Reply, Retire, End}
+use Rattle.net_types.specs.declared.firing.Act.TheVariants.{Go, Exec, Retire, End}
 use Rattle.net_types.specs.declared.firing.Firing.{Firing}
 use Rattle.net_types.specs.Nets.{kind_of, firing}
 use Rattle.net_types.specs.Order.{act_rank, act_number}
@@ -26,27 +26,14 @@ use Rattle.cycle_engine.proofs.TurnLemmas.{turn_passed, queue_made, turn_on, tur
 
 one_number : (net : Net) (k : Kind) (kind : Act) (n count : ℕ) → count ≡ count_in k kind → n < count → act_rank kind ≢ 6 → (act_rank (numbered kind n) ≡ act_rank kind) × (act_number (act_place (numbered kind n)) ≡ n)
 one_number net k Go n count e l x = (refl, omega arith)
-one_number net k (From j) n count e l x = (refl, refl)
-one_number net k (Send j) n count e l x = (refl, refl)
-one_number net k (Alloc j) n count e l x = (refl, refl)
-one_number net k (Addr j) n count e l x = (refl, refl)
-one_number net k (Data j) n count e l x = (refl, refl)
 one_number net k (Exec j) n count e l x = absurd (x refl)
-one_number net k (Reply j) n count e l x = (refl, refl)
 one_number net k Retire n count e l x = (refl, omega arith)
 one_number net k End n count e l x = (refl, omega arith)
+one_number net k _ n count e l x = (refl, refl)
 
 other_oldest : (net : Net) (s : State) (u : ℕ) (a : Act) → act_rank a ≢ 6 → IsOldest net s u a
-other_oldest net s u Go e = tt
-other_oldest net s u (From j) e = tt
-other_oldest net s u (Send j) e = tt
-other_oldest net s u (Alloc j) e = tt
-other_oldest net s u (Addr j) e = tt
-other_oldest net s u (Data j) e = tt
 other_oldest net s u (Exec j) e = absurd (e refl)
-other_oldest net s u (Reply j) e = tt
-other_oldest net s u Retire e = tt
-other_oldest net s u End e = tt
+other_oldest net s u _ e = tt
 
 pub next_numbered : (net : Net) (s : State) (u : ℕ) (kind : Act) (n count : ℕ) (act : Act) → act_rank kind ≢ 6 → act ≡ numbered kind n → count ≡ count_in (kind_of net u) kind → n < count → IsNextAct net s (firing u act) (act_rank kind) n
 next_numbered net s u kind n count act x is e l =

@@ -6,9 +6,9 @@ use Rattle.std.specs.List.{list_all, AllByRecursion}
 use Rattle.net_types.specs.declared.net.Net.{Net}
 use Rattle.net_types.specs.declared.net.Port.{Port}
 use Rattle.net_types.specs.declared.net.Unit.{Unit as Kind}
-use Rattle.net_types.specs.declared.net.Unit.TheVariants.{Entry, Param, Const, Op1, Op2, Select, Fork, Mux, Cmerge, Branch, Sink, Read, Lsq, Exit}
+use Rattle.net_types.specs.declared.net.Unit.TheVariants.{Fork, Cmerge, Sink, Lsq}
 use Rattle.net_types.specs.declared.firing.Act.{Act}
-use Rattle.net_types.specs.declared.firing.Act.TheVariants.{Go, From, Send, Alloc, Addr, Data, Exec, Reply, Retire, End}
+use Rattle.net_types.specs.declared.firing.Act.TheVariants.{Go, Send}
 use Rattle.net_types.specs.declared.firing.Firing.{Firing}
 use Rattle.net_types.specs.Nets.{into, out_of, kind_of, uses, chan_at, firing}
 use Rattle.net_check.specs.Checks.{IsChecked}
@@ -197,15 +197,7 @@ leaves_other net c s v x f e alone k ne i =
 
 put_same : (c : ℕ) (ps : List Port) (gs : List (List ℕ)) (q r : QueueState) (xs ys : List ℕ) (b : Act) (v w : ℕ) → dated c (put_out (out_place gs b) (step ps gs q xs b v).put) ≡ dated c (put_out (out_place gs b) (step ps gs r ys b w).put)
 put_same c ps gs q r xs ys Go v w = refl
-put_same c ps gs q r xs ys (From j) v w = refl
-put_same c ps gs q r xs ys (Send j) v w = refl
-put_same c ps gs q r xs ys (Alloc j) v w = refl
-put_same c ps gs q r xs ys (Addr j) v w = refl
-put_same c ps gs q r xs ys (Data j) v w = refl
-put_same c ps gs q r xs ys (Exec j) v w = refl
-put_same c ps gs q r xs ys (Reply j) v w = refl
-put_same c ps gs q r xs ys Retire v w = refl
-put_same c ps gs q r xs ys End v w = refl
+put_same c ps gs q r xs ys _ v w = refl
 
 -- what an act of a queue does in a state
 record Acts (net : Net) (s : State) (u n d : ℕ) (ps : List Port) (gs : List (List ℕ)) (a : Act) (e : Effect) : Type 0 where
@@ -460,17 +452,7 @@ module _ (net : Net) (c : ℕ) (start s : Dated) (u : ℕ) (checked : IsChecked 
       by (Fork w outs) ku = forks w outs ku
       by (Lsq n d ps gs fw) ku = swaps_acts n d ps gs fw a b ku (λ z. ne (ap (firing u) z)) ma mb both
       by (Cmerge ins) ku = absurd (ne (one_taker net s.state (firing u a) (firing u b) (premises_of net laws checked) good ma.turn mb.turn (merges ins ku a ma) (merges ins ku b mb)))
-      by Entry ku = absurd (goes (ap is_goer ku))
-      by (Param j) ku = absurd (goes (ap is_goer ku))
-      by (Const w v) ku = absurd (goes (ap is_goer ku))
-      by (Op1 op) ku = absurd (goes (ap is_goer ku))
-      by (Op2 op) ku = absurd (goes (ap is_goer ku))
-      by (Select w) ku = absurd (goes (ap is_goer ku))
-      by (Mux w n) ku = absurd (goes (ap is_goer ku))
-      by (Branch w) ku = absurd (goes (ap is_goer ku))
-      by (Sink w) ku = absurd (goes (ap is_goer ku))
-      by (Read n) ku = absurd (goes (ap is_goer ku))
-      by Exit ku = absurd (goes (ap is_goer ku))
+      by _ ku = absurd (goes (ap is_goer ku))
 
 -- two firings that may be made are one, or go in either order
 pub swaps : (net : Net) (c : ℕ) (start s : Dated) (f g : Firing) → IsChecked net → IsRegular net s.state → AreDated net s → May net c start s f → May net c start s g → f ≢ g → Swaps net c start s f g

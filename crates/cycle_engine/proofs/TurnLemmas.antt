@@ -8,7 +8,7 @@ use Rattle.std.proofs.lemmas.List.{get_or_append_left}
 use Rattle.net_types.specs.declared.net.Chan.{Chan}
 use Rattle.net_types.specs.declared.net.Net.{Net}
 use Rattle.net_types.specs.declared.net.Unit.{Unit as Kind}
-use Rattle.net_types.specs.declared.net.Unit.TheVariants.{Entry, Param, Const, Op1, Op2, Select, Fork, Mux, Cmerge, Branch, Sink, Read, Lsq, Exit}
+use Rattle.net_types.specs.declared.net.Unit.TheVariants.{Fork, Cmerge, Lsq}
 use Rattle.net_types.specs.declared.firing.Act.{Act}
 use Rattle.net_types.specs.declared.firing.Act.TheVariants.{Go, From, Send, Alloc, Addr, Data, Exec, Reply, Retire, End}
 use Rattle.net_types.specs.declared.firing.Firing.{Firing}
@@ -126,24 +126,16 @@ phase_low Go = (omega arith, λ l. absurd (omega arith))
 phase_low (From j) = (omega arith, λ l. absurd (omega arith))
 phase_low (Send j) = (omega arith, λ l. absurd (omega arith))
 phase_low (Alloc j) = (omega arith, λ l. absurd (omega arith))
-phase_low (Addr j) = (omega arith, λ l. omega arith)
-phase_low (Data j) = (omega arith, λ l. omega arith)
-phase_low (Exec j) = (omega arith, λ l. omega arith)
-phase_low (Reply j) = (omega arith, λ l. omega arith)
-phase_low Retire = (omega arith, λ l. omega arith)
-phase_low End = (omega arith, λ l. omega arith)
+phase_low _ = (omega arith, λ l. omega arith)
 
 phase_high : (a : Act) → (phase a ≡ 0) ⊎ (((phase a ≡ 1) × (4 ≤ act_rank a)) ⊎ (phase a + 4 ≡ act_rank a))
-phase_high Go = inl refl
-phase_high (From j) = inl refl
-phase_high (Send j) = inl refl
-phase_high (Alloc j) = inl refl
 phase_high (Addr j) = inr (inl (refl, omega arith))
 phase_high (Data j) = inr (inl (refl, omega arith))
 phase_high (Exec j) = inr (inr refl)
 phase_high (Reply j) = inr (inr refl)
 phase_high Retire = inr (inr refl)
 phase_high End = inr (inr refl)
+phase_high _ = inl refl
 
 phase_rises : (a b : Act) → act_rank a ≤ act_rank b → phase a ≤ phase b
 phase_rises a b l = by (phase_high a) (phase_low b)
@@ -280,18 +272,7 @@ refused_at net c start s fs f g r n next refused e un m = by (cases_eq r 6)
 stirs_fork : (k : Kind) (e : Effect) → is_lsq k ≡ false → Stirs k e → (is_fork k ≡ true) × (e.takes ≢ [])
 stirs_fork (Fork w outs) e l h = (refl, h)
 stirs_fork (Lsq a d ps gs fw) e l h = cc
-stirs_fork Entry e l h = absurd h
-stirs_fork (Param j) e l h = absurd h
-stirs_fork (Const w n) e l h = absurd h
-stirs_fork (Op1 op) e l h = absurd h
-stirs_fork (Op2 op) e l h = absurd h
-stirs_fork (Select w) e l h = absurd h
-stirs_fork (Mux w ins) e l h = absurd h
-stirs_fork (Cmerge ins) e l h = absurd h
-stirs_fork (Branch w) e l h = absurd h
-stirs_fork (Sink w) e l h = absurd h
-stirs_fork (Read a) e l h = absurd h
-stirs_fork Exit e l h = absurd h
+stirs_fork _ e l h = absurd h
 
 -- what holds of the channels from which is taken, by its places
 taken_each : (net : Net) (u : ℕ) (P : ℕ → Type 0) (t : Takes) → AllByRecursion P (chans_of (taken_of net u t)) → AllByRecursion (λ q. P (into u q net.chans)) (places_of t)

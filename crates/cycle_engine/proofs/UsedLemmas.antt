@@ -2,7 +2,7 @@
 use Rattle.std.proofs.Common.{◌≡◌, ℕ, suc, ◌<◌, ◌≤◌, ◌≢◌, ◌⊎◌, inl, inr, Bool, true, false, Option, Some, None, List, [], ◌∷◌, ◌++◌, ◌+◌, ◌==◌, cond, length, length-append, get_or, is_some, nat_lt, eqb-true, ltb-true, refl, sym, ap, subst, ◌∙◌, arith, IsSomeAnd}
 use Rattle.net_types.specs.declared.net.Net.{Net}
 use Rattle.net_types.specs.declared.net.Unit.{Unit as Kind}
-use Rattle.net_types.specs.declared.net.Unit.TheVariants.{Entry, Param, Const, Op1, Op2, Select, Fork, Mux, Cmerge, Branch, Sink, Read, Lsq, Exit}
+use Rattle.net_types.specs.declared.net.Unit.TheVariants.{Entry, Fork, Cmerge, Lsq}
 use Rattle.std.proofs.lemmas.List.{get_or_append_left, get_or-append-add}
 use Rattle.net_types.specs.declared.firing.Act.{Act}
 use Rattle.net_types.specs.declared.firing.Act.TheVariants.{Go, From, Send, Alloc, Addr, Data, Exec, Reply, Retire, End}
@@ -38,59 +38,19 @@ use Rattle.lsq_core.specs.Laws.{act_place}
 -- the depth at the start, by the number of entries then
 depth_acts : (d : ℕ) (gs : List (List ℕ)) (o : Own) (n : ℕ) (a : Act) → n ≡ length o.queue.items → EntriesFit d gs n a → AllocHasDepth d gs o a
 depth_acts d gs o n (Alloc g) e h = omega arith
-depth_acts d gs o n Go e h = tt
-depth_acts d gs o n (From j) e h = tt
-depth_acts d gs o n (Send j) e h = tt
-depth_acts d gs o n (Addr p) e h = tt
-depth_acts d gs o n (Data p) e h = tt
-depth_acts d gs o n (Exec x) e h = tt
-depth_acts d gs o n (Reply p) e h = tt
-depth_acts d gs o n Retire e h = tt
-depth_acts d gs o n End e h = tt
+depth_acts d gs o n _ e h = tt
 
 acts_depth : (d : ℕ) (gs : List (List ℕ)) (o : Own) (n : ℕ) (a : Act) → n ≡ length o.queue.items → AllocHasDepth d gs o a → EntriesFit d gs n a
 acts_depth d gs o n (Alloc g) e h = omega arith
-acts_depth d gs o n Go e h = tt
-acts_depth d gs o n (From j) e h = tt
-acts_depth d gs o n (Send j) e h = tt
-acts_depth d gs o n (Addr p) e h = tt
-acts_depth d gs o n (Data p) e h = tt
-acts_depth d gs o n (Exec x) e h = tt
-acts_depth d gs o n (Reply p) e h = tt
-acts_depth d gs o n Retire e h = tt
-acts_depth d gs o n End e h = tt
+acts_depth d gs o n _ e h = tt
 
 depth_start : (k : Kind) (o : Own) (n : ℕ) (a : Act) → (is_lsq k ≡ true → n ≡ length o.queue.items) → HadDepth k n a → HasDepth k o a
 depth_start (Lsq x d ps gs fw) o n a e h = depth_acts d gs o n a (e refl) h
-depth_start Entry o n a e h = tt
-depth_start (Param j) o n a e h = tt
-depth_start (Const w v) o n a e h = tt
-depth_start (Op1 op) o n a e h = tt
-depth_start (Op2 op) o n a e h = tt
-depth_start (Select w) o n a e h = tt
-depth_start (Fork w outs) o n a e h = tt
-depth_start (Mux w ins) o n a e h = tt
-depth_start (Cmerge ins) o n a e h = tt
-depth_start (Branch w) o n a e h = tt
-depth_start (Sink w) o n a e h = tt
-depth_start (Read x) o n a e h = tt
-depth_start Exit o n a e h = tt
+depth_start _ o n a e h = tt
 
 start_depth : (k : Kind) (o : Own) (n : ℕ) (a : Act) → (is_lsq k ≡ true → n ≡ length o.queue.items) → HasDepth k o a → HadDepth k n a
 start_depth (Lsq x d ps gs fw) o n a e h = acts_depth d gs o n a (e refl) h
-start_depth Entry o n a e h = tt
-start_depth (Param j) o n a e h = tt
-start_depth (Const w v) o n a e h = tt
-start_depth (Op1 op) o n a e h = tt
-start_depth (Op2 op) o n a e h = tt
-start_depth (Select w) o n a e h = tt
-start_depth (Fork w outs) o n a e h = tt
-start_depth (Mux w ins) o n a e h = tt
-start_depth (Cmerge ins) o n a e h = tt
-start_depth (Branch w) o n a e h = tt
-start_depth (Sink w) o n a e h = tt
-start_depth (Read x) o n a e h = tt
-start_depth Exit o n a e h = tt
+start_depth _ o n a e h = tt
 
 -- ---- room
 
@@ -308,15 +268,7 @@ number_as base f = by f.act
   where
     by : (a : Act) → cond (own_number (act_place a) == 0) f.unit (get_or base f.unit 0 + own_number (act_place a)) ≡ cond (own_number a == 0) f.unit (get_or base f.unit 0 + own_number a)
     by Go = refl
-    by (From j) = refl
-    by (Send j) = refl
-    by (Alloc g) = refl
-    by (Addr p) = refl
-    by (Data p) = refl
-    by (Exec e) = refl
-    by (Reply p) = refl
-    by Retire = refl
-    by End = refl
+    by _ = refl
 
 -- one unit more
 pub laid_more : (net : Net) (base : List ℕ) (n m : ℕ) → HasNumbersBelow (kind_of net (length base)) m → AreLaid net base n → AreLaid net (base ++ n ∷ []) (n + m)

@@ -37,7 +37,6 @@ none_of (x ∷ xs) l = absurd (omega (arith, l))
 
 act_same : (f : Family) (ns ys ss zs : List ℕ) → one_if (has_number f) ≤ length ns → one_if (has_serial f) ≤ length ss
     → act_of f (get_or (ns ++ ys) 0 0) (get_or (ss ++ zs) 0 0) ≡ act_of f (get_or ns 0 0) (get_or ss 0 0)
-act_same families.Go ns ys ss zs p q = refl
 act_same families.From ns ys ss zs p q = ap (λ (n : ℕ). acts.From n) (first_more ns ys p)
 act_same families.Send ns ys ss zs p q = ap (λ (n : ℕ). acts.Send n) (first_more ns ys p)
 act_same families.Alloc ns ys ss zs p q = ap (λ (n : ℕ). acts.Alloc n) (first_more ns ys p)
@@ -45,44 +44,19 @@ act_same families.Addr ns ys ss zs p q = ap (λ (n : ℕ). acts.Addr n) (first_m
 act_same families.Data ns ys ss zs p q = ap (λ (n : ℕ). acts.Data n) (first_more ns ys p)
 act_same families.Exec ns ys ss zs p q = ap (λ (n : ℕ). acts.Exec n) (first_more ss zs q)
 act_same families.Reply ns ys ss zs p q = ap (λ (n : ℕ). acts.Reply n) (first_more ns ys p)
-act_same families.Retire ns ys ss zs p q = refl
-act_same families.End ns ys ss zs p q = refl
+act_same _ ns ys ss zs p q = refl
 
 act_back : (a : Act) → act_of (family_of a) (get_or (numbers_of a) 0 0) (get_or (serials_of a) 0 0) ≡ a
 act_back acts.Go = refl
-act_back (acts.From n) = refl
-act_back (acts.Send n) = refl
-act_back (acts.Alloc n) = refl
-act_back (acts.Addr n) = refl
-act_back (acts.Data n) = refl
-act_back (acts.Exec n) = refl
-act_back (acts.Reply n) = refl
-act_back acts.Retire = refl
-act_back acts.End = refl
+act_back _ = refl
 
 pub numbers_long : (a : Act) → length (numbers_of a) ≡ one_if (has_number (family_of a))
 numbers_long acts.Go = refl
-numbers_long (acts.From n) = refl
-numbers_long (acts.Send n) = refl
-numbers_long (acts.Alloc n) = refl
-numbers_long (acts.Addr n) = refl
-numbers_long (acts.Data n) = refl
-numbers_long (acts.Exec n) = refl
-numbers_long (acts.Reply n) = refl
-numbers_long acts.Retire = refl
-numbers_long acts.End = refl
+numbers_long _ = refl
 
 pub serials_long : (a : Act) → length (serials_of a) ≡ one_if (has_serial (family_of a))
 serials_long acts.Go = refl
-serials_long (acts.From n) = refl
-serials_long (acts.Send n) = refl
-serials_long (acts.Alloc n) = refl
-serials_long (acts.Addr n) = refl
-serials_long (acts.Data n) = refl
-serials_long (acts.Exec n) = refl
-serials_long (acts.Reply n) = refl
-serials_long acts.Retire = refl
-serials_long acts.End = refl
+serials_long _ = refl
 
 -- ---- the stamps
 

@@ -15,7 +15,7 @@ use Rattle.ir.specs.Shapes.{Shape, StepFits, StepsFit, step_width}
 use Rattle.net_types.specs.declared.net.Net.{Net}
 use Rattle.net_types.specs.declared.net.Port.{Port}
 use Rattle.net_types.specs.declared.net.Unit.{Unit as Kind}
-use Rattle.net_types.specs.declared.net.Unit.TheVariants.{Entry, Param, Const, Op1, Op2, Select, Fork, Mux, Cmerge, Branch, Sink, Read, Lsq, Exit}
+use Rattle.net_types.specs.declared.net.Unit.TheVariants.{Sink, Lsq}
 use Rattle.net_types.specs.Nets.{kind_of}
 use Rattle.net_check.specs.Retimed.{SamePlain}
 use Rattle.kernel_graph.specs.Shares.{GraphShare}
@@ -78,20 +78,8 @@ record WasQueue (a : ℕ) (k : Kind) : Type 0 where
   is : k ≡ Lsq a depth ports groups mark
 
 unmarked : (a depth : ℕ) (ports : List Port) (groups : List (List ℕ)) (mark : Bool) (k : Kind) → with_mark k ≡ Lsq a depth ports groups mark → WasQueue a k
-unmarked a depth ports groups mark Entry e = absurd (cc)
-unmarked a depth ports groups mark (Param j) e = absurd (cc)
-unmarked a depth ports groups mark (Const w n) e = absurd (cc)
-unmarked a depth ports groups mark (Op1 op) e = absurd (cc)
-unmarked a depth ports groups mark (Op2 op) e = absurd (cc)
-unmarked a depth ports groups mark (Select w) e = absurd (cc)
-unmarked a depth ports groups mark (Fork w outs) e = absurd (cc)
-unmarked a depth ports groups mark (Mux w ins) e = absurd (cc)
-unmarked a depth ports groups mark (Cmerge ins) e = absurd (cc)
-unmarked a depth ports groups mark (Branch w) e = absurd (cc)
-unmarked a depth ports groups mark (Sink w) e = absurd (cc)
-unmarked a depth ports groups mark (Read b) e = absurd (cc)
 unmarked a depth ports groups mark (Lsq b d ps gs m) e = record { depth = d; ports = ps; groups = gs; mark = m; is = cc }
-unmarked a depth ports groups mark Exit e = absurd (cc)
+unmarked a depth ports groups mark _ e = absurd (cc)
 
 kinds_marked : (ks : List Kind) (u : ℕ) → get_or (map with_mark ks) u (Sink 0) ≡ with_mark (get_or ks u (Sink 0))
 kinds_marked [] u = refl

@@ -2,7 +2,7 @@
 use Rattle.std.proofs.Common.{◌≡◌, ℕ, suc, zero, ◌+◌, ◌<◌, ◌⊎◌, Bool, true, false, cond, Option, Some, None, List, [], ◌∷◌, ◌++◌, length, length-append, get_or, refl, ap, inl, inr, arith}
 use Rattle.std.specs.List.{find}
 use Rattle.net_types.specs.declared.net.Port.{Port}
-use Rattle.net_types.specs.declared.firing.Act.TheVariants.{Go, From, Send, Alloc, Addr, Data, Exec, Reply, Retire, End}
+use Rattle.net_types.specs.declared.firing.Act.TheVariants.{Alloc, Addr, Data, Exec, Reply, Retire}
 use Rattle.lsq_core.specs.declared.entry.Entry.{Entry}
 use Rattle.lsq_core.specs.Acts.{QueueState, first_changed, wants_addr, wants_data, wants_reply, is_serial, with_addr, with_data, executed, answered, exec, exec_value, fresh, rest}
 use Rattle.lsq_core.specs.Views.{InOrder, InPorts, entry_at}
@@ -65,9 +65,6 @@ order_fresh q ports g o i l =
     ]
 
 pub stays_in_order : StaysInOrder
-stays_in_order ports groups q xs Go v o = o
-stays_in_order ports groups q xs (From j) v o = o
-stays_in_order ports groups q xs (Send j) v o = o
 stays_in_order ports groups q xs (Alloc g) v o = order_fresh q ports (get_or groups g []) o
 stays_in_order ports groups q xs (Addr p) v o = order_changed q (wants_addr p) (with_addr v) (λ y. refl) o
 stays_in_order ports groups q xs (Data p) v o = order_changed q (wants_data p) (with_data v) (λ y. refl) o
@@ -78,7 +75,7 @@ stays_in_order ports groups q xs (Exec e) v o = at (find (is_serial e) q.items)
     at (Some x) = order_changed q (is_serial e) (executed (exec_value xs q.items x)) (λ y. refl) o
 stays_in_order ports groups q xs (Reply p) v o = order_changed q (wants_reply p) answered (λ y. refl) o
 stays_in_order ports groups q xs Retire v o = order_rest q o
-stays_in_order ports groups q xs End v o = o
+stays_in_order ports groups q xs _ v o = o
 
 ports_changed : (n : ℕ) (is : List Entry) (t : Entry → Bool) (u : Entry → Entry) → ((y : Entry) → (u y).port ≡ y.port) → InPorts n is → InPorts n (first_changed t u is)
 ports_changed n is t u h o i l =
@@ -102,9 +99,6 @@ ports_fresh n m is ports g w o i l =
     ]
 
 pub stays_in_ports : StaysInPorts
-stays_in_ports n ports groups q xs Go v w o = o
-stays_in_ports n ports groups q xs (From j) v w o = o
-stays_in_ports n ports groups q xs (Send j) v w o = o
 stays_in_ports n ports groups q xs (Alloc g) v w o = ports_fresh n q.next q.items ports (get_or groups g []) (w g) o
 stays_in_ports n ports groups q xs (Addr p) v w o = ports_changed n q.items (wants_addr p) (with_addr v) (λ y. refl) o
 stays_in_ports n ports groups q xs (Data p) v w o = ports_changed n q.items (wants_data p) (with_data v) (λ y. refl) o
@@ -115,4 +109,4 @@ stays_in_ports n ports groups q xs (Exec e) v w o = at (find (is_serial e) q.ite
     at (Some x) = ports_changed n q.items (is_serial e) (executed (exec_value xs q.items x)) (λ y. refl) o
 stays_in_ports n ports groups q xs (Reply p) v w o = ports_changed n q.items (wants_reply p) answered (λ y. refl) o
 stays_in_ports n ports groups q xs Retire v w o = ports_rest n q.items o
-stays_in_ports n ports groups q xs End v w o = o
+stays_in_ports n ports groups q xs _ v w o = o

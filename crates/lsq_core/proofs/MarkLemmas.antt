@@ -2,7 +2,7 @@
 use Rattle.std.proofs.Common.{◌≡◌, ℕ, ◌+◌, ◌&&◌, Bool, true, false, cond, Option, Some, None, is_some, List, [], ◌∷◌, refl, ap, ap₂, ◌∙◌}
 use Rattle.std.specs.List.{find, list_all}
 use Rattle.net_types.specs.declared.firing.Act.{Act}
-use Rattle.net_types.specs.declared.firing.Act.TheVariants.{Go, From, Send, Alloc, Addr, Data, Exec, Reply, Retire, End}
+use Rattle.net_types.specs.declared.firing.Act.TheVariants.{Exec}
 use Rattle.lsq_core.specs.declared.entry.Entry.{Entry}
 use Rattle.lsq_core.specs.Acts.{QueueState, is_serial, ready, lets, known, waiting, last_such, source_ok, order_ok, may_exec, exec}
 use Rattle.lsq_core.specs.Views.{QueueView, allows, given, acted}
@@ -26,16 +26,8 @@ exec_more fw is (Some x) h = let w = and_inv (ready x) (order_ok fw is x) h in a
         and_true (list_all (known x) is) (source_ok true (last_such (waiting x) is)) w.0 (source_more fw (last_such (waiting x) is) w.1)
 
 allowed_more : (q : QueueView) (a : Act) → allows q a ≡ true → allows (marked q) a ≡ true
-allowed_more q Go h = h
-allowed_more q (From j) h = h
-allowed_more q (Send j) h = h
-allowed_more q (Alloc g) h = h
-allowed_more q (Addr p) h = h
-allowed_more q (Data p) h = h
 allowed_more q (Exec e) h = exec_more q.queue.forward q.queue.items (find (is_serial e) q.queue.items) h
-allowed_more q (Reply p) h = h
-allowed_more q Retire h = h
-allowed_more q End h = h
+allowed_more q _ h = h
 
 -- an act of the queue with the mark does the same
 pub record Alike (q : QueueView) (a : Act) (v : ℕ) : Type 0 where
@@ -57,18 +49,10 @@ same_exec q xs e None = record { queue = refl; array = refl; puts = refl; strays
 same_exec q xs e (Some x) = record { queue = refl; array = refl; puts = refl; strays = refl }
 
 alike : (q : QueueView) (a : Act) (v : ℕ) → Alike q a v
-alike q Go v = record { after = refl; puts = refl; strays = refl }
-alike q (From j) v = record { after = refl; puts = refl; strays = refl }
-alike q (Send j) v = record { after = refl; puts = refl; strays = refl }
-alike q (Alloc g) v = record { after = refl; puts = refl; strays = refl }
-alike q (Addr p) v = record { after = refl; puts = refl; strays = refl }
-alike q (Data p) v = record { after = refl; puts = refl; strays = refl }
 alike q (Exec e) v =
     let s = same_exec q.queue q.array e (find (is_serial e) q.queue.items) in
     record { after = (λ i. record q { queue = s.queue i; array = s.array i }); puts = s.puts; strays = s.strays }
-alike q (Reply p) v = record { after = refl; puts = refl; strays = refl }
-alike q Retire v = record { after = refl; puts = refl; strays = refl }
-alike q End v = record { after = refl; puts = refl; strays = refl }
+alike q _ v = record { after = refl; puts = refl; strays = refl }
 
 pub mark_allows_more : MarkAllowsMore
 mark_allows_more q [] h = record { allowed = refl; after = refl; puts = refl; strays = refl }

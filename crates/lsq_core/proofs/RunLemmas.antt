@@ -2,7 +2,7 @@
 use Rattle.std.proofs.Common.{◌≡◌, ℕ, suc, zero, ◌+◌, ◌<◌, ◌≤◌, nat_lt, nat_le, true, Option, Some, None, List, [], ◌∷◌, ◌++◌, length, take, get_or, refl, ap, ◌∙◌, arith, leb-true}
 use Rattle.std.specs.List.{find}
 use Rattle.net_types.specs.declared.firing.Act.{Act}
-use Rattle.net_types.specs.declared.firing.Act.TheVariants.{Go, From, Send, Alloc, Addr, Data, Exec, Reply, Retire, End}
+use Rattle.net_types.specs.declared.firing.Act.TheVariants.{Alloc, Exec}
 use Rattle.lsq_core.specs.declared.entry.Entry.{Entry}
 use Rattle.lsq_core.specs.Acts.{is_serial, exec}
 use Rattle.lsq_core.specs.Views.{QueueView, allows, given, acted}
@@ -11,23 +11,16 @@ use Rattle.lsq_core.proofs.EntryLemmas.{and_inv}
 
 -- an act that is allowed raises the next serial number by at most the depth
 pub next_raised : (q : QueueView) (a : Act) (v n : ℕ) → allows q a ≡ true → q.depth ≤ n → (acted q a v).queue.next ≤ q.queue.next + n
-next_raised q Go v n h l = omega arith
-next_raised q (From j) v n h l = omega arith
-next_raised q (Send j) v n h l = omega arith
 next_raised q (Alloc g) v n h l =
     let w = and_inv (nat_lt g (length q.groups)) (nat_le (length q.queue.items + length (get_or q.groups g [])) q.depth) h in
     let m : length q.queue.items + length (get_or q.groups g []) ≤ q.depth = leb-true _ _ w.1 in
     omega arith
-next_raised q (Addr p) v n h l = omega arith
-next_raised q (Data p) v n h l = omega arith
 next_raised q (Exec e) v n h l = at (find (is_serial e) q.queue.items)
   where
     at : (o : Option Entry) → (exec q.queue q.array e o).queue.next ≤ q.queue.next + n
     at None = omega arith
     at (Some x) = omega arith
-next_raised q (Reply p) v n h l = omega arith
-next_raised q Retire v n h l = omega arith
-next_raised q End v n h l = omega arith
+next_raised q _ v n h l = omega arith
 
 -- one act more
 pub allowed_more : (q : QueueView) (acts : List (Act × ℕ)) (i : ℕ) → i < length acts → all_allowed q (take i acts) ≡ true

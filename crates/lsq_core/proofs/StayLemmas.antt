@@ -45,16 +45,13 @@ exec_length q xs e None = refl
 exec_length q xs e (Some x) = length-first_changed (is_serial e) (executed (exec_value xs q.items x)) q.items
 
 grows : (ports : List Port) (groups : List (List ℕ)) (q : QueueState) (xs : List ℕ) (b : Act) (v : ℕ) → b ≢ Retire → length q.items ≤ length (step ports groups q xs b v).queue.items
-grows ports groups q xs Go v n = omega arith
-grows ports groups q xs (From j) v n = omega arith
-grows ports groups q xs (Send j) v n = omega arith
 grows ports groups q xs (Alloc g) v n = let a = length-append q.items (fresh q.next ports (get_or groups g [])) in omega arith
 grows ports groups q xs (Addr p) v n = let a = length-first_changed (wants_addr p) (with_addr v) q.items in omega arith
 grows ports groups q xs (Data p) v n = let a = length-first_changed (wants_data p) (with_data v) q.items in omega arith
 grows ports groups q xs (Exec e) v n = let a = exec_length q xs e (find (is_serial e) q.items) in omega arith
 grows ports groups q xs (Reply p) v n = let a = length-first_changed (wants_reply p) answered q.items in omega arith
 grows ports groups q xs Retire v n = absurd (n refl)
-grows ports groups q xs End v n = omega arith
+grows ports groups q xs _ v n = omega arith
 
 fits : (n m k d : ℕ) (b : Bool) → n ≤ m → (b && nat_le (m + k) d) ≡ true → (b && nat_le (n + k) d) ≡ true
 fits n m k d b l e =
@@ -237,20 +234,15 @@ stays depth ports groups q xs (Alloc g) b v s l ne nr cb ca = fits (length q.ite
 stays depth ports groups q xs Go b v s l ne nr cb ca = no_act ca
 stays depth ports groups q xs (From j) b v s l ne nr cb ca = no_act ca
 stays depth ports groups q xs (Send j) b v s l ne nr cb ca = no_act ca
-stays depth ports groups q xs (Addr p) Go v s l ne nr cb ca = no_act cb
-stays depth ports groups q xs (Addr p) (From j) v s l ne nr cb ca = no_act cb
-stays depth ports groups q xs (Addr p) (Send j) v s l ne nr cb ca = no_act cb
-stays depth ports groups q xs (Addr p) (Alloc g) v s l ne nr cb ca = absurd (omega arith)
+stays depth ports groups q xs a Go v s l ne nr cb ca = no_act cb
+stays depth ports groups q xs a (From j) v s l ne nr cb ca = no_act cb
+stays depth ports groups q xs a (Send j) v s l ne nr cb ca = no_act cb
 stays depth ports groups q xs (Addr p) (Addr r) v s l ne nr cb ca = weaken (wants_addr p) (wants_addr r) (with_addr v) q.items (λ x e. let w = and_inv (x.port == p) false e in no_act w.1) ca
 stays depth ports groups q xs (Addr p) (Data r) v s l ne nr cb ca = weaken (wants_addr p) (wants_data r) (with_data v) q.items (λ x e. e) ca
 stays depth ports groups q xs (Addr p) (Exec e) v s l ne nr cb ca = exec_items (wants_addr p) q xs e (find (is_serial e) q.items) (λ w x k. k) ca
 stays depth ports groups q xs (Addr p) (Reply r) v s l ne nr cb ca = weaken (wants_addr p) (wants_reply r) answered q.items (λ x e. e) ca
 stays depth ports groups q xs (Addr p) Retire v s l ne nr cb ca = weaken_rest (wants_addr p) q.items ca
 stays depth ports groups q xs (Addr p) End v s l ne nr cb ca = ca
-stays depth ports groups q xs (Data p) Go v s l ne nr cb ca = no_act cb
-stays depth ports groups q xs (Data p) (From j) v s l ne nr cb ca = no_act cb
-stays depth ports groups q xs (Data p) (Send j) v s l ne nr cb ca = no_act cb
-stays depth ports groups q xs (Data p) (Alloc g) v s l ne nr cb ca = absurd (omega arith)
 stays depth ports groups q xs (Data p) (Addr r) v s l ne nr cb ca = weaken (wants_data p) (wants_addr r) (with_addr v) q.items (λ x e. e) ca
 stays depth ports groups q xs (Data p) (Data r) v s l ne nr cb ca = weaken (wants_data p) (wants_data r) (with_data v) q.items (λ x e. let w = and_inv (x.port == p) (x.store && false) e in let y = and_inv x.store false w.1 in no_act y.1) ca
 stays depth ports groups q xs (Data p) (Exec e) v s l ne nr cb ca = exec_items (wants_data p) q xs e (find (is_serial e) q.items) (λ w x k. k) ca
@@ -261,42 +253,13 @@ stays depth ports groups q xs (Exec e) (Reply r) v s l ne nr cb ca = sym (exec_r
 stays depth ports groups q xs (Exec e) Retire v s l ne nr cb ca = exec_retire q.forward e q.items s.all_sound s.all_rising cb ca
 stays depth ports groups q xs (Exec e) End v s l ne nr cb ca = ca
 stays depth ports groups q xs (Exec e) (Exec d) v s l ne nr cb ca = absurd (ne refl)
-stays depth ports groups q xs (Exec e) Go v s l ne nr cb ca = no_act cb
-stays depth ports groups q xs (Exec e) (From j) v s l ne nr cb ca = no_act cb
-stays depth ports groups q xs (Exec e) (Send j) v s l ne nr cb ca = no_act cb
-stays depth ports groups q xs (Exec e) (Alloc g) v s l ne nr cb ca = absurd (omega arith)
-stays depth ports groups q xs (Exec e) (Addr r) v s l ne nr cb ca = absurd (omega arith)
-stays depth ports groups q xs (Exec e) (Data r) v s l ne nr cb ca = absurd (omega arith)
 stays depth ports groups q xs (Reply p) (Reply r) v s l ne nr cb ca = sym (ap is_done (reply_reply p r q.items (λ z. ne (ap Reply z)))) ∙ ca
 stays depth ports groups q xs (Reply p) Retire v s l ne nr cb ca = ap is_done (reply_retire p q.items cb) ∙ ca
 stays depth ports groups q xs (Reply p) End v s l ne nr cb ca = ca
-stays depth ports groups q xs (Reply p) Go v s l ne nr cb ca = no_act cb
-stays depth ports groups q xs (Reply p) (From j) v s l ne nr cb ca = no_act cb
-stays depth ports groups q xs (Reply p) (Send j) v s l ne nr cb ca = no_act cb
-stays depth ports groups q xs (Reply p) (Alloc g) v s l ne nr cb ca = absurd (omega arith)
-stays depth ports groups q xs (Reply p) (Addr r) v s l ne nr cb ca = absurd (omega arith)
-stays depth ports groups q xs (Reply p) (Data r) v s l ne nr cb ca = absurd (omega arith)
-stays depth ports groups q xs (Reply p) (Exec e) v s l ne nr cb ca = absurd (omega arith)
 stays depth ports groups q xs Retire Retire v s l ne nr cb ca = absurd (ne refl)
 stays depth ports groups q xs Retire End v s l ne nr cb ca = ca
-stays depth ports groups q xs Retire Go v s l ne nr cb ca = no_act cb
-stays depth ports groups q xs Retire (From j) v s l ne nr cb ca = no_act cb
-stays depth ports groups q xs Retire (Send j) v s l ne nr cb ca = no_act cb
-stays depth ports groups q xs Retire (Alloc g) v s l ne nr cb ca = absurd (omega arith)
-stays depth ports groups q xs Retire (Addr r) v s l ne nr cb ca = absurd (omega arith)
-stays depth ports groups q xs Retire (Data r) v s l ne nr cb ca = absurd (omega arith)
-stays depth ports groups q xs Retire (Exec e) v s l ne nr cb ca = absurd (omega arith)
-stays depth ports groups q xs Retire (Reply r) v s l ne nr cb ca = absurd (omega arith)
 stays depth ports groups q xs End End v s l ne nr cb ca = absurd (ne refl)
-stays depth ports groups q xs End Go v s l ne nr cb ca = no_act cb
-stays depth ports groups q xs End (From j) v s l ne nr cb ca = no_act cb
-stays depth ports groups q xs End (Send j) v s l ne nr cb ca = no_act cb
-stays depth ports groups q xs End (Alloc g) v s l ne nr cb ca = absurd (omega arith)
-stays depth ports groups q xs End (Addr r) v s l ne nr cb ca = absurd (omega arith)
-stays depth ports groups q xs End (Data r) v s l ne nr cb ca = absurd (omega arith)
-stays depth ports groups q xs End (Exec e) v s l ne nr cb ca = absurd (omega arith)
-stays depth ports groups q xs End (Reply r) v s l ne nr cb ca = absurd (omega arith)
-stays depth ports groups q xs End Retire v s l ne nr cb ca = absurd (omega arith)
+stays depth ports groups q xs _ _ v s l ne nr cb ca = absurd (omega arith)
 
 refused : (before after : Bool) → (after ≡ true → before ≡ true) → before ≡ false → after ≡ false
 refused before false h e = refl

@@ -11,7 +11,7 @@ use Rattle.net_types.specs.declared.net.Place.{Place}
 use Rattle.net_types.specs.declared.net.Chan.{Chan}
 use Rattle.net_types.specs.declared.net.Net.{Net}
 use Rattle.net_types.specs.declared.net.Unit.{Unit as Kind}
-use Rattle.net_types.specs.declared.net.Unit.TheVariants.{Entry, Param, Const, Op1, Op2, Select, Fork, Mux, Cmerge, Branch, Sink, Read, Lsq, Exit}
+use Rattle.net_types.specs.declared.net.Unit.TheVariants.{Fork, Mux, Cmerge, Sink, Lsq}
 use Rattle.net_types.specs.Nets.{is_at, at, kind_of}
 use Rattle.net_types.specs.Numbered.{AreNumbered}
 use Rattle.net_types.specs.Tables.{Spot, spots, ins, outs, port_ins, array_width}
@@ -144,37 +144,16 @@ queue_ins_length net a d ps gs f =
     omega arith
 
 in_bound_row : (net : Net) (k : Kind) → bound In k ≤ 2 * length (ins net false k)
-in_bound_row net Entry = omega arith
-in_bound_row net (Param j) = omega arith
-in_bound_row net (Const w n) = omega arith
-in_bound_row net (Op1 op) = omega arith
-in_bound_row net (Op2 op) = omega arith
-in_bound_row net (Select w) = omega arith
-in_bound_row net (Fork w n) = omega arith
 in_bound_row net (Mux w n) = let s = spots_length 1 w false n in omega arith
 in_bound_row net (Cmerge n) = let s = spots_length 0 32 true n in omega arith
-in_bound_row net (Branch w) = omega arith
-in_bound_row net (Sink w) = omega arith
-in_bound_row net (Read a) = omega arith
 in_bound_row net (Lsq a d ps gs f) = let s = queue_ins_length net a d ps gs f in omega arith
-in_bound_row net Exit = omega arith
+in_bound_row net _ = omega arith
 
 out_bound_row : (net : Net) (k : Kind) → bound Out k ≤ length (outs net false k) + length (ins net false k)
-out_bound_row net Entry = omega arith
-out_bound_row net (Param j) = omega arith
-out_bound_row net (Const w n) = omega arith
-out_bound_row net (Op1 op) = omega arith
-out_bound_row net (Op2 op) = omega arith
-out_bound_row net (Select w) = omega arith
 out_bound_row net (Fork w zero) = omega arith
 out_bound_row net (Fork w (suc n)) = let s = spots_length 1 w false n in omega arith
-out_bound_row net (Mux w n) = omega arith
-out_bound_row net (Cmerge n) = omega arith
-out_bound_row net (Branch w) = omega arith
-out_bound_row net (Sink w) = omega arith
-out_bound_row net (Read a) = omega arith
 out_bound_row net (Lsq a d ps gs f) = let s = queue_ins_length net a d ps gs f in omega arith
-out_bound_row net Exit = omega arith
+out_bound_row net _ = omega arith
 
 in_bounds_sum : (net : Net) (ks : List Kind) → sum_by (bound In) ks ≤ 2 * sum_by (λ k. length (ins net false k)) ks
 in_bounds_sum net [] = omega arith
@@ -276,21 +255,9 @@ module _ (net : Net) (known : BTreeSet (ℕ × ℕ)) (t : Option ℕ) (u : ℕ) 
       omega arith
 
 crowded_more : (net : Net) (k : Kind) → length (ins net false k) ≤ length net.chans → IsCrowded k (length net.chans) → ⊥
-crowded_more net Entry l h = h
-crowded_more net (Param j) l h = h
-crowded_more net (Const w n) l h = h
-crowded_more net (Op1 op) l h = h
-crowded_more net (Op2 op) l h = h
-crowded_more net (Select w) l h = h
-crowded_more net (Fork w n) l h = h
-crowded_more net (Mux w n) l h = h
-crowded_more net (Cmerge n) l h = h
-crowded_more net (Branch w) l h = h
-crowded_more net (Sink w) l h = h
-crowded_more net (Read a) l h = h
 crowded_more net (Lsq a d ps gs f) l (inl h) = let q = queue_ins_length net a d ps gs f in omega arith
 crowded_more net (Lsq a d ps gs f) l (inr h) = let q = queue_ins_length net a d ps gs f in omega arith
-crowded_more net Exit l h = h
+crowded_more net _ l h = h
 
 pub crowded_lacks : (net : Net) (known : BTreeSet (ℕ × ℕ)) (t : Option ℕ) (u : ℕ) → IsGathered In net.chans known t → u < length net.units → IsCrowded (kind_of net u) (length net.chans) → IsKnown In net known u → ⊥
 crowded_lacks net known t u g l h k = crowded_more net (kind_of net u) (own_few net known t u g l k) h
@@ -300,34 +267,13 @@ at_most : (m n : ℕ) → (m < n → ⊥) → n ≤ m
 at_most m n h = elim (cases_lt m n) [ inl l ↦ absurd (h l) | inr l ↦ l ]
 
 pub bounded_few : (side : Side) (k : Kind) (chans : ℕ) → chans < 2 ^ 32 → HasShape k → (IsCrowded k chans → ⊥) → IsBounded side k
-bounded_few In Entry chans l s h = omega arith
-bounded_few In (Param j) chans l s h = omega arith
-bounded_few In (Const w n) chans l s h = omega arith
-bounded_few In (Op1 op) chans l s h = omega arith
-bounded_few In (Op2 op) chans l s h = omega arith
-bounded_few In (Select w) chans l s h = omega arith
-bounded_few In (Fork w n) chans l s h = omega arith
 bounded_few In (Mux w n) chans l s h = let m = s.most in omega arith
 bounded_few In (Cmerge n) chans l s h = let m = s.most in omega arith
-bounded_few In (Branch w) chans l s h = omega arith
-bounded_few In (Sink w) chans l s h = omega arith
-bounded_few In (Read a) chans l s h = omega arith
 bounded_few In (Lsq a d ps gs f) chans l s h = let p = at_most chans (length ps) (λ x. h (inl x)) in let g = at_most chans (length gs) (λ x. h (inr x)) in omega arith
-bounded_few In Exit chans l s h = omega arith
-bounded_few Out Entry chans l s h = omega arith
-bounded_few Out (Param j) chans l s h = omega arith
-bounded_few Out (Const w n) chans l s h = omega arith
-bounded_few Out (Op1 op) chans l s h = omega arith
-bounded_few Out (Op2 op) chans l s h = omega arith
-bounded_few Out (Select w) chans l s h = omega arith
+bounded_few In _ chans l s h = omega arith
 bounded_few Out (Fork w n) chans l s h = let m = s.most in omega arith
-bounded_few Out (Mux w n) chans l s h = omega arith
-bounded_few Out (Cmerge n) chans l s h = omega arith
-bounded_few Out (Branch w) chans l s h = omega arith
-bounded_few Out (Sink w) chans l s h = omega arith
-bounded_few Out (Read a) chans l s h = omega arith
 bounded_few Out (Lsq a d ps gs f) chans l s h = let p = at_most chans (length ps) (λ x. h (inl x)) in let g = at_most chans (length gs) (λ x. h (inr x)) in omega arith
-bounded_few Out Exit chans l s h = omega arith
+bounded_few Out _ chans l s h = omega arith
 
 -- the unit of number u, read from the list us of units
 pub bounded_read : (side : Side) (net : Net) (us : List Kind) (u chans : ℕ) (k : Kind) (b : Bool) → AreNumbered net → KeepsC7 net → us ≡ net.units → u < length us → k ≡ get_or us u k → chans ≡ length net.chans

@@ -4,7 +4,7 @@ use Rattle.std.specs.List.{count_by}
 use Rattle.std.proofs.lemmas.List.Sums.{sum_by-take-le}
 use Rattle.net_types.specs.declared.net.Net.{Net}
 use Rattle.net_types.specs.declared.net.Unit.{Unit as Kind}
-use Rattle.net_types.specs.declared.net.Unit.TheVariants.{Entry, Param, Const, Op1, Op2, Select, Fork, Mux, Cmerge, Branch, Sink, Read, Lsq, Exit}
+use Rattle.net_types.specs.declared.net.Unit.TheVariants.{Entry, Param, Sink, Read, Lsq, Exit}
 use Rattle.net_types.specs.Nets.{kind_of, nowhere}
 use Rattle.net_types.specs.Rules.{KeepsC2}
 use Rattle.net_check.specs.declared.refusal.At.{At}
@@ -61,29 +61,8 @@ faulty_breaks net u f k = by (kind_of net u) refl f.fault
         let z = k.unread a s in
         let c = count_some (is_read a) net.units (length net.units) u (omega arith) f.within (tested (is_read a) (Read a) e (eq-eqb a a refl)) in
         let w = whole (is_read a) net.units in omega arith
-    by (Read a) e (inr (inl s)) = s
-    by (Const w v) e (inr (inl s)) = s
-    by (Op1 o) e (inr (inl s)) = s
-    by (Op2 o) e (inr (inl s)) = s
-    by (Select w) e (inr (inl s)) = s
-    by (Fork w n) e (inr (inl s)) = s
-    by (Mux w n) e (inr (inl s)) = s
-    by (Cmerge n) e (inr (inl s)) = s
-    by (Branch w) e (inr (inl s)) = s
-    by (Sink w) e (inr (inl s)) = s
-    by Entry e (inr (inr s)) = s
-    by Exit e (inr (inr s)) = s
-    by (Param j) e (inr (inr s)) = s
-    by (Lsq a d ps gs f) e (inr (inr s)) = s
-    by (Const w v) e (inr (inr s)) = s
-    by (Op1 o) e (inr (inr s)) = s
-    by (Op2 o) e (inr (inr s)) = s
-    by (Select w) e (inr (inr s)) = s
-    by (Fork w n) e (inr (inr s)) = s
-    by (Mux w n) e (inr (inr s)) = s
-    by (Cmerge n) e (inr (inr s)) = s
-    by (Branch w) e (inr (inr s)) = s
-    by (Sink w) e (inr (inr s)) = s
+    by _ e (inr (inl s)) = s
+    by _ e (inr (inr s)) = s
 
 pub breaks_header : (net : Net) (x : At) → CulpritC8 net x → KeepsC8 net → ⊥
 breaks_header net (at.Unit u) c k = faulty_breaks net u c.here k

@@ -6,7 +6,7 @@ use Rattle.std.proofs.lemmas.List.Elements.{All-head, All-tail}
 use Rattle.net_types.specs.declared.net.Place.{Place}
 use Rattle.net_types.specs.declared.net.Net.{Net}
 use Rattle.net_types.specs.declared.net.Unit.{Unit as Kind}
-use Rattle.net_types.specs.declared.net.Unit.TheVariants.{Entry, Param, Const, Op1, Op2, Select, Fork, Mux, Cmerge, Branch, Sink, Read, Lsq, Exit}
+use Rattle.net_types.specs.declared.net.Unit.TheVariants.{Fork, Sink, Read, Lsq, Exit}
 use Rattle.net_types.specs.Nets.{kind_of, chan_at, nowhere, into, out_of, uses, owns}
 use Rattle.net_types.specs.Tables.{Spot, spot, ins, outs, InSpots}
 use Rattle.net_types.specs.Rules.{KeepsC1, KeepsC2, HasWidth}
@@ -28,37 +28,13 @@ use Rattle.net_check.proofs.Breaks.{two}
 -- rows of the table: widths do not turn on what a unit passes
 
 width_passed_in : (net : Net) (m n : Bool) (k : Kind) (p w : ℕ) → HasWidth (ins net m k) p w → HasWidth (ins net n k) p w
-width_passed_in net m n (Fork v c) p w h = h
-width_passed_in net m n (Branch v) p w h = h
-width_passed_in net m n Entry p w h = h
-width_passed_in net m n (Param j) p w h = h
-width_passed_in net m n (Const v c) p w h = h
-width_passed_in net m n (Op1 o) p w h = h
-width_passed_in net m n (Op2 o) p w h = h
-width_passed_in net m n (Select v) p w h = h
-width_passed_in net m n (Mux v c) p w h = h
-width_passed_in net m n (Cmerge c) p w h = h
-width_passed_in net m n (Sink v) p w h = h
-width_passed_in net m n (Read r) p w h = h
-width_passed_in net m n (Lsq r d ps gs f) p w h = h
 width_passed_in net m n Exit p w h = h
+width_passed_in net m n _ p w h = h
 
 width_passed_out : (net : Net) (m n : Bool) (k : Kind) (p w : ℕ) → HasWidth (outs net m k) p w → HasWidth (outs net n k) p w
 width_passed_out net m n (Fork v zero) p w h = h
 width_passed_out net m n (Fork v (suc c)) p w h = h
-width_passed_out net m n (Branch v) p w h = h
-width_passed_out net m n Entry p w h = h
-width_passed_out net m n (Param j) p w h = h
-width_passed_out net m n (Const v c) p w h = h
-width_passed_out net m n (Op1 o) p w h = h
-width_passed_out net m n (Op2 o) p w h = h
-width_passed_out net m n (Select v) p w h = h
-width_passed_out net m n (Mux v c) p w h = h
-width_passed_out net m n (Cmerge c) p w h = h
-width_passed_out net m n (Sink v) p w h = h
-width_passed_out net m n (Read r) p w h = h
-width_passed_out net m n (Lsq r d ps gs f) p w h = h
-width_passed_out net m n Exit p w h = h
+width_passed_out net m n _ p w h = h
 
 -- a place of some width has that width and a mark, and the other way round
 

@@ -9,7 +9,7 @@ use Rattle.net_types.specs.declared.net.Port.{Port}
 use Rattle.net_types.specs.declared.net.Port.TheVariants.{Load, Store}
 use Rattle.net_types.specs.declared.net.Net.{Net}
 use Rattle.net_types.specs.declared.net.Unit.{Unit as Kind}
-use Rattle.net_types.specs.declared.net.Unit.TheVariants.{Entry, Param, Const, Op1, Op2, Select, Fork, Mux, Cmerge, Branch, Sink, Read, Lsq, Exit}
+use Rattle.net_types.specs.declared.net.Unit.TheVariants.{Entry, Param, Op2, Select, Fork, Mux, Cmerge, Branch, Sink, Lsq, Exit}
 use Rattle.net_types.specs.Nets.{is_at, at, kind_of}
 use Rattle.net_types.specs.Tables.{Spot, spots, ins, outs, port_ins, port_outs, array_width, result_in}
 use Rattle.net_types.specs.Rules.{places_at, in_places_from, out_places_from, times_in}
@@ -167,35 +167,23 @@ below-result (Some t) = (omega arith, tt)
 below-row : (side : Side) (net : Net) (k : Kind) → Below (bound side k) (row side net k)
 below-row In net Entry = tt
 below-row In net (Param j) = tt
-below-row In net (Const w n) = (omega arith, tt)
-below-row In net (Op1 op) = (omega arith, tt)
 below-row In net (Op2 op) = (omega arith, (omega arith, tt))
 below-row In net (Select w) = (omega arith, (omega arith, (omega arith, tt)))
-below-row In net (Fork w n) = (omega arith, tt)
 below-row In net (Mux w n) = (omega arith, below-spots (n + 1) 1 w false n (omega arith))
 below-row In net (Cmerge n) = below-spots n 0 32 true n (omega arith)
 below-row In net (Branch w) = (omega arith, (omega arith, tt))
-below-row In net (Sink w) = (omega arith, tt)
-below-row In net (Read a) = (omega arith, tt)
 below-row In net (Lsq a d ps gs f) = below-append (length gs + 1 + 2 * length ps) (spots 0 32 true (suc (length gs))) (port_ins (length gs + 1) (array_width net.arrays a) ps)
     (below-spots _ 0 32 true (suc (length gs)) (omega arith)) (below-port_ins _ (length gs + 1) (array_width net.arrays a) ps (omega arith))
 below-row In net Exit = (omega arith, below-result net.result)
-below-row Out net Entry = (omega arith, tt)
-below-row Out net (Param j) = (omega arith, tt)
-below-row Out net (Const w n) = (omega arith, tt)
-below-row Out net (Op1 op) = (omega arith, tt)
-below-row Out net (Op2 op) = (omega arith, tt)
-below-row Out net (Select w) = (omega arith, tt)
+below-row In net _ = (omega arith, tt)
 below-row Out net (Fork w zero) = tt
 below-row Out net (Fork w (suc n)) = (omega arith, below-spots (suc n) 1 w false n (omega arith))
-below-row Out net (Mux w n) = (omega arith, tt)
-below-row Out net (Cmerge n) = (omega arith, tt)
 below-row Out net (Branch w) = (omega arith, (omega arith, tt))
 below-row Out net (Sink w) = tt
-below-row Out net (Read a) = (omega arith, tt)
 below-row Out net (Lsq a d ps gs f) = below-append (length gs + 1 + length ps) (spots 0 32 true (suc (length gs))) (port_outs (length gs + 1) (array_width net.arrays a) ps)
     (below-spots _ 0 32 true (suc (length gs)) (omega arith)) (below-port_outs _ (length gs + 1) (array_width net.arrays a) ps (omega arith))
 below-row Out net Exit = tt
+below-row Out net _ = (omega arith, tt)
 
 -- a place has a number below the bound of its unit
 pub placed_below : (side : Side) (net : Net) (u p : ℕ) → 0 < placed side net u p → p < bound side (kind_of net u)

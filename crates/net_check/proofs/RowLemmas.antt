@@ -87,19 +87,11 @@ rises-in net (Lsq a d ps gs f) = rises-spots 0 32 true (suc (length gs)) (port_i
 rises-in net Exit = (omega arith, rises-result net.result)
 
 pub rises-out : (net : Net) (k : Kind) → Rises 0 (outs net false k)
-rises-out net Entry = (omega arith, tt)
-rises-out net (Param j) = (omega arith, tt)
-rises-out net (Const w n) = (omega arith, tt)
-rises-out net (Op1 op) = (omega arith, tt)
-rises-out net (Op2 op) = (omega arith, tt)
-rises-out net (Select w) = (omega arith, tt)
 rises-out net (Fork w zero) = tt
 rises-out net (Fork w (suc n)) = (omega arith, spots-alone 1 w false n)
-rises-out net (Mux w n) = (omega arith, tt)
-rises-out net (Cmerge n) = (omega arith, tt)
 rises-out net (Branch w) = (omega arith, (omega arith, tt))
 rises-out net (Sink w) = tt
-rises-out net (Read a) = (omega arith, tt)
 rises-out net (Lsq a d ps gs f) = rises-spots 0 32 true (suc (length gs)) (port_outs (length gs + 1) (array_width net.arrays a) ps)
     (rises-from (0 + suc (length gs)) (length gs + 1) (port_outs (length gs + 1) (array_width net.arrays a) ps) (omega arith) (rises-port_outs (length gs + 1) (array_width net.arrays a) ps))
 rises-out net Exit = tt
+rises-out net _ = (omega arith, tt)

@@ -9,7 +9,7 @@ use Rattle.el_base.specs.declared.ty.Array.{Array}
 use Rattle.el_base.specs.Limits.{max_elements}
 use Rattle.net_types.specs.declared.net.Net.{Net}
 use Rattle.net_types.specs.declared.net.Unit.{Unit as Kind}
-use Rattle.net_types.specs.declared.net.Unit.TheVariants.{Entry, Param, Const, Op1, Op2, Select, Fork, Mux, Cmerge, Branch, Sink, Read, Lsq, Exit}
+use Rattle.net_types.specs.declared.net.Unit.TheVariants.{Entry, Param, Sink, Read, Lsq, Exit}
 use Rattle.net_check.specs.Headers.{is_entry, is_exit, is_param, is_queue, is_read, IsNamed, IsSecond, ReadsQueued}
 use Rattle.net_check.specs.private.Firsts.{IsFirst}
 use Rattle.net_check.specs.private.Tallies.{IsTallied, is_second, is_second_at, is_taken, is_faulty}
@@ -168,15 +168,7 @@ faulty net e x ps qs u (Read a) l t f = by (cases_lt a (length net.arrays)) (or_
     by (inr h) y = inl (λ n. (omega arith))
     by (inl h) (inl y) = let z : length qs ≤ a = leb-true _ _ y in let w = t.queues_len in absurd (omega arith)
     by (inl h) (inr y) = inr (inr (some_passes (is_queue a) net.units (get_or qs a None) (t.queues a h) y))
-faulty net e x ps qs u (Const w v) l t f = cc
-faulty net e x ps qs u (Op1 o) l t f = cc
-faulty net e x ps qs u (Op2 o) l t f = cc
-faulty net e x ps qs u (Select w) l t f = cc
-faulty net e x ps qs u (Fork w n) l t f = cc
-faulty net e x ps qs u (Mux w n) l t f = cc
-faulty net e x ps qs u (Cmerge n) l t f = cc
-faulty net e x ps qs u (Branch w) l t f = cc
-faulty net e x ps qs u (Sink w) l t f = cc
+faulty net e x ps qs u _ l t f = cc
 
 -- a number that a table of this length does not lack
 listed : (n m a : ℕ) → n ≡ m → nat_le n a ≡ false → a < m
@@ -186,17 +178,7 @@ pub named_of : (net : Net) (e x : Option ℕ) (ps qs : List (Option ℕ)) (u : �
 named_of net e x ps qs u (Param j) t f = listed _ _ j t.params_len (or_parts _ _ f).0
 named_of net e x ps qs u (Lsq a d ports gs mark) t f = listed _ _ a t.queues_len (or_parts _ _ f).0
 named_of net e x ps qs u (Read a) t f = listed _ _ a t.queues_len (or_parts _ _ f).0
-named_of net e x ps qs u Entry t f = tt
-named_of net e x ps qs u Exit t f = tt
-named_of net e x ps qs u (Const w v) t f = tt
-named_of net e x ps qs u (Op1 o) t f = tt
-named_of net e x ps qs u (Op2 o) t f = tt
-named_of net e x ps qs u (Select w) t f = tt
-named_of net e x ps qs u (Fork w n) t f = tt
-named_of net e x ps qs u (Mux w n) t f = tt
-named_of net e x ps qs u (Cmerge n) t f = tt
-named_of net e x ps qs u (Branch w) t f = tt
-named_of net e x ps qs u (Sink w) t f = tt
+named_of net e x ps qs u _ t f = tt
 
 pub not_faulty : (net : Net) (e x : Option ℕ) (ps qs : List (Option ℕ)) (u : ℕ) (k : Kind) → u ≤ length net.units → IsTallied net e x ps qs → is_faulty e x ps qs u k ≡ false → Fault net u k → ⊥
 not_faulty net e x ps qs u k l t f (inl n) = n (named_of net e x ps qs u k t f)
@@ -208,29 +190,8 @@ not_faulty net e x ps qs u (Lsq a d ports gs mark) l t f (inr (inl s)) =
     not_second (is_queue a) net.units _ u l (t.queues a (listed _ _ a t.queues_len (or_parts _ _ f).0)) (or_parts _ _ f).1 s
 not_faulty net e x ps qs u (Read a) l t f (inr (inr s)) =
     let z : count_by (is_queue a) net.units ≡ 0 = none_passes (is_queue a) net.units (get_or qs a None) (t.queues a (listed _ _ a t.queues_len (or_parts _ _ f).0)) (or_parts _ _ f).1 in omega arith
-not_faulty net e x ps qs u (Read a) l t f (inr (inl s)) = s
-not_faulty net e x ps qs u (Const w v) l t f (inr (inl s)) = s
-not_faulty net e x ps qs u (Op1 o) l t f (inr (inl s)) = s
-not_faulty net e x ps qs u (Op2 o) l t f (inr (inl s)) = s
-not_faulty net e x ps qs u (Select w) l t f (inr (inl s)) = s
-not_faulty net e x ps qs u (Fork w n) l t f (inr (inl s)) = s
-not_faulty net e x ps qs u (Mux w n) l t f (inr (inl s)) = s
-not_faulty net e x ps qs u (Cmerge n) l t f (inr (inl s)) = s
-not_faulty net e x ps qs u (Branch w) l t f (inr (inl s)) = s
-not_faulty net e x ps qs u (Sink w) l t f (inr (inl s)) = s
-not_faulty net e x ps qs u Entry l t f (inr (inr s)) = s
-not_faulty net e x ps qs u Exit l t f (inr (inr s)) = s
-not_faulty net e x ps qs u (Param j) l t f (inr (inr s)) = s
-not_faulty net e x ps qs u (Lsq a d ports gs mark) l t f (inr (inr s)) = s
-not_faulty net e x ps qs u (Const w v) l t f (inr (inr s)) = s
-not_faulty net e x ps qs u (Op1 o) l t f (inr (inr s)) = s
-not_faulty net e x ps qs u (Op2 o) l t f (inr (inr s)) = s
-not_faulty net e x ps qs u (Select w) l t f (inr (inr s)) = s
-not_faulty net e x ps qs u (Fork w n) l t f (inr (inr s)) = s
-not_faulty net e x ps qs u (Mux w n) l t f (inr (inr s)) = s
-not_faulty net e x ps qs u (Cmerge n) l t f (inr (inr s)) = s
-not_faulty net e x ps qs u (Branch w) l t f (inr (inr s)) = s
-not_faulty net e x ps qs u (Sink w) l t f (inr (inr s)) = s
+not_faulty net e x ps qs u _ l t f (inr (inl s)) = s
+not_faulty net e x ps qs u _ l t f (inr (inr s)) = s
 
 -- what the firsts tell of a unit of each sort
 pub entry_told : (e x : Option ℕ) (ps qs : List (Option ℕ)) (u : ℕ) (k : Kind) → is_entry k ≡ true → is_faulty e x ps qs u k ≡ false → is_second e u ≡ false

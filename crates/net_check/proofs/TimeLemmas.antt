@@ -8,7 +8,7 @@ use Rattle.net_types.specs.declared.net.Place.{Place}
 use Rattle.net_types.specs.declared.net.Chan.{Chan}
 use Rattle.net_types.specs.declared.net.Net.{Net}
 use Rattle.net_types.specs.declared.net.Unit.{Unit as Kind}
-use Rattle.net_types.specs.declared.net.Unit.TheVariants.{Entry, Param, Const, Op1, Op2, Select, Fork, Mux, Cmerge, Branch, Sink, Read, Lsq, Exit}
+use Rattle.net_types.specs.declared.net.Unit.TheVariants.{Fork, Exit}
 use Rattle.net_types.specs.Nets.{is_at, into, out_of, nowhere, kind_of, chan_at}
 use Rattle.net_types.specs.Numbered.{AreNumbered}
 use Rattle.net_types.specs.Tables.{Spot, ins, outs}
@@ -31,37 +31,13 @@ out_plain u p [] = refl
 out_plain u p (c ∷ cs) = ap (λ n. cond (is_at c.from u p) 0 (suc n)) (out_plain u p cs)
 
 ins_plain : (net : Net) (m : Bool) (k : Kind) → ins (plain net) m k ≡ ins net m k
-ins_plain net m Entry = refl
-ins_plain net m (Param j) = refl
-ins_plain net m (Const w n) = refl
-ins_plain net m (Op1 op) = refl
-ins_plain net m (Op2 op) = refl
-ins_plain net m (Select w) = refl
-ins_plain net m (Fork w n) = refl
-ins_plain net m (Mux w n) = refl
-ins_plain net m (Cmerge n) = refl
-ins_plain net m (Branch w) = refl
-ins_plain net m (Sink w) = refl
-ins_plain net m (Read a) = refl
-ins_plain net m (Lsq a d ps gs f) = refl
 ins_plain net m Exit = refl
+ins_plain net m _ = refl
 
 outs_plain : (net : Net) (m : Bool) (k : Kind) → outs (plain net) m k ≡ outs net m k
-outs_plain net m Entry = refl
-outs_plain net m (Param j) = refl
-outs_plain net m (Const w n) = refl
-outs_plain net m (Op1 op) = refl
-outs_plain net m (Op2 op) = refl
-outs_plain net m (Select w) = refl
 outs_plain net m (Fork w zero) = refl
 outs_plain net m (Fork w (suc n)) = refl
-outs_plain net m (Mux w n) = refl
-outs_plain net m (Cmerge n) = refl
-outs_plain net m (Branch w) = refl
-outs_plain net m (Sink w) = refl
-outs_plain net m (Read a) = refl
-outs_plain net m (Lsq a d ps gs f) = refl
-outs_plain net m Exit = refl
+outs_plain net m _ = refl
 
 ins_from : (net : Net) (u : ℕ) (ks : List Kind) → in_places_from (plain net) u ks ≡ in_places_from net u ks
 ins_from net u [] = refl
@@ -237,36 +213,12 @@ c6_back net h = record {
 -- ---- C8
 
 named_plain : (net : Net) (k : Kind) → IsNamed net k → IsNamed (plain net) k
-named_plain net Entry x = x
-named_plain net (Param j) x = x
-named_plain net (Const w n) x = x
-named_plain net (Op1 op) x = x
-named_plain net (Op2 op) x = x
-named_plain net (Select w) x = x
-named_plain net (Fork w n) x = x
-named_plain net (Mux w n) x = x
-named_plain net (Cmerge n) x = x
-named_plain net (Branch w) x = x
-named_plain net (Sink w) x = x
-named_plain net (Read a) x = x
-named_plain net (Lsq a d ps gs f) x = x
 named_plain net Exit x = x
+named_plain net _ x = x
 
 named_back : (net : Net) (k : Kind) → IsNamed (plain net) k → IsNamed net k
-named_back net Entry x = x
-named_back net (Param j) x = x
-named_back net (Const w n) x = x
-named_back net (Op1 op) x = x
-named_back net (Op2 op) x = x
-named_back net (Select w) x = x
-named_back net (Fork w n) x = x
-named_back net (Mux w n) x = x
-named_back net (Cmerge n) x = x
-named_back net (Branch w) x = x
-named_back net (Sink w) x = x
-named_back net (Read a) x = x
-named_back net (Lsq a d ps gs f) x = x
 named_back net Exit x = x
+named_back net _ x = x
 
 all_plain : (net : Net) (ks : List Kind) → All (IsNamed net) ks → All (IsNamed (plain net)) ks
 all_plain net ks x = λ j d l. named_plain net (get_or ks j d) (x j d l)

@@ -4,7 +4,7 @@ use Rattle.net_types.specs.declared.net.Port.{Port}
 use Rattle.net_types.specs.declared.net.Unit.{Unit as Kind}
 use Rattle.net_types.specs.declared.net.Unit.TheVariants.{Entry, Param, Const, Op1, Op2, Select, Fork, Mux, Cmerge, Branch, Sink, Read, Lsq, Exit}
 use Rattle.net_types.specs.declared.firing.Act.{Act}
-use Rattle.net_types.specs.declared.firing.Act.TheVariants.{Go, From, Send, Alloc, Addr, Data, Exec, Reply, Retire, End}
+use Rattle.net_types.specs.declared.firing.Act.TheVariants.{From, Alloc, Addr, Data, Exec, Reply, Retire, End}
 use Rattle.net_types.specs.declared.net.Net.{Net}
 use Rattle.net_check.specs.Controls.{ctl_in, ctl_out}
 use Rattle.lsq_core.specs.Acts.{can, step, in_place}
@@ -94,9 +94,7 @@ queue_account net u n depth ports groups fw a o xs st =
     at (Data p) c = λ v. quiet (λ w e. cc) (omega arith)
     at (Exec x) c = quiet (λ w e. cc) (omega arith)
     at Retire c = quiet (λ w e. cc) (omega arith)
-    at Go c = cc
-    at (From j) c = cc
-    at (Send j) c = cc
+    at _ c = cc
 
 pub row_account : (net : Net) (u : ℕ) (k : Kind) (a : Act) (o : Own) (xs : List ℕ) (ss : Setting) → is_fork k ≡ false → Steers k (ctl_in net u) (ctl_out net u) → EachEffect (Account net u k o) (row k a o xs ss)
 unfolding row

@@ -6,7 +6,7 @@ use Rattle.net_types.specs.declared.net.Port.{Port}
 use Rattle.net_types.specs.declared.net.Unit.{Unit as Kind}
 use Rattle.net_types.specs.declared.net.Unit.TheVariants as unit
 use Rattle.net_types.specs.declared.firing.Act.{Act}
-use Rattle.net_types.specs.declared.firing.Act.TheVariants.{Go, From, Send, Alloc, Addr, Data, Exec, Reply, Retire, End}
+use Rattle.net_types.specs.declared.firing.Act.TheVariants.{Send, Exec}
 use Rattle.lsq_core.specs.declared.entry.Entry.{Entry}
 use Rattle.lsq_core.specs.Acts.{QueueState, step, exec, is_serial}
 use Rattle.net_core.specs.declared.cell.Cell.{Cell}
@@ -23,16 +23,8 @@ exec_mark q xs e (Some x) = refl
 
 -- no act changes the mark
 pub mark_stays : (ps : List Port) (gs : List (List ℕ)) (q : QueueState) (xs : List ℕ) (act : Act) (v : ℕ) → (step ps gs q xs act v).queue.forward ≡ q.forward
-mark_stays ps gs q xs Go v = refl
-mark_stays ps gs q xs (From j) v = refl
-mark_stays ps gs q xs (Send j) v = refl
-mark_stays ps gs q xs (Alloc g) v = refl
-mark_stays ps gs q xs (Addr p) v = refl
-mark_stays ps gs q xs (Data p) v = refl
 mark_stays ps gs q xs (Exec e) v = exec_mark q xs e (find (is_serial e) q.items)
-mark_stays ps gs q xs (Reply p) v = refl
-mark_stays ps gs q xs Retire v = refl
-mark_stays ps gs q xs End v = refl
+mark_stays ps gs q xs _ v = refl
 
 pub own_after : (k : Kind) (c : Cell) (ch : Change) (xs : List ℕ) → keeps k c ≡ true → IsShaped k c xs → admits c ch ≡ true → own_of (cell_after ch c) ≡ own_with k ch (own_of c) xs
 own_after k c change.Keep xs f h a = refl

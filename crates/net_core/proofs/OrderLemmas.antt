@@ -6,7 +6,7 @@ use Rattle.std.specs.Cmp.{nat_cmp_is}
 use Rattle.std.specs.declared.cmp.Ordering.{Ordering}
 use Rattle.std.specs.declared.cmp.Ordering.TheVariants.{Less, Equal, Greater}
 use Rattle.net_types.specs.declared.firing.Act.{Act}
-use Rattle.net_types.specs.declared.firing.Act.TheVariants.{Go, From, Send, Alloc, Addr, Data, Exec, Reply, Retire, End}
+use Rattle.net_types.specs.declared.firing.Act.TheVariants.{Go}
 use Rattle.net_types.specs.declared.firing.Firing.{Firing}
 use Rattle.net_types.specs.Order.{act_rank, act_number, is_before, ActLe, FiringLe}
 
@@ -69,12 +69,4 @@ before_or f g = by (is_before g f) refl
 
 pub go_least : (b : Act) → ActLe Go b
 go_least Go = inr (refl, omega arith)
-go_least (From j) = inl (omega arith)
-go_least (Send j) = inl (omega arith)
-go_least (Alloc j) = inl (omega arith)
-go_least (Addr j) = inl (omega arith)
-go_least (Data j) = inl (omega arith)
-go_least (Exec j) = inl (omega arith)
-go_least (Reply j) = inl (omega arith)
-go_least Retire = inl (omega arith)
-go_least End = inl (omega arith)
+go_least _ = inl (omega arith)

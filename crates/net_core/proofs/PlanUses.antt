@@ -38,15 +38,7 @@ plain_used (Fires put own array strays) h e pl q = let k : record { takes = []; 
 
 go_plain : (a : Act) (r : Row) → Plainly r → Plainly (on_go a r)
 go_plain Go r p = p
-go_plain (From j) r p = tt
-go_plain (Send j) r p = tt
-go_plain (Alloc g) r p = tt
-go_plain (Addr q) r p = tt
-go_plain (Data q) r p = tt
-go_plain (Exec e) r p = tt
-go_plain (Reply q) r p = tt
-go_plain Retire r p = tt
-go_plain End r p = tt
+go_plain _ r p = tt
 
 when_plain : (b : Bool) (r : Row) → Plainly r → Plainly (when b r)
 when_plain true r p = p
@@ -90,15 +82,7 @@ row_plain Exit a o xs ss f = go_plain a _ (when_plain (not o.fired) _ (exit_plai
 
 pub fork_act : (outs : ℕ) (a : Act) (o : Own) (xs : List ℕ) (h : ℕ → Option ℕ) (e : Effect) → effect_of (fork_row outs a o xs) h ≡ Some e → (j : ℕ) × (a ≡ Send j) × (effect_of (send_row outs j o xs) h ≡ Some e)
 fork_act outs (Send j) o xs h e q = (j, refl, q)
-fork_act outs Go o xs h e q = cc
-fork_act outs (From j) o xs h e q = cc
-fork_act outs (Alloc g) o xs h e q = cc
-fork_act outs (Addr p) o xs h e q = cc
-fork_act outs (Data p) o xs h e q = cc
-fork_act outs (Exec x) o xs h e q = cc
-fork_act outs (Reply p) o xs h e q = cc
-fork_act outs Retire o xs h e q = cc
-fork_act outs End o xs h e q = cc
+fork_act outs _ o xs h e q = cc
 
 pub fork_effect : (net : Net) (u w outs : ℕ) → kind_of net u ≡ Fork w outs → (t : State) (a : Act) → effect net t (firing u a) ≡ effect_of (fork_row outs a (get_or t.own u idle) []) (head_at net t u)
 unfolding row
@@ -137,16 +121,4 @@ plans_use net s u a e takes ea t = by (kind_of net u) refl
 
     by : (k : Kind) → kind_of net u ≡ k → used net s (firing u a) ≡ places_used (is_fork k) takes
     by (Fork w outs) is = fork_used net u w outs s a e is ea
-    by Entry is = other (ap is_fork is)
-    by (Param j) is = other (ap is_fork is)
-    by (Const w n) is = other (ap is_fork is)
-    by (Op1 op) is = other (ap is_fork is)
-    by (Op2 op) is = other (ap is_fork is)
-    by (Select w) is = other (ap is_fork is)
-    by (Mux w n) is = other (ap is_fork is)
-    by (Cmerge n) is = other (ap is_fork is)
-    by (Branch w) is = other (ap is_fork is)
-    by (Sink w) is = other (ap is_fork is)
-    by (Read n) is = other (ap is_fork is)
-    by (Lsq n d ps gs fw) is = other (ap is_fork is)
-    by Exit is = other (ap is_fork is)
+    by _ is = other (ap is_fork is)

@@ -3,7 +3,7 @@ use Rattle.std.specs.Prelude.{◌≡◌, ◌≢◌, ℕ, zero, suc, ◌<◌, ◌
 use Rattle.net_types.specs.declared.net.Place.{Place}
 use Rattle.net_types.specs.declared.net.Net.{Net}
 use Rattle.net_types.specs.declared.net.Unit.{Unit as Kind}
-use Rattle.net_types.specs.declared.net.Unit.TheVariants.{Entry, Param, Const, Op1, Op2, Select, Fork, Mux, Cmerge, Branch, Sink, Read, Lsq, Exit}
+use Rattle.net_types.specs.declared.net.Unit.TheVariants.{Entry, Fork, Cmerge, Branch, Sink, Lsq, Exit}
 use Rattle.net_types.specs.Nets.{into, chan_at, kind_of, uses, owns}
 use Rattle.net_check.specs.Controls.{ctl_in, ctl_out}
 use Rattle.net_check.specs.Ends.{is_lsq, end_place}
@@ -17,19 +17,13 @@ Alone net = (u v a : ℕ) → u ≢ v → owns (kind_of net u) ≡ Some a → us
 -- which places of a kind are control: as far as the count of control tokens rests on it
 abbrev pub Steers : Kind → (ℕ → Bool) → (ℕ → Bool) → Type 0
 Steers Entry i o = o 0 ≡ true
-Steers (Param j) i o = o 0 ≡ false
-Steers (Const w n) i o = o 0 ≡ false
-Steers (Op1 op) i o = o 0 ≡ false
-Steers (Op2 op) i o = o 0 ≡ false
-Steers (Select w) i o = o 0 ≡ false
 Steers (Fork w outs) i o = (j : ℕ) → j < outs → o j ≡ ((j == 0) && i 0)
-Steers (Mux w ins) i o = o 0 ≡ false
 Steers (Cmerge ins) i o = ((j : ℕ) → j < ins → i j ≡ true) × (o 0 ≡ true)
 Steers (Branch w) i o = (i 0 ≡ false) × (o 0 ≡ i 1) × (o 1 ≡ i 1)
 Steers (Sink w) i o = Unit {0}
-Steers (Read a) i o = o 0 ≡ false
 Steers (Lsq a d ps gs fw) i o = ((g : ℕ) → g ≤ length gs → i g ≡ true) × ((g : ℕ) → length gs < g → o g ≡ false)
 Steers Exit i o = i 0 ≡ true
+Steers _ i o = o 0 ≡ false
 
 abbrev pub Steered : Net → Type 0
 Steered net = (u : ℕ) → Steers (kind_of net u) (ctl_in net u) (ctl_out net u)

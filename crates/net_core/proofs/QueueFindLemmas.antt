@@ -98,13 +98,7 @@ module _ (net : Net) (s : State) (u a : ℕ) (q : QueueView) (kind : kind_of net
       by Go l c = cc
       by (From j) l c = cc
       by (Send j) l c = cc
-      by (Alloc j) l c = absurd (omega arith)
-      by (Addr j) l c = absurd (omega arith)
-      by (Data j) l c = absurd (omega arith)
-      by (Exec j) l c = absurd (omega arith)
-      by (Reply j) l c = absurd (omega arith)
-      by Retire l c = absurd (omega arith)
-      by End l c = absurd (omega arith)
+      by _ l c = absurd (omega arith)
 
   can_in : (f : Family) (b : Act) → act_rank b ≡ family_rank f → enabled net s (firing u b) → can q.depth q.groups q.queue (act_of f (act_number b)) ≡ true
   can_in f b r e = ap (can q.depth q.groups q.queue) (sym (act_is f b r)) ∙ can_of b e
@@ -163,9 +157,6 @@ module _ (net : Net) (s : State) (u a : ℕ) (q : QueueView) (kind : kind_of net
   no_number f b z r = ap act_number (act_is f b r) ∙ z
 
   pub queue_range : (f : Family) → 3 ≤ family_rank f → IsRange net s u from f (queue_numbers f from q).start (queue_numbers f from q).end
-  queue_range family.Go l = absurd (omega arith)
-  queue_range family.From l = absurd (omega arith)
-  queue_range family.Send l = absurd (omega arith)
   queue_range family.Alloc l = range_from net s u from family.Alloc (length q.groups) (λ b r e. ltb-true _ _ (and_parts _ _ (can_in family.Alloc b r e)).0)
   queue_range family.Addr l = range_from net s u from family.Addr (length q.ports)
       (λ b r e. port_found (wants_addr (act_number b)) q.queue.items (act_number b) (length q.ports) within (λ x h. eqb-true _ _ (and_parts _ _ h).0) (can_in family.Addr b r e))
@@ -180,6 +171,7 @@ module _ (net : Net) (s : State) (u a : ℕ) (q : QueueView) (kind : kind_of net
       done (Some x) h = refl
   queue_range family.Retire l = one family.Retire (λ b r. no_number family.Retire b refl r)
   queue_range family.End l = one family.End (λ b r. no_number family.End b refl r)
+  queue_range _ l = absurd (omega arith)
 
 -- the kinds of acts of a queue stand one after another
 pub rank_at : (i : ℕ) (d : Family) → i < length queue_families → family_rank (get_or queue_families i d) ≡ 3 + i

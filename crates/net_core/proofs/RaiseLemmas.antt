@@ -10,7 +10,7 @@ use Rattle.net_types.specs.declared.net.Port.{Port}
 use Rattle.net_types.specs.declared.net.Unit.{Unit as Kind}
 use Rattle.net_types.specs.declared.net.Unit.TheVariants.{Entry, Param, Const, Op1, Op2, Select, Fork, Mux, Cmerge, Branch, Sink, Read, Lsq, Exit}
 use Rattle.net_types.specs.declared.firing.Act.{Act}
-use Rattle.net_types.specs.declared.firing.Act.TheVariants.{Go, From, Send, Alloc, Addr, Data, Exec, Reply, Retire, End}
+use Rattle.net_types.specs.declared.firing.Act.TheVariants.{From, Send, Alloc, Exec}
 use Rattle.net_types.specs.declared.firing.Firing.{Firing}
 use Rattle.net_types.specs.Nets.{kind_of, uses}
 use Rattle.net_types.specs.Queues.{IsGroup}
@@ -37,14 +37,7 @@ step_few : (ps : List Port) (gs : List (List ℕ)) (q : QueueState) (xs : List �
     → ((step ps gs q xs act v).queue.next ≤ q.next + max_depth) × ((step ps gs q xs act v).strays ≤ 1)
 step_few ps gs q xs (Alloc g) v room = let h = room g in (omega arith, omega arith)
 step_few ps gs q xs (Exec e) v room = exec_few q xs e (find (is_serial e) q.items)
-step_few ps gs q xs (Addr p) v room = (omega arith, omega arith)
-step_few ps gs q xs (Data p) v room = (omega arith, omega arith)
-step_few ps gs q xs (Reply p) v room = (omega arith, omega arith)
-step_few ps gs q xs Retire v room = (omega arith, omega arith)
-step_few ps gs q xs End v room = (omega arith, omega arith)
-step_few ps gs q xs Go v room = (omega arith, omega arith)
-step_few ps gs q xs (From j) v room = (omega arith, omega arith)
-step_few ps gs q xs (Send j) v room = (omega arith, omega arith)
+step_few ps gs q xs _ v room = (omega arith, omega arith)
 
 queue_few : (depth : ℕ) (ps : List Port) (gs : List (List ℕ)) (a : Act) (o : Own) (xs : List ℕ) → ((g : ℕ) → length (get_or gs g []) ≤ max_depth) → EachEffect (Few o) (queue_row depth ps gs a o xs)
 queue_few depth ps gs a o xs room = each_when (Few o) (can depth gs o.queue a) (gate (in_place gs a) (queue_fires ps gs a o xs)) (λ c. at (in_place gs a))

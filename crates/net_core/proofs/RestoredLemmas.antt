@@ -146,18 +146,10 @@ bits_back n done (false ∷ bits) l =
 abbrev pub OwnForm : Kind → Own → Type 0
 OwnForm unit.Entry o = o ≡ record idle { fired = o.fired }
 OwnForm (unit.Param j) o = o ≡ record idle { fired = o.fired }
-OwnForm (unit.Const w n) o = o ≡ idle
-OwnForm (unit.Op1 op) o = o ≡ idle
-OwnForm (unit.Op2 op) o = o ≡ idle
-OwnForm (unit.Select w) o = o ≡ idle
 OwnForm (unit.Fork w outs) o = (o ≡ record idle { sent = o.sent }) × (length o.sent ≡ outs)
-OwnForm (unit.Mux w ins) o = o ≡ idle
-OwnForm (unit.Cmerge ins) o = o ≡ idle
-OwnForm (unit.Branch w) o = o ≡ idle
-OwnForm (unit.Sink w) o = o ≡ idle
-OwnForm (unit.Read a) o = o ≡ idle
 OwnForm (unit.Lsq a d ps gs f) o = (o ≡ record idle { queue = o.queue }) × (o.queue.forward ≡ f)
 OwnForm unit.Exit o = o ≡ record idle { fired = o.fired; value = o.value }
+OwnForm _ o = o ≡ idle
 
 cell_form : (k : Kind) (c : Cell) (xs : List ℕ) → keeps k c ≡ true → IsShaped k c xs → OwnForm k (own_of c)
 cell_form k cell.Plain xs h s = by k h

@@ -28,28 +28,12 @@ family_of (suc (suc (suc (suc (suc (suc (suc (suc (suc n))))))))) = family.End
 family_back : (f : Family) → family_of (family_rank f) ≡ f
 unfolding family_of
 family_back family.Go = refl
-family_back family.From = refl
-family_back family.Send = refl
-family_back family.Alloc = refl
-family_back family.Addr = refl
-family_back family.Data = refl
-family_back family.Exec = refl
-family_back family.Reply = refl
-family_back family.Retire = refl
-family_back family.End = refl
+family_back _ = refl
 
 act_back : (b : Act) → b ≡ act_of (family_of (act_rank b)) (act_number b)
 unfolding family_of
 act_back Go = refl
-act_back (From j) = refl
-act_back (Send j) = refl
-act_back (Alloc j) = refl
-act_back (Addr j) = refl
-act_back (Data j) = refl
-act_back (Exec j) = refl
-act_back (Reply j) = refl
-act_back Retire = refl
-act_back End = refl
+act_back _ = refl
 
 -- an act of a family's rank is that of its number
 pub act_is : (f : Family) (b : Act) → act_rank b ≡ family_rank f → b ≡ act_of f (act_number b)
@@ -57,39 +41,17 @@ act_is f b e = act_back b ∙ ap (λ g. act_of g (act_number b)) (ap family_of e
 
 pub rank_is : (f : Family) (j : ℕ) → act_rank (act_of f j) ≡ family_rank f
 rank_is family.Go j = refl
-rank_is family.From j = refl
-rank_is family.Send j = refl
-rank_is family.Alloc j = refl
-rank_is family.Addr j = refl
-rank_is family.Data j = refl
-rank_is family.Exec j = refl
-rank_is family.Reply j = refl
-rank_is family.Retire j = refl
-rank_is family.End j = refl
+rank_is _ j = refl
 
 number_most : (f : Family) (j : ℕ) → act_number (act_of f j) ≤ j
 number_most family.Go j = omega arith
-number_most family.From j = omega arith
-number_most family.Send j = omega arith
-number_most family.Alloc j = omega arith
-number_most family.Addr j = omega arith
-number_most family.Data j = omega arith
-number_most family.Exec j = omega arith
-number_most family.Reply j = omega arith
-number_most family.Retire j = omega arith
-number_most family.End j = omega arith
+number_most _ j = omega arith
 
 number_rises : (f : Family) (i j : ℕ) → i ≤ j → act_number (act_of f i) ≤ act_number (act_of f j)
 number_rises family.Go i j l = omega arith
-number_rises family.From i j l = l
-number_rises family.Send i j l = l
-number_rises family.Alloc i j l = l
-number_rises family.Addr i j l = l
-number_rises family.Data i j l = l
-number_rises family.Exec i j l = l
-number_rises family.Reply i j l = l
 number_rises family.Retire i j l = omega arith
 number_rises family.End i j l = omega arith
+number_rises _ i j l = l
 
 -- acts of a family from an act on
 

@@ -57,6 +57,10 @@ slots_in net = map (λ (c : Chan). c.slots) net.chans
 abbrev pub with_slots : List ℕ → Stored → Stored
 with_slots ns s = record s { tokens = record { tokens = map (λ n. []) ns; slots = ns; dates = map (λ n. []) ns } }
 
+-- the state has no channels: no tokens, no dates and no slots
+abbrev pub HasNoChannels : Stored → Type 0
+HasNoChannels s = s.tokens ≡ record { tokens = []; slots = []; dates = [] }
+
 -- the cells of the units, where the arrays lie, and the number of the exit
 abbrev pub cells_of : Stored → List Cell
 cells_of s = s.cells.items

@@ -33,7 +33,7 @@ pub(crate) fn fresh_cells(
     requires { (u : ℕ) → HasShape (get_or units.now u (Sink 0)) }
     ensures { IfOk result (λ cells. AreFresh arrays.now units.now cells.items) }
 {
-    let mut cells = Vec::new(alloc);
+    let mut cells = Vec::with_capacity(alloc, units.len())?;
     for unit in units {
         cells.push(Cell::new(alloc, unit, arrays)?)?;
     }

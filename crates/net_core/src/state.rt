@@ -14,7 +14,7 @@ ghost use Rattle.net_core.specs.Held.{dated_laid, laid_on, put_at_end, take_at, 
 ghost use Rattle.net_core.specs.Parts.{IsByUnit, Stands, state_from};
 ghost use Rattle.net_core.specs.Plans.{apart, admits, chans_of, moves_of};
 ghost use Rattle.net_core.specs.Runs.{HasExited, opening};
-ghost use Rattle.net_core.specs.States.{CountsRise, CountsWithin, IsOf, IsPlanOf, IsQueueAt, TookAtExit, after_where, array_in, arrays_of, cell_at, dates_of, elements_at, exit_at, home_at, homes_of, queue_array, slots_in, state_of, strays_at, with_slots, with_tokens};
+ghost use Rattle.net_core.specs.States.{CountsRise, CountsWithin, HasNoChannels, IsOf, IsPlanOf, IsQueueAt, TookAtExit, after_where, array_in, arrays_of, cell_at, dates_of, elements_at, exit_at, home_at, homes_of, queue_array, slots_in, state_of, strays_at, with_slots, with_tokens};
 
 use crate::cell::{Cell, UnitQueue};
 use crate::opening::{Home, exit_of, fresh_cells, homes, owners};
@@ -118,6 +118,7 @@ impl State {
         ensures of { IfOk result (λ s. IsOf net.now (with_slots (slots_in net.now) s)) }
         ensures state { IfOk result
             (λ s. state_of (with_slots (slots_in net.now) s) ≡ opening net.now inputs.now) }
+        ensures none { IfOk result HasNoChannels }
     {
         let units = net.net().units.as_slice();
         let arrays = inputs.arrays.as_slice();

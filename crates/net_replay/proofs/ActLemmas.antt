@@ -26,15 +26,7 @@ word_by n =
 
 found : (w : ActWord) (more : List ℕ) → word_by (front (word_text w ++ more)) ≡ Some w
 found Go more = refl
-found From more = refl
-found Send more = refl
-found Alloc more = refl
-found Addr more = refl
-found Data more = refl
-found Exec more = refl
-found Reply more = refl
-found Retire more = refl
-found End more = refl
+found _ more = refl
 
 word_one : (v w : ActWord) (x y : List ℕ) → word_text v ++ x ≡ word_text w ++ y → (v ≡ w) × (x ≡ y)
 word_one v w x y e =
@@ -72,45 +64,23 @@ word_of act.End = End
 act_back : (a : Act) → act_of (word_of a) (act_number a) ≡ a
 unfolding word_of
 act_back act.Go = refl
-act_back (act.From j) = refl
-act_back (act.Send j) = refl
-act_back (act.Alloc g) = refl
-act_back (act.Addr p) = refl
-act_back (act.Data p) = refl
-act_back (act.Exec e) = refl
-act_back (act.Reply p) = refl
-act_back act.Retire = refl
-act_back act.End = refl
+act_back _ = refl
 
 act_joined : (w : ActWord) (n : ℕ) (more : List ℕ) → act_text (act_of w n) ++ 10 ∷ more ≡ word_text w ++ after_word (has_number w) n more
 act_joined Go n more = refl
-act_joined From n more = refl
-act_joined Send n more = refl
-act_joined Alloc n more = refl
-act_joined Addr n more = refl
-act_joined Data n more = refl
-act_joined Exec n more = refl
-act_joined Reply n more = refl
-act_joined Retire n more = refl
-act_joined End n more = refl
+act_joined _ n more = refl
 
 act_parted : (a : Act) (more : List ℕ) → act_text a ++ 10 ∷ more ≡ word_text (word_of a) ++ after_word (has_number (word_of a)) (act_number a) more
 act_parted a more = ap (λ b. act_text b ++ 10 ∷ more) (sym (act_back a)) ∙ act_joined (word_of a) (act_number a) more
 
 act_small : (a : Act) → ActFits a → act_number a < 2 ^ 64
 act_small act.Go h = lit< tt
-act_small (act.From j) h = omega (arith, h)
-act_small (act.Send j) h = omega (arith, h)
-act_small (act.Alloc g) h = omega (arith, h)
-act_small (act.Addr p) h = omega (arith, h)
-act_small (act.Data p) h = omega (arith, h)
 act_small (act.Exec e) h = h
-act_small (act.Reply p) h = omega (arith, h)
 act_small act.Retire h = lit< tt
 act_small act.End h = lit< tt
+act_small _ h = omega (arith, h)
 
 act_same : (w : ActWord) (m n : ℕ) → (has_number w ≡ true → m ≡ n) → act_of w m ≡ act_of w n
-act_same Go m n h = refl
 act_same From m n h = ap act.From (h refl)
 act_same Send m n h = ap act.Send (h refl)
 act_same Alloc m n h = ap act.Alloc (h refl)
@@ -118,8 +88,7 @@ act_same Addr m n h = ap act.Addr (h refl)
 act_same Data m n h = ap act.Data (h refl)
 act_same Exec m n h = ap act.Exec (h refl)
 act_same Reply m n h = ap act.Reply (h refl)
-act_same Retire m n h = refl
-act_same End m n h = refl
+act_same _ m n h = refl
 
 after_one : (b : Bool) (m n : ℕ) (x y : List ℕ) → m < 2 ^ 64 → n < 2 ^ 64 → after_word b m x ≡ after_word b n y → (b ≡ true → m ≡ n) × (x ≡ y)
 after_one true m n x y l k e =

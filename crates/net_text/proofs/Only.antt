@@ -13,7 +13,7 @@ use Rattle.net_text.specs.declared.refusal.TextRefusal.TheVariants as refusal
 use Rattle.net_text.specs.declared.version.Version.{Version}
 use Rattle.net_text.specs.declared.version.Version.TheVariants.{One, Two}
 use Rattle.net_types.specs.declared.net.Unit.{Unit as Kind}
-use Rattle.net_types.specs.declared.net.Unit.TheVariants.{Entry, Param, Const, Op1, Op2, Select, Fork, Mux, Cmerge, Branch, Sink, Read, Lsq, Exit}
+use Rattle.net_types.specs.declared.net.Unit.TheVariants.{Exit}
 use Rattle.net_text.specs.Fits.{NetFits, IsWritten, Writes}
 use Rattle.net_text.specs.Texts.{NetText, OldText, net_text, version_number}
 use Rattle.net_text.specs.Reads.{lacks, version_text, kernel_text}
@@ -135,20 +135,8 @@ line_ends bytes n w v =
 
 -- version 2 writes each unit
 all_marks : (u : Kind) → IsWritten Two u
-all_marks Entry = tt
-all_marks (Param j) = tt
-all_marks (Const w n) = tt
-all_marks (Op1 op) = tt
-all_marks (Op2 op) = tt
-all_marks (Select w) = tt
-all_marks (Fork w n) = tt
-all_marks (Mux w n) = tt
-all_marks (Cmerge n) = tt
-all_marks (Branch w) = tt
-all_marks (Sink w) = tt
-all_marks (Read a) = tt
-all_marks (Lsq a d ps gs f) = tt
 all_marks Exit = tt
+all_marks _ = tt
 
 two_is_not_one : Two ≢ One
 two_is_not_one e = omega (arith, ap version_number e)

@@ -19,20 +19,8 @@ use Rattle.net_text.proofs.ReadLemmas.{after_word}
 
 -- a unit's line is the word `unit`, a space and its kind
 pub unit_kind : (ver : Version) (u : Kind) → unit_text ver u ≡ codes "unit " ++ kind_text ver u
-unit_kind ver Entry = refl
-unit_kind ver (Param j) = refl
-unit_kind ver (Const w n) = refl
-unit_kind ver (Op1 op) = refl
-unit_kind ver (Op2 op) = refl
-unit_kind ver (Select w) = refl
-unit_kind ver (Fork w n) = refl
-unit_kind ver (Mux w n) = refl
-unit_kind ver (Cmerge n) = refl
-unit_kind ver (Branch w) = refl
-unit_kind ver (Sink w) = refl
-unit_kind ver (Read a) = refl
-unit_kind ver (Lsq a d ps gs f) = refl
 unit_kind ver Exit = refl
+unit_kind ver _ = refl
 
 -- only a queue's text begins as a queue's does
 pub queue_only : (ver : Version) (Q : Kind → Type 0) (args : List ℕ) → ((a d : ℕ) (ps : List Port) (gs : List (List ℕ)) (m : Bool) → Q (Lsq a d ps gs m)) → (u : Kind) → kind_text ver u ≡ codes "lsq " ++ args → Q u

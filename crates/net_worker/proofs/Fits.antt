@@ -35,12 +35,7 @@ fork_fits net s u w outs a is few e q =
     by Go q = tt
     by Retire q = tt
     by End q = tt
-    by (From j) q = cc
-    by (Alloc j) q = cc
-    by (Addr j) q = cc
-    by (Data j) q = cc
-    by (Exec j) q = cc
-    by (Reply j) q = cc
+    by _ q = cc
 
 abbrev pick : {F : Type 0} (fs : List F) (i : ℕ) → i < length fs → F
 pick [] i l = absurd (omega arith)
@@ -68,9 +63,6 @@ module _ (net : Net) (s : State) (u a : ℕ) (q : QueueView) (kind : kind_of net
   exec_few (Some x) is e l = let k = serial_below q x order is in let f = few_items in omega arith
 
   pub queue_fits : (b : Act) → enabled net s (firing u b) → ActFits b
-  queue_fits Go e = tt
-  queue_fits Retire e = tt
-  queue_fits End e = tt
   queue_fits (From j) e = absurd (below_first net s u a q kind own order within Go (From j) (omega arith) e (inl (omega arith)))
   queue_fits (Send j) e = absurd (below_first net s u a q kind own order within Go (Send j) (omega arith) e (inl (omega arith)))
   queue_fits (Alloc g) e =
@@ -88,6 +80,7 @@ module _ (net : Net) (s : State) (u a : ℕ) (q : QueueView) (kind : kind_of net
   queue_fits (Reply p) e =
       let r = (queue_range net s u a q kind own order within Go (pick queue_families 4 (omega arith)) (omega arith)).covers (Reply p) refl e (inl (omega arith)) in
       let f = ports_few in omega (arith, r.1)
+  queue_fits _ e = tt
 
 -- of a unit that is no queue
 pub plain_fits : (net : Net) (s : State) (u : ℕ) → IsChecked net → is_lsq (kind_of net u) ≡ false → (b : Act) → enabled net s (firing u b) → ActFits b

@@ -30,15 +30,7 @@ both_le a b (inr l) (inr k) = act_same a b l.0 (omega (arith, l.1, k.1))
 
 pub go_least : (b : Act) → ActLe Go b
 go_least Go = inr (refl, omega arith)
-go_least (From j) = inl (omega arith)
-go_least (Send j) = inl (omega arith)
-go_least (Alloc g) = inl (omega arith)
-go_least (Addr p) = inl (omega arith)
-go_least (Data p) = inl (omega arith)
-go_least (Exec e) = inl (omega arith)
-go_least (Reply p) = inl (omega arith)
-go_least Retire = inl (omega arith)
-go_least End = inl (omega arith)
+go_least _ = inl (omega arith)
 
 pub le_or : (a b : Act) → ActLe a b ⊎ (ActLe a b → ⊥)
 le_or a b = by (cases_lt (act_rank a) (act_rank b)) (cases_eq (act_rank a) (act_rank b)) (cases_lt (act_number b) (act_number a))

@@ -9,7 +9,7 @@ use Rattle.net_types.specs.declared.net.Chan.{Chan}
 use Rattle.net_types.specs.declared.net.Net.{Net}
 use Rattle.net_types.specs.declared.net.Place.{Place}
 use Rattle.net_types.specs.declared.net.Unit.{Unit as Kind}
-use Rattle.net_types.specs.declared.net.Unit.TheVariants.{Entry, Param, Const, Op1, Op2, Select, Fork, Mux, Cmerge, Branch, Sink, Read, Lsq, Exit}
+use Rattle.net_types.specs.declared.net.Unit.TheVariants.{Fork, Exit}
 use Rattle.net_types.specs.Nets.{kind_of, chan_at, out_of}
 use Rattle.net_types.specs.Rules.{KeepsC1, KeepsC2, HasWidth, IsOfWidth, width_fits, places_at, in_places_from, out_places_from, times_in}
 use Rattle.net_types.specs.Tables.{Spot, ins, outs}
@@ -32,37 +32,13 @@ as_many (k ∷ ks) = ap suc (as_many ks)
 -- ---- tables
 
 ins_marked : (net : Net) (m : Bool) (k : Kind) → ins (forwarding net) m (with_mark k) ≡ ins net m k
-ins_marked net m Entry = refl
-ins_marked net m (Param j) = refl
-ins_marked net m (Const w n) = refl
-ins_marked net m (Op1 op) = refl
-ins_marked net m (Op2 op) = refl
-ins_marked net m (Select w) = refl
-ins_marked net m (Fork w n) = refl
-ins_marked net m (Mux w n) = refl
-ins_marked net m (Cmerge n) = refl
-ins_marked net m (Branch w) = refl
-ins_marked net m (Sink w) = refl
-ins_marked net m (Read a) = refl
-ins_marked net m (Lsq a d ps gs f) = refl
 ins_marked net m Exit = refl
+ins_marked net m _ = refl
 
 outs_marked : (net : Net) (m : Bool) (k : Kind) → outs (forwarding net) m (with_mark k) ≡ outs net m k
-outs_marked net m Entry = refl
-outs_marked net m (Param j) = refl
-outs_marked net m (Const w n) = refl
-outs_marked net m (Op1 op) = refl
-outs_marked net m (Op2 op) = refl
-outs_marked net m (Select w) = refl
 outs_marked net m (Fork w zero) = refl
 outs_marked net m (Fork w (suc n)) = refl
-outs_marked net m (Mux w n) = refl
-outs_marked net m (Cmerge n) = refl
-outs_marked net m (Branch w) = refl
-outs_marked net m (Sink w) = refl
-outs_marked net m (Read a) = refl
-outs_marked net m (Lsq a d ps gs f) = refl
-outs_marked net m Exit = refl
+outs_marked net m _ = refl
 
 ins_at : (net : Net) (m : Bool) (u : ℕ) → ins (forwarding net) m (kind_of (forwarding net) u) ≡ ins net m (kind_of net u)
 ins_at net m u = ap (ins (forwarding net) m) (kind_marked net u) ∙ ins_marked net m (kind_of net u)
@@ -87,20 +63,8 @@ c1_marked net h = record {
 }
 
 fits_marked : (k : Kind) → IsTrue (width_fits k) → IsTrue (width_fits (with_mark k))
-fits_marked Entry h = h
-fits_marked (Param j) h = h
-fits_marked (Const w n) h = h
-fits_marked (Op1 op) h = h
-fits_marked (Op2 op) h = h
-fits_marked (Select w) h = h
-fits_marked (Fork w n) h = h
-fits_marked (Mux w n) h = h
-fits_marked (Cmerge n) h = h
-fits_marked (Branch w) h = h
-fits_marked (Sink w) h = h
-fits_marked (Read a) h = h
-fits_marked (Lsq a d ps gs f) h = h
 fits_marked Exit h = h
+fits_marked _ h = h
 
 c2_marked : (net : Net) → KeepsC2 net → KeepsC2 (forwarding net)
 c2_marked net h = record {
@@ -120,20 +84,8 @@ c3_marked : (net : Net) → KeepsC3 net → KeepsC3 (forwarding net)
 c3_marked net h = record { chans = h.chans; together = h.together }
 
 waits_marked : (k : Kind) (delay : ℕ) → WaitsAfter k delay → WaitsAfter (with_mark k) delay
-waits_marked Entry delay h = h
-waits_marked (Param j) delay h = h
-waits_marked (Const w n) delay h = h
-waits_marked (Op1 op) delay h = h
-waits_marked (Op2 op) delay h = h
-waits_marked (Select w) delay h = h
-waits_marked (Fork w n) delay h = h
-waits_marked (Mux w n) delay h = h
-waits_marked (Cmerge n) delay h = h
-waits_marked (Branch w) delay h = h
-waits_marked (Sink w) delay h = h
-waits_marked (Read a) delay h = h
-waits_marked (Lsq a d ps gs f) delay h = h
 waits_marked Exit delay h = h
+waits_marked _ delay h = h
 
 leads_unmarked : (net : Net) (v : ℕ) (cs : List ℕ) (u : ℕ) → Leads (forwarding net) v cs u → Leads net v cs u
 leads_unmarked net v [] u h = h
@@ -148,20 +100,8 @@ c4_marked net h = record {
 -- ---- C5
 
 passes_marked : (f : ℕ → Bool) (k : Kind) → passes f (with_mark k) ≡ passes f k
-passes_marked f Entry = refl
-passes_marked f (Param j) = refl
-passes_marked f (Const w n) = refl
-passes_marked f (Op1 op) = refl
-passes_marked f (Op2 op) = refl
-passes_marked f (Select w) = refl
-passes_marked f (Fork w n) = refl
-passes_marked f (Mux w n) = refl
-passes_marked f (Cmerge n) = refl
-passes_marked f (Branch w) = refl
-passes_marked f (Sink w) = refl
-passes_marked f (Read a) = refl
-passes_marked f (Lsq a d ps gs b) = refl
 passes_marked f Exit = refl
+passes_marked f _ = refl
 
 c5_marked : (net : Net) → KeepsC5 net → KeepsC5 (forwarding net)
 c5_marked net h = record {
@@ -177,52 +117,16 @@ c5_marked net h = record {
 -- ---- C6
 
 lsq_marked : (k : Kind) → is_lsq (with_mark k) ≡ is_lsq k
-lsq_marked Entry = refl
-lsq_marked (Param j) = refl
-lsq_marked (Const w n) = refl
-lsq_marked (Op1 op) = refl
-lsq_marked (Op2 op) = refl
-lsq_marked (Select w) = refl
-lsq_marked (Fork w n) = refl
-lsq_marked (Mux w n) = refl
-lsq_marked (Cmerge n) = refl
-lsq_marked (Branch w) = refl
-lsq_marked (Sink w) = refl
-lsq_marked (Read a) = refl
-lsq_marked (Lsq a d ps gs f) = refl
 lsq_marked Exit = refl
+lsq_marked _ = refl
 
 end_marked : (k : Kind) → end_place (with_mark k) ≡ end_place k
-end_marked Entry = refl
-end_marked (Param j) = refl
-end_marked (Const w n) = refl
-end_marked (Op1 op) = refl
-end_marked (Op2 op) = refl
-end_marked (Select w) = refl
-end_marked (Fork w n) = refl
-end_marked (Mux w n) = refl
-end_marked (Cmerge n) = refl
-end_marked (Branch w) = refl
-end_marked (Sink w) = refl
-end_marked (Read a) = refl
-end_marked (Lsq a d ps gs f) = refl
 end_marked Exit = refl
+end_marked _ = refl
 
 exit_marked : (k : Kind) → is_exit (with_mark k) ≡ is_exit k
-exit_marked Entry = refl
-exit_marked (Param j) = refl
-exit_marked (Const w n) = refl
-exit_marked (Op1 op) = refl
-exit_marked (Op2 op) = refl
-exit_marked (Select w) = refl
-exit_marked (Fork w n) = refl
-exit_marked (Mux w n) = refl
-exit_marked (Cmerge n) = refl
-exit_marked (Branch w) = refl
-exit_marked (Sink w) = refl
-exit_marked (Read a) = refl
-exit_marked (Lsq a d ps gs f) = refl
 exit_marked Exit = refl
+exit_marked _ = refl
 
 module _ (net : Net) where
   lsq_at : (u : ℕ) → is_lsq (kind_of (forwarding net) u) ≡ is_lsq (kind_of net u)
@@ -281,103 +185,31 @@ module _ (net : Net) where
 -- ---- C7 and C8
 
 shape_marked : (k : Kind) → HasShape k → HasShape (with_mark k)
-shape_marked Entry h = h
-shape_marked (Param j) h = h
-shape_marked (Const w n) h = h
-shape_marked (Op1 op) h = h
-shape_marked (Op2 op) h = h
-shape_marked (Select w) h = h
-shape_marked (Fork w n) h = h
-shape_marked (Mux w n) h = h
-shape_marked (Cmerge n) h = h
-shape_marked (Branch w) h = h
-shape_marked (Sink w) h = h
-shape_marked (Read a) h = h
-shape_marked (Lsq a d ps gs f) h = h
 shape_marked Exit h = h
+shape_marked _ h = h
 
 c7_marked : (net : Net) → KeepsC7 net → KeepsC7 (forwarding net)
 c7_marked net h = record { units = All-map HasShape with_mark net.units (All-weaker HasShape (λ k. HasShape (with_mark k)) shape_marked net.units h.units) }
 
 named_marked : (net : Net) (k : Kind) → IsNamed net k → IsNamed (forwarding net) (with_mark k)
-named_marked net Entry h = h
-named_marked net (Param j) h = h
-named_marked net (Const w n) h = h
-named_marked net (Op1 op) h = h
-named_marked net (Op2 op) h = h
-named_marked net (Select w) h = h
-named_marked net (Fork w n) h = h
-named_marked net (Mux w n) h = h
-named_marked net (Cmerge n) h = h
-named_marked net (Branch w) h = h
-named_marked net (Sink w) h = h
-named_marked net (Read a) h = h
-named_marked net (Lsq a d ps gs f) h = h
 named_marked net Exit h = h
+named_marked net _ h = h
 
 entry_marked : (k : Kind) → is_entry (with_mark k) ≡ is_entry k
-entry_marked Entry = refl
-entry_marked (Param j) = refl
-entry_marked (Const w n) = refl
-entry_marked (Op1 op) = refl
-entry_marked (Op2 op) = refl
-entry_marked (Select w) = refl
-entry_marked (Fork w n) = refl
-entry_marked (Mux w n) = refl
-entry_marked (Cmerge n) = refl
-entry_marked (Branch w) = refl
-entry_marked (Sink w) = refl
-entry_marked (Read a) = refl
-entry_marked (Lsq a d ps gs f) = refl
 entry_marked Exit = refl
+entry_marked _ = refl
 
 param_marked : (i : ℕ) (k : Kind) → is_param i (with_mark k) ≡ is_param i k
-param_marked i Entry = refl
-param_marked i (Param j) = refl
-param_marked i (Const w n) = refl
-param_marked i (Op1 op) = refl
-param_marked i (Op2 op) = refl
-param_marked i (Select w) = refl
-param_marked i (Fork w n) = refl
-param_marked i (Mux w n) = refl
-param_marked i (Cmerge n) = refl
-param_marked i (Branch w) = refl
-param_marked i (Sink w) = refl
-param_marked i (Read a) = refl
-param_marked i (Lsq a d ps gs f) = refl
 param_marked i Exit = refl
+param_marked i _ = refl
 
 read_marked : (i : ℕ) (k : Kind) → is_read i (with_mark k) ≡ is_read i k
-read_marked i Entry = refl
-read_marked i (Param j) = refl
-read_marked i (Const w n) = refl
-read_marked i (Op1 op) = refl
-read_marked i (Op2 op) = refl
-read_marked i (Select w) = refl
-read_marked i (Fork w n) = refl
-read_marked i (Mux w n) = refl
-read_marked i (Cmerge n) = refl
-read_marked i (Branch w) = refl
-read_marked i (Sink w) = refl
-read_marked i (Read a) = refl
-read_marked i (Lsq a d ps gs f) = refl
 read_marked i Exit = refl
+read_marked i _ = refl
 
 queue_marked : (i : ℕ) (k : Kind) → is_queue i (with_mark k) ≡ is_queue i k
-queue_marked i Entry = refl
-queue_marked i (Param j) = refl
-queue_marked i (Const w n) = refl
-queue_marked i (Op1 op) = refl
-queue_marked i (Op2 op) = refl
-queue_marked i (Select w) = refl
-queue_marked i (Fork w n) = refl
-queue_marked i (Mux w n) = refl
-queue_marked i (Cmerge n) = refl
-queue_marked i (Branch w) = refl
-queue_marked i (Sink w) = refl
-queue_marked i (Read a) = refl
-queue_marked i (Lsq a d ps gs f) = refl
 queue_marked i Exit = refl
+queue_marked i _ = refl
 
 count_marked : (q : Kind → Bool) → ((k : Kind) → q (with_mark k) ≡ q k) → (ks : List Kind) → count_by q (map with_mark ks) ≡ count_by q ks
 count_marked q h [] = refl

@@ -4,9 +4,9 @@ use Rattle.std.specs.List.{find, list_all}
 use Rattle.net_types.specs.declared.net.Net.{Net}
 use Rattle.net_types.specs.declared.net.Port.{Port}
 use Rattle.net_types.specs.declared.net.Unit.{Unit as Kind}
-use Rattle.net_types.specs.declared.net.Unit.TheVariants.{Entry, Param, Const, Op1, Op2, Select, Fork, Mux, Cmerge, Branch, Sink, Read, Lsq, Exit}
+use Rattle.net_types.specs.declared.net.Unit.TheVariants.{Entry, Sink, Lsq, Exit}
 use Rattle.net_types.specs.declared.firing.Act.{Act}
-use Rattle.net_types.specs.declared.firing.Act.TheVariants.{Go, From, Send, Alloc, Addr, Data, Exec, Reply, Retire, End}
+use Rattle.net_types.specs.declared.firing.Act.TheVariants.{Exec}
 use Rattle.net_types.specs.declared.firing.Firing.{Firing}
 use Rattle.net_types.specs.Nets.{kind_of, uses, owns}
 use Rattle.lsq_core.specs.declared.entry.Entry.{Entry as Access}
@@ -35,36 +35,12 @@ pub queues_have : QueuesHaveMark
 queues_have net u a depth ports groups mark e = queue_has_mark (kind_of net u) a depth ports groups mark (sym (kind_marked net u) ∙ e)
 
 uses_marked : (k : Kind) → uses (with_mark k) ≡ uses k
-uses_marked Entry = refl
-uses_marked (Param j) = refl
-uses_marked (Const w n) = refl
-uses_marked (Op1 op) = refl
-uses_marked (Op2 op) = refl
-uses_marked (Select w) = refl
-uses_marked (Fork w outs) = refl
-uses_marked (Mux w ins) = refl
-uses_marked (Cmerge ins) = refl
-uses_marked (Branch w) = refl
-uses_marked (Sink w) = refl
-uses_marked (Read a) = refl
-uses_marked (Lsq a d ps gs f) = refl
 uses_marked Exit = refl
+uses_marked _ = refl
 
 owns_marked : (k : Kind) → owns (with_mark k) ≡ owns k
-owns_marked Entry = refl
-owns_marked (Param j) = refl
-owns_marked (Const w n) = refl
-owns_marked (Op1 op) = refl
-owns_marked (Op2 op) = refl
-owns_marked (Select w) = refl
-owns_marked (Fork w outs) = refl
-owns_marked (Mux w ins) = refl
-owns_marked (Cmerge ins) = refl
-owns_marked (Branch w) = refl
-owns_marked (Sink w) = refl
-owns_marked (Read a) = refl
-owns_marked (Lsq a d ps gs f) = refl
 owns_marked Exit = refl
+owns_marked _ = refl
 
 -- ---- what units keep
 
@@ -83,20 +59,8 @@ set_marked (k ∷ ks) (x ∷ os) (suc u) o = ap (λ r. own_with_mark k x ∷ r) 
 
 -- what is kept beside the mark
 seen_marked : {X : Type 0} (see : Own → X) → ((o : Own) → see (forwards o) ≡ see o) → (k : Kind) (o : Own) → see (own_with_mark k o) ≡ see o
-seen_marked see h Entry o = refl
-seen_marked see h (Param j) o = refl
-seen_marked see h (Const w n) o = refl
-seen_marked see h (Op1 op) o = refl
-seen_marked see h (Op2 op) o = refl
-seen_marked see h (Select w) o = refl
-seen_marked see h (Fork w outs) o = refl
-seen_marked see h (Mux w ins) o = refl
-seen_marked see h (Cmerge ins) o = refl
-seen_marked see h (Branch w) o = refl
-seen_marked see h (Sink w) o = refl
-seen_marked see h (Read a) o = refl
 seen_marked see h (Lsq a d ps gs f) o = h o
-seen_marked see h Exit o = refl
+seen_marked see h _ o = refl
 
 all_seen : {X : Type 0} (see : Own → X) → ((o : Own) → see (forwards o) ≡ see o) → (ks : List Kind) (os : List Own) (u : ℕ) → see (get_or (all_with_marks ks os) u idle) ≡ see (get_or os u idle)
 all_seen see h [] os u = refl
@@ -131,16 +95,8 @@ may_marked f items None h = h
 may_marked f items (Some x) h = executes_marked f items x h
 
 can_marked : (depth : ℕ) (groups : List (List ℕ)) (q : QueueState) (act : Act) → can depth groups q act ≡ true → can depth groups (marked q) act ≡ true
-can_marked depth groups q Go h = h
-can_marked depth groups q (From j) h = h
-can_marked depth groups q (Send j) h = h
-can_marked depth groups q (Alloc g) h = h
-can_marked depth groups q (Addr p) h = h
-can_marked depth groups q (Data p) h = h
 can_marked depth groups q (Exec e) h = may_marked q.forward q.items (find (is_serial e) q.items) h
-can_marked depth groups q (Reply p) h = h
-can_marked depth groups q Retire h = h
-can_marked depth groups q End h = h
+can_marked depth groups q _ h = h
 
 abbrev marked_step : Stepped → Stepped
 marked_step r = record r { queue = marked r.queue }
@@ -150,16 +106,8 @@ exec_marked q xs e None = refl
 exec_marked q xs e (Some x) = refl
 
 step_marked : (ports : List Port) (groups : List (List ℕ)) (q : QueueState) (xs : List ℕ) (act : Act) (v : ℕ) → step ports groups (marked q) xs act v ≡ marked_step (step ports groups q xs act v)
-step_marked ports groups q xs Go v = refl
-step_marked ports groups q xs (From j) v = refl
-step_marked ports groups q xs (Send j) v = refl
-step_marked ports groups q xs (Alloc g) v = refl
-step_marked ports groups q xs (Addr p) v = refl
-step_marked ports groups q xs (Data p) v = refl
 step_marked ports groups q xs (Exec e) v = exec_marked q xs e (find (is_serial e) q.items)
-step_marked ports groups q xs (Reply p) v = refl
-step_marked ports groups q xs Retire v = refl
-step_marked ports groups q xs End v = refl
+step_marked ports groups q xs _ v = refl
 
 -- ---- effects
 
@@ -190,20 +138,8 @@ module _ (depth : ℕ) (ports : List Port) (groups : List (List ℕ)) (act : Act
 
 row_marked : (k : Kind) (act : Act) (o : Own) (xs : List ℕ) (ss : Setting) (heads : ℕ → Option ℕ) (e : Effect) → effect_of (row k act o xs ss) heads ≡ Some e → effect_of (row (with_mark k) act (own_with_mark k o) xs ss) heads ≡ Some (marked_effect k e)
 unfolding row
-row_marked Entry act o xs ss heads e h = h
-row_marked (Param j) act o xs ss heads e h = h
-row_marked (Const w n) act o xs ss heads e h = h
-row_marked (Op1 op) act o xs ss heads e h = h
-row_marked (Op2 op) act o xs ss heads e h = h
-row_marked (Select w) act o xs ss heads e h = h
-row_marked (Fork w outs) act o xs ss heads e h = h
-row_marked (Mux w ins) act o xs ss heads e h = h
-row_marked (Cmerge ins) act o xs ss heads e h = h
-row_marked (Branch w) act o xs ss heads e h = h
-row_marked (Sink w) act o xs ss heads e h = h
-row_marked (Read a) act o xs ss heads e h = h
 row_marked (Lsq a d ps gs f) act o xs ss heads e h = queue_marked d ps gs act o xs heads e h
-row_marked Exit act o xs ss heads e h = h
+row_marked _ act o xs ss heads e h = h
 
 -- ---- firings
 
@@ -252,20 +188,8 @@ module _ (net : Net) where
 -- ---- the opening
 
 opened_marked : (k : Kind) → opened (with_mark k) ≡ own_with_mark k (opened k)
-opened_marked Entry = refl
-opened_marked (Param j) = refl
-opened_marked (Const w n) = refl
-opened_marked (Op1 op) = refl
-opened_marked (Op2 op) = refl
-opened_marked (Select w) = refl
-opened_marked (Fork w outs) = refl
-opened_marked (Mux w ins) = refl
-opened_marked (Cmerge ins) = refl
-opened_marked (Branch w) = refl
-opened_marked (Sink w) = refl
-opened_marked (Read a) = refl
-opened_marked (Lsq a d ps gs f) = refl
 opened_marked Exit = refl
+opened_marked _ = refl
 
 all_opened : (ks : List Kind) → map opened (map with_mark ks) ≡ all_with_marks ks (map opened ks)
 all_opened [] = refl
@@ -284,36 +208,12 @@ runs_marked net inputs fs s r =
 -- ---- the end
 
 starts_marked : (k : Kind) → starts (with_mark k) ≡ starts k
-starts_marked Entry = refl
-starts_marked (Param j) = refl
-starts_marked (Const w n) = refl
-starts_marked (Op1 op) = refl
-starts_marked (Op2 op) = refl
-starts_marked (Select w) = refl
-starts_marked (Fork w outs) = refl
-starts_marked (Mux w ins) = refl
-starts_marked (Cmerge ins) = refl
-starts_marked (Branch w) = refl
-starts_marked (Sink w) = refl
-starts_marked (Read a) = refl
-starts_marked (Lsq a d ps gs f) = refl
 starts_marked Exit = refl
+starts_marked _ = refl
 
 exit_unmarked : (k : Kind) → with_mark k ≡ Exit → k ≡ Exit
-exit_unmarked Entry e = e
-exit_unmarked (Param j) e = e
-exit_unmarked (Const w n) e = e
-exit_unmarked (Op1 op) e = e
-exit_unmarked (Op2 op) e = e
-exit_unmarked (Select w) e = e
-exit_unmarked (Fork w outs) e = e
-exit_unmarked (Mux w ins) e = e
-exit_unmarked (Cmerge ins) e = e
-exit_unmarked (Branch w) e = e
-exit_unmarked (Sink w) e = e
-exit_unmarked (Read a) e = e
 exit_unmarked (Lsq a d ps gs f) e = absurd (cc)
-exit_unmarked Exit e = e
+exit_unmarked _ e = e
 
 pub ends_marked : MarksEndAlike
 ends_marked net s = record {

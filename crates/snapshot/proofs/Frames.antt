@@ -5,7 +5,7 @@ use Rattle.std.specs.List.{All}
 use Rattle.net_types.specs.declared.firing.Inputs.{Inputs}
 use Rattle.net_types.specs.declared.net.Net.{Net}
 use Rattle.net_types.specs.declared.net.Unit.{Unit as Kind}
-use Rattle.net_types.specs.declared.net.Unit.TheVariants.{Entry, Param, Const, Op1, Op2, Select, Fork, Mux, Cmerge, Branch, Sink, Read, Lsq, Exit}
+use Rattle.net_types.specs.declared.net.Unit.TheVariants.{Entry, Fork, Lsq, Exit}
 use Rattle.net_types.specs.Inputs.{InputsFit}
 use Rattle.net_types.specs.Nets.{into, chan_at, kind_of}
 use Rattle.net_types.specs.Tables.{array_width}
@@ -146,20 +146,8 @@ module _ (net : Net) (p : Parts) (at : ℕ) (js : List ℕ) (f : Fits net p) (wi
 
 -- another queue of one unit
 abbrev pub QueueFits : Net → QueuePart → Kind → Type 0
-QueueFits net q Entry = ⊥
-QueueFits net q (Param j) = ⊥
-QueueFits net q (Const w n) = ⊥
-QueueFits net q (Op1 op) = ⊥
-QueueFits net q (Op2 op) = ⊥
-QueueFits net q (Select w) = ⊥
-QueueFits net q (Fork w outs) = ⊥
-QueueFits net q (Mux w ins) = ⊥
-QueueFits net q (Cmerge ins) = ⊥
-QueueFits net q (Branch w) = ⊥
-QueueFits net q (Sink w) = ⊥
-QueueFits net q (Read a) = ⊥
 QueueFits net q (Lsq a d ps gs g) = MayStand d (length ps) (queue_of g q) × All (EntryFits (array_width net.arrays a) ps) q.entries
-QueueFits net q Exit = ⊥
+QueueFits net q _ = ⊥
 
 queue_kind : (net : Net) (q : QueuePart) (k : Kind) → QueueFits net q k → is_lsq k ≡ true
 queue_kind net q (Lsq a d ps gs g) h = refl

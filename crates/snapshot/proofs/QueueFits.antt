@@ -7,7 +7,7 @@ use Rattle.std.specs.List.{All, find}
 use Rattle.net_types.specs.declared.net.Port.{Port}
 use Rattle.net_types.specs.declared.net.Port.TheVariants.{Load}
 use Rattle.net_types.specs.declared.firing.Act.{Act}
-use Rattle.net_types.specs.declared.firing.Act.TheVariants.{Go, From, Send, Alloc, Addr, Data, Exec, Reply, Retire, End}
+use Rattle.net_types.specs.declared.firing.Act.TheVariants.{Go, Alloc, Addr, Data, Exec, Reply, Retire}
 use Rattle.lsq_core.specs.declared.entry.Entry.{Entry}
 use Rattle.lsq_core.specs.Acts.{QueueState, first_changed, wants_addr, wants_data, wants_reply, is_serial, with_addr, with_data, executed, answered, ready, may_exec, is_done, waiting, last_such, later, load_value, exec_value, exec_array, exec, or_zero, fresh, fresh_entry, is_store, can, step, rest, value_of}
 use Rattle.lsq_core.specs.Laws.{StaysInOrder, StaysInPorts}
@@ -138,9 +138,6 @@ module _ (w : ℕ) (ps : List Port) where
 
   pub entries_stay : (d : ℕ) (gs : List (List ℕ)) (q : QueueState) (xs : List ℕ) (a : Act) (v : ℕ) → can d gs q a ≡ true → TokenFits a v → All (λ v. v < 2 ^ w) xs → All (EntryFits w ps) q.items
       → All (EntryFits w ps) (step ps gs q xs a v).queue.items
-  entries_stay d gs q xs Go v c t elements all = all
-  entries_stay d gs q xs (From j) v c t elements all = all
-  entries_stay d gs q xs (Send j) v c t elements all = all
   entries_stay d gs q xs (Alloc g) v c t elements all = All-append (EntryFits w ps) q.items (fresh q.next ps (get_or gs g [])) all (fresh_fits q.next (get_or gs g []))
   entries_stay d gs q xs (Addr p) v c t elements all = all_changed (EntryFits w ps) (wants_addr p) (with_addr v) q.items (λ y f h. addr_fits v t y h) all
   entries_stay d gs q xs (Data p) v c t elements all = all_changed (EntryFits w ps) (wants_data p) (with_data v) q.items (λ y f h. data_fits p v t y (find_holds (wants_data p) q.items y f) h) all
@@ -152,7 +149,7 @@ module _ (w : ℕ) (ps : List Port) where
       rest_all : (items : List Entry) → All (EntryFits w ps) items → All (EntryFits w ps) (rest items)
       rest_all [] h = h
       rest_all (x ∷ items) h = All-tail (EntryFits w ps) x items h
-  entries_stay d gs q xs End v c t elements all = all
+  entries_stay d gs q xs _ v c t elements all = all
 
   -- the value that a reply puts
   pub reply_below : (items : List Entry) (p : ℕ) → All (EntryFits w ps) items → value_of (find (wants_reply p) items) < 2 ^ w

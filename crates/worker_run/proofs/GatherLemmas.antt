@@ -39,7 +39,8 @@ use Rattle.worker_run.specs.private.Settlings.{AreKept, AreSettled, CanAll, afte
 use Rattle.worker_run.proofs.CrewLemmas.{crew_gathers}
 use Rattle.worker_run.proofs.HandLemmas.{same_logged_then}
 use Rattle.worker_run.proofs.KeptLemmas.{made_kept, whole_kept, made_logged, logs_by, putter_hidden, taker_hidden, putter_below, taker_below, put_there, take_there}
-use Rattle.net_replay.proofs.PathLemmas.{counts_less, opening_counts}
+use Rattle.net_core.proofs.OpenLemmas.{opening_counts}
+use Rattle.net_replay.proofs.PathLemmas.{counts_less}
 use Rattle.worker_run.proofs.ShareLemmas.{all_few}
 use Rattle.worker_run.proofs.TruthLemmas.{not_hidden, from_hidden, hidden_map, can_or_not, leads_can, leads_all}
 

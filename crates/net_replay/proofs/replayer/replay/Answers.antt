@@ -1,7 +1,7 @@
 use Rattle.std.proofs.Common.{sym, subst}
 use Rattle.net_core.specs.Fire.{State}
 use Rattle.net_core.specs.States.{CountsWithin}
-use Rattle.net_replay.proofs.PathLemmas.{opening_counts}
+use Rattle.net_core.proofs.OpenLemmas.{opening_counts}
 use Rattle.net_replay.proofs.replayer.replay.Goals as goal
 
 pub follow-requires-clause-counts : goal.follow-requires-clause-counts

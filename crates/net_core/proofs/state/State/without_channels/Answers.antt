@@ -1,9 +1,9 @@
-use Rattle.std.proofs.Common.{sym, subst, ap, ◌∙◌, ◌≡◌, List, length, replicate, refl}
+use Rattle.std.proofs.Common.{[], sym, subst, ap, ◌∙◌, ◌≡◌, List, length, replicate, refl}
 use Rattle.net_types.specs.declared.net.Unit.{Unit as Kind}
 use Rattle.net_core.specs.private.Openings.{AreFresh, AreOwners, AreHomes, IsExitIn}
 use Rattle.net_core.specs.States.{slots_in, with_slots}
 use Rattle.net_core.specs.declared.state.State.{State as Stored}
-use Rattle.net_core.proofs.OpenLemmas.{no_tokens, opened_of, opened_state}
+use Rattle.net_core.proofs.OpenLemmas.{no_tokens, opened_of, opened_state, same_held}
 use Rattle.net_core.proofs.state.State.without_channels.Goals as goal
 
 -- the clauses of what is called, of the net and of the inputs
@@ -47,3 +47,6 @@ pub returns-clause-state : goal.returns-clause-state
 returns-clause-state c =
     opened_state c.args.net.now c.args.inputs.now (with_slots (slots_in c.args.net.now) (made c)) c.in_ok-owners.owners.items c.net.ensures.checked c.requires
     (fresh c) (owners_long c) (are_owners c) (homes_long c) (are_homes c) (exit_in c) c.in_ok-scalars.ensures (no_tokens c.args.net.now.chans) (strays c)
+
+pub returns-clause-none : goal.returns-clause-none
+returns-clause-none c = sym (same_held c.in_ok-tokens.tokens [] c.in_ok-tokens.ensures.tokens c.in_ok-tokens.ensures.slots c.in_ok-tokens.ensures.dates)
