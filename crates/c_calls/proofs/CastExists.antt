@@ -7,7 +7,7 @@ use Rattle.std.specs.Prelude.{Bool, true, false, ◌==◌, All, IsSome, if◌the
 use Rattle.std.specs.Cmp.Lexicographic.{pointwise, bytes_decides}
 use Rattle.std.specs.Map.{lookup}
 use mathlib.Core.Former.{Count, list_count, this}
-use denote.Hole.Carrier.{hidden, roll, out}
+use denote.Hole.Carrier.{roll, out}
 use Rattle.el_base.specs.declared.span.Span.{Span}
 use Rattle.el_base.specs.declared.ty.Ty.{Ty}
 use Rattle.c_ast.specs.declared.tree.Param.{Param}
@@ -16,12 +16,12 @@ use Rattle.c_ast.specs.declared.tree.Expr.{Expr}
 use Rattle.c_ast.specs.declared.tree.ExprKind.{ExprKind, Row_of-Expr, end_of-Expr, more_of-Expr, roll-out-ExprKind, items_shown-the_row-Expr-0}
 use Rattle.c_ast.specs.declared.tree.ExprKind as raw
 use Rattle.c_ast.specs.declared.tree.ExprKind.TheVariants as expr
-use Rattle.c_ast.specs.declared.tree.ExprKind.TheBlock.{shape-the_row-Expr-0, hidden-the_row-Expr-0, shape-the_row-Expr-1, hidden-the_row-Expr-1, shown-the_row-Expr-0}
+use Rattle.c_ast.specs.declared.tree.ExprKind.TheBlock.{shown-the_row-Expr-0}
 use Rattle.c_ast.specs.declared.tree.Stmt.{Stmt}
 use Rattle.c_ast.specs.declared.tree.StmtKind.{StmtKind, Row_of-Stmt, end_of-Stmt, more_of-Stmt, Held-StmtKind-If-2}
 use Rattle.c_ast.specs.declared.tree.StmtKind as raw_stmt
 use Rattle.c_ast.specs.declared.tree.StmtKind.TheVariants as stmt
-use Rattle.c_ast.specs.declared.tree.StmtKind.TheBlock.{shape-the_row-Stmt-0, hidden-the_row-Stmt-0, shape-the_row-Stmt-1, hidden-the_row-Stmt-1}
+use Rattle.c_ast.specs.declared.tree.StmtKind.TheBlock.{hidden-the_row-Stmt-0}
 use Rattle.c_ast.specs.declared.tree.Helper.{Helper}
 use Rattle.c_ast.specs.declared.tree.Program.{Program}
 use Rattle.c_ast.specs.declared.program.ProgExpr.{ProgExpr}
@@ -41,6 +41,7 @@ use Rattle.c_calls.specs.Texts.{TypedExists}
 use Rattle.c_calls.proofs.CastOnce.{name_as, element_as, call_as, target_as, cast_kind, cast_row, cast_expr, cast_exprs, cast_option, cast_target, value_as, return_as, cast_stmt, cast_held, cast_stmts, cast_body, cast_helper, cast_helpers, cast_program}
 use Rattle.c_calls.proofs.CastExprs.{there_is}
 use Rattle.c_calls.proofs.CastPrograms.{names_after_same}
+use Rattle.c_meaning.proofs.TreeRows.{expr_rows, stmt_rows}
 
 -- ---- what a name stands for
 
@@ -101,7 +102,7 @@ tells_with hs (n ∷ ns) (s ∷ ss) x v t w y = tells_if (pointwise ◌==◌ y x
 -- ---- expressions
 
 call_is : (x : List ℕ) (n : List (Unit {0})) (row : Row_of-Expr (list_count (this {0}) n 0)) → expr.Call x (exprs_of row) ≡ raw.Call' x n row
-unfolding shape-the_row-Expr-0 hidden-the_row-Expr-0 shape-the_row-Expr-1 hidden-the_row-Expr-1 hidden shown-the_row-Expr-0 raw.out-ExprKind raw.roll-ExprKind roll out
+unfolding expr_rows shown-the_row-Expr-0 raw.out-ExprKind raw.roll-ExprKind roll out
 call_is x n row = ap (λ (es : List Expr). expr.Call x es) (sym (items_shown-the_row-Expr-0 n row)) ∙ roll-out-ExprKind (raw.Call' x n row)
 
 module _ (hs : List Known) where
@@ -124,7 +125,7 @@ module _ (hs : List Known) where
   call_casts c x s es fs None (Some (j, g)) e e2 u h = casts.call c x j g es fs s e e2 u h
 
   mutual
-    unfolding shape-the_row-Expr-0 hidden-the_row-Expr-0 shape-the_row-Expr-1 hidden-the_row-Expr-1 hidden
+    unfolding expr_rows
 
     kind_casts : (names : Names) (c : Context) (k : ExprKind) (s : Span) → Tells hs names c.scopes → TypingKind names k → CastsCallExpr hs c (record { kind = k; at = s }) (cast_kind hs c k s)
     kind_casts names c (raw.Number n t) s w h = casts.number c n t s
@@ -209,7 +210,7 @@ module _ (hs : List Known) where
   row_tells names r (more_of-Stmt a at row) c w = row_tells (names_after names a) r row (cast_stmt hs r a c at).after (after_tells names r a c at w)
 
   mutual
-    unfolding shape-the_row-Stmt-0 hidden-the_row-Stmt-0 shape-the_row-Stmt-1 hidden-the_row-Stmt-1 hidden
+    unfolding stmt_rows
 
     stmt_casts : (names : Names) (r : Option Ty) (loop : Bool) (k : StmtKind) (c : Context) (s : Span) → Tells hs names c.scopes → TypingStmt k r loop names
         → CastsCallStmt hs r c (record { kind = k; at = s }) (cast_stmt hs r k c s).value (cast_stmt hs r k c s).after

@@ -3,7 +3,6 @@ use Rattle.std.proofs.Common.{◌≡◌, ℕ, suc, ◌+◌, List, [], ◌∷◌,
 use Rattle.std.proofs.lemmas.Bool.{false≢true}
 use Rattle.std.specs.Prelude.{Bool, true, false, ◌==◌, slice_get, Contains, if◌then◌else◌}
 use Rattle.std.specs.Cmp.Lexicographic.{pointwise}
-use denote.Hole.Carrier.{hidden}
 use Rattle.el_base.specs.declared.span.Span.{Span}
 use Rattle.el_base.specs.declared.ty.Ty.{Ty}
 use Rattle.c_ast.specs.declared.tree.Unary.{Unary}
@@ -11,10 +10,10 @@ use Rattle.c_ast.specs.declared.tree.Binary.{Binary}
 use Rattle.c_ast.specs.declared.tree.Binary.TheVariants as op
 use Rattle.c_ast.specs.declared.tree.Expr.{Expr}
 use Rattle.c_ast.specs.declared.tree.ExprKind.TheVariants as expr
-use Rattle.c_ast.specs.declared.tree.ExprKind.TheBlock.{shape-the_row-Expr-0, hidden-the_row-Expr-0, shape-the_row-Expr-1, hidden-the_row-Expr-1}
+use Rattle.c_ast.specs.declared.tree.ExprKind.TheBlock.{hidden-the_row-Expr-0}
 use Rattle.c_ast.specs.declared.program.ProgExpr.{ProgExpr}
 use Rattle.c_ast.specs.declared.program.ProgExprKind.TheVariants as typed
-use Rattle.c_ast.specs.declared.program.ProgExprKind.TheBlock.{shape-the_row-ProgExpr-0, hidden-the_row-ProgExpr-0, shape-the_row-ProgExpr-1, hidden-the_row-ProgExpr-1}
+use Rattle.c_ast.specs.declared.program.ProgExprKind.TheBlock.{hidden-the_row-ProgExpr-0}
 use Rattle.c_ast.specs.Casts.{Declared, a_var, an_array, Scope, Context, same_type, left_type, right_type}
 use Rattle.c_ast.specs.Constants.{NumbersFitRow, NumbersFitExpr}
 use Rattle.c_ast.specs.Programs.{joins_both, where_whole, CallsStandIn, StandsAt}
@@ -28,6 +27,8 @@ use Rattle.c_meaning.specs.Lawful.{IsVar, IsElement, AreOperands, AreSides}
 use Rattle.c_meaning.proofs.LawfulExpressions.{Means, found_in, Valid, is_element}
 use Rattle.c_meaning.proofs.TypeLemmas.{promoted_twice, usual_self, operands_are, same_is}
 use Rattle.c_calls.specs.Lawful.{is_implied, row_length, row_types, Signature, may_right, LawfulCallRow, LawfulCallExpr, ReadsAt, RowReadsOf}
+use Rattle.c_meaning.proofs.TreeRows.{expr_rows}
+use Rattle.c_calls.proofs.TreeRows.{prog_expr_rows}
 
 -- ---- names in force
 
@@ -108,7 +109,7 @@ module _ (k : Objects) (hs : List Known) where
   Fits may (f ∷ fs) = Fit may f × Fits may fs
 
   lawful_if : (may : Bool) (t : Ty) (e : ProgExpr) (b : Bool) → Fit may e → LawfulCallExpr k gs may (if b then e else prog_of (typed.Cast true e) t e.at)
-  unfolding shape-the_row-ProgExpr-0 hidden-the_row-ProgExpr-0 shape-the_row-ProgExpr-1 hidden-the_row-ProgExpr-1 hidden
+  unfolding prog_expr_rows
   lawful_if may t e true h = h.lawful
   lawful_if may t e false h = ((λ i. h.written), h.lawful)
 
@@ -116,59 +117,51 @@ module _ (k : Objects) (hs : List Known) where
   converted_lawful may t e h = lawful_if may t e (same_type t e.ty) h
 
   number_fit : (may : Bool) (n : ℕ) (t : Ty) (s : Span) → NumbersFitExpr (record { kind = expr.Number n t; at = s }) → Fit may (prog_of (typed.Number n) t s)
-  unfolding shape-the_row-Expr-0 hidden-the_row-Expr-0 shape-the_row-Expr-1 hidden-the_row-Expr-1 shape-the_row-ProgExpr-0 hidden-the_row-ProgExpr-0 shape-the_row-ProgExpr-1 hidden-the_row-ProgExpr-1 hidden
-  number_fit may n t s h = record { lawful = h; written = refl }
+  number_fit may n t s h = unfold expr_rows prog_expr_rows in record { lawful = h; written = refl }
 
   var_fit : (may : Bool) (v : ℕ) (t : Ty) (s : Span) → IsVar k v t → Fit may (prog_of (typed.Var v) t s)
-  unfolding shape-the_row-ProgExpr-0 hidden-the_row-ProgExpr-0 shape-the_row-ProgExpr-1 hidden-the_row-ProgExpr-1 hidden
-  var_fit may v t s h = record { lawful = h; written = refl }
+  var_fit may v t s h = unfold prog_expr_rows in record { lawful = h; written = refl }
 
   rows_lawful : (may : Bool) (fs : List ProgExpr) → Fits may fs → LawfulCallRow k gs may (hidden-the_row-ProgExpr-0 fs)
-  unfolding shape-the_row-ProgExpr-0 hidden-the_row-ProgExpr-0 shape-the_row-ProgExpr-1 hidden-the_row-ProgExpr-1 hidden
+  unfolding prog_expr_rows
   rows_lawful may [] h = tt
   rows_lawful may (f ∷ fs) h = (h.0.lawful, rows_lawful may fs h.1)
 
   row_long : (fs : List ProgExpr) → row_length (hidden-the_row-ProgExpr-0 fs) ≡ length fs
-  unfolding shape-the_row-ProgExpr-0 hidden-the_row-ProgExpr-0 shape-the_row-ProgExpr-1 hidden-the_row-ProgExpr-1 hidden
+  unfolding prog_expr_rows
   row_long [] = refl
   row_long (f ∷ fs) = let r : row_length (hidden-the_row-ProgExpr-0 fs) ≡ length fs = row_long fs in omega arith
 
   element_fit : (may : Bool) (a : ℕ) (t : Ty) (fs : List ProgExpr) (s : Span) → IsElement k a (length fs) t → Fits may fs → Fit may (prog_of (typed.Element a fs) t s)
-  unfolding shape-the_row-ProgExpr-0 hidden-the_row-ProgExpr-0 shape-the_row-ProgExpr-1 hidden-the_row-ProgExpr-1 hidden
-  element_fit may a t fs s e h = record { lawful = (subst (λ n. IsElement k a n t) (sym (row_long fs)) e, rows_lawful may fs h); written = refl }
+  element_fit may a t fs s e h = unfold prog_expr_rows in record { lawful = (subst (λ n. IsElement k a n t) (sym (row_long fs)) e, rows_lawful may fs h); written = refl }
 
   -- the arguments of a call, each converted to the type of its parameter
   args_lawful : (may : Bool) (ts : List Ty) (fs : List ProgExpr) → Fits may fs → LawfulCallRow k gs may (hidden-the_row-ProgExpr-0 (prog_converted_all ts fs))
-  unfolding shape-the_row-ProgExpr-0 hidden-the_row-ProgExpr-0 shape-the_row-ProgExpr-1 hidden-the_row-ProgExpr-1 hidden
+  unfolding prog_expr_rows
   args_lawful may [] fs h = tt
   args_lawful may (t ∷ ts) [] h = tt
   args_lawful may (t ∷ ts) (f ∷ fs) h = (converted_lawful may t f h.0, args_lawful may ts fs h.1)
 
   args_typed : (ts : List Ty) (fs : List ProgExpr) → length fs ≡ length ts → row_types (hidden-the_row-ProgExpr-0 (prog_converted_all ts fs)) ≡ ts
-  unfolding shape-the_row-ProgExpr-0 hidden-the_row-ProgExpr-0 shape-the_row-ProgExpr-1 hidden-the_row-ProgExpr-1 hidden
+  unfolding prog_expr_rows
   args_typed [] fs e = refl
   args_typed (t ∷ ts) [] e = absurd (omega arith)
   args_typed (t ∷ ts) (f ∷ fs) e = ap (λ u. u ∷ row_types (hidden-the_row-ProgExpr-0 (prog_converted_all ts fs))) (converted_has t f) ∙ ap (λ us. t ∷ us) (args_typed ts fs (omega arith))
 
   call_fit : (j : ℕ) (g : Known) (fs : List ProgExpr) (s : Span) → slice_get gs j ≡ Some (signature_by g) → length fs ≡ length g.params → Fits true fs → Fit true (prog_of (typed.Call j (prog_converted_all g.params fs)) g.result s)
-  unfolding shape-the_row-ProgExpr-0 hidden-the_row-ProgExpr-0 shape-the_row-ProgExpr-1 hidden-the_row-ProgExpr-1 hidden
-  call_fit j g fs s e many h = record { lawful = ((refl, (signature_by g, e, args_typed g.params fs many, refl)), args_lawful true g.params fs h); written = refl }
+  call_fit j g fs s e many h = unfold prog_expr_rows in record { lawful = ((refl, (signature_by g, e, args_typed g.params fs many, refl)), args_lawful true g.params fs h); written = refl }
 
   one_lawful : (may : Bool) (o : Unary) (f : ProgExpr) (t : Ty) (s : Span) → f.ty ≡ promoted f.ty → t ≡ unary_type o f.ty → LawfulCallExpr k gs may f → Fit may (prog_of (typed.Unary o f) t s)
-  unfolding shape-the_row-ProgExpr-0 hidden-the_row-ProgExpr-0 shape-the_row-ProgExpr-1 hidden-the_row-ProgExpr-1 hidden
-  one_lawful may o f t s a b p = record { lawful = (a, b, p); written = refl }
+  one_lawful may o f t s a b p = unfold prog_expr_rows in record { lawful = (a, b, p); written = refl }
 
   cast_fit : (may : Bool) (f : ProgExpr) (t : Ty) (s : Span) → LawfulCallExpr k gs may f → Fit may (prog_of (typed.Cast false f) t s)
-  unfolding shape-the_row-ProgExpr-0 hidden-the_row-ProgExpr-0 shape-the_row-ProgExpr-1 hidden-the_row-ProgExpr-1 hidden
-  cast_fit may f t s p = record { lawful = ((λ i. absurd (false≢true i)), p); written = refl }
+  cast_fit may f t s p = unfold prog_expr_rows in record { lawful = ((λ i. absurd (false≢true i)), p); written = refl }
 
   two_lawful : (may : Bool) (o : Binary) (f h : ProgExpr) (t : Ty) (s : Span) → AreOperands o f.ty h.ty t → LawfulCallExpr k gs may f → LawfulCallExpr k gs (may_right may o) h → Fit may (prog_of (typed.Binary o f h) t s)
-  unfolding shape-the_row-ProgExpr-0 hidden-the_row-ProgExpr-0 shape-the_row-ProgExpr-1 hidden-the_row-ProgExpr-1 hidden
-  two_lawful may o f h t s a p q = record { lawful = (a, p, q); written = refl }
+  two_lawful may o f h t s a p q = unfold prog_expr_rows in record { lawful = (a, p, q); written = refl }
 
   three_lawful : (may : Bool) (f h j : ProgExpr) (t : Ty) (s : Span) → AreSides h.ty j.ty t → LawfulCallExpr k gs may f → LawfulCallExpr k gs false h → LawfulCallExpr k gs false j → Fit may (prog_of (typed.Choose f h j) t s)
-  unfolding shape-the_row-ProgExpr-0 hidden-the_row-ProgExpr-0 shape-the_row-ProgExpr-1 hidden-the_row-ProgExpr-1 hidden
-  three_lawful may f h j t s a p q r = record { lawful = (a, p, q, r); written = refl }
+  three_lawful may f h j t s a p q r = unfold prog_expr_rows in record { lawful = (a, p, q, r); written = refl }
 
   unary_fit : (may : Bool) (o : Unary) (f : ProgExpr) (s : Span) → Fit may f → Fit may (prog_of (typed.Unary o (prog_converted (promoted f.ty) f)) (unary_type o (promoted f.ty)) s)
   unary_fit may o f s h =
@@ -206,7 +199,7 @@ casts_long (casts.no_more c) = refl
 casts_long (casts.one_more c e f es fs p q) = let r = casts_long q in omega arith
 
 tree_row_long : (es : List Expr) → tree_row_length (hidden-the_row-Expr-0 es) ≡ length es
-unfolding shape-the_row-Expr-0 hidden-the_row-Expr-0 shape-the_row-Expr-1 hidden-the_row-Expr-1 hidden
+unfolding expr_rows
 tree_row_long [] = refl
 tree_row_long (e ∷ es) = let r : tree_row_length (hidden-the_row-Expr-0 es) ≡ length es = tree_row_long es in omega arith
 
@@ -222,7 +215,7 @@ module _ (k : Objects) (hs : List Known) where
       is_element k a t ds n (u.rule_24_one_for_each (length ds) told (u.rule_23_array_has_some (length ds) told)) (subst (Means k) e (w.valid.means x))
 
   mutual
-    unfolding shape-the_row-Expr-0 hidden-the_row-Expr-0 shape-the_row-Expr-1 hidden-the_row-Expr-1 hidden
+    unfolding expr_rows
 
     pub expr_fit : {c : Context} {e : Expr} {f : ProgExpr} (names : Names) (may : Bool) → Scoped k names c.scopes → CastsCallExpr hs c e f → TypingExpr names e → NumbersFitExpr e → StandsAt may e → Fit k hs may f
     expr_fit names may w (casts.number c n t s) h i j = number_fit k hs may n t s i
@@ -248,7 +241,7 @@ module _ (k : Objects) (hs : List Known) where
 -- ---- what is read
 
 reads_if : (vs : List ℕ) (t : Ty) (e : ProgExpr) (b : Bool) → ReadsAt vs e → ReadsAt vs (if b then e else prog_of (typed.Cast true e) t e.at)
-unfolding shape-the_row-ProgExpr-0 hidden-the_row-ProgExpr-0 shape-the_row-ProgExpr-1 hidden-the_row-ProgExpr-1 hidden
+unfolding prog_expr_rows
 reads_if vs t e true h = h
 reads_if vs t e false h = h
 
@@ -260,18 +253,18 @@ AllRead vs [] = Unit {0}
 AllRead vs (f ∷ fs) = ReadsAt vs f × AllRead vs fs
 
 row_reads : (vs : List ℕ) (fs : List ProgExpr) → AllRead vs fs → RowReadsOf vs (hidden-the_row-ProgExpr-0 fs)
-unfolding shape-the_row-ProgExpr-0 hidden-the_row-ProgExpr-0 shape-the_row-ProgExpr-1 hidden-the_row-ProgExpr-1 hidden
+unfolding prog_expr_rows
 row_reads vs [] h = tt
 row_reads vs (f ∷ fs) h = (h.0, row_reads vs fs h.1)
 
 args_read : (vs : List ℕ) (ts : List Ty) (fs : List ProgExpr) → AllRead vs fs → RowReadsOf vs (hidden-the_row-ProgExpr-0 (prog_converted_all ts fs))
-unfolding shape-the_row-ProgExpr-0 hidden-the_row-ProgExpr-0 shape-the_row-ProgExpr-1 hidden-the_row-ProgExpr-1 hidden
+unfolding prog_expr_rows
 args_read vs [] fs h = tt
 args_read vs (t ∷ ts) [] h = tt
 args_read vs (t ∷ ts) (f ∷ fs) h = (converted_reads vs t f h.0, args_read vs ts fs h.1)
 
 mutual
-  unfolding shape-the_row-ProgExpr-0 hidden-the_row-ProgExpr-0 shape-the_row-ProgExpr-1 hidden-the_row-ProgExpr-1 hidden
+  unfolding prog_expr_rows
 
   pub expr_reads : {hs : List Known} {c : Context} {e : Expr} {f : ProgExpr} (vs : List ℕ) → Sees c.scopes vs → CastsCallExpr hs c e f → ReadsAt vs f
   expr_reads vs w (casts.number c n t s) = tt

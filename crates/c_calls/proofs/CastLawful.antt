@@ -2,17 +2,16 @@
 use Rattle.std.proofs.Common.{◌≡◌, ℕ, List, [], ◌∷◌, length, Option, Some, None, refl, sym, ◌∙◌, ap, subst, arith}
 use Rattle.std.proofs.lemmas.List.Elements.{All-nil, All-cons, All-head, All-tail}
 use Rattle.std.specs.Prelude.{Bool, true, false, IsTrue, All}
-use denote.Hole.Carrier.{hidden}
 use Rattle.el_base.specs.declared.ty.Ty.{Ty}
 use Rattle.c_ast.specs.declared.tree.Target.{Target}
 use Rattle.c_ast.specs.declared.tree.Expr.{Expr}
-use Rattle.c_ast.specs.declared.tree.ExprKind.TheBlock.{shape-the_row-Expr-0, hidden-the_row-Expr-0, shape-the_row-Expr-1, hidden-the_row-Expr-1}
+use Rattle.c_ast.specs.declared.tree.ExprKind.TheBlock.{hidden-the_row-Expr-0}
 use Rattle.c_ast.specs.declared.tree.Stmt.{Stmt}
-use Rattle.c_ast.specs.declared.tree.StmtKind.TheBlock.{shape-the_row-Stmt-0, hidden-the_row-Stmt-0, shape-the_row-Stmt-1, hidden-the_row-Stmt-1, back-StmtKind-If-2}
+use Rattle.c_ast.specs.declared.tree.StmtKind.TheBlock.{hidden-the_row-Stmt-0, back-StmtKind-If-2}
 use Rattle.c_ast.specs.declared.program.ProgTarget.{ProgTarget}
 use Rattle.c_ast.specs.declared.program.ProgExpr.{ProgExpr}
 use Rattle.c_ast.specs.declared.program.ProgStmt.{ProgStmt}
-use Rattle.c_ast.specs.declared.program.ProgStmtKind.TheBlock.{shape-the_row-ProgStmt-0, hidden-the_row-ProgStmt-0, shape-the_row-ProgStmt-1, hidden-the_row-ProgStmt-1, back-ProgStmtKind-If-2}
+use Rattle.c_ast.specs.declared.program.ProgStmtKind.TheBlock.{hidden-the_row-ProgStmt-0, back-ProgStmtKind-If-2}
 use Rattle.c_ast.specs.Casts.{Context, assigned_type}
 use Rattle.c_ast.specs.Constants.{NumbersFitRow, NumbersFitExpr, NumbersFitOption, NumbersFitTarget, NumbersFitStmt, NumbersFitHeld, NumbersFitStmts}
 use Rattle.c_ast.specs.Programs.{CallsStandIn, StandsAt, StandsIfAny, CallsStandStmt, CallsStandHeld, CallsStandStmts}
@@ -28,21 +27,23 @@ use Rattle.c_calls.specs.Lawful.{Signature, LawfulCallExpr, IfAnyExpr, LawfulCal
 use Rattle.c_ast.specs.OfTexts.{ReturnsWhere, HeldReturnsWhere, RowReturnsWhere}
 use Rattle.c_calls.proofs.CastExprs.{gs, converted_has, Fits, converted_lawful, var_at, array_at, expr_fit, exprs_fit, casts_long, converted_reads, AllRead, expr_reads, exprs_read}
 use Rattle.c_calls.proofs.CastStmts.{stmt_grows, held_grows, stmts_grow, grown, Stands, opens, later, declares_one, held_after, stmt_after, stmts_after}
+use Rattle.c_meaning.proofs.TreeRows.{expr_rows, stmt_rows}
+use Rattle.c_calls.proofs.TreeRows.{prog_stmt_rows}
 
 -- ---- lists and rows
 
 row_typing : (names : Names) (es : List Expr) → All (TypingExpr names) es → TypingRow names (hidden-the_row-Expr-0 es)
-unfolding shape-the_row-Expr-0 hidden-the_row-Expr-0 shape-the_row-Expr-1 hidden-the_row-Expr-1 hidden
+unfolding expr_rows
 row_typing names [] h = tt
 row_typing names (e ∷ es) h = (All-head (TypingExpr names) e es h, row_typing names es (All-tail (TypingExpr names) e es h))
 
 row_fits : (es : List Expr) → All NumbersFitExpr es → NumbersFitRow (hidden-the_row-Expr-0 es)
-unfolding shape-the_row-Expr-0 hidden-the_row-Expr-0 shape-the_row-Expr-1 hidden-the_row-Expr-1 hidden
+unfolding expr_rows
 row_fits [] h = tt
 row_fits (e ∷ es) h = (All-head NumbersFitExpr e es h, row_fits es (All-tail NumbersFitExpr e es h))
 
 row_stands : (may : Bool) (es : List Expr) → All (StandsAt may) es → CallsStandIn may (hidden-the_row-Expr-0 es)
-unfolding shape-the_row-Expr-0 hidden-the_row-Expr-0 shape-the_row-Expr-1 hidden-the_row-Expr-1 hidden
+unfolding expr_rows
 row_stands may [] h = tt
 row_stands may (e ∷ es) h = (All-head (StandsAt may) e es h, row_stands may es (All-tail (StandsAt may) e es h))
 
@@ -103,7 +104,7 @@ module _ (k : Objects) (hs : List Known) (ret : Bool) (q : Option (Option Ty)) w
     pub scoped : AreScoped (hidden-the_row-ProgStmt-0 ts) vs
 
   mutual
-    unfolding shape-the_row-Stmt-0 hidden-the_row-Stmt-0 shape-the_row-Stmt-1 hidden-the_row-Stmt-1 shape-the_row-ProgStmt-0 hidden-the_row-ProgStmt-0 shape-the_row-ProgStmt-1 hidden-the_row-ProgStmt-1 hidden
+    unfolding stmt_rows prog_stmt_rows
 
     stmt_fit : {r : Option Ty} {c d : Context} {a : Stmt} {b : ProgStmt} (names : Names) (vs : List ℕ) (loop : Bool) → (IsTrue ret → q ≡ Some r) → Stands k names c.scopes (length c.types) vs → Extends d.types k.vars → CastsCallStmt hs r c a b d
         → TypingStmt a.kind r loop names → NumbersFitStmt a.kind → CallsStandStmt a.kind → ReturnsWhere ret a.kind → FitStmt loop b vs

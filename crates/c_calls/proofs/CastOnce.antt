@@ -2,7 +2,6 @@
 use Rattle.std.proofs.Common.{◌≡◌, ℕ, List, [], ◌∷◌, ◌++◌, length, map, Option, Some, None, refl, sym, ◌∙◌, ap}
 use Rattle.std.specs.Prelude.{Bool, false}
 use mathlib.Core.Former.{Count}
-use denote.Hole.Carrier.{hidden}
 use Rattle.el_base.specs.declared.span.Span.{Span}
 use Rattle.el_base.specs.declared.ty.Ty.{Ty}
 use Rattle.el_base.specs.declared.ty.Ty.TheVariants.{I32}
@@ -13,11 +12,11 @@ use Rattle.c_ast.specs.declared.tree.Target.{Target}
 use Rattle.c_ast.specs.declared.tree.Expr.{Expr}
 use Rattle.c_ast.specs.declared.tree.ExprKind.{ExprKind, Row_of-Expr, end_of-Expr, more_of-Expr}
 use Rattle.c_ast.specs.declared.tree.ExprKind as raw
-use Rattle.c_ast.specs.declared.tree.ExprKind.TheBlock.{shape-the_row-Expr-0, hidden-the_row-Expr-0, shape-the_row-Expr-1, hidden-the_row-Expr-1}
+use Rattle.c_ast.specs.declared.tree.ExprKind.TheBlock.{hidden-the_row-Expr-0}
 use Rattle.c_ast.specs.declared.tree.Stmt.{Stmt}
 use Rattle.c_ast.specs.declared.tree.StmtKind.{StmtKind, Row_of-Stmt, end_of-Stmt, more_of-Stmt, Held-StmtKind-If-2, back-StmtKind-If-2}
 use Rattle.c_ast.specs.declared.tree.StmtKind as raw_stmt
-use Rattle.c_ast.specs.declared.tree.StmtKind.TheBlock.{shape-the_row-Stmt-0, hidden-the_row-Stmt-0, shape-the_row-Stmt-1, hidden-the_row-Stmt-1}
+use Rattle.c_ast.specs.declared.tree.StmtKind.TheBlock.{hidden-the_row-Stmt-0}
 use Rattle.c_ast.specs.declared.tree.Helper.{Helper}
 use Rattle.c_ast.specs.declared.tree.Program.{Program}
 use Rattle.c_ast.specs.declared.typed.ArrayOf.{ArrayOf}
@@ -35,6 +34,7 @@ use Rattle.c_ast.specs.Casts.{Declared, a_var, an_array, Context, declared_as, w
 use Rattle.c_ast.specs.ProgramCasts.{Known, helper_of, known_of, prog_of, prog_converted, prog_converted_all, CastsCallExpr, CastsCallExprs, CastsCallTarget, CastsCallOption, prog_at, CastsCallStmt, CastsCallHeld, CastsCallStmts, CastsHelper, CastsHelpers, CastsProgram}
 use Rattle.c_ast.specs.ProgramCasts as casts
 use Rattle.c_calls.specs.Texts.{TypedIsOne}
+use Rattle.c_meaning.proofs.TreeRows.{expr_rows, stmt_rows}
 
 -- ---- expressions
 
@@ -93,12 +93,12 @@ cast_option hs c (Some e) = Some (cast_expr hs c e)
 
 -- a row of expressions is cast as their list is
 pub row_casts : (hs : List Known) (c : Context) (es : List Expr) → cast_row hs c (hidden-the_row-Expr-0 es) ≡ cast_exprs hs c es
-unfolding shape-the_row-Expr-0 hidden-the_row-Expr-0 shape-the_row-Expr-1 hidden-the_row-Expr-1 hidden
+unfolding expr_rows
 row_casts hs c [] = refl
 row_casts hs c (e ∷ es) = ap (λ fs. cast_expr hs c e ∷ fs) (row_casts hs c es)
 
 mutual
-  unfolding shape-the_row-Expr-0 hidden-the_row-Expr-0 shape-the_row-Expr-1 hidden-the_row-Expr-1 hidden
+  unfolding expr_rows
 
   pub one_expr : (hs : List Known) {c : Context} {e : Expr} {f : ProgExpr} → CastsCallExpr hs c e f → cast_expr hs c e ≡ f
   one_expr hs (casts.number c n t s) = refl
@@ -214,7 +214,7 @@ abbrev mutual
   cast_stmts hs r (more_of-Stmt a at row) c = let d = cast_stmt hs r a c at in more_as d (cast_stmts hs r row d.after)
 
 mutual
-  unfolding shape-the_row-Stmt-0 hidden-the_row-Stmt-0 shape-the_row-Stmt-1 hidden-the_row-Stmt-1 hidden
+  unfolding stmt_rows
 
   pub one_stmt : (hs : List Known) {r : Option Ty} {c : Context} {a : Stmt} {b : ProgStmt} {d : Context} → CastsCallStmt hs r c a b d → cast_stmt hs r a.kind c a.at ≡ record { value = b; after = d }
   one_stmt hs (casts.block r c d ss ts s h) = ap (λ u. block_as c u s) (one_stmts hs h)

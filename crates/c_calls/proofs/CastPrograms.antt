@@ -7,14 +7,13 @@ use Rattle.std.proofs.Math.Seq.{take-append_seam}
 use Rattle.std.specs.Prelude.{Bool, true, false, ◌==◌, IsTrue, All, Contains, sum_by}
 use Rattle.std.specs.Cmp.Lexicographic.{pointwise}
 use mathlib.Core.Former.{Count}
-use denote.Hole.Carrier.{hidden}
 use Rattle.el_base.specs.declared.ty.Ty.{Ty}
 use Rattle.el_base.specs.Limits.{max_elements}
 use Rattle.c_ast.specs.declared.tree.Param.{Param}
 use Rattle.c_ast.specs.declared.tree.Stmt.{Stmt}
 use Rattle.c_ast.specs.declared.tree.StmtKind.{StmtKind, Row_of-Stmt, end_of-Stmt, more_of-Stmt, Held-StmtKind-If-2}
 use Rattle.c_ast.specs.declared.tree.StmtKind as raw
-use Rattle.c_ast.specs.declared.tree.StmtKind.TheBlock.{shape-the_row-Stmt-0, hidden-the_row-Stmt-0, shape-the_row-Stmt-1, hidden-the_row-Stmt-1}
+use Rattle.c_ast.specs.declared.tree.StmtKind.TheBlock.{hidden-the_row-Stmt-0}
 use Rattle.c_ast.specs.declared.tree.Tree.{Tree}
 use Rattle.c_ast.specs.declared.tree.Helper.{Helper}
 use Rattle.c_ast.specs.declared.tree.Program.{Program}
@@ -22,7 +21,7 @@ use Rattle.c_ast.specs.declared.program.ProgExpr.{ProgExpr}
 use Rattle.c_ast.specs.declared.program.ProgStmt.{ProgStmt}
 use Rattle.c_ast.specs.declared.program.ProgStmtKind.{ProgStmtKind, Row_of-ProgStmt, end_of-ProgStmt, more_of-ProgStmt, Held-ProgStmtKind-If-2}
 use Rattle.c_ast.specs.declared.program.ProgStmtKind as act
-use Rattle.c_ast.specs.declared.program.ProgStmtKind.TheBlock.{shape-the_row-ProgStmt-0, hidden-the_row-ProgStmt-0, shape-the_row-ProgStmt-1, hidden-the_row-ProgStmt-1}
+use Rattle.c_ast.specs.declared.program.ProgStmtKind.TheBlock.{hidden-the_row-ProgStmt-0}
 use Rattle.c_ast.specs.declared.program.TypedHelper.{TypedHelper}
 use Rattle.c_ast.specs.declared.program.TypedProgram.{TypedProgram}
 use Rattle.c_ast.specs.Casts.{Declared, a_var, an_array, Scope, Context, Parameters, with_param, with_params, parameters, first_context}
@@ -50,41 +49,43 @@ use Rattle.c_calls.proofs.LawfulHelpers.{is_below, many_scalars}
 use Rattle.c_calls.proofs.CastExprs.{ToldBy, Sees, signature_by, gs, converted_has, converted_lawful, expr_fit, converted_reads, expr_reads}
 use Rattle.c_calls.proofs.CastStmts.{stmts_grow, numbers_then, Follow, stmts_follow, Stands, stmts_after}
 use Rattle.c_calls.proofs.CastLawful.{FitStmts, stmts_fit}
+use Rattle.c_meaning.proofs.TreeRows.{stmt_rows}
+use Rattle.c_calls.proofs.TreeRows.{prog_stmt_rows}
 
 -- ---- lists and rows
 
 rows_stand : (ss : List Stmt) → All (λ (s : Stmt). CallsStandStmt s.kind) ss → CallsStandStmts (hidden-the_row-Stmt-0 ss)
-unfolding shape-the_row-Stmt-0 hidden-the_row-Stmt-0 shape-the_row-Stmt-1 hidden-the_row-Stmt-1 hidden
+unfolding stmt_rows
 rows_stand [] h = tt
 rows_stand (s ∷ ss) h = let P : Stmt → Type 0 = λ s. CallsStandStmt s.kind in (All-head P s ss h, rows_stand ss (All-tail P s ss h))
 
 rows_return : (may : Bool) (ss : List Stmt) → All (λ (s : Stmt). ReturnsWhere may s.kind) ss → RowReturnsWhere may (hidden-the_row-Stmt-0 ss)
-unfolding shape-the_row-Stmt-0 hidden-the_row-Stmt-0 shape-the_row-Stmt-1 hidden-the_row-Stmt-1 hidden
+unfolding stmt_rows
 rows_return may [] h = tt
 rows_return may (s ∷ ss) h = let P : Stmt → Type 0 = λ s. ReturnsWhere may s.kind in (All-head P s ss h, rows_return may ss (All-tail P s ss h))
 
 pub names_after_same : (names : Names) (ss : List Stmt) → names_after_row names (hidden-the_row-Stmt-0 ss) ≡ names_after_list names ss
-unfolding shape-the_row-Stmt-0 hidden-the_row-Stmt-0 shape-the_row-Stmt-1 hidden-the_row-Stmt-1 hidden
+unfolding stmt_rows
 names_after_same names [] = refl
 names_after_same names (s ∷ ss) = names_after_same (names_after names s.kind) ss
 
 list_lawful : (k : Objects) (sigs : List Signature) (q : Option (Option Ty)) (loop : Bool) (ts : List ProgStmt) → LawfulCallStmts k sigs q loop (hidden-the_row-ProgStmt-0 ts) → All (λ (s : ProgStmt). LawfulCallStmt k sigs q loop s.kind) ts
-unfolding shape-the_row-ProgStmt-0 hidden-the_row-ProgStmt-0 shape-the_row-ProgStmt-1 hidden-the_row-ProgStmt-1 hidden
+unfolding prog_stmt_rows
 list_lawful k sigs q loop [] h = All-nil (λ (s : ProgStmt). LawfulCallStmt k sigs q loop s.kind)
 list_lawful k sigs q loop (t ∷ ts) h = All-cons (λ (s : ProgStmt). LawfulCallStmt k sigs q loop s.kind) t ts h.0 (list_lawful k sigs q loop ts h.1)
 
 list_scoped : (ts : List ProgStmt) (vs : List ℕ) → AreScoped (hidden-the_row-ProgStmt-0 ts) vs → ListScoped ts vs
-unfolding shape-the_row-ProgStmt-0 hidden-the_row-ProgStmt-0 shape-the_row-ProgStmt-1 hidden-the_row-ProgStmt-1 hidden
+unfolding prog_stmt_rows
 list_scoped [] vs h = tt
 list_scoped (t ∷ ts) vs h = (h.0, list_scoped ts (in_scope_after vs t.kind) h.1)
 
 scope_after_same : (vs : List ℕ) (ts : List ProgStmt) → in_scope_after_row vs (hidden-the_row-ProgStmt-0 ts) ≡ in_scope_after_list vs ts
-unfolding shape-the_row-ProgStmt-0 hidden-the_row-ProgStmt-0 shape-the_row-ProgStmt-1 hidden-the_row-ProgStmt-1 hidden
+unfolding prog_stmt_rows
 scope_after_same vs [] = refl
 scope_after_same vs (t ∷ ts) = scope_after_same (in_scope_after vs t.kind) ts
 
 declared_same : (ts : List ProgStmt) → all_declared ts ≡ declared_row (hidden-the_row-ProgStmt-0 ts)
-unfolding shape-the_row-ProgStmt-0 hidden-the_row-ProgStmt-0 shape-the_row-ProgStmt-1 hidden-the_row-ProgStmt-1 hidden
+unfolding prog_stmt_rows
 declared_same [] = refl
 declared_same (t ∷ ts) = ap (λ xs. declared_of t.kind ++ xs) (declared_same ts)
 

@@ -2,12 +2,11 @@
 use Rattle.std.proofs.Common.{◌≡◌, ℕ, zero, suc, ◌+◌, ◌<◌, ◌≤◌, List, [], ◌∷◌, ◌++◌, length, length-append, Option, Some, refl, sym, ◌∙◌, ap, subst, cond, arith, ◌⊎◌, inl, inr}
 use Rattle.std.specs.Prelude.{Bool, true, false, ◌==◌, Contains}
 use Rattle.std.specs.Cmp.Lexicographic.{pointwise}
-use denote.Hole.Carrier.{hidden}
 use Rattle.el_base.specs.declared.ty.Ty.{Ty}
 use Rattle.c_ast.specs.declared.tree.Stmt.{Stmt}
-use Rattle.c_ast.specs.declared.tree.StmtKind.TheBlock.{shape-the_row-Stmt-0, hidden-the_row-Stmt-0, shape-the_row-Stmt-1, hidden-the_row-Stmt-1}
+use Rattle.c_ast.specs.declared.tree.StmtKind.TheBlock.{hidden-the_row-Stmt-0}
 use Rattle.c_ast.specs.declared.program.ProgStmt.{ProgStmt}
-use Rattle.c_ast.specs.declared.program.ProgStmtKind.TheBlock.{shape-the_row-ProgStmt-0, hidden-the_row-ProgStmt-0, shape-the_row-ProgStmt-1, hidden-the_row-ProgStmt-1, back-ProgStmtKind-If-2}
+use Rattle.c_ast.specs.declared.program.ProgStmtKind.TheBlock.{hidden-the_row-ProgStmt-0, back-ProgStmtKind-If-2}
 use Rattle.c_ast.specs.Casts.{Declared, a_var, Scope, Context, into_innermost, with_var}
 use Rattle.c_ast.specs.ProgramCasts.{Known, CastsCallStmt, CastsCallHeld, CastsCallStmts}
 use Rattle.c_ast.specs.ProgramCasts as casts
@@ -19,6 +18,8 @@ use Rattle.c_meaning.proofs.LawfulStatements.{new_var}
 use Rattle.c_calls.specs.Lawful.{in_scope_after, in_scope_after_row, numbers_from, declared_of, declared_held, declared_row}
 use Rattle.c_calls.proofs.Lists.{here, there, member_cases}
 use Rattle.c_calls.proofs.CastExprs.{ToldBy, Scoped, Sees}
+use Rattle.c_meaning.proofs.TreeRows.{stmt_rows}
+use Rattle.c_calls.proofs.TreeRows.{prog_stmt_rows}
 
 -- ---- the list of variables grows
 
@@ -86,7 +87,7 @@ follow_one types t = record { count = 1; sum = sym (length-append types (t ∷ [
 
 module _ (hs : List Known) where
   mutual
-    unfolding shape-the_row-ProgStmt-0 hidden-the_row-ProgStmt-0 shape-the_row-ProgStmt-1 hidden-the_row-ProgStmt-1 hidden
+    unfolding prog_stmt_rows
 
     pub stmt_follows : {r : Option Ty} {c d : Context} {a : Stmt} {b : ProgStmt} → CastsCallStmt hs r c a b d → Follow (length c.types) (length d.types) (declared_of b.kind)
     stmt_follows (casts.block r c d ss ts s p) = stmts_follow p
@@ -172,7 +173,7 @@ module _ (k : Objects) (hs : List Known) where
   held_after {c} {d} names vs p w = subst (λ ss. Stands k names ss (length d.types) vs) (sym (held_keeps p)) (kept names c d vs (held_grows hs p) w)
 
   mutual
-    unfolding shape-the_row-Stmt-0 hidden-the_row-Stmt-0 shape-the_row-Stmt-1 hidden-the_row-Stmt-1 shape-the_row-ProgStmt-0 hidden-the_row-ProgStmt-0 shape-the_row-ProgStmt-1 hidden-the_row-ProgStmt-1 hidden
+    unfolding stmt_rows prog_stmt_rows
 
     pub stmt_after : {r : Option Ty} {c d : Context} {a : Stmt} {b : ProgStmt} (names : Names) (vs : List ℕ) → CastsCallStmt hs r c a b d → Extends d.types k.vars → Stands k names c.scopes (length c.types) vs
         → Stands k (names_after names a.kind) d.scopes (length d.types) (in_scope_after vs b.kind)

@@ -106,20 +106,15 @@ same_le x = omega arith
 pub store_long : (zs : List ℤ) (m : ℕ) → m ≤ length (map Some zs ++ replicate (m - length zs) None)
 store_long zs m =
     let rest : List (Option ℤ) = replicate (m - length zs) None in
-    let b = length-append (map Some zs) rest in
     let c : length (map Some zs) ≡ length zs = length-map zs Some in
     let d : length rest ≡ m - length zs = length-replicate (m - length zs) None in
-    omega arith
+    omega (arith, length-append (map Some zs) rest)
 
 -- ---- segments of the tree's variables
 
 pub seg_room : (vars : List Ty) (f : ℕ) (ts : List Ty) → Seg vars f ts → f + length ts ≤ length vars
 seg_room vars f ts s =
-    let a = ap length s.is in
-    let b = length-append s.pre (ts ++ s.post) in
-    let c = length-append ts s.post in
-    let h = s.at in
-    omega arith
+    omega (arith, ap length s.is, length-append s.pre (ts ++ s.post), length-append ts s.post, s.at)
 
 pub seg_types : (vars : List Ty) (f : ℕ) (ts : List Ty) → Seg vars f ts → (v : ℕ) → v < length ts → slice_get vars (f + v) ≡ slice_get ts v
 seg_types vars f ts s v lt =

@@ -4,14 +4,12 @@ use Rattle.std.specs.Prelude.{Bool, true, false, All, Contains, slice_get}
 use Rattle.std.proofs.lemmas.Bool.{false≢true}
 use Rattle.std.proofs.lemmas.List.{length-append}
 use Rattle.std.proofs.lemmas.List.Elements.{All-nil, All-cons, All-head, All-tail, All-append, All-weaker}
-use denote.Hole.Carrier.{hidden}
 use mathlib.Core.Former.{Count}
 use Rattle.el_base.specs.declared.span.Span.{Span}
 use Rattle.el_base.specs.declared.ty.Ty.{Ty}
 use Rattle.c_ast.specs.Casts.{of_type, act_at}
 use Rattle.c_ast.specs.declared.tree.Binary.{Binary}
 use Rattle.c_ast.specs.declared.typed.TypedExpr.{TypedExpr}
-use Rattle.c_ast.specs.declared.typed.TypedExprKind.TheBlock.{shape-the_row-TypedExpr-0, hidden-the_row-TypedExpr-0, shape-the_row-TypedExpr-1, hidden-the_row-TypedExpr-1}
 use Rattle.c_ast.specs.declared.typed.TypedStmt.{TypedStmt}
 use Rattle.c_ast.specs.declared.typed.TypedStmtKind.{TypedStmtKind}
 use Rattle.c_ast.specs.declared.program.ProgExpr.{ProgExpr}
@@ -27,14 +25,14 @@ use Rattle.c_calls.specs.Inlined.{Out, Outs, OutOption, Written, Writing, writte
 use Rattle.c_calls.specs.Lawful.{is_implied, row_length, row_types, Signature, may_where, may_right, LawfulCallKind, LawfulCallRow, LawfulCallExpr, IfAnyExpr}
 use Rattle.c_calls.proofs.Blocks.{Seg}
 use Rattle.c_calls.proofs.ExprTrees.{seg_first, seg_rest}
+use Rattle.c_meaning.proofs.TreeRows.{typed_expr_rows}
 
 -- ---- lists of variables
 
 -- of types one list after the other
 pub sets_both : (f : ℕ) (ts us : List Ty) (xs ys : List ℕ) → Sets f (f + length ts) xs → Sets (f + length ts) (f + length ts + length us) ys → Sets f (f + length (ts ++ us)) (xs ++ ys)
 sets_both f ts us xs ys s t =
-    let e = length-append ts us in
-    sets_to f (f + length ts + length us) (f + length (ts ++ us)) (xs ++ ys) (omega arith) (sets_then f (f + length ts) (f + length ts + length us) xs ys s t)
+    sets_to f (f + length ts + length us) (f + length (ts ++ us)) (xs ++ ys) (omega (arith, length-append ts us)) (sets_then f (f + length ts) (f + length ts + length us) xs ys s t)
 
 pub sets_same : (f g : ℕ) (xs ys : List ℕ) → ys ≡ xs → Sets f g xs → Sets f g ys
 sets_same f g xs ys e s v a b = subst (λ zs. Contains zs v) (sym e) (s v a b)
@@ -50,7 +48,7 @@ blocks_both f ts us xs ys s t = sets_same f (f + length (ts ++ us)) (all_vars xs
 -- ---- implied casts
 
 implied_same : (ws : List Writing) (b f : ℕ) (e : ProgExprKind) (s : Span) → is_implied_typed (inline_expr ws b f e s).kind ≡ is_implied e
-unfolding shape-the_row-TypedExpr-0 hidden-the_row-TypedExpr-0 shape-the_row-TypedExpr-1 hidden-the_row-TypedExpr-1 hidden
+unfolding typed_expr_rows
 implied_same ws b f (tree.Unary' op x (more_of-ProgExpr e t at end_of-ProgExpr)) s = refl
 implied_same ws b f (tree.Cast' implied x (more_of-ProgExpr e t at end_of-ProgExpr)) s = refl
 implied_same ws b f (tree.Binary' op x (more_of-ProgExpr e t at end_of-ProgExpr) x2 (more_of-ProgExpr e2 t2 at2 end_of-ProgExpr)) s = refl
@@ -76,22 +74,14 @@ mutual
   makes_none k hs ws b f (tree.Binary' op x (more_of-ProgExpr e t at end_of-ProgExpr) x2 (more_of-ProgExpr e2 t2 at2 end_of-ProgExpr)) ty s l =
       let o = inline_expr ws b f e at in
       let g = f + length o.types in
-      let one = makes_none k hs ws b f e t at l.1 in
-      let two = makes_none k hs ws b g e2 t2 at2 (subst (λ may. LawfulCallKind k hs may e2 t2) (never op) l.2) in
-      let size = length-append o.types (inline_expr ws b g e2 at2).types in
-      omega arith
+      omega (arith, makes_none k hs ws b f e t at l.1, makes_none k hs ws b g e2 t2 at2 (subst (λ may. LawfulCallKind k hs may e2 t2) (never op) l.2), length-append o.types (inline_expr ws b g e2 at2).types)
   makes_none k hs ws b f (tree.Choose' x (more_of-ProgExpr e t at end_of-ProgExpr) x2 (more_of-ProgExpr e2 t2 at2 end_of-ProgExpr) x3 (more_of-ProgExpr e3 t3 at3 end_of-ProgExpr)) ty s l =
       let o = inline_expr ws b f e at in
       let g = f + length o.types in
       let o2 = inline_expr ws b g e2 at2 in
       let h = g + length o2.types in
       let o3 = inline_expr ws b h e3 at3 in
-      let one = makes_none k hs ws b f e t at l.1 in
-      let two = makes_none k hs ws b g e2 t2 at2 l.2 in
-      let three = makes_none k hs ws b h e3 t3 at3 l.3 in
-      let size = length-append o.types (o2.types ++ o3.types) in
-      let size2 = length-append o2.types o3.types in
-      omega arith
+      omega (arith, makes_none k hs ws b f e t at l.1, makes_none k hs ws b g e2 t2 at2 l.2, makes_none k hs ws b h e3 t3 at3 l.3, length-append o.types (o2.types ++ o3.types), length-append o2.types o3.types)
   makes_none k hs ws b f (tree.Call' h n row) ty s l = absurd (false≢true l.0.0)
 
   row_makes_none : (k : Objects) (hs : List Signature) (ws : List Writing) (b f : ℕ) {n : Count} (row : Row_of-ProgExpr n) → LawfulCallRow k hs false row → length (inline_row ws b f row).types ≡ 0
@@ -99,10 +89,7 @@ mutual
   row_makes_none k hs ws b f (more_of-ProgExpr e t at row) l =
       let o = inline_expr ws b f e at in
       let g = f + length o.types in
-      let one = makes_none k hs ws b f e t at l.0 in
-      let two = row_makes_none k hs ws b g row l.1 in
-      let size = length-append o.types (inline_row ws b g row).types in
-      omega arith
+      omega (arith, makes_none k hs ws b f e t at l.0, row_makes_none k hs ws b g row l.1, length-append o.types (inline_row ws b g row).types)
 
 -- ---- how many arguments are left, and of which types
 

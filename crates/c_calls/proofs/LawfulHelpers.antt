@@ -77,9 +77,8 @@ many_scalars [] h = refl
 many_scalars (q ∷ qs) h =
     let P : Param → Type 0 = λ q. q.dims ≡ [] in
     let e = All-head P q qs h in
-    let r = many_scalars qs (All-tail P q qs h) in
-    let one = scalar_one q.dims q.ty e in
-    length-append (scalar_type q.dims q.ty) (scalar_types qs) ∙ omega arith
+    length-append (scalar_type q.dims q.ty) (scalar_types qs)
+    ∙ omega (arith, many_scalars qs (All-tail P q qs h), scalar_one q.dims q.ty e)
   where
     scalar_one : (ds : List ℕ) (t : Ty) → ds ≡ [] → length (scalar_type ds t) ≡ 1
     scalar_one [] t e = refl
@@ -239,9 +238,7 @@ module _ (p : Profile) (K : Objects) (hs : List Signature) (ws : List Writing) (
       by_cases : (u < v) ⊎ (v ≤ u) → Contains (own ++ (inner ++ ending)) u
       by_cases (inl l) = let e : f + (u - f) ≡ u = omega arith in subst (λ w. Contains (own ++ (inner ++ ending)) w) e (own_in (u - f) (omega arith))
       by_cases (inr l) =
-          let a = length-append h.vars (h.result ∷ (body_types ++ value_types)) in
-          let b = length-append body_types value_types in
-          made_in u l (omega arith)
+          made_in u l (omega (arith, length-append h.vars (h.result ∷ (body_types ++ value_types)), length-append body_types value_types))
 
   call_written : LawfulWritten K f (signature_of h) (writing ws h f es s)
   call_written = record { settles = settles; sets = all_sets; fresh = fresh_is }

@@ -200,7 +200,6 @@ module _ (k K : Objects) (b : ℕ) (hs : List Signature) (ws : List Writing) (w 
         let c = inline_of ws b f cond in
         let g = f + length c.types in
         let y = inline_stmt ws b g a at in
-        let none = makes_none k hs ws b f cond.kind cond.ty cond.at l.0 in
         let o = expr_out k K b hs ws w false f cond.kind cond.ty cond.at (seg_first K.vars f c.types y.types seg) l.0 in
         let o2 = stmt_out g a at true true (λ z. z) (seg_rest K.vars f c.types y.types seg) l.1 in
         let body = act_at y.kind at in
@@ -208,23 +207,21 @@ module _ (k K : Objects) (b : ℕ) (hs : List Signature) (ws : List Writing) (w 
         let vars = vars_while_loop (rest_of c cond) body in
         record {
           lawful = (stmt_while_loop (rest_of c cond) body K R inside).1 (o.lawful, o2.lawful);
-          sets = sets_same f (f + length (c.types ++ y.types)) (stmt_vars_of y.kind) (stmt_vars_of kind) vars (sets_both f c.types y.types [] (stmt_vars_of y.kind) (sets_none f g [] (omega arith)) o2.sets);
+          sets = sets_same f (f + length (c.types ++ y.types)) (stmt_vars_of y.kind) (stmt_vars_of kind) vars (sets_both f c.types y.types [] (stmt_vars_of y.kind) (sets_none f g [] (omega (arith, makes_none k hs ws b f cond.kind cond.ty cond.at l.0))) o2.sets);
           moves = moves_same b (prog_vars_of a) (stmt_vars_of y.kind) (stmt_vars_of kind) vars o2.moves;
         }
     stmt_out f (act.DoWhile' x (more_of-ProgStmt a at end_of-ProgStmt) cond) s loop inside in_loop seg l =
         let y = inline_stmt ws b f a at in
         let g = f + length y.types in
         let c = inline_of ws b g cond in
-        let none = makes_none k hs ws b g cond.kind cond.ty cond.at l.1 in
         let o = stmt_out f a at true true (λ z. z) (seg_first K.vars f y.types c.types seg) l.0 in
         let o2 = expr_out k K b hs ws w false g cond.kind cond.ty cond.at (seg_rest K.vars f y.types c.types seg) l.1 in
         let body = act_at y.kind at in
         let kind = stmt.DoWhile body (rest_of c cond) in
         let vars = vars_do_loop body (rest_of c cond) in
-        let size = length-append y.types c.types in
         record {
           lawful = (stmt_do_loop body (rest_of c cond) K R inside).1 (o.lawful, o2.lawful);
-          sets = sets_same f (f + length (y.types ++ c.types)) (stmt_vars_of y.kind) (stmt_vars_of kind) vars (sets_to f g (f + length (y.types ++ c.types)) (stmt_vars_of y.kind) (omega arith) o.sets);
+          sets = sets_same f (f + length (y.types ++ c.types)) (stmt_vars_of y.kind) (stmt_vars_of kind) vars (sets_to f g (f + length (y.types ++ c.types)) (stmt_vars_of y.kind) (omega (arith, makes_none k hs ws b g cond.kind cond.ty cond.at l.1, length-append y.types c.types)) o.sets);
           moves = moves_same b (prog_vars_of a) (stmt_vars_of y.kind) (stmt_vars_of kind) vars o.moves;
         }
     stmt_out f (act.For' n first cond held x (more_of-ProgStmt a at end_of-ProgStmt)) s loop inside in_loop seg l =

@@ -1,3 +1,4 @@
+pub mod TreeRows
 mod Imitates
 mod Lists
 mod Stores

@@ -36,19 +36,16 @@ mutual
       let o = inline_expr ws b f e at in
       let g = f + length o.types in
       let o2 = inline_expr ws b g e2 at2 in
-      let one = rest_is ws b f e at in
-      let two = rest_is ws b g e2 at2 in
-      typed_binary op (of_type o.kind t at) (of_type o2.kind t2 at2) ∙ omega arith
+      typed_binary op (of_type o.kind t at) (of_type o2.kind t2 at2)
+      ∙ omega (arith, rest_is ws b f e at, rest_is ws b g e2 at2)
   rest_is ws b f (tree.Choose' x (more_of-ProgExpr e t at end_of-ProgExpr) x2 (more_of-ProgExpr e2 t2 at2 end_of-ProgExpr) x3 (more_of-ProgExpr e3 t3 at3 end_of-ProgExpr)) s =
       let o = inline_expr ws b f e at in
       let g = f + length o.types in
       let o2 = inline_expr ws b g e2 at2 in
       let h = g + length o2.types in
       let o3 = inline_expr ws b h e3 at3 in
-      let one = rest_is ws b f e at in
-      let two = rest_is ws b g e2 at2 in
-      let three = rest_is ws b h e3 at3 in
-      typed_choice (of_type o.kind t at) (of_type o2.kind t2 at2) (of_type o3.kind t3 at3) ∙ omega arith
+      typed_choice (of_type o.kind t at) (of_type o2.kind t2 at2) (of_type o3.kind t3 at3)
+      ∙ omega (arith, rest_is ws b f e at, rest_is ws b g e2 at2, rest_is ws b h e3 at3)
   rest_is ws b f (tree.Call' h n row) s = let o = inline_row ws b f row in typed_var (written_by (slice_get ws h) (f + length o.types) o.exprs s).fresh
 
   rest_row_is : (ws : List Writing) (b f : ℕ) {n : Count} (row : Row_of-ProgExpr n) → typed_exprs_nodes (inline_row ws b f row).exprs ≡ rest_row_nodes row
@@ -56,9 +53,8 @@ mutual
   rest_row_is ws b f (more_of-ProgExpr e t at row) =
       let o = inline_expr ws b f e at in
       let g = f + length o.types in
-      let one = rest_is ws b f e at in
-      let more = rest_row_is ws b g row in
-      sum_by-cons typed_expr_nodes (of_type o.kind t at) (inline_row ws b g row).exprs ∙ omega arith
+      sum_by-cons typed_expr_nodes (of_type o.kind t at) (inline_row ws b g row).exprs
+      ∙ omega (arith, rest_is ws b f e at, rest_row_is ws b g row)
 
 -- the declarations of parameters, with these as their values
 abbrev given_nodes : List TypedExpr → ℕ
@@ -69,16 +65,13 @@ given_is : (ws : List Writing) (b f : ℕ) {n : Count} (row : Row_of-ProgExpr n)
 given_is ws b f end_of-ProgExpr = refl
 given_is ws b f (more_of-ProgExpr e t at row) =
     let o = inline_expr ws b f e at in
-    let one = rest_is ws b f e at in
-    let more = given_is ws b (f + length o.types) row in
-    omega arith
+    omega (arith, rest_is ws b f e at, given_is ws b (f + length o.types) row)
 
 declaring_is : (v : ℕ) (es : List TypedExpr) (s : Span) → typed_stmts_nodes (declaring v es s) ≡ given_nodes es
 declaring_is v [] s = refl
 declaring_is v (e ∷ es) s =
-    let one = act_declaration v (Some e) in
-    let more = declaring_is (v + 1) es s in
-    sum_by-cons typed_stmt_nodes (act_at (stmt.Declare v (Some e)) s) (declaring (v + 1) es s) ∙ omega arith
+    sum_by-cons typed_stmt_nodes (act_at (stmt.Declare v (Some e)) s) (declaring (v + 1) es s)
+    ∙ omega (arith, act_declaration v (Some e), declaring_is (v + 1) es s)
 
 -- ---- the blocks of calls
 
@@ -119,56 +112,45 @@ module _ (ws : List Writing) (ns : List ℕ) (counted : AreCounted ws ns) where
     blocks_are b f (tree.Binary' op x (more_of-ProgExpr e t at end_of-ProgExpr) x2 (more_of-ProgExpr e2 t2 at2 end_of-ProgExpr)) s =
         let o = inline_expr ws b f e at in
         let g = f + length o.types in
-        let one = blocks_are b f e at in
-        let two = blocks_are b g e2 at2 in
-        stmts_append o.before (inline_expr ws b g e2 at2).before ∙ omega arith
+        stmts_append o.before (inline_expr ws b g e2 at2).before
+        ∙ omega (arith, blocks_are b f e at, blocks_are b g e2 at2)
     blocks_are b f (tree.Choose' x (more_of-ProgExpr e t at end_of-ProgExpr) x2 (more_of-ProgExpr e2 t2 at2 end_of-ProgExpr) x3 (more_of-ProgExpr e3 t3 at3 end_of-ProgExpr)) s =
         let o = inline_expr ws b f e at in
         let g = f + length o.types in
         let o2 = inline_expr ws b g e2 at2 in
         let h = g + length o2.types in
         let o3 = inline_expr ws b h e3 at3 in
-        let one = blocks_are b f e at in
-        let two = blocks_are b g e2 at2 in
-        let three = blocks_are b h e3 at3 in
-        let rest = stmts_append o2.before o3.before in
-        stmts_append o.before (o2.before ++ o3.before) ∙ omega arith
+        stmts_append o.before (o2.before ++ o3.before)
+        ∙ omega (arith, blocks_are b f e at, blocks_are b g e2 at2, blocks_are b h e3 at3, stmts_append o2.before o3.before)
     blocks_are b f (tree.Call' h n row) s =
         let o = inline_row ws b f row in
         let w = written_by (slice_get ws h) (f + length o.types) o.exprs s in
-        let args = row_blocks_are b f row in
-        let one = call_is ws ns counted h (f + length o.types) o.exprs s ∙ ap (λ m. call_nodes (slice_get ns h) m) (given_is ws b f row) in
-        let last = sum_by-cons typed_stmt_nodes w.block [] in
-        stmts_append o.before (w.block ∷ []) ∙ omega arith
+        stmts_append o.before (w.block ∷ [])
+        ∙ omega (arith, row_blocks_are b f row, call_is ws ns counted h (f + length o.types) o.exprs s ∙ ap (λ m. call_nodes (slice_get ns h) m) (given_is ws b f row), sum_by-cons typed_stmt_nodes w.block [])
 
     row_blocks_are : (b f : ℕ) {n : Count} (row : Row_of-ProgExpr n) → typed_stmts_nodes (inline_row ws b f row).before ≡ calls_row_nodes ns row
     row_blocks_are b f end_of-ProgExpr = refl
     row_blocks_are b f (more_of-ProgExpr e t at row) =
         let o = inline_expr ws b f e at in
         let g = f + length o.types in
-        let one = blocks_are b f e at in
-        let more = row_blocks_are b g row in
-        stmts_append o.before (inline_row ws b g row).before ∙ omega arith
+        stmts_append o.before (inline_row ws b g row).before
+        ∙ omega (arith, blocks_are b f e at, row_blocks_are b g row)
 
   all_rest : (b f : ℕ) (es : List ProgExpr) → typed_exprs_nodes (inline_all ws b f es).exprs ≡ sum_by rest_expr_nodes es
   all_rest b f [] = refl
   all_rest b f (e ∷ es) =
       let o = inline_of ws b f e in
       let g = f + length o.types in
-      let one = rest_is ws b f e.kind e.at in
-      let more = all_rest b g es in
-      let sum = sum_by-cons rest_expr_nodes e es in
-      sum_by-cons typed_expr_nodes (rest_of o e) (inline_all ws b g es).exprs ∙ omega arith
+      sum_by-cons typed_expr_nodes (rest_of o e) (inline_all ws b g es).exprs
+      ∙ omega (arith, rest_is ws b f e.kind e.at, all_rest b g es, sum_by-cons rest_expr_nodes e es)
 
   all_blocks : (b f : ℕ) (es : List ProgExpr) → typed_stmts_nodes (inline_all ws b f es).before ≡ sum_by (calls_expr_nodes ns) es
   all_blocks b f [] = refl
   all_blocks b f (e ∷ es) =
       let o = inline_of ws b f e in
       let g = f + length o.types in
-      let one = blocks_are b f e.kind e.at in
-      let more = all_blocks b g es in
-      let sum = sum_by-cons (calls_expr_nodes ns) e es in
-      stmts_append o.before (inline_all ws b g es).before ∙ omega arith
+      stmts_append o.before (inline_all ws b g es).before
+      ∙ omega (arith, blocks_are b f e.kind e.at, all_blocks b g es, sum_by-cons (calls_expr_nodes ns) e es)
 
   option_rest : (b f : ℕ) (o : Option ProgExpr) → typed_opt_nodes (inline_option ws b f o).expr ≡ rest_option_nodes o
   option_rest b f None = refl
@@ -231,30 +213,26 @@ module _ (ws : List Writing) (ns : List ℕ) (counted : AreCounted ws ns) where
     stmt_is b f (act.Step target up) s =
         let i = inline_all ws b f target.indices in
         let to = target_to b target i.exprs in
-        let i_rest = all_rest ws ns counted b f target.indices in
-        behind_is i.before (stmt.Step to up) s (calls_target_nodes ns target) (1 + rest_target_nodes target) (all_blocks ws ns counted b f target.indices) (act_stepping to up ∙ omega arith)
+        behind_is i.before (stmt.Step to up) s (calls_target_nodes ns target) (1 + rest_target_nodes target) (all_blocks ws ns counted b f target.indices) (act_stepping to up
+        ∙ omega (arith, all_rest ws ns counted b f target.indices))
     stmt_is b f (act.If' cond x (more_of-ProgStmt a at end_of-ProgStmt) held) s =
         let o = inline_of ws b f cond in
         let g = f + length o.types in
         let y = inline_stmt ws b g a at in
         let z = inline_held ws b (g + length y.types) held in
-        let one = rest_is ws b f cond.kind cond.at in
-        let two = stmt_is b g a at in
-        let three = held_is b (g + length y.types) held in
         behind_is o.before (stmt.If (rest_of o cond) (act_at y.kind at) z.stmt) s (calls_expr_nodes ns cond) (1 + rest_expr_nodes cond + inlined_stmt_nodes ns a + inlined_held_nodes ns held)
-        (blocks_are ws ns counted b f cond.kind cond.at) (act_choice (rest_of o cond) (act_at y.kind at) z.stmt ∙ omega arith)
+        (blocks_are ws ns counted b f cond.kind cond.at) (act_choice (rest_of o cond) (act_at y.kind at) z.stmt
+        ∙ omega (arith, rest_is ws b f cond.kind cond.at, stmt_is b g a at, held_is b (g + length y.types) held))
     stmt_is b f (act.While' cond x (more_of-ProgStmt a at end_of-ProgStmt)) s =
         let o = inline_of ws b f cond in
         let g = f + length o.types in
-        let one = rest_is ws b f cond.kind cond.at in
-        let two = stmt_is b g a at in
-        act_while_loop (rest_of o cond) (act_at (inline_stmt ws b g a at).kind at) ∙ omega arith
+        act_while_loop (rest_of o cond) (act_at (inline_stmt ws b g a at).kind at)
+        ∙ omega (arith, rest_is ws b f cond.kind cond.at, stmt_is b g a at)
     stmt_is b f (act.DoWhile' x (more_of-ProgStmt a at end_of-ProgStmt) cond) s =
         let y = inline_stmt ws b f a at in
         let g = f + length y.types in
-        let one = stmt_is b f a at in
-        let two = rest_is ws b g cond.kind cond.at in
-        act_do_loop (act_at y.kind at) (rest_of (inline_of ws b g cond) cond) ∙ omega arith
+        act_do_loop (act_at y.kind at) (rest_of (inline_of ws b g cond) cond)
+        ∙ omega (arith, stmt_is b f a at, rest_is ws b g cond.kind cond.at)
     stmt_is b f (act.For' n first cond held x (more_of-ProgStmt a at end_of-ProgStmt)) s =
         let i = inline_stmts ws b f first in
         let g = f + length i.types in
@@ -263,11 +241,8 @@ module _ (ws : List Writing) (ns : List ℕ) (counted : AreCounted ws ns) where
         let z = inline_held ws b h held in
         let j = h + length z.types in
         let y = inline_stmt ws b j a at in
-        let one = stmts_are b f first in
-        let two = option_rest ws ns counted b g cond in
-        let three = held_is b h held in
-        let four = stmt_is b j a at in
-        act_for_loop i.stmts o.expr z.stmt (act_at y.kind at) ∙ omega arith
+        act_for_loop i.stmts o.expr z.stmt (act_at y.kind at)
+        ∙ omega (arith, stmts_are b f first, option_rest ws ns counted b g cond, held_is b h held, stmt_is b j a at)
     stmt_is b f act.Break s = act_leaving
     stmt_is b f act.Continue s = act_continuing
     stmt_is b f (act.Return e) s =
@@ -284,19 +259,16 @@ module _ (ws : List Writing) (ns : List ℕ) (counted : AreCounted ws ns) where
     stmts_are b f (more_of-ProgStmt a at row) =
         let y = inline_stmt ws b f a at in
         let g = f + length y.types in
-        let one = stmt_is b f a at in
-        let more = stmts_are b g row in
-        sum_by-cons typed_stmt_nodes (act_at y.kind at) (inline_stmts ws b g row).stmts ∙ omega arith
+        sum_by-cons typed_stmt_nodes (act_at y.kind at) (inline_stmts ws b g row).stmts
+        ∙ omega (arith, stmt_is b f a at, stmts_are b g row)
 
   list_is : (b f : ℕ) (ss : List ProgStmt) → typed_stmts_nodes (inline_list ws b f ss).stmts ≡ inlined_list_nodes ns ss
   list_is b f [] = refl
   list_is b f (a ∷ rest) =
       let y = inline_stmt ws b f a.kind a.at in
       let g = f + length y.types in
-      let one = stmt_is b f a.kind a.at in
-      let more = list_is b g rest in
-      let sum = sum_by-cons (λ (s : ProgStmt). inlined_stmt_nodes ns s.kind) a rest in
-      sum_by-cons typed_stmt_nodes (act_at y.kind a.at) (inline_list ws b g rest).stmts ∙ omega arith
+      sum_by-cons typed_stmt_nodes (act_at y.kind a.at) (inline_list ws b g rest).stmts
+      ∙ omega (arith, stmt_is b f a.kind a.at, list_is b g rest, sum_by-cons (λ (s : ProgStmt). inlined_stmt_nodes ns s.kind) a rest)
 
   -- ---- helpers
 

@@ -12,7 +12,7 @@ use Rattle.c_meaning.specs.Expressions.{Val, undefined_value, value, Vals, undef
 use Rattle.c_meaning.specs.Profiles.{IsDefined}
 use Rattle.c_meaning.specs.Runs.{normally, undefined, Ended, Run, ends, taking, with_val, with_value}
 use Rattle.c_meaning.specs.Statements.{Place, read_place, write_place, object_type, object_place, MeantTarget, Placed, placed_after, place_by, target_place, storing, stored, assigned_to, joined_in, joined_with, updated_at, assignment}
-use Rattle.c_meaning.proofs.RunParts.{Had, had, taken}
+use Rattle.c_meaning.proofs.RunParts.{had, taken}
 use Rattle.c_calls.proofs.Imitates.{Rel, ended, Imitates}
 use Rattle.c_calls.proofs.Expands.{Two, both_give, flip, Both, Uses, UsesLeft}
 use Rattle.c_calls.proofs.Values.{val_means, val_gives, vals_means, vals_gives}
@@ -118,12 +118,6 @@ by_place k target (Some op) ty m p s l = updated_at (object_type k target.to) ta
 assignment_is : (k : Objects) (target : MeantTarget) (op : Option Binary) (ty : Ty) (m : Meaning) (s : Store) (l : ℕ) → assignment k target op ty m s l ≡ by_place k target op ty m (target_place k target s) s l
 assignment_is k target None ty m s l = refl
 assignment_is k target (Some op) ty m s l = refl
-
--- one number stored, after turns
-stored_down : (t : Ty) (p : Place) (u : ℕ) (v : Val) (x : ℤ) (r : ℕ) (s : Store) (l : ℕ) → v ≡ value x r → IsDefined (stored t p u v s l).how → Had (u + r) (storing t p x) s l
-stored_down t p u v x r s l e d =
-    let is : stored t p u v s l ≡ taking (u + r) (storing t p x) s l = ap (λ w. stored t p u w s l) e in
-    had (u + r) (storing t p x) s l (subst (λ (z : Ended). IsDefined z.how) is d)
 
 plain_at : (k : Objects) (target : MeantTarget) (ty : Ty) (m : Meaning) (is : List ℤ) (t : ℕ) (o : Option Place) (v : Val) (s : Store) (l : ℕ) → object_place k.arrays target.to is ≡ o → m s ≡ v → IsDefined (by_place k target None ty m (placed_after target.at t o) s l).how
     → Assigned k target None ty (values is t) v s l (by_place k target None ty m (placed_after target.at t o) s l)

@@ -414,9 +414,6 @@ module _ (W : World) (r : Option (Option Ty)) where
       (direct_row_lists k W.signatures r W.writings W.b f row inside vs small lw sc) (λ i. direct_row_is k (W.calls i) row) (made_row_is K W.writings W.b f row)
       (leave vs us ts (in_scope_after_row vs row) (direct_row row) (made_row W.writings W.b f row) inside (λ i. in_order (A i)) (in_order B) (scope_grows_row row vs) z)
 
-  never_true : {A : Type 0} → IsTrue false → A
-  never_true e = absurd (false≢true e)
-
   mutual
     pub runs : (f : ℕ) (a : ProgStmtKind) (at : Span) (inside : Bool) (vs us ts : List ℕ) → base ≤ f → Seg W.Kv f (inline_stmt W.writings W.b f a at).types → LawfulCallStmt k W.signatures r inside a → IsScoped a vs → AreOnce (declared_of a) → Lists n W.b vs us ts → Apart us (declared_of a)
         → Runs vs us ts (in_scope_after vs a) (direct a) (made W.writings W.b f a) inside (λ i. (prog_kind_act k (W.calls i) a).run) (kind_act K (inline_stmt W.writings W.b f a at).kind).run

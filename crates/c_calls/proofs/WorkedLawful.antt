@@ -3,21 +3,19 @@ use Rattle.std.proofs.Common.{◌≡◌, ℕ, zero, suc, ◌<◌, List, [], ◌�
 use Rattle.std.specs.Prelude.{false, Contains}
 use Rattle.std.proofs.lemmas.Bool.{false≢true}
 use Rattle.std.proofs.lemmas.List.Elements.{All-nil, All-cons}
-use denote.Hole.Carrier.{hidden}
 use Rattle.el_base.specs.declared.ty.Ty.TheVariants.{I32}
 use Rattle.c_ast.specs.declared.tree.Binary.TheVariants as op
 use Rattle.c_ast.specs.declared.tree.Param.{Param}
 use Rattle.c_ast.specs.declared.program.ProgExprKind.TheVariants as tree
-use Rattle.c_ast.specs.declared.program.ProgExprKind.TheBlock.{shape-the_row-ProgExpr-0, hidden-the_row-ProgExpr-0, shape-the_row-ProgExpr-1, hidden-the_row-ProgExpr-1}
 use Rattle.c_ast.specs.declared.program.ProgStmt.{ProgStmt}
 use Rattle.c_ast.specs.declared.program.ProgStmtKind.TheVariants as act
-use Rattle.c_ast.specs.declared.program.ProgStmtKind.TheBlock.{shape-the_row-ProgStmt-0, hidden-the_row-ProgStmt-0, shape-the_row-ProgStmt-1, hidden-the_row-ProgStmt-1}
 use Rattle.c_ast.specs.declared.program.TypedHelper.{TypedHelper}
 use Rattle.c_meaning.specs.Lawful.{AreDimensions}
 use Rattle.c_calls.specs.Meanings.{helper_objects, prog_objects}
 use Rattle.c_calls.specs.Lawful.{Signature, signature_of, LawfulCallStmt, LawfulHelper}
 use Rattle.c_calls.specs.Worked.{p_at, a_var, a_call, a_stmt, a_param, a_helper, a_kernel, TwiceIsLawful, CallInASide, ReadBehindItsBlock}
 use Rattle.c_calls.proofs.Lists.{no_member, here, there, member_cases}
+use Rattle.c_calls.proofs.TreeRows.{prog_expr_rows, prog_stmt_rows}
 
 not_in : (v w : ℕ) → (w ≡ v → ⊥) → Contains (v ∷ []) w → ⊥
 not_in v w n c = by_cases (member_cases v [] w c)
@@ -41,8 +39,7 @@ zero_in : Contains {X = ℕ} (1 ∷ 0 ∷ []) 0
 zero_in = there 1 (0 ∷ []) 0 (here 0 [])
 
 twice_lawful : LawfulHelper [] twice
-unfolding shape-the_row-ProgExpr-0 hidden-the_row-ProgExpr-0 shape-the_row-ProgExpr-1 hidden-the_row-ProgExpr-1 shape-the_row-ProgStmt-0 hidden-the_row-ProgStmt-0 shape-the_row-ProgStmt-1 hidden-the_row-ProgStmt-1 hidden
-twice_lawful = record {
+twice_lawful = unfold prog_expr_rows prog_stmt_rows in record {
   scalars = All-cons (λ (q : Param). q.dims ≡ []) a_param [] refl (All-nil (λ (q : Param). q.dims ≡ []));
   first_vars = refl;
   used = used_at;
@@ -60,8 +57,7 @@ abbrev known : List Signature
 known = signature_of twice ∷ []
 
 pub twice_is_lawful : TwiceIsLawful
-unfolding shape-the_row-ProgExpr-0 hidden-the_row-ProgExpr-0 shape-the_row-ProgExpr-1 hidden-the_row-ProgExpr-1 shape-the_row-ProgStmt-0 hidden-the_row-ProgStmt-0 shape-the_row-ProgStmt-1 hidden-the_row-ProgStmt-1 hidden
-twice_is_lawful = record {
+twice_is_lawful = unfold prog_expr_rows prog_stmt_rows in record {
   helpers = (twice_lawful, tt);
   header = λ p. record {
     distinct = ((λ m. absurd (omega (arith, m.1))), tt);
@@ -78,9 +74,7 @@ twice_is_lawful = record {
 }
 
 pub call_in_a_side : CallInASide
-unfolding shape-the_row-ProgExpr-0 hidden-the_row-ProgExpr-0 shape-the_row-ProgExpr-1 hidden-the_row-ProgExpr-1 shape-the_row-ProgStmt-0 hidden-the_row-ProgStmt-0 shape-the_row-ProgStmt-1 hidden-the_row-ProgStmt-1 hidden
-call_in_a_side k h = false≢true h.2.0.0
+call_in_a_side k h = unfold prog_expr_rows prog_stmt_rows in false≢true h.2.0.0
 
 pub read_behind_its_block : ReadBehindItsBlock
-unfolding shape-the_row-ProgExpr-0 hidden-the_row-ProgExpr-0 shape-the_row-ProgExpr-1 hidden-the_row-ProgExpr-1 shape-the_row-ProgStmt-0 hidden-the_row-ProgStmt-0 shape-the_row-ProgStmt-1 hidden-the_row-ProgStmt-1 hidden
-read_behind_its_block h = not_in 0 1 (λ e. omega arith) h.scoped.1.0
+read_behind_its_block h = unfold prog_expr_rows prog_stmt_rows in not_in 0 1 (λ e. omega arith) h.scoped.1.0

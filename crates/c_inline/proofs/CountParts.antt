@@ -1,75 +1,39 @@
 -- Counts by the parts of a tree, as the code takes it apart, and sums that stop at 2^64 - 1.
-use Rattle.std.proofs.Common.{◌≡◌, ℕ, zero, suc, ◌+◌, ◌-◌, ◌^◌, ◌≤◌, List, [], ◌∷◌, ◌++◌, length, map, min, refl, sym, ◌∙◌, ap, arith}
-use Rattle.std.specs.Prelude.{Bool, true, false, slice_get, sum_by, Option, Some, None}
-use denote.Hole.Carrier.{hidden}
+use Rattle.std.proofs.Common.{◌≡◌, ℕ, zero, suc, ◌+◌, ◌-◌, ◌^◌, List, [], ◌∷◌, min, refl, sym, ◌∙◌, ap, arith}
+use Rattle.std.specs.Prelude.{Bool, slice_get, sum_by, Option, Some, None}
 use Rattle.std.proofs.lemmas.List.Sums.{sum_by-cons}
 use Rattle.c_ast.specs.declared.tree.Unary.{Unary}
 use Rattle.c_ast.specs.declared.tree.Binary.{Binary}
 use Rattle.c_ast.specs.declared.program.ProgExpr.{ProgExpr}
-use Rattle.c_ast.specs.declared.program.ProgExprKind.{ProgExprKind, Row_of-ProgExpr, end_of-ProgExpr, more_of-ProgExpr}
-use Rattle.c_ast.specs.declared.program.ProgExprKind as tree
 use Rattle.c_ast.specs.declared.program.ProgExprKind.TheVariants as expr
-use Rattle.c_ast.specs.declared.program.ProgExprKind.TheBlock.{shape-the_row-ProgExpr-0, hidden-the_row-ProgExpr-0, shape-the_row-ProgExpr-1, hidden-the_row-ProgExpr-1}
-use Rattle.c_ast.specs.declared.program.ProgTarget.{ProgTarget}
+use Rattle.c_ast.specs.declared.program.ProgExprKind.TheBlock.{hidden-the_row-ProgExpr-0}
 use Rattle.c_ast.specs.declared.program.ProgStmt.{ProgStmt}
-use Rattle.c_ast.specs.declared.program.ProgStmtKind.{ProgStmtKind, back-ProgStmtKind-If-2, more_of-ProgStmt, end_of-ProgStmt}
-use Rattle.c_ast.specs.declared.program.ProgStmtKind as act
+use Rattle.c_ast.specs.declared.program.ProgStmtKind.{back-ProgStmtKind-If-2}
 use Rattle.c_ast.specs.declared.program.ProgStmtKind.TheVariants as stmt
-use Rattle.c_ast.specs.declared.program.ProgStmtKind.TheBlock.{shape-the_row-ProgStmt-0, hidden-the_row-ProgStmt-0, shape-the_row-ProgStmt-1, hidden-the_row-ProgStmt-1}
-use Rattle.c_calls.specs.Counts.{inlined_stmt_nodes, inlined_row_nodes, inlined_held_nodes, inlined_list_nodes, rest_option_nodes, calls_option_nodes, rest_nodes, rest_row_nodes, rest_expr_nodes, argument_nodes, call_nodes, calls_nodes, calls_row_nodes, calls_expr_nodes, behind_nodes}
-use Rattle.c_inline.specs.Code.{declared_nodes, held_nodes, stmt_nodes, assignment_nodes, step_nodes}
+use Rattle.c_ast.specs.declared.program.ProgStmtKind.TheBlock.{hidden-the_row-ProgStmt-0}
+use Rattle.c_calls.specs.Counts.{inlined_stmt_nodes, inlined_row_nodes, inlined_held_nodes, inlined_list_nodes, rest_option_nodes, rest_nodes, rest_row_nodes, rest_expr_nodes, argument_nodes, call_nodes, calls_nodes, calls_row_nodes, calls_expr_nodes, behind_nodes}
+use Rattle.c_inline.specs.Code.{declared_nodes, held_nodes, stmt_nodes}
+use Rattle.c_calls.proofs.TreeRows.{prog_expr_rows, prog_stmt_rows}
 
 -- ---- what is left of expressions
 
 rest_row : (es : List ProgExpr) → rest_row_nodes (hidden-the_row-ProgExpr-0 es) ≡ sum_by rest_expr_nodes es
-unfolding shape-the_row-ProgExpr-0 hidden-the_row-ProgExpr-0 shape-the_row-ProgExpr-1 hidden-the_row-ProgExpr-1 hidden
+unfolding prog_expr_rows
 rest_row [] = refl
 rest_row (e ∷ es) = ap (λ n. rest_expr_nodes e + n) (rest_row es) ∙ sym (sum_by-cons rest_expr_nodes e es)
 
-pub rest_number : (e : ProgExpr) (n : ℕ) → e.kind ≡ expr.Number n → rest_expr_nodes e ≡ 1
-rest_number e n is = ap rest_nodes is
-
-pub rest_var : (e : ProgExpr) (v : ℕ) → e.kind ≡ expr.Var v → rest_expr_nodes e ≡ 1
-rest_var e v is = ap rest_nodes is
-
-pub rest_call : (e : ProgExpr) (h : ℕ) (es : List ProgExpr) → e.kind ≡ expr.Call h es → rest_expr_nodes e ≡ 1
-unfolding shape-the_row-ProgExpr-0 hidden-the_row-ProgExpr-0 shape-the_row-ProgExpr-1 hidden-the_row-ProgExpr-1 hidden
-rest_call e h es is = ap rest_nodes is
-
 pub rest_element : (e : ProgExpr) (a : ℕ) (es : List ProgExpr) → e.kind ≡ expr.Element a es → rest_expr_nodes e ≡ 1 + sum_by rest_expr_nodes es
-unfolding shape-the_row-ProgExpr-0 hidden-the_row-ProgExpr-0 shape-the_row-ProgExpr-1 hidden-the_row-ProgExpr-1 hidden
-rest_element e a es is = ap rest_nodes is ∙ ap (λ n. 1 + n) (rest_row es)
-
-pub rest_unary : (e : ProgExpr) (op : Unary) (x : ProgExpr) → e.kind ≡ expr.Unary op x → rest_expr_nodes e ≡ 1 + rest_expr_nodes x
-unfolding shape-the_row-ProgExpr-0 hidden-the_row-ProgExpr-0 shape-the_row-ProgExpr-1 hidden-the_row-ProgExpr-1 hidden
-rest_unary e op x is = ap rest_nodes is
-
--- a cast that is implied is no node
-pub rest_implied : (e : ProgExpr) (implied : Bool) (x : ProgExpr) → e.kind ≡ expr.Cast implied x → implied ≡ true → rest_expr_nodes e ≡ rest_expr_nodes x
-unfolding shape-the_row-ProgExpr-0 hidden-the_row-ProgExpr-0 shape-the_row-ProgExpr-1 hidden-the_row-ProgExpr-1 hidden
-rest_implied e implied x is it = ap rest_nodes is ∙ ap (λ i. rest_nodes (expr.Cast i x)) it
-
-pub rest_cast : (e : ProgExpr) (implied : Bool) (x : ProgExpr) → e.kind ≡ expr.Cast implied x → implied ≡ false → rest_expr_nodes e ≡ 1 + rest_expr_nodes x
-unfolding shape-the_row-ProgExpr-0 hidden-the_row-ProgExpr-0 shape-the_row-ProgExpr-1 hidden-the_row-ProgExpr-1 hidden
-rest_cast e implied x is it = ap rest_nodes is ∙ ap (λ i. rest_nodes (expr.Cast i x)) it
-
-pub rest_binary : (e : ProgExpr) (op : Binary) (x y : ProgExpr) → e.kind ≡ expr.Binary op x y → rest_expr_nodes e ≡ 1 + rest_expr_nodes x + rest_expr_nodes y
-unfolding shape-the_row-ProgExpr-0 hidden-the_row-ProgExpr-0 shape-the_row-ProgExpr-1 hidden-the_row-ProgExpr-1 hidden
-rest_binary e op x y is = ap rest_nodes is
-
-pub rest_choice : (e : ProgExpr) (x y z : ProgExpr) → e.kind ≡ expr.Choose x y z → rest_expr_nodes e ≡ 1 + rest_expr_nodes x + rest_expr_nodes y + rest_expr_nodes z
-unfolding shape-the_row-ProgExpr-0 hidden-the_row-ProgExpr-0 shape-the_row-ProgExpr-1 hidden-the_row-ProgExpr-1 hidden
-rest_choice e x y z is = ap rest_nodes is
+rest_element e a es is = unfold prog_expr_rows in ap rest_nodes is ∙ ap (λ n. 1 + n) (rest_row es)
 
 -- ---- blocks of calls
 
 declared_row : (es : List ProgExpr) → argument_nodes (hidden-the_row-ProgExpr-0 es) ≡ sum_by declared_nodes es
-unfolding shape-the_row-ProgExpr-0 hidden-the_row-ProgExpr-0 shape-the_row-ProgExpr-1 hidden-the_row-ProgExpr-1 hidden
+unfolding prog_expr_rows
 declared_row [] = refl
 declared_row (e ∷ es) = ap (λ n. 1 + rest_expr_nodes e + n) (declared_row es) ∙ sym (sum_by-cons declared_nodes e es)
 
 calls_row : (ns : List ℕ) (es : List ProgExpr) → calls_row_nodes ns (hidden-the_row-ProgExpr-0 es) ≡ sum_by (calls_expr_nodes ns) es
-unfolding shape-the_row-ProgExpr-0 hidden-the_row-ProgExpr-0 shape-the_row-ProgExpr-1 hidden-the_row-ProgExpr-1 hidden
+unfolding prog_expr_rows
 calls_row ns [] = refl
 calls_row ns (e ∷ es) = ap (λ n. calls_expr_nodes ns e + n) (calls_row ns es) ∙ sym (sum_by-cons (calls_expr_nodes ns) e es)
 
@@ -80,73 +44,38 @@ pub calls_var : (ns : List ℕ) (e : ProgExpr) (v : ℕ) → e.kind ≡ expr.Var
 calls_var ns e v is = ap (calls_nodes ns) is
 
 pub calls_element : (ns : List ℕ) (e : ProgExpr) (a : ℕ) (es : List ProgExpr) → e.kind ≡ expr.Element a es → calls_expr_nodes ns e ≡ sum_by (calls_expr_nodes ns) es
-unfolding shape-the_row-ProgExpr-0 hidden-the_row-ProgExpr-0 shape-the_row-ProgExpr-1 hidden-the_row-ProgExpr-1 hidden
-calls_element ns e a es is = ap (calls_nodes ns) is ∙ calls_row ns es
+calls_element ns e a es is = unfold prog_expr_rows in ap (calls_nodes ns) is ∙ calls_row ns es
 
 pub calls_unary : (ns : List ℕ) (e : ProgExpr) (op : Unary) (x : ProgExpr) → e.kind ≡ expr.Unary op x → calls_expr_nodes ns e ≡ calls_expr_nodes ns x
-unfolding shape-the_row-ProgExpr-0 hidden-the_row-ProgExpr-0 shape-the_row-ProgExpr-1 hidden-the_row-ProgExpr-1 hidden
-calls_unary ns e op x is = ap (calls_nodes ns) is
+calls_unary ns e op x is = unfold prog_expr_rows in ap (calls_nodes ns) is
 
 pub calls_cast : (ns : List ℕ) (e : ProgExpr) (implied : Bool) (x : ProgExpr) → e.kind ≡ expr.Cast implied x → calls_expr_nodes ns e ≡ calls_expr_nodes ns x
-unfolding shape-the_row-ProgExpr-0 hidden-the_row-ProgExpr-0 shape-the_row-ProgExpr-1 hidden-the_row-ProgExpr-1 hidden
-calls_cast ns e implied x is = ap (calls_nodes ns) is
+calls_cast ns e implied x is = unfold prog_expr_rows in ap (calls_nodes ns) is
 
 pub calls_binary : (ns : List ℕ) (e : ProgExpr) (op : Binary) (x y : ProgExpr) → e.kind ≡ expr.Binary op x y → calls_expr_nodes ns e ≡ calls_expr_nodes ns x + calls_expr_nodes ns y
-unfolding shape-the_row-ProgExpr-0 hidden-the_row-ProgExpr-0 shape-the_row-ProgExpr-1 hidden-the_row-ProgExpr-1 hidden
-calls_binary ns e op x y is = ap (calls_nodes ns) is
+calls_binary ns e op x y is = unfold prog_expr_rows in ap (calls_nodes ns) is
 
 pub calls_choice : (ns : List ℕ) (e : ProgExpr) (x y z : ProgExpr) → e.kind ≡ expr.Choose x y z → calls_expr_nodes ns e ≡ calls_expr_nodes ns x + calls_expr_nodes ns y + calls_expr_nodes ns z
-unfolding shape-the_row-ProgExpr-0 hidden-the_row-ProgExpr-0 shape-the_row-ProgExpr-1 hidden-the_row-ProgExpr-1 hidden
-calls_choice ns e x y z is = omega (arith, ap (calls_nodes ns) is)
+calls_choice ns e x y z is = unfold prog_expr_rows in omega (arith, ap (calls_nodes ns) is)
 
 pub calls_call : (ns : List ℕ) (e : ProgExpr) (h : ℕ) (es : List ProgExpr) → e.kind ≡ expr.Call h es → calls_expr_nodes ns e ≡ sum_by (calls_expr_nodes ns) es + call_nodes (slice_get ns h) (sum_by declared_nodes es)
-unfolding shape-the_row-ProgExpr-0 hidden-the_row-ProgExpr-0 shape-the_row-ProgExpr-1 hidden-the_row-ProgExpr-1 hidden
-calls_call ns e h es is = ap (calls_nodes ns) is ∙ ap (λ n. n + call_nodes (slice_get ns h) (argument_nodes (hidden-the_row-ProgExpr-0 es))) (calls_row ns es) ∙ ap (λ n. sum_by (calls_expr_nodes ns) es + call_nodes (slice_get ns h) n) (declared_row es)
+calls_call ns e h es is = unfold prog_expr_rows in ap (calls_nodes ns) is ∙ ap (λ n. n + call_nodes (slice_get ns h) (argument_nodes (hidden-the_row-ProgExpr-0 es))) (calls_row ns es) ∙ ap (λ n. sum_by (calls_expr_nodes ns) es + call_nodes (slice_get ns h) n) (declared_row es)
 
 -- ---- statements
 
-stmts_row : (ns : List ℕ) (ss : List ProgStmt) → inlined_row_nodes ns (hidden-the_row-ProgStmt-0 ss) ≡ inlined_list_nodes ns ss
-unfolding shape-the_row-ProgStmt-0 hidden-the_row-ProgStmt-0 shape-the_row-ProgStmt-1 hidden-the_row-ProgStmt-1 hidden
+pub stmts_row : (ns : List ℕ) (ss : List ProgStmt) → inlined_row_nodes ns (hidden-the_row-ProgStmt-0 ss) ≡ inlined_list_nodes ns ss
+unfolding prog_stmt_rows
 stmts_row ns [] = refl
 stmts_row ns (s ∷ ss) = ap (λ n. stmt_nodes ns s + n) (stmts_row ns ss) ∙ sym (sum_by-cons (stmt_nodes ns) s ss)
 
-held_count : (ns : List ℕ) (o : Option ProgStmt) → inlined_held_nodes ns (back-ProgStmtKind-If-2 o) ≡ held_nodes ns o
-unfolding shape-the_row-ProgStmt-0 hidden-the_row-ProgStmt-0 shape-the_row-ProgStmt-1 hidden-the_row-ProgStmt-1 hidden
+pub held_count : (ns : List ℕ) (o : Option ProgStmt) → inlined_held_nodes ns (back-ProgStmtKind-If-2 o) ≡ held_nodes ns o
+unfolding prog_stmt_rows
 held_count ns None = refl
 held_count ns (Some s) = refl
 
-pub stmt_block : (ns : List ℕ) (s : ProgStmt) (ss : List ProgStmt) → s.kind ≡ stmt.Block ss → stmt_nodes ns s ≡ 1 + inlined_list_nodes ns ss
-unfolding shape-the_row-ProgStmt-0 hidden-the_row-ProgStmt-0 shape-the_row-ProgStmt-1 hidden-the_row-ProgStmt-1 hidden
-stmt_block ns s ss is = ap (inlined_stmt_nodes ns) is ∙ ap (λ n. 1 + n) (stmts_row ns ss)
-
-pub stmt_declare : (ns : List ℕ) (s : ProgStmt) (v : ℕ) (e : Option ProgExpr) → s.kind ≡ stmt.Declare v e → stmt_nodes ns s ≡ behind_nodes (calls_option_nodes ns e) (1 + rest_option_nodes e)
-stmt_declare ns s v e is = ap (inlined_stmt_nodes ns) is
-
-pub stmt_return : (ns : List ℕ) (s : ProgStmt) (e : Option ProgExpr) → s.kind ≡ stmt.Return e → stmt_nodes ns s ≡ behind_nodes (calls_option_nodes ns e) (1 + rest_option_nodes e)
-stmt_return ns s e is = ap (inlined_stmt_nodes ns) is
-
-pub stmt_assign : (ns : List ℕ) (s : ProgStmt) (t : ProgTarget) (op : Option Binary) (e : ProgExpr) → s.kind ≡ stmt.Assign t op e → stmt_nodes ns s ≡ assignment_nodes ns t e
-stmt_assign ns s t op e is = ap (inlined_stmt_nodes ns) is
-
-pub stmt_step : (ns : List ℕ) (s : ProgStmt) (t : ProgTarget) (up : Bool) → s.kind ≡ stmt.Step t up → stmt_nodes ns s ≡ step_nodes ns t
-stmt_step ns s t up is = ap (inlined_stmt_nodes ns) is
-
-pub stmt_if : (ns : List ℕ) (s : ProgStmt) (e : ProgExpr) (y : ProgStmt) (o : Option ProgStmt) → s.kind ≡ stmt.If e y o → stmt_nodes ns s ≡ behind_nodes (calls_expr_nodes ns e) (1 + rest_expr_nodes e + stmt_nodes ns y + held_nodes ns o)
-unfolding shape-the_row-ProgStmt-0 hidden-the_row-ProgStmt-0 shape-the_row-ProgStmt-1 hidden-the_row-ProgStmt-1 hidden
-stmt_if ns s e y o is = ap (inlined_stmt_nodes ns) is ∙ ap (λ n. behind_nodes (calls_expr_nodes ns e) (1 + rest_expr_nodes e + stmt_nodes ns y + n)) (held_count ns o)
-
-pub stmt_while : (ns : List ℕ) (s : ProgStmt) (e : ProgExpr) (y : ProgStmt) → s.kind ≡ stmt.While e y → stmt_nodes ns s ≡ 1 + rest_expr_nodes e + stmt_nodes ns y
-unfolding shape-the_row-ProgStmt-0 hidden-the_row-ProgStmt-0 shape-the_row-ProgStmt-1 hidden-the_row-ProgStmt-1 hidden
-stmt_while ns s e y is = ap (inlined_stmt_nodes ns) is
-
-pub stmt_do : (ns : List ℕ) (s : ProgStmt) (y : ProgStmt) (e : ProgExpr) → s.kind ≡ stmt.DoWhile y e → stmt_nodes ns s ≡ 1 + stmt_nodes ns y + rest_expr_nodes e
-unfolding shape-the_row-ProgStmt-0 hidden-the_row-ProgStmt-0 shape-the_row-ProgStmt-1 hidden-the_row-ProgStmt-1 hidden
-stmt_do ns s y e is = ap (inlined_stmt_nodes ns) is
-
 pub stmt_for : (ns : List ℕ) (s : ProgStmt) (first : List ProgStmt) (e : Option ProgExpr) (o : Option ProgStmt) (y : ProgStmt) → s.kind ≡ stmt.For first e o y
     → stmt_nodes ns s ≡ 1 + inlined_list_nodes ns first + rest_option_nodes e + held_nodes ns o + stmt_nodes ns y
-unfolding shape-the_row-ProgStmt-0 hidden-the_row-ProgStmt-0 shape-the_row-ProgStmt-1 hidden-the_row-ProgStmt-1 hidden
-stmt_for ns s first e o y is = omega (arith, ap (inlined_stmt_nodes ns) is, stmts_row ns first, held_count ns o)
+stmt_for ns s first e o y is = unfold prog_stmt_rows in omega (arith, ap (inlined_stmt_nodes ns) is, stmts_row ns first, held_count ns o)
 
 -- ---- sums that stop
 
@@ -164,7 +93,3 @@ call_stops o n a e = ap (λ i. call_nodes i a) e
 -- a statement behind blocks, both counted with sums that stop
 pub behind_joined : (r b own a x : ℕ) → r ≡ min (behind_nodes b own) (2 ^ 64 - 1) → b ≡ min a (2 ^ 64 - 1) → own ≡ min x (2 ^ 64 - 1) → r ≡ min (behind_nodes a x) (2 ^ 64 - 1)
 behind_joined r b own a x h eb eo = h ∙ ap (λ n. min (behind_nodes n own) (2 ^ 64 - 1)) eb ∙ ap (λ n. min (behind_nodes (min a (2 ^ 64 - 1)) n) (2 ^ 64 - 1)) eo ∙ behind_stops a x
-
-pub if_counted : (ns : List ℕ) (s : ProgStmt) (e : ProgExpr) (y : ProgStmt) (o : Option ProgStmt) (r b own : ℕ) → s.kind ≡ stmt.If e y o → r ≡ min (behind_nodes b own) (2 ^ 64 - 1) → b ≡ min (calls_expr_nodes ns e) (2 ^ 64 - 1)
-    → own ≡ min (1 + rest_expr_nodes e + stmt_nodes ns y + held_nodes ns o) (2 ^ 64 - 1) → r ≡ min (stmt_nodes ns s) (2 ^ 64 - 1)
-if_counted ns s e y o r b own is h eb eo = behind_joined r b own (calls_expr_nodes ns e) (1 + rest_expr_nodes e + stmt_nodes ns y + held_nodes ns o) h eb eo ∙ ap (λ n. min n (2 ^ 64 - 1)) (sym (stmt_if ns s e y o is))

@@ -1,9 +1,8 @@
 -- What is made of expressions and statements, by their parts as the code takes them apart.
-use Rattle.std.proofs.Common.{◌≡◌, ℕ, ◌+◌, List, [], ◌∷◌, ◌++◌, length, refl, sym, ◌∙◌, ap, arith}
+use Rattle.std.proofs.Common.{◌≡◌, ℕ, ◌+◌, List, [], ◌∷◌, ◌++◌, length, refl, sym, ◌∙◌, ap}
 use Rattle.std.specs.Prelude.{Bool, slice_get, Option, Some, None}
 use Rattle.el_base.specs.declared.span.Span.{Span}
 use Rattle.el_base.specs.declared.ty.Ty.{Ty}
-use denote.Hole.Carrier.{hidden}
 use Rattle.c_ast.specs.declared.tree.Unary.{Unary}
 use Rattle.c_ast.specs.declared.tree.Binary.{Binary}
 use Rattle.c_ast.specs.declared.typed.TypedExprKind.TheVariants as expr
@@ -11,16 +10,17 @@ use Rattle.c_ast.specs.declared.typed.TypedStmtKind.TheVariants as stmt
 use Rattle.c_ast.specs.Casts.{of_type, act_at}
 use Rattle.c_ast.specs.declared.program.ProgExpr.{ProgExpr}
 use Rattle.c_ast.specs.declared.program.ProgExprKind.TheVariants as prog
-use Rattle.c_ast.specs.declared.program.ProgExprKind.TheBlock.{shape-the_row-ProgExpr-0, hidden-the_row-ProgExpr-0, shape-the_row-ProgExpr-1, hidden-the_row-ProgExpr-1}
+use Rattle.c_ast.specs.declared.program.ProgExprKind.TheBlock.{hidden-the_row-ProgExpr-0}
 use Rattle.c_ast.specs.declared.program.ProgTarget.{ProgTarget}
 use Rattle.c_ast.specs.declared.program.ProgStmt.{ProgStmt}
 use Rattle.c_ast.specs.declared.program.ProgStmtKind.{back-ProgStmtKind-If-2}
 use Rattle.c_ast.specs.declared.program.ProgStmtKind.TheVariants as act
-use Rattle.c_ast.specs.declared.program.ProgStmtKind.TheBlock.{shape-the_row-ProgStmt-0, hidden-the_row-ProgStmt-0, shape-the_row-ProgStmt-1, hidden-the_row-ProgStmt-1}
+use Rattle.c_ast.specs.declared.program.ProgStmtKind.TheBlock.{hidden-the_row-ProgStmt-0}
 use Rattle.c_ast.specs.declared.program.TypedHelper.{TypedHelper}
 use Rattle.c_ast.specs.declared.typed.TypedStmtKind.{TypedStmtKind}
-use Rattle.c_calls.specs.Inlined.{Out, Outs, Written, Writing, written_by, OutStmt, OutStmts, OutHeld, whole, with_call, inline_expr, inline_row, inline_of, inline_all, rest_of, inline_option, inline_stmt, inline_stmts, inline_held, inline_list, behind, target_to}
+use Rattle.c_calls.specs.Inlined.{Out, Outs, Writing, written_by, OutStmt, OutStmts, OutHeld, whole, with_call, inline_expr, inline_row, inline_of, inline_all, rest_of, inline_stmt, inline_stmts, inline_held, inline_list, behind, target_to}
 use Rattle.c_inline.specs.Making.{writings_of, out_of, outs_of, option_of, call_of, stmt_of, stmts_of, held_of}
+use Rattle.c_calls.proofs.TreeRows.{prog_expr_rows, prog_stmt_rows}
 
 -- ---- expressions
 
@@ -47,7 +47,7 @@ three_out hs b f x y z =
     record { before = o.before ++ (o2.before ++ o3.before); kind = expr.Choose (rest_of o x) (rest_of o2 y) (rest_of o3 z); types = o.types ++ (o2.types ++ o3.types) }
 
 row_all : (ws : List Writing) (b f : ℕ) (es : List ProgExpr) → inline_row ws b f (hidden-the_row-ProgExpr-0 es) ≡ inline_all ws b f es
-unfolding shape-the_row-ProgExpr-0 hidden-the_row-ProgExpr-0 shape-the_row-ProgExpr-1 hidden-the_row-ProgExpr-1 hidden
+unfolding prog_expr_rows
 row_all ws b f [] = refl
 row_all ws b f (e ∷ es) =
     let o = inline_of ws b f e in
@@ -60,41 +60,35 @@ pub out_var : (hs : List TypedHelper) (b f : ℕ) (e : ProgExpr) (v : ℕ) → e
 out_var hs b f e v is = ap (λ k. inline_expr (writings_of hs) b f k e.at) is
 
 pub out_element : (hs : List TypedHelper) (b f : ℕ) (e : ProgExpr) (a : ℕ) (es : List ProgExpr) → e.kind ≡ prog.Element a es → out_of hs b f e ≡ element_out a (outs_of hs b f es)
-unfolding shape-the_row-ProgExpr-0 hidden-the_row-ProgExpr-0 shape-the_row-ProgExpr-1 hidden-the_row-ProgExpr-1 hidden
-out_element hs b f e a es is = ap (λ k. inline_expr (writings_of hs) b f k e.at) is ∙ ap (element_out a) (row_all (writings_of hs) b f es)
+out_element hs b f e a es is = unfold prog_expr_rows in ap (λ k. inline_expr (writings_of hs) b f k e.at) is ∙ ap (element_out a) (row_all (writings_of hs) b f es)
 
 pub out_unary : (hs : List TypedHelper) (b f : ℕ) (e : ProgExpr) (op : Unary) (x : ProgExpr) → e.kind ≡ prog.Unary op x → out_of hs b f e ≡ unary_out op x.ty x.at (out_of hs b f x)
-unfolding shape-the_row-ProgExpr-0 hidden-the_row-ProgExpr-0 shape-the_row-ProgExpr-1 hidden-the_row-ProgExpr-1 hidden
-out_unary hs b f e op x is = ap (λ k. inline_expr (writings_of hs) b f k e.at) is
+out_unary hs b f e op x is = unfold prog_expr_rows in ap (λ k. inline_expr (writings_of hs) b f k e.at) is
 
 pub out_cast : (hs : List TypedHelper) (b f : ℕ) (e : ProgExpr) (implied : Bool) (x : ProgExpr) → e.kind ≡ prog.Cast implied x → out_of hs b f e ≡ cast_out implied x.ty x.at (out_of hs b f x)
-unfolding shape-the_row-ProgExpr-0 hidden-the_row-ProgExpr-0 shape-the_row-ProgExpr-1 hidden-the_row-ProgExpr-1 hidden
-out_cast hs b f e implied x is = ap (λ k. inline_expr (writings_of hs) b f k e.at) is
+out_cast hs b f e implied x is = unfold prog_expr_rows in ap (λ k. inline_expr (writings_of hs) b f k e.at) is
 
 pub out_binary : (hs : List TypedHelper) (b f : ℕ) (e : ProgExpr) (op : Binary) (x y : ProgExpr) → e.kind ≡ prog.Binary op x y → out_of hs b f e ≡ two_out hs b f op x y
-unfolding shape-the_row-ProgExpr-0 hidden-the_row-ProgExpr-0 shape-the_row-ProgExpr-1 hidden-the_row-ProgExpr-1 hidden
-out_binary hs b f e op x y is = ap (λ k. inline_expr (writings_of hs) b f k e.at) is
+out_binary hs b f e op x y is = unfold prog_expr_rows in ap (λ k. inline_expr (writings_of hs) b f k e.at) is
 
 pub out_choice : (hs : List TypedHelper) (b f : ℕ) (e x y z : ProgExpr) → e.kind ≡ prog.Choose x y z → out_of hs b f e ≡ three_out hs b f x y z
-unfolding shape-the_row-ProgExpr-0 hidden-the_row-ProgExpr-0 shape-the_row-ProgExpr-1 hidden-the_row-ProgExpr-1 hidden
-out_choice hs b f e x y z is = ap (λ k. inline_expr (writings_of hs) b f k e.at) is
+out_choice hs b f e x y z is = unfold prog_expr_rows in ap (λ k. inline_expr (writings_of hs) b f k e.at) is
 
 pub out_call : (hs : List TypedHelper) (b f : ℕ) (e : ProgExpr) (h : ℕ) (es : List ProgExpr) → e.kind ≡ prog.Call h es → out_of hs b f e ≡ with_call (outs_of hs b f es) (call_of hs b f h es e.at)
-unfolding shape-the_row-ProgExpr-0 hidden-the_row-ProgExpr-0 shape-the_row-ProgExpr-1 hidden-the_row-ProgExpr-1 hidden
-out_call hs b f e h es is =
+out_call hs b f e h es is = unfold prog_expr_rows in
     ap (λ k. inline_expr (writings_of hs) b f k e.at) is ∙ ap (λ (o : Outs). with_call o (written_by (slice_get (writings_of hs) h) (f + length o.types) o.exprs e.at)) (row_all (writings_of hs) b f es)
 
 -- ---- statements
 
 stmts_all : (ws : List Writing) (b f : ℕ) (ss : List ProgStmt) → inline_stmts ws b f (hidden-the_row-ProgStmt-0 ss) ≡ inline_list ws b f ss
-unfolding shape-the_row-ProgStmt-0 hidden-the_row-ProgStmt-0 shape-the_row-ProgStmt-1 hidden-the_row-ProgStmt-1 hidden
+unfolding prog_stmt_rows
 stmts_all ws b f [] = refl
 stmts_all ws b f (s ∷ ss) =
     let y = inline_stmt ws b f s.kind s.at in
     ap (λ (r : OutStmts). record { stmts = act_at y.kind s.at ∷ r.stmts; types = y.types ++ r.types }) (stmts_all ws b (f + length y.types) ss)
 
 held_is : (hs : List TypedHelper) (b f : ℕ) (o : Option ProgStmt) → inline_held (writings_of hs) b f (back-ProgStmtKind-If-2 o) ≡ held_of hs b f o
-unfolding shape-the_row-ProgStmt-0 hidden-the_row-ProgStmt-0 shape-the_row-ProgStmt-1 hidden-the_row-ProgStmt-1 hidden
+unfolding prog_stmt_rows
 held_is hs b f None = refl
 held_is hs b f (Some s) = refl
 
@@ -102,8 +96,7 @@ abbrev pub block_stmt : OutStmts → OutStmt
 block_stmt o = record { kind = stmt.Block o.stmts; types = o.types }
 
 pub stmt_block : (hs : List TypedHelper) (b f : ℕ) (s : ProgStmt) (ss : List ProgStmt) → s.kind ≡ act.Block ss → stmt_of hs b f s ≡ block_stmt (stmts_of hs b f ss)
-unfolding shape-the_row-ProgStmt-0 hidden-the_row-ProgStmt-0 shape-the_row-ProgStmt-1 hidden-the_row-ProgStmt-1 hidden
-stmt_block hs b f s ss is = ap (λ k. inline_stmt (writings_of hs) b f k s.at) is ∙ ap block_stmt (stmts_all (writings_of hs) b f ss)
+stmt_block hs b f s ss is = unfold prog_stmt_rows in ap (λ k. inline_stmt (writings_of hs) b f k s.at) is ∙ ap block_stmt (stmts_all (writings_of hs) b f ss)
 
 abbrev pub declare_stmt : List TypedHelper → ℕ → ℕ → ℕ → Option ProgExpr → Span → OutStmt
 declare_stmt hs b f v e at = let o = option_of hs b f e in record { kind = behind o.before (stmt.Declare (b + v) o.expr) at; types = o.types }
@@ -140,8 +133,7 @@ if_stmt hs b f e y o at =
     record { kind = behind c.before (stmt.If (rest_of c e) (act_at m.kind y.at) n.stmt) at; types = c.types ++ (m.types ++ n.types) }
 
 pub stmt_if : (hs : List TypedHelper) (b f : ℕ) (s : ProgStmt) (e : ProgExpr) (y : ProgStmt) (o : Option ProgStmt) → s.kind ≡ act.If e y o → stmt_of hs b f s ≡ if_stmt hs b f e y o s.at
-unfolding shape-the_row-ProgStmt-0 hidden-the_row-ProgStmt-0 shape-the_row-ProgStmt-1 hidden-the_row-ProgStmt-1 hidden
-stmt_if hs b f s e y o is =
+stmt_if hs b f s e y o is = unfold prog_stmt_rows in
     let c = out_of hs b f e in
     let m = stmt_of hs b (f + length c.types) y in
     ap (λ k. inline_stmt (writings_of hs) b f k s.at) is
@@ -154,8 +146,7 @@ while_stmt hs b f e y =
     record { kind = stmt.While (rest_of c e) (act_at m.kind y.at); types = c.types ++ m.types }
 
 pub stmt_while : (hs : List TypedHelper) (b f : ℕ) (s : ProgStmt) (e : ProgExpr) (y : ProgStmt) → s.kind ≡ act.While e y → stmt_of hs b f s ≡ while_stmt hs b f e y
-unfolding shape-the_row-ProgStmt-0 hidden-the_row-ProgStmt-0 shape-the_row-ProgStmt-1 hidden-the_row-ProgStmt-1 hidden
-stmt_while hs b f s e y is = ap (λ k. inline_stmt (writings_of hs) b f k s.at) is
+stmt_while hs b f s e y is = unfold prog_stmt_rows in ap (λ k. inline_stmt (writings_of hs) b f k s.at) is
 
 abbrev pub do_stmt : List TypedHelper → ℕ → ℕ → ProgStmt → ProgExpr → OutStmt
 do_stmt hs b f y e =
@@ -164,8 +155,7 @@ do_stmt hs b f y e =
     record { kind = stmt.DoWhile (act_at m.kind y.at) (rest_of c e); types = m.types ++ c.types }
 
 pub stmt_do : (hs : List TypedHelper) (b f : ℕ) (s : ProgStmt) (y : ProgStmt) (e : ProgExpr) → s.kind ≡ act.DoWhile y e → stmt_of hs b f s ≡ do_stmt hs b f y e
-unfolding shape-the_row-ProgStmt-0 hidden-the_row-ProgStmt-0 shape-the_row-ProgStmt-1 hidden-the_row-ProgStmt-1 hidden
-stmt_do hs b f s y e is = ap (λ k. inline_stmt (writings_of hs) b f k s.at) is
+stmt_do hs b f s y e is = unfold prog_stmt_rows in ap (λ k. inline_stmt (writings_of hs) b f k s.at) is
 
 abbrev for_by : List TypedHelper → ℕ → ℕ → OutStmts → Option ProgExpr → OutHeld → ProgStmt → ℕ → OutStmt
 for_by hs b g i e p y n =
@@ -182,8 +172,7 @@ for_stmt hs b f first e o y =
     for_by hs b g i e p y (h + length p.types)
 
 pub stmt_for : (hs : List TypedHelper) (b f : ℕ) (s : ProgStmt) (first : List ProgStmt) (e : Option ProgExpr) (o : Option ProgStmt) (y : ProgStmt) → s.kind ≡ act.For first e o y → stmt_of hs b f s ≡ for_stmt hs b f first e o y
-unfolding shape-the_row-ProgStmt-0 hidden-the_row-ProgStmt-0 shape-the_row-ProgStmt-1 hidden-the_row-ProgStmt-1 hidden
-stmt_for hs b f s first e o y is =
+stmt_for hs b f s first e o y is = unfold prog_stmt_rows in
     let i = stmts_of hs b f first in
     let g = f + length i.types in
     let h = g + length (option_of hs b g e).types in
@@ -208,12 +197,6 @@ stmt_empty hs b f s is = ap (λ k. inline_stmt (writings_of hs) b f k s.at) is
 pub is_element : (e : ProgExpr) (a : ℕ) (es fs : List ProgExpr) → e.kind ≡ prog.Element a es → fs ≡ es → e.kind ≡ prog.Element a fs
 is_element e a es fs is eq = is ∙ ap (prog.Element a) (sym eq)
 
-pub is_unary : (e : ProgExpr) (op : Unary) (x y : ProgExpr) → e.kind ≡ prog.Unary op x → y ≡ x → e.kind ≡ prog.Unary op y
-is_unary e op x y is eq = is ∙ ap (prog.Unary op) (sym eq)
-
-pub is_cast : (e : ProgExpr) (implied : Bool) (x y : ProgExpr) → e.kind ≡ prog.Cast implied x → y ≡ x → e.kind ≡ prog.Cast implied y
-is_cast e implied x y is eq = is ∙ ap (prog.Cast implied) (sym eq)
-
 pub is_binary : (e : ProgExpr) (op : Binary) (x y x2 y2 : ProgExpr) → e.kind ≡ prog.Binary op x y → x2 ≡ x → y2 ≡ y → e.kind ≡ prog.Binary op x2 y2
 is_binary e op x y x2 y2 is ex ey = is ∙ ap (λ z. prog.Binary op z y) (sym ex) ∙ ap (prog.Binary op x2) (sym ey)
 
@@ -225,15 +208,3 @@ is_call e h es fs is eq = is ∙ ap (prog.Call h) (sym eq)
 
 pub is_block : (s : ProgStmt) (ss zs : List ProgStmt) → s.kind ≡ act.Block ss → zs ≡ ss → s.kind ≡ act.Block zs
 is_block s ss zs is eq = is ∙ ap act.Block (sym eq)
-
-pub is_if : (s : ProgStmt) (e : ProgExpr) (y z : ProgStmt) (o : Option ProgStmt) → s.kind ≡ act.If e y o → z ≡ y → s.kind ≡ act.If e z o
-is_if s e y z o is eq = is ∙ ap (λ a. act.If e a o) (sym eq)
-
-pub is_while : (s : ProgStmt) (e : ProgExpr) (y z : ProgStmt) → s.kind ≡ act.While e y → z ≡ y → s.kind ≡ act.While e z
-is_while s e y z is eq = is ∙ ap (act.While e) (sym eq)
-
-pub is_do : (s : ProgStmt) (y z : ProgStmt) (e : ProgExpr) → s.kind ≡ act.DoWhile y e → z ≡ y → s.kind ≡ act.DoWhile z e
-is_do s y z e is eq = is ∙ ap (λ a. act.DoWhile a e) (sym eq)
-
-pub is_for : (s : ProgStmt) (first fs : List ProgStmt) (e : Option ProgExpr) (o : Option ProgStmt) (y z : ProgStmt) → s.kind ≡ act.For first e o y → fs ≡ first → z ≡ y → s.kind ≡ act.For fs e o z
-is_for s first fs e o y z is ef eq = is ∙ ap (λ a. act.For a e o y) (sym ef) ∙ ap (act.For fs e o) (sym eq)

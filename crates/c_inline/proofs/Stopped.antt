@@ -1,6 +1,6 @@
 -- Counts over the numbers of helpers' blocks, where these stop at 2^64 - 1 too.
-use Rattle.std.proofs.Common.{◌≡◌, ℕ, zero, suc, ◌+◌, ◌-◌, ◌^◌, ◌<◌, List, [], ◌∷◌, ◌++◌, length, map, min, take, get_or, drop, refl, sym, ◌∙◌, ap, arith}
-use Rattle.std.specs.Prelude.{true, false, slice_get, sum_by, option_map, Option, Some, None}
+use Rattle.std.proofs.Common.{◌≡◌, ℕ, suc, ◌+◌, ◌-◌, ◌^◌, ◌<◌, List, [], ◌∷◌, ◌++◌, length, map, min, take, get_or, refl, sym, ◌∙◌, ap, arith}
+use Rattle.std.specs.Prelude.{slice_get, sum_by, option_map, Option, Some, None}
 use Rattle.std.proofs.lemmas.Option.{slice_get-map}
 use mathlib.Core.Former.{Count}
 use Rattle.std.proofs.Math.Seq.{take-suc}
@@ -8,7 +8,6 @@ use Rattle.std.proofs.lemmas.List.Sums.{sum_by-cons}
 use Rattle.c_ast.specs.declared.program.ProgExpr.{ProgExpr}
 use Rattle.c_ast.specs.declared.program.ProgExprKind.{ProgExprKind, Row_of-ProgExpr, end_of-ProgExpr, more_of-ProgExpr}
 use Rattle.c_ast.specs.declared.program.ProgExprKind as tree
-use Rattle.c_ast.specs.declared.program.ProgTarget.{ProgTarget}
 use Rattle.c_ast.specs.declared.program.ProgStmt.{ProgStmt}
 use Rattle.c_ast.specs.declared.program.ProgStmtKind.{ProgStmtKind, Row_of-ProgStmt, end_of-ProgStmt, more_of-ProgStmt, Held-ProgStmtKind-If-2}
 use Rattle.c_ast.specs.declared.program.ProgStmtKind as act

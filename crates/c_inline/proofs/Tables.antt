@@ -1,10 +1,10 @@
 -- Tables that are made helper by helper, each entry from those before: an entry is that of its helper behind the helpers before it.
-use Rattle.std.proofs.Common.{◌≡◌, ℕ, zero, suc, ◌+◌, ◌<◌, ◌≤◌, List, [], ◌∷◌, ◌++◌, length, take, refl, sym, ◌∙◌, ap, subst, arith, length-append, Option, Some, None}
+use Rattle.std.proofs.Common.{◌≡◌, ℕ, zero, suc, ◌+◌, ◌<◌, ◌≤◌, List, [], ◌∷◌, ◌++◌, length, take, refl, sym, ◌∙◌, ap, subst, arith, length-append, Some, None}
 use Rattle.std.specs.Prelude.{slice_get}
-use Rattle.std.proofs.lemmas.Option.{slice_get_within, slice_get_past, none-some}
+use Rattle.std.proofs.lemmas.Option.{slice_get_within, slice_get_past}
 use Rattle.c_ast.specs.declared.program.TypedHelper.{TypedHelper}
 use Rattle.c_meaning.proofs.LawfulExpressions.{get_last}
-use Rattle.c_calls.specs.Inlined.{Writing, writing, writings, written_by}
+use Rattle.c_calls.specs.Inlined.{writing, writings}
 use Rattle.c_inline.specs.Making.{AllNumbers, HelperNumbers, writings_of}
 use Rattle.c_inline.proofs.Weights.{helper_weight, weights, weights_of}
 

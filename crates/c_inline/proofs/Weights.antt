@@ -1,23 +1,20 @@
 -- How much is left to walk: a call weighs what its helper's block weighs, so that each part of a walk, also the block of a call, weighs less than the whole.
 use Rattle.std.proofs.Common.{◌≡◌, ℕ, zero, suc, ◌+◌, ◌<◌, ◌≤◌, List, [], ◌∷◌, ◌++◌, length, get_or, refl, sym, ◌∙◌, ap, arith}
-use Rattle.std.specs.Prelude.{Bool, slice_get, sum_by, Option, Some, None}
+use Rattle.std.specs.Prelude.{slice_get, sum_by, Option, Some, None}
 use mathlib.Core.Former.{Count}
-use denote.Hole.Carrier.{hidden}
 use Rattle.std.proofs.lemmas.List.Sums.{sum_by-cons}
-use Rattle.c_ast.specs.declared.tree.Unary.{Unary}
-use Rattle.c_ast.specs.declared.tree.Binary.{Binary}
 use Rattle.c_ast.specs.declared.program.ProgExpr.{ProgExpr}
 use Rattle.c_ast.specs.declared.program.ProgExprKind.{ProgExprKind, Row_of-ProgExpr, end_of-ProgExpr, more_of-ProgExpr}
 use Rattle.c_ast.specs.declared.program.ProgExprKind as tree
 use Rattle.c_ast.specs.declared.program.ProgExprKind.TheVariants as expr
-use Rattle.c_ast.specs.declared.program.ProgExprKind.TheBlock.{shape-the_row-ProgExpr-0, hidden-the_row-ProgExpr-0, shape-the_row-ProgExpr-1, hidden-the_row-ProgExpr-1}
-use Rattle.c_ast.specs.declared.program.ProgTarget.{ProgTarget}
+use Rattle.c_ast.specs.declared.program.ProgExprKind.TheBlock.{hidden-the_row-ProgExpr-0}
 use Rattle.c_ast.specs.declared.program.ProgStmt.{ProgStmt}
 use Rattle.c_ast.specs.declared.program.ProgStmtKind.{ProgStmtKind, Row_of-ProgStmt, end_of-ProgStmt, more_of-ProgStmt, Held-ProgStmtKind-If-2, back-ProgStmtKind-If-2}
 use Rattle.c_ast.specs.declared.program.ProgStmtKind as act
 use Rattle.c_ast.specs.declared.program.ProgStmtKind.TheVariants as stmt
-use Rattle.c_ast.specs.declared.program.ProgStmtKind.TheBlock.{shape-the_row-ProgStmt-0, hidden-the_row-ProgStmt-0, shape-the_row-ProgStmt-1, hidden-the_row-ProgStmt-1}
+use Rattle.c_ast.specs.declared.program.ProgStmtKind.TheBlock.{hidden-the_row-ProgStmt-0}
 use Rattle.c_ast.specs.declared.program.TypedHelper.{TypedHelper}
+use Rattle.c_calls.proofs.TreeRows.{prog_expr_rows, prog_stmt_rows}
 
 abbrev pub weight_at : Option ℕ → ℕ
 weight_at None = 0
@@ -94,76 +91,32 @@ weights_of hs = weights [] hs
 -- ---- parts
 
 row_is : (ws : List ℕ) (es : List ProgExpr) → row_weight ws (hidden-the_row-ProgExpr-0 es) ≡ exprs_weight ws es
-unfolding shape-the_row-ProgExpr-0 hidden-the_row-ProgExpr-0 shape-the_row-ProgExpr-1 hidden-the_row-ProgExpr-1 hidden
+unfolding prog_expr_rows
 row_is ws [] = refl
 row_is ws (e ∷ es) = ap (λ n. expr_weight ws e + n) (row_is ws es) ∙ sym (sum_by-cons (expr_weight ws) e es)
 
 pub w_element : (ws : List ℕ) (e : ProgExpr) (a : ℕ) (es : List ProgExpr) → e.kind ≡ expr.Element a es → expr_weight ws e ≡ 1 + exprs_weight ws es
-unfolding shape-the_row-ProgExpr-0 hidden-the_row-ProgExpr-0 shape-the_row-ProgExpr-1 hidden-the_row-ProgExpr-1 hidden
-w_element ws e a es is = ap (kind_weight ws) is ∙ ap (λ n. 1 + n) (row_is ws es)
-
-pub w_unary : (ws : List ℕ) (e : ProgExpr) (op : Unary) (x : ProgExpr) → e.kind ≡ expr.Unary op x → expr_weight ws e ≡ 1 + expr_weight ws x
-unfolding shape-the_row-ProgExpr-0 hidden-the_row-ProgExpr-0 shape-the_row-ProgExpr-1 hidden-the_row-ProgExpr-1 hidden
-w_unary ws e op x is = ap (kind_weight ws) is
-
-pub w_cast : (ws : List ℕ) (e : ProgExpr) (implied : Bool) (x : ProgExpr) → e.kind ≡ expr.Cast implied x → expr_weight ws e ≡ 1 + expr_weight ws x
-unfolding shape-the_row-ProgExpr-0 hidden-the_row-ProgExpr-0 shape-the_row-ProgExpr-1 hidden-the_row-ProgExpr-1 hidden
-w_cast ws e implied x is = ap (kind_weight ws) is
-
-pub w_binary : (ws : List ℕ) (e : ProgExpr) (op : Binary) (x y : ProgExpr) → e.kind ≡ expr.Binary op x y → expr_weight ws e ≡ 1 + expr_weight ws x + expr_weight ws y
-unfolding shape-the_row-ProgExpr-0 hidden-the_row-ProgExpr-0 shape-the_row-ProgExpr-1 hidden-the_row-ProgExpr-1 hidden
-w_binary ws e op x y is = ap (kind_weight ws) is
-
-pub w_choice : (ws : List ℕ) (e : ProgExpr) (x y z : ProgExpr) → e.kind ≡ expr.Choose x y z → expr_weight ws e ≡ 1 + expr_weight ws x + expr_weight ws y + expr_weight ws z
-unfolding shape-the_row-ProgExpr-0 hidden-the_row-ProgExpr-0 shape-the_row-ProgExpr-1 hidden-the_row-ProgExpr-1 hidden
-w_choice ws e x y z is = ap (kind_weight ws) is
+w_element ws e a es is = unfold prog_expr_rows in ap (kind_weight ws) is ∙ ap (λ n. 1 + n) (row_is ws es)
 
 pub w_call : (ws : List ℕ) (e : ProgExpr) (h : ℕ) (es : List ProgExpr) → e.kind ≡ expr.Call h es → expr_weight ws e ≡ 1 + exprs_weight ws es + weight_at (slice_get ws h)
-unfolding shape-the_row-ProgExpr-0 hidden-the_row-ProgExpr-0 shape-the_row-ProgExpr-1 hidden-the_row-ProgExpr-1 hidden
-w_call ws e h es is = omega (arith, ap (kind_weight ws) is, row_is ws es)
+w_call ws e h es is = unfold prog_expr_rows in omega (arith, ap (kind_weight ws) is, row_is ws es)
 
 acts_is : (ws : List ℕ) (ss : List ProgStmt) → acts_weight ws (hidden-the_row-ProgStmt-0 ss) ≡ stmts_weight ws ss
-unfolding shape-the_row-ProgStmt-0 hidden-the_row-ProgStmt-0 shape-the_row-ProgStmt-1 hidden-the_row-ProgStmt-1 hidden
+unfolding prog_stmt_rows
 acts_is ws [] = refl
 acts_is ws (s ∷ ss) = ap (λ n. stmt_weight ws s + n) (acts_is ws ss) ∙ sym (sum_by-cons (stmt_weight ws) s ss)
 
 held_is : (ws : List ℕ) (o : Option ProgStmt) → held_act_weight ws (back-ProgStmtKind-If-2 o) ≡ held_weight ws o
-unfolding shape-the_row-ProgStmt-0 hidden-the_row-ProgStmt-0 shape-the_row-ProgStmt-1 hidden-the_row-ProgStmt-1 hidden
+unfolding prog_stmt_rows
 held_is ws None = refl
 held_is ws (Some s) = refl
 
 pub w_block : (ws : List ℕ) (s : ProgStmt) (ss : List ProgStmt) → s.kind ≡ stmt.Block ss → stmt_weight ws s ≡ 1 + stmts_weight ws ss
-unfolding shape-the_row-ProgStmt-0 hidden-the_row-ProgStmt-0 shape-the_row-ProgStmt-1 hidden-the_row-ProgStmt-1 hidden
-w_block ws s ss is = ap (act_weight ws) is ∙ ap (λ n. 1 + n) (acts_is ws ss)
-
-pub w_declare : (ws : List ℕ) (s : ProgStmt) (v : ℕ) (e : Option ProgExpr) → s.kind ≡ stmt.Declare v e → stmt_weight ws s ≡ 1 + option_weight ws e
-w_declare ws s v e is = ap (act_weight ws) is
-
-pub w_return : (ws : List ℕ) (s : ProgStmt) (e : Option ProgExpr) → s.kind ≡ stmt.Return e → stmt_weight ws s ≡ 1 + option_weight ws e
-w_return ws s e is = ap (act_weight ws) is
-
-pub w_assign : (ws : List ℕ) (s : ProgStmt) (t : ProgTarget) (op : Option Binary) (e : ProgExpr) → s.kind ≡ stmt.Assign t op e → stmt_weight ws s ≡ 1 + exprs_weight ws t.indices + expr_weight ws e
-w_assign ws s t op e is = ap (act_weight ws) is
-
-pub w_step : (ws : List ℕ) (s : ProgStmt) (t : ProgTarget) (up : Bool) → s.kind ≡ stmt.Step t up → stmt_weight ws s ≡ 1 + exprs_weight ws t.indices
-w_step ws s t up is = ap (act_weight ws) is
-
-pub w_if : (ws : List ℕ) (s : ProgStmt) (e : ProgExpr) (y : ProgStmt) (o : Option ProgStmt) → s.kind ≡ stmt.If e y o → stmt_weight ws s ≡ 1 + expr_weight ws e + stmt_weight ws y + held_weight ws o
-unfolding shape-the_row-ProgStmt-0 hidden-the_row-ProgStmt-0 shape-the_row-ProgStmt-1 hidden-the_row-ProgStmt-1 hidden
-w_if ws s e y o is = omega (arith, ap (act_weight ws) is, held_is ws o)
-
-pub w_while : (ws : List ℕ) (s : ProgStmt) (e : ProgExpr) (y : ProgStmt) → s.kind ≡ stmt.While e y → stmt_weight ws s ≡ 1 + expr_weight ws e + stmt_weight ws y
-unfolding shape-the_row-ProgStmt-0 hidden-the_row-ProgStmt-0 shape-the_row-ProgStmt-1 hidden-the_row-ProgStmt-1 hidden
-w_while ws s e y is = ap (act_weight ws) is
-
-pub w_do : (ws : List ℕ) (s : ProgStmt) (y : ProgStmt) (e : ProgExpr) → s.kind ≡ stmt.DoWhile y e → stmt_weight ws s ≡ 1 + stmt_weight ws y + expr_weight ws e
-unfolding shape-the_row-ProgStmt-0 hidden-the_row-ProgStmt-0 shape-the_row-ProgStmt-1 hidden-the_row-ProgStmt-1 hidden
-w_do ws s y e is = ap (act_weight ws) is
+w_block ws s ss is = unfold prog_stmt_rows in ap (act_weight ws) is ∙ ap (λ n. 1 + n) (acts_is ws ss)
 
 pub w_for : (ws : List ℕ) (s : ProgStmt) (first : List ProgStmt) (e : Option ProgExpr) (o : Option ProgStmt) (y : ProgStmt) → s.kind ≡ stmt.For first e o y
     → stmt_weight ws s ≡ 1 + stmts_weight ws first + option_weight ws e + held_weight ws o + stmt_weight ws y
-unfolding shape-the_row-ProgStmt-0 hidden-the_row-ProgStmt-0 shape-the_row-ProgStmt-1 hidden-the_row-ProgStmt-1 hidden
-w_for ws s first e o y is = omega (arith, ap (act_weight ws) is, acts_is ws first, held_is ws o)
+w_for ws s first e o y is = unfold prog_stmt_rows in omega (arith, ap (act_weight ws) is, acts_is ws first, held_is ws o)
 
 -- ---- items of lists
 
@@ -171,9 +124,3 @@ item_less : {A : Type 0} (f : A → ℕ) (xs : List A) (i : ℕ) (d : A) → i <
 item_less f [] i d h = absurd (omega (arith, h))
 item_less f (x ∷ xs) zero d h = omega (arith, sum_by-cons f x xs)
 item_less f (x ∷ xs) (suc i) d h = omega (arith, sum_by-cons f x xs, item_less f xs i d (omega (arith, h)))
-
-pub w_item : (ws : List ℕ) (es : List ProgExpr) (i : ℕ) (e : ProgExpr) → i < length es → e ≡ get_or es i e → expr_weight ws e ≤ exprs_weight ws es
-w_item ws es i e h is = omega (arith, ap (expr_weight ws) is, item_less (expr_weight ws) es i e h)
-
-pub w_one : (ws : List ℕ) (ss : List ProgStmt) (i : ℕ) (s : ProgStmt) → i < length ss → s ≡ get_or ss i s → stmt_weight ws s ≤ stmts_weight ws ss
-w_one ws ss i s h is = omega (arith, ap (stmt_weight ws) is, item_less (stmt_weight ws) ss i s h)

@@ -90,7 +90,7 @@ fn behind(blocks: u64, own: u64) -> u64
 
 /// The nodes of what is left of an expression.
 #[cycle(rest)]
-#[tactic(auto, using(crate::proofs::CountParts::rest_number, crate::proofs::CountParts::rest_var, crate::proofs::CountParts::rest_call, crate::proofs::CountParts::rest_element, crate::proofs::CountParts::rest_unary, crate::proofs::CountParts::rest_implied, crate::proofs::CountParts::rest_cast, crate::proofs::CountParts::rest_binary, crate::proofs::CountParts::rest_choice))]
+#[tactic(auto, unfolding(c_calls::proofs::TreeRows::prog_rows))]
 fn rest(e: &ProgExpr) -> u64
     ensures { result ≡ min (rest_expr_nodes e.now) (2 ^ 64 - 1) }
 {
@@ -214,7 +214,7 @@ fn of_stmts(blocks: &[u64], stmts: &[ProgStmt]) -> u64
 }
 
 #[cycle(stmts)]
-#[tactic(auto, using(crate::proofs::CountParts::stmt_block, crate::proofs::CountParts::stmt_declare, crate::proofs::CountParts::stmt_return, crate::proofs::CountParts::stmt_assign, crate::proofs::CountParts::stmt_step, crate::proofs::CountParts::if_counted, crate::proofs::CountParts::stmt_while, crate::proofs::CountParts::stmt_do, crate::proofs::CountParts::stmt_for))]
+#[tactic(auto, using(crate::proofs::CountParts::stmts_row, crate::proofs::CountParts::held_count, crate::proofs::CountParts::behind_joined), unfolding(c_calls::proofs::TreeRows::prog_rows))]
 fn of_stmt(blocks: &[u64], stmt: &ProgStmt) -> u64
     ensures { result ≡ min (stmt_nodes blocks.now stmt.now) (2 ^ 64 - 1) }
 {

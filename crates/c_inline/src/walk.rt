@@ -1,5 +1,7 @@
 //! The kernel without calls, statement by statement. A call in a helper goes on in an earlier helper, as deep as the tree that is
 //! made, whose nodes were counted before.
+#![tactic(auto, unfolding(c_calls::proofs::TreeRows::prog_rows))]
+
 ghost use Rattle.std.specs.Prelude.{◌≡◌, ◌+◌, ◌++◌, ◌≤◌, length, take, None, IfOk, OnOk};
 ghost use Rattle.el_base.specs.Limits.{IsNumbered};
 ghost use Rattle.c_ast.specs.Casts.{of_type, act_at};

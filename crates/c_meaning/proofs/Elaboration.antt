@@ -2,7 +2,6 @@
 use Rattle.std.proofs.Common.{◌≡◌, ℕ, List, [], ◌∷◌, length, Option, Some, None, refl, sym, ◌∙◌, ap}
 use Rattle.std.specs.Prelude.{Bool, false}
 use mathlib.Core.Former.{Count}
-use denote.Hole.Carrier.{hidden}
 use Rattle.el_base.specs.declared.span.Span.{Span}
 use Rattle.el_base.specs.declared.ty.Ty.{Ty}
 use Rattle.el_base.specs.declared.ty.Ty.TheVariants.{I32}
@@ -13,11 +12,11 @@ use Rattle.c_ast.specs.declared.tree.Target.{Target}
 use Rattle.c_ast.specs.declared.tree.Expr.{Expr}
 use Rattle.c_ast.specs.declared.tree.ExprKind.{ExprKind, Row_of-Expr, end_of-Expr, more_of-Expr}
 use Rattle.c_ast.specs.declared.tree.ExprKind as raw
-use Rattle.c_ast.specs.declared.tree.ExprKind.TheBlock.{shape-the_row-Expr-0, hidden-the_row-Expr-0, shape-the_row-Expr-1, hidden-the_row-Expr-1}
+use Rattle.c_ast.specs.declared.tree.ExprKind.TheBlock.{hidden-the_row-Expr-0}
 use Rattle.c_ast.specs.declared.tree.Stmt.{Stmt}
 use Rattle.c_ast.specs.declared.tree.StmtKind.{StmtKind, Row_of-Stmt, end_of-Stmt, more_of-Stmt, Held-StmtKind-If-2, back-StmtKind-If-2}
 use Rattle.c_ast.specs.declared.tree.StmtKind as raw_stmt
-use Rattle.c_ast.specs.declared.tree.StmtKind.TheBlock.{shape-the_row-Stmt-0, hidden-the_row-Stmt-0, shape-the_row-Stmt-1, hidden-the_row-Stmt-1}
+use Rattle.c_ast.specs.declared.tree.StmtKind.TheBlock.{hidden-the_row-Stmt-0}
 use Rattle.c_ast.specs.declared.tree.Tree.{Tree}
 use Rattle.c_ast.specs.declared.typed.ArrayOf.{ArrayOf}
 use Rattle.c_ast.specs.declared.typed.Object.TheVariants as object
@@ -30,6 +29,7 @@ use Rattle.c_ast.specs.declared.typed.Typed.{Typed}
 use Rattle.c_ast.specs.ResultTypes.{promoted, usual, joint_type, result_type, unary_type}
 use Rattle.c_ast.specs.Casts.{Declared, a_var, an_array, Context, declared_as, with_var, opened, closed, of_type, converted, left_type, right_type, CastsExpr, CastsExprs, CastsTarget, CastsOption, CastsStmt, CastsHeld, CastsStmts, act_at, assigned_type, parameters, first_context, Casts}
 use Rattle.c_ast.specs.Casts as casts
+use Rattle.c_meaning.proofs.TreeRows.{expr_rows, stmt_rows}
 
 -- ---- expressions
 
@@ -84,12 +84,12 @@ cast_option c (Some e) = Some (cast_expr c e)
 
 -- a row of expressions is cast as their list is
 pub row_casts : (c : Context) (es : List Expr) → cast_row c (hidden-the_row-Expr-0 es) ≡ cast_exprs c es
-unfolding shape-the_row-Expr-0 hidden-the_row-Expr-0 shape-the_row-Expr-1 hidden-the_row-Expr-1 hidden
+unfolding expr_rows
 row_casts c [] = refl
 row_casts c (e ∷ es) = ap (λ fs. cast_expr c e ∷ fs) (row_casts c es)
 
 mutual
-  unfolding shape-the_row-Expr-0 hidden-the_row-Expr-0 shape-the_row-Expr-1 hidden-the_row-Expr-1 hidden
+  unfolding expr_rows
 
   pub one_expr : {c : Context} {e : Expr} {f : TypedExpr} → CastsExpr c e f → cast_expr c e ≡ f
   one_expr (casts.number c n t s) = refl
@@ -203,7 +203,7 @@ abbrev mutual
   cast_stmts r (more_of-Stmt a at row) c = let d = cast_stmt r a c at in more_as d (cast_stmts r row d.after)
 
 mutual
-  unfolding shape-the_row-Stmt-0 hidden-the_row-Stmt-0 shape-the_row-Stmt-1 hidden-the_row-Stmt-1 hidden
+  unfolding stmt_rows
 
   pub one_stmt : {r : Option Ty} {c : Context} {a : Stmt} {b : TypedStmt} {d : Context} → CastsStmt r c a b d → cast_stmt r a.kind c a.at ≡ record { value = b; after = d }
   one_stmt (casts.block r c d ss ts s h) = ap (λ u. block_as c u s) (one_stmts h)

@@ -3,7 +3,6 @@ use Rattle.std.proofs.Common.{◌≡◌, ℕ, ◌<◌, List, [], ◌∷◌, leng
 use Rattle.std.proofs.lemmas.List.Elements.{All-head, All-tail}
 use Rattle.std.specs.Prelude.{Bool, true, false, All}
 use mathlib.Core.Former.{Count}
-use denote.Hole.Carrier.{hidden}
 use Rattle.el_base.specs.declared.span.Span.{Span}
 use Rattle.el_base.specs.declared.ty.Ty.{Ty}
 use Rattle.c_ast.specs.declared.tree.Target.{Target}
@@ -11,12 +10,11 @@ use Rattle.c_ast.specs.declared.tree.Expr.{Expr}
 use Rattle.c_ast.specs.declared.tree.ExprKind.{ExprKind, Row_of-Expr, end_of-Expr, more_of-Expr}
 use Rattle.c_ast.specs.declared.tree.ExprKind as raw
 use Rattle.c_ast.specs.declared.tree.ExprKind.TheVariants as expr
-use Rattle.c_ast.specs.declared.tree.ExprKind.TheBlock.{shape-the_row-Expr-0, hidden-the_row-Expr-0, shape-the_row-Expr-1, hidden-the_row-Expr-1}
 use Rattle.c_ast.specs.declared.tree.Stmt.{Stmt}
 use Rattle.c_ast.specs.declared.tree.StmtKind.{StmtKind, Row_of-Stmt, end_of-Stmt, more_of-Stmt, Held-StmtKind-If-2}
 use Rattle.c_ast.specs.declared.tree.StmtKind as raw_stmt
 use Rattle.c_ast.specs.declared.tree.StmtKind.TheVariants as stmt
-use Rattle.c_ast.specs.declared.tree.StmtKind.TheBlock.{shape-the_row-Stmt-0, hidden-the_row-Stmt-0, shape-the_row-Stmt-1, hidden-the_row-Stmt-1}
+use Rattle.c_ast.specs.declared.tree.StmtKind.TheBlock.{hidden-the_row-Stmt-0}
 use Rattle.c_ast.specs.declared.tree.Tree.{Tree}
 use Rattle.c_ast.specs.declared.typed.TypedExpr.{TypedExpr}
 use Rattle.c_ast.specs.declared.typed.TypedStmtKind.TheVariants as act
@@ -26,6 +24,7 @@ use Rattle.c_ast.specs.Casts as casts
 use Rattle.c_meaning.proofs.Elaboration.{name_as, element_as, cast_kind, cast_row, cast_expr, cast_exprs, cast_option, target_as, cast_target, value_as, return_as, cast_stmt, cast_held, cast_stmts, cast_body, cast_tree}
 use Rattle.c_meaning.proofs.Contexts.{sorts_in, sorts_of, UsedAs, usable, uncallable, with_name_is, held_scopes, names_after_is, names_after_row_is, first_names}
 use Rattle.c_meaning.proofs.TreeShapes.{exprs_of, stmts_of, element_is, block_is, held_of, if_is, for_is, items_are}
+use Rattle.c_meaning.proofs.TreeRows.{expr_rows, stmt_rows}
 
 -- ---- lists
 
@@ -54,7 +53,7 @@ row_length_is end_of-Expr = refl
 row_length_is (more_of-Expr e at row) = let r : row_length row ≡ length (exprs_of row) = row_length_is row in omega arith
 
 mutual
-  unfolding shape-the_row-Expr-0 hidden-the_row-Expr-0 shape-the_row-Expr-1 hidden-the_row-Expr-1 hidden
+  unfolding expr_rows
 
   pub kind_casts : (c : Context) (k : ExprKind) (s : Span) → TypingKind (sorts_of c) k → CastsExpr c (record { kind = k; at = s }) (cast_kind c k s)
   kind_casts c (raw.Number n t) s h = casts.number c n t s
@@ -116,7 +115,7 @@ return_casts None c (Some e) s i h = absurd i
 return_casts (Some t) c (Some e) s i h = casts.return_value t c e (cast_expr c e) s (expr_casts c e h)
 
 mutual
-  unfolding shape-the_row-Stmt-0 hidden-the_row-Stmt-0 shape-the_row-Stmt-1 hidden-the_row-Stmt-1 hidden
+  unfolding stmt_rows
 
   pub stmt_casts : (r : Option Ty) (loop : Bool) (k : StmtKind) (c : Context) (s : Span) → TypingStmt k r loop (sorts_of c)
       → CastsStmt r c (record { kind = k; at = s }) (cast_stmt r k c s).value (cast_stmt r k c s).after
@@ -173,7 +172,7 @@ mutual
 
 -- what holds of a list of statements holds of the row that holds it
 pub list_typing : (ss : List Stmt) (r : Option Ty) (loop : Bool) (names : Names) → TypingList ss r loop names → TypingStmts (hidden-the_row-Stmt-0 ss) r loop names
-unfolding shape-the_row-Stmt-0 hidden-the_row-Stmt-0 shape-the_row-Stmt-1 hidden-the_row-Stmt-1 hidden
+unfolding stmt_rows
 list_typing [] r loop names h = tt
 list_typing (s ∷ ss) r loop names h = (h.0, list_typing ss r loop (names_after names s.kind) h.1)
 

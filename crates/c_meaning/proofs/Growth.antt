@@ -87,10 +87,6 @@ pub same_meanings : (V : How → Type 0) (ms : List Meaning) → SameMeanings V 
 same_meanings V [] = tt
 same_meanings V (m ∷ ms) = (λ s. same_val V (m s), same_meanings V ms)
 
-pub same_if_any : (V : How → Type 0) (m : Option Meaning) → SameIfAny V m m
-same_if_any V None = tt
-same_if_any V (Some m) = λ s. same_val V (m s)
-
 pub add_suc : (n m : ℕ) → suc (n + m) ≡ suc n + m
 add_suc n m = omega arith
 

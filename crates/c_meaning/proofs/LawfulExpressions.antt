@@ -6,7 +6,6 @@ use Rattle.std.specs.Prelude.{Bool, true, false, ◌==◌, flat_map, slice_get, 
 use Rattle.std.specs.Cmp.Lexicographic.{pointwise}
 use Rattle.std.specs.Map.{lookup}
 use mathlib.Core.Former.{Count}
-use denote.Hole.Carrier.{hidden}
 use Rattle.el_base.specs.declared.span.Span.{Span}
 use Rattle.el_base.specs.declared.ty.Ty.{Ty}
 use Rattle.c_ast.specs.declared.tree.Unary.{Unary}
@@ -18,7 +17,7 @@ use Rattle.c_ast.specs.declared.tree.ExprKind as raw
 use Rattle.c_ast.specs.declared.typed.ArrayOf.{ArrayOf}
 use Rattle.c_ast.specs.declared.typed.TypedExpr.{TypedExpr}
 use Rattle.c_ast.specs.declared.typed.TypedExprKind.TheVariants as typed
-use Rattle.c_ast.specs.declared.typed.TypedExprKind.TheBlock.{shape-the_row-TypedExpr-0, hidden-the_row-TypedExpr-0, shape-the_row-TypedExpr-1, hidden-the_row-TypedExpr-1}
+use Rattle.c_ast.specs.declared.typed.TypedExprKind.TheBlock.{hidden-the_row-TypedExpr-0}
 use Rattle.c_ast.specs.Typing.{TypingKind, TypingRow, TypingExpr, TypingOption, TypingTarget, row_length as tree_row_length}
 use Rattle.c_ast.specs.ResultTypes.{promoted, usual, joint_type, result_type, unary_type}
 use Rattle.c_meaning.specs.Stores.{Objects}
@@ -29,6 +28,7 @@ use Rattle.c_meaning.proofs.Elaboration.{name_as, element_as, unary_as, binary_a
 use Rattle.c_meaning.proofs.Contexts.{sorts_of, UsedAs, usable, uncallable}
 use Rattle.c_meaning.proofs.Existence.{not_below_zero}
 use Rattle.c_meaning.proofs.TypeLemmas.{promoted_twice, usual_self, operands_are, converted_type}
+use Rattle.c_meaning.proofs.TreeRows.{typed_expr_rows}
 
 -- ---- a list goes on in another
 
@@ -90,12 +90,12 @@ LawfulExprs k [] = Unit {0}
 LawfulExprs k (f ∷ fs) = LawfulExpr k f × LawfulExprs k fs
 
 row_lawful : (k : Objects) (fs : List TypedExpr) → LawfulExprs k fs → LawfulRow k (hidden-the_row-TypedExpr-0 fs)
-unfolding shape-the_row-TypedExpr-0 hidden-the_row-TypedExpr-0 shape-the_row-TypedExpr-1 hidden-the_row-TypedExpr-1 hidden
+unfolding typed_expr_rows
 row_lawful k [] h = tt
 row_lawful k (f ∷ fs) h = (h.0, row_lawful k fs h.1)
 
 pub row_length_is : (fs : List TypedExpr) → row_length (hidden-the_row-TypedExpr-0 fs) ≡ length fs
-unfolding shape-the_row-TypedExpr-0 hidden-the_row-TypedExpr-0 shape-the_row-TypedExpr-1 hidden-the_row-TypedExpr-1 hidden
+unfolding typed_expr_rows
 row_length_is [] = refl
 row_length_is (f ∷ fs) = let r : row_length (hidden-the_row-TypedExpr-0 fs) ≡ length fs = row_length_is fs in omega arith
 
@@ -117,20 +117,20 @@ pub record Unconverted (k : Objects) (e : TypedExpr) : Type 0 where
   pub written : is_implied e.kind ≡ false
 
 name_lawful : (k : Objects) (s : Span) (o : Option Declared) → UsedAs 0 o → Means k o → Unconverted k (name_as o s)
-unfolding shape-the_row-TypedExpr-0 hidden-the_row-TypedExpr-0 shape-the_row-TypedExpr-1 hidden-the_row-TypedExpr-1 hidden
+unfolding typed_expr_rows
 name_lawful k s None u m = absurd u
 name_lawful k s (Some (a_var v t)) u m = record { lawful = m; written = refl }
 name_lawful k s (Some (an_array a t ds)) u m = absurd (not_below_zero u.0)
 
 element_lawful : (k : Objects) (s : Span) (fs : List TypedExpr) (o : Option Declared) → UsedAs (length fs) o → Means k o → LawfulExprs k fs → Unconverted k (element_as o fs s)
-unfolding shape-the_row-TypedExpr-0 hidden-the_row-TypedExpr-0 shape-the_row-TypedExpr-1 hidden-the_row-TypedExpr-1 hidden
+unfolding typed_expr_rows
 element_lawful k s fs None u m h = absurd u
 element_lawful k s fs (Some (a_var v t)) u m h = record { lawful = m; written = refl }
 element_lawful k s fs (Some (an_array a t ds)) u m h =
     record { lawful = (is_element k a t ds (row_length (hidden-the_row-TypedExpr-0 fs)) (row_length_is fs ∙ u.1) m, row_lawful k fs h); written = refl }
 
 lawful_if : (k : Objects) (t : Ty) (e : TypedExpr) (b : Bool) → Unconverted k e → LawfulExpr k (if b then e else of_type (typed.Cast true e) t e.at)
-unfolding shape-the_row-TypedExpr-0 hidden-the_row-TypedExpr-0 shape-the_row-TypedExpr-1 hidden-the_row-TypedExpr-1 hidden
+unfolding typed_expr_rows
 lawful_if k t e true h = h.lawful
 lawful_if k t e false h = ((λ i. h.written), h.lawful)
 
@@ -139,20 +139,16 @@ converted_lawful k t e h = lawful_if k t e (same_type t e.ty) h
 
 -- the parts of an operator, which have the types that it asks
 two_lawful : (k : Objects) (o : Binary) (f h : TypedExpr) (t : Ty) (s : Span) → AreOperands o f.ty h.ty t → LawfulExpr k f → LawfulExpr k h → Unconverted k (of_type (typed.Binary o f h) t s)
-unfolding shape-the_row-TypedExpr-0 hidden-the_row-TypedExpr-0 shape-the_row-TypedExpr-1 hidden-the_row-TypedExpr-1 hidden
-two_lawful k o f h t s a p q = record { lawful = (a, p, q); written = refl }
+two_lawful k o f h t s a p q = unfold typed_expr_rows in record { lawful = (a, p, q); written = refl }
 
 one_lawful : (k : Objects) (o : Unary) (f : TypedExpr) (t : Ty) (s : Span) → f.ty ≡ promoted f.ty → t ≡ unary_type o f.ty → LawfulExpr k f → Unconverted k (of_type (typed.Unary o f) t s)
-unfolding shape-the_row-TypedExpr-0 hidden-the_row-TypedExpr-0 shape-the_row-TypedExpr-1 hidden-the_row-TypedExpr-1 hidden
-one_lawful k o f t s a b p = record { lawful = (a, b, p); written = refl }
+one_lawful k o f t s a b p = unfold typed_expr_rows in record { lawful = (a, b, p); written = refl }
 
 three_lawful : (k : Objects) (f h j : TypedExpr) (t : Ty) (s : Span) → AreSides h.ty j.ty t → LawfulExpr k f → LawfulExpr k h → LawfulExpr k j → Unconverted k (of_type (typed.Choose f h j) t s)
-unfolding shape-the_row-TypedExpr-0 hidden-the_row-TypedExpr-0 shape-the_row-TypedExpr-1 hidden-the_row-TypedExpr-1 hidden
-three_lawful k f h j t s a p q r = record { lawful = (a, p, q, r); written = refl }
+three_lawful k f h j t s a p q r = unfold typed_expr_rows in record { lawful = (a, p, q, r); written = refl }
 
 cast_lawful : (k : Objects) (f : TypedExpr) (t : Ty) (s : Span) → LawfulExpr k f → Unconverted k (of_type (typed.Cast false f) t s)
-unfolding shape-the_row-TypedExpr-0 hidden-the_row-TypedExpr-0 shape-the_row-TypedExpr-1 hidden-the_row-TypedExpr-1 hidden
-cast_lawful k f t s p = record { lawful = ((λ i. absurd (false≢true i)), p); written = refl }
+cast_lawful k f t s p = unfold typed_expr_rows in record { lawful = ((λ i. absurd (false≢true i)), p); written = refl }
 
 unary_lawful : (k : Objects) (o : Unary) (f : TypedExpr) (s : Span) → Unconverted k f → Unconverted k (unary_as o f s)
 unary_lawful k o f s h =
@@ -182,8 +178,7 @@ choose_lawful k f h j s p q r =
     p.lawful (converted_lawful k t h q) (converted_lawful k t j r)
 
 number_lawful : (k : Objects) (n : ℕ) (t : Ty) (s : Span) → NumbersFitKind (raw.Number n t) → Unconverted k (of_type (typed.Number n) t s)
-unfolding shape-the_row-TypedExpr-0 hidden-the_row-TypedExpr-0 shape-the_row-TypedExpr-1 hidden-the_row-TypedExpr-1 hidden
-number_lawful k n t s h = record { lawful = h; written = refl }
+number_lawful k n t s h = unfold typed_expr_rows in record { lawful = h; written = refl }
 
 mutual
   pub kind_lawful : (k : Objects) (c : Context) → Valid k c.scopes → (e : ExprKind) (s : Span) → TypingKind (sorts_of c) e → NumbersFitKind e → Unconverted k (cast_kind c e s)

@@ -6,16 +6,15 @@ use Rattle.std.proofs.lemmas.List.Sums.{sum_by_push}
 use Rattle.std.proofs.Math.Seq.{take-append_seam}
 use Rattle.std.specs.Prelude.{Bool, true, false, ◌==◌, All, Contains, sum_by, ◌⊎◌}
 use Rattle.std.specs.Cmp.Lexicographic.{pointwise, bytes_decides}
-use denote.Hole.Carrier.{hidden}
 use Rattle.el_base.specs.declared.ty.Ty.{Ty}
 use Rattle.el_base.specs.Limits.{max_elements}
 use Rattle.c_ast.specs.declared.tree.Param.{Param}
 use Rattle.c_ast.specs.declared.tree.Stmt.{Stmt}
-use Rattle.c_ast.specs.declared.tree.StmtKind.TheBlock.{shape-the_row-Stmt-0, hidden-the_row-Stmt-0, shape-the_row-Stmt-1, hidden-the_row-Stmt-1}
+use Rattle.c_ast.specs.declared.tree.StmtKind.TheBlock.{hidden-the_row-Stmt-0}
 use Rattle.c_ast.specs.declared.tree.Tree.{Tree}
 use Rattle.c_ast.specs.declared.typed.ArrayOf.{ArrayOf}
 use Rattle.c_ast.specs.declared.typed.TypedStmt.{TypedStmt}
-use Rattle.c_ast.specs.declared.typed.TypedStmtKind.TheBlock.{shape-the_row-TypedStmt-0, hidden-the_row-TypedStmt-0, shape-the_row-TypedStmt-1, hidden-the_row-TypedStmt-1}
+use Rattle.c_ast.specs.declared.typed.TypedStmtKind.TheBlock.{hidden-the_row-TypedStmt-0}
 use Rattle.c_ast.specs.Typing.{Sort, sort_in, sort_of_dims, product_of, elements_of, TypingParams, Typing}
 use Rattle.c_meaning.specs.declared.profile.Profile.{Profile}
 use Rattle.c_meaning.specs.Stores.{Objects, elements, scalar_type, scalar_types}
@@ -27,6 +26,7 @@ use Rattle.c_meaning.proofs.Elaboration.{cast_body, cast_tree}
 use Rattle.c_meaning.proofs.Existence.{body_typing}
 use Rattle.c_meaning.proofs.LawfulExpressions.{Extends, extends_refl, extends_more, extends_trans, get_extends, get_last, Valid, into_valid}
 use Rattle.c_meaning.proofs.LawfulStatements.{stmts_grow, stmts_lawful, stmts_cover}
+use Rattle.c_meaning.proofs.TreeRows.{stmt_rows, typed_stmt_rows}
 
 -- ---- names of parameters
 
@@ -130,17 +130,17 @@ none_valid k = record { means = λ x. tt }
 -- ---- statements of the block
 
 pub list_fits : (ss : List Stmt) → All (λ (s : Stmt). NumbersFitStmt s.kind) ss → NumbersFitStmts (hidden-the_row-Stmt-0 ss)
-unfolding shape-the_row-Stmt-0 hidden-the_row-Stmt-0 shape-the_row-Stmt-1 hidden-the_row-Stmt-1 hidden
+unfolding stmt_rows
 list_fits [] h = tt
 list_fits (s ∷ ss) h = (All-head (λ (t : Stmt). NumbersFitStmt t.kind) s ss h, list_fits ss (All-tail (λ (t : Stmt). NumbersFitStmt t.kind) s ss h))
 
 all_lawful : (k : Objects) (r : Option Ty) (ts : List TypedStmt) → LawfulStmts k r false (hidden-the_row-TypedStmt-0 ts) → All (λ (s : TypedStmt). LawfulStmt k r false s.kind) ts
-unfolding shape-the_row-TypedStmt-0 hidden-the_row-TypedStmt-0 shape-the_row-TypedStmt-1 hidden-the_row-TypedStmt-1 hidden
+unfolding typed_stmt_rows
 all_lawful k r [] h = All-nil (λ (s : TypedStmt). LawfulStmt k r false s.kind)
 all_lawful k r (t ∷ ts) h = All-cons (λ (s : TypedStmt). LawfulStmt k r false s.kind) t ts h.0 (all_lawful k r ts h.1)
 
 pub row_vars : (ts : List TypedStmt) → stmt_vars_row (hidden-the_row-TypedStmt-0 ts) ≡ all_vars ts
-unfolding shape-the_row-TypedStmt-0 hidden-the_row-TypedStmt-0 shape-the_row-TypedStmt-1 hidden-the_row-TypedStmt-1 hidden
+unfolding typed_stmt_rows
 row_vars [] = refl
 row_vars (t ∷ ts) = ap (λ u. stmt_vars_of t.kind ++ u) (row_vars ts)
 

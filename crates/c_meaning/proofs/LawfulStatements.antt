@@ -4,7 +4,6 @@ use Rattle.std.proofs.lemmas.Bool.{cases_lt}
 use Rattle.std.proofs.lemmas.List.Elements.{Contains-append_left, Contains-append_right}
 use Rattle.std.specs.Prelude.{Bool, true, false, Contains, ◌⊎◌}
 use mathlib.Core.Former.{Count}
-use denote.Hole.Carrier.{hidden}
 use Rattle.el_base.specs.declared.span.Span.{Span}
 use Rattle.el_base.specs.declared.ty.Ty.{Ty}
 use Rattle.c_ast.specs.declared.tree.Binary.{Binary}
@@ -12,7 +11,7 @@ use Rattle.c_ast.specs.declared.tree.Target.{Target}
 use Rattle.c_ast.specs.declared.tree.Expr.{Expr}
 use Rattle.c_ast.specs.declared.tree.StmtKind.{StmtKind, Row_of-Stmt, end_of-Stmt, more_of-Stmt, Held-StmtKind-If-2}
 use Rattle.c_ast.specs.declared.tree.StmtKind as raw
-use Rattle.c_ast.specs.declared.typed.TypedStmtKind.TheBlock.{shape-the_row-TypedStmt-0, hidden-the_row-TypedStmt-0, shape-the_row-TypedStmt-1, hidden-the_row-TypedStmt-1, back-TypedStmtKind-If-2}
+use Rattle.c_ast.specs.declared.typed.TypedStmtKind.TheBlock.{hidden-the_row-TypedStmt-0, back-TypedStmtKind-If-2}
 use Rattle.c_ast.specs.Typing.{IsReturnable, TypingExpr, TypingOption, TypingTarget, TypingStmt, TypingHeld, TypingStmts}
 use Rattle.c_meaning.specs.Stores.{Objects}
 use Rattle.c_ast.specs.Constants.{NumbersFitExpr, NumbersFitOption, NumbersFitTarget, NumbersFitStmt, NumbersFitHeld, NumbersFitStmts}
@@ -22,6 +21,7 @@ use Rattle.c_meaning.proofs.Elaboration.{cast_expr, cast_target, value_as, retur
 use Rattle.c_meaning.proofs.Contexts.{sorts_in, sorts_of, with_name_is, held_scopes, names_after_is, names_after_row_is}
 use Rattle.c_meaning.proofs.TypeLemmas.{converted_type, assigned_twice}
 use Rattle.c_meaning.proofs.LawfulExpressions.{Extends, extends_refl, extends_more, extends_trans, get_extends, get_last, Valid, opened_valid, into_valid, converted_lawful, expr_unconverted, expr_lawful, option_lawful, target_lawful}
+use Rattle.c_meaning.proofs.TreeRows.{typed_stmt_rows}
 
 -- ---- the list of variables grows
 
@@ -103,7 +103,7 @@ return_lawful k None c v (Some e) i h f = absurd i
 return_lawful k (Some t) c v (Some e) i h f = (converted_type t (cast_expr c e), converted_lawful k t (cast_expr c e) (expr_unconverted k c v e h f))
 
 mutual
-  unfolding shape-the_row-TypedStmt-0 hidden-the_row-TypedStmt-0 shape-the_row-TypedStmt-1 hidden-the_row-TypedStmt-1 hidden
+  unfolding typed_stmt_rows
 
   pub stmt_lawful : (k : Objects) (r : Option Ty) (loop : Bool) (a : StmtKind) (c : Context) (s : Span) → TypingStmt a r loop (sorts_of c) → NumbersFitStmt a → Valid k c.scopes
       → Extends (cast_stmt r a c s).after.types k.vars → LawfulStmt k r loop (cast_stmt r a c s).value.kind
@@ -172,7 +172,7 @@ one_new xs t v l m =
     (0, omega arith, omega arith)
 
 mutual
-  unfolding shape-the_row-TypedStmt-0 hidden-the_row-TypedStmt-0 shape-the_row-TypedStmt-1 hidden-the_row-TypedStmt-1 hidden
+  unfolding typed_stmt_rows
 
   pub stmt_covers : (r : Option Ty) (a : StmtKind) (c : Context) (s : Span) (v : ℕ) → length c.types ≤ v → v < length (cast_stmt r a c s).after.types → Contains (stmt_vars_of (cast_stmt r a c s).value.kind) v
   stmt_covers r (raw.Block' n row) c s v l m = stmts_cover r row (opened c) v l m

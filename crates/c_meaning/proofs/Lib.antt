@@ -12,6 +12,7 @@ pub mod LawfulStatements
 pub mod ListParts
 pub mod Loops
 pub mod MatrixProduct
+pub mod TreeRows
 pub mod OperatorLaws
 pub mod OperatorPatterns
 pub mod ParameterLists
@@ -34,11 +35,6 @@ pub mod TreeShapes
 pub mod TypeLemmas
 pub mod Undefined
 pub mod ValueParts
-pub mod WorkedCosts
-pub mod WorkedLaws
 pub mod WorkedNormal
 pub mod WorkedNumbers
-pub mod WorkedOrder
-pub mod WorkedResults
 pub mod WorkedTrees
-pub mod WorkedTurns

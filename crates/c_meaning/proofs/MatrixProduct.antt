@@ -1,18 +1,15 @@
 -- The product of two 4 by 4 matrices: its tree, the nodes of it, its typed tree, and the turns that this takes.
 use Rattle.std.proofs.Common.{◌≡◌, ℕ, ◌+◌, List, [], ◌∷◌, map, Option, Some, None, refl, rules}
 use Rattle.std.specs.Prelude.{Bool, true, pos, codes, option_map, sum as list_sum}
-use denote.Hole.Carrier.{hidden}
 use Rattle.el_base.specs.declared.ty.Ty.TheVariants.{I32}
 use Rattle.c_ast.specs.declared.tree.Binary.TheVariants as op
 use Rattle.c_ast.specs.declared.tree.Target.{Target}
 use Rattle.c_ast.specs.declared.tree.Expr.{Expr}
 use Rattle.c_ast.specs.declared.tree.ExprKind.{ExprKind}
 use Rattle.c_ast.specs.declared.tree.ExprKind.TheVariants as tree_expr
-use Rattle.c_ast.specs.declared.tree.ExprKind.TheBlock.{shape-the_row-Expr-0, hidden-the_row-Expr-0, shape-the_row-Expr-1, hidden-the_row-Expr-1}
 use Rattle.c_ast.specs.declared.tree.Stmt.{Stmt}
 use Rattle.c_ast.specs.declared.tree.StmtKind.{StmtKind}
 use Rattle.c_ast.specs.declared.tree.StmtKind.TheVariants as tree_stmt
-use Rattle.c_ast.specs.declared.tree.StmtKind.TheBlock.{shape-the_row-Stmt-0, hidden-the_row-Stmt-0, shape-the_row-Stmt-1, hidden-the_row-Stmt-1}
 use Rattle.c_ast.specs.declared.tree.Tree.{Tree}
 use Rattle.c_ast.specs.Nodes.{expr_nodes, opt_nodes, target_nodes, counted, stmt_nodes, tree_nodes}
 use Rattle.c_ast.specs.declared.tree.Expr as expr_type
@@ -22,15 +19,14 @@ use Rattle.c_ast.specs.declared.tree.StmtKind as stmt_kind
 use Rattle.el_base.specs.declared.ty.Ty.{Ty}
 use Rattle.c_ast.specs.declared.tree.Binary.{Binary}
 use Rattle.c_ast.specs.declared.typed.TypedExpr.{TypedExpr}
-use Rattle.c_ast.specs.declared.typed.TypedExprKind.TheBlock.{shape-the_row-TypedExpr-0, hidden-the_row-TypedExpr-0, shape-the_row-TypedExpr-1, hidden-the_row-TypedExpr-1}
 use Rattle.c_ast.specs.declared.typed.TypedStmt.{TypedStmt}
-use Rattle.c_ast.specs.declared.typed.TypedStmtKind.TheBlock.{shape-the_row-TypedStmt-0, hidden-the_row-TypedStmt-0, shape-the_row-TypedStmt-1, hidden-the_row-TypedStmt-1}
 use Rattle.c_ast.specs.declared.typed.TypedStmtKind.TheVariants as stmt
 use Rattle.c_ast.specs.declared.typed.Typed.{Typed}
 use Rattle.c_meaning.specs.declared.profile.Profile.TheVariants.{Plain}
 use Rattle.c_meaning.specs.Statements.{Ends}
 use Rattle.c_meaning.proofs.Elaboration.{cast_tree}
 use Rattle.c_meaning.proofs.Build.{number_of, var_of, element_of, two_of, stmt_of, to_var, to_element, array_named, array_of_named, kernel, inputs, here}
+use Rattle.c_meaning.proofs.TreeRows.{expr_rows, stmt_rows, typed_rows}
 
 abbrev v : ℕ → TypedExpr
 v i = var_of I32 i
@@ -51,8 +47,7 @@ product = kernel None (array_named (codes "a") I32 square ∷ array_named (codes
     ∷ stmt_of (stmt.Assign (to_element 2 (v 0 ∷ v 1 ∷ [])) None (v 2)) ∷ [])))) ∷ [])
 
 product_ends : Ends product Plain (inputs ([]) ((pos 1 ∷ pos 2 ∷ pos 3 ∷ pos 4 ∷ pos 5 ∷ pos 6 ∷ pos 7 ∷ pos 8 ∷ pos 9 ∷ pos 10 ∷ pos 11 ∷ pos 12 ∷ pos 13 ∷ pos 14 ∷ pos 15 ∷ pos 16 ∷ []) ∷ (pos 1 ∷ pos 1 ∷ pos 1 ∷ pos 1 ∷ pos 1 ∷ pos 1 ∷ pos 1 ∷ pos 1 ∷ pos 1 ∷ pos 1 ∷ pos 1 ∷ pos 1 ∷ pos 1 ∷ pos 1 ∷ pos 1 ∷ pos 1 ∷ []) ∷ (pos 0 ∷ pos 0 ∷ pos 0 ∷ pos 0 ∷ pos 0 ∷ pos 0 ∷ pos 0 ∷ pos 0 ∷ pos 0 ∷ pos 0 ∷ pos 0 ∷ pos 0 ∷ pos 0 ∷ pos 0 ∷ pos 0 ∷ pos 0 ∷ []) ∷ [])) ((pos 1 ∷ pos 2 ∷ pos 3 ∷ pos 4 ∷ pos 5 ∷ pos 6 ∷ pos 7 ∷ pos 8 ∷ pos 9 ∷ pos 10 ∷ pos 11 ∷ pos 12 ∷ pos 13 ∷ pos 14 ∷ pos 15 ∷ pos 16 ∷ []) ∷ (pos 1 ∷ pos 1 ∷ pos 1 ∷ pos 1 ∷ pos 1 ∷ pos 1 ∷ pos 1 ∷ pos 1 ∷ pos 1 ∷ pos 1 ∷ pos 1 ∷ pos 1 ∷ pos 1 ∷ pos 1 ∷ pos 1 ∷ pos 1 ∷ []) ∷ (pos 10 ∷ pos 10 ∷ pos 10 ∷ pos 10 ∷ pos 26 ∷ pos 26 ∷ pos 26 ∷ pos 26 ∷ pos 42 ∷ pos 42 ∷ pos 42 ∷ pos 42 ∷ pos 58 ∷ pos 58 ∷ pos 58 ∷ pos 58 ∷ []) ∷ []) (None) 344
-unfolding shape-the_row-TypedExpr-0 hidden-the_row-TypedExpr-0 shape-the_row-TypedExpr-1 hidden-the_row-TypedExpr-1 shape-the_row-TypedStmt-0 hidden-the_row-TypedStmt-0 shape-the_row-TypedStmt-1 hidden-the_row-TypedStmt-1 hidden
-product_ends = record { bound = 344; all_turns = refl; arrays = refl; result = refl }
+product_ends = unfold typed_rows in record { bound = 344; all_turns = refl; arrays = refl; result = refl }
 
 -- ---- the tree
 
@@ -99,8 +94,7 @@ product_tree = record {
 
 -- the typed tree above is that of this tree
 product_is : cast_tree product_tree ≡ product
-unfolding shape-the_row-Expr-0 hidden-the_row-Expr-0 shape-the_row-Expr-1 hidden-the_row-Expr-1 shape-the_row-Stmt-0 hidden-the_row-Stmt-0 shape-the_row-Stmt-1 hidden-the_row-Stmt-1 shape-the_row-TypedExpr-0 hidden-the_row-TypedExpr-0 shape-the_row-TypedExpr-1 hidden-the_row-TypedExpr-1 shape-the_row-TypedStmt-0 hidden-the_row-TypedStmt-0 shape-the_row-TypedStmt-1 hidden-the_row-TypedStmt-1 hidden
-product_is = refl
+product_is = unfold expr_rows stmt_rows typed_rows in refl
 
 -- ---- its nodes
 

@@ -62,6 +62,7 @@ pub fn costs_are_one()
 {}
 
 /// A statement of a normal form that is over within some turns counts the same jumps and the same price within more.
+#[tactic(auto, using(crate::proofs::CountGrowth::statement_steady))]
 pub fn larger_bounds_keep_costs()
     ensures { StatementsKeepCosts }
 {}
@@ -125,6 +126,7 @@ pub fn conversions_keep_patterns()
 }
 
 /// An expression means what is made of the meanings of its parts.
+#[tactic(auto, using(crate::proofs::TreeEquations::meanings_of_parts))]
 pub fn expressions_mean_their_parts()
     ensures number { (n : ℕ) → MeansBy (expr.Number n) (λ k. part.Number n) }
     ensures variable { (v : ℕ) → MeansBy (expr.Var v) (λ k. part.Var v) }
@@ -141,6 +143,7 @@ pub fn expressions_mean_their_parts()
 {}
 
 /// A statement runs as what is made of the runs of its parts.
+#[tactic(auto, using(crate::proofs::TreeEquations::runs_of_parts))]
 pub fn statements_run_their_parts()
     ensures block { (ss : List TypedStmt) → RunsBy (stmt.Block ss) (λ k. a_block (map (act k) ss)) }
     ensures declaration { (v : ℕ) (e : Option TypedExpr)
@@ -168,6 +171,7 @@ pub fn statements_run_their_parts()
 {}
 
 /// The same of a statement of a normal form.
+#[tactic(auto, using(crate::proofs::TreeEquations::normal_runs_of_parts))]
 pub fn normal_statements_run_their_parts()
     ensures block { (ss : List NormalStmt)
         → NormalRunsBy (normal.Block ss) (λ k. a_block (map (normal_act k) ss)) }

@@ -20,6 +20,7 @@ ghost use Rattle.c_meaning.specs.Sizes.{closes, steps, expr_reads, option_reads,
 ghost use Rattle.c_meaning.specs.PartLaws.{IfAny, LawfulAt, LawfulNormalAt, QuietAt, IsEmptyWithout, vars_if_any, normal_vars_if_any, sizes, blocks_of, steps_of, accesses_of, blocks_if_any, blocks_of_step, steps_if_any, accesses_if_any, reading, LawfulBy, LawfulStmtBy, LawfulNormalBy, ReadsNoneBy, ReadsOutsideBy, QuietBy, VarsBy, NormalVarsBy, PriceBy, CountsBy, SizesBy, ReadingBy};
 
 /// What is lawful of an expression, by its parts.
+#[tactic(auto, unfolding(crate::proofs::TreeRows::typed_rows))]
 pub fn lawful_expressions_have_lawful_parts()
     ensures number { (n : ℕ) → LawfulBy (expr.Number n) (λ k t. IsInRange t (pos n)) }
     ensures variable { (v : ℕ) → LawfulBy (expr.Var v) (λ k t. IsVar k v t) }
@@ -41,6 +42,7 @@ pub fn lawful_expressions_have_lawful_parts()
 {}
 
 /// What is lawful of a statement, by its parts.
+#[tactic(auto, unfolding(crate::proofs::TreeRows::typed_rows))]
 pub fn lawful_statements_have_lawful_parts()
     ensures block { (ss : List TypedStmt)
         → LawfulStmtBy (stmt.Block ss) (λ k r l. All (LawfulAt k r l) ss) }
@@ -105,6 +107,7 @@ pub fn lawful_normal_statements_have_lawful_parts()
 {}
 
 /// Where an expression reads no array, by its parts.
+#[tactic(auto, unfolding(crate::proofs::TreeRows::typed_rows))]
 pub fn reads_are_those_of_parts()
     ensures number { (n : ℕ) → ReadsNoneBy (expr.Number n) (Unit {0}) }
     ensures variable { (v : ℕ) → ReadsNoneBy (expr.Var v) (Unit {0}) }
@@ -120,6 +123,7 @@ pub fn reads_are_those_of_parts()
 {}
 
 /// Where an expression reads arrays only outside of sides, by its parts.
+#[tactic(auto, unfolding(crate::proofs::TreeRows::typed_rows))]
 pub fn reads_stand_outside_of_sides()
     ensures number { (n : ℕ) → ReadsOutsideBy (expr.Number n) (Unit {0}) }
     ensures variable { (v : ℕ) → ReadsOutsideBy (expr.Var v) (Unit {0}) }
@@ -161,6 +165,7 @@ pub fn returns_are_those_of_parts()
 {}
 
 /// The variables that a statement declares or assigns to, by its parts.
+#[tactic(auto, using(crate::proofs::PartsOfNumbers::vars_of_parts))]
 pub fn variables_are_those_of_parts()
     ensures block { (ss : List TypedStmt) → VarsBy (stmt.Block ss) (all_vars ss) }
     ensures declaration { (v : ℕ) (e : Option TypedExpr) → VarsBy (stmt.Declare v e) (v ∷ []) }
@@ -183,6 +188,7 @@ pub fn variables_are_those_of_parts()
 {}
 
 /// The same of a statement of a normal form.
+#[tactic(auto, using(crate::proofs::PartsOfNumbers::normal_vars_of_parts))]
 pub fn normal_variables_are_those_of_parts()
     ensures block { (ss : List NormalStmt) → NormalVarsBy (normal.Block ss) (all_normal_vars ss) }
     ensures declaration { (v : ℕ) (e : Option TypedExpr)
@@ -207,6 +213,7 @@ pub fn normal_variables_are_those_of_parts()
 {}
 
 /// The price of an expression, by those of its parts.
+#[tactic(auto, using(crate::proofs::PartsOfNumbers::prices_of_parts))]
 pub fn prices_are_those_of_parts()
     ensures number { (n : ℕ) → PriceBy (expr.Number n) 1 }
     ensures variable { (v : ℕ) → PriceBy (expr.Var v) 1 }
@@ -222,6 +229,7 @@ pub fn prices_are_those_of_parts()
 {}
 
 /// What a statement of a normal form counts, by what its parts count.
+#[tactic(auto, using(crate::proofs::PartsOfNumbers::counts_of_parts))]
 pub fn counts_are_those_of_parts()
     ensures block { (ss : List NormalStmt)
         → CountsBy (normal.Block ss) (λ k. part.Block (map (counted k) ss)) }
@@ -248,6 +256,7 @@ pub fn counts_are_those_of_parts()
 {}
 
 /// The sizes of a statement of a normal form, by those of its parts.
+#[tactic(auto, using(crate::proofs::PartsOfSizes::sizes_of_parts))]
 pub fn sizes_are_those_of_parts()
     ensures block { (ss : List NormalStmt)
         → SizesBy (normal.Block ss) (sizes (blocks_of ss) (steps_of ss) (accesses_of ss)) }
@@ -284,6 +293,7 @@ pub fn sizes_are_those_of_parts()
 {}
 
 /// How many elements an expression reads, and which variables, by its parts.
+#[tactic(auto, using(crate::proofs::PartsOfSizes::readings_of_parts))]
 pub fn readings_are_those_of_parts()
     ensures number { (n : ℕ) → ReadingBy (expr.Number n) (reading 0 []) }
     ensures variable { (v : ℕ) → ReadingBy (expr.Var v) (reading 0 (v ∷ [])) }

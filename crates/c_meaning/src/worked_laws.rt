@@ -6,6 +6,7 @@ ghost use Rattle.c_meaning.specs.Worked.{ShiftCosts, RightShiftCosts, SumCosts, 
 ghost use Rattle.c_meaning.specs.Worked.{StackedCasts, ReadInASide, ReadInASecondPart, ReadInAThirdPart, ReadInAFirstPart, BeforeNothing, ReturnBefore, ReturnBeforeDo, ReturnBeforeFor, BreakOutside, NormalBreakOutside};
 
 /// The order of evaluation: which operation of an expression or statement is the first undefined one.
+#[tactic(auto, unfolding(crate::proofs::TreeRows::typed_rows))]
 pub fn operations_are_ordered()
     ensures left_operand { LeftOperandFirst }
     ensures right_operand { RightOperandNext }

@@ -1,13 +1,8 @@
 use Rattle.std.proofs.Common.{arith, ap}
 use Rattle.c_calls.specs.Counts.{inlined_list_nodes}
 use Rattle.c_inline.specs.Code.{stmt_nodes}
-use Rattle.c_inline.proofs.CountParts.{if_counted, stmt_for}
+use Rattle.c_inline.proofs.CountParts.{stmt_for}
 use Rattle.c_inline.proofs.count.+stmts.Goals as goal
-
-pub of_stmt-returns-in-If : goal.of_stmt-returns-in-If
-of_stmt-returns-in-If t c =
-    if_counted c.args.blocks.now c.args.stmt.now _ _ _ _ _ _ c.in-If.is c.behind.ensures c.calls.ensures
-    (omega (arith, ap (stmt_nodes c.args.blocks.now) c.get.ensures, c.rest.ensures, c.of_stmt.ensures, c.of_held.ensures, c.saturating_add-in-If.ensures, c.saturating_add-in-If-2.ensures, c.saturating_add-own.ensures))
 
 pub of_stmt-returns-in-For : goal.of_stmt-returns-in-For
 of_stmt-returns-in-For t c =

@@ -1,18 +1,11 @@
-use Rattle.c_meaning.proofs.PartsOfLawful.{stmt_block, stmt_declaration, stmt_assignment, stmt_stepping, stmt_choice, stmt_while_loop, stmt_do_loop, stmt_for_loop, stmt_leaving, stmt_continuing, stmt_returning, stmt_empty}
+use Rattle.c_meaning.proofs.PartsOfLawful.{stmt_block, stmt_choice, stmt_for_loop}
 use Rattle.c_meaning.proofs.part_laws.lawful_statements_have_lawful_parts.Goals as goal
 
-pub returns : goal.returns
-returns c = record {
-  block = stmt_block;
-  declaration = stmt_declaration;
-  assignment = stmt_assignment;
-  stepping = stmt_stepping;
-  choice = stmt_choice;
-  while_loop = stmt_while_loop;
-  do_loop = stmt_do_loop;
-  for_loop = stmt_for_loop;
-  leaving = stmt_leaving;
-  continuing = stmt_continuing;
-  returning = stmt_returning;
-  empty = stmt_empty;
-}
+pub returns-clause-block : goal.returns-clause-block
+returns-clause-block c = stmt_block
+
+pub returns-clause-choice : goal.returns-clause-choice
+returns-clause-choice c = stmt_choice
+
+pub returns-clause-for_loop : goal.returns-clause-for_loop
+returns-clause-for_loop c = stmt_for_loop

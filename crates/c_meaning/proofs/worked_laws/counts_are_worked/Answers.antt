@@ -1,23 +1,25 @@
-use Rattle.c_meaning.proofs.WorkedCosts.{shift_costs, right_shift_costs, sum_costs, both_costs, either_costs, choice_costs, cast_costs, element_costs, target_costs, declaration_costs, if_costs, for_costs, do_costs, break_costs, continue_costs, absent_condition_costs, return_costs}
+use Rattle.std.proofs.Common.{refl}
+use Rattle.c_meaning.proofs.TreeRows.{all_rows}
 use Rattle.c_meaning.proofs.worked_laws.counts_are_worked.Goals as goal
 
 pub returns : goal.returns
+unfolding all_rows
 returns c = record {
-  left_shift = shift_costs;
-  right_shift = right_shift_costs;
-  sum = sum_costs;
-  both = both_costs;
-  either = either_costs;
-  choice = choice_costs;
-  cast = cast_costs;
-  element = element_costs;
-  target = target_costs;
-  declaration = declaration_costs;
-  if_statement = if_costs;
-  for_loop = for_costs;
-  do_loop = do_costs;
-  leaving = break_costs;
-  continuing = continue_costs;
-  absent_condition = absent_condition_costs;
-  returning = return_costs;
+  left_shift = record { bound = 30; over = tt; all_jumps = refl; whole_price = refl };
+  right_shift = record { bound = 30; over = tt; all_jumps = refl; whole_price = refl };
+  sum = record { bound = 30; over = tt; all_jumps = refl; whole_price = refl };
+  both = record { bound = 30; over = tt; all_jumps = refl; whole_price = refl };
+  either = record { bound = 30; over = tt; all_jumps = refl; whole_price = refl };
+  choice = record { bound = 30; over = tt; all_jumps = refl; whole_price = refl };
+  cast = record { bound = 30; over = tt; all_jumps = refl; whole_price = refl };
+  element = record { bound = 30; over = tt; all_jumps = refl; whole_price = refl };
+  target = record { bound = 30; over = tt; all_jumps = refl; whole_price = refl };
+  declaration = record { bound = 30; over = tt; all_jumps = refl; whole_price = refl };
+  if_statement = record { bound = 30; over = tt; all_jumps = refl; whole_price = refl };
+  for_loop = record { bound = 30; over = tt; all_jumps = refl; whole_price = refl };
+  do_loop = record { bound = 30; over = tt; all_jumps = refl; whole_price = refl };
+  leaving = record { bound = 30; over = tt; all_jumps = refl; whole_price = refl };
+  continuing = record { bound = 30; over = tt; all_jumps = refl; whole_price = refl };
+  absent_condition = record { bound = 30; over = tt; all_jumps = refl; whole_price = refl };
+  returning = record { bound = 30; over = tt; all_jumps = refl; whole_price = refl };
 }
