@@ -1,27 +1,156 @@
--- Expansions, call by call: what each call made joins to what the whole makes.
-use Rattle.std.proofs.Common.{◌≡◌, ℕ, ◌+◌, ◌≤◌, ◌<◌, List, [], ◌∷◌, ◌++◌, length, get_or, drop, refl, sym, ◌∙◌, ap, subst, arith, append_assoc, append-nil, length-append}
-use Rattle.std.specs.Prelude.{sum_by, Bool, true, false, ◌&&◌, ◌==◌, Option, Some, None}
-use Rattle.std.proofs.lemmas.List.{drop_all}
+-- Expansions by their parts and call by call: what each call made joins to what the whole makes.
+use Rattle.std.proofs.Common.{◌≡◌, ℕ, ◌+◌, ◌≤◌, List, [], ◌∷◌, ◌++◌, length, refl, sym, ◌∙◌, ap, arith, ◌<◌, get_or, drop, subst, append_assoc, append-nil, length-append}
+use Rattle.std.specs.Prelude.{Bool, true, false, ◌==◌, Option, Some, None, sum_by, ◌&&◌}
 use Rattle.std.proofs.lemmas.Bool.{ne_eqb, eqb-true}
-use Rattle.std.proofs.lemmas.List.Sums.{sum_by-drop_more}
 use Rattle.el_base.specs.declared.span.Span.{Span}
 use Rattle.el_base.specs.declared.ty.Ty.{Ty}
-use Rattle.el_base.specs.declared.ty.Ty.TheVariants.{I32}
+use denote.Hole.Carrier.{hidden}
 use Rattle.c_ast.specs.declared.tree.Unary.{Unary}
 use Rattle.c_ast.specs.declared.tree.Binary.{Binary}
 use Rattle.c_ast.specs.declared.typed.TypedExpr.{TypedExpr}
-use Rattle.c_ast.specs.declared.typed.TypedExprKind.{TypedExprKind}
 use Rattle.c_ast.specs.declared.typed.TypedExprKind.TheVariants as expr
-use Rattle.c_ast.specs.declared.normal.NormalStmt.{NormalStmt}
+use Rattle.c_ast.specs.declared.typed.TypedExprKind.TheBlock.{shape-the_row-TypedExpr-0, hidden-the_row-TypedExpr-0, shape-the_row-TypedExpr-1, hidden-the_row-TypedExpr-1}
+use Rattle.c_ast.specs.declared.typed.TypedExprKind.{TypedExprKind, end_of-TypedExpr, more_of-TypedExpr}
+use Rattle.c_ast.specs.declared.typed.TypedExprKind as tree
 use Rattle.c_ast.specs.Casts.{of_type}
-use Rattle.c_ast.specs.Nodes.{typed_expr_nodes, typed_exprs_nodes}
+use Rattle.c_ast.specs.Nodes.{typed_kind_nodes, typed_expr_nodes, typed_exprs_nodes}
+use Rattle.c_ast.proofs.TypedNodeEquations.{typed_element, typed_unary, typed_implied, typed_written, typed_binary, typed_choice}
 use Rattle.c_meaning.specs.Sizes.{reads}
+use Rattle.c_norm.specs.Expand.{Out, Outs, whole, decided_by, joined_out, binary_out, choose_out, expand, expand_row, expand_expr, expand_all, setting, side, choice, logical, logical_out, rest_of, set_all}
+use Rattle.std.proofs.lemmas.List.{drop_all}
+use Rattle.std.proofs.lemmas.List.Sums.{sum_by-drop_more}
+use Rattle.el_base.specs.declared.ty.Ty.TheVariants.{I32}
+use Rattle.c_ast.specs.declared.normal.NormalStmt.{NormalStmt}
 use Rattle.c_meaning.proofs.ListParts.{longer, behind, from_place}
-use Rattle.c_norm.specs.Expand.{Out, Outs, whole, setting, side, choice, decided_by, logical, joined_out, logical_out, binary_out, choose_out, expand, expand_expr, rest_of, expand_all, set_all}
 use Rattle.c_norm.specs.Code.{HasRoom, IsOut, AreOut, IsExpanded, GoesOn, set_out}
 use Rattle.c_norm.specs.declared.expand.Rest.{Rest}
 use Rattle.c_norm.proofs.SizedExprs.{sized, all_sized, set_sized}
-use Rattle.c_norm.proofs.Parts.{reads_element, reads_unary, reads_cast, reads_binary, reads_choice, element_out, unary_out, cast_out, expand_element, expand_unary, expand_cast, expand_binary, expand_choice, plain_whole}
+
+-- ---- nodes
+
+pub nodes_element : (e : TypedExpr) (a : ℕ) (es : List TypedExpr) → e.kind ≡ expr.Element a es → typed_expr_nodes e ≡ 1 + typed_exprs_nodes es
+nodes_element e a es is = ap typed_kind_nodes is ∙ typed_element a es
+
+pub nodes_unary : (e : TypedExpr) (op : Unary) (x : TypedExpr) → e.kind ≡ expr.Unary op x → typed_expr_nodes e ≡ 1 + typed_expr_nodes x
+nodes_unary e op x is = ap typed_kind_nodes is ∙ typed_unary op x
+
+cast_count : (implied : Bool) (x : TypedExpr) → typed_expr_nodes x ≤ typed_kind_nodes (expr.Cast implied x)
+cast_count true x = omega (arith, typed_implied x)
+cast_count false x = omega (arith, typed_written x)
+
+-- a cast that is implied is no node
+pub nodes_cast : (e : TypedExpr) (implied : Bool) (x : TypedExpr) → e.kind ≡ expr.Cast implied x → typed_expr_nodes x ≤ typed_expr_nodes e
+nodes_cast e implied x is = omega (arith, ap typed_kind_nodes is, cast_count implied x)
+
+pub nodes_binary : (e : TypedExpr) (op : Binary) (x y : TypedExpr) → e.kind ≡ expr.Binary op x y → typed_expr_nodes e ≡ 1 + typed_expr_nodes x + typed_expr_nodes y
+nodes_binary e op x y is = ap typed_kind_nodes is ∙ typed_binary op x y
+
+pub nodes_choice : (e : TypedExpr) (x y z : TypedExpr) → e.kind ≡ expr.Choose x y z → typed_expr_nodes e ≡ 1 + typed_expr_nodes x + typed_expr_nodes y + typed_expr_nodes z
+nodes_choice e x y z is = ap typed_kind_nodes is ∙ typed_choice x y z
+
+-- ---- what reads no array
+
+reads_by : (e : TypedExpr) (k : TypedExprKind) (n : ℕ) → e.kind ≡ k → reads k ≡ n → (reads e.kind == 0) ≡ (n == 0)
+reads_by e k n is h = ap (λ x. reads x == 0) is ∙ ap (λ x. x == 0) h
+
+pub reads_element : (e : TypedExpr) (a : ℕ) (es : List TypedExpr) → e.kind ≡ expr.Element a es → false ≡ (reads e.kind == 0)
+unfolding shape-the_row-TypedExpr-0 hidden-the_row-TypedExpr-0 shape-the_row-TypedExpr-1 hidden-the_row-TypedExpr-1 hidden
+reads_element e a es is = sym (ne_eqb (reads e.kind) 0 (λ z. omega (arith, z, ap reads is)))
+
+pub reads_binary : (e : TypedExpr) (op : Binary) (x y : TypedExpr) → e.kind ≡ expr.Binary op x y → (reads x.kind + reads y.kind == 0) ≡ (reads e.kind == 0)
+unfolding shape-the_row-TypedExpr-0 hidden-the_row-TypedExpr-0 shape-the_row-TypedExpr-1 hidden-the_row-TypedExpr-1 hidden
+reads_binary e op x y is = sym (reads_by e (expr.Binary op x y) (reads x.kind + reads y.kind) is refl)
+
+pub reads_choice : (e : TypedExpr) (x y z : TypedExpr) → e.kind ≡ expr.Choose x y z → (reads x.kind + reads y.kind + reads z.kind == 0) ≡ (reads e.kind == 0)
+unfolding shape-the_row-TypedExpr-0 hidden-the_row-TypedExpr-0 shape-the_row-TypedExpr-1 hidden-the_row-TypedExpr-1 hidden
+reads_choice e x y z is = sym (reads_by e (expr.Choose x y z) (reads x.kind + reads y.kind + reads z.kind) is refl)
+
+-- ---- expansions
+
+abbrev pub element_out : ℕ → Outs → Out
+element_out a o = record { before = o.before; kind = expr.Element a o.exprs; types = o.types }
+
+abbrev pub unary_out : Unary → Ty → Span → Out → Out
+unary_out op t at o = record { before = o.before; kind = expr.Unary op (of_type o.kind t at); types = o.types }
+
+abbrev pub cast_out : Bool → Ty → Span → Out → Out
+cast_out implied t at o = record { before = o.before; kind = expr.Cast implied (of_type o.kind t at); types = o.types }
+
+row_all : (f : ℕ) (es : List TypedExpr) → expand_row f (hidden-the_row-TypedExpr-0 es) ≡ expand_all f es
+unfolding shape-the_row-TypedExpr-0 hidden-the_row-TypedExpr-0 shape-the_row-TypedExpr-1 hidden-the_row-TypedExpr-1 hidden
+row_all f [] = refl
+row_all f (e ∷ es) =
+    let o = expand_expr f e in
+    ap (λ r. record { before = o.before ++ r.before; exprs = of_type o.kind e.ty e.at ∷ r.exprs; types = o.types ++ r.types }) (row_all (f + length o.types) es)
+
+pub expand_element : (f : ℕ) (e : TypedExpr) (a : ℕ) (es : List TypedExpr) → e.kind ≡ expr.Element a es → expand_expr f e ≡ element_out a (expand_all f es)
+unfolding shape-the_row-TypedExpr-0 hidden-the_row-TypedExpr-0 shape-the_row-TypedExpr-1 hidden-the_row-TypedExpr-1 hidden
+expand_element f e a es is = ap (λ k. expand f k e.ty e.at) is ∙ ap (element_out a) (row_all f es)
+
+abbrev pub two_out : ℕ → Binary → TypedExpr → TypedExpr → Span → Out
+two_out f op x y s =
+    let o = expand_expr f x in
+    let g = f + length o.types in
+    let o2 = expand_expr g y in
+    binary_out (decided_by op) (reads x.kind + reads y.kind == 0) (expr.Binary op x y) op (g + length o2.types) o x.ty x.at o2 y.ty y.at s
+
+pub expand_binary : (f : ℕ) (e : TypedExpr) (op : Binary) (x y : TypedExpr) → e.kind ≡ expr.Binary op x y → expand_expr f e ≡ two_out f op x y e.at
+unfolding shape-the_row-TypedExpr-0 hidden-the_row-TypedExpr-0 shape-the_row-TypedExpr-1 hidden-the_row-TypedExpr-1 hidden
+expand_binary f e op x y is = ap (λ k. expand f k e.ty e.at) is
+
+abbrev pub three_out : ℕ → TypedExpr → TypedExpr → TypedExpr → Ty → Span → Out
+three_out f x y z ty s =
+    let o = expand_expr f x in
+    let g = f + length o.types in
+    let o2 = expand_expr g y in
+    let h = g + length o2.types in
+    let o3 = expand_expr h z in
+    choose_out (reads y.kind + reads z.kind == 0) y z (h + length o3.types) o x.ty x.at o2 y.ty y.at o3 z.ty z.at ty s
+
+pub expand_choice : (f : ℕ) (e x y z : TypedExpr) → e.kind ≡ expr.Choose x y z → expand_expr f e ≡ three_out f x y z e.ty e.at
+unfolding shape-the_row-TypedExpr-0 hidden-the_row-TypedExpr-0 shape-the_row-TypedExpr-1 hidden-the_row-TypedExpr-1 hidden
+expand_choice f e x y z is = ap (λ k. expand f k e.ty e.at) is
+
+-- ---- what reads no array stays whole
+
+zero_test : (n : ℕ) → n ≡ 0 → (n == 0) ≡ true
+zero_test n h = ap (λ i. i == 0) h
+
+plain_two : (d : Option Bool) (plain : Bool) (kind : TypedExprKind) (op : Binary) (v : ℕ) (o o2 : Out) (t t2 : Ty) (at at2 s : Span) → plain ≡ true → joined_out op o t at o2 t2 at2 ≡ whole kind → binary_out d plain kind op v o t at o2 t2 at2 s ≡ whole kind
+plain_two None plain kind op v o o2 t t2 at at2 s h e = e
+plain_two (Some d) true kind op v o o2 t t2 at at2 s h e = refl
+plain_two (Some d) false kind op v o o2 t t2 at at2 s h e = absurd (cc)
+
+plain_three : (plain : Bool) (x y : TypedExpr) (kind : TypedExprKind) (v : ℕ) (o o2 o3 : Out) (t t2 t3 ty : Ty) (at at2 at3 s : Span) → plain ≡ true → record { before = o.before; kind = expr.Choose (of_type o.kind t at) x y; types = o.types } ≡ whole kind
+    → choose_out plain x y v o t at o2 t2 at2 o3 t3 at3 ty s ≡ whole kind
+plain_three true x y kind v o o2 o3 t t2 t3 ty at at2 at3 s h e = e
+plain_three false x y kind v o o2 o3 t t2 t3 ty at at2 at3 s h e = absurd (cc)
+
+plain_kind : (f : ℕ) (e : TypedExprKind) (ty : Ty) (s : Span) → reads e ≡ 0 → expand f e ty s ≡ whole e
+unfolding shape-the_row-TypedExpr-0 hidden-the_row-TypedExpr-0 shape-the_row-TypedExpr-1 hidden-the_row-TypedExpr-1 hidden
+plain_kind f (tree.Number n) ty s h = refl
+plain_kind f (tree.Var v) ty s h = refl
+plain_kind f (tree.Element' a n row) ty s h = absurd (omega (arith, h))
+plain_kind f (tree.Unary' op b (more_of-TypedExpr e t at end_of-TypedExpr)) ty s h = ap (unary_out op t at) (plain_kind f e t at h)
+plain_kind f (tree.Cast' implied b (more_of-TypedExpr e t at end_of-TypedExpr)) ty s h = ap (cast_out implied t at) (plain_kind f e t at h)
+plain_kind f (tree.Binary' op b (more_of-TypedExpr e t at end_of-TypedExpr) b2 (more_of-TypedExpr e2 t2 at2 end_of-TypedExpr)) ty s h =
+    let o = expand f e t at in
+    let g = f + length o.types in
+    let o2 = expand g e2 t2 at2 in
+    plain_two (decided_by op) (reads e + reads e2 == 0) (tree.Binary' op b (more_of-TypedExpr e t at end_of-TypedExpr) b2 (more_of-TypedExpr e2 t2 at2 end_of-TypedExpr)) op (g + length o2.types) o o2 t t2 at at2 s (zero_test (reads e + reads e2) h)
+    (ap (λ x. joined_out op x t at o2 t2 at2) (plain_kind f e t at (omega (arith, h))) ∙ ap (λ x. joined_out op (whole e) t at x t2 at2) (plain_kind g e2 t2 at2 (omega (arith, h))))
+plain_kind f (tree.Choose' b (more_of-TypedExpr e t at end_of-TypedExpr) b2 (more_of-TypedExpr e2 t2 at2 end_of-TypedExpr) b3 (more_of-TypedExpr e3 t3 at3 end_of-TypedExpr)) ty s h =
+    let o = expand f e t at in
+    let g = f + length o.types in
+    let o2 = expand g e2 t2 at2 in
+    let i = g + length o2.types in
+    let o3 = expand i e3 t3 at3 in
+    plain_three (reads e2 + reads e3 == 0) (of_type e2 t2 at2) (of_type e3 t3 at3) (tree.Choose' b (more_of-TypedExpr e t at end_of-TypedExpr) b2 (more_of-TypedExpr e2 t2 at2 end_of-TypedExpr) b3 (more_of-TypedExpr e3 t3 at3 end_of-TypedExpr)) (i + length o3.types) o o2 o3 t t2 t3 ty at at2 at3 s
+    (zero_test (reads e2 + reads e3) (omega (arith, h)))
+    (ap (λ (x : Out). record { before = x.before; kind = expr.Choose (of_type x.kind t at) (of_type e2 t2 at2) (of_type e3 t3 at3); types = x.types }) (plain_kind f e t at (omega (arith, h))))
+
+pub plain_whole : (f : ℕ) (e : TypedExpr) → reads e.kind ≡ 0 → expand_expr f e ≡ whole e.kind
+plain_whole f e h = plain_kind f e.kind e.ty e.at h
 
 -- ---- few variables are made
 
@@ -77,23 +206,25 @@ element_arm e a es xs b v b2 v2 is h = record {
 }
 
 pub unary_arm : (e : TypedExpr) (op : Unary) (x y : TypedExpr) (q : Bool) (b : List NormalStmt) (v : List Ty) (b2 : List NormalStmt) (v2 : List Ty) → e.kind ≡ expr.Unary op x → IsExpanded x b v b2 v2 y q → IsExpanded e b v b2 v2 (of_type (expr.Unary op y) e.ty e.at) q
+unfolding shape-the_row-TypedExpr-0 hidden-the_row-TypedExpr-0 shape-the_row-TypedExpr-1 hidden-the_row-TypedExpr-1 hidden
 unary_arm e op x y q b v b2 v2 is h = record {
-  out = as_out (expand_expr (length v) e) (unary_out op x.ty x.at (expand_expr (length v) x)) e.ty e.at b v b2 v2 (of_type (expr.Unary op y) e.ty e.at) (expand_unary (length v) e op x is) (record {
+  out = as_out (expand_expr (length v) e) (unary_out op x.ty x.at (expand_expr (length v) x)) e.ty e.at b v b2 v2 (of_type (expr.Unary op y) e.ty e.at) (ap (λ k. expand (length v) k e.ty e.at) is) (record {
     rest = ap (λ z. of_type (expr.Unary op z) e.ty e.at) h.out.rest;
     set = h.out.set;
     made = h.out.made;
   });
-  plain = h.plain ∙ reads_unary e op x is;
+  plain = h.plain ∙ sym (ap (λ k. reads k == 0) is);
 }
 
 pub cast_arm : (e : TypedExpr) (implied : Bool) (x y : TypedExpr) (q : Bool) (b : List NormalStmt) (v : List Ty) (b2 : List NormalStmt) (v2 : List Ty) → e.kind ≡ expr.Cast implied x → IsExpanded x b v b2 v2 y q → IsExpanded e b v b2 v2 (of_type (expr.Cast implied y) e.ty e.at) q
+unfolding shape-the_row-TypedExpr-0 hidden-the_row-TypedExpr-0 shape-the_row-TypedExpr-1 hidden-the_row-TypedExpr-1 hidden
 cast_arm e implied x y q b v b2 v2 is h = record {
-  out = as_out (expand_expr (length v) e) (cast_out implied x.ty x.at (expand_expr (length v) x)) e.ty e.at b v b2 v2 (of_type (expr.Cast implied y) e.ty e.at) (expand_cast (length v) e implied x is) (record {
+  out = as_out (expand_expr (length v) e) (cast_out implied x.ty x.at (expand_expr (length v) x)) e.ty e.at b v b2 v2 (of_type (expr.Cast implied y) e.ty e.at) (ap (λ k. expand (length v) k e.ty e.at) is) (record {
     rest = ap (λ z. of_type (expr.Cast implied z) e.ty e.at) h.out.rest;
     set = h.out.set;
     made = h.out.made;
   });
-  plain = h.plain ∙ reads_cast e implied x is;
+  plain = h.plain ∙ sym (ap (λ k. reads k == 0) is);
 }
 
 -- ---- two operands
@@ -162,8 +293,7 @@ logical_arm e op d x y x1 y1 p1 p2 b0 v0 b1 v1 i0 i1 v2 v3 b2 w s t is some h ie
     let e1 = expand_binary f e op x y is ∙ out_some (decided_by op) d (reads x.kind + reads y.kind == 0) (expr.Binary op x y) op u o o2 x.ty y.ty x.at y.at e.at some test in
     let number : w ≡ u = omega (arith, we, longer v1 v2 o2.types j.made, longer v0 v1 o.types h.out.made) in
     let inside : i1 ≡ o2.before = j.set ∙ ap (λ l. l ++ o2.before) ie in
-    let stmt : s ≡ logical d u (of_type o.kind x.ty x.at) o2.before (of_type o2.kind y.ty y.at) e.at =
-    se ∙ ap (λ n. logical d n x1 i1 y1 e.at) number ∙ ap (λ z. logical d u z i1 y1 e.at) h.out.rest ∙ ap (λ z. logical d u (of_type o.kind x.ty x.at) z y1 e.at) inside ∙ ap (λ z. logical d u (of_type o.kind x.ty x.at) o2.before z e.at) j.rest in
+    let stmt : s ≡ logical d u (of_type o.kind x.ty x.at) o2.before (of_type o2.kind y.ty y.at) e.at = se ∙ (λ q. logical d (number q) (h.out.rest q) (inside q) (j.rest q) e.at) in
     record {
       out = as_out (expand_expr f e) (logical_out d u o x.ty x.at o2 y.ty y.at e.at) e.ty e.at b0 v0 b2 v3 (of_type (expr.Var w) e.ty e.at) e1 (record {
         rest = ap (λ n. of_type (expr.Var n) e.ty e.at) number;
@@ -232,10 +362,8 @@ choice_arm e x y z x1 y1 z1 p1 p2 p3 b0 v0 b1 v1 i0 i1 v2 j0 j1 v3 v4 b2 w is h 
     let inside2 : j1 ≡ o3.before = n.set ∙ ap (λ l. l ++ o3.before) je in
     let yes_side = side u o2.before (of_type o2.kind y.ty y.at) e.at in
     let no_side = side u o3.before (of_type o3.kind z.ty z.at) e.at in
-    let first : side w i1 y1 e.at ≡ yes_side = ap (λ n. side n i1 y1 e.at) number ∙ ap (λ l. side u l y1 e.at) inside ∙ ap (λ t. side u o2.before t e.at) m.rest in
-    let second : side w j1 z1 e.at ≡ no_side = ap (λ n. side n j1 z1 e.at) number ∙ ap (λ l. side u l z1 e.at) inside2 ∙ ap (λ t. side u o3.before t e.at) n.rest in
     let stmt : choice w x1 (side w i1 y1 e.at) (side w j1 z1 e.at) e.at ≡ choice u (of_type o.kind x.ty x.at) yes_side no_side e.at =
-    ap (λ t. choice 0 t (side w i1 y1 e.at) (side w j1 z1 e.at) e.at) h.out.rest ∙ ap (λ t. choice 0 (of_type o.kind x.ty x.at) t (side w j1 z1 e.at) e.at) first ∙ ap (λ t. choice 0 (of_type o.kind x.ty x.at) yes_side t e.at) second in
+    λ q. choice (number q) (h.out.rest q) (side (number q) (inside q) (m.rest q) e.at) (side (number q) (inside2 q) (n.rest q) e.at) e.at in
     record {
       out = as_out (expand_expr f e) (choose_out false y z u o x.ty x.at o2 y.ty y.at o3 z.ty z.at e.ty e.at) e.ty e.at b0 v0 b2 v4 (of_type (expr.Var w) e.ty e.at) e1 (record {
         rest = ap (λ n. of_type (expr.Var n) e.ty e.at) number;

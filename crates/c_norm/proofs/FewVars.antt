@@ -60,12 +60,7 @@ form_small k lawful =
     let listed = under-length (length k.vars) (all_vars k.body) in
     let scalars = scalar_few k.params in
     let l = length-append k.vars (body_form k).types in
-    record {
-      few_blocks = let b = h.blocks in omega arith;
-      few_steps = let s = h.steps in omega arith;
-      few_accesses = let a = h.accesses in omega arith;
-      few_vars = let b = h.blocks in omega arith;
-    }
+    omega arith
 
 -- ---- kernels that are accepted
 

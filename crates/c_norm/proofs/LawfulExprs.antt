@@ -12,7 +12,6 @@ use Rattle.el_base.specs.declared.ty.Ty.TheVariants.{I8, I32}
 use Rattle.el_base.specs.Numbers.{IsInRange}
 use Rattle.c_ast.specs.Casts.{of_type}
 use Rattle.c_ast.specs.ResultTypes.{joint_type}
-use Rattle.c_ast.specs.declared.tree.Unary.{Unary}
 use Rattle.c_ast.specs.declared.tree.Binary.{Binary}
 use Rattle.c_ast.specs.declared.tree.Binary.TheVariants.{Both, Either}
 use Rattle.c_ast.specs.declared.typed.Object.TheVariants as object
@@ -55,32 +54,6 @@ normal_vars_append (x ∷ xs) ys = ap (λ l. normal_vars_of x.kind ++ l) (normal
 pub sets_more : (f g h : ℕ) (xs : List NormalStmt) (x : NormalStmt) → Sets f g (all_normal_vars xs) → Sets g h (normal_vars_of x.kind) → Sets f h (all_normal_vars (xs ++ x ∷ []))
 sets_more f g h xs x s t v a b =
     subst (λ l. Contains l v) (sym (normal_vars_append xs (x ∷ []))) (sets_then f g h (all_normal_vars xs) (normal_vars_of x.kind ++ []) s (λ u c d. Contains-append_left (normal_vars_of x.kind) [] u (t u c d)) v a b)
-
--- ---- roots that are implied casts
-
-not_implied_var : (v : ℕ) → is_implied (expr.Var v) ≡ false
-unfolding shape-the_row-TypedExpr-0 hidden-the_row-TypedExpr-0 shape-the_row-TypedExpr-1 hidden-the_row-TypedExpr-1 hidden
-not_implied_var v = refl
-
-not_implied_element : (a : ℕ) (es : List TypedExpr) → is_implied (expr.Element a es) ≡ false
-unfolding shape-the_row-TypedExpr-0 hidden-the_row-TypedExpr-0 shape-the_row-TypedExpr-1 hidden-the_row-TypedExpr-1 hidden
-not_implied_element a es = refl
-
-not_implied_unary : (op : Unary) (e : TypedExpr) → is_implied (expr.Unary op e) ≡ false
-unfolding shape-the_row-TypedExpr-0 hidden-the_row-TypedExpr-0 shape-the_row-TypedExpr-1 hidden-the_row-TypedExpr-1 hidden
-not_implied_unary op e = refl
-
-implied_cast : (i : Bool) (e : TypedExpr) → is_implied (expr.Cast i e) ≡ i
-unfolding shape-the_row-TypedExpr-0 hidden-the_row-TypedExpr-0 shape-the_row-TypedExpr-1 hidden-the_row-TypedExpr-1 hidden
-implied_cast i e = refl
-
-not_implied_binary : (op : Binary) (a b : TypedExpr) → is_implied (expr.Binary op a b) ≡ false
-unfolding shape-the_row-TypedExpr-0 hidden-the_row-TypedExpr-0 shape-the_row-TypedExpr-1 hidden-the_row-TypedExpr-1 hidden
-not_implied_binary op a b = refl
-
-not_implied_choice : (c a b : TypedExpr) → is_implied (expr.Choose c a b) ≡ false
-unfolding shape-the_row-TypedExpr-0 hidden-the_row-TypedExpr-0 shape-the_row-TypedExpr-1 hidden-the_row-TypedExpr-1 hidden
-not_implied_choice c a b = refl
 
 -- ---- where arrays are read
 
@@ -225,6 +198,7 @@ module _ (k : Objects) (ws : List Ty) (own : (v : ℕ) (t : Ty) → IsVar k v t 
       subst (λ z. Contains z v) (sym (normal_vars_append xs ys)) (sets_then f (f + length ts) (f + length ts + length us) (all_normal_vars xs) (all_normal_vars ys) s t v a (omega arith))
 
   joined_lawful : (op : Binary) (f : ℕ) (e e2 kind : TypedExprKind) (t t2 ty : Ty) (at at2 : Span) (o o2 : Out) → decided_by op ≡ None → AreOperands op t t2 ty → LawfulOut f e t o → LawfulOut (f + length o.types) e2 t2 o2 → LawfulOut f kind ty (joined_out op o t at o2 t2 at2)
+  unfolding shape-the_row-TypedExpr-0 hidden-the_row-TypedExpr-0 shape-the_row-TypedExpr-1 hidden-the_row-TypedExpr-1 hidden
   joined_lawful op f e e2 kind t t2 ty at at2 o o2 d ops h i =
       let a = of_type o.kind t at in
       let b = of_type o2.kind t2 at2 in
@@ -233,12 +207,13 @@ module _ (k : Objects) (ws : List Ty) (own : (v : ℕ) (t : Ty) → IsVar k v t 
         sets = append_sets f o.types o2.types o.before o2.before h.sets i.sets;
         lawful = (lawful_binary op a b k2 ty).1 (ops, h.lawful, i.lawful);
         outside = (outside_binary op a b).1 (sides_free op o.kind o2.kind d, h.outside, i.outside);
-        implied = λ q. not_implied_binary op a b;
+        implied = λ q. refl;
       }
 
   -- a choice after the settings of its condition
   chosen_lawful : (f v : ℕ) (e kind : TypedExprKind) (t ty : Ty) (at s : Span) (o : Out) (yes_part no_part : NormalStmt) (all : List Ty) → LawfulOut f e t o → Settles yes_part → Settles no_part → IsVar k2 v ty → Sets (f + length o.types) (v + 1) (normal_vars_of (choice v (of_type o.kind t at) yes_part no_part s).kind) → f + length all ≤ v + 1
       → LawfulOut f kind ty (record { before = o.before ++ choice v (of_type o.kind t at) yes_part no_part s ∷ []; kind = expr.Var v; types = all })
+  unfolding shape-the_row-TypedExpr-0 hidden-the_row-TypedExpr-0 shape-the_row-TypedExpr-1 hidden-the_row-TypedExpr-1 hidden
   chosen_lawful f v e kind t ty at s o yes_part no_part all h y n var sets le =
       let cond = of_type o.kind t at in
       let x = choice v cond yes_part no_part s in
@@ -247,7 +222,7 @@ module _ (k : Objects) (ws : List Ty) (own : (v : ℕ) (t : Ty) → IsVar k v t 
         sets = sets_to f (v + 1) (f + length all) (all_normal_vars (o.before ++ x ∷ [])) le (sets_more f (f + length o.types) (v + 1) o.before x h.sets sets);
         lawful = var_lawful v ty var;
         outside = var_outside v;
-        implied = λ q. not_implied_var v;
+        implied = λ q. refl;
       }
 
   three_types : (f : ℕ) (xs ys : List Ty) (t : Ty) → f + length (xs ++ (ys ++ t ∷ [])) ≤ f + length xs + length ys + 1
@@ -288,6 +263,7 @@ module _ (k : Objects) (ws : List Ty) (own : (v : ℕ) (t : Ty) → IsVar k v t 
       → (Room ws f o.types → LawfulOut f e t o) → (Room ws (f + length o.types) o2.types → LawfulOut (f + length o.types) e2 t2 o2) → (Room ws (f + length o.types + length o2.types) o3.types → LawfulOut (f + length o.types + length o2.types) e3 t3 o3)
       → Room ws f (choose_out z (of_type e2 t2 at2) (of_type e3 t3 at3) (f + length o.types + length o2.types + length o3.types) o t at o2 t2 at2 o3 t3 at3 ty s).types
       → LawfulOut f kind ty (choose_out z (of_type e2 t2 at2) (of_type e3 t3 at3) (f + length o.types + length o2.types + length o3.types) o t at o2 t2 at2 o3 t3 at3 ty s)
+  unfolding shape-the_row-TypedExpr-0 hidden-the_row-TypedExpr-0 shape-the_row-TypedExpr-1 hidden-the_row-TypedExpr-1 hidden
   choose_lawful true kind e e2 e3 f t t2 t3 ty at at2 at3 s o o2 o3 sides w2 w3 none h i j room =
       let a = h room in
       let n = none refl in
@@ -299,7 +275,7 @@ module _ (k : Objects) (ws : List Ty) (own : (v : ℕ) (t : Ty) → IsVar k v t 
         sets = a.sets;
         lawful = (lawful_choice cond x y k2 ty).1 (sides, a.lawful, kind_widened e2 t2 w2, kind_widened e3 t3 w3);
         outside = (outside_choice cond x y).1 (a.outside, n.0, n.1);
-        implied = λ q. not_implied_choice cond x y;
+        implied = λ q. refl;
       }
   choose_lawful false kind e e2 e3 f t t2 t3 ty at at2 at3 s o o2 o3 sides w2 w3 none h i j room =
       let g = f + length o.types in
@@ -328,12 +304,13 @@ module _ (k : Objects) (ws : List Ty) (own : (v : ℕ) (t : Ty) → IsVar k v t 
       chosen_lawful f v e kind t ty at s o yes_part no_part types a (side_settles v o2.before x s b.settles var2 (b.lawful, b.outside)) (side_settles v o3.before y s c.settles var3 (c.lawful, c.outside)) var both (omega arith)
 
   element_lawful : (a f : ℕ) (e : TypedExprKind) (count : ℕ) (ty : Ty) (o : Outs) → IsElement k a count ty → LawfulOuts f count o → LawfulOut f e ty (record { before = o.before; kind = expr.Element a o.exprs; types = o.types })
+  unfolding shape-the_row-TypedExpr-0 hidden-the_row-TypedExpr-0 shape-the_row-TypedExpr-1 hidden-the_row-TypedExpr-1 hidden
   element_lawful a f e count ty o is h = record {
     settles = h.settles;
     sets = h.sets;
     lawful = (lawful_element a o.exprs k2 ty).1 (subst (λ n. IsElement k a n ty) (sym h.long) is, h.lawful);
     outside = (outside_element a o.exprs).1 h.outside;
-    implied = λ q. not_implied_element a o.exprs;
+    implied = λ q. refl;
   }
 
   no_outs : (f : ℕ) → LawfulOuts f 0 (record { before = []; exprs = []; types = [] })
@@ -349,6 +326,8 @@ module _ (k : Objects) (ws : List Ty) (own : (v : ℕ) (t : Ty) → IsVar k v t 
   }
 
   mutual
+    unfolding shape-the_row-TypedExpr-0 hidden-the_row-TypedExpr-0 shape-the_row-TypedExpr-1 hidden-the_row-TypedExpr-1 hidden
+
     pub expansion_lawful : (e : TypedExprKind) (ty : Ty) (s : Span) (f : ℕ) → LawfulKind k e ty → Room ws f (expand f e ty s).types → LawfulOut f e ty (expand f e ty s)
     expansion_lawful (tree.Number n) ty s f h room = whole_lawful (tree.Number n) ty f h tt
     expansion_lawful (tree.Var v) ty s f h room = whole_lawful (tree.Var v) ty f h tt
@@ -357,12 +336,12 @@ module _ (k : Objects) (ws : List Ty) (own : (v : ℕ) (t : Ty) → IsVar k v t 
         let o = expand f e t at in
         let i = expansion_lawful e t at f h.2 room in
         let a = of_type o.kind t at in
-        record { settles = i.settles; sets = i.sets; lawful = (lawful_unary op a k2 ty).1 (h.0, h.1, i.lawful); outside = (outside_unary op a).1 i.outside; implied = λ q. not_implied_unary op a }
+        record { settles = i.settles; sets = i.sets; lawful = (lawful_unary op a k2 ty).1 (h.0, h.1, i.lawful); outside = (outside_unary op a).1 i.outside; implied = λ q. refl }
     expansion_lawful (tree.Cast' implied b (more_of-TypedExpr e t at end_of-TypedExpr)) ty s f h room =
         let o = expand f e t at in
         let i = expansion_lawful e t at f h.1 room in
         let a = of_type o.kind t at in
-        record { settles = i.settles; sets = i.sets; lawful = (lawful_cast implied a k2 ty).1 (λ q. i.implied (h.0 q), i.lawful); outside = (outside_cast implied a).1 i.outside; implied = λ q. implied_cast implied a ∙ q }
+        record { settles = i.settles; sets = i.sets; lawful = (lawful_cast implied a k2 ty).1 (λ q. i.implied (h.0 q), i.lawful); outside = (outside_cast implied a).1 i.outside; implied = λ q. q }
     expansion_lawful (tree.Binary' op b (more_of-TypedExpr e t at end_of-TypedExpr) b2 (more_of-TypedExpr e2 t2 at2 end_of-TypedExpr)) ty s f h room =
         let o = expand f e t at in
         let g = f + length o.types in

@@ -1,5 +1,5 @@
 -- The statements that are made for a lawful one are lawful, no condition stands after one that returns, and each variable that is made or was set is set.
-use Rattle.std.proofs.Common.{◌≡◌, ℕ, ◌+◌, ◌≤◌, List, [], ◌∷◌, ◌++◌, length, Option, Some, None, refl, sym, ◌∙◌, subst, arith, length-append}
+use Rattle.std.proofs.Common.{◌≡◌, ℕ, ◌+◌, ◌≤◌, List, [], ◌∷◌, ◌++◌, length, Option, Some, None, refl, sym, ◌∙◌, ap, subst, arith, length-append}
 use Rattle.std.specs.Prelude.{Bool, true, false, All, Contains, slice_get}
 use Rattle.std.proofs.lemmas.List.Elements.{All-nil, All-cons, All-head, All-tail, All-append, Contains-append_left}
 use Rattle.std.proofs.lemmas.Option.{get_or_from_slice_get}
@@ -102,14 +102,15 @@ module _ (k : Objects) (ws : List Ty) (own : (v : ℕ) (t : Ty) → IsVar k v t 
     lawful : LawfulOption Normal rest
     empty : IsEmptyWithout rest o.before
 
-  one_lawful : (l : Bool) (f : ℕ) (old : List ℕ) (kind : NormalStmtKind) (at : Span) (types : List Ty) → LawfulNormalStmt k2 result l kind → Quiet true kind → Keeps old (normal_vars_of kind) → Sets f (f + length types) (normal_vars_of kind) → LawfulMade l f old (normal_at kind at ∷ []) types
-  one_lawful l f old kind at types h q kept sets =
+  -- one statement, which sets the variables us
+  one_lawful : (l : Bool) (f g : ℕ) (old us : List ℕ) (kind : NormalStmtKind) (at : Span) (types : List Ty) → LawfulNormalStmt k2 result l kind → Quiet true kind → normal_vars_of kind ≡ us → Keeps old us → Sets f g us → f + length types ≤ g → LawfulMade l f old (normal_at kind at ∷ []) types
+  one_lawful l f g old us kind at types h q e kept sets le =
       let x = normal_at kind at in
       record {
         lawful = All-cons (LawfulNormalAt k2 result l) x [] h (All-nil (LawfulNormalAt k2 result l));
         quiet = All-cons (QuietAt true) x [] q (All-nil (QuietAt true));
-        kept = keeps_left old (normal_vars_of kind) [] kept;
-        sets = λ v a b. Contains-append_left (normal_vars_of kind) [] v (sets v a b);
+        kept = keeps_to old (us ++ []) (normal_vars_of kind ++ []) (ap (λ vs. vs ++ []) (sym e)) (keeps_left old us [] kept);
+        sets = λ v a b. subst (λ vs. Contains (vs ++ []) v) (sym e) (Contains-append_left us [] v (sets v a (omega arith)));
       }
 
   append_lawful : (l : Bool) (f : ℕ) (old old2 : List ℕ) (xs ys : List NormalStmt) (ts us : List Ty) → LawfulMade l f old xs ts → LawfulMade l (f + length ts) old2 ys us → LawfulMade l f (old ++ old2) (xs ++ ys) (ts ++ us)
@@ -238,103 +239,14 @@ module _ (k : Objects) (ws : List Ty) (own : (v : ℕ) (t : Ty) → IsVar k v t 
 
   -- ---- statements with parts
 
-  part_lawful : (l : Bool) (f : ℕ) (old : List ℕ) (y : Made) (at : Span) → LawfulMade l f old y.stmts y.types → LawfulNormalAt k2 result l (block_of y at)
-  part_lawful l f old y at h = (normal_block y.stmts k2 result l).1 h.lawful
-
-  part_quiet : (l : Bool) (f : ℕ) (old : List ℕ) (y : Made) (at : Span) → LawfulMade l f old y.stmts y.types → QuietAt true (block_of y at)
-  part_quiet l f old y at h = (quiet_block y.stmts true).1 h.quiet
-
-  part_kept : (l : Bool) (f : ℕ) (old : List ℕ) (y : Made) (at : Span) → LawfulMade l f old y.stmts y.types → Keeps old (normal_vars_of (block_of y at).kind)
-  part_kept l f old y at h = keeps_to old (all_normal_vars y.stmts) (normal_vars_of (block_of y at).kind) (sym (normal_vars_block y.stmts)) h.kept
-
-  part_sets : (l : Bool) (f : ℕ) (old : List ℕ) (y : Made) (at : Span) → LawfulMade l f old y.stmts y.types → Sets f (f + length y.types) (normal_vars_of (block_of y at).kind)
-  part_sets l f old y at h v a b = subst (λ z. Contains z v) (sym (normal_vars_block y.stmts)) (h.sets v a b)
-
-  sets_in : (f g h : ℕ) (xs ys : List ℕ) → ys ≡ xs → h ≤ g → Sets f g xs → Sets f h ys
-  sets_in f g h xs ys e le s v a b = subst (λ z. Contains z v) (sym e) (s v a (omega arith))
-
-  two_types : (f : ℕ) (xs ys : List Ty) → f + length (xs ++ ys) ≤ f + length xs + length ys
-  two_types f xs ys = let p = length-append xs ys in omega arith
-
-  three_types : (f : ℕ) (xs ys zs : List Ty) → f + length (xs ++ (ys ++ zs)) ≤ f + length xs + length ys + length zs
-  three_types f xs ys zs = let p = length-append xs (ys ++ zs) in let q = length-append ys zs in omega arith
-
-  four_types : (f : ℕ) (xs ys zs us : List Ty) → f + length (xs ++ (ys ++ (zs ++ us))) ≤ f + length xs + length ys + length zs + length us
-  four_types f xs ys zs us = let p = length-append xs (ys ++ (zs ++ us)) in let q = length-append ys (zs ++ us) in let r = length-append zs us in omega arith
-
-  if_lawful : (l : Bool) (f : ℕ) (c : Out) (cond : TypedExpr) (y : Made) (o : MadeIfAny) (at s : Span) (old old2 : List ℕ) → LawfulOut k ws own f cond.kind cond.ty c → LawfulMade l (f + length c.types) old y.stmts y.types → LawfulHeld l (f + length c.types + length y.types) old2 o
-      → LawfulMade l f (old ++ old2) (normal_at (normal.If c.before (rest_of c cond) (block_of y at) o.stmt) s ∷ []) (c.types ++ (y.types ++ o.types))
-  if_lawful l f c cond y o at s old old2 hc hy ho =
-      let g = f + length c.types in
-      let g2 = g + length y.types in
-      let end = g2 + length o.types in
-      let rest = rest_of c cond in
-      let x = block_of y at in
-      let a = all_normal_vars c.before in
-      let b = normal_vars_of x.kind in
-      let d = normal_vars_if_any o.stmt in
-      let vars = normal_vars_choice c.before rest x o.stmt in
-      let kept = keeps_append old old2 (a ++ b) d (keeps_right old a b (part_kept l g old y at hy)) ho.kept in
-      let sets = sets_then f g2 end (a ++ b) d (sets_then f g g2 a b hc.sets (part_sets l g old y at hy)) ho.sets in
-      one_lawful l f (old ++ old2) (normal.If c.before rest x o.stmt) s (c.types ++ (y.types ++ o.types))
-      ((normal_choice c.before rest x o.stmt k2 result l).1 (all_lawful k ws own c.before hc.settles result l, (hc.lawful, hc.outside), part_lawful l g old y at hy, ho.lawful))
-      ((quiet_choice c.before rest x o.stmt true).1 (all_quiet k ws own c.before hc.settles true, part_quiet l g old y at hy, ho.quiet))
-      (keeps_to (old ++ old2) (a ++ b ++ d) (normal_vars_of (normal.If c.before rest x o.stmt)) (sym vars) kept)
-      (sets_in f end (f + length (c.types ++ (y.types ++ o.types))) (a ++ b ++ d) (normal_vars_of (normal.If c.before rest x o.stmt)) vars (three_types f c.types y.types o.types) sets)
-
-  while_lawful : (l : Bool) (f : ℕ) (c : Out) (cond : TypedExpr) (y : Made) (at s : Span) (old : List ℕ) → LawfulOut k ws own f cond.kind cond.ty c → LawfulMade true (f + length c.types) old y.stmts y.types
-      → LawfulMade l f old (normal_at (normal.While c.before (rest_of c cond) (block_of y at)) s ∷ []) (c.types ++ y.types)
-  while_lawful l f c cond y at s old hc hy =
-      let g = f + length c.types in
-      let end = g + length y.types in
-      let rest = rest_of c cond in
-      let x = block_of y at in
-      let a = all_normal_vars c.before in
-      let b = normal_vars_of x.kind in
-      let vars = normal_vars_while_loop c.before rest x in
-      one_lawful l f old (normal.While c.before rest x) s (c.types ++ y.types)
-      ((normal_while_loop c.before rest x k2 result l).1 (all_lawful k ws own c.before hc.settles result false, (hc.lawful, hc.outside), part_lawful true g old y at hy))
-      ((quiet_while_loop c.before rest x true).1 (all_quiet k ws own c.before hc.settles false, part_quiet true g old y at hy))
-      (keeps_to old (a ++ b) (normal_vars_of (normal.While c.before rest x)) (sym vars) (keeps_right old a b (part_kept true g old y at hy)))
-      (sets_in f end (f + length (c.types ++ y.types)) (a ++ b) (normal_vars_of (normal.While c.before rest x)) vars (two_types f c.types y.types) (sets_then f g end a b hc.sets (part_sets true g old y at hy)))
-
-  do_lawful : (l : Bool) (f : ℕ) (c : Out) (cond : TypedExpr) (y : Made) (at s : Span) (old : List ℕ) → LawfulMade true f old y.stmts y.types → LawfulOut k ws own (f + length y.types) cond.kind cond.ty c
-      → LawfulMade l f old (normal_at (normal.DoWhile (block_of y at) c.before (rest_of c cond)) s ∷ []) (y.types ++ c.types)
-  do_lawful l f c cond y at s old hy hc =
-      let g = f + length y.types in
-      let end = g + length c.types in
-      let rest = rest_of c cond in
-      let x = block_of y at in
-      let a = normal_vars_of x.kind in
-      let b = all_normal_vars c.before in
-      let vars = normal_vars_do_loop x c.before rest in
-      one_lawful l f old (normal.DoWhile x c.before rest) s (y.types ++ c.types)
-      ((normal_do_loop x c.before rest k2 result l).1 (part_lawful true f old y at hy, all_lawful k ws own c.before hc.settles result false, (hc.lawful, hc.outside)))
-      ((quiet_do_loop x c.before rest true).1 (part_quiet true f old y at hy, all_quiet k ws own c.before hc.settles false))
-      (keeps_to old (a ++ b) (normal_vars_of (normal.DoWhile x c.before rest)) (sym vars) (keeps_left old a b (part_kept true f old y at hy)))
-      (sets_in f end (f + length (y.types ++ c.types)) (a ++ b) (normal_vars_of (normal.DoWhile x c.before rest)) vars (two_types f y.types c.types) (sets_then f g end a b (part_sets true f old y at hy) hc.sets))
-
-  for_lawful : (l : Bool) (f : ℕ) (i : Made) (c : Out) (rest : Option TypedExpr) (o : MadeIfAny) (y : Made) (at s : Span) (old old2 old3 : List ℕ) → LawfulMade false f old i.stmts i.types → LawfulOptional (f + length i.types) c rest → LawfulHeld false (f + length i.types + length c.types) old2 o
-      → LawfulMade true (f + length i.types + length c.types + length o.types) old3 y.stmts y.types
-      → LawfulMade l f (old ++ old2 ++ old3) (normal_at (normal.For i.stmts c.before rest o.stmt (block_of y at)) s ∷ []) (i.types ++ (c.types ++ (o.types ++ y.types)))
-  for_lawful l f i c rest o y at s old old2 old3 hi hc ho hy =
-      let g = f + length i.types in
-      let g2 = g + length c.types in
-      let g3 = g2 + length o.types in
-      let end = g3 + length y.types in
-      let x = block_of y at in
-      let a = all_normal_vars i.stmts in
-      let b = all_normal_vars c.before in
-      let d = normal_vars_if_any o.stmt in
-      let e = normal_vars_of x.kind in
-      let vars = normal_vars_for_loop i.stmts c.before rest o.stmt x in
-      let kept = keeps_append (old ++ old2) old3 (a ++ b ++ d) e (keeps_append old old2 (a ++ b) d (keeps_left old a b hi.kept) ho.kept) (part_kept true g3 old3 y at hy) in
-      let sets = sets_then f g3 end (a ++ b ++ d) e (sets_then f g2 g3 (a ++ b) d (sets_then f g g2 a b hi.sets hc.sets) ho.sets) (part_sets true g3 old3 y at hy) in
-      one_lawful l f (old ++ old2 ++ old3) (normal.For i.stmts c.before rest o.stmt x) s (i.types ++ (c.types ++ (o.types ++ y.types)))
-      ((normal_for_loop i.stmts c.before rest o.stmt x k2 result l).1 (hi.lawful, all_lawful k ws own c.before hc.settles result false, hc.lawful, hc.empty, ho.lawful, part_lawful true g3 old3 y at hy))
-      ((quiet_for_loop i.stmts c.before rest o.stmt x true).1 (hi.quiet, all_quiet k ws own c.before hc.settles false, ho.quiet, part_quiet true g3 old3 y at hy))
-      (keeps_to (old ++ old2 ++ old3) (a ++ b ++ d ++ e) (normal_vars_of (normal.For i.stmts c.before rest o.stmt x)) (sym vars) kept)
-      (sets_in f end (f + length (i.types ++ (c.types ++ (o.types ++ y.types)))) (a ++ b ++ d ++ e) (normal_vars_of (normal.For i.stmts c.before rest o.stmt x)) vars (four_types f i.types c.types o.types y.types) sets)
+  -- a block of what is made
+  part_lawful : (l : Bool) (f : ℕ) (old : List ℕ) (y : Made) (at : Span) → LawfulMade l f old y.stmts y.types → LawfulHeld l f old (record { stmt = Some (block_of y at); types = y.types })
+  part_lawful l f old y at h = record {
+    lawful = (normal_block y.stmts k2 result l).1 h.lawful;
+    quiet = (quiet_block y.stmts true).1 h.quiet;
+    kept = keeps_to old (all_normal_vars y.stmts) (normal_vars_of (block_of y at).kind) (sym (normal_vars_block y.stmts)) h.kept;
+    sets = λ v a b. subst (λ z. Contains z v) (sym (normal_vars_block y.stmts)) (h.sets v a b);
+  }
 
   -- ---- simple statements
 
@@ -367,8 +279,7 @@ module _ (k : Objects) (ws : List Ty) (own : (v : ℕ) (t : Ty) → IsVar k v t 
         let b = row_form k0 f row in
         let x = stmts_lawful row l f h room in
         let old = stmt_vars_row row in
-        one_lawful l f old (normal.Block b.stmts) s b.types ((normal_block b.stmts k2 result l).1 x.lawful) ((quiet_block b.stmts true).1 x.quiet) (keeps_to old (all_normal_vars b.stmts) (normal_vars_of (normal.Block b.stmts)) (sym (normal_vars_block b.stmts)) x.kept)
-        (sets_in f (f + length b.types) (f + length b.types) (all_normal_vars b.stmts) (normal_vars_of (normal.Block b.stmts)) (normal_vars_block b.stmts) (omega arith) x.sets)
+        one_lawful l f (f + length b.types) old (all_normal_vars b.stmts) (normal.Block b.stmts) s b.types ((normal_block b.stmts k2 result l).1 x.lawful) ((quiet_block b.stmts true).1 x.quiet) (normal_vars_block b.stmts) x.kept x.sets (omega arith)
     stmt_lawful (tree.Declare v None) l s f h room = declare_lawful l f v None s h tt room
     stmt_lawful (tree.Declare v (Some e)) l s f h room = declare_lawful l f v (Some e) s h h.1 room
     stmt_lawful (tree.Assign target op e) l s f h room = assignment_lawful l f target op e s h room
@@ -380,17 +291,47 @@ module _ (k : Objects) (ws : List Ty) (own : (v : ℕ) (t : Ty) → IsVar k v t 
         let g2 = g + length y.types in
         let n = held_form k0 g2 o in
         let tail = room_right ws f c.types (y.types ++ n.types) room in
-        if_lawful l f c cond y n at s (stmt_vars_of x) (stmt_vars_held o) (expr_lawful f cond h.0 (room_left ws f c.types (y.types ++ n.types) room)) (stmt_lawful x l at g h.1 (room_left ws g y.types n.types tail)) (held_lawful o l g2 h.2 (room_right ws g y.types n.types tail))
+        let hc = expr_lawful f cond h.0 (room_left ws f c.types (y.types ++ n.types) room) in
+        let hy = part_lawful l g (stmt_vars_of x) y at (stmt_lawful x l at g h.1 (room_left ws g y.types n.types tail)) in
+        let ho = held_lawful o l g2 h.2 (room_right ws g y.types n.types tail) in
+        let rest = rest_of c cond in
+        let a = all_normal_vars c.before in
+        let b = normal_vars_of (block_of y at).kind in
+        let d = normal_vars_if_any n.stmt in
+        let p = length-append c.types (y.types ++ n.types) in
+        let q = length-append y.types n.types in
+        one_lawful l f (g2 + length n.types) (stmt_vars_of x ++ stmt_vars_held o) (a ++ b ++ d) (normal.If c.before rest (block_of y at) n.stmt) s (c.types ++ (y.types ++ n.types))
+        ((normal_choice c.before rest (block_of y at) n.stmt k2 result l).1 (all_lawful k ws own c.before hc.settles result l, (hc.lawful, hc.outside), hy.lawful, ho.lawful))
+        ((quiet_choice c.before rest (block_of y at) n.stmt true).1 (all_quiet k ws own c.before hc.settles true, hy.quiet, ho.quiet)) (normal_vars_choice c.before rest (block_of y at) n.stmt)
+        (keeps_append (stmt_vars_of x) (stmt_vars_held o) (a ++ b) d (keeps_right (stmt_vars_of x) a b hy.kept) ho.kept) (sets_then f g2 (g2 + length n.types) (a ++ b) d (sets_then f g g2 a b hc.sets hy.sets) ho.sets) (omega arith)
     stmt_lawful (tree.While' cond b (more_of-TypedStmt x at end_of-TypedStmt)) l s f h room =
         let c = expand_expr f cond in
         let g = f + length c.types in
         let y = form_of k0 g x at in
-        while_lawful l f c cond y at s (stmt_vars_of x) (expr_lawful f cond h.0 (room_left ws f c.types y.types room)) (stmt_lawful x true at g h.1 (room_right ws f c.types y.types room))
+        let hc = expr_lawful f cond h.0 (room_left ws f c.types y.types room) in
+        let hy = part_lawful true g (stmt_vars_of x) y at (stmt_lawful x true at g h.1 (room_right ws f c.types y.types room)) in
+        let rest = rest_of c cond in
+        let a = all_normal_vars c.before in
+        let b = normal_vars_of (block_of y at).kind in
+        let p = length-append c.types y.types in
+        one_lawful l f (g + length y.types) (stmt_vars_of x) (a ++ b) (normal.While c.before rest (block_of y at)) s (c.types ++ y.types)
+        ((normal_while_loop c.before rest (block_of y at) k2 result l).1 (all_lawful k ws own c.before hc.settles result false, (hc.lawful, hc.outside), hy.lawful))
+        ((quiet_while_loop c.before rest (block_of y at) true).1 (all_quiet k ws own c.before hc.settles false, hy.quiet)) (normal_vars_while_loop c.before rest (block_of y at))
+        (keeps_right (stmt_vars_of x) a b hy.kept) (sets_then f g (g + length y.types) a b hc.sets hy.sets) (omega arith)
     stmt_lawful (tree.DoWhile' b (more_of-TypedStmt x at end_of-TypedStmt) cond) l s f h room =
         let y = form_of k0 f x at in
         let g = f + length y.types in
         let c = expand_expr g cond in
-        do_lawful l f c cond y at s (stmt_vars_of x) (stmt_lawful x true at f h.0 (room_left ws f y.types c.types room)) (expr_lawful g cond h.1 (room_right ws f y.types c.types room))
+        let hy = part_lawful true f (stmt_vars_of x) y at (stmt_lawful x true at f h.0 (room_left ws f y.types c.types room)) in
+        let hc = expr_lawful g cond h.1 (room_right ws f y.types c.types room) in
+        let rest = rest_of c cond in
+        let a = normal_vars_of (block_of y at).kind in
+        let b = all_normal_vars c.before in
+        let p = length-append y.types c.types in
+        one_lawful l f (g + length c.types) (stmt_vars_of x) (a ++ b) (normal.DoWhile (block_of y at) c.before rest) s (y.types ++ c.types)
+        ((normal_do_loop (block_of y at) c.before rest k2 result l).1 (hy.lawful, all_lawful k ws own c.before hc.settles result false, (hc.lawful, hc.outside)))
+        ((quiet_do_loop (block_of y at) c.before rest true).1 (hy.quiet, all_quiet k ws own c.before hc.settles false)) (normal_vars_do_loop (block_of y at) c.before rest)
+        (keeps_left (stmt_vars_of x) a b hy.kept) (sets_then f g (g + length c.types) a b hy.sets hc.sets) (omega arith)
     stmt_lawful (tree.For' n first cond o b (more_of-TypedStmt x at end_of-TypedStmt)) l s f h room =
         let i = row_form k0 f first in
         let g = f + length i.types in
@@ -399,26 +340,40 @@ module _ (k : Objects) (ws : List Ty) (own : (v : ℕ) (t : Ty) → IsVar k v t 
         let p = held_form k0 g2 o in
         let g3 = g2 + length p.types in
         let y = form_of k0 g3 x at in
+        let end = g3 + length y.types in
         let tail = room_right ws f i.types (c.types ++ (p.types ++ y.types)) room in
         let tail2 = room_right ws g c.types (p.types ++ y.types) tail in
-        for_lawful l f i c (rest_if_any c cond) p y at s (stmt_vars_row first) (stmt_vars_held o) (stmt_vars_of x) (stmts_lawful first false f h.0 (room_left ws f i.types (c.types ++ (p.types ++ y.types)) room))
-        (option_lawful g cond h.1 (room_left ws g c.types (p.types ++ y.types) tail)) (held_lawful o false g2 h.2 (room_left ws g2 p.types y.types tail2)) (stmt_lawful x true at g3 h.3 (room_right ws g2 p.types y.types tail2))
+        let hi = stmts_lawful first false f h.0 (room_left ws f i.types (c.types ++ (p.types ++ y.types)) room) in
+        let hc = option_lawful g cond h.1 (room_left ws g c.types (p.types ++ y.types) tail) in
+        let ho = held_lawful o false g2 h.2 (room_left ws g2 p.types y.types tail2) in
+        let hy = part_lawful true g3 (stmt_vars_of x) y at (stmt_lawful x true at g3 h.3 (room_right ws g2 p.types y.types tail2)) in
+        let rest = rest_if_any c cond in
+        let old = stmt_vars_row first ++ stmt_vars_held o in
+        let a = all_normal_vars i.stmts in
+        let b = all_normal_vars c.before in
+        let d = normal_vars_if_any p.stmt in
+        let e = normal_vars_of (block_of y at).kind in
+        let r = length-append i.types (c.types ++ (p.types ++ y.types)) in
+        let q = length-append c.types (p.types ++ y.types) in
+        let u = length-append p.types y.types in
+        one_lawful l f end (old ++ stmt_vars_of x) (a ++ b ++ d ++ e) (normal.For i.stmts c.before rest p.stmt (block_of y at)) s (i.types ++ (c.types ++ (p.types ++ y.types)))
+        ((normal_for_loop i.stmts c.before rest p.stmt (block_of y at) k2 result l).1 (hi.lawful, all_lawful k ws own c.before hc.settles result false, hc.lawful, hc.empty, ho.lawful, hy.lawful))
+        ((quiet_for_loop i.stmts c.before rest p.stmt (block_of y at) true).1 (hi.quiet, all_quiet k ws own c.before hc.settles false, ho.quiet, hy.quiet)) (normal_vars_for_loop i.stmts c.before rest p.stmt (block_of y at))
+        (keeps_append old (stmt_vars_of x) (a ++ b ++ d) e (keeps_append (stmt_vars_row first) (stmt_vars_held o) (a ++ b) d (keeps_left (stmt_vars_row first) a b hi.kept) ho.kept) hy.kept)
+        (sets_then f g3 end (a ++ b ++ d) e (sets_then f g2 g3 (a ++ b) d (sets_then f g g2 a b hi.sets hc.sets) ho.sets) hy.sets) (omega arith)
     stmt_lawful tree.Break l s f h room =
-        one_lawful l f [] normal.Break s [] ((normal_leaving k2 result l).1 h) ((quiet_leaving true).1 tt) (keeps_to [] [] (normal_vars_of normal.Break) (sym normal_vars_leaving) (λ u c. c)) (sets_none f (f + 0) (normal_vars_of normal.Break) (omega arith))
+        one_lawful l f f [] [] normal.Break s [] ((normal_leaving k2 result l).1 h) ((quiet_leaving true).1 tt) normal_vars_leaving (λ u c. c) (sets_none f f [] (omega arith)) (omega arith)
     stmt_lawful tree.Continue l s f h room =
-        one_lawful l f [] normal.Continue s [] ((normal_continuing k2 result l).1 h) ((quiet_continuing true).1 tt) (keeps_to [] [] (normal_vars_of normal.Continue) (sym normal_vars_continuing) (λ u c. c)) (sets_none f (f + 0) (normal_vars_of normal.Continue) (omega arith))
+        one_lawful l f f [] [] normal.Continue s [] ((normal_continuing k2 result l).1 h) ((quiet_continuing true).1 tt) normal_vars_continuing (λ u c. c) (sets_none f f [] (omega arith)) (omega arith)
     stmt_lawful (tree.Return None) l s f h room = return_lawful l f None s h tt room
     stmt_lawful (tree.Return (Some e)) l s f h room = return_lawful l f (Some e) s h (returned (LawfulExpr k) result e h) room
     stmt_lawful tree.Empty l s f h room =
-        one_lawful l f [] normal.Empty s [] ((normal_empty k2 result l).1 tt) ((quiet_empty true).1 tt) (keeps_to [] [] (normal_vars_of normal.Empty) (sym normal_vars_empty) (λ u c. c)) (sets_none f (f + 0) (normal_vars_of normal.Empty) (omega arith))
+        one_lawful l f f [] [] normal.Empty s [] ((normal_empty k2 result l).1 tt) ((quiet_empty true).1 tt) normal_vars_empty (λ u c. c) (sets_none f f [] (omega arith)) (omega arith)
 
     held_lawful : (o : Held-TypedStmtKind-If-2) (l : Bool) (f : ℕ) → LawfulStmtHeld k result l o → Room ws f (held_form k0 f o).types → LawfulHeld l f (stmt_vars_held o) (held_form k0 f o)
     held_lawful tree.None' l f h room = record { lawful = tt; quiet = tt; kept = λ v c. c; sets = sets_none f (f + 0) [] (omega arith) }
     held_lawful (tree.Some' b (more_of-TypedStmt x at end_of-TypedStmt)) l f h room =
-        let y = form_of k0 f x at in
-        let i = stmt_lawful x l at f h room in
-        let old = stmt_vars_of x in
-        record { lawful = part_lawful l f old y at i; quiet = part_quiet l f old y at i; kept = part_kept l f old y at i; sets = part_sets l f old y at i }
+        part_lawful l f (stmt_vars_of x) (form_of k0 f x at) at (stmt_lawful x l at f h room)
 
     stmts_lawful : {n : Count} (row : Row_of-TypedStmt n) (l : Bool) (f : ℕ) → LawfulStmts k result l row → Room ws f (row_form k0 f row).types → LawfulMade l f (stmt_vars_row row) (row_form k0 f row).stmts (row_form k0 f row).types
     stmts_lawful end_of-TypedStmt l f h room = none_lawful l f

@@ -1,9 +1,7 @@
-pub mod Assigns
 pub mod Built
 pub mod Coded
 pub mod Costs
 pub mod Dimensions
-pub mod EmptyKernel
 pub mod Expanded
 pub mod Expands
 pub mod FewVars
@@ -14,14 +12,11 @@ pub mod LawfulForms
 pub mod LawfulStmts
 pub mod Leaves
 pub mod MadeArms
-pub mod MadeParts
 pub mod Meanings
-pub mod Parts
 pub mod Rows
 pub mod SizedExprs
 pub mod SizedStmts
 pub mod Stores
 pub mod Takes
 pub mod Targets
-pub mod Trees
 pub mod Whole

@@ -1,38 +1,203 @@
--- Statements, call by call: what each call made joins to what the whole makes.
-use Rattle.std.proofs.Common.{◌≡◌, ℕ, zero, suc, ◌+◌, ◌≤◌, ◌<◌, List, [], ◌∷◌, ◌++◌, length, get_or, drop, Option, Some, None, refl, sym, ◌∙◌, ap, subst, arith, append_assoc, append-nil}
+-- Statements by their parts and call by call: nodes, and what each call made joins to what the whole makes.
+use Rattle.std.proofs.Common.{◌≡◌, ℕ, ◌+◌, ◌≤◌, List, [], ◌∷◌, ◌++◌, length, Option, Some, None, refl, sym, ◌∙◌, ap, arith, length-append, zero, suc, ◌<◌, get_or, drop, subst, append_assoc, append-nil}
 use Rattle.std.specs.Prelude.{Bool, slice_get, ◌^◌}
-use Rattle.std.proofs.lemmas.Option.{none-some}
-use Rattle.std.proofs.lemmas.List.{drop_all}
+use denote.Hole.Carrier.{hidden}
+use Rattle.std.proofs.lemmas.List.Sums.{sum_by-cons}
+use mathlib.Core.Former.{Count}
 use Rattle.el_base.specs.declared.span.Span.{Span}
-use Rattle.el_base.specs.declared.ty.Ty.{Ty}
-use Rattle.el_base.specs.declared.ty.Ty.TheVariants.{I32}
 use Rattle.c_ast.specs.declared.tree.Binary.{Binary}
-use Rattle.c_ast.specs.declared.typed.ArrayOf.{ArrayOf}
 use Rattle.c_ast.specs.declared.typed.Typed.{Typed}
 use Rattle.c_ast.specs.declared.typed.TypedTarget.{TypedTarget}
 use Rattle.c_ast.specs.declared.typed.TypedExpr.{TypedExpr}
-use Rattle.c_ast.specs.declared.typed.TypedExprKind.TheVariants as expr
 use Rattle.c_ast.specs.declared.typed.TypedStmt.{TypedStmt}
-use Rattle.c_ast.specs.declared.typed.TypedStmtKind.{TypedStmtKind}
+use Rattle.c_ast.specs.declared.typed.TypedStmtKind.{TypedStmtKind, Row_of-TypedStmt, end_of-TypedStmt, more_of-TypedStmt, Held-TypedStmtKind-If-2}
+use Rattle.c_ast.specs.declared.typed.TypedStmtKind as tree
 use Rattle.c_ast.specs.declared.typed.TypedStmtKind.TheVariants as act
+use Rattle.c_ast.specs.declared.typed.TypedStmtKind.TheBlock.{shape-the_row-TypedStmt-0, hidden-the_row-TypedStmt-0, shape-the_row-TypedStmt-1, hidden-the_row-TypedStmt-1, back-TypedStmtKind-If-2}
+use Rattle.c_ast.specs.declared.normal.NormalStmtKind.TheVariants as normal
+use Rattle.c_ast.proofs.TypedNodeEquations.{act_block, act_choice, act_while_loop, act_do_loop, act_for_loop}
+use Rattle.c_ast.specs.Nodes.{typed_expr_nodes, typed_exprs_nodes, typed_opt_nodes, act_nodes, held_act_nodes, acts_nodes, typed_stmt_nodes, typed_stmts_nodes, typed_held_nodes, typed_nodes}
+use Rattle.c_meaning.specs.declared.profile.Profile.TheVariants.{Plain}
+use Rattle.c_meaning.specs.Stores.{Objects}
+use Rattle.c_meaning.specs.Statements.{objects, step_operator, array_type}
+use Rattle.c_norm.specs.Expand.{expand_expr, rest_of, set_all, expand_all}
+use Rattle.c_norm.specs.Forms.{Made, MadeIfAny, normal_at, made, block_of, optional, rest_if_any, assignment_form, step_form, form_of, held_form, row_form, all_forms, target_with}
+use Rattle.c_norm.specs.Code.{stmt_form, stmts_form, held_stmt, HasRoom, IsOut, AreOut, IsExpanded, IsMade, IsLast, IsAlone, IsOptional, IsBlock, IsHeld, StmtsGoOn, plain_form, update_form, update_of}
+use Rattle.c_norm.proofs.Coded.{few_made, few_exprs, few_set}
+use Rattle.std.proofs.lemmas.Option.{none-some}
+use Rattle.std.proofs.lemmas.List.{drop_all}
+use Rattle.el_base.specs.declared.ty.Ty.{Ty}
+use Rattle.el_base.specs.declared.ty.Ty.TheVariants.{I32}
+use Rattle.c_ast.specs.declared.typed.ArrayOf.{ArrayOf}
 use Rattle.c_ast.specs.declared.tree.Param.{Param}
 use Rattle.c_ast.specs.declared.normal.Normal.{Normal}
 use Rattle.c_ast.specs.declared.normal.NormalStmt.{NormalStmt}
 use Rattle.c_ast.specs.declared.normal.NormalStmtKind.{NormalStmtKind}
-use Rattle.c_ast.specs.declared.normal.NormalStmtKind.TheVariants as normal
-use Rattle.c_ast.specs.Casts.{of_type}
-use Rattle.c_ast.specs.ResultTypes.{joint_type}
-use Rattle.c_ast.specs.Nodes.{typed_opt_nodes, typed_stmt_nodes, typed_stmts_nodes, typed_held_nodes, typed_nodes}
 use Rattle.c_meaning.specs.Lawful.{Lawful}
 use Rattle.c_meaning.proofs.FewVars.{few_vars}
 use Rattle.c_meaning.proofs.ListParts.{longer, behind, from_place}
 use Rattle.c_norm.specs.Kernels.{body_form, normal_form}
-use Rattle.c_meaning.specs.declared.profile.Profile.TheVariants.{Plain}
-use Rattle.c_meaning.specs.Statements.{objects, array_type, object_type, step_operator}
-use Rattle.c_norm.specs.Expand.{expand_expr, rest_of, set_all, expand_all}
-use Rattle.c_norm.specs.Forms.{Made, normal_at, made, block_of, optional, rest_if_any, target_with, form_of}
-use Rattle.c_norm.specs.Code.{HasRoom, IsOut, AreOut, IsExpanded, stmt_form, stmts_form, held_stmt, IsMade, IsLast, IsAlone, IsOptional, IsBlock, IsHeld, StmtsGoOn, plain_form, update_form, update_of}
-use Rattle.c_norm.proofs.MadeParts.{form_block, if_form, form_if, while_form, form_while, do_form, form_do, for_form, form_for, few_optional, few_form, few_forms, few_held_stmt}
+
+-- ---- nodes
+
+pub nodes_block : (x : TypedStmt) (xs : List TypedStmt) → x.kind ≡ act.Block xs → typed_stmt_nodes x ≡ 1 + typed_stmts_nodes xs
+nodes_block x xs is = ap act_nodes is ∙ act_block xs
+
+pub nodes_declare : (x : TypedStmt) (v : ℕ) (e : Option TypedExpr) → x.kind ≡ act.Declare v e → typed_stmt_nodes x ≡ 1 + typed_opt_nodes e
+nodes_declare x v e is = ap act_nodes is
+
+pub nodes_assign : (x : TypedStmt) (t : TypedTarget) (op : Option Binary) (e : TypedExpr) → x.kind ≡ act.Assign t op e → typed_stmt_nodes x ≡ 2 + typed_exprs_nodes t.indices + typed_expr_nodes e
+nodes_assign x t op e is = omega (arith, ap act_nodes is)
+
+pub nodes_step : (x : TypedStmt) (t : TypedTarget) (up : Bool) → x.kind ≡ act.Step t up → typed_stmt_nodes x ≡ 2 + typed_exprs_nodes t.indices
+nodes_step x t up is = omega (arith, ap act_nodes is)
+
+pub nodes_if : (x : TypedStmt) (e : TypedExpr) (y : TypedStmt) (o : Option TypedStmt) → x.kind ≡ act.If e y o → typed_stmt_nodes x ≡ 1 + typed_expr_nodes e + typed_stmt_nodes y + typed_held_nodes o
+nodes_if x e y o is = ap act_nodes is ∙ act_choice e y o
+
+pub nodes_while : (x : TypedStmt) (e : TypedExpr) (y : TypedStmt) → x.kind ≡ act.While e y → typed_stmt_nodes x ≡ 1 + typed_expr_nodes e + typed_stmt_nodes y
+nodes_while x e y is = ap act_nodes is ∙ act_while_loop e y
+
+pub nodes_do : (x : TypedStmt) (y : TypedStmt) (e : TypedExpr) → x.kind ≡ act.DoWhile y e → typed_stmt_nodes x ≡ 1 + typed_stmt_nodes y + typed_expr_nodes e
+nodes_do x y e is = ap act_nodes is ∙ act_do_loop y e
+
+pub nodes_for : (x : TypedStmt) (first : List TypedStmt) (e : Option TypedExpr) (o : Option TypedStmt) (y : TypedStmt) → x.kind ≡ act.For first e o y → typed_stmt_nodes x ≡ 1 + typed_stmts_nodes first + typed_opt_nodes e + typed_held_nodes o + typed_stmt_nodes y
+nodes_for x first e o y is = ap act_nodes is ∙ act_for_loop first e o y
+
+pub nodes_return : (x : TypedStmt) (e : Option TypedExpr) → x.kind ≡ act.Return e → typed_stmt_nodes x ≡ 1 + typed_opt_nodes e
+nodes_return x e is = ap act_nodes is
+
+-- ---- what is made
+
+row_all : (k : Objects) (f : ℕ) (xs : List TypedStmt) → row_form k f (hidden-the_row-TypedStmt-0 xs) ≡ all_forms k f xs
+unfolding shape-the_row-TypedStmt-0 hidden-the_row-TypedStmt-0 shape-the_row-TypedStmt-1 hidden-the_row-TypedStmt-1 hidden
+row_all k f [] = refl
+row_all k f (x ∷ xs) =
+    let y = form_of k f x.kind x.at in
+    ap (λ (r : Made). record { stmts = y.stmts ++ r.stmts; types = y.types ++ r.types }) (row_all k (f + length y.types) xs)
+
+held_is : (k : Typed) (f : ℕ) (o : Option TypedStmt) → held_form (objects Plain k) f (back-TypedStmtKind-If-2 o) ≡ held_stmt k f o
+unfolding shape-the_row-TypedStmt-0 hidden-the_row-TypedStmt-0 shape-the_row-TypedStmt-1 hidden-the_row-TypedStmt-1 hidden
+held_is k f None = refl
+held_is k f (Some x) = refl
+
+pub form_block : (k : Typed) (f : ℕ) (xs : List TypedStmt) (s : Span) → form_of (objects Plain k) f (act.Block xs) s ≡ record { stmts = normal_at (normal.Block (stmts_form k f xs).stmts) s ∷ []; types = (stmts_form k f xs).types }
+unfolding shape-the_row-TypedStmt-0 hidden-the_row-TypedStmt-0 shape-the_row-TypedStmt-1 hidden-the_row-TypedStmt-1 hidden
+form_block k f xs s = ap (λ (b : Made). record { stmts = normal_at (normal.Block b.stmts) s ∷ []; types = b.types }) (row_all (objects Plain k) f xs)
+
+abbrev pub if_form : Typed → ℕ → TypedExpr → TypedStmt → Option TypedStmt → Span → Made
+if_form k f e y o s =
+    let c = expand_expr f e in
+    let m = stmt_form k (f + length c.types) y in
+    let n = held_stmt k (f + length c.types + length m.types) o in
+    record { stmts = normal_at (normal.If c.before (rest_of c e) (block_of m y.at) n.stmt) s ∷ []; types = c.types ++ (m.types ++ n.types) }
+
+pub form_if : (k : Typed) (f : ℕ) (e : TypedExpr) (y : TypedStmt) (o : Option TypedStmt) (s : Span) → form_of (objects Plain k) f (act.If e y o) s ≡ if_form k f e y o s
+unfolding shape-the_row-TypedStmt-0 hidden-the_row-TypedStmt-0 shape-the_row-TypedStmt-1 hidden-the_row-TypedStmt-1 hidden
+form_if k f e y o s =
+    let c = expand_expr f e in
+    let m = stmt_form k (f + length c.types) y in
+    ap (λ (n : MadeIfAny). record { stmts = normal_at (normal.If c.before (rest_of c e) (block_of m y.at) n.stmt) s ∷ []; types = c.types ++ (m.types ++ n.types) }) (held_is k (f + length c.types + length m.types) o)
+
+abbrev for_by : Typed → Made → ℕ → Option TypedExpr → MadeIfAny → TypedStmt → Span → ℕ → Made
+for_by k i f e p y s h =
+    let c = optional f e in
+    let m = stmt_form k h y in
+    record { stmts = normal_at (normal.For i.stmts c.before (rest_if_any c e) p.stmt (block_of m y.at)) s ∷ []; types = i.types ++ (c.types ++ (p.types ++ m.types)) }
+
+abbrev pub for_form : Typed → ℕ → List TypedStmt → Option TypedExpr → Option TypedStmt → TypedStmt → Span → Made
+for_form k f first e o y s =
+    let i = stmts_form k f first in
+    let g = f + length i.types in
+    let h = g + length (optional g e).types in
+    let p = held_stmt k h o in
+    for_by k i g e p y s (h + length p.types)
+
+pub form_for : (k : Typed) (f : ℕ) (first : List TypedStmt) (e : Option TypedExpr) (o : Option TypedStmt) (y : TypedStmt) (s : Span) → form_of (objects Plain k) f (act.For first e o y) s ≡ for_form k f first e o y s
+unfolding shape-the_row-TypedStmt-0 hidden-the_row-TypedStmt-0 shape-the_row-TypedStmt-1 hidden-the_row-TypedStmt-1 hidden
+form_for k f first e o y s =
+    let i = stmts_form k f first in
+    let g = f + length i.types in
+    let h = g + length (optional g e).types in
+    ap (λ (i : Made). let g = f + length i.types in let h = g + length (optional g e).types in let p = held_form (objects Plain k) h (back-TypedStmtKind-If-2 o) in for_by k i g e p y s (h + length p.types)) (row_all (objects Plain k) f first)
+    ∙ ap (λ (p : MadeIfAny). for_by k i g e p y s (h + length p.types)) (held_is k h o)
+
+-- ---- few variables are made
+
+pub few_optional : (f : ℕ) (e : Option TypedExpr) → length (optional f e).types ≤ typed_opt_nodes e
+few_optional f None = omega arith
+few_optional f (Some e) = omega (arith, few_made f e)
+
+few_assign : (k : Objects) (f : ℕ) (t : TypedTarget) (op : Option Binary) (e : TypedExpr) (s : Span) → length (assignment_form k f t op e s).types ≤ typed_exprs_nodes t.indices + typed_expr_nodes e
+few_assign k f t None e s =
+    let i = expand_all f t.indices in
+    omega (arith, few_exprs f t.indices, few_made (f + length i.types) e, length-append i.types (expand_expr (f + length i.types) e).types)
+few_assign k f t (Some op) e s =
+    let i = set_all f t.indices in
+    omega (arith, few_set f t.indices, few_made (f + length i.types) e, length-append i.types (expand_expr (f + length i.types) e).types)
+
+few_step : (k : Objects) (f : ℕ) (t : TypedTarget) (op : Binary) (s : Span) → length (step_form k f t op s).types ≤ typed_exprs_nodes t.indices
+few_step k f t op s = omega (arith, few_set f t.indices, length-append (set_all f t.indices).types [])
+
+mutual
+  few_act : (k : Objects) (f : ℕ) (x : TypedStmtKind) (s : Span) → length (form_of k f x s).types ≤ act_nodes x
+  few_act k f (tree.Block' n row) s = omega (arith, few_acts k f row)
+  few_act k f (tree.Declare v e) s = omega (arith, few_optional f e)
+  few_act k f (tree.Assign t op e) s = omega (arith, few_assign k f t op e s)
+  few_act k f (tree.Step t up) s = omega (arith, few_step k f t (step_operator up) s)
+  few_act k f (tree.If' e b (more_of-TypedStmt x at end_of-TypedStmt) o) s =
+      let c = expand_expr f e in
+      let y = form_of k (f + length c.types) x at in
+      let n = held_form k (f + length c.types + length y.types) o in
+      omega (arith, few_made f e, few_act k (f + length c.types) x at, few_held k (f + length c.types + length y.types) o, length-append c.types (y.types ++ n.types), length-append y.types n.types)
+  few_act k f (tree.While' e b (more_of-TypedStmt x at end_of-TypedStmt)) s =
+      let c = expand_expr f e in
+      omega (arith, few_made f e, few_act k (f + length c.types) x at, length-append c.types (form_of k (f + length c.types) x at).types)
+  few_act k f (tree.DoWhile' b (more_of-TypedStmt x at end_of-TypedStmt) e) s =
+      let y = form_of k f x at in
+      omega (arith, few_act k f x at, few_made (f + length y.types) e, length-append y.types (expand_expr (f + length y.types) e).types)
+  few_act k f (tree.For' n first e o b (more_of-TypedStmt x at end_of-TypedStmt)) s =
+      let i = row_form k f first in
+      let c = optional (f + length i.types) e in
+      let p = held_form k (f + length i.types + length c.types) o in
+      let y = form_of k (f + length i.types + length c.types + length p.types) x at in
+      omega (
+        arith,
+        few_acts k f first,
+        few_optional (f + length i.types) e,
+        few_held k (f + length i.types + length c.types) o,
+        few_act k (f + length i.types + length c.types + length p.types) x at,
+        length-append i.types (c.types ++ (p.types ++ y.types)),
+        length-append c.types (p.types ++ y.types),
+        length-append p.types y.types,
+      )
+  few_act k f tree.Break s = omega arith
+  few_act k f tree.Continue s = omega arith
+  few_act k f (tree.Return e) s = omega (arith, few_optional f e)
+  few_act k f tree.Empty s = omega arith
+
+  few_held : (k : Objects) (f : ℕ) (o : Held-TypedStmtKind-If-2) → length (held_form k f o).types ≤ held_act_nodes o
+  few_held k f tree.None' = omega arith
+  few_held k f (tree.Some' b (more_of-TypedStmt x at end_of-TypedStmt)) = few_act k f x at
+
+  few_acts : (k : Objects) (f : ℕ) {n : Count} (row : Row_of-TypedStmt n) → length (row_form k f row).types ≤ acts_nodes row
+  few_acts k f end_of-TypedStmt = omega arith
+  few_acts k f (more_of-TypedStmt x at row) =
+      let y = form_of k f x at in
+      omega (arith, few_act k f x at, few_acts k (f + length y.types) row, length-append y.types (row_form k (f + length y.types) row).types)
+
+pub few_form : (k : Typed) (f : ℕ) (x : TypedStmt) → length (stmt_form k f x).types ≤ typed_stmt_nodes x
+few_form k f x = few_act (objects Plain k) f x.kind x.at
+
+pub few_forms : (k : Typed) (f : ℕ) (xs : List TypedStmt) → length (stmts_form k f xs).types ≤ typed_stmts_nodes xs
+few_forms k f [] = omega arith
+few_forms k f (x ∷ xs) =
+    let y = stmt_form k f x in
+    omega (arith, few_form k f x, few_forms k (f + length y.types) xs, length-append y.types (stmts_form k (f + length y.types) xs).types, sum_by-cons typed_stmt_nodes x xs)
+
+pub few_held_stmt : (k : Typed) (f : ℕ) (o : Option TypedStmt) → length (held_stmt k f o).types ≤ typed_held_nodes o
+few_held_stmt k f None = omega arith
+few_held_stmt k f (Some x) = few_form k f x
 
 as_last : (m m2 : Made) (s : Span) (b : List NormalStmt) (v : List Ty) (b2 : List NormalStmt) (v2 : List Ty) (r : NormalStmtKind) → m ≡ m2 → IsLast m2 s b v b2 v2 r → IsLast m s b v b2 v2 r
 as_last m m2 s b v b2 v2 r e p = subst (λ z. IsLast z s b v b2 v2 r) (sym e) p
@@ -142,32 +307,29 @@ if_arm k e y o v i0 i1 v1 v2 v3 c p r n ie h i j s b =
     let yb = block_at k y v1 v2 r (f + length z.types) a i in
     let t = held_stmt k (f + length z.types + length m.types) o in
     let hb = held_at k o v2 v3 n (f + length z.types + length m.types) (longer v1 v2 m.types yb.1 ∙ ap (λ l. l + length m.types) a) j in
-    let kind : normal.If i1 c r n ≡ normal.If z.before (rest_of z e) (block_of m y.at) t.stmt =
-    ap (λ l. normal.If l c r n) (h.out.set ∙ ap (λ l. l ++ z.before) ie) ∙ ap (λ u. normal.If z.before u r n) h.out.rest ∙ ap (λ u. normal.If z.before (rest_of z e) u n) yb.0 ∙ ap (λ u. normal.If z.before (rest_of z e) (block_of m y.at) u) hb.0 in
+    let set = h.out.set ∙ ap (λ l. l ++ z.before) ie in
     as_last (form_of (objects Plain k) f (act.If e y o) s) (if_form k f e y o s) s b v b v3 (normal.If i1 c r n) (form_if k f e y o s)
-    (alone (z.types ++ (m.types ++ t.types)) (normal.If z.before (rest_of z e) (block_of m y.at) t.stmt) (normal.If i1 c r n) s b v v3 (behind v v1 v3 z.types (m.types ++ t.types) h.out.made (behind v1 v2 v3 m.types t.types yb.1 hb.1)) kind)
+    (alone (z.types ++ (m.types ++ t.types)) (normal.If z.before (rest_of z e) (block_of m y.at) t.stmt) (normal.If i1 c r n) s b v v3 (behind v v1 v3 z.types (m.types ++ t.types) h.out.made (behind v1 v2 v3 m.types t.types yb.1 hb.1)) (λ q. normal.If (set q) (h.out.rest q) (yb.0 q) (hb.0 q)))
 
 pub while_arm : (k : Typed) (e : TypedExpr) (y : TypedStmt) (v : List Ty) (i0 i1 : List NormalStmt) (v1 v2 : List Ty) (c : TypedExpr) (p : Bool) (r : NormalStmt) → i0 ≡ [] → IsExpanded e i0 v i1 v1 c p → IsBlock k y v1 v2 r → IsAlone k (act.While e y) v v2 (normal.While i1 c r)
+unfolding shape-the_row-TypedStmt-0 hidden-the_row-TypedStmt-0 shape-the_row-TypedStmt-1 hidden-the_row-TypedStmt-1 hidden
 while_arm k e y v i0 i1 v1 v2 c p r ie h i s b =
     let f = length v in
     let z = expand_expr f e in
     let m = stmt_form k (f + length z.types) y in
     let yb = block_at k y v1 v2 r (f + length z.types) (longer v v1 z.types h.out.made) i in
-    let kind : normal.While i1 c r ≡ normal.While z.before (rest_of z e) (block_of m y.at) =
-    ap (λ l. normal.While l c r) (h.out.set ∙ ap (λ l. l ++ z.before) ie) ∙ ap (λ u. normal.While z.before u r) h.out.rest ∙ ap (λ u. normal.While z.before (rest_of z e) u) yb.0 in
-    as_last (form_of (objects Plain k) f (act.While e y) s) (while_form k f e y s) s b v b v2 (normal.While i1 c r) (form_while k f e y s)
-    (alone (z.types ++ m.types) (normal.While z.before (rest_of z e) (block_of m y.at)) (normal.While i1 c r) s b v v2 (behind v v1 v2 z.types m.types h.out.made yb.1) kind)
+    let set = h.out.set ∙ ap (λ l. l ++ z.before) ie in
+    (alone (z.types ++ m.types) (normal.While z.before (rest_of z e) (block_of m y.at)) (normal.While i1 c r) s b v v2 (behind v v1 v2 z.types m.types h.out.made yb.1) (λ q. normal.While (set q) (h.out.rest q) (yb.0 q)))
 
 pub do_arm : (k : Typed) (y : TypedStmt) (e : TypedExpr) (v : List Ty) (i0 i1 : List NormalStmt) (v1 v2 : List Ty) (c : TypedExpr) (p : Bool) (r : NormalStmt) → IsBlock k y v v1 r → i0 ≡ [] → IsExpanded e i0 v1 i1 v2 c p → IsAlone k (act.DoWhile y e) v v2 (normal.DoWhile r i1 c)
+unfolding shape-the_row-TypedStmt-0 hidden-the_row-TypedStmt-0 shape-the_row-TypedStmt-1 hidden-the_row-TypedStmt-1 hidden
 do_arm k y e v i0 i1 v1 v2 c p r i ie h s b =
     let f = length v in
     let m = stmt_form k f y in
     let z = expand_expr (f + length m.types) e in
     let o = out_at e i0 v1 i1 v2 c p (f + length m.types) (longer v v1 m.types i.made) h in
-    let kind : normal.DoWhile r i1 c ≡ normal.DoWhile (block_of m y.at) z.before (rest_of z e) =
-    ap (λ u. normal.DoWhile u i1 c) i.rest ∙ ap (λ l. normal.DoWhile (block_of m y.at) l c) (o.set ∙ ap (λ l. l ++ z.before) ie) ∙ ap (λ u. normal.DoWhile (block_of m y.at) z.before u) o.rest in
-    as_last (form_of (objects Plain k) f (act.DoWhile y e) s) (do_form k f y e s) s b v b v2 (normal.DoWhile r i1 c) (form_do k f y e s)
-    (alone (m.types ++ z.types) (normal.DoWhile (block_of m y.at) z.before (rest_of z e)) (normal.DoWhile r i1 c) s b v v2 (behind v v1 v2 m.types z.types i.made o.made) kind)
+    let set = o.set ∙ ap (λ l. l ++ z.before) ie in
+    (alone (m.types ++ z.types) (normal.DoWhile (block_of m y.at) z.before (rest_of z e)) (normal.DoWhile r i1 c) s b v v2 (behind v v1 v2 m.types z.types i.made o.made) (λ q. normal.DoWhile (i.rest q) (set q) (o.rest q)))
 
 pub for_arm : (k : Typed) (first : List TypedStmt) (e : Option TypedExpr) (o : Option TypedStmt) (y : TypedStmt) (v : List Ty) (a0 a1 : List NormalStmt) (v1 : List Ty) (i0 i1 : List NormalStmt) (v2 v3 v4 : List Ty) (c : Option TypedExpr) (n : Option NormalStmt) (r : NormalStmt)
     → a0 ≡ [] → IsMade (stmts_form k (length v) first) a0 v a1 v1 → i0 ≡ [] → IsOptional e i0 v1 i1 v2 c → IsHeld k o v2 v3 n → IsBlock k y v3 v4 r → IsAlone k (act.For first e o y) v v4 (normal.For a1 i1 c n r)
@@ -186,12 +348,11 @@ for_arm k first e o y v a0 a1 v1 i0 i1 v2 v3 v4 c n r ae h ie i j l s b =
     let tb = held_at k o v2 v3 n ni e2 j in
     let e3 = longer v2 v3 t.types tb.1 ∙ ap (λ w. w + length t.types) e2 in
     let mb = block_at k y v3 v4 r nj e3 l in
-    let kind : normal.For a1 i1 c n r ≡ normal.For a.stmts z.before (rest_if_any z e) t.stmt (block_of m y.at) =
-    ap (λ u. normal.For u i1 c n r) (h.set ∙ ap (λ u. u ++ a.stmts) ae) ∙ ap (λ u. normal.For a.stmts u c n r) (zb.1 ∙ ap (λ u. u ++ z.before) ie) ∙ ap (λ u. normal.For a.stmts z.before u n r) zb.0 ∙ ap (λ u. normal.For a.stmts z.before (rest_if_any z e) u r) tb.0
-    ∙ ap (λ u. normal.For a.stmts z.before (rest_if_any z e) t.stmt u) mb.0 in
+    let opening = h.set ∙ ap (λ u. u ++ a.stmts) ae in
+    let set = zb.1 ∙ ap (λ u. u ++ z.before) ie in
     as_last (form_of (objects Plain k) f (act.For first e o y) s) (for_form k f first e o y s) s b v b v4 (normal.For a1 i1 c n r) (form_for k f first e o y s)
     (alone (a.types ++ (z.types ++ (t.types ++ m.types))) (normal.For a.stmts z.before (rest_if_any z e) t.stmt (block_of m y.at)) (normal.For a1 i1 c n r) s b v v4
-    (behind v v1 v4 a.types (z.types ++ (t.types ++ m.types)) h.made (behind v1 v2 v4 z.types (t.types ++ m.types) zb.2 (behind v2 v3 v4 t.types m.types tb.1 mb.1))) kind)
+    (behind v v1 v4 a.types (z.types ++ (t.types ++ m.types)) h.made (behind v1 v2 v4 z.types (t.types ++ m.types) zb.2 (behind v2 v3 v4 t.types m.types tb.1 mb.1))) (λ q. normal.For (opening q) (set q) (zb.0 q) (tb.0 q) (mb.0 q)))
 
 -- ---- assignments
 
@@ -203,8 +364,7 @@ plain_arm t t2 es e b v b1 v1 b2 v2 xs y p ese h0 i te s =
     let g = length v + length a.types in
     let z = expand_expr g e in
     let o = out_at e b1 v1 b2 v2 y p g (longer v v1 a.types h.made) i in
-    let kind : normal.Assign t2 y ≡ normal.Assign (target_with t a.exprs) (rest_of z e) = ap (λ u. normal.Assign u y) (te ∙ ap (target_with t) h.rest) ∙ ap (λ u. normal.Assign (target_with t a.exprs) u) o.rest in
-    one_last (a.before ++ z.before) (a.types ++ z.types) (normal.Assign (target_with t a.exprs) (rest_of z e)) (normal.Assign t2 y) s b v b2 v2 (behind b b1 b2 a.before z.before h.set o.set) (behind v v1 v2 a.types z.types h.made o.made) kind
+    one_last (a.before ++ z.before) (a.types ++ z.types) (normal.Assign (target_with t a.exprs) (rest_of z e)) (normal.Assign t2 y) s b v b2 v2 (behind b b1 b2 a.before z.before h.set o.set) (behind v v1 v2 a.types z.types h.made o.made) (λ q. normal.Assign ((te ∙ ap (target_with t) h.rest) q) (o.rest q))
 
 pub update_arm : (t t2 : TypedTarget) (es : List TypedExpr) (op : Binary) (ty j : Ty) (e : TypedExpr) (s : Span) (b : List NormalStmt) (v : List Ty) (b1 : List NormalStmt) (v1 : List Ty) (b2 : List NormalStmt) (v2 : List Ty) (xs : List TypedExpr) (y : TypedExpr) (p : Bool) (r : NormalStmtKind)
     → es ≡ t.indices → AreOut (set_all (length v) es) b v b1 v1 xs → IsExpanded e b1 v1 b2 v2 y p → t2 ≡ target_with t xs → r ≡ update_of t2 op ty j y s → IsLast (update_form (length v) t op ty j e s) s b v b2 v2 r
@@ -214,33 +374,7 @@ update_arm t t2 es op ty j e s b v b1 v1 b2 v2 xs y p r ese h0 i te re =
     let g = length v + length a.types in
     let z = expand_expr g e in
     let o = out_at e b1 v1 b2 v2 y p g (longer v v1 a.types h.made) i in
-    let same : r ≡ update_of (target_with t a.exprs) op ty j (rest_of z e) s = re ∙ ap (λ l. update_of l op ty j y s) (te ∙ ap (target_with t) h.rest) ∙ ap (λ l. update_of (target_with t a.exprs) op ty j l s) o.rest in
-    one_last (a.before ++ z.before) (a.types ++ z.types) (update_of (target_with t a.exprs) op ty j (rest_of z e) s) r s b v b2 v2 (behind b b1 b2 a.before z.before h.set o.set) (behind v v1 v2 a.types z.types h.made o.made) same
-
--- an update by a value that may rest on the joint type and the place
-update_same : (f : ℕ) (t2 t : TypedTarget) (op2 op : Binary) (ty2 ty j2 j : Ty) (value : Ty → Span → TypedExpr) (s2 s : Span) (b : List NormalStmt) (v : List Ty) (b2 : List NormalStmt) (v2 : List Ty) (r : NormalStmtKind) → t2 ≡ t → op2 ≡ op → ty2 ≡ ty → j2 ≡ j → s2 ≡ s
-    → IsLast (update_form f t2 op2 ty2 j2 (value j2 s2) s2) s2 b v b2 v2 r → IsLast (update_form f t op ty j (value j s) s) s b v b2 v2 r
-update_same f t2 t op2 op ty2 ty j2 j value s2 s b v b2 v2 r te oe tye je se h =
-    let same : update_form f t2 op2 ty2 j2 (value j2 s2) s2 ≡ update_form f t op ty j (value j s2) s2 =
-    ap (λ z. update_form f z op2 ty2 j2 (value j2 s2) s2) te ∙ ap (λ z. update_form f t z ty2 j2 (value j2 s2) s2) oe ∙ ap (λ z. update_form f t op z j2 (value j2 s2) s2) tye ∙ ap (λ z. update_form f t op ty z (value z s2) s2) je in
-    subst (λ z. IsLast (update_form f t op ty j (value j z) z) z b v b2 v2 r) se (subst (λ m. IsLast m s2 b v b2 v2 r) same h)
-
-pub plain_made : (k : Typed) (x : TypedStmt) (t : TypedTarget) (op : Option Binary) (e : TypedExpr) (b : List NormalStmt) (v : List Ty) (b2 : List NormalStmt) (v2 : List Ty) (r : NormalStmtKind) → x.kind ≡ act.Assign t op e → op ≡ None → ((s : Span) → IsLast (plain_form (length v) t e s) s b v b2 v2 r)
-    → IsLast (stmt_form k (length v) x) x.at b v b2 v2 r
-plain_made k x t op e b v b2 v2 r is none h = at_kind k x (act.Assign t None e) b v b2 v2 r (is ∙ ap (λ o. act.Assign t o e) none) (h x.at)
-
-pub compound_made : (k : Typed) (x : TypedStmt) (t t2 : TypedTarget) (op : Option Binary) (o op2 : Binary) (ty j : Ty) (e : TypedExpr) (s : Span) (b : List NormalStmt) (v : List Ty) (b2 : List NormalStmt) (v2 : List Ty) (r : NormalStmtKind)
-    → x.kind ≡ act.Assign t op e → op ≡ Some o → t2 ≡ t → op2 ≡ o → ty ≡ object_type (objects Plain k) t.to → j ≡ joint_type o (object_type (objects Plain k) t.to) e.ty → s ≡ x.at → IsLast (update_form (length v) t2 op2 ty j e s) s b v b2 v2 r → IsLast (stmt_form k (length v) x) x.at b v b2 v2 r
-compound_made k x t t2 op o op2 ty j e s b v b2 v2 r is some te oe tye je se h =
-    let u = object_type (objects Plain k) t.to in
-    at_kind k x (act.Assign t (Some o) e) b v b2 v2 r (is ∙ ap (λ q. act.Assign t q e) some) (update_same (length v) t2 t op2 o ty u j (joint_type o u e.ty) (λ _ _. e) s x.at b v b2 v2 r te oe tye je se h)
-
-pub step_made : (k : Typed) (x : TypedStmt) (t t2 : TypedTarget) (up : Bool) (op op2 : Binary) (ty j : Ty) (s : Span) (b : List NormalStmt) (v : List Ty) (b2 : List NormalStmt) (v2 : List Ty) (r : NormalStmtKind)
-    → x.kind ≡ act.Step t up → op ≡ step_operator up → t2 ≡ t → op2 ≡ op → ty ≡ object_type (objects Plain k) t.to → j ≡ joint_type op (object_type (objects Plain k) t.to) I32 → s ≡ x.at → IsLast (update_form (length v) t2 op2 ty j (of_type (expr.Number 1) j s) s) s b v b2 v2 r
-    → IsLast (stmt_form k (length v) x) x.at b v b2 v2 r
-step_made k x t t2 up op op2 ty j s b v b2 v2 r is ope te oe tye je se h =
-    let u = object_type (objects Plain k) t.to in
-    at_kind k x (act.Step t up) b v b2 v2 r is (update_same (length v) t2 t op2 (step_operator up) ty u j (joint_type (step_operator up) u I32) (of_type (expr.Number 1)) s x.at b v b2 v2 r te (oe ∙ ope) tye (je ∙ ap (λ q. joint_type q u I32) ope) se h)
+    one_last (a.before ++ z.before) (a.types ++ z.types) (update_of (target_with t a.exprs) op ty j (rest_of z e) s) r s b v b2 v2 (behind b b1 b2 a.before z.before h.set o.set) (behind v v1 v2 a.types z.types h.made o.made) (re ∙ (λ q. update_of ((te ∙ ap (target_with t) h.rest) q) op ty j (o.rest q) s))
 
 pub array_some : (xs : List ArrayOf) (a : ℕ) (x : ArrayOf) → slice_get xs a ≡ Some x → x.ty ≡ array_type xs a
 array_some [] a x e = absurd (none-some x e)

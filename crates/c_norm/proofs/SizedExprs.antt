@@ -43,25 +43,14 @@ pub record ListSizes (ss : List NormalStmt) (b s a : ℕ) : Type 0 where
 pub by_sizes : (x : NormalStmtKind) (z : Sizes) → SizesBy x z → HasSizes x z.blocks z.steps z.accesses
 by_sizes x z e = record { blocks = ap (λ (y : Sizes). y.blocks) e; steps = ap (λ (y : Sizes). y.steps) e; accesses = ap (λ (y : Sizes). y.accesses) e }
 
-pub no_sizes : ListSizes [] 0 0 0
-no_sizes = record { blocks = refl; steps = refl; accesses = refl }
-
 pub own_sizes : (ss : List NormalStmt) → ListSizes ss (blocks_of ss) (steps_of ss) (accesses_of ss)
 own_sizes ss = record { blocks = refl; steps = refl; accesses = refl }
 
 pub one_sizes : (x : NormalStmt) (b s a : ℕ) → HasSizes x.kind b s a → ListSizes (x ∷ []) b s a
-one_sizes x b s a h = record {
-  blocks = let e = sum_by-cons (λ (y : NormalStmt). closes y.kind) x [] in let i = h.blocks in omega arith;
-  steps = let e = sum_by-cons (λ (y : NormalStmt). steps y.kind) x [] in let i = h.steps in omega arith;
-  accesses = let e = sum_by-cons (λ (y : NormalStmt). accesses y.kind) x [] in let i = h.accesses in omega arith;
-}
+one_sizes x b s a h = omega (arith, sum_by-cons (λ (y : NormalStmt). closes y.kind) x [], sum_by-cons (λ (y : NormalStmt). steps y.kind) x [], sum_by-cons (λ (y : NormalStmt). accesses y.kind) x [])
 
 pub append_sizes : (xs ys : List NormalStmt) (b s a c t d : ℕ) → ListSizes xs b s a → ListSizes ys c t d → ListSizes (xs ++ ys) (b + c) (s + t) (a + d)
-append_sizes xs ys b s a c t d h i = record {
-  blocks = let e = sum_by-append (λ (y : NormalStmt). closes y.kind) xs ys in let u = h.blocks in let v = i.blocks in omega arith;
-  steps = let e = sum_by-append (λ (y : NormalStmt). steps y.kind) xs ys in let u = h.steps in let v = i.steps in omega arith;
-  accesses = let e = sum_by-append (λ (y : NormalStmt). accesses y.kind) xs ys in let u = h.accesses in let v = i.accesses in omega arith;
-}
+append_sizes xs ys b s a c t d h i = omega (arith, sum_by-append (λ (y : NormalStmt). closes y.kind) xs ys, sum_by-append (λ (y : NormalStmt). steps y.kind) xs ys, sum_by-append (λ (y : NormalStmt). accesses y.kind) xs ys)
 
 setting_sizes : (v : ℕ) (e : TypedExpr) (at : Span) → HasSizes (setting v e at).kind 0 (2 + expr_price e) (expr_reads e)
 setting_sizes v e at =
@@ -88,11 +77,7 @@ choice_sizes v cond e e2 before before2 at =
     let a = set_sizes v before e at in
     let b = set_sizes v before2 e2 at in
     let h = by_sizes (normal.If [] cond yes (Some no)) (sizes (0 + 1 + closes yes.kind + 1 + closes no.kind + 1) (0 + (expr_price cond + 2) + steps yes.kind + steps no.kind) (0 + expr_reads cond + accesses yes.kind + accesses no.kind)) (sizes_choice [] cond yes (Some no)) in
-    record {
-      blocks = let i = h.blocks in let c = y.blocks in let d = n.blocks in let p = a.blocks in let q = b.blocks in omega arith;
-      steps = let i = h.steps in let c = y.steps in let d = n.steps in let p = a.steps in let q = b.steps in omega arith;
-      accesses = let i = h.accesses in let c = y.accesses in let d = n.accesses in let p = a.accesses in let q = b.accesses in omega arith;
-    }
+    omega arith
 
 pub elements_are : {r s : Reading} → r ≡ s → r.elements ≡ s.elements
 elements_are e = ap (λ (y : Reading). y.elements) e
@@ -122,12 +107,7 @@ joined_sized op n n2 c c2 r r2 t t2 at at2 o o2 h i =
     let b = of_type o2.kind t2 at2 in
     let l = length-append o.types o2.types in
     let z = append_sizes o.before o2.before (blocks_of o.before) (steps_of o.before) (accesses_of o.before) (blocks_of o2.before) (steps_of o2.before) (accesses_of o2.before) (own_sizes o.before) (own_sizes o2.before) in
-    record {
-      types = let u = h.types in let v = i.types in omega arith;
-      blocks = let u = h.blocks in let v = i.blocks in let w = z.blocks in omega arith;
-      steps = let u = h.steps in let v = i.steps in let w = z.steps in let p = price_binary op a b in let q = operator_kept op in omega arith;
-      accesses = let u = h.accesses in let v = i.accesses in let w = z.accesses in let p = elements_are (reading_binary op a b) in omega arith;
-    }
+    omega (arith, price_binary op a b, operator_kept op, elements_are (reading_binary op a b))
 
 -- a choice after the settings of its condition; one variable more
 chosen_sized : (v : ℕ) (n n2 c r : ℕ) (cost elements : ℕ) (t : Ty) (at s : Span) (o : Out) (before before2 : List NormalStmt) (e e2 : TypedExpr) (types : List Ty) → Sized n c r o → blocks_of before + blocks_of before2 ≡ 3 * length types → 2 * length types + 1 ≤ n2
@@ -141,12 +121,7 @@ chosen_sized v n n2 c r cost elements t at s o before before2 e e2 types h three
     let d = expr_price cond + 2 + (steps_of before + (2 + expr_price e)) + (steps_of before2 + (2 + expr_price e2)) in
     let a = expr_reads cond + (accesses_of before + expr_reads e) + (accesses_of before2 + expr_reads e2) in
     let z = append_sizes o.before (x ∷ []) (blocks_of o.before) (steps_of o.before) (accesses_of o.before) b d a (own_sizes o.before) (one_sizes x b d a (choice_sizes v cond e e2 before before2 s)) in
-    record {
-      types = let u = h.types in omega arith;
-      blocks = let u = h.blocks in let w = z.blocks in omega arith;
-      steps = let u = h.steps in let w = z.steps in let p = price_variable v in omega arith;
-      accesses = let u = h.accesses in let w = z.accesses in let p = elements_are (reading_variable v) in omega arith;
-    }
+    omega (arith, price_variable v, elements_are (reading_variable v))
 
 constant_price : (m : ℕ) (s : Span) → expr_price (constant m s) ≡ 1
 constant_price m s = price_number m
@@ -192,12 +167,7 @@ choose_sized : (z : Bool) (x y : TypedExpr) (v n n2 n3 c c2 c3 r r2 r3 : ℕ) (t
     → Sized (1 + n + n2 + n3) (7 + c + c2 + c3) (r + r2 + r3) (choose_out z x y v o t at o2 t2 at2 o3 t3 at3 ty s)
 choose_sized true x y v n n2 n3 c c2 c3 r r2 r3 t t2 t3 ty at at2 at3 s o o2 o3 px py rx ry h i j =
     let cond = of_type o.kind t at in
-    record {
-      types = let u = h.types in omega arith;
-      blocks = h.blocks;
-      steps = let u = h.steps in let p = price_choice cond x y in omega arith;
-      accesses = let u = h.accesses in let p = elements_are (reading_choice cond x y) in omega arith;
-    }
+    omega (arith, price_choice cond x y, elements_are (reading_choice cond x y))
 choose_sized false x y v n n2 n3 c c2 c3 r r2 r3 t t2 t3 ty at at2 at3 s o o2 o3 px py rx ry h i j =
     let e2 = of_type o2.kind t2 at2 in
     let e3 = of_type o3.kind t3 at3 in
@@ -214,12 +184,7 @@ more_sized n m c d r q t at o p h i =
     let e = of_type o.kind t at in
     let l = length-append o.types p.types in
     let z = append_sizes o.before p.before (blocks_of o.before) (steps_of o.before) (accesses_of o.before) (blocks_of p.before) (steps_of p.before) (accesses_of p.before) (own_sizes o.before) (own_sizes p.before) in
-    record {
-      types = let u = h.types in let v = i.types in omega arith;
-      blocks = let u = h.blocks in let v = i.blocks in let w = z.blocks in omega arith;
-      steps = let u = h.steps in let v = i.steps in let w = z.steps in let s = sum_by-cons (λ e. 4 + expr_price e) e p.exprs in omega arith;
-      accesses = let u = h.accesses in let v = i.accesses in let w = z.accesses in let s = sum_by-cons expr_reads e p.exprs in omega arith;
-    }
+    omega (arith, sum_by-cons (λ e. 4 + expr_price e) e p.exprs, sum_by-cons expr_reads e p.exprs)
 
 none_sized : AllSized 0 0 0 (record { before = []; exprs = []; types = [] })
 none_sized = record { types = omega arith; blocks = refl; steps = omega arith; accesses = omega arith }
@@ -231,39 +196,19 @@ mutual
   sized (tree.Element' a n row) ty s f =
       let o = expand_row f row in
       let h = row_sized row f in
-      record {
-        types = let u = h.types in omega arith;
-        blocks = h.blocks;
-        steps = let u = h.steps in let p = price_element a o.exprs in omega arith;
-        accesses = let u = h.accesses in let p = elements_are (reading_element a o.exprs) in omega arith;
-      }
+      omega (arith, price_element a o.exprs, elements_are (reading_element a o.exprs))
   sized (tree.Unary' op b (more_of-TypedExpr e t at end_of-TypedExpr)) ty s f =
       let o = expand f e t at in
       let h = sized e t at f in
-      record {
-        types = let u = h.types in omega arith;
-        blocks = h.blocks;
-        steps = let u = h.steps in let p = price_unary op (of_type o.kind t at) in omega arith;
-        accesses = let u = h.accesses in let p = elements_are (reading_unary op (of_type o.kind t at)) in omega arith;
-      }
+      omega (arith, price_unary op (of_type o.kind t at), elements_are (reading_unary op (of_type o.kind t at)))
   sized (tree.Cast' true b (more_of-TypedExpr e t at end_of-TypedExpr)) ty s f =
       let o = expand f e t at in
       let h = sized e t at f in
-      record {
-        types = h.types;
-        blocks = h.blocks;
-        steps = let u = h.steps in let p = price_cast true (of_type o.kind t at) in omega arith;
-        accesses = let u = h.accesses in let p = elements_are (reading_cast true (of_type o.kind t at)) in omega arith;
-      }
+      omega (arith, price_cast true (of_type o.kind t at), elements_are (reading_cast true (of_type o.kind t at)))
   sized (tree.Cast' false b (more_of-TypedExpr e t at end_of-TypedExpr)) ty s f =
       let o = expand f e t at in
       let h = sized e t at f in
-      record {
-        types = let u = h.types in omega arith;
-        blocks = h.blocks;
-        steps = let u = h.steps in let p = price_cast false (of_type o.kind t at) in omega arith;
-        accesses = let u = h.accesses in let p = elements_are (reading_cast false (of_type o.kind t at)) in omega arith;
-      }
+      omega (arith, price_cast false (of_type o.kind t at), elements_are (reading_cast false (of_type o.kind t at)))
   sized (tree.Binary' op b (more_of-TypedExpr e t at end_of-TypedExpr) b2 (more_of-TypedExpr e2 t2 at2 end_of-TypedExpr)) ty s f =
       let o = expand f e t at in
       let g = f + length o.types in
@@ -319,10 +264,4 @@ set_sized (e ∷ es) f =
     let a = setting_sizes v (rest_of o e) e.at in
     let l = length-append o.types (e.ty ∷ r.types) in
     let n = sum_by-cons typed_expr_nodes e es in
-    record {
-      blocks = let p = sum_by-append (λ (y : NormalStmt). closes y.kind) o.before (st ∷ r.before) in let q = sum_by-cons (λ (y : NormalStmt). closes y.kind) st r.before in let b = a.blocks in let u = x.blocks in let w = y.blocks in let t = x.types in omega arith;
-      steps = let p = sum_by-append (λ (y : NormalStmt). steps y.kind) o.before (st ∷ r.before) in let q = sum_by-cons (λ (y : NormalStmt). steps y.kind) st r.before in let b = a.steps in let u = x.steps in let w = y.steps in omega arith;
-      accesses = let p = sum_by-append (λ (y : NormalStmt). accesses y.kind) o.before (st ∷ r.before) in let q = sum_by-cons (λ (y : NormalStmt). accesses y.kind) st r.before in let b = a.accesses in let u = x.accesses in let w = y.accesses in let s = sum_by-cons expr_reads e es in omega arith;
-      price = let p = sum_by-cons (λ e. 4 + expr_price e) var r.exprs in let q = price_variable v in let w = y.price in omega arith;
-      reads = let p = sum_by-cons expr_reads var r.exprs in let q = elements_are (reading_variable v) in let w = y.reads in omega arith;
-    }
+    omega (arith, sum_by-append (λ (y : NormalStmt). closes y.kind) o.before (st ∷ r.before), sum_by-cons (λ (y : NormalStmt). closes y.kind) st r.before, sum_by-append (λ (y : NormalStmt). steps y.kind) o.before (st ∷ r.before), sum_by-cons (λ (y : NormalStmt). steps y.kind) st r.before, sum_by-append (λ (y : NormalStmt). accesses y.kind) o.before (st ∷ r.before), sum_by-cons (λ (y : NormalStmt). accesses y.kind) st r.before, sum_by-cons expr_reads e es, sum_by-cons (λ e. 4 + expr_price e) var r.exprs, price_variable v, sum_by-cons expr_reads var r.exprs, elements_are (reading_variable v))

@@ -26,19 +26,19 @@ use Rattle.c_ast.specs.declared.normal.NormalStmtKind.{NormalStmtKind}
 use Rattle.c_ast.specs.declared.normal.NormalStmtKind.TheVariants as normal
 use Rattle.c_meaning.specs.Stores.{Objects}
 use Rattle.c_meaning.specs.Statements.{object_type, step_operator}
-use Rattle.c_meaning.specs.Counts.{kind_price, expr_price, option_price, assignment_price}
+use Rattle.c_meaning.specs.Counts.{kind_price, expr_price, option_price}
 use Rattle.c_meaning.specs.Lawful.{LawfulExpr, LawfulOption, LawfulReturn, LawfulStmt, LawfulStmtHeld, LawfulStmts, IsObject, object_vars, stmt_vars_of, stmt_vars_held, stmt_vars_row, all_vars}
-use Rattle.c_meaning.specs.Sizes.{closes, steps, accesses, reads, reads_row, expr_reads, option_reads, object_writes, target_accesses}
-use Rattle.c_meaning.specs.PartLaws.{sizes, blocks_of, steps_of, accesses_of, blocks_if_any, blocks_of_step, steps_if_any, accesses_if_any}
+use Rattle.c_meaning.specs.Sizes.{Sizes, reads, reads_row, expr_reads, option_reads, object_writes}
+use Rattle.c_meaning.specs.PartLaws.{SizesBy, blocks_of, steps_of, accesses_of, blocks_if_any, blocks_of_step, steps_if_any, accesses_if_any}
 use Rattle.c_meaning.proofs.PartsOfNumbers.{price_number}
-use Rattle.c_meaning.proofs.PartsOfSizes.{sizes_declaration, sizes_assignment, sizes_choice, sizes_while_loop, sizes_do_loop, sizes_for_loop, sizes_leaving, sizes_continuing, sizes_returning, sizes_empty, reading_number, reading_variable, reading_element, reading_cast, reading_binary}
+use Rattle.c_meaning.proofs.PartsOfSizes.{sizes_block, sizes_declaration, sizes_assignment, sizes_choice, sizes_while_loop, sizes_do_loop, sizes_for_loop, sizes_leaving, sizes_continuing, sizes_returning, sizes_empty, reading_number, reading_variable, reading_element, reading_cast, reading_binary}
 use Rattle.c_meaning.proofs.FewVars.{object_few}
 use Rattle.c_norm.specs.Expand.{Out, whole, decided_by, expand_expr, rest_of, expand_all, set_all}
-use Rattle.c_norm.specs.Forms.{Made, normal_at, block_of, optional, rest_if_any, object_kind, cast_to, new_value, target_with, compound, assignment_form, step_form, MadeIfAny, form_of, held_form, row_form, all_forms}
+use Rattle.c_norm.specs.Forms.{normal_at, block_of, optional, rest_if_any, object_kind, cast_to, new_value, target_with, compound, assignment_form, step_form, MadeIfAny, form_of, held_form, row_form, all_forms}
 use Rattle.c_norm.proofs.Costs.{kind_cost}
 use Rattle.c_norm.proofs.Dimensions.{FewDimensions, at_most_three}
 use Rattle.c_norm.proofs.Targets.{expr_bounded, costs_bounded, target_price_is, new_price}
-use Rattle.c_norm.proofs.SizedExprs.{HasSizes, by_sizes, own_sizes, one_sizes, append_sizes, block_sizes, elements_are, sized, all_sized, set_sized}
+use Rattle.c_norm.proofs.SizedExprs.{by_sizes, own_sizes, one_sizes, append_sizes, block_sizes, elements_are, sized, all_sized, set_sized}
 
 -- ---- an expression reads at most as many elements as it has nodes
 
@@ -83,16 +83,16 @@ record OptionSized (n : ℕ) (o : Out) (rest : Option TypedExpr) : Type 0 where
   steps : steps_of o.before + option_price rest ≤ 13 * n
   accesses : accesses_of o.before + option_reads rest ≤ n
 
--- settings, and one statement that ends b blocks
-made_sized : (before : List NormalStmt) (kind : NormalStmtKind) (at : Span) (types : List Ty) (n d b s a : ℕ) → HasSizes kind b s a → blocks_of before + b + 4 * (length types + d) ≤ 4 * n → steps_of before + s ≤ 13 * n → accesses_of before + a ≤ n
+-- settings, and one statement of sizes z
+made_sized : (before : List NormalStmt) (kind : NormalStmtKind) (at : Span) (types : List Ty) (n d : ℕ) (z : Sizes) → SizesBy kind z → blocks_of before + z.blocks + 4 * (length types + d) ≤ 4 * n → steps_of before + z.steps ≤ 13 * n → accesses_of before + z.accesses ≤ n
     → StmtSized n d (before ++ normal_at kind at ∷ []) types
-made_sized before kind at types n d b s a h p q r =
-    let z = append_sizes before (normal_at kind at ∷ []) (blocks_of before) (steps_of before) (accesses_of before) b s a (own_sizes before) (one_sizes (normal_at kind at) b s a h) in
-    record { blocks = let i = z.blocks in omega arith; steps = let i = z.steps in omega arith; accesses = let i = z.accesses in omega arith }
+made_sized before kind at types n d z e p q r =
+    let x = append_sizes before (normal_at kind at ∷ []) (blocks_of before) (steps_of before) (accesses_of before) z.blocks z.steps z.accesses (own_sizes before) (one_sizes (normal_at kind at) z.blocks z.steps z.accesses (by_sizes kind z e)) in
+    record { blocks = let i = x.blocks in omega arith; steps = let i = x.steps in omega arith; accesses = let i = x.accesses in omega arith }
 
 -- one statement alone
-one_sized : (kind : NormalStmtKind) (at : Span) (types : List Ty) (n d b s a : ℕ) → HasSizes kind b s a → b + 4 * (length types + d) ≤ 4 * n → s ≤ 13 * n → a ≤ n → StmtSized n d (normal_at kind at ∷ []) types
-one_sized kind at types n d b s a h p q r = made_sized [] kind at types n d b s a h (omega arith) (omega arith) (omega arith)
+one_sized : (kind : NormalStmtKind) (at : Span) (types : List Ty) (n d : ℕ) (z : Sizes) → SizesBy kind z → z.blocks + 4 * (length types + d) ≤ 4 * n → z.steps ≤ 13 * n → z.accesses ≤ n → StmtSized n d (normal_at kind at ∷ []) types
+one_sized kind at types n d z e p q r = made_sized [] kind at types n d z e (omega arith) (omega arith) (omega arith)
 
 new_reads : (d : Option Bool) (op : Binary) (t j : Ty) (old e : TypedExpr) (s : Span) → expr_reads (new_value d op t j old e s) ≤ expr_reads old + expr_reads e
 new_reads None op t j old e s =
@@ -111,9 +111,6 @@ writes_few : (to : Object) → object_writes to ≤ 1
 writes_few (object.Var v) = omega arith
 writes_few (object.Array a) = omega arith
 
-assignment_sizes : (target : TypedTarget) (e : TypedExpr) → HasSizes (normal.Assign target e) 0 (assignment_price target e) (target_accesses target + expr_reads e)
-assignment_sizes target e = by_sizes (normal.Assign target e) (sizes 0 (assignment_price target e) (target_accesses target + expr_reads e)) (sizes_assignment target e)
-
 module _ (k : Objects) (flat : FewDimensions k) (result : Option Ty) where
   option_sized : (e : Option TypedExpr) (f : ℕ) → LawfulOption (LawfulExpr k) e → OptionSized (typed_opt_nodes e) (optional f e) (rest_if_any (optional f e) e)
   option_sized None f h = record { types = omega arith; blocks = refl; steps = omega arith; accesses = omega arith }
@@ -128,7 +125,7 @@ module _ (k : Objects) (flat : FewDimensions k) (result : Option Ty) where
       let o = optional f e in
       let rest = rest_if_any o e in
       let x = option_sized e f h in
-      made_sized o.before (normal.Declare v rest) s o.types (1 + typed_opt_nodes e) 1 0 (option_price rest) (option_reads rest) (by_sizes (normal.Declare v rest) (sizes 0 (option_price rest) (option_reads rest)) (sizes_declaration v rest))
+      made_sized o.before (normal.Declare v rest) s o.types (1 + typed_opt_nodes e) 1 _ (sizes_declaration v rest)
       (let u = x.types in let w = x.blocks in omega arith) (let u = x.steps in omega arith) (let u = x.accesses in omega arith)
 
   return_sized : (e : Option TypedExpr) (f : ℕ) (s : Span) → LawfulOption (LawfulExpr k) e → StmtSized (1 + typed_opt_nodes e) 0 (form_of k f (tree.Return e) s).stmts (form_of k f (tree.Return e) s).types
@@ -136,7 +133,7 @@ module _ (k : Objects) (flat : FewDimensions k) (result : Option Ty) where
       let o = optional f e in
       let rest = rest_if_any o e in
       let x = option_sized e f h in
-      made_sized o.before (normal.Return rest) s o.types (1 + typed_opt_nodes e) 0 1 (option_price rest) (option_reads rest) (by_sizes (normal.Return rest) (sizes 1 (option_price rest) (option_reads rest)) (sizes_returning rest))
+      made_sized o.before (normal.Return rest) s o.types (1 + typed_opt_nodes e) 0 _ (sizes_returning rest)
       (let u = x.types in let w = x.blocks in omega arith) (let u = x.steps in omega arith) (let u = x.accesses in omega arith)
 
   plain_sized : (target : TypedTarget) (e : TypedExpr) (f : ℕ) (s : Span) → All (LawfulExpr k) target.indices → LawfulExpr k e
@@ -158,7 +155,7 @@ module _ (k : Objects) (flat : FewDimensions k) (result : Option Ty) where
       let tp = target_price_is i.exprs in
       let ri = all_read target.indices in
       let re = kind_reads e.kind in
-      made_sized (i.before ++ o.before) (normal.Assign to rest) s (i.types ++ o.types) (2 + typed_exprs_nodes target.indices + typed_expr_nodes e) (length (object_vars target.to)) 0 (assignment_price to rest) (target_accesses to + expr_reads rest) (assignment_sizes to rest)
+      made_sized (i.before ++ o.before) (normal.Assign to rest) s (i.types ++ o.types) (2 + typed_exprs_nodes target.indices + typed_expr_nodes e) (length (object_vars target.to)) _ (sizes_assignment to rest)
       (let u = x.blocks in let w = y.blocks in let v = z.blocks in let m = x.types in let n = y.types in omega arith) (let u = x.steps in let w = y.steps in let v = z.steps in omega arith) (let u = x.accesses in let w = y.accesses in let v = z.accesses in omega arith)
 
   -- m, c and r: the nodes, the cost and the reads of the value that is joined
@@ -182,7 +179,7 @@ module _ (k : Objects) (flat : FewDimensions k) (result : Option Ty) where
       let nr = new_reads (decided_by op) op t j old rest s in
       let or = object_reads target.to i.exprs x.reads in
       let ri = all_read target.indices in
-      made_sized (i.before ++ o.before) (normal.Assign to new) s (i.types ++ o.types) (2 + typed_exprs_nodes target.indices + m) (length (object_vars target.to)) 0 (assignment_price to new) (target_accesses to + expr_reads new) (assignment_sizes to new)
+      made_sized (i.before ++ o.before) (normal.Assign to new) s (i.types ++ o.types) (2 + typed_exprs_nodes target.indices + m) (length (object_vars target.to)) _ (sizes_assignment to new)
       (let u = x.blocks in let v = z.blocks in omega arith) (let u = x.steps in let v = z.steps in let w = x.price in omega arith) (let u = x.accesses in let v = z.accesses in let w = x.reads in omega arith)
 
   assign_sized : (loop : Bool) (target : TypedTarget) (op : Option Binary) (e : TypedExpr) (f : ℕ) (s : Span) → LawfulStmt k result loop (tree.Assign target op e)
@@ -204,77 +201,15 @@ module _ (k : Objects) (flat : FewDimensions k) (result : Option Ty) where
       let q = elements_are (reading_number 1) in
       compound_sized target op t j (whole (expr.Number 1)) (of_type (expr.Number 1) j s) f s 0 1 0 (at_most_three k flat target.to (length target.indices) h.0 h.1.0) h.1.1 (omega arith) refl (omega arith) (omega arith) (omega arith) (omega arith)
 
-  block_part : (y : Made) (at : Span) → HasSizes (block_of y at).kind (blocks_of y.stmts) (steps_of y.stmts) (accesses_of y.stmts)
-  block_part y at = block_sizes y.stmts
-
   three_types : (xs ys zs : List Ty) → length (xs ++ (ys ++ zs)) ≡ length xs + length ys + length zs
   three_types xs ys zs = let p = length-append xs (ys ++ zs) in let q = length-append ys zs in omega arith
-
-  if_sized : (c : Out) (cond : TypedExpr) (y : Made) (at s : Span) (o : MadeIfAny) (n m l d b : ℕ) → OptionSized n c (Some (rest_of c cond)) → steps_of c.before + expr_price (rest_of c cond) + 2 ≤ 13 * n → StmtSized m d y.stmts y.types → HeldSized l b o
-      → StmtSized (1 + n + m + l) (d + b) (normal_at (normal.If c.before (rest_of c cond) (block_of y at) o.stmt) s ∷ []) (c.types ++ (y.types ++ o.types))
-  if_sized c cond y at s o n m l d b hc steps2 hy ho =
-      let rest = rest_of c cond in
-      let part = block_of y at in
-      let p = block_part y at in
-      let w = three_types c.types y.types o.types in
-      one_sized (normal.If c.before rest part o.stmt) s (c.types ++ (y.types ++ o.types)) (1 + n + m + l) (d + b)
-      (blocks_of c.before + 1 + closes part.kind + 1 + blocks_if_any o.stmt + 1) (steps_of c.before + (expr_price rest + 2) + steps part.kind + steps_if_any o.stmt) (accesses_of c.before + expr_reads rest + accesses part.kind + accesses_if_any o.stmt)
-      (by_sizes (normal.If c.before rest part o.stmt) (sizes (blocks_of c.before + 1 + closes part.kind + 1 + blocks_if_any o.stmt + 1) (steps_of c.before + (expr_price rest + 2) + steps part.kind + steps_if_any o.stmt) (accesses_of c.before + expr_reads rest + accesses part.kind + accesses_if_any o.stmt)) (sizes_choice c.before rest part o.stmt))
-      (let u = p.blocks in let v = hc.blocks in let q = hc.types in let r = hy.blocks in let z = ho.blocks in omega arith)
-      (let u = p.steps in let r = hy.steps in let z = ho.steps in omega arith)
-      (let u = p.accesses in let v = hc.accesses in let r = hy.accesses in let z = ho.accesses in omega arith)
-
-  while_sized : (c : Out) (cond : TypedExpr) (y : Made) (at s : Span) (n m d : ℕ) → OptionSized n c (Some (rest_of c cond)) → steps_of c.before + expr_price (rest_of c cond) + 2 ≤ 13 * n → StmtSized m d y.stmts y.types
-      → StmtSized (1 + n + m) d (normal_at (normal.While c.before (rest_of c cond) (block_of y at)) s ∷ []) (c.types ++ y.types)
-  while_sized c cond y at s n m d hc steps2 hy =
-      let rest = rest_of c cond in
-      let part = block_of y at in
-      let p = block_part y at in
-      let w = length-append c.types y.types in
-      let b = 1 + blocks_of c.before + 1 + closes part.kind + 1 in
-      let t = steps_of c.before + (expr_price rest + 2) + steps part.kind in
-      let a = accesses_of c.before + expr_reads rest + accesses part.kind in
-      one_sized (normal.While c.before rest part) s (c.types ++ y.types) (1 + n + m) d b t a (by_sizes (normal.While c.before rest part) (sizes b t a) (sizes_while_loop c.before rest part))
-      (let u = p.blocks in let v = hc.blocks in let q = hc.types in let r = hy.blocks in omega arith) (let u = p.steps in let r = hy.steps in omega arith) (let u = p.accesses in let v = hc.accesses in let r = hy.accesses in omega arith)
-
-  do_sized : (c : Out) (cond : TypedExpr) (y : Made) (at s : Span) (n m d : ℕ) → OptionSized n c (Some (rest_of c cond)) → steps_of c.before + expr_price (rest_of c cond) + 2 ≤ 13 * n → StmtSized m d y.stmts y.types
-      → StmtSized (1 + m + n) d (normal_at (normal.DoWhile (block_of y at) c.before (rest_of c cond)) s ∷ []) (y.types ++ c.types)
-  do_sized c cond y at s n m d hc steps2 hy =
-      let rest = rest_of c cond in
-      let part = block_of y at in
-      let p = block_part y at in
-      let w = length-append y.types c.types in
-      let b = 1 + closes part.kind + 1 + blocks_of c.before + 1 in
-      let t = steps part.kind + steps_of c.before + (expr_price rest + 2) in
-      let a = accesses part.kind + accesses_of c.before + expr_reads rest in
-      one_sized (normal.DoWhile part c.before rest) s (y.types ++ c.types) (1 + m + n) d b t a (by_sizes (normal.DoWhile part c.before rest) (sizes b t a) (sizes_do_loop part c.before rest))
-      (let u = p.blocks in let v = hc.blocks in let q = hc.types in let r = hy.blocks in omega arith) (let u = p.steps in let r = hy.steps in omega arith) (let u = p.accesses in let v = hc.accesses in let r = hy.accesses in omega arith)
-
-  for_sized : (i : Made) (c : Out) (rest : Option TypedExpr) (o : MadeIfAny) (y : Made) (at s : Span) (h n l m d e b : ℕ) → StmtSized h d i.stmts i.types → OptionSized n c rest → HeldSized l e o → StmtSized m b y.stmts y.types
-      → StmtSized (1 + h + n + l + m) (d + e + b) (normal_at (normal.For i.stmts c.before rest o.stmt (block_of y at)) s ∷ []) (i.types ++ (c.types ++ (o.types ++ y.types)))
-  for_sized i c rest o y at s h n l m d e b hi hc ho hy =
-      let part = block_of y at in
-      let p = block_part y at in
-      let w = length-append i.types (c.types ++ (o.types ++ y.types)) in
-      let w2 = three_types c.types o.types y.types in
-      let q = blocks_of i.stmts + 1 + blocks_of c.before + 1 + closes part.kind + 1 + blocks_of_step o.stmt in
-      let t = steps_of i.stmts + steps_of c.before + (option_price rest + 2) + steps part.kind + steps_if_any o.stmt in
-      let a = accesses_of i.stmts + accesses_of c.before + option_reads rest + accesses part.kind + accesses_if_any o.stmt in
-      one_sized (normal.For i.stmts c.before rest o.stmt part) s (i.types ++ (c.types ++ (o.types ++ y.types))) (1 + h + n + l + m) (d + e + b) q t a (by_sizes (normal.For i.stmts c.before rest o.stmt part) (sizes q t a) (sizes_for_loop i.stmts c.before rest o.stmt part))
-      (let u = p.blocks in let v = hc.blocks in let z = hc.types in let r = hy.blocks in let f = hi.blocks in let g = ho.blocks in let x = ho.stepping in omega arith)
-      (let u = p.steps in let v = hc.steps in let r = hy.steps in let f = hi.steps in let g = ho.steps in omega arith)
-      (let u = p.accesses in let v = hc.accesses in let r = hy.accesses in let f = hi.accesses in let g = ho.accesses in omega arith)
 
   more_stmts : (n m d e : ℕ) (xs ys : List NormalStmt) (ts us : List Ty) (vs ws : List ℕ) → length vs ≡ d → length ws ≡ e → StmtSized n d xs ts → StmtSized m e ys us → StmtSized (n + m) (length (vs ++ ws)) (xs ++ ys) (ts ++ us)
   more_stmts n m d e xs ys ts us vs ws ld le h i =
       let z = append_sizes xs ys (blocks_of xs) (steps_of xs) (accesses_of xs) (blocks_of ys) (steps_of ys) (accesses_of ys) (own_sizes xs) (own_sizes ys) in
       let l = length-append ts us in
       let q = length-append vs ws in
-      record {
-        blocks = let a = z.blocks in let b = h.blocks in let c = i.blocks in omega arith;
-        steps = let a = z.steps in let b = h.steps in let c = i.steps in omega arith;
-        accesses = let a = z.accesses in let b = h.accesses in let c = i.accesses in omega arith;
-      }
+      omega arith
 
   -- the same number of nodes and of variables, written otherwise
   resized : (n m d e : ℕ) (ss : List NormalStmt) (ts : List Ty) → n ≡ m → d ≡ e → StmtSized n d ss ts → StmtSized m e ss ts
@@ -297,7 +232,7 @@ module _ (k : Objects) (flat : FewDimensions k) (result : Option Ty) where
     stmt_sized (tree.Block' n row) loop s f h =
         let b = row_form k f row in
         let x = stmts_sized row loop f h in
-        one_sized (normal.Block b.stmts) s b.types (1 + acts_nodes row) (length (stmt_vars_row row)) (blocks_of b.stmts) (steps_of b.stmts) (accesses_of b.stmts) (block_sizes b.stmts) (let u = x.blocks in omega arith) (let u = x.steps in omega arith) (let u = x.accesses in omega arith)
+        one_sized (normal.Block b.stmts) s b.types (1 + acts_nodes row) (length (stmt_vars_row row)) _ (sizes_block b.stmts) (omega arith) (omega arith) (omega arith)
     stmt_sized (tree.Declare v None) loop s f h = declare_sized v None f s tt
     stmt_sized (tree.Declare v (Some e)) loop s f h = declare_sized v (Some e) f s h.1
     stmt_sized (tree.Assign target op e) loop s f h =
@@ -309,17 +244,33 @@ module _ (k : Objects) (flat : FewDimensions k) (result : Option Ty) where
         let g = f + length c.types in
         let y = form_of k g x at in
         let n = held_form k (g + length y.types) o in
+        let few = condition_few f cond h.0 in
+        let hc = option_sized (Some cond) f h.0 in
+        let hy = stmt_sized x loop at g h.1 in
+        let ho = held_sized o loop (g + length y.types) h.2 in
+        let p = block_sizes y.stmts in
+        let w = three_types c.types y.types n.types in
         let l = length-append (stmt_vars_of x) (stmt_vars_held o) in
-        resized (1 + typed_expr_nodes cond + act_nodes x + held_act_nodes o) (1 + typed_expr_nodes cond + act_nodes x + held_act_nodes o) (length (stmt_vars_of x) + length (stmt_vars_held o)) (length (stmt_vars_of x ++ stmt_vars_held o)) (form_of k f (tree.If' cond b (more_of-TypedStmt x at end_of-TypedStmt) o) s).stmts (c.types ++ (y.types ++ n.types)) refl (omega arith)
-        (if_sized c cond y at s n (typed_expr_nodes cond) (act_nodes x) (held_act_nodes o) (length (stmt_vars_of x)) (length (stmt_vars_held o)) (option_sized (Some cond) f h.0) (condition_few f cond h.0) (stmt_sized x loop at g h.1) (held_sized o loop (g + length y.types) h.2))
+        one_sized _ s _ _ _ _ (sizes_choice c.before (rest_of c cond) (block_of y at) n.stmt) (omega arith) (omega arith) (omega arith)
     stmt_sized (tree.While' cond b (more_of-TypedStmt x at end_of-TypedStmt)) loop s f h =
         let c = expand_expr f cond in
-        let g = f + length c.types in
-        while_sized c cond (form_of k g x at) at s (typed_expr_nodes cond) (act_nodes x) (length (stmt_vars_of x)) (option_sized (Some cond) f h.0) (condition_few f cond h.0) (stmt_sized x true at g h.1)
+        let y = form_of k (f + length c.types) x at in
+        let few = condition_few f cond h.0 in
+        let hc = option_sized (Some cond) f h.0 in
+        let hy = stmt_sized x true at (f + length c.types) h.1 in
+        let p = block_sizes y.stmts in
+        let w = length-append c.types y.types in
+        one_sized _ s _ _ _ _ (sizes_while_loop c.before (rest_of c cond) (block_of y at)) (omega arith) (omega arith) (omega arith)
     stmt_sized (tree.DoWhile' b (more_of-TypedStmt x at end_of-TypedStmt) cond) loop s f h =
         let y = form_of k f x at in
         let g = f + length y.types in
-        do_sized (expand_expr g cond) cond y at s (typed_expr_nodes cond) (act_nodes x) (length (stmt_vars_of x)) (option_sized (Some cond) g h.1) (condition_few g cond h.1) (stmt_sized x true at f h.0)
+        let c = expand_expr g cond in
+        let few = condition_few g cond h.1 in
+        let hc = option_sized (Some cond) g h.1 in
+        let hy = stmt_sized x true at f h.0 in
+        let p = block_sizes y.stmts in
+        let w = length-append y.types c.types in
+        one_sized _ s _ _ _ _ (sizes_do_loop (block_of y at) c.before (rest_of c cond)) (omega arith) (omega arith) (omega arith)
     stmt_sized (tree.For' n first cond o b (more_of-TypedStmt x at end_of-TypedStmt)) loop s f h =
         let i = row_form k f first in
         let g = f + length i.types in
@@ -328,24 +279,28 @@ module _ (k : Objects) (flat : FewDimensions k) (result : Option Ty) where
         let p = held_form k g2 o in
         let g3 = g2 + length p.types in
         let y = form_of k g3 x at in
+        let hi = stmts_sized first false f h.0 in
+        let hc = option_sized cond g h.1 in
+        let ho = held_sized o false g2 h.2 in
+        let hy = stmt_sized x true at g3 h.3 in
+        let q = block_sizes y.stmts in
+        let w = length-append i.types (c.types ++ (p.types ++ y.types)) in
+        let w2 = three_types c.types p.types y.types in
         let l = length-append (stmt_vars_row first ++ stmt_vars_held o) (stmt_vars_of x) in
         let l2 = length-append (stmt_vars_row first) (stmt_vars_held o) in
-        let nodes = act_nodes (tree.For' n first cond o b (more_of-TypedStmt x at end_of-TypedStmt)) in
-        resized nodes nodes (length (stmt_vars_row first) + length (stmt_vars_held o) + length (stmt_vars_of x)) (length (stmt_vars_row first ++ stmt_vars_held o ++ stmt_vars_of x)) (form_of k f (tree.For' n first cond o b (more_of-TypedStmt x at end_of-TypedStmt)) s).stmts (i.types ++ (c.types ++ (p.types ++ y.types))) refl (omega arith)
-        (for_sized i c (rest_if_any c cond) p y at s (acts_nodes first) (typed_opt_nodes cond) (held_act_nodes o) (act_nodes x) (length (stmt_vars_row first)) (length (stmt_vars_held o)) (length (stmt_vars_of x))
-        (stmts_sized first false f h.0) (option_sized cond g h.1) (held_sized o false g2 h.2) (stmt_sized x true at g3 h.3))
-    stmt_sized tree.Break loop s f h = one_sized normal.Break s [] 1 0 1 0 0 (by_sizes normal.Break (sizes 1 0 0) sizes_leaving) (omega arith) (omega arith) (omega arith)
-    stmt_sized tree.Continue loop s f h = one_sized normal.Continue s [] 1 0 1 0 0 (by_sizes normal.Continue (sizes 1 0 0) sizes_continuing) (omega arith) (omega arith) (omega arith)
+        one_sized _ s _ _ _ _ (sizes_for_loop i.stmts c.before (rest_if_any c cond) p.stmt (block_of y at)) (omega arith) (omega arith) (omega arith)
+    stmt_sized tree.Break loop s f h = one_sized normal.Break s [] 1 0 _ sizes_leaving (omega arith) (omega arith) (omega arith)
+    stmt_sized tree.Continue loop s f h = one_sized normal.Continue s [] 1 0 _ sizes_continuing (omega arith) (omega arith) (omega arith)
     stmt_sized (tree.Return e) loop s f h = return_sized e f s (returned result e h)
-    stmt_sized tree.Empty loop s f h = one_sized normal.Empty s [] 1 0 0 0 0 (by_sizes normal.Empty (sizes 0 0 0) sizes_empty) (omega arith) (omega arith) (omega arith)
+    stmt_sized tree.Empty loop s f h = one_sized normal.Empty s [] 1 0 _ sizes_empty (omega arith) (omega arith) (omega arith)
 
     held_sized : (o : Held-TypedStmtKind-If-2) (loop : Bool) (f : ℕ) → LawfulStmtHeld k result loop o → HeldSized (held_act_nodes o) (length (stmt_vars_held o)) (held_form k f o)
     held_sized tree.None' loop f h = record { blocks = omega arith; stepping = omega arith; steps = omega arith; accesses = omega arith }
     held_sized (tree.Some' b (more_of-TypedStmt x at end_of-TypedStmt)) loop f h =
         let y = form_of k f x at in
-        let p = block_part y at in
+        let p = block_sizes y.stmts in
         let i = stmt_sized x loop at f h in
-        record { blocks = let u = p.blocks in let v = i.blocks in omega arith; stepping = omega arith; steps = let u = p.steps in let v = i.steps in omega arith; accesses = let u = p.accesses in let v = i.accesses in omega arith }
+        record { blocks = omega arith; stepping = omega arith; steps = omega arith; accesses = omega arith }
 
     stmts_sized : {n : Count} (row : Row_of-TypedStmt n) (loop : Bool) (f : ℕ) → LawfulStmts k result loop row → StmtSized (acts_nodes row) (length (stmt_vars_row row)) (row_form k f row).stmts (row_form k f row).types
     stmts_sized end_of-TypedStmt loop f h = no_stmts

@@ -48,12 +48,6 @@ takes_value m s t h w u n j p next c e x = record {
 }
 
 -- where the counts do not ask what the value is
-pub takes_value_only : (m : Meaning) (s t : Store) (h : How) (w : ℤ) (u n j p : ℕ) (next : ℤ → Run) → m s ≡ value w u → ((l : ℕ) → next w s (n + l) ≡ record { how = h; store = t; left = l }) → Takes (with_value m next) (only (tally j p)) s h t (u + n) j p
-takes_value_only m s t h w u n j p next e x = record {
-  runs = λ l. let a : u + n + l ≡ u + (n + l) = omega arith in ap (λ i. with_value m next s i) a ∙ ap (λ v. with_val v next s (u + (n + l))) e ∙ taken u (next w) s (n + l) ∙ x l;
-  counted = λ l. refl;
-}
-
 -- ---- one after another
 
 abbrev go_on_of : Run → Ended → Ended
@@ -148,6 +142,3 @@ takes_joined xs ys s t h m j p x = record { runs = λ l. run_append xs ys s (m +
 
 pub takes_append : (xs ys : List Counted) (s t u : Store) (h : How) (m n j l p q : ℕ) → TakesAll xs s normally t m j p → TakesAll ys t h u n l q → TakesAll (xs ++ ys) s h u (m + n) (j + l) (p + q)
 takes_append xs ys s t u h m n j l p q x y = takes_joined xs ys s u h (m + n) (j + l) (p + q) (takes_both (in_order (acts_of xs)) (in_order (acts_of ys)) (counts_in_order xs) (counts_in_order ys) s t u h m n j l p q x y)
-
-pub takes_append_stop : (xs ys : List Counted) (s t : Store) (h : How) (m j p : ℕ) → Stops h → TakesAll xs s h t m j p → TakesAll (xs ++ ys) s h t m j p
-takes_append_stop xs ys s t h m j p e x = takes_joined xs ys s t h m j p (takes_stop (in_order (acts_of xs)) (in_order (acts_of ys)) (counts_in_order xs) (counts_in_order ys) s t h m j p e x)

@@ -1,29 +1,68 @@
--- The steps of expressions, call by call.
-use Rattle.std.proofs.Common.{◌≡◌, ℕ, zero, suc, ◌+◌, ◌≤◌, List, [], ◌∷◌, map, length, Option, Some, None, refl, sym, ◌∙◌, ap, subst, arith, length-append}
+-- The prices and the steps of expressions, by their parts and call by call.
+use Rattle.std.proofs.Common.{◌≡◌, ℕ, ◌+◌, List, [], ◌∷◌, map, refl, ◌∙◌, ap, arith, zero, suc, ◌≤◌, length, Option, Some, None, sym, subst, length-append}
 use Rattle.std.specs.Prelude.{Bool, slice_get}
-use Rattle.std.proofs.lemmas.Option.{none-some}
-use Rattle.el_base.specs.declared.ty.Ty.TheVariants.{I64}
-use Rattle.el_base.specs.declared.operation.Op1.{Op1}
-use Rattle.el_base.specs.declared.operation.Op2.TheVariants.{Mul64, Add64}
-use Rattle.el_base.specs.Widths.{ty_width}
+use denote.Hole.Carrier.{hidden}
 use Rattle.c_ast.specs.declared.tree.Unary.{Unary}
 use Rattle.c_ast.specs.declared.tree.Binary.{Binary}
 use Rattle.c_ast.specs.declared.typed.ArrayOf.{ArrayOf}
 use Rattle.c_ast.specs.declared.typed.TypedExpr.{TypedExpr}
 use Rattle.c_ast.specs.declared.typed.TypedExprKind.TheVariants as expr
+use Rattle.c_ast.specs.declared.typed.TypedExprKind.TheOpen.{Element}
+use Rattle.c_ast.specs.declared.typed.TypedExprKind.TheBlock.{shape-the_row-TypedExpr-0, hidden-the_row-TypedExpr-0, shape-the_row-TypedExpr-1, hidden-the_row-TypedExpr-1}
+use Rattle.c_meaning.specs.Counts.{operator_price, kind_price, indices_price, expr_price, target_price}
+use Rattle.struct_cfg.specs.Exprs.{kind_laying, row_pieces, laying_step, expr_laying, piece, condition_laying, store_laying}
+use Rattle.std.proofs.lemmas.Option.{none-some}
+use Rattle.el_base.specs.declared.ty.Ty.TheVariants.{I64}
+use Rattle.el_base.specs.declared.operation.Op1.{Op1}
+use Rattle.el_base.specs.declared.operation.Op2.TheVariants.{Mul64, Add64}
+use Rattle.el_base.specs.Widths.{ty_width}
 use Rattle.ir.specs.declared.instr.Instr.{Instr}
 use Rattle.ir.specs.declared.instr.Instr.TheVariants.{Const, Two, Select, Load, Store}
-use Rattle.c_meaning.specs.Counts.{expr_price, target_price}
 use Rattle.c_meaning.specs.Stores.{dims_of}
 use Rattle.struct_cfg.specs.Layings.{Laying, one_step, after, applied}
-use Rattle.struct_cfg.specs.Operators.{converted, unary_op, flag, joined, index_laid, next_place, further_places, place_laid}
-use Rattle.struct_cfg.specs.Exprs.{piece, expr_laying, condition_laying, store_laying}
+use Rattle.struct_cfg.specs.Operators.{converted, unary_op, flag, joined, index_laid, next_place, place_laid}
 use Rattle.struct_cfg.specs.declared.operators.Operand.{Operand}
 use Rattle.struct_cfg.specs.Code.{IsLaid}
 use Rattle.struct_cfg.proofs.Bounds.{AtMost, kind_cheap}
 use Rattle.struct_cfg.proofs.Stores.{place_cheap, condition_cheap, store_cheap}
 use Rattle.struct_cfg.proofs.Coded.{laid_after}
-use Rattle.struct_cfg.proofs.Parts.{laying_element, laying_unary, laying_cast, laying_binary, laying_choice}
+
+indices_cost : (es : List TypedExpr) → 1 + indices_price (hidden-the_row-TypedExpr-0 es) ≡ target_price es
+unfolding shape-the_row-TypedExpr-0 hidden-the_row-TypedExpr-0 shape-the_row-TypedExpr-1 hidden-the_row-TypedExpr-1 hidden
+indices_cost [] = refl
+indices_cost (e ∷ es) = omega (arith, indices_cost es)
+
+pub price_element : (e : TypedExpr) (a : ℕ) (es : List TypedExpr) → e.kind ≡ expr.Element a es → expr_price e ≡ target_price es
+unfolding shape-the_row-TypedExpr-0 hidden-the_row-TypedExpr-0 shape-the_row-TypedExpr-1 hidden-the_row-TypedExpr-1 hidden
+price_element e a es is = ap kind_price is ∙ indices_cost es
+
+pub price_unary : (e : TypedExpr) (op : Unary) (x : TypedExpr) → e.kind ≡ expr.Unary op x → expr_price e ≡ 1 + expr_price x
+unfolding shape-the_row-TypedExpr-0 hidden-the_row-TypedExpr-0 shape-the_row-TypedExpr-1 hidden-the_row-TypedExpr-1 hidden
+price_unary e op x is = ap kind_price is
+
+pub price_cast : (e : TypedExpr) (implied : Bool) (x : TypedExpr) → e.kind ≡ expr.Cast implied x → expr_price e ≡ 1 + expr_price x
+unfolding shape-the_row-TypedExpr-0 hidden-the_row-TypedExpr-0 shape-the_row-TypedExpr-1 hidden-the_row-TypedExpr-1 hidden
+price_cast e implied x is = ap kind_price is
+
+pub price_binary : (e : TypedExpr) (op : Binary) (x y : TypedExpr) → e.kind ≡ expr.Binary op x y → expr_price e ≡ 1 + operator_price op + expr_price x + expr_price y
+unfolding shape-the_row-TypedExpr-0 hidden-the_row-TypedExpr-0 shape-the_row-TypedExpr-1 hidden-the_row-TypedExpr-1 hidden
+price_binary e op x y is = ap kind_price is
+
+pub price_choice : (e : TypedExpr) (x y z : TypedExpr) → e.kind ≡ expr.Choose x y z → expr_price e ≡ 3 + expr_price x + expr_price y + expr_price z
+unfolding shape-the_row-TypedExpr-0 hidden-the_row-TypedExpr-0 shape-the_row-TypedExpr-1 hidden-the_row-TypedExpr-1 hidden
+price_choice e x y z is = ap kind_price is
+
+-- ---- layings
+
+module _ (arrays : List ArrayOf) (env : List ℕ) where
+  pieces : (es : List TypedExpr) → row_pieces arrays env (hidden-the_row-TypedExpr-0 es) ≡ map (piece arrays env) es
+  unfolding shape-the_row-TypedExpr-0 hidden-the_row-TypedExpr-0 shape-the_row-TypedExpr-1 hidden-the_row-TypedExpr-1 hidden
+  pieces [] = refl
+  pieces (e ∷ es) = ap (λ ps. piece arrays env e ∷ ps) (pieces es)
+
+  pub laying_element : (e : TypedExpr) (a : ℕ) (es : List TypedExpr) → e.kind ≡ expr.Element a es → expr_laying arrays env e ≡ laying_step arrays env (Element a (map (piece arrays env) es)) e.ty
+  unfolding shape-the_row-TypedExpr-0 hidden-the_row-TypedExpr-0 shape-the_row-TypedExpr-1 hidden-the_row-TypedExpr-1 hidden
+  laying_element e a es is = ap (λ k. kind_laying arrays env k e.ty) is ∙ ap (λ ps. laying_step arrays env (Element a ps) e.ty) (pieces es)
 
 -- a laying is no longer than its bound
 few_laid : (a : Laying) (m : ℕ) (env : List ℕ) (old new : List Instr) (v : ℕ) → AtMost length a m → IsLaid a env old new v → length new ≤ length old + m
@@ -52,26 +91,30 @@ module _ (arrays : List ArrayOf) (env : List ℕ) where
   expr_few e old new v p = few_laid (laying e) (expr_price e) env old new v (kind_cheap arrays env e.kind e.ty) p
 
   pub unary_laid : (e : TypedExpr) (op : Unary) (x : TypedExpr) (o : Option Op1) (old mid new : List Instr) (v u : ℕ) → e.kind ≡ expr.Unary op x → o ≡ unary_op op x.ty → IsLaid (laying x) env old mid v → IsLaid (applied o v) env mid new u → IsLaid (laying e) env old new u
+  unfolding shape-the_row-TypedExpr-0 hidden-the_row-TypedExpr-0 shape-the_row-TypedExpr-1 hidden-the_row-TypedExpr-1 hidden
   unary_laid e op x o old mid new v u is oe p q =
-      as_laying (laying e) _ env old new u (laying_unary arrays env e op x is)
+      as_laying (laying e) _ env old new u (ap (λ k. kind_laying arrays env k e.ty) is)
       (laid_after (laying x) (λ n. applied (unary_op op x.ty) n) env old mid new v u p (subst (λ i. IsLaid (applied i v) env mid new u) oe q))
 
   pub cast_laid : (e : TypedExpr) (implied : Bool) (x : TypedExpr) (old mid new : List Instr) (v u : ℕ) → e.kind ≡ expr.Cast implied x → IsLaid (laying x) env old mid v → IsLaid (converted x.ty e.ty v) env mid new u → IsLaid (laying e) env old new u
+  unfolding shape-the_row-TypedExpr-0 hidden-the_row-TypedExpr-0 shape-the_row-TypedExpr-1 hidden-the_row-TypedExpr-1 hidden
   cast_laid e implied x old mid new v u is p q =
-      as_laying (laying e) _ env old new u (laying_cast arrays env e implied x is) (laid_after (laying x) (λ n. converted x.ty e.ty n) env old mid new v u p q)
+      as_laying (laying e) _ env old new u (ap (λ k. kind_laying arrays env k e.ty) is) (laid_after (laying x) (λ n. converted x.ty e.ty n) env old mid new v u p q)
 
   pub binary_laid : (e : TypedExpr) (op : Binary) (x y : TypedExpr) (l r : Operand) (s0 s1 s2 s3 : List Instr) (a b u : ℕ) → e.kind ≡ expr.Binary op x y → l ≡ record { ty = x.ty; value = a } → r ≡ record { ty = y.ty; value = b } → IsLaid (laying x) env s0 s1 a → IsLaid (laying y) env s1 s2 b
       → IsLaid (joined op l.ty r.ty l.value r.value) env s2 s3 u → IsLaid (laying e) env s0 s3 u
+  unfolding shape-the_row-TypedExpr-0 hidden-the_row-TypedExpr-0 shape-the_row-TypedExpr-1 hidden-the_row-TypedExpr-1 hidden
   binary_laid e op x y l r s0 s1 s2 s3 a b u is le re p q h =
       let last : IsLaid (joined op x.ty y.ty a b) env s2 s3 u = subst (λ (o : Operand). IsLaid (joined op x.ty o.ty a o.value) env s2 s3 u) re (subst (λ (o : Operand). IsLaid (joined op o.ty r.ty o.value r.value) env s2 s3 u) le h) in
-      as_laying (laying e) _ env s0 s3 u (laying_binary arrays env e op x y is)
+      as_laying (laying e) _ env s0 s3 u (ap (λ k. kind_laying arrays env k e.ty) is)
       (laid_after (laying x) (λ a. after (laying y) (λ b. joined op x.ty y.ty a b)) env s0 s1 s3 a u p (laid_after (laying y) (λ b. joined op x.ty y.ty a b) env s1 s2 s3 b u q last))
 
   pub choice_laid : (e x y z : TypedExpr) (w : ℕ) (s0 s1 s2 s3 s4 s5 : List Instr) (c f a b u : ℕ) → e.kind ≡ expr.Choose x y z → w ≡ ty_width e.ty → IsLaid (laying x) env s0 s1 c → IsLaid (flag x.ty c) env s1 s2 f → IsLaid (laying y) env s2 s3 a → IsLaid (laying z) env s3 s4 b
       → IsLaid (one_step (Select w f a b)) env s4 s5 u → IsLaid (laying e) env s0 s5 u
+  unfolding shape-the_row-TypedExpr-0 hidden-the_row-TypedExpr-0 shape-the_row-TypedExpr-1 hidden-the_row-TypedExpr-1 hidden
   choice_laid e x y z w s0 s1 s2 s3 s4 s5 c f a b u is we p q r s t =
       let last = subst (λ i. IsLaid (one_step (Select i f a b)) env s4 s5 u) we t in
-      as_laying (laying e) _ env s0 s5 u (laying_choice arrays env e x y z is)
+      as_laying (laying e) _ env s0 s5 u (ap (λ k. kind_laying arrays env k e.ty) is)
       (laid_after (laying x) (λ c. after (flag x.ty c) (λ f. after (laying y) (λ a. after (laying z) (λ b. one_step (Select (ty_width e.ty) f a b))))) env s0 s1 s5 c u p
       (laid_after (flag x.ty c) (λ f. after (laying y) (λ a. after (laying z) (λ b. one_step (Select (ty_width e.ty) f a b)))) env s1 s2 s5 f u q
       (laid_after (laying y) (λ a. after (laying z) (λ b. one_step (Select (ty_width e.ty) f a b))) env s2 s3 s5 a u r
@@ -98,18 +141,6 @@ module _ (arrays : List ArrayOf) (env : List ℕ) where
   place_few ds es old new v p =
       let h = place_cheap arrays env ds es (length env + length old) in
       omega (arith, h, ap length p.steps ∙ length-append old (place_laid ds (map (piece arrays env) es) (length env + length old)).steps)
-
-  pub further_put : (at d : ℕ) (ds ds2 : List ℕ) (e : TypedExpr) (es es2 : List TypedExpr) (old mid new : List Instr) (v u : ℕ) → ds2 ≡ d ∷ ds → es2 ≡ e ∷ es → IsLaid (next_place at d (piece arrays env e)) env old mid v → IsLaid (further_places v ds (map (piece arrays env) es)) env mid new u
-      → IsLaid (further_places at ds2 (map (piece arrays env) es2)) env old new u
-  further_put at d ds ds2 e es es2 old mid new v u de ee p q =
-      let h = laid_after (next_place at d (piece arrays env e)) (λ v. further_places v ds (map (piece arrays env) es)) env old mid new v u p q in
-      subst (λ x. IsLaid (further_places at x (map (piece arrays env) es2)) env old new u) (sym de) (subst (λ x. IsLaid (further_places at (d ∷ ds) (map (piece arrays env) x)) env old new u) (sym ee) h)
-
-  pub place_put : (d : ℕ) (ds ds2 : List ℕ) (e : TypedExpr) (es es2 : List TypedExpr) (old mid new : List Instr) (v u : ℕ) → ds2 ≡ d ∷ ds → es2 ≡ e ∷ es → IsLaid (index_laid (piece arrays env e)) env old mid v → IsLaid (further_places v ds (map (piece arrays env) es)) env mid new u
-      → IsLaid (place_laid ds2 (map (piece arrays env) es2)) env old new u
-  place_put d ds ds2 e es es2 old mid new v u de ee p q =
-      let h = laid_after (index_laid (piece arrays env e)) (λ v. further_places v ds (map (piece arrays env) es)) env old mid new v u p q in
-      subst (λ x. IsLaid (place_laid x (map (piece arrays env) es2)) env old new u) (sym de) (subst (λ x. IsLaid (place_laid (d ∷ ds) (map (piece arrays env) x)) env old new u) (sym ee) h)
 
   -- ---- conditions and stores
 

@@ -221,6 +221,24 @@ module _ (g : VarGraph) (k : Objects) (r : Option Ty) (header : FitsHeader g k r
       let j = Two (condition_of arrays e (before d)) (here (before d) + 1) x in
       b (close j (with_condition arrays e (before d))) (here_close j (with_condition arrays e (before d))) (fine_two e (before d) (here (before d) + 1) x l f (omega arith) p q s)
 
+  -- a loop without a step, from the jump to its condition on
+  fine_stepless : (f : Frame) {n : Count} (before : Row_of-NormalStmt n) (cond : Option TypedExpr) (s : NormalStmtKind) (exit : ℕ) (d0 : Draft) → IsFine g d0 → LawfulOption (LawfulNormalExpr k) cond
+      → ((d : Draft) → IsFine g d → here d + closes_row before < length g.blocks → IsFine g (lower_row arrays f.break_to f.continue_to before d))
+      → ((a c : ℕ) → IsTo g.blocks a → IsTo g.blocks c → (d : Draft) → IsFine g d → here d + closes s < length g.blocks → IsFine g (lower arrays a c s d))
+      → here d0 + 1 + closes_row before + 1 + closes s + 1 ≡ exit → exit < length g.blocks
+      → (let head = here d0 + 1 in IsFine g (close (Go head) (loop_parts arrays exit (lower_row arrays f.break_to f.continue_to before) cond (lower arrays exit head s) (close (Go head) d0))))
+  fine_stepless f before cond s exit d0 i lc rows body at h =
+      let head = here d0 + 1 in
+      let ahead = lower_row arrays f.break_to f.continue_to before in
+      let d1 = close (Go head) d0 in
+      let g1 = grown_close (Go head) d0 in
+      let g2 = grown_row arrays f.break_to f.continue_to before d1 in
+      let to_head = to_is head (omega arith) (omega arith) in
+      let to_exit = to_is exit (omega arith) (omega arith) in
+      let i1 = rows d1 (fine_close g d0 (Go head) i to_head) (omega (arith, g1.blocks)) in
+      let i2 = fine_loop exit ahead cond (lower arrays exit head s) d1 lc i1 (omega (arith, g1.blocks, g2.blocks)) (omega arith) (omega arith) (λ b q ib. body exit head to_exit to_head b ib (omega (arith, g1.blocks, g2.blocks, q))) in
+      fine_close g (loop_parts arrays exit ahead cond (lower arrays exit head s) d1) (Go head) i2 to_head
+
   mutual
     pub fine_kind : (f : Frame) (s : NormalStmtKind) (d : Draft) → IsFine g d → LawfulNormalStmt k r f.loop s → Targets f → here d + closes s < length g.blocks → IsFine g (lower arrays f.break_to f.continue_to s d)
     fine_kind f (step.Block' n row) d i l t h = fine_row f row d i l t h
@@ -247,21 +265,9 @@ module _ (g : VarGraph) (k : Objects) (r : Option Ty) (header : FitsHeader g k r
         let i5 = fine_held f o d4 i4 l.3 t (omega (arith, g1.blocks, g2.blocks, g3.blocks, g4.blocks)) in
         fine_close g d5 (Go join) i5 (to_is join (omega arith) (omega (arith, g1.blocks)))
     fine_kind f (step.While' n before cond p (more_of-NormalStmt s at end_of-NormalStmt)) d i l t h =
-        let x = f.break_to in let y = f.continue_to in
-        let head = here d + 1 in
-        let exit = head + closes_row before + 1 + closes s + 1 in
-        let d0 = close (Go head) d in
-        let g0 = grown_close (Go head) d in
-        let g1 = grown_row arrays x y before d0 in
-        let to_head = to_is head (omega arith) (omega arith) in
-        let to_exit = to_is exit (omega arith) (omega arith) in
-        let inner : Frame = record { loop = true; free = f.free; break_to = exit; continue_to = head } in
-        let i0 = fine_close g d (Go head) i to_head in
-        let i1 = fine_row (out_of f) before d0 i0 l.0 (λ z. absurd (cc)) (omega (arith, g0.blocks)) in
-        let e = loop_parts arrays exit (lower_row arrays x y before) (Some cond) (lower arrays exit head s) d0 in
-        let i2 = fine_loop exit (lower_row arrays x y before) (Some cond) (lower arrays exit head s) d0 l.1 i1 (omega (arith, g0.blocks, g1.blocks)) (omega arith) (omega arith)
-        (λ b q ib. fine_kind inner s b ib l.2 (λ z. (to_exit, to_head)) (omega (arith, g0.blocks, g1.blocks, q))) in
-        fine_close g e (Go head) i2 to_head
+        let exit = here d + 1 + closes_row before + 1 + closes s + 1 in
+        fine_stepless f before (Some cond) s exit d i l.1 (λ b ib hb. fine_row (out_of f) before b ib l.0 (λ z. absurd (cc)) hb)
+        (λ a c p q b ib hb. fine_kind (record { loop = true; free = f.free; break_to = a; continue_to = c }) s b ib l.2 (λ z. (p, q)) hb) refl (omega arith)
     fine_kind f (step.DoWhile' p (more_of-NormalStmt s at end_of-NormalStmt) n before cond) d i l t h =
         let x = f.break_to in let y = f.continue_to in
         let first = here d + 1 in
@@ -294,18 +300,7 @@ module _ (g : VarGraph) (k : Objects) (r : Option Ty) (header : FitsHeader g k r
         → here d0 + 1 + closes_row before + 1 + closes s + 1 + closes_step o < length g.blocks
         → (let head = here d0 + 1 in let after = head + closes_row before + 1 + closes s + 1 in let exit = after + closes_step o in
         IsFine g (lower_step arrays f.break_to f.continue_to head o (λ to. loop_parts arrays exit (lower_row arrays f.break_to f.continue_to before) cond (lower arrays exit to s) (close (Go head) d0)) after))
-    fine_for f before cond s step.None' d0 i lc lo rows body h =
-        let x = f.break_to in let y = f.continue_to in
-        let head = here d0 + 1 in
-        let exit = head + closes_row before + 1 + closes s + 1 + 0 in
-        let d1 = close (Go head) d0 in
-        let g1 = grown_close (Go head) d0 in
-        let g2 = grown_row arrays x y before d1 in
-        let to_head = to_is head (omega arith) (omega arith) in
-        let to_exit = to_is exit (omega arith) (omega arith) in
-        let i1 = fine_close g d0 (Go head) i to_head in
-        let i2 = fine_loop exit (lower_row arrays x y before) cond (lower arrays exit head s) d1 lc (rows d1 i1 (omega (arith, g1.blocks))) (omega (arith, g1.blocks, g2.blocks)) (omega arith) (omega arith) (λ b q ib. body exit head to_exit to_head b ib (omega (arith, g1.blocks, g2.blocks, q))) in
-        fine_close g (loop_parts arrays exit (lower_row arrays x y before) cond (lower arrays exit head s) d1) (Go head) i2 to_head
+    fine_for f before cond s step.None' d0 i lc lo rows body h = fine_stepless f before cond s (here d0 + 1 + closes_row before + 1 + closes s + 1 + 0) d0 i lc rows body (omega arith) (omega arith)
     fine_for f before cond s (step.Some' b (more_of-NormalStmt u at end_of-NormalStmt)) d0 i lc lo rows body h =
         let x = f.break_to in let y = f.continue_to in
         let head = here d0 + 1 in

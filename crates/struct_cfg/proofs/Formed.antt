@@ -10,7 +10,6 @@ use Rattle.el_base.specs.declared.ty.Ty.TheVariants.{I8}
 use Rattle.el_base.specs.declared.ty.Scalar.{Scalar}
 use Rattle.el_base.specs.Widths.{ty_width}
 use Rattle.c_ast.specs.declared.tree.Param.{Param}
-use Rattle.c_ast.specs.declared.typed.ArrayOf.{ArrayOf}
 use Rattle.c_ast.specs.declared.normal.Normal.{Normal}
 use Rattle.c_ast.specs.declared.normal.NormalStmt.{NormalStmt}
 use Rattle.ir.specs.declared.instr.Instr.TheVariants.{Const}
@@ -35,7 +34,7 @@ use Rattle.struct_cfg.specs.Fits.{EnvFits, Fits, HasObjects}
 use Rattle.struct_cfg.specs.Places.{Frame}
 use Rattle.struct_cfg.proofs.Fitting.{width_is, step_fits}
 use Rattle.struct_cfg.proofs.Blocks.{length_count_from}
-use Rattle.struct_cfg.proofs.Lays.{Grown, grown_kind, here_close}
+use Rattle.struct_cfg.proofs.Lays.{grown_kind, grown_all, here_close}
 use Rattle.struct_cfg.proofs.Kernels.{AllLawful}
 use Rattle.struct_cfg.proofs.Fine.{FitsHeader, IsFine, open_shape, own_fits, fine_close, fine_laid, laid_width, next_shape, fine_kind}
 use Rattle.struct_cfg.proofs.Stores.{small_arrays}
@@ -56,13 +55,6 @@ zero_below I8 = omega arith
 zero_below t = omega arith
 
 -- ---- lists of statements
-
-pub grown_all : (arrays : List ArrayOf) (x y : ℕ) (ss : List NormalStmt) (d : Draft) → Grown d (lower_all arrays x y ss d) (sum_by (λ s. closes s.kind) ss)
-grown_all arrays x y [] d = record { blocks = omega arith; env = refl }
-grown_all arrays x y (s ∷ ss) d =
-    let a = grown_kind arrays x y s.kind d in
-    let b = grown_all arrays x y ss (lower arrays x y s.kind d) in
-    record { blocks = omega (arith, a.blocks, b.blocks, sum_by-cons (λ s. closes s.kind) s ss); env = b.env ∙ a.env }
 
 abbrev outer : Frame
 outer = record { loop = false; free = true; break_to = 0; continue_to = 0 }

@@ -26,7 +26,7 @@ use Rattle.c_meaning.specs.KernelPatterns.{array_patterns, result_pattern}
 use Rattle.c_meaning.proofs.CountGrowth.{list_acts}
 use Rattle.struct_cfg.proofs.Walks.{Does, ends_do, turn_does, both_do, gone_then, gone_more}
 use Rattle.struct_cfg.proofs.Blocks.{returns, length_count_from}
-use Rattle.struct_cfg.proofs.Lays.{Holds, before_close, stands_last, before_kind, grown_kind}
+use Rattle.struct_cfg.proofs.Lays.{Holds, before_close, stands_last, grown_kind, grown_all}
 use Rattle.struct_cfg.proofs.Leaves.{unset_all}
 use Rattle.struct_cfg.proofs.Trees.{Leaves, kind_does}
 
@@ -35,10 +35,6 @@ use Rattle.struct_cfg.proofs.Trees.{Leaves, kind_does}
 abbrev pub AllLawful : Objects → Option Ty → List NormalStmt → Type 0
 AllLawful k r [] = Unit {0}
 AllLawful k r (s ∷ ss) = LawfulNormalStmt k r false s.kind × Quiet true s.kind × AllLawful k r ss
-
-pub before_all : (arrays : List ArrayOf) (g : VarGraph) (x y : ℕ) (ss : List NormalStmt) (d : Draft) → Holds g (lower_all arrays x y ss d).blocks → Holds g d.blocks
-before_all arrays g x y [] d h = h
-before_all arrays g x y (s ∷ ss) d h = before_kind arrays g x y s.kind d (before_all arrays g x y ss (lower arrays x y s.kind d) h)
 
 -- ---- from walks to runs
 
@@ -127,7 +123,7 @@ module _ (o : Setting) where
         let g = grown_kind arrays 0 0 s.kind d in
         let rest = map (counted o.objects) ss in
         both_do o 0 0 outer (spot d) (spot d1) (spot (lower_all arrays 0 0 ss d1)) (normal_kind_act o.objects s.kind).run (in_order (acts_of rest)) (kind_counts o.objects s.kind) (counts_in_order rest)
-        (kind_does o leaves outer s.kind d l w.0 w.1 (before_all arrays o.graph 0 0 ss d1 h)) (list_does ss d1 (g.env ∙ l) w.2 h)
+        (kind_does o leaves outer s.kind d l w.0 w.1 ((grown_all arrays 0 0 ss d1).kept o.graph h)) (list_does ss d1 (g.env ∙ l) w.2 h)
 
     -- how the block of a form ends: normally, which is its end where it gives nothing, or by return
     ended : (body : List NormalStmt) (v : Visit) (w : How) (s : Store) (r : Option ℤ) (j c : ℕ) (t : Option Ty) → o.result ≡ t → (let d = lower_all arrays 0 0 body (empty (count o)) in Holds o.graph (finish t d).blocks

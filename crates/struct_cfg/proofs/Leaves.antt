@@ -115,11 +115,11 @@ module _ (o : Setting) where
   element_cheap a is e d = let c = store_cheap arrays d.env a is e (next_value d) in omega (arith, length-append d.steps (store_laying arrays d.env a is e (next_value d)).steps)
 
   -- a run that takes its turns and ends normally in the same block
-  done_there : (f : Frame) (d e : Draft) (v : Visit) (s t : Store) (n m c : ℕ) → here e ≡ here d → At o (spot e) v t → length e.steps ≤ length d.steps + c
-      → (let r = taking n (λ s m. record { how = normally; store = t; left = m }) s m in Follow o 0 0 f (spot d) v (spot e) r.how r.store 0 c)
-  done_there f d e v s t zero m c same at cheap = record { path = []; to = v; walks = refl; few = omega arith; cheap = omega (arith, cheap); at = at }
-  done_there f d e v s t (suc n) zero c same at cheap = tt
-  done_there f d e v s t (suc n) (suc m) c same at cheap = done_there f d e v s t n m c same at cheap
+  done_there : (f : Frame) (d e : Draft) (v : Visit) (s : Store) (st : Store → Store) (n m j c : ℕ) → here e ≡ here d → At o (spot e) v (st s) → j ≡ 0 → length e.steps ≤ length d.steps + c
+      → (let r = taking n (λ s m. record { how = normally; store = st s; left = m }) s m in Follow o 0 0 f (spot d) v (spot e) r.how r.store j c)
+  done_there f d e v s st zero m j c same at i cheap = record { path = []; to = v; walks = refl; few = omega (arith, i); cheap = omega (arith, cheap); at = at }
+  done_there f d e v s st (suc n) zero j c same at i cheap = tt
+  done_there f d e v s st (suc n) (suc m) j c same at i cheap = done_there f d e v s st n m j c same at i cheap
 
   module _ (conv_same : (t : Ty) (x : ℤ) → IsInRange t x → conv t x ≡ x) where
     -- ---- target = value for a variable, and declarations
@@ -135,21 +135,15 @@ module _ (o : Setting) where
         let same : conv (type_of o.objects x) z ≡ z = conv_same (type_of o.objects x) z (subst (λ u. IsInRange u z) (sym typed) r) in
         subst (λ u. At o (spot (assign_var arrays x e d)) v (set_var x u s)) (sym same) (set_one (with_expr arrays e d) v s x (value_of arrays e d) e.ty z named r h.at h.is)
 
-    stored_var : (f : Frame) (x : ℕ) (e : TypedExpr) (d : Draft) (v : Visit) (s : Store) (m j c : ℕ) (z : ℤ) (n : ℕ) → At o (spot (assign_var arrays x e d)) v (set_var x (conv (type_of o.objects x) z) s) → j ≡ 0 → expr_price e ≤ c
-        → (let r = taking n (storing (type_of o.objects x) (of_var x) z) s m in Follow o 0 0 f (spot d) v (spot (assign_var arrays x e d)) r.how r.store j c)
-    stored_var f x e d v s m j c z zero at i le = let k = expr_cheap e d in record { path = []; to = v; walks = refl; few = omega (arith, i); cheap = omega arith; at = at }
-    stored_var f x e d v s zero j c z (suc n) at i le = tt
-    stored_var f x e d v s (suc m) j c z (suc n) at i le = stored_var f x e d v s m j c z n at i le
-
     assign_value : (f : Frame) (x : ℕ) (e : TypedExpr) (d : Draft) (v : Visit) (s : Store) (m j c t : ℕ) (u : Val) → ExprLaw o.objects e → At o (spot d) v s → IsVar o.objects x e.ty → val o.objects s e ≡ u → j ≡ 0 → expr_price e ≤ c
         → (let r = with_val (later t u) (storing (type_of o.objects x) (of_var x)) s m in Follow o 0 0 f (spot d) v (spot (assign_var arrays x e d)) r.how r.store j c)
     assign_value f x e d v s m j c t (undefined_value p) law at lawful is i le = tt
-    assign_value f x e d v s m j c t (value z n) law at lawful is i le = stored_var f x e d v s m j c z (t + n) (var_set x e d v s z n law at lawful is) i le
+    assign_value f x e d v s m j c t (value z n) law at lawful is i le = done_there f d (assign_var arrays x e d) v s (λ s. set_var x (conv (type_of o.objects x) z) s) (t + n) m j c refl (var_set x e d v s z n law at lawful is) i (omega (arith, expr_cheap e d, le))
 
     declared_value : (f : Frame) (x : ℕ) (e : TypedExpr) (d : Draft) (v : Visit) (s : Store) (m j c : ℕ) (u : Val) → ExprLaw o.objects e → At o (spot d) v s → IsVar o.objects x e.ty → val o.objects s e ≡ u → j ≡ 0 → expr_price e ≤ c
         → (let r = with_val u (storing (type_of o.objects x) (of_var x)) s m in Follow o 0 0 f (spot d) v (spot (assign_var arrays x e d)) r.how r.store j c)
     declared_value f x e d v s m j c (undefined_value p) law at lawful is i le = tt
-    declared_value f x e d v s m j c (value z n) law at lawful is i le = stored_var f x e d v s m j c z n (var_set x e d v s z n law at lawful is) i le
+    declared_value f x e d v s m j c (value z n) law at lawful is i le = done_there f d (assign_var arrays x e d) v s (λ s. set_var x (conv (type_of o.objects x) z) s) n m j c refl (var_set x e d v s z n law at lawful is) i (omega (arith, expr_cheap e d, le))
 
     pub declare_does : (law : (e : TypedExpr) → LawfulNormalExpr o.objects e → ExprLaw o.objects e) (f : Frame) (x : ℕ) (i : Option TypedExpr) (d : Draft) → LawfulDeclaration o.objects (LawfulNormalExpr o.objects) x i
         → Does o 0 0 f (spot d) (spot (declare arrays x i d)) (declared_run o.objects x (meant_if_any o.objects i)) (only (tally 0 (option_price i)))
@@ -183,17 +177,11 @@ module _ (o : Setting) where
           sees = subst (λ q. Sees o.objects d.env (work (spot (assign_element arrays a is e d)) v) (set_element a at q s)) (sym same) (subst (λ q. Sees o.objects d.env q (set_element a at z s)) (sym run) seen);
         }
 
-    stored_element : (f : Frame) (a : ℕ) (is : List TypedExpr) (e : TypedExpr) (d : Draft) (v : Visit) (s : Store) (m at : ℕ) (z : ℤ) (n : ℕ) → At o (spot (assign_element arrays a is e d)) v (set_element a at (conv (array_type arrays a) z) s)
-        → (let r = taking n (storing (array_type arrays a) (of_element a at) z) s m in Follow o 0 0 f (spot d) v (spot (assign_element arrays a is e d)) r.how r.store 0 (1 + target_price is + expr_price e))
-    stored_element f a is e d v s m at z zero h = let k = element_cheap a is e d in record { path = []; to = v; walks = refl; few = omega arith; cheap = omega arith; at = h }
-    stored_element f a is e d v s zero at z (suc n) h = tt
-    stored_element f a is e d v s (suc m) at z (suc n) h = stored_element f a is e d v s m at z n h
-
     element_value : (f : Frame) (a : ℕ) (is : List TypedExpr) (e : TypedExpr) (d : Draft) (v : Visit) (s : Store) (m : ℕ) (js : List ℤ) (t at : ℕ) (u : Val) → ((env : List ℕ) → GivesStore o.objects env a is e) → ExprLaw o.objects e → IsElement o.objects a (length is) e.ty → At o (spot d) v s
         → all_values (map (meaning o.objects) is) s ≡ values js t → place arrays a js ≡ Some at → val o.objects s e ≡ u
         → (let r = with_val (later t u) (storing (array_type arrays a) (of_element a at)) s m in Follow o 0 0 f (spot d) v (spot (assign_element arrays a is e d)) r.how r.store 0 (1 + target_price is + expr_price e))
     element_value f a is e d v s m js t at (undefined_value p) gives law named h ei pl ez = tt
-    element_value f a is e d v s m js t at (value z u) gives law named h ei pl ez = stored_element f a is e d v s m at z (t + u) (element_set a is e d v s js t at z u gives law named h ei pl ez)
+    element_value f a is e d v s m js t at (value z u) gives law named h ei pl ez = done_there f d (assign_element arrays a is e d) v s (λ s. set_element a at (conv (array_type arrays a) z) s) (t + u) m 0 (1 + target_price is + expr_price e) refl (element_set a is e d v s js t at z u gives law named h ei pl ez) refl (element_cheap a is e d)
 
     placed_element : (f : Frame) (a : ℕ) (is : List TypedExpr) (e : TypedExpr) (d : Draft) (v : Visit) (s : Store) (m : ℕ) (p : Span) (js : List ℤ) (t : ℕ) (r : Option ℕ) → ((env : List ℕ) → GivesStore o.objects env a is e) → ExprLaw o.objects e → IsElement o.objects a (length is) e.ty → At o (spot d) v s
         → all_values (map (meaning o.objects) is) s ≡ values js t → place arrays a js ≡ r

@@ -18,13 +18,11 @@ pub mod Kernels
 pub mod Fine
 pub mod Whole
 pub mod Coded
-pub mod Parts
 pub mod ExprCode
 pub mod PlaceCode
 pub mod Formed
 pub mod Sized
 pub mod Rows
 pub mod Grows
-pub mod Worked
 pub mod Trimmed
 pub mod PartsMade

@@ -25,7 +25,7 @@ use Rattle.c_meaning.specs.Sizes.{closes, closes_held, closes_step, closes_row, 
 use Rattle.struct_cfg.specs.declared.draft.Draft.{Draft}
 use Rattle.struct_cfg.specs.Drafts.{here, next_value, with_steps, closed, close}
 use Rattle.struct_cfg.specs.Exprs.{expr_laying, condition_laying, store_laying}
-use Rattle.struct_cfg.specs.Lowering.{with_expr, value_of, with_condition, condition_of, assign_to, declare, returning, lower, lower_held, lower_step, lower_row}
+use Rattle.struct_cfg.specs.Lowering.{with_expr, value_of, with_condition, condition_of, assign_to, declare, returning, loop_parts, lower, lower_held, lower_step, lower_row}
 use Rattle.struct_cfg.specs.Lists.{lower_all}
 use Rattle.struct_cfg.specs.Kernels.{empty, finish, form_graph}
 use Rattle.struct_cfg.specs.Runs.{CfgSizes}
@@ -74,8 +74,11 @@ module _ (c : List Instr → ℕ) (t : TreeCost c) (arrays : List ArrayOf) where
   pub record More (d e : Draft) (n : ℕ) : Type 0 where
     pub by : all_laid e ≤ all_laid d + n
 
-  more_then : (d e f : Draft) (m n l : ℕ) → More d e m → More e f n → m + n ≤ l → More d f l
-  more_then d e f m n l a b le = record { by = omega (arith, a.by, b.by) }
+  more_then : {d e f : Draft} {m n : ℕ} → More d e m → More e f n → More d f (m + n)
+  more_then a b = record { by = omega (arith, a.by, b.by) }
+
+  more_as : {d e : Draft} {m : ℕ} (n : ℕ) → More d e m → m ≤ n → More d e n
+  more_as n a h = record { by = omega (arith, a.by, h) }
 
   more_same : (d : Draft) (n : ℕ) → More d d n
   more_same d n = record { by = omega arith }
@@ -107,10 +110,32 @@ module _ (c : List Instr → ℕ) (t : TreeCost c) (arrays : List ArrayOf) where
 
   more_return : (e : Option TypedExpr) (d : Draft) → More d (returning arrays e d) (t.kind (step.Return e))
   more_return None d = let a = more_close (Return None) d in record { by = omega (arith, a.by) }
-  more_return (Some e) d =
-      let a = more_expr e d in
-      let b = more_close (Return (Some (value_of arrays e d))) (with_expr arrays e d) in
-      record { by = omega (arith, a.by, b.by, t.returned e) }
+  more_return (Some e) d = more_as _ (more_then (more_expr e d) (more_close (Return (Some (value_of arrays e d))) (with_expr arrays e d))) (omega (arith, t.returned e))
+
+  -- a condition, with which the block ends
+  more_two : (j : CfgJump) (e : TypedExpr) (d : Draft) → More d (close j (with_condition arrays e d)) (t.cond e)
+  more_two j e d = more_as _ (more_then (more_cond e d) (more_close j (with_condition arrays e d))) (omega arith)
+
+  abbrev if_any : Option TypedExpr → ℕ
+  if_any None = 0
+  if_any (Some e) = t.cond e
+
+  -- a loop from its condition to the end of its body
+  more_loop : (x y exit : ℕ) {n : Count} (before : Row_of-NormalStmt n) (cond : Option TypedExpr) (s : NormalStmtKind) (to : ℕ) (d : Draft) → More d (lower_row arrays x y before d) (t.row before) → ((e : Draft) → More e (lower arrays exit to s e) (t.kind s))
+      → More d (loop_parts arrays exit (lower_row arrays x y before) cond (lower arrays exit to s) d) (t.row before + if_any cond + t.kind s)
+  more_loop x y exit before None s to d a b =
+      let d1 = lower_row arrays x y before d in
+      let j = Go (here d1 + 1) in
+      more_as _ (more_then a (more_then (more_close j d1) (b (close j d1)))) (omega arith)
+  more_loop x y exit before (Some e) s to d a b =
+      let d1 = lower_row arrays x y before d in
+      let j = Two (condition_of arrays e d1) (here d1 + 1) exit in
+      more_as _ (more_then a (more_then (more_two j e d1) (b (close j (with_condition arrays e d1))))) (omega arith)
+
+  for_most : (n : _) (first : _) (m : _) (before : _) (cond : Option TypedExpr) (o : Held-NormalStmtKind-If-3) (p : _) (s : NormalStmtKind) (at : _)
+      → t.row first + (0 + (t.row before + if_any cond + t.kind s + t.held o)) ≤ t.kind (step.For' n first m before cond o p (more_of-NormalStmt s at end_of-NormalStmt))
+  for_most n first m before None o p s at = omega (arith, t.for_none n first m before o p s at)
+  for_most n first m before (Some e) o p s at = omega (arith, t.for_some n first m before e o p s at)
 
   mutual
     pub more_kind : (x y : ℕ) (k : NormalStmtKind) (d : Draft) → More d (lower arrays x y k d) (t.kind k)
@@ -126,29 +151,14 @@ module _ (c : List Instr → ℕ) (t : TreeCost c) (arrays : List ArrayOf) where
         let d3 = lower arrays x y s d2 in
         let d4 = close (Go join) d3 in
         let d5 = lower_held arrays x y o d4 in
-        let a = more_row x y before d in
-        let b = more_cond cond d1 in
-        let b2 = more_close j (with_condition arrays cond d1) in
-        let e = more_kind x y s d2 in
-        let f = more_close (Go join) d3 in
-        let g = more_held x y o d4 in
-        let h = more_close (Go join) d5 in
-        record { by = omega (arith, a.by, b.by, b2.by, e.by, f.by, g.by, h.by, t.choice n before cond p s at o) }
+        more_as _ (more_then (more_row x y before d) (more_then (more_two j cond d1) (more_then (more_kind x y s d2)
+        (more_then (more_close (Go join) d3) (more_then (more_held x y o d4) (more_close (Go join) d5)))))) (omega (arith, t.choice n before cond p s at o))
     more_kind x y (step.While' n before cond p (more_of-NormalStmt s at end_of-NormalStmt)) d =
         let head = here d + 1 in
         let exit = head + closes_row before + 1 + closes s + 1 in
         let d0 = close (Go head) d in
-        let d1 = lower_row arrays x y before d0 in
-        let j = Two (condition_of arrays cond d1) (here d1 + 1) exit in
-        let d2 = close j (with_condition arrays cond d1) in
-        let d3 = lower arrays exit head s d2 in
-        let a = more_close (Go head) d in
-        let b = more_row x y before d0 in
-        let b1 = more_cond cond d1 in
-        let b2 = more_close j (with_condition arrays cond d1) in
-        let e = more_kind exit head s d2 in
-        let f = more_close (Go head) d3 in
-        record { by = omega (arith, a.by, b.by, b1.by, b2.by, e.by, f.by, t.while_loop n before cond p s at) }
+        more_as _ (more_then (more_close (Go head) d) (more_then (more_loop x y exit before (Some cond) s head d0 (more_row x y before d0) (more_kind exit head s))
+        (more_close (Go head) (loop_parts arrays exit (lower_row arrays x y before) (Some cond) (lower arrays exit head s) d0)))) (omega (arith, t.while_loop n before cond p s at))
     more_kind x y (step.DoWhile' p (more_of-NormalStmt s at end_of-NormalStmt) n before cond) d =
         let first = here d + 1 in
         let head = first + closes s + 1 in
@@ -157,43 +167,17 @@ module _ (c : List Instr → ℕ) (t : TreeCost c) (arrays : List ArrayOf) where
         let d2 = lower arrays exit head s d1 in
         let d3 = close (Go head) d2 in
         let d4 = lower_row arrays x y before d3 in
-        let a = more_close (Go first) d in
-        let b = more_kind exit head s d1 in
-        let e = more_close (Go head) d2 in
-        let f = more_row x y before d3 in
-        let g = more_cond cond d4 in
-        let h = more_close (Two (condition_of arrays cond d4) first exit) (with_condition arrays cond d4) in
-        record { by = omega (arith, a.by, b.by, e.by, f.by, g.by, h.by, t.do_loop n before cond p s at) }
-    more_kind x y (step.For' n first m before None o p (more_of-NormalStmt s at end_of-NormalStmt)) d =
+        more_as _ (more_then (more_close (Go first) d) (more_then (more_kind exit head s d1) (more_then (more_close (Go head) d2)
+        (more_then (more_row x y before d3) (more_two (Two (condition_of arrays cond d4) first exit) cond d4))))) (omega (arith, t.do_loop n before cond p s at))
+    more_kind x y (step.For' n first m before cond o p (more_of-NormalStmt s at end_of-NormalStmt)) d =
         let d0 = lower_row arrays x y first d in
         let head = here d0 + 1 in
         let after = head + closes_row before + 1 + closes s + 1 in
         let exit = after + closes_step o in
         let d1 = close (Go head) d0 in
-        let d2 = lower_row arrays x y before d1 in
-        let d3 = close (Go (here d2 + 1)) d2 in
-        let a = more_row x y first d in
-        let b = more_close (Go head) d0 in
-        let e = more_row x y before d1 in
-        let f = more_close (Go (here d2 + 1)) d2 in
-        let g = more_step x y head o after (λ to. lower arrays exit to s d3) d3 (t.kind s) (λ to. more_kind exit to s d3) in
-        record { by = omega (arith, a.by, b.by, e.by, f.by, g.by, t.for_none n first m before o p s at) }
-    more_kind x y (step.For' n first m before (Some cond) o p (more_of-NormalStmt s at end_of-NormalStmt)) d =
-        let d0 = lower_row arrays x y first d in
-        let head = here d0 + 1 in
-        let after = head + closes_row before + 1 + closes s + 1 in
-        let exit = after + closes_step o in
-        let d1 = close (Go head) d0 in
-        let d2 = lower_row arrays x y before d1 in
-        let j = Two (condition_of arrays cond d2) (here d2 + 1) exit in
-        let d3 = close j (with_condition arrays cond d2) in
-        let a = more_row x y first d in
-        let b = more_close (Go head) d0 in
-        let e = more_row x y before d1 in
-        let e2 = more_cond cond d2 in
-        let f = more_close j (with_condition arrays cond d2) in
-        let g = more_step x y head o after (λ to. lower arrays exit to s d3) d3 (t.kind s) (λ to. more_kind exit to s d3) in
-        record { by = omega (arith, a.by, b.by, e.by, e2.by, f.by, g.by, t.for_some n first m before cond o p s at) }
+        more_as _ (more_then (more_row x y first d) (more_then (more_close (Go head) d0)
+        (more_step x y head o after (λ to. loop_parts arrays exit (lower_row arrays x y before) cond (lower arrays exit to s) d1) d1 (t.row before + if_any cond + t.kind s)
+        (λ to. more_loop x y exit before cond s to d1 (more_row x y before d1) (more_kind exit to s))))) (for_most n first m before cond o p s at)
     more_kind x y step.Break d = let a = more_close (Go x) d in record { by = omega (arith, a.by) }
     more_kind x y step.Continue d = let a = more_close (Go y) d in record { by = omega (arith, a.by) }
     more_kind x y (step.Return e) d = more_return e d
@@ -206,46 +190,30 @@ module _ (c : List Instr → ℕ) (t : TreeCost c) (arrays : List ArrayOf) where
     more_step : (x y head : ℕ) (o : Held-NormalStmtKind-If-3) (after : ℕ) (body : ℕ → Draft) (d : Draft) (n : ℕ) → ((to : ℕ) → More d (body to) n) → More d (lower_step arrays x y head o body after) (n + t.held o)
     more_step x y head step.None' after body d n a = let b = a head in let e = more_close (Go head) (body head) in record { by = omega (arith, b.by, e.by) }
     more_step x y head (step.Some' p (more_of-NormalStmt s at end_of-NormalStmt)) after body d n a =
-        let b = a after in
-        let e = more_close (Go after) (body after) in
-        let f = more_kind x y s (close (Go after) (body after)) in
-        let g = more_close (Go head) (lower arrays x y s (close (Go after) (body after))) in
-        record { by = omega (arith, b.by, e.by, f.by, g.by, t.held_some p s at) }
+        let d1 = close (Go after) (body after) in
+        more_as _ (more_then (a after) (more_then (more_close (Go after) (body after)) (more_then (more_kind x y s d1) (more_close (Go head) (lower arrays x y s d1))))) (omega (arith, t.held_some p s at))
 
     more_row : (x y : ℕ) {n : Count} (row : Row_of-NormalStmt n) (d : Draft) → More d (lower_row arrays x y row d) (t.row row)
     more_row x y end_of-NormalStmt d = more_same d (t.row end_of-NormalStmt)
-    more_row x y (more_of-NormalStmt s at row) d =
-        let a = more_kind x y s d in
-        let b = more_row x y row (lower arrays x y s d) in
-        record { by = omega (arith, a.by, b.by, t.row_more s at row) }
+    more_row x y (more_of-NormalStmt s at row) d = more_as _ (more_then (more_kind x y s d) (more_row x y row (lower arrays x y s d))) (omega (arith, t.row_more s at row))
 
   more_all : (ss : List NormalStmt) (d : Draft) → More d (lower_all arrays 0 0 ss d) (sum_by (λ (s : NormalStmt). t.kind s.kind) ss)
   more_all [] d = more_same d (sum_by (λ (s : NormalStmt). t.kind s.kind) [])
-  more_all (s ∷ ss) d =
-      let a = more_kind 0 0 s.kind d in
-      let b = more_all ss (lower arrays 0 0 s.kind d) in
-      record { by = omega (arith, a.by, b.by, sum_by-cons (λ (s : NormalStmt). t.kind s.kind) s ss) }
+  more_all (s ∷ ss) d = more_as _ (more_then (more_kind 0 0 s.kind d) (more_all ss (lower arrays 0 0 s.kind d))) (omega (arith, sum_by-cons (λ (s : NormalStmt). t.kind s.kind) s ss))
 
   more_finish : (r : Option Ty) (n : ℕ) (d : Draft) → ((w m : ℕ) → c (Const w m ∷ []) ≤ n) → More d (finish r d) n
   more_finish None n d h = let a = more_close (Return None) d in record { by = omega (arith, a.by) }
   more_finish (Some u) n d h =
       let i = Const (ty_width u) 0 ∷ [] in
-      let a = more_steps i n d (h (ty_width u) 0) in
-      let b = more_close (Return (Some (next_value d))) (with_steps i d) in
-      record { by = omega (arith, a.by, b.by) }
+      more_as _ (more_then (more_steps i n d (h (ty_width u) 0)) (more_close (Return (Some (next_value d))) (with_steps i d))) (omega arith)
 
   more_whole : (r : Option Ty) (n m : ℕ) (body : List NormalStmt) → ((w m : ℕ) → c (Const w m ∷ []) ≤ n) → of_blocks (finish r (lower_all arrays 0 0 body (empty m))).blocks ≤ sum_by (λ (s : NormalStmt). t.kind s.kind) body + n
   more_whole r n m body h =
-      let d0 = empty m in
-      let d = lower_all arrays 0 0 body d0 in
+      let d = lower_all arrays 0 0 body (empty m) in
       let e = finish r d in
-      let a = more_all body d0 in
-      let b = more_finish r n d h in
-      let none : c [] ≡ 0 = t.adding.none in
-      let z : of_blocks [] ≡ 0 = refl in
-      let a2 : of_blocks d.blocks + c d.steps ≤ of_blocks [] + c [] + sum_by (λ (s : NormalStmt). t.kind s.kind) body = a.by in
-      let b2 : of_blocks e.blocks + c e.steps ≤ of_blocks d.blocks + c d.steps + n = b.by in
-      omega arith
+      let a = more_then (more_all body (empty m)) (more_finish r n d h) in
+      let all : of_blocks e.blocks + c e.steps ≤ 0 + c [] + (sum_by (λ (s : NormalStmt). t.kind s.kind) body + n) = a.by in
+      omega (arith, t.adding.none)
 
 unfoldable pub steps_cost : TreeCost length
 steps_cost = record {

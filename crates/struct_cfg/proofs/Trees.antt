@@ -28,7 +28,7 @@ use Rattle.struct_cfg.specs.Places.{Setting, Spot, spot, entry, count, Frame, Fo
 use Rattle.struct_cfg.proofs.Walks.{Does, ends_do, turn_does, both_do}
 use Rattle.struct_cfg.proofs.Blocks.{Stands, ExprLaw, goes}
 use Rattle.struct_cfg.proofs.Loops.{Picks, Loop, branch_does, part_goes, owing_less, looped_does, loop_does, entered, in_loop, no_loop, quiet, not_false}
-use Rattle.struct_cfg.proofs.Lays.{Holds, before_close, stands_last, before_kind, before_held, before_row, before_step, before_loop, loop_grown, here_close, grown_kind, grown_held, grown_row, grown_close}
+use Rattle.struct_cfg.proofs.Lays.{Holds, before_close, stands_last, loop_grown, grown_step, here_close, grown_kind, grown_held, grown_row, grown_close}
 use Rattle.struct_cfg.proofs.Leaves.{assign_does, declare_does, return_does, return_none_does, picks, picks_always, unset_all}
 
 acts_are : (k : _) {n : Count} (row : Row_of-NormalStmt n) → acts_of (row_counted k row) ≡ normal_row_acts k row
@@ -157,7 +157,7 @@ module _ (o : Setting) (leaves : Leaves o) where
       let body = counted_kind s in
       let is : loop_parts arrays exit ahead cond (lower arrays exit to s) d1 ≡ d4 = begun_is exit ahead cond (lower arrays exit to s) d1 in
       let h4 : Holds o.graph d4.blocks = subst (λ (u : Draft). Holds o.graph u.blocks) is h in
-      let back = before_kind arrays o.graph exit to s in
+      let back : (e : Draft) → Holds o.graph (lower arrays exit to s e).blocks → Holds o.graph e.blocks = λ e h. (grown_kind arrays exit to s e).kept o.graph h in
       let h1 = begun_holds exit ahead cond (lower arrays exit to s) d1 back h in
       let g1 = grown_close (Go head) d0 in
       let g2 = grown_row arrays x y before d1 in
@@ -171,6 +171,28 @@ module _ (o : Setting) (leaves : Leaves o) where
         stands = subst (λ (u : Draft). Stands o.graph u (Go to)) is stands;
         stepped = stepped;
       })
+
+  -- a loop without a step, from the jump to its condition on
+  stepless : (f : Frame) {n : Count} (before : Row_of-NormalStmt n) (cond : Option TypedExpr) (s : NormalStmtKind) (exit : ℕ) (d0 : Draft) → length d0.env ≡ count o → LawfulOption (LawfulNormalExpr o.objects) cond
+      → RowDoes f before (close (Go (here d0 + 1)) d0) → KindDoes (in_loop o f exit (here d0 + 1)) s → here d0 + 1 + closes_row before + 1 + closes s + 1 ≡ exit
+      → (let head = here d0 + 1 in let parts = row_counted o.objects before in let m = condition (meant_if_any o.objects cond) in
+      let e = loop_parts arrays exit (lower_row arrays f.break_to f.continue_to before) cond (lower arrays exit head s) (close (Go head) d0) in
+      Holds o.graph (close (Go head) e).blocks
+      → Does o 0 0 f (spot d0) (spot (close (Go head) e)) (loop (in_order (acts_of parts)) m (part (normal_kind_act o.objects s)) nothing) (counts_loop parts (option_price cond) m (counted_kind s) None))
+  stepless f before cond s exit d0 l wc rows body_does at h =
+      let head = here d0 + 1 in
+      let ahead = lower_row arrays f.break_to f.continue_to before in
+      let d1 = close (Go head) d0 in
+      let e = loop_parts arrays exit ahead cond (lower arrays exit head s) d1 in
+      let parts = row_counted o.objects before in
+      let m = condition (meant_if_any o.objects cond) in
+      let he = before_close o.graph e (Go head) h in
+      let g1 = grown_close (Go head) d0 in
+      let g2 = loop_grown arrays exit ahead (closes_row before) cond (lower arrays exit head s) (closes s) d1 (grown_row arrays f.break_to f.continue_to before) (grown_kind arrays exit head s) in
+      let c = counts_loop parts (option_price cond) m (counted_kind s) None in
+      let again = loop (in_order (acts_of parts)) m (part (normal_kind_act o.objects s)) nothing in
+      let all = loop_from f before cond s head exit head None d0 l refl wc rows body_does he (stands_last o.graph e (Go head) h) (ends_do o 1 (no_loop o f) (entry (count o) head)) in
+      to_close 0 0 f e (Go head) exit (spot d0) again c (g2.env ∙ g1.env ∙ l) (omega (arith, g1.blocks, g2.blocks, at)) (entered o f d0 head (entry (count o) exit) again c (stands_last o.graph d0 (Go head) (g2.kept o.graph he)) all)
 
   mutual
     pub kind_does : (f : Frame) (k : NormalStmtKind) (d : Draft) → length d.env ≡ count o → LawfulNormalStmt o.objects o.result f.loop k → Quiet f.free k → Holds o.graph (lower arrays f.break_to f.continue_to k d).blocks
@@ -205,9 +227,9 @@ module _ (o : Setting) (leaves : Leaves o) where
         let no_counts = counts_if_any (counted_if_any o.objects i) in
         let c = counts_branch parts (expr_price cond) m yes_counts no_counts in
         let h5 = before_close o.graph d5 (Go join) h in
-        let h4 = before_held arrays o.graph x y i d4 h5 in
+        let h4 = (grown_held arrays x y i d4).kept o.graph h5 in
         let h3 = before_close o.graph d3 (Go join) h4 in
-        let h2 = before_kind arrays o.graph x y s d2 h3 in
+        let h2 = (grown_kind arrays x y s d2).kept o.graph h3 in
         let h1 = before_close o.graph (with_condition arrays cond d1) j h2 in
         let g1 = grown_row arrays x y before d in
         let g2 = grown_close j (with_condition arrays cond d1) in
@@ -233,42 +255,15 @@ module _ (o : Setting) (leaves : Leaves o) where
         (subst (λ (u : List Act). Does o 0 0 f (spot d) (spot (close (Go join) d5)) (branch (in_order u) m yes_run no_run) c) (acts_are o.objects before)
         (to_close 0 0 f d5 (Go join) join (spot d) (branch (in_order (acts_of parts)) m yes_run no_run) c l5 at5 whole))
     kind_does f (step.While' n before cond b (more_of-NormalStmt s at end_of-NormalStmt)) d l w q h =
-        let x = f.break_to in let y = f.continue_to in
         let head = here d + 1 in
         let exit = head + closes_row before + 1 + closes s + 1 in
         let d0 = close (Go head) d in
-        let d1 = lower_row arrays x y before d0 in
-        let j = Two (condition_of arrays cond d1) (here d1 + 1) exit in
-        let d2 = close j (with_condition arrays cond d1) in
-        let d3 = lower arrays exit head s d2 in
-        let parts = row_counted o.objects before in
-        let m = meaning o.objects cond in
-        let body = counted_kind s in
-        let c = counts_loop parts (expr_price cond) m body None in
-        let h3 = before_close o.graph d3 (Go head) h in
-        let h2 = before_kind arrays o.graph exit head s d2 h3 in
-        let h1 = before_close o.graph (with_condition arrays cond d1) j h2 in
-        let h0 = before_row arrays o.graph x y before d0 h1 in
-        let g0 = grown_close (Go head) d in
-        let g1 = grown_row arrays x y before d0 in
-        let g2 = grown_close j (with_condition arrays cond d1) in
-        let g3 = grown_kind arrays exit head s d2 in
-        let l0 : length d0.env ≡ count o = g0.env ∙ l in
-        let l1 : length d1.env ≡ count o = g1.env ∙ l0 in
-        let l2 : length d2.env ≡ count o = g2.env ∙ l1 in
-        let l3 : length d3.env ≡ count o = g3.env ∙ l2 in
-        let at3 : here d3 + 1 ≡ exit = omega (arith, g0.blocks, g1.blocks, g2.blocks, g3.blocks) in
-        let lp : Loop o f head (here d1 + 1) exit head (spot d1) d3 (expr_price cond) parts m body None = record {
-          first = quietly f (entry (count o) head) (spot d1) (in_order (acts_of parts)) (counts_in_order parts) (from_entry 0 0 (quiet o f) d (Go head) head (spot d1) (in_order (acts_of parts)) (counts_in_order parts) l refl (row_does (quiet o f) before d0 l0 w.0 q.0 h1));
-          picks = picks o cond d1 (here d1 + 1) exit (leaves.law cond w.1) (stands_last o.graph (with_condition arrays cond d1) j h2);
-          inside = from_entry 0 0 (in_loop o f exit head) (with_condition arrays cond d1) j (here d1 + 1) (spot d3) (part body.act) (counts_part body) l1 refl (part_does 0 0 (in_loop o f exit head) (spot d2) (spot d3) body (kind_does (in_loop o f exit head) s d2 l2 w.2 q.1 h3));
-          stands = stands_last o.graph d3 (Go head) h;
-          stepped = ends_do o 1 (no_loop o f) (entry (count o) head);
-        } in
-        let whole = entered o f d head (entry (count o) exit) (loop (in_order (acts_of parts)) m (part body.act) nothing) c (stands_last o.graph d (Go head) h0) (loop_does o f head (here d1 + 1) exit head (spot d1) d3 (expr_price cond) parts m body None lp) in
-        turn_does o 0 0 f (spot d) (spot (close (Go head) d3)) (loop (in_order (normal_row_acts o.objects before)) m (part body.act) nothing) c
-        (subst (λ (u : List Act). Does o 0 0 f (spot d) (spot (close (Go head) d3)) (loop (in_order u) m (part body.act) nothing) c) (acts_are o.objects before)
-        (to_close 0 0 f d3 (Go head) exit (spot d) (loop (in_order (acts_of parts)) m (part body.act) nothing) c l3 at3 whole))
+        let end = close (Go head) (loop_parts arrays exit (lower_row arrays f.break_to f.continue_to before) (Some cond) (lower arrays exit head s) d0) in
+        let run : List Act → Run = λ u. loop (in_order u) (meaning o.objects cond) (part (normal_kind_act o.objects s)) nothing in
+        let c = counts_loop (row_counted o.objects before) (expr_price cond) (meaning o.objects cond) (counted_kind s) None in
+        turn_does o 0 0 f (spot d) (spot end) (run (normal_row_acts o.objects before)) c
+        (subst (λ (u : List Act). Does o 0 0 f (spot d) (spot end) (run u) c) (acts_are o.objects before)
+        (stepless f before (Some cond) s exit d l w.1 (λ l0 h1. row_does (quiet o f) before d0 l0 w.0 q.0 h1) (λ a la ha. kind_does (in_loop o f exit head) s a la w.2 q.1 ha) refl h))
     kind_does f (step.DoWhile' b (more_of-NormalStmt s at end_of-NormalStmt) n before cond) d l w q h =
         let x = f.break_to in let y = f.continue_to in
         let first = here d + 1 in
@@ -285,9 +280,9 @@ module _ (o : Setting) (leaves : Leaves o) where
         let c = counts_loop parts (expr_price cond) m body None in
         let e = counting (tally 1 0) (counts_looped body c) in
         let h4 = before_close o.graph (with_condition arrays cond d4) j h in
-        let h3 = before_row arrays o.graph x y before d3 h4 in
+        let h3 = (grown_row arrays x y before d3).kept o.graph h4 in
         let h2 = before_close o.graph d2 (Go head) h3 in
-        let h1 = before_kind arrays o.graph exit head s d1 h2 in
+        let h1 = (grown_kind arrays exit head s d1).kept o.graph h2 in
         let g1 = grown_close (Go first) d in
         let g2 = grown_kind arrays exit head s d1 in
         let g3 = grown_close (Go head) d2 in
@@ -329,8 +324,8 @@ module _ (o : Setting) (leaves : Leaves o) where
         let again = loop (in_order (acts_of parts)) m (part body.act) (step_run st) in
         let g0 = grown_row arrays x y first d in
         let l0 : length d0.env ≡ count o = g0.env ∙ l in
-        let h1 : Holds o.graph d1.blocks = before_step arrays o.graph x y head i after (λ to. loop_parts arrays exit (lower_row arrays x y before) cond (lower arrays exit to s) d1) d1.blocks
-        (λ to u. before_loop arrays o.graph exit (lower_row arrays x y before) cond (lower arrays exit to s) (before_row arrays o.graph x y before) (before_kind arrays o.graph exit to s) d1 u) h in
+        let h1 : Holds o.graph d1.blocks = (grown_step arrays x y head i after (λ to. loop_parts arrays exit (lower_row arrays x y before) cond (lower arrays exit to s) d1) d1 (closes_row before + 1 + closes s)
+        (λ to. loop_grown arrays exit (lower_row arrays x y before) (closes_row before) cond (lower arrays exit to s) (closes s) d1 (grown_row arrays x y before) (grown_kind arrays exit to s))).kept o.graph h in
         let h0 = before_close o.graph d0 (Go head) h1 in
         let end = lower_step arrays x y head i (λ to. loop_parts arrays exit (lower_row arrays x y before) cond (lower arrays exit to s) d1) after in
         let ran = unlooped 0 0 f (spot d) (spot d0) (in_order (acts_of firsts)) (counts_in_order firsts) (row_does (no_loop o f) first d l w.0 q.0 h0) in
@@ -353,23 +348,7 @@ module _ (o : Setting) (leaves : Leaves o) where
         Holds o.graph (close (Go head) d0).blocks → Holds o.graph e.blocks
         → Does o 0 0 f (spot d0) (spot e) (loop (in_order (acts_of parts)) (condition (meant_if_any o.objects cond)) (part (normal_kind_act o.objects s)) (step_run st)) (counts_loop parts (option_price cond) (condition (meant_if_any o.objects cond)) (counted_kind s) st))
     for_does f before cond s step.None' d0 l wc wi qi rows body_does h1 h =
-        let x = f.break_to in let y = f.continue_to in
-        let head = here d0 + 1 in
-        let after = head + closes_row before + 1 + closes s + 1 in
-        let exit = after + 0 in
-        let d1 = close (Go head) d0 in
-        let ahead = lower_row arrays x y before in
-        let e = loop_parts arrays exit ahead cond (lower arrays exit head s) d1 in
-        let parts = row_counted o.objects before in
-        let m = condition (meant_if_any o.objects cond) in
-        let body = counted_kind s in
-        let he = before_close o.graph e (Go head) h in
-        let g1 = grown_close (Go head) d0 in
-        let g2 = loop_grown arrays exit ahead (closes_row before) cond (lower arrays exit head s) (closes s) d1 (grown_row arrays x y before) (grown_kind arrays exit head s) in
-        let c = counts_loop parts (option_price cond) m body None in
-        let again = loop (in_order (acts_of parts)) m (part body.act) nothing in
-        let all = loop_from f before cond s head exit head None d0 l refl wc rows (body_does exit head) he (stands_last o.graph e (Go head) h) (ends_do o 1 (no_loop o f) (entry (count o) head)) in
-        to_close 0 0 f e (Go head) exit (spot d0) again c (g2.env ∙ g1.env ∙ l) (omega (arith, g1.blocks, g2.blocks)) (entered o f d0 head (entry (count o) exit) again c (stands_last o.graph d0 (Go head) h1) all)
+        let exit = here d0 + 1 + closes_row before + 1 + closes s + 1 + 0 in stepless f before cond s exit d0 l wc rows (body_does exit (here d0 + 1)) (omega arith) h
     for_does f before cond s (step.Some' b (more_of-NormalStmt t at end_of-NormalStmt)) d0 l wc wi qi rows body_does h1 h =
         let x = f.break_to in let y = f.continue_to in
         let head = here d0 + 1 in
@@ -385,7 +364,7 @@ module _ (o : Setting) (leaves : Leaves o) where
         let body = counted_kind s in
         let st = counted_kind t in
         let h6 = before_close o.graph d6 (Go head) h in
-        let h5 = before_kind arrays o.graph x y t d5 h6 in
+        let h5 = (grown_kind arrays x y t d5).kept o.graph h6 in
         let he = before_close o.graph e (Go after) h5 in
         let g1 = grown_close (Go head) d0 in
         let g2 = loop_grown arrays exit ahead (closes_row before) cond (lower arrays exit after s) (closes s) d1 (grown_row arrays x y before) (grown_kind arrays exit after s) in
@@ -414,4 +393,4 @@ module _ (o : Setting) (leaves : Leaves o) where
         let parts = row_counted o.objects row in
         let g1 = grown_kind arrays x y s d in
         both_do o 0 0 f (spot d) (spot d1) (spot (lower_row arrays x y row d1)) (normal_kind_act o.objects s).run (in_order (acts_of parts)) (kind_counts o.objects s) (counts_in_order parts)
-        (kind_does f s d l w.0 q.0 (before_row arrays o.graph x y row d1 h)) (row_does f row d1 (g1.env ∙ l) w.1 q.1 h)
+        (kind_does f s d l w.0 q.0 ((grown_row arrays x y row d1).kept o.graph h)) (row_does f row d1 (g1.env ∙ l) w.1 q.1 h)

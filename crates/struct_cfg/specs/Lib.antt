@@ -12,4 +12,3 @@ pub mod Kernels
 pub mod Runs
 pub mod Laws
 pub mod Places
-pub mod Worked

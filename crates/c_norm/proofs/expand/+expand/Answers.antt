@@ -3,8 +3,7 @@ use Rattle.c_ast.specs.declared.typed.TypedExprKind.TheVariants as expr
 use Rattle.c_ast.specs.declared.typed.TypedExprKind.TheViews.{the_lemmas}
 use Rattle.c_ast.specs.Nodes.{typed_expr_nodes}
 use Rattle.c_norm.specs.Expand.{expand_all}
-use Rattle.c_norm.proofs.Coded.{few_expanded, few_expanded_all, left_is, whole_arm, element_arm, unary_arm, cast_arm, joined_arm, plain_arm, logical_arm, kept_arm, choice_arm, goes_first, part_room, room_next, expand_next, goes_end}
-use Rattle.c_norm.proofs.Parts.{nodes_element, nodes_unary, nodes_cast, nodes_binary, nodes_choice}
+use Rattle.c_norm.proofs.Coded.{few_expanded, few_expanded_all, left_is, whole_arm, element_arm, unary_arm, cast_arm, joined_arm, plain_arm, logical_arm, kept_arm, choice_arm, goes_first, part_room, room_next, expand_next, goes_end, nodes_element, nodes_unary, nodes_cast, nodes_binary, nodes_choice}
 use Rattle.c_norm.proofs.expand.+expand.Goals as goal
 
 pub expand-returns-clause-few : goal.expand-returns-clause-few

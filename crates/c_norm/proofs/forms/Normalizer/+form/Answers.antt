@@ -1,13 +1,12 @@
 use Rattle.std.proofs.Common.{length, arith, refl, sym, ap, ◌∙◌}
 use Rattle.std.proofs.lemmas.List.Sums.{get_or-le-sum_by}
 use Rattle.std.proofs.lemmas.Result.{IfOk-weaker}
-use Rattle.c_ast.specs.Nodes.{typed_exprs_nodes, typed_stmt_nodes, typed_held_nodes}
+use Rattle.c_ast.specs.Nodes.{typed_exprs_nodes, typed_stmt_nodes}
 use Rattle.c_ast.specs.declared.typed.TypedTarget.{TypedTarget}
 use Rattle.c_ast.specs.declared.typed.TypedStmtKind.TheVariants as act
 use Rattle.c_norm.specs.Code.{stmts_form}
 use Rattle.c_norm.proofs.Coded.{part_room, room_next}
-use Rattle.c_norm.proofs.MadeArms.{few_stmt, few_stmts, last_made, left_alone, stands_alone, block_made, held_none, held_some, block_arm, declare_arm, return_arm, if_arm, while_arm, do_arm, for_arm, plain_made, compound_made, step_made, stmts_first, stmts_next, stmts_end}
-use Rattle.c_norm.proofs.MadeParts.{nodes_block, nodes_declare, nodes_assign, nodes_step, nodes_if, nodes_while, nodes_do, nodes_for, nodes_return}
+use Rattle.c_norm.proofs.MadeArms.{few_stmt, few_stmts, last_made, left_alone, stands_alone, block_made, held_none, held_some, block_arm, declare_arm, return_arm, if_arm, while_arm, do_arm, for_arm, stmts_first, stmts_next, stmts_end, nodes_block, nodes_declare, nodes_assign, nodes_step, nodes_if, nodes_while, nodes_do, nodes_for, nodes_return}
 use Rattle.c_norm.proofs.forms.Normalizer.+form.Goals as goal
 
 pub form-returns-clause-made : goal.form-returns-clause-made

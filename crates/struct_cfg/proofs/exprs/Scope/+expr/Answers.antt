@@ -9,8 +9,7 @@ use Rattle.struct_cfg.specs.Code.{IsLaid, one_place}
 use Rattle.struct_cfg.specs.Exprs.{piece}
 use Rattle.struct_cfg.proofs.PlaceCode.{next_room, at_index, goes_next, goes_past, goes_end}
 use Rattle.struct_cfg.proofs.exprs.Scope.+expr.Goals.{place-then-k-dims+in_ok-at, place-else-k-dims}
-use Rattle.struct_cfg.proofs.ExprCode.{expr_few, unary_laid, cast_laid, binary_laid, choice_laid, element_laid, index_put, next_put, place_few}
-use Rattle.struct_cfg.proofs.Parts.{price_element, price_unary, price_cast, price_binary, price_choice}
+use Rattle.struct_cfg.proofs.ExprCode.{expr_few, unary_laid, cast_laid, binary_laid, choice_laid, element_laid, index_put, next_put, place_few, price_element, price_unary, price_cast, price_binary, price_choice}
 use Rattle.struct_cfg.proofs.exprs.Scope.+expr.Goals as goal
 
 pub expr-returns-clause-few : goal.expr-returns-clause-few
