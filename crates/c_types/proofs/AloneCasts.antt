@@ -44,31 +44,31 @@ use Rattle.c_types.proofs.ProgramHelpers.{kernel_here}
 
 -- ---- expressions, by their parts
 
-whole : (e : ProgExpr) → typed_expr e ≡ of_type (typed_kind e.kind) e.ty e.at
+pub whole : (e : ProgExpr) → typed_expr e ≡ of_type (typed_kind e.kind) e.ty e.at
 whole e = fold_out-ProgExpr TypedExprKind TypedExpr expr_step (λ e. of_type e.kind e.ty e.at) e
 
 of_kind : (k l : ProgExprKind) (m : TypedExprKind) (t : Ty) (s : Span) → l ≡ k → typed_kind l ≡ m → typed_expr (prog_of k t s) ≡ of_type m t s
 of_kind k l m t s same is = whole (prog_of k t s) ∙ ap (λ k. of_type (typed_kind k) t s) (sym same) ∙ ap (λ m. of_type m t s) is
 
-at_number : (n : ℕ) (t : Ty) (s : Span) → typed_expr (prog_of (prog.Number n) t s) ≡ of_type (typed.Number n) t s
+pub at_number : (n : ℕ) (t : Ty) (s : Span) → typed_expr (prog_of (prog.Number n) t s) ≡ of_type (typed.Number n) t s
 at_number n t s = of_kind (prog.Number n) _ _ t s (prog.rolls-Number n) (fold-roll-ProgExprKind TypedExprKind TypedExpr expr_step (λ e. of_type e.kind e.ty e.at) (layer.Number n))
 
-at_var : (v : ℕ) (t : Ty) (s : Span) → typed_expr (prog_of (prog.Var v) t s) ≡ of_type (typed.Var v) t s
+pub at_var : (v : ℕ) (t : Ty) (s : Span) → typed_expr (prog_of (prog.Var v) t s) ≡ of_type (typed.Var v) t s
 at_var v t s = of_kind (prog.Var v) _ _ t s (prog.rolls-Var v) (fold-roll-ProgExprKind TypedExprKind TypedExpr expr_step (λ e. of_type e.kind e.ty e.at) (layer.Var v))
 
-at_element : (a : ℕ) (es : List ProgExpr) (t : Ty) (s : Span) → typed_expr (prog_of (prog.Element a es) t s) ≡ of_type (typed.Element a (typed_exprs es)) t s
+pub at_element : (a : ℕ) (es : List ProgExpr) (t : Ty) (s : Span) → typed_expr (prog_of (prog.Element a es) t s) ≡ of_type (typed.Element a (typed_exprs es)) t s
 at_element a es t s = of_kind (prog.Element a es) _ _ t s (prog.rolls-Element a es) (fold-roll-ProgExprKind TypedExprKind TypedExpr expr_step (λ e. of_type e.kind e.ty e.at) (layer.Element a es))
 
-at_unary : (op : Unary) (e : ProgExpr) (t : Ty) (s : Span) → typed_expr (prog_of (prog.Unary op e) t s) ≡ of_type (typed.Unary op (typed_expr e)) t s
+pub at_unary : (op : Unary) (e : ProgExpr) (t : Ty) (s : Span) → typed_expr (prog_of (prog.Unary op e) t s) ≡ of_type (typed.Unary op (typed_expr e)) t s
 at_unary op e t s = of_kind (prog.Unary op e) _ _ t s (prog.rolls-Unary op e) (fold-roll-ProgExprKind TypedExprKind TypedExpr expr_step (λ e. of_type e.kind e.ty e.at) (layer.Unary op e))
 
-at_cast : (b : Bool) (e : ProgExpr) (t : Ty) (s : Span) → typed_expr (prog_of (prog.Cast b e) t s) ≡ of_type (typed.Cast b (typed_expr e)) t s
+pub at_cast : (b : Bool) (e : ProgExpr) (t : Ty) (s : Span) → typed_expr (prog_of (prog.Cast b e) t s) ≡ of_type (typed.Cast b (typed_expr e)) t s
 at_cast b e t s = of_kind (prog.Cast b e) _ _ t s (prog.rolls-Cast b e) (fold-roll-ProgExprKind TypedExprKind TypedExpr expr_step (λ e. of_type e.kind e.ty e.at) (layer.Cast b e))
 
-at_binary : (op : Binary) (a b : ProgExpr) (t : Ty) (s : Span) → typed_expr (prog_of (prog.Binary op a b) t s) ≡ of_type (typed.Binary op (typed_expr a) (typed_expr b)) t s
+pub at_binary : (op : Binary) (a b : ProgExpr) (t : Ty) (s : Span) → typed_expr (prog_of (prog.Binary op a b) t s) ≡ of_type (typed.Binary op (typed_expr a) (typed_expr b)) t s
 at_binary op a b t s = of_kind (prog.Binary op a b) _ _ t s (prog.rolls-Binary op a b) (fold-roll-ProgExprKind TypedExprKind TypedExpr expr_step (λ e. of_type e.kind e.ty e.at) (layer.Binary op a b))
 
-at_choice : (c a b : ProgExpr) (t : Ty) (s : Span) → typed_expr (prog_of (prog.Choose c a b) t s) ≡ of_type (typed.Choose (typed_expr c) (typed_expr a) (typed_expr b)) t s
+pub at_choice : (c a b : ProgExpr) (t : Ty) (s : Span) → typed_expr (prog_of (prog.Choose c a b) t s) ≡ of_type (typed.Choose (typed_expr c) (typed_expr a) (typed_expr b)) t s
 at_choice c a b t s = of_kind (prog.Choose c a b) _ _ t s (prog.rolls-Choose c a b) (fold-roll-ProgExprKind TypedExprKind TypedExpr expr_step (λ e. of_type e.kind e.ty e.at) (layer.Choose c a b))
 
 same_ty : (e : ProgExpr) → (typed_expr e).ty ≡ e.ty
@@ -131,7 +131,7 @@ choice_is c a b s =
 made : {c : Context} {e : Expr} (f g : TypedExpr) → f ≡ g → CastsExpr c e g → CastsExpr c e f
 made {c} {e} f g is h = subst (λ f. CastsExpr c e f) (sym is) h
 
-no_helper : (k : ℕ × Known) → None ≡ Some k → ⊥
+pub no_helper : (k : ℕ × Known) → None ≡ Some k → ⊥
 no_helper k h = absurd (cc)
 
 mutual
@@ -161,45 +161,48 @@ option_casts (rule.present c e f h) = one.present c e (typed_expr f) (expr_casts
 
 -- ---- statements, by their parts
 
-of_act : (k l : ProgStmtKind) (m : TypedStmtKind) (s : Span) → l ≡ k → typed_act l ≡ m → typed_stmt (prog_at k s) ≡ act_at m s
-of_act k l m s same is = fold_out-ProgStmt TypedStmtKind TypedStmt stmt_step (λ s. act_at s.kind s.at) (prog_at k s) ∙ ap (λ k. act_at (typed_act k) s) (sym same) ∙ ap (λ m. act_at m s) is
+pub whole_act : (a : ProgStmt) → typed_stmt a ≡ act_at (typed_act a.kind) a.at
+whole_act a = fold_out-ProgStmt TypedStmtKind TypedStmt stmt_step (λ s. act_at s.kind s.at) a
 
-at_block : (ts : List ProgStmt) (s : Span) → typed_stmt (prog_at (step.Block ts) s) ≡ act_at (act.Block (typed_stmts ts)) s
+of_act : (k l : ProgStmtKind) (m : TypedStmtKind) (s : Span) → l ≡ k → typed_act l ≡ m → typed_stmt (prog_at k s) ≡ act_at m s
+of_act k l m s same is = whole_act (prog_at k s) ∙ ap (λ k. act_at (typed_act k) s) (sym same) ∙ ap (λ m. act_at m s) is
+
+pub at_block : (ts : List ProgStmt) (s : Span) → typed_stmt (prog_at (step.Block ts) s) ≡ act_at (act.Block (typed_stmts ts)) s
 at_block ts s = of_act (step.Block ts) _ _ s (step.rolls-Block ts) (fold-roll-ProgStmtKind TypedStmtKind TypedStmt stmt_step (λ s. act_at s.kind s.at) (row.Block ts))
 
-at_declaration : (v : ℕ) (e : Option ProgExpr) (s : Span) → typed_stmt (prog_at (step.Declare v e) s) ≡ act_at (act.Declare v (option_map typed_expr e)) s
+pub at_declaration : (v : ℕ) (e : Option ProgExpr) (s : Span) → typed_stmt (prog_at (step.Declare v e) s) ≡ act_at (act.Declare v (option_map typed_expr e)) s
 at_declaration v e s = of_act (step.Declare v e) _ _ s (step.rolls-Declare v e) (fold-roll-ProgStmtKind TypedStmtKind TypedStmt stmt_step (λ s. act_at s.kind s.at) (row.Declare v e))
 
-at_assignment : (to : ProgTarget) (op : Option Binary) (e : ProgExpr) (s : Span) → typed_stmt (prog_at (step.Assign to op e) s) ≡ act_at (act.Assign (typed_target to) op (typed_expr e)) s
+pub at_assignment : (to : ProgTarget) (op : Option Binary) (e : ProgExpr) (s : Span) → typed_stmt (prog_at (step.Assign to op e) s) ≡ act_at (act.Assign (typed_target to) op (typed_expr e)) s
 at_assignment to op e s = of_act (step.Assign to op e) _ _ s (step.rolls-Assign to op e) (fold-roll-ProgStmtKind TypedStmtKind TypedStmt stmt_step (λ s. act_at s.kind s.at) (row.Assign to op e))
 
-at_step : (to : ProgTarget) (up : Bool) (s : Span) → typed_stmt (prog_at (step.Step to up) s) ≡ act_at (act.Step (typed_target to) up) s
+pub at_step : (to : ProgTarget) (up : Bool) (s : Span) → typed_stmt (prog_at (step.Step to up) s) ≡ act_at (act.Step (typed_target to) up) s
 at_step to up s = of_act (step.Step to up) _ _ s (step.rolls-Step to up) (fold-roll-ProgStmtKind TypedStmtKind TypedStmt stmt_step (λ s. act_at s.kind s.at) (row.Step to up))
 
-at_if : (e : ProgExpr) (a : ProgStmt) (o : Option ProgStmt) (s : Span) → typed_stmt (prog_at (step.If e a o) s) ≡ act_at (act.If (typed_expr e) (typed_stmt a) (option_map typed_stmt o)) s
+pub at_if : (e : ProgExpr) (a : ProgStmt) (o : Option ProgStmt) (s : Span) → typed_stmt (prog_at (step.If e a o) s) ≡ act_at (act.If (typed_expr e) (typed_stmt a) (option_map typed_stmt o)) s
 at_if e a None s = of_act (step.If e a None) _ _ s (step.rolls-If e a None) (fold-roll-ProgStmtKind TypedStmtKind TypedStmt stmt_step (λ s. act_at s.kind s.at) (row.If e a None))
 at_if e a (Some b) s = of_act (step.If e a (Some b)) _ _ s (step.rolls-If e a (Some b)) (fold-roll-ProgStmtKind TypedStmtKind TypedStmt stmt_step (λ s. act_at s.kind s.at) (row.If e a (Some b)))
 
-at_while : (e : ProgExpr) (a : ProgStmt) (s : Span) → typed_stmt (prog_at (step.While e a) s) ≡ act_at (act.While (typed_expr e) (typed_stmt a)) s
+pub at_while : (e : ProgExpr) (a : ProgStmt) (s : Span) → typed_stmt (prog_at (step.While e a) s) ≡ act_at (act.While (typed_expr e) (typed_stmt a)) s
 at_while e a s = of_act (step.While e a) _ _ s (step.rolls-While e a) (fold-roll-ProgStmtKind TypedStmtKind TypedStmt stmt_step (λ s. act_at s.kind s.at) (row.While e a))
 
-at_do : (a : ProgStmt) (e : ProgExpr) (s : Span) → typed_stmt (prog_at (step.DoWhile a e) s) ≡ act_at (act.DoWhile (typed_stmt a) (typed_expr e)) s
+pub at_do : (a : ProgStmt) (e : ProgExpr) (s : Span) → typed_stmt (prog_at (step.DoWhile a e) s) ≡ act_at (act.DoWhile (typed_stmt a) (typed_expr e)) s
 at_do a e s = of_act (step.DoWhile a e) _ _ s (step.rolls-DoWhile a e) (fold-roll-ProgStmtKind TypedStmtKind TypedStmt stmt_step (λ s. act_at s.kind s.at) (row.DoWhile a e))
 
-at_for : (ts : List ProgStmt) (e : Option ProgExpr) (o : Option ProgStmt) (a : ProgStmt) (s : Span) → typed_stmt (prog_at (step.For ts e o a) s) ≡ act_at (act.For (typed_stmts ts) (option_map typed_expr e) (option_map typed_stmt o) (typed_stmt a)) s
+pub at_for : (ts : List ProgStmt) (e : Option ProgExpr) (o : Option ProgStmt) (a : ProgStmt) (s : Span) → typed_stmt (prog_at (step.For ts e o a) s) ≡ act_at (act.For (typed_stmts ts) (option_map typed_expr e) (option_map typed_stmt o) (typed_stmt a)) s
 at_for ts e None a s = of_act (step.For ts e None a) _ _ s (step.rolls-For ts e None a) (fold-roll-ProgStmtKind TypedStmtKind TypedStmt stmt_step (λ s. act_at s.kind s.at) (row.For ts e None a))
 at_for ts e (Some b) a s = of_act (step.For ts e (Some b) a) _ _ s (step.rolls-For ts e (Some b) a) (fold-roll-ProgStmtKind TypedStmtKind TypedStmt stmt_step (λ s. act_at s.kind s.at) (row.For ts e (Some b) a))
 
-at_break : (s : Span) → typed_stmt (prog_at step.Break s) ≡ act_at act.Break s
+pub at_break : (s : Span) → typed_stmt (prog_at step.Break s) ≡ act_at act.Break s
 at_break s = of_act step.Break _ _ s step.rolls-Break (fold-roll-ProgStmtKind TypedStmtKind TypedStmt stmt_step (λ s. act_at s.kind s.at) row.Break)
 
-at_continue : (s : Span) → typed_stmt (prog_at step.Continue s) ≡ act_at act.Continue s
+pub at_continue : (s : Span) → typed_stmt (prog_at step.Continue s) ≡ act_at act.Continue s
 at_continue s = of_act step.Continue _ _ s step.rolls-Continue (fold-roll-ProgStmtKind TypedStmtKind TypedStmt stmt_step (λ s. act_at s.kind s.at) row.Continue)
 
-at_return : (e : Option ProgExpr) (s : Span) → typed_stmt (prog_at (step.Return e) s) ≡ act_at (act.Return (option_map typed_expr e)) s
+pub at_return : (e : Option ProgExpr) (s : Span) → typed_stmt (prog_at (step.Return e) s) ≡ act_at (act.Return (option_map typed_expr e)) s
 at_return e s = of_act (step.Return e) _ _ s (step.rolls-Return e) (fold-roll-ProgStmtKind TypedStmtKind TypedStmt stmt_step (λ s. act_at s.kind s.at) (row.Return e))
 
-at_empty : (s : Span) → typed_stmt (prog_at step.Empty s) ≡ act_at act.Empty s
+pub at_empty : (s : Span) → typed_stmt (prog_at step.Empty s) ≡ act_at act.Empty s
 at_empty s = of_act step.Empty _ _ s step.rolls-Empty (fold-roll-ProgStmtKind TypedStmtKind TypedStmt stmt_step (λ s. act_at s.kind s.at) row.Empty)
 
 abbrev assignment_as : ProgTarget → Option Binary → Ty → TypedExpr → Ty → Span → TypedStmt

@@ -14,9 +14,9 @@ use Rattle.c_types.specs.declared.sort.Sort.{Sort}
 use Rattle.c_types.specs.declared.sort.Sort.TheVariants as sort
 use Rattle.c_types.specs.Places.{first_bytes, earlier, first_of}
 use Rattle.c_types.specs.Scopes.{is_new_in, with_entry, without_innermost}
-use Rattle.c_types.specs.Faults.{Sorts, expr_faults, exprs_faults, option_faults, target_faults, unless, is_returnable, act_faults, stmt_faults, stmts_faults, inner_faults, sorts_after, sorts_after_all}
+use Rattle.c_types.specs.Faults.{Sorts, expr_faults, option_faults, target_faults, unless, is_returnable, act_faults, stmt_faults, stmts_faults, inner_faults, sorts_after, sorts_after_all}
 use Rattle.c_types.proofs.FirstFaults.{of_two, of_three}
-use Rattle.c_types.proofs.Layers.{in_block, in_if, in_while, in_do, in_for, stmts_faults-append, sorts_after_all-append, exprs_faults-append}
+use Rattle.c_types.proofs.Layers.{in_block, in_if, in_while, in_do, in_for, stmts_faults-append, sorts_after_all-append}
 
 -- ---- scopes that end
 
@@ -133,9 +133,3 @@ one_more_stmt ss us s r loop v w a b o is p after q h =
 
 pub one_more_after : (ss us : List Stmt) (s : Stmt) (v w x : Sorts) → us ≡ ss ++ s ∷ [] → w ≡ sorts_after_all v ss → x ≡ sorts_after w s.kind → x ≡ sorts_after_all v us
 one_more_after ss us s v w x is after h = h ∙ ap (λ w. sorts_after w s.kind) after ∙ sym (sorts_after_all-append ss (s ∷ []) v) ∙ sym (ap (sorts_after_all v) is)
-
-pub one_more_expr : (es us : List Expr) (e : Expr) (v : Sorts) (a b o : Option Fault) → us ≡ es ++ e ∷ [] → a ≡ first_of (exprs_faults v es) → b ≡ first_of (expr_faults v e) → o ≡ earlier a b
-    → o ≡ first_of (exprs_faults v us)
-one_more_expr es us e v a b o is p q h =
-    of_two (exprs_faults v es) (expr_faults v e) (exprs_faults v us) a b o
-    (ap (exprs_faults v) is ∙ exprs_faults-append es (e ∷ []) v ∙ ap (λ fs. exprs_faults v es ++ fs) (append-nil (expr_faults v e))) p q h

@@ -1,5 +1,5 @@
 -- The calls that stand where none may in a whole node, from those in its parts, through the rows in which trees hold their parts.
-use Rattle.std.proofs.Common.{◌≡◌, ℕ, Bool, true, false, List, [], ◌∷◌, ◌++◌, Option, Some, None, refl, sym, ap, ◌∙◌, append_assoc, append-nil}
+use Rattle.std.proofs.Common.{◌≡◌, ℕ, Bool, true, false, List, [], ◌∷◌, ◌++◌, Option, Some, None, refl, ap, ◌∙◌}
 use denote.Hole.Carrier.{hidden}
 use Rattle.el_base.specs.declared.span.Span.{Span}
 use Rattle.el_base.specs.declared.ty.Ty.{Ty}
@@ -11,12 +11,8 @@ use Rattle.c_ast.specs.declared.tree.ExprKind.TheBlock.{shape-the_row-Expr-0, hi
 use Rattle.c_ast.specs.declared.tree.Stmt.{Stmt}
 use Rattle.c_ast.specs.declared.tree.StmtKind.TheVariants as stmt
 use Rattle.c_ast.specs.declared.tree.StmtKind.TheBlock.{shape-the_row-Stmt-0, hidden-the_row-Stmt-0, shape-the_row-Stmt-1, hidden-the_row-Stmt-1, back-StmtKind-If-2}
-use Rattle.c_ast.specs.declared.tree.Helper.{Helper}
 use Rattle.c_ast.specs.Programs.{joins_both, where_whole}
-use Rattle.c_types.specs.declared.fault.Fault.{Fault}
-use Rattle.c_types.specs.Places.{earlier, first_of}
-use Rattle.c_types.specs.CallPlaces.{call_places, kind_places, row_places, expr_places, exprs_places, option_places, act_places, held_places, acts_places, stmt_places, inner_places, stmts_places, helper_places, helpers_places}
-use Rattle.c_types.proofs.FirstFaults.{of_two}
+use Rattle.c_types.specs.CallPlaces.{call_places, kind_places, row_places, expr_places, exprs_places, option_places, act_places, held_places, acts_places, stmt_places, inner_places, stmts_places}
 
 -- ---- rows and lists
 
@@ -84,33 +80,3 @@ unfolding shape-the_row-Stmt-0 hidden-the_row-Stmt-0 shape-the_row-Stmt-1 hidden
 in_for ss e o s =
     ap (λ fs. fs ++ (option_places false e ++ (held_places (back-StmtKind-If-2 o) ++ stmt_places s))) (acts_are_list ss)
     ∙ ap (λ fs. stmts_places ss ++ (option_places false e ++ (fs ++ stmt_places s))) (held_is_inner o)
-
--- ---- lists one after another
-
-pub exprs_places-append : (may : Bool) (es gs : List Expr) → exprs_places may (es ++ gs) ≡ exprs_places may es ++ exprs_places may gs
-exprs_places-append may [] gs = refl
-exprs_places-append may (e ∷ es) gs = ap (λ fs. expr_places may e ++ fs) (exprs_places-append may es gs) ∙ sym (append_assoc (expr_places may e) (exprs_places may es) (exprs_places may gs))
-
-pub stmts_places-append : (ss ts : List Stmt) → stmts_places (ss ++ ts) ≡ stmts_places ss ++ stmts_places ts
-stmts_places-append [] ts = refl
-stmts_places-append (s ∷ ss) ts = ap (λ fs. stmt_places s ++ fs) (stmts_places-append ss ts) ∙ sym (append_assoc (stmt_places s) (stmts_places ss) (stmts_places ts))
-
-pub helpers_places-append : (hs gs : List Helper) → helpers_places (hs ++ gs) ≡ helpers_places hs ++ helpers_places gs
-helpers_places-append [] gs = refl
-helpers_places-append (h ∷ hs) gs = ap (λ fs. helper_places h ++ fs) (helpers_places-append hs gs) ∙ sym (append_assoc (helper_places h) (helpers_places hs) (helpers_places gs))
-
--- ---- one more item of a list
-
-pub one_more_expr : (es us : List Expr) (e : Expr) (may : Bool) (a b o : Option Fault) → us ≡ es ++ e ∷ [] → a ≡ first_of (exprs_places may es) → b ≡ first_of (expr_places may e) → o ≡ earlier a b
-    → o ≡ first_of (exprs_places may us)
-one_more_expr es us e may a b o is p q h =
-    of_two (exprs_places may es) (expr_places may e) (exprs_places may us) a b o
-    (ap (exprs_places may) is ∙ exprs_places-append may es (e ∷ []) ∙ ap (λ fs. exprs_places may es ++ fs) (append-nil (expr_places may e))) p q h
-
-pub one_more_stmt : (ss us : List Stmt) (s : Stmt) (a b o : Option Fault) → us ≡ ss ++ s ∷ [] → a ≡ first_of (stmts_places ss) → b ≡ first_of (stmt_places s) → o ≡ earlier a b → o ≡ first_of (stmts_places us)
-one_more_stmt ss us s a b o is p q h =
-    of_two (stmts_places ss) (stmt_places s) (stmts_places us) a b o (ap stmts_places is ∙ stmts_places-append ss (s ∷ []) ∙ ap (λ fs. stmts_places ss ++ fs) (append-nil (stmt_places s))) p q h
-
-pub one_more_helper : (hs us : List Helper) (h : Helper) (a b o : Option Fault) → us ≡ hs ++ h ∷ [] → a ≡ first_of (helpers_places hs) → b ≡ first_of (helper_places h) → o ≡ earlier a b → o ≡ first_of (helpers_places us)
-one_more_helper hs us h a b o is p q e =
-    of_two (helpers_places hs) (helper_places h) (helpers_places us) a b o (ap helpers_places is ∙ helpers_places-append hs (h ∷ []) ∙ ap (λ fs. helpers_places hs ++ fs) (append-nil (helper_places h))) p q e

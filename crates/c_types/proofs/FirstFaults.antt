@@ -1,6 +1,6 @@
 -- The first of several faults, from the first of each part.
 use Rattle.std.proofs.Common.{◌≡◌, ℕ, ◌+◌, ◌*◌, ◌<◌, Bool, true, false, ◌&&◌, ◌||◌, nat_lt, nat_eq, if◌then◌else◌, List, [], ◌∷◌, ◌++◌, Option, Some, None, refl, sym, ap, ◌∙◌, arith}
-use Rattle.std.proofs.Common.{length, take, get_or}
+use Rattle.std.proofs.Common.{length, take, get_or, append-nil, append_assoc}
 use Rattle.std.proofs.lemmas.List.{take_more}
 use Rattle.std.proofs.lemmas.Bool.Decides.{nat_tests}
 use Rattle.c_types.specs.declared.fault.Rule.{Rule}
@@ -60,6 +60,15 @@ of_two fs gs hs a b o is p q r = r ∙ ap (λ x. earlier x b) p ∙ ap (earlier 
 
 pub of_three : (fs gs hs us : List Fault) (a b d o n : Option Fault) → us ≡ fs ++ (gs ++ hs) → a ≡ first_of fs → b ≡ first_of gs → d ≡ first_of hs → n ≡ earlier b d → o ≡ earlier a n → o ≡ first_of us
 of_three fs gs hs us a b d o n is p q r s t = of_two fs (gs ++ hs) us a n o is p (of_two gs hs (gs ++ hs) b d n refl q r s) t
+
+-- one more item of a list, where the faults of a list are those of each item
+pub one_more : {A : Type 0} (f : List A → List Fault) (g : A → List Fault) → f [] ≡ [] → ((x : A) (xs : List A) → f (x ∷ xs) ≡ g x ++ f xs)
+    → (xs us : List A) (x : A) (a b o : Option Fault) → us ≡ xs ++ x ∷ [] → a ≡ first_of (f xs) → b ≡ first_of (g x) → o ≡ earlier a b → o ≡ first_of (f us)
+one_more {A} f g none more xs us x a b o is p q h = of_two (f xs) (g x) (f us) a b o (ap f is ∙ at_end xs) p q h
+  where
+    at_end : (xs : List A) → f (xs ++ x ∷ []) ≡ f xs ++ g x
+    at_end [] = more x [] ∙ ap (λ fs. g x ++ fs) none ∙ append-nil (g x) ∙ ap (λ fs. fs ++ g x) (sym none)
+    at_end (y ∷ ys) = more y (ys ++ x ∷ []) ∙ ap (λ fs. g y ++ fs) (at_end ys) ∙ sym (append_assoc (g y) (f ys) (g x)) ∙ ap (λ fs. fs ++ g x) (sym (more y ys))
 
 -- one more item of a list that is gone over
 pub item_more : {X : Type 0} (xs : List X) (i : ℕ) (x : X) → i < length xs → x ≡ get_or xs i x → take (i + 1) xs ≡ take i xs ++ x ∷ []

@@ -1,5 +1,5 @@
--- A tree keeps the typing rules exactly where it has no fault.
-use Rattle.std.proofs.Common.{◌≡◌, ◌≢◌, ℕ, ◌+◌, ◌<◌, ◌≤◌, Bool, true, false, not, ◌||◌, nat_lt, nat_eq, List, [], ◌∷◌, ◌++◌, length, All, Option, Some, None, IsSome, IsTrue, refl, sym, ap, subst, ◌∙◌, if◌then◌else◌, arith}
+-- A tree, and a program, keeps the typing rules exactly where it has no fault.
+use Rattle.std.proofs.Common.{◌≡◌, ◌≢◌, ℕ, ◌+◌, ◌<◌, ◌≤◌, Bool, true, false, not, ◌||◌, nat_lt, nat_eq, List, [], ◌∷◌, ◌++◌, length, All, Option, Some, None, IsSome, refl, sym, ap, subst, ◌∙◌, if◌then◌else◌, arith}
 use Rattle.std.proofs.lemmas.Bool.Decides.{nat_tests}
 use Rattle.std.proofs.lemmas.List.Elements.{All-nil, All-cons, All-head, All-tail}
 use Rattle.std.proofs.lemmas.Bool.{not-true, ltb-false}
@@ -7,6 +7,7 @@ use Rattle.std.specs.Prelude.{option_map}
 use Rattle.std.specs.List.{list_any}
 use Rattle.std.specs.Map.{lookup}
 use mathlib.Core.Former.{Count}
+use mathlib.Core.Logic.{◌↔◌}
 use Rattle.el_base.specs.declared.span.Span.{Span}
 use Rattle.el_base.specs.declared.ty.Ty.{Ty}
 use Rattle.el_base.specs.Limits.{max_dimensions, max_elements}
@@ -29,8 +30,13 @@ use Rattle.c_types.specs.declared.sort.Sort.TheVariants as sort
 use Rattle.c_types.specs.Places.{first_bytes}
 use Rattle.c_types.specs.Scopes.{declared_in, is_new_in, with_entry, scope_by, scopes_by}
 use Rattle.c_types.proofs.Renamed.{lookup-scope_by, found-scopes_by, none_by, by_none}
-use Rattle.c_types.specs.Faults.{Sorts, broken_by_use, broken_by_call, call_faults, if_broken, use_faults, kind_faults, row_faults, expr_faults, exprs_faults, option_faults, target_faults, unless, is_returnable, sorts_after, sorts_after_row, act_faults, held_faults, acts_faults, stmt_faults, stmts_faults, sort_of_dims, param_faults, params_faults, sorts_after_params, tree_faults}
+use Rattle.c_types.specs.Faults.{Sorts, broken_by_use, broken_by_call, call_faults, if_broken, use_faults, kind_faults, row_faults, expr_faults, exprs_faults, option_faults, target_faults, unless, is_returnable, sorts_after, sorts_after_row, act_faults, held_faults, acts_faults, stmt_faults, stmts_faults, sort_of_dims, param_faults, params_faults, sorts_after_params, block_faults, tree_faults, sorts_after_all, sorts_at_end}
 use Rattle.c_types.proofs.Lookups.{same_name}
+use Rattle.c_ast.specs.Programs.{joins_both, where_whole, CallsStand, CallsStandIn, StandsAt, StandsIfAny, CallsStandStmt, CallsStandHeld, CallsStandStmts, names_after_list, TypingHelper, TypingHelpers, known_after, TypingProgram}
+use Rattle.c_types.specs.CallPlaces.{call_places, kind_places, row_places, expr_places, exprs_places, option_places, target_places, act_places, held_places, acts_places, stmt_places, stmts_places, helper_places, helpers_places, program_places}
+use Rattle.c_ast.specs.declared.tree.Helper.{Helper}
+use Rattle.c_ast.specs.declared.tree.Program.{Program}
+use Rattle.c_types.specs.ProgramFaults.{helper_faults, sorts_after_helper, helpers_faults, sorts_after_helpers, kernel_faults, declared_faults, program_faults}
 
 -- ---- lists without items
 
@@ -52,8 +58,34 @@ holds_unless false r s h = absurd (cc)
 pub unless_holds : (b : Bool) (r : Rule) (s : Span) → b ≡ true → unless b r s ≡ []
 unless_holds b r s h = rw h refl
 
-pub true_is : (b : Bool) → IsTrue b → b ≡ true
-true_is b h = h
+pub unless_keeps : (b : Bool) (r : Rule) (s : Span) → (unless b r s ≡ []) ↔ (b ≡ true)
+unless_keeps b r s = (holds_unless b r s, unless_holds b r s)
+
+abbrev AreNone : List Fault → Type 0
+AreNone faults = faults ≡ []
+
+pub none_keeps : AreNone [] ↔ Unit {0}
+none_keeps = (λ h. tt, λ k. refl)
+
+-- rules that two lists of faults keep, the second where the first does
+pub then_keeps : {A B : Type 0} (xs ys : List Fault) → (xs ≡ []) ↔ A → (A → (ys ≡ []) ↔ B) → (xs ++ ys ≡ []) ↔ (A × B)
+then_keeps xs ys p q = (
+  λ h. let a = p.0 (first_empty xs ys h) in (a, (q a).0 (second_empty xs ys h)),
+  λ k. both_empty xs ys (p.1 k.0) ((q k.0).1 k.1),
+)
+
+pub both_keep : {A B : Type 0} (xs ys : List Fault) → (xs ≡ []) ↔ A → (ys ≡ []) ↔ B → (xs ++ ys ≡ []) ↔ (A × B)
+both_keep xs ys p q = then_keeps xs ys p (λ a. q)
+
+pub three_keep : {A B C : Type 0} (xs ys zs : List Fault) → (xs ≡ []) ↔ A → (ys ≡ []) ↔ B → (zs ≡ []) ↔ C → (xs ++ (ys ++ zs) ≡ []) ↔ (A × B × C)
+three_keep xs ys zs p q r =
+    let both = both_keep xs (ys ++ zs) p (both_keep ys zs q r) in
+    (λ h. let k = both.0 h in (k.0, k.1.0, k.1.1), λ k. both.1 (k.0, (k.1, k.2)))
+
+pub all_keep : {A : Type 0} (P : A → Type 0) (a : A) (more : List A) (xs ys : List Fault) → (xs ≡ []) ↔ P a → (ys ≡ []) ↔ All P more → (xs ++ ys ≡ []) ↔ All P (a ∷ more)
+all_keep P a more xs ys p q =
+    let both = both_keep xs ys p q in
+    (λ h. All-cons P a more (both.0 h).0 (both.0 h).1, λ k. both.1 (All-head P a more k, All-tail P a more k))
 
 or_first : (a b : Bool) → (a || b) ≡ false → a ≡ false
 or_first true b h = absurd (cc)
@@ -170,165 +202,57 @@ unbroken_none : (r : Option Rule) (s : Span) → if_broken r s ≡ [] → r ≡ 
 unbroken_none None s h = refl
 unbroken_none (Some r) s h = absurd (cc)
 
-pub use_kept : (v : Sorts) (x : List ℕ) (n : ℕ) (at : Span) → use_faults v x n at ≡ [] → IsUsable (names_of v) x n
-use_kept v x n at h = usable (names_of v) x (declared_in v x) n (sort_for_name v x) (unbroken_none (broken_by_use (declared_in v x) n) (first_bytes (length x) at) h)
+use_keeps : (v : Sorts) (x : List ℕ) (n : ℕ) (at : Span) → (use_faults v x n at ≡ []) ↔ IsUsable (names_of v) x n
+use_keeps v x n at =
+    let is = sort_for_name v x in (
+      λ h. usable (names_of v) x (declared_in v x) n is (unbroken_none (broken_by_use (declared_in v x) n) (first_bytes (length x) at) h),
+      λ u. rw (unbroken (names_of v) x (declared_in v x) n is u) refl,
+    )
 
-pub use_clean : (v : Sorts) (x : List ℕ) (n : ℕ) (at : Span) → IsUsable (names_of v) x n → use_faults v x n at ≡ []
-use_clean v x n at u = rw (unbroken (names_of v) x (declared_in v x) n (sort_for_name v x) u) refl
-
-call_kept : (v : Sorts) (x : List ℕ) (n : ℕ) (at : Span) → call_faults v x n at ≡ [] → IsCallable (names_of v) x n
-call_kept v x n at h = callable (names_of v) x (declared_in v x) n (sort_for_name v x) (unbroken_none (broken_by_call (declared_in v x) n) (first_bytes (length x) at) h)
-
-call_clean : (v : Sorts) (x : List ℕ) (n : ℕ) (at : Span) → IsCallable (names_of v) x n → call_faults v x n at ≡ []
-call_clean v x n at u = rw (uncalled (names_of v) x (declared_in v x) n (sort_for_name v x) u) refl
+call_keeps : (v : Sorts) (x : List ℕ) (n : ℕ) (at : Span) → (call_faults v x n at ≡ []) ↔ IsCallable (names_of v) x n
+call_keeps v x n at =
+    let is = sort_for_name v x in (
+      λ h. callable (names_of v) x (declared_in v x) n is (unbroken_none (broken_by_call (declared_in v x) n) (first_bytes (length x) at) h),
+      λ u. rw (uncalled (names_of v) x (declared_in v x) n is u) refl,
+    )
 
 -- ---- expressions
 
 mutual
-  pub kind_kept : (v : Sorts) (e : ExprKind) (at : Span) → kind_faults v e at ≡ [] → TypingKind (names_of v) e
-  kind_kept v (expr.Number n t) at h = tt
-  kind_kept v (expr.Name x) at h = use_kept v x 0 at h
-  kind_kept v (expr.Element' x n row) at h =
-      (use_kept v x (row_length row) at (first_empty (use_faults v x (row_length row) at) (row_faults v row) h), row_kept v row (second_empty (use_faults v x (row_length row) at) (row_faults v row) h))
-  kind_kept v (expr.Call' x n row) at h =
-      (call_kept v x (row_length row) at (first_empty (call_faults v x (row_length row) at) (row_faults v row) h), row_kept v row (second_empty (call_faults v x (row_length row) at) (row_faults v row) h))
-  kind_kept v (expr.Unary' op b (more_of-Expr e s end_of-Expr)) at h = kind_kept v e s h
-  kind_kept v (expr.Cast' t b (more_of-Expr e s end_of-Expr)) at h = kind_kept v e s h
-  kind_kept v (expr.Binary' op b (more_of-Expr e s end_of-Expr) b2 (more_of-Expr e2 s2 end_of-Expr)) at h =
-      (kind_kept v e s (first_empty (kind_faults v e s) (kind_faults v e2 s2) h), kind_kept v e2 s2 (second_empty (kind_faults v e s) (kind_faults v e2 s2) h))
-  kind_kept v (expr.Choose' b (more_of-Expr e s end_of-Expr) b2 (more_of-Expr e2 s2 end_of-Expr) b3 (more_of-Expr e3 s3 end_of-Expr)) at h = (
-    kind_kept v e s (first_empty (kind_faults v e s) (kind_faults v e2 s2 ++ kind_faults v e3 s3) h),
-    kind_kept v e2 s2 (first_empty (kind_faults v e2 s2) (kind_faults v e3 s3) (second_empty (kind_faults v e s) (kind_faults v e2 s2 ++ kind_faults v e3 s3) h)),
-    kind_kept v e3 s3 (second_empty (kind_faults v e2 s2) (kind_faults v e3 s3) (second_empty (kind_faults v e s) (kind_faults v e2 s2 ++ kind_faults v e3 s3) h)),
-  )
+  pub kind_keeps : (v : Sorts) (e : ExprKind) (at : Span) → (kind_faults v e at ≡ []) ↔ TypingKind (names_of v) e
+  kind_keeps v (expr.Number n t) at = none_keeps
+  kind_keeps v (expr.Name x) at = use_keeps v x 0 at
+  kind_keeps v (expr.Element' x n row) at = both_keep (use_faults v x (row_length row) at) (row_faults v row) (use_keeps v x (row_length row) at) (row_keeps v row)
+  kind_keeps v (expr.Call' x n row) at = both_keep (call_faults v x (row_length row) at) (row_faults v row) (call_keeps v x (row_length row) at) (row_keeps v row)
+  kind_keeps v (expr.Unary' op b (more_of-Expr e s end_of-Expr)) at = kind_keeps v e s
+  kind_keeps v (expr.Cast' t b (more_of-Expr e s end_of-Expr)) at = kind_keeps v e s
+  kind_keeps v (expr.Binary' op b (more_of-Expr e s end_of-Expr) b2 (more_of-Expr e2 s2 end_of-Expr)) at =
+      both_keep (kind_faults v e s) (kind_faults v e2 s2) (kind_keeps v e s) (kind_keeps v e2 s2)
+  kind_keeps v (expr.Choose' b (more_of-Expr e s end_of-Expr) b2 (more_of-Expr e2 s2 end_of-Expr) b3 (more_of-Expr e3 s3 end_of-Expr)) at =
+      three_keep (kind_faults v e s) (kind_faults v e2 s2) (kind_faults v e3 s3) (kind_keeps v e s) (kind_keeps v e2 s2) (kind_keeps v e3 s3)
 
-  pub row_kept : {n : Count} (v : Sorts) (row : Row_of-Expr n) → row_faults v row ≡ [] → TypingRow (names_of v) row
-  row_kept v end_of-Expr h = tt
-  row_kept v (more_of-Expr e at row) h = (kind_kept v e at (first_empty (kind_faults v e at) (row_faults v row) h), row_kept v row (second_empty (kind_faults v e at) (row_faults v row) h))
+  row_keeps : {n : Count} (v : Sorts) (row : Row_of-Expr n) → (row_faults v row ≡ []) ↔ TypingRow (names_of v) row
+  row_keeps v end_of-Expr = none_keeps
+  row_keeps v (more_of-Expr e at row) = both_keep (kind_faults v e at) (row_faults v row) (kind_keeps v e at) (row_keeps v row)
 
-mutual
-  pub kind_clean : (v : Sorts) (e : ExprKind) (at : Span) → TypingKind (names_of v) e → kind_faults v e at ≡ []
-  kind_clean v (expr.Number n t) at k = refl
-  kind_clean v (expr.Name x) at k = use_clean v x 0 at k
-  kind_clean v (expr.Element' x n row) at k = both_empty (use_faults v x (row_length row) at) (row_faults v row) (use_clean v x (row_length row) at k.0) (row_clean v row k.1)
-  kind_clean v (expr.Call' x n row) at k = both_empty (call_faults v x (row_length row) at) (row_faults v row) (call_clean v x (row_length row) at k.0) (row_clean v row k.1)
-  kind_clean v (expr.Unary' op b (more_of-Expr e s end_of-Expr)) at k = kind_clean v e s k
-  kind_clean v (expr.Cast' t b (more_of-Expr e s end_of-Expr)) at k = kind_clean v e s k
-  kind_clean v (expr.Binary' op b (more_of-Expr e s end_of-Expr) b2 (more_of-Expr e2 s2 end_of-Expr)) at k =
-      both_empty (kind_faults v e s) (kind_faults v e2 s2) (kind_clean v e s k.0) (kind_clean v e2 s2 k.1)
-  kind_clean v (expr.Choose' b (more_of-Expr e s end_of-Expr) b2 (more_of-Expr e2 s2 end_of-Expr) b3 (more_of-Expr e3 s3 end_of-Expr)) at k =
-      both_empty (kind_faults v e s) (kind_faults v e2 s2 ++ kind_faults v e3 s3) (kind_clean v e s k.0)
-      (both_empty (kind_faults v e2 s2) (kind_faults v e3 s3) (kind_clean v e2 s2 k.1) (kind_clean v e3 s3 k.2))
+option_keeps : (v : Sorts) (o : Option Expr) → (option_faults v o ≡ []) ↔ TypingOption (names_of v) o
+option_keeps v None = none_keeps
+option_keeps v (Some e) = kind_keeps v e.kind e.at
 
-  pub row_clean : {n : Count} (v : Sorts) (row : Row_of-Expr n) → TypingRow (names_of v) row → row_faults v row ≡ []
-  row_clean v end_of-Expr k = refl
-  row_clean v (more_of-Expr e at row) k = both_empty (kind_faults v e at) (row_faults v row) (kind_clean v e at k.0) (row_clean v row k.1)
+exprs_keep : (v : Sorts) (es : List Expr) → (exprs_faults v es ≡ []) ↔ All (TypingExpr (names_of v)) es
+exprs_keep v [] = (λ h. All-nil (TypingExpr (names_of v)), λ k. refl)
+exprs_keep v (e ∷ es) = all_keep (TypingExpr (names_of v)) e es (expr_faults v e) (exprs_faults v es) (kind_keeps v e.kind e.at) (exprs_keep v es)
 
-option_kept : (v : Sorts) (o : Option Expr) → option_faults v o ≡ [] → TypingOption (names_of v) o
-option_kept v None h = tt
-option_kept v (Some e) h = kind_kept v e.kind e.at h
+target_keeps : (v : Sorts) (t : Target) → (target_faults v t ≡ []) ↔ TypingTarget (names_of v) t
+target_keeps v t = both_keep (use_faults v t.name (length t.indices) t.at) (exprs_faults v t.indices) (use_keeps v t.name (length t.indices) t.at) (exprs_keep v t.indices)
 
-option_clean : (v : Sorts) (o : Option Expr) → TypingOption (names_of v) o → option_faults v o ≡ []
-option_clean v None k = refl
-option_clean v (Some e) k = kind_clean v e.kind e.at k
-
-exprs_kept : (v : Sorts) (es : List Expr) → exprs_faults v es ≡ [] → All (TypingExpr (names_of v)) es
-exprs_kept v [] h = All-nil (TypingExpr (names_of v))
-exprs_kept v (e ∷ es) h =
-    All-cons (TypingExpr (names_of v)) e es (kind_kept v e.kind e.at (first_empty (expr_faults v e) (exprs_faults v es) h)) (exprs_kept v es (second_empty (expr_faults v e) (exprs_faults v es) h))
-
-exprs_clean : (v : Sorts) (es : List Expr) → All (TypingExpr (names_of v)) es → exprs_faults v es ≡ []
-exprs_clean v [] k = refl
-exprs_clean v (e ∷ es) k =
-    both_empty (expr_faults v e) (exprs_faults v es) (kind_clean v e.kind e.at (All-head (TypingExpr (names_of v)) e es k)) (exprs_clean v es (All-tail (TypingExpr (names_of v)) e es k))
-
-target_kept : (v : Sorts) (t : Target) → target_faults v t ≡ [] → TypingTarget (names_of v) t
-target_kept v t h = (
-  use_kept v t.name (length t.indices) t.at (first_empty (use_faults v t.name (length t.indices) t.at) (exprs_faults v t.indices) h),
-  exprs_kept v t.indices (second_empty (use_faults v t.name (length t.indices) t.at) (exprs_faults v t.indices) h),
-)
-
-target_clean : (v : Sorts) (t : Target) → TypingTarget (names_of v) t → target_faults v t ≡ []
-target_clean v t k = both_empty (use_faults v t.name (length t.indices) t.at) (exprs_faults v t.indices) (use_clean v t.name (length t.indices) t.at k.0) (exprs_clean v t.indices k.1)
-
-returnable : (r : Option Ty) (e : Option Expr) → is_returnable r e ≡ true → IsReturnable r e
-returnable None None h = tt
-returnable (Some t) (Some e) h = tt
-returnable None (Some e) h = absurd (cc)
-returnable (Some t) None h = absurd (cc)
-
-returnable_is : (r : Option Ty) (e : Option Expr) → IsReturnable r e → is_returnable r e ≡ true
-returnable_is None None h = refl
-returnable_is (Some t) (Some e) h = refl
-returnable_is None (Some e) h = absurd h
-returnable_is (Some t) None h = absurd h
+returnable_keeps : (r : Option Ty) (e : Option Expr) (at : Span) → (unless (is_returnable r e) rule.ReturnKind at ≡ []) ↔ IsReturnable r e
+returnable_keeps None None at = none_keeps
+returnable_keeps (Some t) (Some e) at = none_keeps
+returnable_keeps None (Some e) at = (λ h. absurd (cc), λ k. absurd k)
+returnable_keeps (Some t) None at = (λ h. absurd (cc), λ k. absurd k)
 
 -- ---- statements
-
--- after a statement without a fault the names in force are those of the rules
-pub after_kept : (v : Sorts) (s : StmtKind) (at : Span) (r : Option Ty) (loop : Bool) → act_faults s at r loop v ≡ [] → names_of (sorts_after v s) ≡ names_after (names_of v) s
-after_kept v (stmt.Declare x t e) at r loop h = with_new v x (holds_unless (is_new_in v x) rule.Redeclared at (first_empty (unless (is_new_in v x) rule.Redeclared at) (option_faults (with_entry x sort.Scalar v) e) h))
-after_kept v (stmt.If' e b (more_of-Stmt s a end_of-Stmt) o) at r loop h = refl
-after_kept v (stmt.While' e b (more_of-Stmt s a end_of-Stmt)) at r loop h = refl
-after_kept v (stmt.DoWhile' b (more_of-Stmt s a end_of-Stmt) e) at r loop h = refl
-after_kept v (stmt.For' n row e o b (more_of-Stmt s a end_of-Stmt)) at r loop h = refl
-after_kept v s at r loop h = refl
-
-after_row_kept : {n : Count} (v : Sorts) (row : Row_of-Stmt n) (r : Option Ty) (loop : Bool) → acts_faults row r loop v ≡ [] → names_of (sorts_after_row v row) ≡ names_after_row (names_of v) row
-after_row_kept v end_of-Stmt r loop h = refl
-after_row_kept v (more_of-Stmt s at row) r loop h =
-    after_row_kept (sorts_after v s) row r loop (second_empty (act_faults s at r loop v) (acts_faults row r loop (sorts_after v s)) h)
-    ∙ ap (λ names. names_after_row names row) (after_kept v s at r loop (first_empty (act_faults s at r loop v) (acts_faults row r loop (sorts_after v s)) h))
-
-mutual
-  pub act_kept : (v : Sorts) (s : StmtKind) (at : Span) (r : Option Ty) (loop : Bool) → act_faults s at r loop v ≡ [] → TypingStmt s r loop (names_of v)
-  act_kept v (stmt.Block' n row) at r loop h = acts_kept ([] ∷ v) row r loop h
-  act_kept v (stmt.Declare x t e) at r loop h =
-      let fresh : is_new_in v x ≡ true = holds_unless (is_new_in v x) rule.Redeclared at (first_empty (unless (is_new_in v x) rule.Redeclared at) (option_faults (with_entry x sort.Scalar v) e) h) in
-      (is_new v x fresh, subst (λ names. TypingOption names e) (with_new v x fresh) (option_kept (with_entry x sort.Scalar v) e (second_empty (unless (is_new_in v x) rule.Redeclared at) (option_faults (with_entry x sort.Scalar v) e) h)))
-  act_kept v (stmt.Assign target op e) at r loop h =
-      (target_kept v target (first_empty (target_faults v target) (expr_faults v e) h), kind_kept v e.kind e.at (second_empty (target_faults v target) (expr_faults v e) h))
-  act_kept v (stmt.Step target up) at r loop h = target_kept v target h
-  act_kept v (stmt.If' e b (more_of-Stmt s a end_of-Stmt) o) at r loop h =
-      let rest : act_faults s a r loop ([] ∷ v) ++ held_faults o r loop v ≡ [] = second_empty (expr_faults v e) (act_faults s a r loop ([] ∷ v) ++ held_faults o r loop v) h in (
-        kind_kept v e.kind e.at (first_empty (expr_faults v e) (act_faults s a r loop ([] ∷ v) ++ held_faults o r loop v) h),
-        act_kept ([] ∷ v) s a r loop (first_empty (act_faults s a r loop ([] ∷ v)) (held_faults o r loop v) rest),
-        held_kept v o r loop (second_empty (act_faults s a r loop ([] ∷ v)) (held_faults o r loop v) rest),
-      )
-  act_kept v (stmt.While' e b (more_of-Stmt s a end_of-Stmt)) at r loop h =
-      (kind_kept v e.kind e.at (first_empty (expr_faults v e) (act_faults s a r true ([] ∷ v)) h), act_kept ([] ∷ v) s a r true (second_empty (expr_faults v e) (act_faults s a r true ([] ∷ v)) h))
-  act_kept v (stmt.DoWhile' b (more_of-Stmt s a end_of-Stmt) e) at r loop h =
-      (act_kept ([] ∷ v) s a r true (first_empty (act_faults s a r true ([] ∷ v)) (expr_faults v e) h), kind_kept v e.kind e.at (second_empty (act_faults s a r true ([] ∷ v)) (expr_faults v e) h))
-  act_kept v (stmt.For' n row e o b (more_of-Stmt s a end_of-Stmt)) at r loop h =
-      let after : Sorts = sorts_after_row ([] ∷ v) row in
-      let in_first : acts_faults row r false ([] ∷ v) ≡ [] = first_empty (acts_faults row r false ([] ∷ v)) (option_faults after e ++ (held_faults o r false after ++ act_faults s a r true ([] ∷ after))) h in
-      let rest : option_faults after e ++ (held_faults o r false after ++ act_faults s a r true ([] ∷ after)) ≡ [] = second_empty (acts_faults row r false ([] ∷ v)) (option_faults after e ++ (held_faults o r false after ++ act_faults s a r true ([] ∷ after))) h in
-      let rest2 : held_faults o r false after ++ act_faults s a r true ([] ∷ after) ≡ [] = second_empty (option_faults after e) (held_faults o r false after ++ act_faults s a r true ([] ∷ after)) rest in
-      let same : names_of after ≡ names_after_row ([] ∷ names_of v) row = after_row_kept ([] ∷ v) row r false in_first in (
-        acts_kept ([] ∷ v) row r false in_first,
-        subst (λ names. TypingOption names e) same (option_kept after e (first_empty (option_faults after e) (held_faults o r false after ++ act_faults s a r true ([] ∷ after)) rest)),
-        subst (λ names. TypingHeld o r false names) same (held_kept after o r false (first_empty (held_faults o r false after) (act_faults s a r true ([] ∷ after)) rest2)),
-        subst (λ names. TypingStmt s r true ([] ∷ names)) same (act_kept ([] ∷ after) s a r true (second_empty (held_faults o r false after) (act_faults s a r true ([] ∷ after)) rest2)),
-      )
-  act_kept v stmt.Break at r loop h = holds_unless loop rule.OutsideLoop at h
-  act_kept v stmt.Continue at r loop h = holds_unless loop rule.OutsideLoop at h
-  act_kept v (stmt.Return e) at r loop h = (
-    returnable r e (holds_unless (is_returnable r e) rule.ReturnKind (first_bytes 6 at) (first_empty (unless (is_returnable r e) rule.ReturnKind (first_bytes 6 at)) (option_faults v e) h)),
-    option_kept v e (second_empty (unless (is_returnable r e) rule.ReturnKind (first_bytes 6 at)) (option_faults v e) h),
-  )
-  act_kept v stmt.Empty at r loop h = tt
-
-  held_kept : (v : Sorts) (o : Held-StmtKind-If-2) (r : Option Ty) (loop : Bool) → held_faults o r loop v ≡ [] → TypingHeld o r loop (names_of v)
-  held_kept v stmt.None' r loop h = tt
-  held_kept v (stmt.Some' b (more_of-Stmt s a end_of-Stmt)) r loop h = act_kept ([] ∷ v) s a r loop h
-
-  acts_kept : {n : Count} (v : Sorts) (row : Row_of-Stmt n) (r : Option Ty) (loop : Bool) → acts_faults row r loop v ≡ [] → TypingStmts row r loop (names_of v)
-  acts_kept v end_of-Stmt r loop h = tt
-  acts_kept v (more_of-Stmt s at row) r loop h =
-      let here : act_faults s at r loop v ≡ [] = first_empty (act_faults s at r loop v) (acts_faults row r loop (sorts_after v s)) h in (
-        act_kept v s at r loop here,
-        subst (λ names. TypingStmts row r loop names) (after_kept v s at r loop here) (acts_kept (sorts_after v s) row r loop (second_empty (act_faults s at r loop v) (acts_faults row r loop (sorts_after v s)) h)),
-      )
 
 -- after a statement that keeps the rules the names in force are those of the rules
 pub after_clean : (v : Sorts) (s : StmtKind) (r : Option Ty) (loop : Bool) → TypingStmt s r loop (names_of v) → names_of (sorts_after v s) ≡ names_after (names_of v) s
@@ -345,55 +269,54 @@ after_row_clean v (more_of-Stmt s at row) r loop k =
     let same : names_of (sorts_after v s) ≡ names_after (names_of v) s = after_clean v s r loop k.0 in
     after_row_clean (sorts_after v s) row r loop (subst (λ names. TypingStmts row r loop names) (sym same) k.1) ∙ ap (λ names. names_after_row names row) same
 
+pub new_keeps : (v : Sorts) (x : List ℕ) (at : Span) → (unless (is_new_in v x) rule.Redeclared at ≡ []) ↔ IsNew (names_of v) x
+new_keeps v x at = (λ h. is_new v x (holds_unless (is_new_in v x) rule.Redeclared at h), λ k. unless_holds (is_new_in v x) rule.Redeclared at (new_is v x k))
+
 mutual
-  pub act_clean : (v : Sorts) (s : StmtKind) (at : Span) (r : Option Ty) (loop : Bool) → TypingStmt s r loop (names_of v) → act_faults s at r loop v ≡ []
-  act_clean v (stmt.Block' n row) at r loop k = acts_clean ([] ∷ v) row r loop k
-  act_clean v (stmt.Declare x t e) at r loop k =
-      both_empty (unless (is_new_in v x) rule.Redeclared at) (option_faults (with_entry x sort.Scalar v) e) (unless_holds (is_new_in v x) rule.Redeclared at (new_is v x k.0))
-      (option_clean (with_entry x sort.Scalar v) e (subst (λ names. TypingOption names e) (sym (with_new v x (new_is v x k.0))) k.1))
-  act_clean v (stmt.Assign target op e) at r loop k = both_empty (target_faults v target) (expr_faults v e) (target_clean v target k.0) (kind_clean v e.kind e.at k.1)
-  act_clean v (stmt.Step target up) at r loop k = target_clean v target k
-  act_clean v (stmt.If' e b (more_of-Stmt s a end_of-Stmt) o) at r loop k =
-      both_empty (expr_faults v e) (act_faults s a r loop ([] ∷ v) ++ held_faults o r loop v) (kind_clean v e.kind e.at k.0)
-      (both_empty (act_faults s a r loop ([] ∷ v)) (held_faults o r loop v) (act_clean ([] ∷ v) s a r loop k.1) (held_clean v o r loop k.2))
-  act_clean v (stmt.While' e b (more_of-Stmt s a end_of-Stmt)) at r loop k = both_empty (expr_faults v e) (act_faults s a r true ([] ∷ v)) (kind_clean v e.kind e.at k.0) (act_clean ([] ∷ v) s a r true k.1)
-  act_clean v (stmt.DoWhile' b (more_of-Stmt s a end_of-Stmt) e) at r loop k = both_empty (act_faults s a r true ([] ∷ v)) (expr_faults v e) (act_clean ([] ∷ v) s a r true k.0) (kind_clean v e.kind e.at k.1)
-  act_clean v (stmt.For' n row e o b (more_of-Stmt s a end_of-Stmt)) at r loop k =
+  act_keeps : (v : Sorts) (s : StmtKind) (at : Span) (r : Option Ty) (loop : Bool) → (act_faults s at r loop v ≡ []) ↔ TypingStmt s r loop (names_of v)
+  act_keeps v (stmt.Block' n row) at r loop = acts_keep ([] ∷ v) row r loop
+  act_keeps v (stmt.Declare x t e) at r loop =
+      let w : Sorts = with_entry x sort.Scalar v in
+      then_keeps (unless (is_new_in v x) rule.Redeclared at) (option_faults w e) (new_keeps v x at)
+      (λ new. subst (λ names. (option_faults w e ≡ []) ↔ TypingOption names e) (with_new v x (new_is v x new)) (option_keeps w e))
+  act_keeps v (stmt.Assign target op e) at r loop = both_keep (target_faults v target) (expr_faults v e) (target_keeps v target) (kind_keeps v e.kind e.at)
+  act_keeps v (stmt.Step target up) at r loop = target_keeps v target
+  act_keeps v (stmt.If' e b (more_of-Stmt s a end_of-Stmt) o) at r loop =
+      three_keep (expr_faults v e) (act_faults s a r loop ([] ∷ v)) (held_faults o r loop v) (kind_keeps v e.kind e.at) (act_keeps ([] ∷ v) s a r loop) (held_keeps v o r loop)
+  act_keeps v (stmt.While' e b (more_of-Stmt s a end_of-Stmt)) at r loop =
+      both_keep (expr_faults v e) (act_faults s a r true ([] ∷ v)) (kind_keeps v e.kind e.at) (act_keeps ([] ∷ v) s a r true)
+  act_keeps v (stmt.DoWhile' b (more_of-Stmt s a end_of-Stmt) e) at r loop =
+      both_keep (act_faults s a r true ([] ∷ v)) (expr_faults v e) (act_keeps ([] ∷ v) s a r true) (kind_keeps v e.kind e.at)
+  act_keeps v (stmt.For' n row e o b (more_of-Stmt s a end_of-Stmt)) at r loop =
       let after : Sorts = sorts_after_row ([] ∷ v) row in
-      let same : names_of after ≡ names_after_row ([] ∷ names_of v) row = after_row_clean ([] ∷ v) row r false k.0 in
-      both_empty (acts_faults row r false ([] ∷ v)) (option_faults after e ++ (held_faults o r false after ++ act_faults s a r true ([] ∷ after))) (acts_clean ([] ∷ v) row r false k.0)
-      (both_empty (option_faults after e) (held_faults o r false after ++ act_faults s a r true ([] ∷ after)) (option_clean after e (subst (λ names. TypingOption names e) (sym same) k.1))
-      (both_empty (held_faults o r false after) (act_faults s a r true ([] ∷ after)) (held_clean after o r false (subst (λ names. TypingHeld o r false names) (sym same) k.2))
-      (act_clean ([] ∷ after) s a r true (subst (λ names. TypingStmt s r true ([] ∷ names)) (sym same) k.3))))
-  act_clean v stmt.Break at r loop k = unless_holds loop rule.OutsideLoop at (true_is loop k)
-  act_clean v stmt.Continue at r loop k = unless_holds loop rule.OutsideLoop at (true_is loop k)
-  act_clean v (stmt.Return e) at r loop k =
-      both_empty (unless (is_returnable r e) rule.ReturnKind (first_bytes 6 at)) (option_faults v e) (unless_holds (is_returnable r e) rule.ReturnKind (first_bytes 6 at) (returnable_is r e k.0)) (option_clean v e k.1)
-  act_clean v stmt.Empty at r loop k = refl
+      let rest : List Fault = option_faults after e ++ (held_faults o r false after ++ act_faults s a r true ([] ∷ after)) in
+      let both = then_keeps (acts_faults row r false ([] ∷ v)) rest (acts_keep ([] ∷ v) row r false)
+      (λ k. subst (λ names. (rest ≡ []) ↔ (TypingOption names e × TypingHeld o r false names × TypingStmt s r true ([] ∷ names))) (after_row_clean ([] ∷ v) row r false k)
+      (three_keep (option_faults after e) (held_faults o r false after) (act_faults s a r true ([] ∷ after)) (option_keeps after e) (held_keeps after o r false) (act_keeps ([] ∷ after) s a r true))) in
+      (λ h. let k = both.0 h in (k.0, k.1.0, k.1.1, k.1.2), λ k. both.1 (k.0, (k.1, k.2, k.3)))
+  act_keeps v stmt.Break at r loop = unless_keeps loop rule.OutsideLoop at
+  act_keeps v stmt.Continue at r loop = unless_keeps loop rule.OutsideLoop at
+  act_keeps v (stmt.Return e) at r loop =
+      both_keep (unless (is_returnable r e) rule.ReturnKind (first_bytes 6 at)) (option_faults v e) (returnable_keeps r e (first_bytes 6 at)) (option_keeps v e)
+  act_keeps v stmt.Empty at r loop = none_keeps
 
-  held_clean : (v : Sorts) (o : Held-StmtKind-If-2) (r : Option Ty) (loop : Bool) → TypingHeld o r loop (names_of v) → held_faults o r loop v ≡ []
-  held_clean v stmt.None' r loop k = refl
-  held_clean v (stmt.Some' b (more_of-Stmt s a end_of-Stmt)) r loop k = act_clean ([] ∷ v) s a r loop k
+  held_keeps : (v : Sorts) (o : Held-StmtKind-If-2) (r : Option Ty) (loop : Bool) → (held_faults o r loop v ≡ []) ↔ TypingHeld o r loop (names_of v)
+  held_keeps v stmt.None' r loop = none_keeps
+  held_keeps v (stmt.Some' b (more_of-Stmt s a end_of-Stmt)) r loop = act_keeps ([] ∷ v) s a r loop
 
-  acts_clean : {n : Count} (v : Sorts) (row : Row_of-Stmt n) (r : Option Ty) (loop : Bool) → TypingStmts row r loop (names_of v) → acts_faults row r loop v ≡ []
-  acts_clean v end_of-Stmt r loop k = refl
-  acts_clean v (more_of-Stmt s at row) r loop k =
-      both_empty (act_faults s at r loop v) (acts_faults row r loop (sorts_after v s)) (act_clean v s at r loop k.0)
-      (acts_clean (sorts_after v s) row r loop (subst (λ names. TypingStmts row r loop names) (sym (after_clean v s r loop k.0)) k.1))
+  acts_keep : {n : Count} (v : Sorts) (row : Row_of-Stmt n) (r : Option Ty) (loop : Bool) → (acts_faults row r loop v ≡ []) ↔ TypingStmts row r loop (names_of v)
+  acts_keep v end_of-Stmt r loop = none_keeps
+  acts_keep v (more_of-Stmt s at row) r loop =
+      let w : Sorts = sorts_after v s in
+      then_keeps (act_faults s at r loop v) (acts_faults row r loop w) (act_keeps v s at r loop)
+      (λ k. subst (λ names. (acts_faults row r loop w ≡ []) ↔ TypingStmts row r loop names) (after_clean v s r loop k) (acts_keep w row r loop))
 
-pub list_kept : (v : Sorts) (ss : List Stmt) (r : Option Ty) (loop : Bool) → stmts_faults ss r loop v ≡ [] → TypingList ss r loop (names_of v)
-list_kept v [] r loop h = tt
-list_kept v (s ∷ ss) r loop h =
-    let here : stmt_faults s r loop v ≡ [] = first_empty (stmt_faults s r loop v) (stmts_faults ss r loop (sorts_after v s.kind)) h in (
-      act_kept v s.kind s.at r loop here,
-      subst (λ names. TypingList ss r loop names) (after_kept v s.kind s.at r loop here) (list_kept (sorts_after v s.kind) ss r loop (second_empty (stmt_faults s r loop v) (stmts_faults ss r loop (sorts_after v s.kind)) h)),
-    )
-
-pub list_clean : (v : Sorts) (ss : List Stmt) (r : Option Ty) (loop : Bool) → TypingList ss r loop (names_of v) → stmts_faults ss r loop v ≡ []
-list_clean v [] r loop k = refl
-list_clean v (s ∷ ss) r loop k =
-    both_empty (stmt_faults s r loop v) (stmts_faults ss r loop (sorts_after v s.kind)) (act_clean v s.kind s.at r loop k.0)
-    (list_clean (sorts_after v s.kind) ss r loop (subst (λ names. TypingList ss r loop names) (sym (after_clean v s.kind r loop k.0)) k.1))
+list_keeps : (v : Sorts) (ss : List Stmt) (r : Option Ty) (loop : Bool) → (stmts_faults ss r loop v ≡ []) ↔ TypingList ss r loop (names_of v)
+list_keeps v [] r loop = none_keeps
+list_keeps v (s ∷ ss) r loop =
+    let w : Sorts = sorts_after v s.kind in
+    then_keeps (stmt_faults s r loop v) (stmts_faults ss r loop w) (act_keeps v s.kind s.at r loop)
+    (λ k. subst (λ names. (stmts_faults ss r loop w ≡ []) ↔ TypingList ss r loop names) (after_clean v s.kind r loop k) (list_keeps w ss r loop))
 
 -- ---- parameters
 
@@ -449,30 +372,14 @@ param_clean s v n p k =
     both_empty (unless (is_new_in (s ∷ v) p.name) rule.Redeclared p.at) (few ++ unless fits rule.Length p.at) (unless_holds (is_new_in (s ∷ v) p.name) rule.Redeclared p.at (new_is (s ∷ v) p.name k.rule_21_new))
     (both_empty few (unless fits rule.Length p.at) (unless_holds (not (nat_lt max_dimensions (length p.dims))) rule.Dimensions p.at (ap not (not_below max_dimensions (length p.dims) k.rule_24_dimensions))) (unless_holds fits rule.Length p.at small))
 
--- the faults of the parameters after one
-abbrev later : List Param → List (List ℕ × Sort) → Sorts → ℕ → Param → List Fault
-later ps s v n p = params_faults ps (with_entry p.name (sort_of_dims p.dims) (s ∷ v)) (n + elements_of p.dims)
-
-abbrev first_param : List (List ℕ × Sort) → Sorts → ℕ → Param → List Fault
-first_param s v n p = param_faults p (is_new_in (s ∷ v) p.name) (n + elements_of p.dims)
-
-fresh_param : (s : List (List ℕ × Sort)) (v : Sorts) (n : ℕ) (p : Param) → first_param s v n p ≡ [] → is_new_in (s ∷ v) p.name ≡ true
-fresh_param s v n p h = new_is (s ∷ v) p.name ((param_kept s v n p h).rule_21_new)
-
-pub params_kept : (ps : List Param) (s : List (List ℕ × Sort)) (v : Sorts) (n : ℕ) → params_faults ps (s ∷ v) n ≡ [] → TypingParams ps (scope_for s) n
-params_kept [] s v n h = tt
-params_kept (p ∷ ps) s v n h =
-    let here : first_param s v n p ≡ [] = first_empty (first_param s v n p) (later ps s v n p) h in
-    let rest : params_faults ps (((p.name, sort_of_dims p.dims) ∷ s) ∷ v) (n + elements_of p.dims) ≡ [] =
-    subst (λ w. params_faults ps w (n + elements_of p.dims) ≡ []) (new_param s v p.name p.dims (fresh_param s v n p here)) (second_empty (first_param s v n p) (later ps s v n p) h) in
-    (param_kept s v n p here, subst (λ scope. TypingParams ps scope (n + elements_of p.dims)) (scope_grows s p.name p.dims) (params_kept ps ((p.name, sort_of_dims p.dims) ∷ s) v (n + elements_of p.dims) rest))
-
-pub params_clean : (ps : List Param) (s : List (List ℕ × Sort)) (v : Sorts) (n : ℕ) → TypingParams ps (scope_for s) n → params_faults ps (s ∷ v) n ≡ []
-params_clean [] s v n k = refl
-params_clean (p ∷ ps) s v n k =
-    both_empty (first_param s v n p) (later ps s v n p) (param_clean s v n p k.0)
-    (subst (λ w. params_faults ps w (n + elements_of p.dims) ≡ []) (sym (new_param s v p.name p.dims (new_is (s ∷ v) p.name k.0.rule_21_new)))
-    (params_clean ps ((p.name, sort_of_dims p.dims) ∷ s) v (n + elements_of p.dims) (subst (λ scope. TypingParams ps scope (n + elements_of p.dims)) (sym (scope_grows s p.name p.dims)) k.1)))
+params_keep_rules : (ps : List Param) (s : List (List ℕ × Sort)) (v : Sorts) (n : ℕ) → (params_faults ps (s ∷ v) n ≡ []) ↔ TypingParams ps (scope_for s) n
+params_keep_rules [] s v n = none_keeps
+params_keep_rules (p ∷ ps) s v n =
+    let m : ℕ = n + elements_of p.dims in
+    let w : List (List ℕ × Sort) = (p.name, sort_of_dims p.dims) ∷ s in
+    then_keeps (param_faults p (is_new_in (s ∷ v) p.name) m) (params_faults ps (with_entry p.name (sort_of_dims p.dims) (s ∷ v)) m) (param_kept s v n p, param_clean s v n p)
+    (λ (k : IsParameter (scope_for s) n p). subst (λ z. (params_faults ps z m ≡ []) ↔ TypingParams ps ((p.name, typing.sort_of_dims p.dims) ∷ scope_for s) m) (sym (new_param s v p.name p.dims (new_is (s ∷ v) p.name k.rule_21_new)))
+    (subst (λ scope. (params_faults ps (w ∷ v) m ≡ []) ↔ TypingParams ps scope m) (scope_grows s p.name p.dims) (params_keep_rules ps w v m)))
 
 -- the names in force after parameters that keep the rules
 pub after_params : (ps : List Param) (s : List (List ℕ × Sort)) (v : Sorts) (n : ℕ) → TypingParams ps (scope_for s) n → names_of (sorts_after_params (s ∷ v) ps) ≡ scope_of ps (scope_for s) ∷ names_of v
@@ -482,19 +389,186 @@ after_params (p ∷ ps) s v n k =
     ∙ after_params ps ((p.name, sort_of_dims p.dims) ∷ s) v (n + elements_of p.dims) (subst (λ scope. TypingParams ps scope (n + elements_of p.dims)) (sym (scope_grows s p.name p.dims)) k.1)
     ∙ ap (λ scope. scope_of ps scope ∷ names_of v) (scope_grows s p.name p.dims)
 
--- ---- trees
+-- ---- blocks and trees
+
+-- the parameters and the statements of a block inside of scopes
+pub block_keeps : (v : Sorts) (ps : List Param) (ss : List Stmt) (r : Option Ty)
+    → (block_faults ([] ∷ v) ps ss r ≡ []) ↔ (TypingParams ps [] 0 × TypingList ss r false (scope_of ps [] ∷ names_of v))
+block_keeps v ps ss r =
+    let w : Sorts = sorts_after_params ([] ∷ v) ps in
+    then_keeps (params_faults ps ([] ∷ v) 0) (stmts_faults ss r false w) (params_keep_rules ps [] v 0)
+    (λ k. subst (λ names. (stmts_faults ss r false w ≡ []) ↔ TypingList ss r false names) (after_params ps [] v 0 k) (list_keeps w ss r false))
 
 pub tree_kept : (tree : Tree) → tree_faults tree ≡ [] → Typing tree
-tree_kept tree h =
-    let in_params : List Fault = params_faults tree.params ([] ∷ []) 0 in
-    let in_body : List Fault = stmts_faults tree.body tree.result false (sorts_after_params ([] ∷ []) tree.params) in
-    let keep : TypingParams tree.params [] 0 = params_kept tree.params [] [] 0 (first_empty in_params in_body h) in
-    record {
-      params_keep = keep;
-      body_keeps = subst (λ names. TypingList tree.body tree.result false names) (after_params tree.params [] [] 0 keep) (list_kept (sorts_after_params ([] ∷ []) tree.params) tree.body tree.result false (second_empty in_params in_body h));
-    }
+tree_kept tree h = let k = (block_keeps [] tree.params tree.body tree.result).0 h in record { params_keep = k.0; body_keeps = k.1 }
 
 pub tree_clean : (tree : Tree) → Typing tree → tree_faults tree ≡ []
-tree_clean tree k =
-    both_empty (params_faults tree.params ([] ∷ []) 0) (stmts_faults tree.body tree.result false (sorts_after_params ([] ∷ []) tree.params)) (params_clean tree.params [] [] 0 k.params_keep)
-    (list_clean (sorts_after_params ([] ∷ []) tree.params) tree.body tree.result false (subst (λ names. TypingList tree.body tree.result false names) (sym (after_params tree.params [] [] 0 k.params_keep)) k.body_keeps))
+tree_clean tree k = (block_keeps [] tree.params tree.body tree.result).1 (k.params_keep, k.body_keeps)
+
+-- ---- calls stand where they may exactly where none stands where none may
+
+-- ---- expressions
+
+mutual
+  pub kind_stands : (may : Bool) (e : ExprKind) (at : Span) → (kind_places may e at ≡ []) ↔ CallsStand may e
+  kind_stands may (expr.Number n t) at = none_keeps
+  kind_stands may (expr.Name x) at = none_keeps
+  kind_stands may (expr.Element' x n row) at = row_stands may row
+  kind_stands may (expr.Call' x n row) at = both_keep (call_places may x at) (row_places may row) (unless_keeps may rule.CallPlace (first_bytes (length x) at)) (row_stands may row)
+  kind_stands may (expr.Unary' op b (more_of-Expr e s end_of-Expr)) at = kind_stands may e s
+  kind_stands may (expr.Cast' t b (more_of-Expr e s end_of-Expr)) at = kind_stands may e s
+  kind_stands may (expr.Binary' op b (more_of-Expr e s end_of-Expr) b2 (more_of-Expr e2 s2 end_of-Expr)) at =
+      let beside : Bool = where_whole (joins_both op) may in
+      both_keep (kind_places may e s) (kind_places beside e2 s2) (kind_stands may e s) (kind_stands beside e2 s2)
+  kind_stands may (expr.Choose' b (more_of-Expr e s end_of-Expr) b2 (more_of-Expr e2 s2 end_of-Expr) b3 (more_of-Expr e3 s3 end_of-Expr)) at =
+      three_keep (kind_places may e s) (kind_places false e2 s2) (kind_places false e3 s3) (kind_stands may e s) (kind_stands false e2 s2) (kind_stands false e3 s3)
+
+  row_stands : {n : Count} (may : Bool) (row : Row_of-Expr n) → (row_places may row ≡ []) ↔ CallsStandIn may row
+  row_stands may end_of-Expr = none_keeps
+  row_stands may (more_of-Expr e at row) = both_keep (kind_places may e at) (row_places may row) (kind_stands may e at) (row_stands may row)
+
+option_stands : (may : Bool) (o : Option Expr) → (option_places may o ≡ []) ↔ StandsIfAny may o
+option_stands may None = none_keeps
+option_stands may (Some e) = kind_stands may e.kind e.at
+
+exprs_stand : (may : Bool) (es : List Expr) → (exprs_places may es ≡ []) ↔ All (StandsAt may) es
+exprs_stand may [] = (λ h. All-nil (StandsAt may), λ k. refl)
+exprs_stand may (e ∷ es) = all_keep (StandsAt may) e es (expr_places may e) (exprs_places may es) (kind_stands may e.kind e.at) (exprs_stand may es)
+
+-- ---- statements
+
+mutual
+  act_stands : (s : StmtKind) → (act_places s ≡ []) ↔ CallsStandStmt s
+  act_stands (stmt.Block' n row) = acts_stand row
+  act_stands (stmt.Declare x t e) = option_stands true e
+  act_stands (stmt.Assign target op e) = both_keep (target_places target) (expr_places true e) (exprs_stand true target.indices) (kind_stands true e.kind e.at)
+  act_stands (stmt.Step target up) = exprs_stand true target.indices
+  act_stands (stmt.If' e b (more_of-Stmt s a end_of-Stmt) o) = three_keep (expr_places true e) (act_places s) (held_places o) (kind_stands true e.kind e.at) (act_stands s) (held_stands o)
+  act_stands (stmt.While' e b (more_of-Stmt s a end_of-Stmt)) = both_keep (expr_places false e) (act_places s) (kind_stands false e.kind e.at) (act_stands s)
+  act_stands (stmt.DoWhile' b (more_of-Stmt s a end_of-Stmt) e) = both_keep (act_places s) (expr_places false e) (act_stands s) (kind_stands false e.kind e.at)
+  act_stands (stmt.For' n row e o b (more_of-Stmt s a end_of-Stmt)) =
+      let both = both_keep (acts_places row) (option_places false e ++ (held_places o ++ act_places s)) (acts_stand row)
+      (three_keep (option_places false e) (held_places o) (act_places s) (option_stands false e) (held_stands o) (act_stands s)) in
+      (λ h. let k = both.0 h in (k.0, k.1.0, k.1.1, k.1.2), λ k. both.1 (k.0, (k.1, k.2, k.3)))
+  act_stands stmt.Break = none_keeps
+  act_stands stmt.Continue = none_keeps
+  act_stands (stmt.Return e) = option_stands true e
+  act_stands stmt.Empty = none_keeps
+
+  held_stands : (o : Held-StmtKind-If-2) → (held_places o ≡ []) ↔ CallsStandHeld o
+  held_stands stmt.None' = none_keeps
+  held_stands (stmt.Some' b (more_of-Stmt s a end_of-Stmt)) = act_stands s
+
+  acts_stand : {n : Count} (row : Row_of-Stmt n) → (acts_places row ≡ []) ↔ CallsStandStmts row
+  acts_stand end_of-Stmt = none_keeps
+  acts_stand (more_of-Stmt s at row) = both_keep (act_places s) (acts_places row) (act_stands s) (acts_stand row)
+
+pub list_stands : (ss : List Stmt) → (stmts_places ss ≡ []) ↔ All (λ s. CallsStandStmt s.kind) ss
+list_stands [] = (λ h. All-nil (λ s. CallsStandStmt s.kind), λ k. refl)
+list_stands (s ∷ ss) = all_keep (λ s. CallsStandStmt s.kind) s ss (stmt_places s) (stmts_places ss) (act_stands s.kind) (list_stands ss)
+
+-- ---- a program keeps the typing rules exactly where it has no fault
+
+-- ---- blocks with parameters
+
+-- the names in force after statements that keep the rules
+after_list : (ss : List Stmt) (v : Sorts) (r : Option Ty) → TypingList ss r false (names_of v) → names_of (sorts_after_all v ss) ≡ names_after_list (names_of v) ss
+after_list [] v r k = refl
+after_list (s ∷ ss) v r k =
+    let same : names_of (sorts_after v s.kind) ≡ names_after (names_of v) s.kind = after_clean v s.kind r false k.0 in
+    after_list ss (sorts_after v s.kind) r (subst (TypingList ss r false) (sym same) k.1) ∙ ap (λ names. names_after_list names ss) same
+
+at_end : (v : Sorts) (ps : List Param) (ss : List Stmt) (r : Option Ty) → TypingParams ps [] 0 → TypingList ss r false (scope_of ps [] ∷ names_of v) → names_of (sorts_at_end ([] ∷ v) ps ss) ≡ names_after_list (scope_of ps [] ∷ names_of v) ss
+at_end v ps ss r params body =
+    let same : names_of (sorts_after_params ([] ∷ v) ps) ≡ scope_of ps [] ∷ names_of v = after_params ps [] v 0 params in
+    after_list ss (sorts_after_params ([] ∷ v) ps) r (subst (TypingList ss r false) (sym same) body) ∙ ap (λ names. names_after_list names ss) same
+
+-- ---- helpers
+
+-- what a helper's faults keep: a new name, its block and its value
+helper_keeps : (s : List (List ℕ × Sort)) (h : Helper) → (helper_faults (s ∷ []) h ≡ [])
+    ↔ (IsNew (names_of (s ∷ [])) h.name × ((TypingParams h.params [] 0 × TypingList h.body (Some h.result) false (scope_of h.params [] ∷ names_of (s ∷ []))) × TypingExpr (names_after_list (scope_of h.params [] ∷ names_of (s ∷ [])) h.body) h.value))
+helper_keeps s h =
+    let inner : List Fault = block_faults ([] ∷ s ∷ []) h.params h.body (Some h.result) in
+    let w : Sorts = sorts_at_end ([] ∷ s ∷ []) h.params h.body in
+    both_keep (unless (is_new_in (s ∷ []) h.name) rule.Redeclared h.at) (inner ++ expr_faults w h.value) (new_keeps (s ∷ []) h.name h.at)
+    (then_keeps inner (expr_faults w h.value) (block_keeps (s ∷ []) h.params h.body (Some h.result))
+    (λ k. subst (λ names. (expr_faults w h.value ≡ []) ↔ TypingExpr names h.value) (at_end (s ∷ []) h.params h.body (Some h.result) k.0 k.1) (kind_keeps w h.value.kind h.value.at)))
+
+helper_stands : (h : Helper) → (helper_places h ≡ []) ↔ (All (λ s. CallsStandStmt s.kind) h.body × StandsAt true h.value)
+helper_stands h = both_keep (stmts_places h.body) (expr_places true h.value) (list_stands h.body) (kind_stands true h.value.kind h.value.at)
+
+helper_kept : (s : List (List ℕ × Sort)) (h : Helper) → helper_faults (s ∷ []) h ≡ [] → helper_places h ≡ [] → TypingHelper (scope_for s) h
+helper_kept s h none placed =
+    let k = (helper_keeps s h).0 none in
+    let calls = (helper_stands h).0 placed in
+    record { rule_21_new = k.0; params_keep = k.1.0.0; body_keeps = k.1.0.1; value_keeps = k.1.1; rule_28_body = calls.0; rule_28_value = calls.1 }
+
+helper_clean : (s : List (List ℕ × Sort)) (h : Helper) → TypingHelper (scope_for s) h → helper_faults (s ∷ []) h ≡ []
+helper_clean s h k = (helper_keeps s h).1 (k.rule_21_new, ((k.params_keep, k.body_keeps), k.value_keeps))
+
+-- a helper that is new goes before the others
+new_helper : (s : List (List ℕ × Sort)) (h : Helper) → is_new_in (s ∷ []) h.name ≡ true → sorts_after_helper (s ∷ []) h ≡ ((h.name, sort.Helper (length h.params)) ∷ s) ∷ []
+new_helper s h new = ap (λ b. (if b then (h.name, sort.Helper (length h.params)) ∷ s else s) ∷ []) new
+
+helpers_kept : (hs : List Helper) (s : List (List ℕ × Sort)) → helpers_faults (s ∷ []) hs ≡ [] → helpers_places hs ≡ [] → TypingHelpers (scope_for s) hs
+helpers_kept [] s none placed = tt
+helpers_kept (h ∷ hs) s none placed =
+    let here : TypingHelper (scope_for s) h =
+    helper_kept s h (first_empty (helper_faults (s ∷ []) h) (helpers_faults (sorts_after_helper (s ∷ []) h) hs) none) (first_empty (helper_places h) (helpers_places hs) placed) in
+    let rest : helpers_faults (((h.name, sort.Helper (length h.params)) ∷ s) ∷ []) hs ≡ [] =
+    subst (λ w. helpers_faults w hs ≡ []) (new_helper s h (new_is (s ∷ []) h.name here.rule_21_new)) (second_empty (helper_faults (s ∷ []) h) (helpers_faults (sorts_after_helper (s ∷ []) h) hs) none) in
+    (here, helpers_kept hs ((h.name, sort.Helper (length h.params)) ∷ s) rest (second_empty (helper_places h) (helpers_places hs) placed))
+
+helpers_clean : (hs : List Helper) (s : List (List ℕ × Sort)) → TypingHelpers (scope_for s) hs → helpers_faults (s ∷ []) hs ≡ []
+helpers_clean [] s k = refl
+helpers_clean (h ∷ hs) s k =
+    both_empty (helper_faults (s ∷ []) h) (helpers_faults (sorts_after_helper (s ∷ []) h) hs) (helper_clean s h k.0)
+    (subst (λ w. helpers_faults w hs ≡ []) (sym (new_helper s h (new_is (s ∷ []) h.name k.0.rule_21_new))) (helpers_clean hs ((h.name, sort.Helper (length h.params)) ∷ s) k.1))
+
+helpers_placed : (hs : List Helper) (known : List (List ℕ × _)) → TypingHelpers known hs → helpers_places hs ≡ []
+helpers_placed [] known k = refl
+helpers_placed (h ∷ hs) known k =
+    both_empty (helper_places h) (helpers_places hs) ((helper_stands h).1 (k.0.rule_28_body, k.0.rule_28_value)) (helpers_placed hs _ k.1)
+
+-- the names of helpers that keep the rules
+after_helpers : (hs : List Helper) (s : List (List ℕ × Sort)) → TypingHelpers (scope_for s) hs → names_of (sorts_after_helpers (s ∷ []) hs) ≡ known_after (scope_for s) hs ∷ []
+after_helpers [] s k = refl
+after_helpers (h ∷ hs) s k =
+    ap (λ w. names_of (sorts_after_helpers w hs)) (new_helper s h (new_is (s ∷ []) h.name k.0.rule_21_new)) ∙ after_helpers hs ((h.name, sort.Helper (length h.params)) ∷ s) k.1
+
+-- ---- programs
+
+abbrev all_known : Program → Sorts
+all_known p = sorts_after_helpers ([] ∷ []) p.helpers
+
+kernel_keeps : (v : Sorts) (tree : Tree) → (kernel_faults v tree ≡ [])
+    ↔ (IsNew (names_of v) tree.name × (TypingParams tree.params [] 0 × TypingList tree.body tree.result false (scope_of tree.params [] ∷ names_of v)))
+kernel_keeps v tree =
+    both_keep (unless (is_new_in v tree.name) rule.Redeclared tree.at) (block_faults ([] ∷ v) tree.params tree.body tree.result) (new_keeps v tree.name tree.at) (block_keeps v tree.params tree.body tree.result)
+
+pub program_kept : (p : Program) → program_faults p ≡ [] → TypingProgram p
+program_kept p h =
+    let declared : declared_faults p ≡ [] = first_empty (declared_faults p) (program_places p) h in
+    let placed : program_places p ≡ [] = second_empty (declared_faults p) (program_places p) h in
+    let in_helpers : List Fault = helpers_faults ([] ∷ []) p.helpers in
+    let kernel = (kernel_keeps (all_known p) p.kernel).0 (second_empty in_helpers (kernel_faults (all_known p) p.kernel) declared) in
+    let helpers : TypingHelpers [] p.helpers =
+    helpers_kept p.helpers [] (first_empty in_helpers (kernel_faults (all_known p) p.kernel) declared) (first_empty (helpers_places p.helpers) (stmts_places p.kernel.body) placed) in
+    let same : names_of (all_known p) ≡ known_after [] p.helpers ∷ [] = after_helpers p.helpers [] helpers in
+    record {
+      helpers_keep = helpers;
+      rule_21_new = subst (λ names. IsNew names p.kernel.name) same kernel.0;
+      params_keep = kernel.1.0;
+      body_keeps = subst (λ names. TypingList p.kernel.body p.kernel.result false (scope_of p.kernel.params [] ∷ names)) same kernel.1.1;
+      rule_28 = (list_stands p.kernel.body).0 (second_empty (helpers_places p.helpers) (stmts_places p.kernel.body) placed);
+    }
+
+pub program_clean : (p : Program) → TypingProgram p → program_faults p ≡ []
+program_clean p k =
+    let same : known_after [] p.helpers ∷ [] ≡ names_of (all_known p) = sym (after_helpers p.helpers [] k.helpers_keep) in
+    let body = subst (λ names. TypingList p.kernel.body p.kernel.result false (scope_of p.kernel.params [] ∷ names)) same k.body_keeps in
+    both_empty (declared_faults p) (program_places p)
+    (both_empty (helpers_faults ([] ∷ []) p.helpers) (kernel_faults (all_known p) p.kernel) (helpers_clean p.helpers [] k.helpers_keep)
+    ((kernel_keeps (all_known p) p.kernel).1 (subst (λ names. IsNew names p.kernel.name) same k.rule_21_new, (k.params_keep, body))))
+    (both_empty (helpers_places p.helpers) (stmts_places p.kernel.body) (helpers_placed p.helpers [] k.helpers_keep) ((list_stands p.kernel.body).1 k.rule_28))

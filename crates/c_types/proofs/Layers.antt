@@ -118,8 +118,3 @@ stmts_faults-append (s ∷ ss) ts r loop names =
 pub sorts_after_all-append : (ss ts : List Stmt) (names : Sorts) → sorts_after_all names (ss ++ ts) ≡ sorts_after_all (sorts_after_all names ss) ts
 sorts_after_all-append [] ts names = refl
 sorts_after_all-append (s ∷ ss) ts names = sorts_after_all-append ss ts (sorts_after names s.kind)
-
-pub exprs_faults-append : (es gs : List Expr) (names : Sorts) → exprs_faults names (es ++ gs) ≡ exprs_faults names es ++ exprs_faults names gs
-exprs_faults-append [] gs names = refl
-exprs_faults-append (e ∷ es) gs names =
-    ap (λ fs. expr_faults names e ++ fs) (exprs_faults-append es gs names) ∙ sym (append_assoc (expr_faults names e) (exprs_faults names es) (exprs_faults names gs))

@@ -3,11 +3,8 @@ pub mod AloneCasts
 pub mod AloneKernels
 pub mod Arms
 pub mod CallLayers
-pub mod CallsAhead
-pub mod CallsKept
 pub mod CastParams
 pub mod ContextLemmas
-pub mod EmptyScope
 pub mod First
 pub mod FirstFaults
 pub mod Items
@@ -22,9 +19,7 @@ pub mod ProgramCastStatements
 pub mod ProgramExpressionParts
 pub mod ProgramHelpers
 pub mod ProgramNames
-pub mod ProgramRefusals
 pub mod ProgramStatementParts
-pub mod ProgramsKept
 pub mod Refusals
 pub mod Renamed
 pub mod TypingRows

@@ -18,7 +18,7 @@ use Rattle.c_ast.specs.declared.program.ProgStmt.{ProgStmt}
 use Rattle.c_ast.specs.declared.program.ProgStmtKind.{ProgStmtKind}
 use Rattle.c_ast.specs.Casts.{Context, opened, closed, expr_at, stmt_at, parameters, first_context}
 use Rattle.c_ast.specs.ProgramCasts as program
-use Rattle.c_ast.specs.ProgramCasts.{known_of, helper_of, prog_at, prog_converted, prog_converted_all, CastsCallExpr, CastsCallExprs, CastsCallTarget, CastsCallOption, CastsCallStmt, CastsCallHeld, CastsCallStmts}
+use Rattle.c_ast.specs.ProgramCasts.{known_of, prog_at, prog_converted, prog_converted_all, CastsCallExpr, CastsCallExprs, CastsCallTarget, CastsCallOption, CastsCallStmt, CastsCallHeld, CastsCallStmts}
 use Rattle.c_types.specs.declared.known.Known.{Known}
 use Rattle.c_types.specs.Contexts.{Bindings, context_in, context_of}
 

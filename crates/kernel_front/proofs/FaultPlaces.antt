@@ -1,6 +1,7 @@
 -- Each fault of a program stands at the place of a word of its tokens: of a name, or of `return`, `break` or `continue`.
-use Rattle.std.proofs.Common.{◌≡◌, ℕ, suc, ◌+◌, ◌-◌, ◌≤◌, Bool, true, false, not, ◌||◌, nat_lt, nat_eq, if◌then◌else◌, List, [], ◌∷◌, ◌++◌, length, Option, Some, None, sym, ap, ◌∙◌, subst, arith}
+use Rattle.std.proofs.Common.{◌≡◌, ℕ, suc, ◌+◌, ◌-◌, ◌≤◌, Bool, true, false, not, ◌||◌, nat_lt, nat_eq, if◌then◌else◌, List, [], ◌∷◌, ◌++◌, length, All, Option, Some, None, sym, ap, ◌∙◌, subst, arith}
 use Rattle.std.proofs.lemmas.Bool.Decides.{nat_tests}
+use Rattle.std.proofs.lemmas.List.Elements.{All-nil, All-cons, All-append}
 use Rattle.std.specs.List.{list_any}
 use denote.Hole.Carrier.{hidden}
 use Rattle.el_base.specs.declared.span.Span.{Span}
@@ -32,10 +33,10 @@ use Rattle.c_ast.specs.Typing.{row_length, elements_of}
 use Rattle.c_types.specs.declared.fault.Rule.{Rule}
 use Rattle.c_types.specs.declared.fault.Rule.TheVariants as rule
 use Rattle.c_types.specs.declared.fault.Fault.{Fault}
-use Rattle.c_types.specs.Places.{first_bytes}
+use Rattle.c_types.specs.Places.{fault, first_bytes}
 use Rattle.c_types.specs.Scopes.{declared_in, is_new_in, with_entry}
-use Rattle.c_types.specs.Faults.{Sorts, broken_by_use, broken_by_call, if_broken, use_faults, call_faults, row_faults, expr_faults, kind_faults, option_faults, target_faults, exprs_faults, unless, is_returnable, sorts_after, sorts_after_row, act_faults, held_faults, acts_faults, stmt_faults, stmts_faults, sort_of_dims, param_faults, params_faults, sorts_after_params, block_faults, sorts_at_end}
-use Rattle.c_types.specs.CallPlaces.{kind_places, row_places, expr_places, exprs_places, option_places, target_places, act_places, held_places, acts_places, stmt_places, stmts_places, helper_places, helpers_places}
+use Rattle.c_types.specs.Faults.{Sorts, broken_by_use, broken_by_call, if_broken, use_faults, row_faults, kind_faults, option_faults, target_faults, exprs_faults, unless, is_returnable, sorts_after, sorts_after_row, act_faults, held_faults, acts_faults, stmt_faults, stmts_faults, sort_of_dims, param_faults, params_faults, sorts_after_params, block_faults, sorts_at_end}
+use Rattle.c_types.specs.CallPlaces.{kind_places, row_places, exprs_places, option_places, target_places, act_places, held_places, acts_places, stmt_places, stmts_places, helper_places, helpers_places}
 use Rattle.c_types.specs.ProgramFaults.{helper_faults, sorts_after_helper, helpers_faults, sorts_after_helpers, kernel_faults, program_faults}
 use Rattle.kernel_front.proofs.Laid.{AreLaid}
 
@@ -89,21 +90,25 @@ module _ (Q : Span → Type 0) where
 
   -- ---- faults
 
-  abbrev pub ArePlaced : List Fault → Type 0
-  ArePlaced [] = Unit {0}
-  ArePlaced (f ∷ fs) = Q f.span × ArePlaced fs
+  pub record ArePlaced (fs : List Fault) : Type 0 where
+    pub each : All (λ f. Q f.span) fs
 
-  both : (fs gs : List Fault) → ArePlaced fs → ArePlaced gs → ArePlaced (fs ++ gs)
-  both [] gs h k = k
-  both (f ∷ fs) gs h k = (h.0, both fs gs h.1 k)
+  nothing : ArePlaced []
+  nothing = record { each = All-nil (λ f. Q f.span) }
+
+  both : {fs gs : List Fault} → ArePlaced fs → ArePlaced gs → ArePlaced (fs ++ gs)
+  both {fs} {gs} h k = record { each = All-append (λ (f : Fault). Q f.span) fs gs h.each k.each }
+
+  one : (r : Rule) (s : Span) → Q s → ArePlaced (fault r s ∷ [])
+  one r s h = record { each = All-cons (λ (f : Fault). Q f.span) (fault r s) [] h (All-nil (λ f. Q f.span)) }
 
   if_broken_placed : (o : Option Rule) (s : Span) → Q s → ArePlaced (if_broken o s)
-  if_broken_placed None s h = tt
-  if_broken_placed (Some r) s h = (h, tt)
+  if_broken_placed None s h = nothing
+  if_broken_placed (Some r) s h = one r s h
 
   unless_placed : (b : Bool) (r : Rule) (s : Span) → Q s → ArePlaced (unless b r s)
-  unless_placed true r s h = tt
-  unless_placed false r s h = (h, tt)
+  unless_placed true r s h = nothing
+  unless_placed false r s h = one r s h
 
   use_placed : (names : Sorts) (x : List ℕ) (n : ℕ) (s : Span) (ts : List Token) → Laid Q (named x s ∷ ts) → ArePlaced (use_faults names x n (place_of (named x s ∷ ts)))
   use_placed names x n s ts h = if_broken_placed (broken_by_use (declared_in names x) n) _ (name_place x s ts h)
@@ -123,32 +128,29 @@ module _ (Q : Span → Type 0) where
 
   row_placed : (es : List Expr) → ExprsPlaced es → ((names : Sorts) → ArePlaced (row_faults names (hidden-the_row-Expr-0 es))) × ((may : Bool) → ArePlaced (row_places may (hidden-the_row-Expr-0 es)))
   unfolding shape-the_row-Expr-0 hidden-the_row-Expr-0 shape-the_row-Expr-1 hidden-the_row-Expr-1 hidden
-  row_placed [] h = (λ names. tt, λ may. tt)
+  row_placed [] h = (λ names. nothing, λ may. nothing)
   row_placed (e ∷ es) h =
       let more = row_placed es h.1 in
-      (λ names. both (expr_faults names e) (row_faults names (hidden-the_row-Expr-0 es)) (h.0.0 names) (more.0 names), λ may. both (expr_places may e) (row_places may (hidden-the_row-Expr-0 es)) (h.0.1 may) (more.1 may))
+      (λ names. both (h.0.0 names) (more.0 names), λ may. both (h.0.1 may) (more.1 may))
 
   exprs_placed : (es : List Expr) → ExprsPlaced es → ((names : Sorts) → ArePlaced (exprs_faults names es)) × ((may : Bool) → ArePlaced (exprs_places may es))
-  exprs_placed [] h = (λ names. tt, λ may. tt)
+  exprs_placed [] h = (λ names. nothing, λ may. nothing)
   exprs_placed (e ∷ es) h =
       let more = exprs_placed es h.1 in
-      (λ names. both (expr_faults names e) (exprs_faults names es) (h.0.0 names) (more.0 names), λ may. both (expr_places may e) (exprs_places may es) (h.0.1 may) (more.1 may))
+      (λ names. both (h.0.0 names) (more.0 names), λ may. both (h.0.1 may) (more.1 may))
 
   element_placed : (x : List ℕ) (es : List Expr) (s : Span) (ts : List Token) → Laid Q (named x s ∷ ts) → ExprsPlaced es
       → KindPlaced (expr.Element x es) (place_of (named x s ∷ ts))
   element_placed x es s ts h parts = (
-    λ names. both (use_faults names x (row_length (hidden-the_row-Expr-0 es)) (place_of (named x s ∷ ts))) (row_faults names (hidden-the_row-Expr-0 es))
-        (use_placed names x (row_length (hidden-the_row-Expr-0 es)) s ts h) ((row_placed es parts).0 names),
+    λ names. both (use_placed names x (row_length (hidden-the_row-Expr-0 es)) s ts h) ((row_placed es parts).0 names),
     (row_placed es parts).1,
   )
 
   call_placed : (x : List ℕ) (es : List Expr) (s : Span) (ts : List Token) → Laid Q (named x s ∷ ts) → ExprsPlaced es
       → KindPlaced (expr.Call x es) (place_of (named x s ∷ ts))
   call_placed x es s ts h parts = (
-    λ names. both (call_faults names x (row_length (hidden-the_row-Expr-0 es)) (place_of (named x s ∷ ts))) (row_faults names (hidden-the_row-Expr-0 es))
-        (if_broken_placed (broken_by_call (declared_in names x) (row_length (hidden-the_row-Expr-0 es))) _ (name_place x s ts h)) ((row_placed es parts).0 names),
-    λ may. both (unless may rule.CallPlace (first_bytes (length x) (place_of (named x s ∷ ts)))) (row_places may (hidden-the_row-Expr-0 es))
-        (unless_placed may rule.CallPlace _ (name_place x s ts h)) ((row_placed es parts).1 may),
+    λ names. both (if_broken_placed (broken_by_call (declared_in names x) (row_length (hidden-the_row-Expr-0 es))) _ (name_place x s ts h)) ((row_placed es parts).0 names),
+    λ may. both (unless_placed may rule.CallPlace _ (name_place x s ts h)) ((row_placed es parts).1 may),
   )
 
   unary_placed : (op : Unary) (a : Expr) (at : Span) → ExprPlaced a → KindPlaced (expr.Unary op a) at
@@ -161,16 +163,13 @@ module _ (Q : Span → Type 0) where
 
   binary_placed : (op : Binary) (a b : Expr) (at : Span) → ExprPlaced a → ExprPlaced b → KindPlaced (expr.Binary op a b) at
   unfolding shape-the_row-Expr-0 hidden-the_row-Expr-0 shape-the_row-Expr-1 hidden-the_row-Expr-1 hidden
-  binary_placed op a b at h k = (
-    λ names. both (expr_faults names a) (expr_faults names b) (h.0 names) (k.0 names),
-    λ may. both (expr_places may a) (expr_places (where_whole (joins_both op) may) b) (h.1 may) (k.1 (where_whole (joins_both op) may)),
-  )
+  binary_placed op a b at h k = (λ names. both (h.0 names) (k.0 names), λ may. both (h.1 may) (k.1 (where_whole (joins_both op) may)))
 
   choice_placed : (a b d : Expr) (at : Span) → ExprPlaced a → ExprPlaced b → ExprPlaced d → KindPlaced (expr.Choose a b d) at
   unfolding shape-the_row-Expr-0 hidden-the_row-Expr-0 shape-the_row-Expr-1 hidden-the_row-Expr-1 hidden
   choice_placed a b d at h k l = (
-    λ names. both (expr_faults names a) (expr_faults names b ++ expr_faults names d) (h.0 names) (both (expr_faults names b) (expr_faults names d) (k.0 names) (l.0 names)),
-    λ may. both (expr_places may a) (expr_places false b ++ expr_places false d) (h.1 may) (both (expr_places false b) (expr_places false d) (k.1 false) (l.1 false)),
+    λ names. both (h.0 names) (both (k.0 names) (l.0 names)),
+    λ may. both (h.1 may) (both (k.1 false) (l.1 false)),
   )
 
   mutual
@@ -184,8 +183,8 @@ module _ (Q : Span → Type 0) where
         binary_placed op a b _ (expr_placed k us a left (front us (marked m s ∷ ws) h)) (expr_placed (suc k) ws b right (rest (marked m s) ws (back us (marked m s ∷ ws) h)))
     expr_placed l ts e (DerivesExpr.prefixed m op us s a sign d) h = unary_placed op a _ (expr_placed 11 us a d (rest (marked m s) us h))
     expr_placed l ts e (DerivesExpr.cast us ws s z t a type d) h = cast_placed t a _ (expr_placed 11 ws a d (back (between mark.Open s us mark.Close z) ws h))
-    expr_placed l ts e (DerivesExpr.number n t s) h = (λ names. tt, λ may. tt)
-    expr_placed l ts e (DerivesExpr.name x s) h = (λ names. use_placed names x 0 s [] h, λ may. tt)
+    expr_placed l ts e (DerivesExpr.number n t s) h = (λ names. nothing, λ may. nothing)
+    expr_placed l ts e (DerivesExpr.name x s) h = (λ names. use_placed names x 0 s [] h, λ may. nothing)
     expr_placed l ts e (DerivesExpr.element x s us a es d) h = element_placed x (a ∷ es) s us h (indices_placed us (a ∷ es) d (rest (named x s) us h))
     expr_placed l ts e (DerivesExpr.call x s a z us es d) h =
         call_placed x es s (between mark.Open a us mark.Close z) h
@@ -213,7 +212,7 @@ module _ (Q : Span → Type 0) where
   OptionPlaced o = ((names : Sorts) → ArePlaced (option_faults names o)) × ((may : Bool) → ArePlaced (option_places may o))
 
   option_placed : (ts : List Token) (e : Option Expr) → DerivesOption ts e → Laid Q ts → OptionPlaced e
-  option_placed ts e DerivesOption.absent h = (λ names. tt, λ may. tt)
+  option_placed ts e DerivesOption.absent h = (λ names. nothing, λ may. nothing)
   option_placed ts e (DerivesOption.present us a d) h = expr_placed 0 us a d h
 
   -- ---- assignments, steps and declarations
@@ -224,7 +223,7 @@ module _ (Q : Span → Type 0) where
   target_placed : (ts : List Token) (t : Target) → DerivesTarget ts t → Laid Q ts → TargetPlaced t
   target_placed ts t (DerivesTarget.target x s us es d) h =
       let parts = indices_placed us es d (rest (named x s) us h) in (
-        λ names. both (use_faults names x (length es) (place_of (named x s ∷ us))) (exprs_faults names es) (use_placed names x (length es) s us h) ((exprs_placed es parts).0 names),
+        λ names. both (use_placed names x (length es) s us h) ((exprs_placed es parts).0 names),
         (exprs_placed es parts).1 true,
       )
 
@@ -242,10 +241,7 @@ module _ (Q : Span → Type 0) where
   simple_placed : (ts : List Token) (s : Stmt) → DerivesSimple ts s → Laid Q ts → Placed s
   simple_placed ts s (DerivesSimple.assign us ws m p t op e to operator value) h =
       let target = target_placed us t to (front us (marked m p ∷ ws) h) in
-      let assigned = expr_placed 0 ws e value (rest (marked m p) ws (back us (marked m p ∷ ws) h)) in (
-        λ r loop names. both (target_faults names t) (expr_faults names e) (target.0 names) (assigned.0 names),
-        both (target_places t) (expr_places true e) target.1 (assigned.1 true),
-      )
+      let assigned = expr_placed 0 ws e value (rest (marked m p) ws (back us (marked m p ∷ ws) h)) in (λ r loop names. both (target.0 names) (assigned.0 names), both target.1 (assigned.1 true))
   simple_placed ts s (DerivesSimple.step_after us m p t up to step) h =
       let target = target_placed us t to (front us (marked m p ∷ []) h) in (λ r loop names. target.0 names, target.1)
   simple_placed ts s (DerivesSimple.step_before us m p t up step to) h =
@@ -253,13 +249,12 @@ module _ (Q : Span → Type 0) where
 
   declared_placed : (t : Ty) (ts : List Token) (s : Stmt) → DerivesDeclared t ts s → Laid Q ts → Placed s
   declared_placed t ts s (DerivesDeclared.without_value u x p) h = (
-    λ r loop names. both (unless (is_new_in names x) rule.Redeclared p) [] (unless_placed (is_new_in names x) rule.Redeclared p h.laid.2.0) tt,
-    tt,
+    λ r loop names. both (unless_placed (is_new_in names x) rule.Redeclared p h.laid.2.0) nothing,
+    nothing,
   )
   declared_placed t ts s (DerivesDeclared.with_value u x p a us e d) h =
       let value = expr_placed 0 us e d (rest (marked mark.Assign a) us (rest (named x p) (marked mark.Assign a ∷ us) h)) in (
-        λ r loop names. both (unless (is_new_in names x) rule.Redeclared p) (expr_faults (sorts_after names (stmt.Declare x u (Some e))) e)
-            (unless_placed (is_new_in names x) rule.Redeclared p h.laid.2.0) (value.0 (sorts_after names (stmt.Declare x u (Some e)))),
+        λ r loop names. both (unless_placed (is_new_in names x) rule.Redeclared p h.laid.2.0) (value.0 (sorts_after names (stmt.Declare x u (Some e)))),
         value.1 true,
       )
 
@@ -289,16 +284,14 @@ module _ (Q : Span → Type 0) where
 
   acts_placed : (ss : List Stmt) → AllPlaced ss → ((r : Option Ty) (loop : Bool) (names : Sorts) → ArePlaced (acts_faults (hidden-the_row-Stmt-0 ss) r loop names)) × ArePlaced (acts_places (hidden-the_row-Stmt-0 ss))
   unfolding shape-the_row-Stmt-0 hidden-the_row-Stmt-0 shape-the_row-Stmt-1 hidden-the_row-Stmt-1 hidden
-  acts_placed [] h = (λ r loop names. tt, tt)
+  acts_placed [] h = (λ r loop names. nothing, nothing)
   acts_placed (s ∷ ss) h =
-      let more = acts_placed ss h.1 in (
-        λ r loop names. both (stmt_faults s r loop names) (acts_faults (hidden-the_row-Stmt-0 ss) r loop (sorts_after names s.kind)) (h.0.0 r loop names) (more.0 r loop (sorts_after names s.kind)),
-        both (stmt_places s) (acts_places (hidden-the_row-Stmt-0 ss)) h.0.1 more.1,
-      )
+      let more = acts_placed ss h.1 in
+      (λ r loop names. both (h.0.0 r loop names) (more.0 r loop (sorts_after names s.kind)), both h.0.1 more.1)
 
   held_placed : (o : Option Stmt) → PlacedIfAny o → ((r : Option Ty) (loop : Bool) (names : Sorts) → ArePlaced (held_faults (back-StmtKind-If-2 o) r loop names)) × ArePlaced (held_places (back-StmtKind-If-2 o))
   unfolding shape-the_row-Stmt-0 hidden-the_row-Stmt-0 shape-the_row-Stmt-1 hidden-the_row-Stmt-1 hidden
-  held_placed None h = (λ r loop names. tt, tt)
+  held_placed None h = (λ r loop names. nothing, nothing)
   held_placed (Some s) h = (λ r loop names. h.0 r loop ([] ∷ names), h.1)
 
   -- a statement with its place
@@ -311,44 +304,31 @@ module _ (Q : Span → Type 0) where
   if_placed : (c : Expr) (b : Stmt) (o : Option Stmt) (at : Span) → ExprPlaced c → Placed b → PlacedIfAny o → ActPlaced (stmt.If c b o) at
   unfolding shape-the_row-Stmt-0 hidden-the_row-Stmt-0 shape-the_row-Stmt-1 hidden-the_row-Stmt-1 hidden
   if_placed c b o at p q s = (
-    λ r loop names. both (expr_faults names c) (stmt_faults b r loop ([] ∷ names) ++ held_faults (back-StmtKind-If-2 o) r loop names) (p.0 names)
-        (both (stmt_faults b r loop ([] ∷ names)) (held_faults (back-StmtKind-If-2 o) r loop names) (q.0 r loop ([] ∷ names)) ((held_placed o s).0 r loop names)),
-    both (expr_places true c) (stmt_places b ++ held_places (back-StmtKind-If-2 o)) (p.1 true) (both (stmt_places b) (held_places (back-StmtKind-If-2 o)) q.1 (held_placed o s).1),
+    λ r loop names. both (p.0 names) (both (q.0 r loop ([] ∷ names)) ((held_placed o s).0 r loop names)),
+    both (p.1 true) (both q.1 (held_placed o s).1),
   )
 
   while_placed : (c : Expr) (b : Stmt) (at : Span) → ExprPlaced c → Placed b → ActPlaced (stmt.While c b) at
   unfolding shape-the_row-Stmt-0 hidden-the_row-Stmt-0 shape-the_row-Stmt-1 hidden-the_row-Stmt-1 hidden
-  while_placed c b at p q = (
-    λ r loop names. both (expr_faults names c) (stmt_faults b r true ([] ∷ names)) (p.0 names) (q.0 r true ([] ∷ names)),
-    both (expr_places false c) (stmt_places b) (p.1 false) q.1,
-  )
+  while_placed c b at p q = (λ r loop names. both (p.0 names) (q.0 r true ([] ∷ names)), both (p.1 false) q.1)
 
   do_placed : (b : Stmt) (c : Expr) (at : Span) → Placed b → ExprPlaced c → ActPlaced (stmt.DoWhile b c) at
   unfolding shape-the_row-Stmt-0 hidden-the_row-Stmt-0 shape-the_row-Stmt-1 hidden-the_row-Stmt-1 hidden
-  do_placed b c at q p = (
-    λ r loop names. both (stmt_faults b r true ([] ∷ names)) (expr_faults names c) (q.0 r true ([] ∷ names)) (p.0 names),
-    both (stmt_places b) (expr_places false c) q.1 (p.1 false),
-  )
+  do_placed b c at q p = (λ r loop names. both (q.0 r true ([] ∷ names)) (p.0 names), both q.1 (p.1 false))
 
   for_placed : (ss : List Stmt) (c : Option Expr) (o : Option Stmt) (b : Stmt) (at : Span) → AllPlaced ss → OptionPlaced c → PlacedIfAny o → Placed b → ActPlaced (stmt.For ss c o b) at
   unfolding shape-the_row-Stmt-0 hidden-the_row-Stmt-0 shape-the_row-Stmt-1 hidden-the_row-Stmt-1 hidden
   for_placed ss c o b at p q s k = (
     λ r loop names.
         let after : Sorts = sorts_after_row ([] ∷ names) (hidden-the_row-Stmt-0 ss) in
-        both (acts_faults (hidden-the_row-Stmt-0 ss) r false ([] ∷ names))
-        (option_faults after c ++ (held_faults (back-StmtKind-If-2 o) r false after ++ stmt_faults b r true ([] ∷ after)))
-        ((acts_placed ss p).0 r false ([] ∷ names))
-        (both (option_faults after c) (held_faults (back-StmtKind-If-2 o) r false after ++ stmt_faults b r true ([] ∷ after)) (q.0 after)
-        (both (held_faults (back-StmtKind-If-2 o) r false after) (stmt_faults b r true ([] ∷ after)) ((held_placed o s).0 r false after) (k.0 r true ([] ∷ after)))),
-    both (acts_places (hidden-the_row-Stmt-0 ss)) (option_places false c ++ (held_places (back-StmtKind-If-2 o) ++ stmt_places b)) (acts_placed ss p).1
-        (both (option_places false c) (held_places (back-StmtKind-If-2 o) ++ stmt_places b) (q.1 false)
-        (both (held_places (back-StmtKind-If-2 o)) (stmt_places b) (held_placed o s).1 k.1)),
+        both ((acts_placed ss p).0 r false ([] ∷ names)) (both (q.0 after) (both ((held_placed o s).0 r false after) (k.0 r true ([] ∷ after)))),
+    both (acts_placed ss p).1 (both (q.1 false) (both (held_placed o s).1 k.1)),
   )
 
   mutual
     stmt_placed : (f : Bool) (ts : List Token) (s : Stmt) → DerivesStmt f ts s → Laid Q ts → Placed s
     stmt_placed f ts s (DerivesStmt.block us a z ss d) h = block_placed ss (place_of (between mark.OpenBrace a us mark.CloseBrace z)) (items_placed us ss d (inside mark.OpenBrace mark.CloseBrace a z us h))
-    stmt_placed f ts s (DerivesStmt.empty a) h = (λ r loop names. tt, tt)
+    stmt_placed f ts s (DerivesStmt.empty a) h = (λ r loop names. nothing, nothing)
     stmt_placed f ts s (DerivesStmt.simple us z b d) h = simple_placed us b d (front us (marked mark.Semicolon z ∷ []) h)
     stmt_placed f ts s (DerivesStmt.without_else g i a z us ws c b cond body) h =
         let behind = rest (keyed key.If i) (between mark.Open a us mark.Close z ++ ws) h in
@@ -374,13 +354,12 @@ module _ (Q : Span → Type 0) where
         for_placed first c step body _ (first_placed us first one (front us (ws ++ marked mark.Semicolon b ∷ (xs ++ marked mark.Close z ∷ ys)) begun))
         (option_placed ws c two (front ws (marked mark.Semicolon b ∷ (xs ++ marked mark.Close z ∷ ys)) behind))
         (step_placed xs step three (front xs (marked mark.Close z ∷ ys) last)) (stmt_placed g ys body four (rest (marked mark.Close z) ys (back xs (marked mark.Close z ∷ ys) last)))
-    stmt_placed f ts s (DerivesStmt.leaving a z) h = (λ r loop names. unless_placed loop rule.OutsideLoop a h.laid.2.0, tt)
-    stmt_placed f ts s (DerivesStmt.continuing a z) h = (λ r loop names. unless_placed loop rule.OutsideLoop a h.laid.2.0, tt)
+    stmt_placed f ts s (DerivesStmt.leaving a z) h = (λ r loop names. unless_placed loop rule.OutsideLoop a h.laid.2.0, nothing)
+    stmt_placed f ts s (DerivesStmt.continuing a z) h = (λ r loop names. unless_placed loop rule.OutsideLoop a h.laid.2.0, nothing)
     stmt_placed f ts s (DerivesStmt.returning a z us e d) h =
         let own : Laid Q (keyed key.Return a ∷ us) = front (keyed key.Return a ∷ us) (marked mark.Semicolon z ∷ []) h in
         let value = option_placed us e d (rest (keyed key.Return a) us own) in (
-          λ r loop names. both (unless (is_returnable r e) rule.ReturnKind (first_bytes 6 (place_of (keyed key.Return a ∷ us)))) (option_faults names e)
-              (unless_placed (is_returnable r e) rule.ReturnKind _ (return_place a us own)) (value.0 names),
+          λ r loop names. both (unless_placed (is_returnable r e) rule.ReturnKind _ (return_place a us own)) (value.0 names),
           value.1 true,
         )
 
@@ -390,12 +369,10 @@ module _ (Q : Span → Type 0) where
     items_placed ts ss (DerivesItems.declares us ws ds more d others) h = all_both ds more (declaration_placed us ds d (front us ws h)) (items_placed ws more others (back us ws h))
 
   stmts_placed : (ss : List Stmt) → AllPlaced ss → ((r : Option Ty) (loop : Bool) (names : Sorts) → ArePlaced (stmts_faults ss r loop names)) × ArePlaced (stmts_places ss)
-  stmts_placed [] h = (λ r loop names. tt, tt)
+  stmts_placed [] h = (λ r loop names. nothing, nothing)
   stmts_placed (s ∷ ss) h =
-      let more = stmts_placed ss h.1 in (
-        λ r loop names. both (stmt_faults s r loop names) (stmts_faults ss r loop (sorts_after names s.kind)) (h.0.0 r loop names) (more.0 r loop (sorts_after names s.kind)),
-        both (stmt_places s) (stmts_places ss) h.0.1 more.1,
-      )
+      let more = stmts_placed ss h.1 in
+      (λ r loop names. both (h.0.0 r loop names) (more.0 r loop (sorts_after names s.kind)), both h.0.1 more.1)
 
   -- ---- parameters
 
@@ -418,22 +395,20 @@ module _ (Q : Span → Type 0) where
 
   param_faults_placed : (p : Param) (new : Bool) (elements : ℕ) → Q p.at → ArePlaced (param_faults p new elements)
   param_faults_placed p new elements h =
-      let few : Bool = not (nat_lt max_dimensions (length p.dims)) in
-      let fit : Bool = not (list_any (λ d. nat_eq d 0) p.dims || nat_lt max_elements elements) in
-      both (unless new rule.Redeclared p.at) (unless few rule.Dimensions p.at ++ unless fit rule.Length p.at) (unless_placed new rule.Redeclared p.at h)
-      (both (unless few rule.Dimensions p.at) (unless fit rule.Length p.at) (unless_placed few rule.Dimensions p.at h) (unless_placed fit rule.Length p.at h))
+      both (unless_placed new rule.Redeclared p.at h)
+      (both (unless_placed (not (nat_lt max_dimensions (length p.dims))) rule.Dimensions p.at h)
+      (unless_placed (not (list_any (λ d. nat_eq d 0) p.dims || nat_lt max_elements elements)) rule.Length p.at h))
 
   params_faults_placed : (ps : List Param) (names : Sorts) (elements : ℕ) → ParamsPlaced ps → ArePlaced (params_faults ps names elements)
-  params_faults_placed [] names elements h = tt
+  params_faults_placed [] names elements h = nothing
   params_faults_placed (p ∷ ps) names elements h =
-      both (param_faults p (is_new_in names p.name) (elements + elements_of p.dims)) (params_faults ps (with_entry p.name (sort_of_dims p.dims) names) (elements + elements_of p.dims))
-      (param_faults_placed p (is_new_in names p.name) (elements + elements_of p.dims) h.0)
+      both (param_faults_placed p (is_new_in names p.name) (elements + elements_of p.dims) h.0)
       (params_faults_placed ps (with_entry p.name (sort_of_dims p.dims) names) (elements + elements_of p.dims) h.1)
 
   -- the parameters and the statements of a block
   block_faults_placed : (names : Sorts) (ps : List Param) (ss : List Stmt) (r : Option Ty) → ParamsPlaced ps → AllPlaced ss → ArePlaced (block_faults names ps ss r)
   block_faults_placed names ps ss r h k =
-      both (params_faults ps names 0) (stmts_faults ss r false (sorts_after_params names ps)) (params_faults_placed ps names 0 h) ((stmts_placed ss k).0 r false (sorts_after_params names ps))
+      both (params_faults_placed ps names 0 h) ((stmts_placed ss k).0 r false (sorts_after_params names ps))
 
   -- ---- helpers
 
@@ -446,11 +421,9 @@ module _ (Q : Span → Type 0) where
 
   helper_parts_placed : (f : Helper) → Q f.at → ParamsPlaced f.params → AllPlaced f.body → ExprPlaced f.value → HelperPlaced f
   helper_parts_placed f name params body value = (
-    λ names. both (unless (is_new_in names f.name) rule.Redeclared f.at) (block_faults ([] ∷ names) f.params f.body (Some f.result) ++ expr_faults (sorts_at_end ([] ∷ names) f.params f.body) f.value)
-        (unless_placed (is_new_in names f.name) rule.Redeclared f.at name)
-        (both (block_faults ([] ∷ names) f.params f.body (Some f.result)) (expr_faults (sorts_at_end ([] ∷ names) f.params f.body) f.value)
-        (block_faults_placed ([] ∷ names) f.params f.body (Some f.result) params body) (value.0 (sorts_at_end ([] ∷ names) f.params f.body))),
-    both (stmts_places f.body) (expr_places true f.value) (stmts_placed f.body body).1 (value.1 true),
+    λ names. both (unless_placed (is_new_in names f.name) rule.Redeclared f.at name)
+        (both (block_faults_placed ([] ∷ names) f.params f.body (Some f.result) params body) (value.0 (sorts_at_end ([] ∷ names) f.params f.body))),
+    both (stmts_placed f.body body).1 (value.1 true),
   )
 
   helper_placed : (ts : List Token) (f : Helper) → DerivesHelper ts f → Laid Q ts → HelperPlaced f
@@ -470,10 +443,10 @@ module _ (Q : Span → Type 0) where
   helpers_placed ts fs (DerivesHelpers.one_more us ws f more d ds) h = (helper_placed us f d (front us ws h), helpers_placed ws more ds (back us ws h))
 
   helpers_faults_placed : (fs : List Helper) → HelpersPlaced fs → ((names : Sorts) → ArePlaced (helpers_faults names fs)) × ArePlaced (helpers_places fs)
-  helpers_faults_placed [] h = (λ names. tt, tt)
+  helpers_faults_placed [] h = (λ names. nothing, nothing)
   helpers_faults_placed (f ∷ fs) h =
       let more = helpers_faults_placed fs h.1 in
-      (λ names. both (helper_faults names f) (helpers_faults (sorts_after_helper names f) fs) (h.0.0 names) (more.0 (sorts_after_helper names f)), both (helper_places f) (helpers_places fs) h.0.1 more.1)
+      (λ names. both (h.0.0 names) (more.0 (sorts_after_helper names f)), both h.0.1 more.1)
 
   -- ---- kernels and programs
 
@@ -488,7 +461,7 @@ module _ (Q : Span → Type 0) where
       let behind : Laid Q (head ++ block) = rest (named x s) (head ++ block) name in
       let all_params = params_placed ps params parameters (inside mark.Open mark.Close a z ps (front head block behind)) in
       let all_items = items_placed us body items (inside mark.OpenBrace mark.CloseBrace b e us (back head block behind)) in (
-        λ names. both (unless (is_new_in names x) rule.Redeclared s) (block_faults ([] ∷ names) params body r) (unless_placed (is_new_in names x) rule.Redeclared s name.laid.2.0)
+        λ names. both (unless_placed (is_new_in names x) rule.Redeclared s name.laid.2.0)
             (block_faults_placed ([] ∷ names) params body r all_params all_items),
         (stmts_placed body all_items).1,
       )
@@ -497,7 +470,5 @@ module _ (Q : Span → Type 0) where
   program_placed ts p (DerivesProgram.program us ws fs tree ds d) h =
       let helpers = helpers_placed us fs ds (front us ws h) in
       let kernel = kernel_placed ws tree d (back us ws h) in
-      let names : Sorts = sorts_after_helpers ([] ∷ []) fs in
-      both (helpers_faults ([] ∷ []) fs ++ kernel_faults names tree) (helpers_places fs ++ stmts_places tree.body)
-      (both (helpers_faults ([] ∷ []) fs) (kernel_faults names tree) ((helpers_faults_placed fs helpers).0 ([] ∷ [])) (kernel.0 names))
-      (both (helpers_places fs) (stmts_places tree.body) (helpers_faults_placed fs helpers).1 kernel.1)
+      let placed = helpers_faults_placed fs helpers in
+      both (both (placed.0 ([] ∷ [])) (kernel.0 (sorts_after_helpers ([] ∷ []) fs))) (both placed.1 kernel.1)

@@ -1,8 +1,8 @@
 -- A program that a text spells has one fault that goes first.
-use Rattle.std.proofs.Common.{◌≡◌, ℕ, false, ◌==◌, ◌&&◌, ◌||◌, nat_lt, nat_eq, if◌then◌else◌, List, [], ◌∷◌, All, refl, sym, ap, ◌∙◌, arith}
+use Rattle.std.proofs.Common.{◌≡◌, ℕ, false, ◌==◌, ◌&&◌, ◌||◌, nat_lt, nat_eq, if◌then◌else◌, List, [], All, refl, sym, ap, ◌∙◌, arith}
 use Rattle.std.proofs.lemmas.Option.{same_Some}
 use Rattle.std.proofs.lemmas.Bool.Decides.{nat_tests}
-use Rattle.std.proofs.lemmas.List.Elements.{All-nil, All-cons, All-contains}
+use Rattle.std.proofs.lemmas.List.Elements.{All-contains}
 use Rattle.el_base.specs.declared.span.Span.{Span}
 use Rattle.c_ast.specs.declared.token.Token.{Token}
 use Rattle.c_ast.specs.declared.tree.Program.{Program}
@@ -15,7 +15,7 @@ use Rattle.c_types.specs.Places.{fault, is_before, IsFirst}
 use Rattle.c_types.specs.Refusals.{rule_number}
 use Rattle.c_types.specs.ProgramFaults.{program_faults}
 use Rattle.kernel_front.proofs.Laid.{IsPlaceOf, place_from, tokens_laid}
-use Rattle.kernel_front.proofs.FaultPlaces.{ArePlaced, program_placed}
+use Rattle.kernel_front.proofs.FaultPlaces.{program_placed}
 
 -- ---- a rule is known by its number
 
@@ -42,17 +42,13 @@ same_number a b m n h k = grind (arith, nat_tests)
 
 -- ---- the place of a fault is known by its first byte
 
-all_placed : (Q : Span → Type 0) (fs : List Fault) → ArePlaced Q fs → All (λ f. Q f.span) fs
-all_placed Q [] h = All-nil (λ f. Q f.span)
-all_placed Q (f ∷ fs) h = All-cons (λ f. Q f.span) f fs h.0 (all_placed Q fs h.1)
-
 same_span : (ts : List Token) (s z : Span) → IsPlaceOf ts s → IsPlaceOf ts z → s.start ≡ z.start → s ≡ z
 same_span ts s z h k e = same_Some s z (sym h ∙ ap (place_from ts) e ∙ k)
 
 pub one_fault : (bytes : List ℕ) (ts : List Token) (p : Program) (f g : Fault) → Tokens bytes ts → DerivesProgram ts p → IsFirst f (program_faults p) → IsFirst g (program_faults p) → f ≡ g
 one_fault bytes ts p f g read derived h k =
     let fs = program_faults p in
-    let places = all_placed (IsPlaceOf ts) fs (program_placed (IsPlaceOf ts) ts p derived (record { from = 0; laid = tokens_laid bytes ts read })) in
+    let places = (program_placed (IsPlaceOf ts) ts p derived (record { from = 0; laid = tokens_laid bytes ts read })).each in
     let not_after = All-contains (λ q. is_before q f ≡ false) fs g h.none_before k.one_of_them in
     let not_before = All-contains (λ q. is_before q g ≡ false) fs f k.none_before h.one_of_them in
     let starts : f.span.start ≡ g.span.start = same_start f.span.start g.span.start (rule_number f.rule) (rule_number g.rule) not_before not_after in

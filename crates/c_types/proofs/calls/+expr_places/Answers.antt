@@ -1,14 +1,14 @@
-use Rattle.std.proofs.Common.{false, sym, ap, ◌∙◌, take}
+use Rattle.std.proofs.Common.{false, refl, sym, ap, ◌∙◌, take}
 use Rattle.c_ast.specs.Programs.{joins_both, where_whole}
 use Rattle.c_types.specs.Places.{first_of}
 use Rattle.c_types.specs.CallPlaces.{call_places, kind_places, expr_places, exprs_places}
-use Rattle.c_types.proofs.FirstFaults.{of_two, of_three, item_more}
-use Rattle.c_types.proofs.CallLayers.{in_element, in_call, in_unary, in_cast, in_binary, in_choice, one_more_expr}
+use Rattle.c_types.proofs.FirstFaults.{of_two, of_three, one_more, item_more}
+use Rattle.c_types.proofs.CallLayers.{in_element, in_call, in_unary, in_cast, in_binary, in_choice}
 use Rattle.c_types.proofs.calls.+expr_places.Goals as goal
 
 pub of_exprs-loop-expr-preserved : goal.of_exprs-loop-expr-preserved
 of_exprs-loop-expr-preserved t c =
-    one_more_expr (take c.loop-expr.expr-index c.args.exprs.now) _ c.expr-item.result c.args.may c.loop-expr.first c.of_expr.result _
+    one_more (exprs_places c.args.may) (expr_places c.args.may) refl (λ e es. refl) (take c.loop-expr.expr-index c.args.exprs.now) _ c.expr-item.result c.loop-expr.first c.of_expr.result _
     (item_more c.args.exprs.now c.loop-expr.expr-index c.expr-item.result c.loop-expr-test.true c.expr-item.is) c.loop-expr.invariant c.of_expr.ensures c.earlier-first.ensures
 
 pub of_expr-returns-in-Element : goal.of_expr-returns-in-Element

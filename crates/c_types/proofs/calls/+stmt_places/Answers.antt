@@ -1,13 +1,13 @@
 use Rattle.std.proofs.Common.{true, false, ◌++◌, sym, ap, ◌∙◌, refl, take}
 use Rattle.c_types.specs.Places.{first_of}
 use Rattle.c_types.specs.CallPlaces.{expr_places, option_places, target_places, act_places, stmt_places, stmts_places, inner_places}
-use Rattle.c_types.proofs.FirstFaults.{of_two, of_three, item_more}
-use Rattle.c_types.proofs.CallLayers.{in_block, in_if, in_while, in_do, in_for, one_more_stmt}
+use Rattle.c_types.proofs.FirstFaults.{of_two, of_three, one_more, item_more}
+use Rattle.c_types.proofs.CallLayers.{in_block, in_if, in_while, in_do, in_for}
 use Rattle.c_types.proofs.calls.+stmt_places.Goals as goal
 
 pub of_stmts-loop-stmt-preserved : goal.of_stmts-loop-stmt-preserved
 of_stmts-loop-stmt-preserved t c =
-    one_more_stmt (take c.loop-stmt.stmt-index c.args.stmts.now) _ c.stmt-item.result c.loop-stmt.first c.of_stmt.result _
+    one_more stmts_places stmt_places refl (λ s ss. refl) (take c.loop-stmt.stmt-index c.args.stmts.now) _ c.stmt-item.result c.loop-stmt.first c.of_stmt.result _
     (item_more c.args.stmts.now c.loop-stmt.stmt-index c.stmt-item.result c.loop-stmt-test.true c.stmt-item.is) c.loop-stmt.invariant c.of_stmt.ensures c.earlier-first.ensures
 
 pub of_stmt-returns-in-Block : goal.of_stmt-returns-in-Block
