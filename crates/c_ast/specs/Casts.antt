@@ -8,7 +8,8 @@ use Rattle.el_base.specs.declared.ty.Ty.{Ty}
 use Rattle.el_base.specs.Widths.{ty_width, ty_signed}
 use Rattle.c_ast.specs.declared.tree.Unary.{Unary}
 use Rattle.c_ast.specs.declared.tree.Binary.{Binary}
-use Rattle.c_ast.specs.declared.tree.Binary.TheVariants.{Mul, Div, Rem, Add, Sub, Shl, Shr, Lt, Gt, Le, Ge, Eq, Ne, And, Xor, Or, Both, Either}
+use Rattle.c_ast.specs.declared.tree.Family.{Family}
+use Rattle.c_ast.specs.declared.tree.Family.TheVariants.{Arithmetic, Shift, Bits, Comparison, Logical}
 use Rattle.c_ast.specs.declared.tree.Param.{Param}
 use Rattle.c_ast.specs.declared.tree.Target.{Target}
 use Rattle.c_ast.specs.declared.tree.Expr.{Expr}
@@ -28,7 +29,7 @@ use Rattle.c_ast.specs.declared.typed.TypedStmt.{TypedStmt}
 use Rattle.c_ast.specs.declared.typed.TypedStmtKind.{TypedStmtKind}
 use Rattle.c_ast.specs.declared.typed.TypedStmtKind.TheVariants as act
 use Rattle.c_ast.specs.declared.typed.Typed.{Typed}
-use Rattle.c_ast.specs.ResultTypes.{promoted, usual, joint_type, result_type, unary_type}
+use Rattle.c_ast.specs.ResultTypes.{promoted, usual, family, joint_type, result_type, unary_type}
 
 -- ---- declarations in force
 
@@ -78,45 +79,25 @@ abbrev pub converted : Ty → TypedExpr → TypedExpr
 converted t e = if same_type t e.ty then e else of_type (typed.Cast true e) t e.at
 
 -- the operands of an operator: the sides of && and || stay, those of a shift are each promoted, and all others get their usual type
+abbrev pub left_of_family : Family → Ty → Ty → Ty
+left_of_family Arithmetic a b = usual a b
+left_of_family Shift a b = promoted a
+left_of_family Bits a b = usual a b
+left_of_family Comparison a b = usual a b
+left_of_family Logical a b = a
+
 abbrev pub left_type : Binary → Ty → Ty → Ty
-left_type Mul a b = usual a b
-left_type Div a b = usual a b
-left_type Rem a b = usual a b
-left_type Add a b = usual a b
-left_type Sub a b = usual a b
-left_type Shl a b = promoted a
-left_type Shr a b = promoted a
-left_type Lt a b = usual a b
-left_type Gt a b = usual a b
-left_type Le a b = usual a b
-left_type Ge a b = usual a b
-left_type Eq a b = usual a b
-left_type Ne a b = usual a b
-left_type And a b = usual a b
-left_type Xor a b = usual a b
-left_type Or a b = usual a b
-left_type Both a b = a
-left_type Either a b = a
+left_type op a b = left_of_family (family op) a b
+
+abbrev pub right_of_family : Family → Ty → Ty → Ty
+right_of_family Arithmetic a b = usual a b
+right_of_family Shift a b = promoted b
+right_of_family Bits a b = usual a b
+right_of_family Comparison a b = usual a b
+right_of_family Logical a b = b
 
 abbrev pub right_type : Binary → Ty → Ty → Ty
-right_type Mul a b = usual a b
-right_type Div a b = usual a b
-right_type Rem a b = usual a b
-right_type Add a b = usual a b
-right_type Sub a b = usual a b
-right_type Shl a b = promoted b
-right_type Shr a b = promoted b
-right_type Lt a b = usual a b
-right_type Gt a b = usual a b
-right_type Le a b = usual a b
-right_type Ge a b = usual a b
-right_type Eq a b = usual a b
-right_type Ne a b = usual a b
-right_type And a b = usual a b
-right_type Xor a b = usual a b
-right_type Or a b = usual a b
-right_type Both a b = b
-right_type Either a b = b
+right_type op a b = right_of_family (family op) a b
 
 -- ---- expressions
 

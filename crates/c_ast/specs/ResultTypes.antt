@@ -5,6 +5,8 @@ use Rattle.c_ast.specs.declared.tree.Unary.{Unary}
 use Rattle.c_ast.specs.declared.tree.Unary.TheVariants.{Plus, Minus, Flip, Not}
 use Rattle.c_ast.specs.declared.tree.Binary.{Binary}
 use Rattle.c_ast.specs.declared.tree.Binary.TheVariants.{Mul, Div, Rem, Add, Sub, Shl, Shr, Lt, Gt, Le, Ge, Eq, Ne, And, Xor, Or, Both, Either}
+use Rattle.c_ast.specs.declared.tree.Family.{Family}
+use Rattle.c_ast.specs.declared.tree.Family.TheVariants.{Arithmetic, Shift, Bits, Comparison, Logical}
 
 -- integer promotion: types of 8 and 16 bits become I32 (6.3.1.1p2)
 abbrev pub promoted : Ty → Ty
@@ -46,47 +48,48 @@ common I8 b = b
 abbrev pub usual : Ty → Ty → Ty
 usual a b = common (promoted a) (promoted b)
 
+-- the family of an operator: those of a family take their operands alike and give results of one kind
+abbrev pub family : Binary → Family
+family Mul = Arithmetic
+family Div = Arithmetic
+family Rem = Arithmetic
+family Add = Arithmetic
+family Sub = Arithmetic
+family Shl = Shift
+family Shr = Shift
+family Lt = Comparison
+family Gt = Comparison
+family Le = Comparison
+family Ge = Comparison
+family Eq = Comparison
+family Ne = Comparison
+family And = Bits
+family Xor = Bits
+family Or = Bits
+family Both = Logical
+family Either = Logical
+
 -- the type in which an operator joins operands of two types: the promoted left one for a shift, else the usual one
+abbrev pub joint_of_family : Family → Ty → Ty → Ty
+joint_of_family Arithmetic a b = usual a b
+joint_of_family Shift a b = promoted a
+joint_of_family Bits a b = usual a b
+joint_of_family Comparison a b = usual a b
+joint_of_family Logical a b = usual a b
+
 abbrev pub joint_type : Binary → Ty → Ty → Ty
-joint_type Mul a b = usual a b
-joint_type Div a b = usual a b
-joint_type Rem a b = usual a b
-joint_type Add a b = usual a b
-joint_type Sub a b = usual a b
-joint_type Shl a b = promoted a
-joint_type Shr a b = promoted a
-joint_type Lt a b = usual a b
-joint_type Gt a b = usual a b
-joint_type Le a b = usual a b
-joint_type Ge a b = usual a b
-joint_type Eq a b = usual a b
-joint_type Ne a b = usual a b
-joint_type And a b = usual a b
-joint_type Xor a b = usual a b
-joint_type Or a b = usual a b
-joint_type Both a b = usual a b
-joint_type Either a b = usual a b
+joint_type op a b = joint_of_family (family op) a b
 
 -- the type of a result: that in which the operands are joined, or I32 for what is 1 or 0
+abbrev pub result_of_family : Family → Ty → Ty
+result_of_family Arithmetic t = t
+result_of_family Shift t = t
+result_of_family Bits t = t
+result_of_family Comparison t = I32
+result_of_family Logical t = I32
+
 abbrev pub result_type : Binary → Ty → Ty
-result_type Mul t = t
-result_type Div t = t
-result_type Rem t = t
-result_type Add t = t
-result_type Sub t = t
-result_type Shl t = t
-result_type Shr t = t
-result_type Lt t = I32
-result_type Gt t = I32
-result_type Le t = I32
-result_type Ge t = I32
-result_type Eq t = I32
-result_type Ne t = I32
-result_type And t = t
-result_type Xor t = t
-result_type Or t = t
-result_type Both t = I32
-result_type Either t = I32
+result_type op t = result_of_family (family op) t
 
 -- the same of an operator on one operand of a promoted type
 abbrev pub unary_type : Unary → Ty → Ty

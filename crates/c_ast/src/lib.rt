@@ -26,10 +26,10 @@ pub use normal::{Normal, NormalStmt, NormalStmtKind};
 pub use program::{
     ProgExpr, ProgExprKind, ProgStmt, ProgStmtKind, ProgTarget, ProgTree, TypedHelper, TypedProgram,
 };
-pub use results::{joint_type, promoted, result_type, unary_type, usual};
+pub use results::{family, joint_type, promoted, result_type, unary_type, usual};
 pub use token::{Token, Word};
 pub use tree::{
-    Binary, Expr, ExprKind, Helper, Param, Program, Stmt, StmtKind, Target, Tree, Unary,
+    Binary, Expr, ExprKind, Family, Helper, Param, Program, Stmt, StmtKind, Target, Tree, Unary,
 };
 pub use typed::{
     ArrayOf, Object, Typed, TypedExpr, TypedExprKind, TypedStmt, TypedStmtKind, TypedTarget,

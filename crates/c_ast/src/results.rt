@@ -5,12 +5,13 @@ ghost use Rattle.c_ast.specs.ResultTypes.{
   promoted,
   common,
   usual,
+  family,
   joint_type,
   result_type,
   unary_type,
 };
 
-use crate::tree::{Binary, Unary};
+use crate::tree::{Binary, Family, Unary};
 use el_base::Ty;
 
 /// The type after integer promotion.
@@ -63,28 +64,29 @@ pub fn usual(left: Ty, right: Ty) -> Ty
     common(promoted(left), promoted(right))
 }
 
+/// The family of an operator.
+pub fn family(op: Binary) -> Family
+    ensures { result ≡ family op }
+{
+    match op {
+        Binary::Mul | Binary::Div | Binary::Rem | Binary::Add | Binary::Sub => Family::Arithmetic,
+        Binary::Shl | Binary::Shr => Family::Shift,
+        Binary::Lt | Binary::Gt | Binary::Le | Binary::Ge | Binary::Eq | Binary::Ne =>
+            Family::Comparison,
+        Binary::And | Binary::Xor | Binary::Or => Family::Bits,
+        Binary::Both | Binary::Either => Family::Logical,
+    }
+}
+
 /// The type in which an operator joins its operands.
 pub fn joint_type(op: Binary, left: Ty, right: Ty) -> Ty
     ensures { result ≡ joint_type op left right }
 {
-    match op {
-        Binary::Shl | Binary::Shr => promoted(left),
-        Binary::Mul
-        | Binary::Div
-        | Binary::Rem
-        | Binary::Add
-        | Binary::Sub
-        | Binary::Lt
-        | Binary::Gt
-        | Binary::Le
-        | Binary::Ge
-        | Binary::Eq
-        | Binary::Ne
-        | Binary::And
-        | Binary::Xor
-        | Binary::Or
-        | Binary::Both
-        | Binary::Either => usual(left, right),
+    match family(op) {
+        Family::Shift => promoted(left),
+        Family::Arithmetic | Family::Bits | Family::Comparison | Family::Logical => usual(
+            left, right,
+        ),
     }
 }
 
@@ -92,25 +94,9 @@ pub fn joint_type(op: Binary, left: Ty, right: Ty) -> Ty
 pub fn result_type(op: Binary, ty: Ty) -> Ty
     ensures { result ≡ result_type op ty }
 {
-    match op {
-        Binary::Lt
-        | Binary::Gt
-        | Binary::Le
-        | Binary::Ge
-        | Binary::Eq
-        | Binary::Ne
-        | Binary::Both
-        | Binary::Either => Ty::I32,
-        Binary::Mul
-        | Binary::Div
-        | Binary::Rem
-        | Binary::Add
-        | Binary::Sub
-        | Binary::Shl
-        | Binary::Shr
-        | Binary::And
-        | Binary::Xor
-        | Binary::Or => ty,
+    match family(op) {
+        Family::Comparison | Family::Logical => Ty::I32,
+        Family::Arithmetic | Family::Shift | Family::Bits => ty,
     }
 }
 

@@ -268,6 +268,21 @@ pub enum Unary {
     Not,
 }
 
+/// The families of binary operators: those of a family take their operands alike and give results of one kind.
+#[derive(Clone, Copy, Debug, PartialEq, Eq)]
+pub enum Family {
+    /// `*`, `/`, `%`, `+` and `-`
+    Arithmetic,
+    /// `<<` and `>>`
+    Shift,
+    /// `&`, `^` and `|`
+    Bits,
+    /// `<`, `>`, `<=`, `>=`, `==` and `!=`
+    Comparison,
+    /// `&&` and `||`
+    Logical,
+}
+
 /// The binary operators (ISO/IEC 9899:1999 6.5.5 to 6.5.14).
 #[derive(Clone, Copy, Debug, PartialEq, Eq)]
 pub enum Binary {

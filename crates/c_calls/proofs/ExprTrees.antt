@@ -44,24 +44,9 @@ data Operator : Binary → Type 0 where
   either : Operator op.Either
 
 operator : (o : Binary) → Operator o
-operator op.Mul = strict op.Mul refl (λ p ty at a b s. refl)
-operator op.Div = strict op.Div refl (λ p ty at a b s. refl)
-operator op.Rem = strict op.Rem refl (λ p ty at a b s. refl)
-operator op.Add = strict op.Add refl (λ p ty at a b s. refl)
-operator op.Sub = strict op.Sub refl (λ p ty at a b s. refl)
-operator op.Shl = strict op.Shl refl (λ p ty at a b s. refl)
-operator op.Shr = strict op.Shr refl (λ p ty at a b s. refl)
-operator op.Lt = strict op.Lt refl (λ p ty at a b s. refl)
-operator op.Gt = strict op.Gt refl (λ p ty at a b s. refl)
-operator op.Le = strict op.Le refl (λ p ty at a b s. refl)
-operator op.Ge = strict op.Ge refl (λ p ty at a b s. refl)
-operator op.Eq = strict op.Eq refl (λ p ty at a b s. refl)
-operator op.Ne = strict op.Ne refl (λ p ty at a b s. refl)
-operator op.And = strict op.And refl (λ p ty at a b s. refl)
-operator op.Xor = strict op.Xor refl (λ p ty at a b s. refl)
-operator op.Or = strict op.Or refl (λ p ty at a b s. refl)
 operator op.Both = both
 operator op.Either = either
+operator o = strict o refl (λ p ty at a b s. refl)
 
 one_of_same : (z : Bool) (a b a2 b2 : Meaning) (s r : Store) → a2 r ≡ a s → b2 r ≡ b s → one_of z a2 b2 r ≡ one_of z a b s
 one_of_same true a b a2 b2 s r x y = x

@@ -5,30 +5,22 @@ use Rattle.el_base.specs.declared.ty.Ty.{Ty}
 use Rattle.c_ast.specs.declared.tree.Unary.{Unary}
 use Rattle.c_ast.specs.declared.tree.Unary.TheVariants.{Plus, Minus, Flip, Not}
 use Rattle.c_ast.specs.declared.tree.Binary.{Binary}
-use Rattle.c_ast.specs.declared.tree.Binary.TheVariants.{Mul, Div, Rem, Add, Sub, Shl, Shr, Lt, Gt, Le, Ge, Eq, Ne, And, Xor, Or, Both, Either}
-use Rattle.c_ast.specs.ResultTypes.{promoted}
+use Rattle.c_ast.specs.declared.tree.Binary.TheVariants.{Mul, Div, Rem, Add, Sub, Lt, Gt, Le, Ge, Eq, Ne, And, Xor, Or}
+use Rattle.c_ast.specs.declared.tree.Family.{Family}
+use Rattle.c_ast.specs.declared.tree.Family.TheVariants.{Arithmetic, Shift, Bits, Comparison, Logical}
+use Rattle.c_ast.specs.ResultTypes.{family, promoted}
 use Rattle.c_meaning.specs.Patterns.{KeepsPatterns, KeepsPattern}
 
 -- an operator that evaluates both operands, and is no shift
+abbrev pub plain_in : Family → Bool
+plain_in Arithmetic = true
+plain_in Shift = false
+plain_in Bits = true
+plain_in Comparison = true
+plain_in Logical = false
+
 abbrev pub is_plain : Binary → Bool
-is_plain Mul = true
-is_plain Div = true
-is_plain Rem = true
-is_plain Add = true
-is_plain Sub = true
-is_plain Shl = false
-is_plain Shr = false
-is_plain Lt = true
-is_plain Gt = true
-is_plain Le = true
-is_plain Ge = true
-is_plain Eq = true
-is_plain Ne = true
-is_plain And = true
-is_plain Xor = true
-is_plain Or = true
-is_plain Both = false
-is_plain Either = false
+is_plain op = plain_in (family op)
 
 abbrev pub Two : Binary → Type 0
 Two op = (t : Ty) → KeepsPatterns op (promoted t)
@@ -42,8 +34,6 @@ plain_laws l_mul l_div l_rem l_add l_sub l_lt l_gt l_le l_ge l_eq l_ne l_and l_x
 plain_laws l_mul l_div l_rem l_add l_sub l_lt l_gt l_le l_ge l_eq l_ne l_and l_xor l_or Rem t e = l_rem t
 plain_laws l_mul l_div l_rem l_add l_sub l_lt l_gt l_le l_ge l_eq l_ne l_and l_xor l_or Add t e = l_add t
 plain_laws l_mul l_div l_rem l_add l_sub l_lt l_gt l_le l_ge l_eq l_ne l_and l_xor l_or Sub t e = l_sub t
-plain_laws l_mul l_div l_rem l_add l_sub l_lt l_gt l_le l_ge l_eq l_ne l_and l_xor l_or Shl t e = absurd (cc)
-plain_laws l_mul l_div l_rem l_add l_sub l_lt l_gt l_le l_ge l_eq l_ne l_and l_xor l_or Shr t e = absurd (cc)
 plain_laws l_mul l_div l_rem l_add l_sub l_lt l_gt l_le l_ge l_eq l_ne l_and l_xor l_or Lt t e = l_lt t
 plain_laws l_mul l_div l_rem l_add l_sub l_lt l_gt l_le l_ge l_eq l_ne l_and l_xor l_or Gt t e = l_gt t
 plain_laws l_mul l_div l_rem l_add l_sub l_lt l_gt l_le l_ge l_eq l_ne l_and l_xor l_or Le t e = l_le t
@@ -53,8 +43,7 @@ plain_laws l_mul l_div l_rem l_add l_sub l_lt l_gt l_le l_ge l_eq l_ne l_and l_x
 plain_laws l_mul l_div l_rem l_add l_sub l_lt l_gt l_le l_ge l_eq l_ne l_and l_xor l_or And t e = l_and t
 plain_laws l_mul l_div l_rem l_add l_sub l_lt l_gt l_le l_ge l_eq l_ne l_and l_xor l_or Xor t e = l_xor t
 plain_laws l_mul l_div l_rem l_add l_sub l_lt l_gt l_le l_ge l_eq l_ne l_and l_xor l_or Or t e = l_or t
-plain_laws l_mul l_div l_rem l_add l_sub l_lt l_gt l_le l_ge l_eq l_ne l_and l_xor l_or Both t e = absurd (cc)
-plain_laws l_mul l_div l_rem l_add l_sub l_lt l_gt l_le l_ge l_eq l_ne l_and l_xor l_or Either t e = absurd (cc)
+plain_laws l_mul l_div l_rem l_add l_sub l_lt l_gt l_le l_ge l_eq l_ne l_and l_xor l_or op t e = absurd (cc)
 
 pub unary_laws : One Plus → One Minus → One Flip → One Not → (op : Unary) (t : Ty) → KeepsPattern op (promoted t)
 unary_laws p m f n Plus t = p t

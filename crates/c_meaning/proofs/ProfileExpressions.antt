@@ -63,23 +63,10 @@ module _ (stays : StaysInRange) where
 
   pub operators_agree : OperatorsAgree IsDefined Plain Wrap
   operators_agree op.Mul t at x y = fit_same t at (x *ℤ y)
-  operators_agree op.Div t at x y = same_number IsDefined at (binary_value Plain op.Div t x y)
-  operators_agree op.Rem t at x y = same_number IsDefined at (binary_value Plain op.Rem t x y)
   operators_agree op.Add t at x y = fit_same t at (x +ℤ y)
   operators_agree op.Sub t at x y = fit_same t at (x -ℤ y)
   operators_agree op.Shl t at x y = shift_same t at x (amount t y)
-  operators_agree op.Shr t at x y = same_number IsDefined at (binary_value Plain op.Shr t x y)
-  operators_agree op.Lt t at x y = refl
-  operators_agree op.Gt t at x y = refl
-  operators_agree op.Le t at x y = refl
-  operators_agree op.Ge t at x y = refl
-  operators_agree op.Eq t at x y = refl
-  operators_agree op.Ne t at x y = refl
-  operators_agree op.And t at x y = refl
-  operators_agree op.Xor t at x y = refl
-  operators_agree op.Or t at x y = refl
-  operators_agree op.Both t at x y = none_same at None
-  operators_agree op.Either t at x y = none_same at None
+  operators_agree o t at x y = same_number IsDefined at (binary_value Plain o t x y)
 
   unary_agree : (o : Unary) (t : Ty) (at : Span) (x : ℤ) → SameNumber IsDefined at (unary_value Plain o t x) (unary_value Wrap o t x)
   unary_agree unary.Plus t at x = refl
@@ -123,22 +110,7 @@ module _ (stays : StaysInRange) where
   binary_same : (o : Binary) (t : Ty) (at : Span) (a b c d : Meaning) → SameMeaning IsDefined a b → SameMeaning IsDefined c d → SameMeaning IsDefined (binary_meaning Plain o t at a c) (binary_meaning Wrap o t at b d)
   binary_same op.Both t at a b c d g h s = chosen_same (a s) (b s) (λ s. as_truth (c s)) (λ s. as_truth (d s)) (always (pos 0)) (always (pos 0)) s (g s) (λ s. truth_same (c s) (d s) (h s)) (always_same (pos 0))
   binary_same op.Either t at a b c d g h s = chosen_same (a s) (b s) (always (pos 1)) (always (pos 1)) (λ s. as_truth (c s)) (λ s. as_truth (d s)) s (g s) (always_same (pos 1)) (λ s. truth_same (c s) (d s) (h s))
-  binary_same op.Mul t at a b c d g h s = two_same at (binary_value Plain op.Mul t) (binary_value Wrap op.Mul t) (a s) (b s) (c s) (d s) (operators_agree op.Mul t at) (g s) (h s)
-  binary_same op.Div t at a b c d g h s = two_same at (binary_value Plain op.Div t) (binary_value Wrap op.Div t) (a s) (b s) (c s) (d s) (operators_agree op.Div t at) (g s) (h s)
-  binary_same op.Rem t at a b c d g h s = two_same at (binary_value Plain op.Rem t) (binary_value Wrap op.Rem t) (a s) (b s) (c s) (d s) (operators_agree op.Rem t at) (g s) (h s)
-  binary_same op.Add t at a b c d g h s = two_same at (binary_value Plain op.Add t) (binary_value Wrap op.Add t) (a s) (b s) (c s) (d s) (operators_agree op.Add t at) (g s) (h s)
-  binary_same op.Sub t at a b c d g h s = two_same at (binary_value Plain op.Sub t) (binary_value Wrap op.Sub t) (a s) (b s) (c s) (d s) (operators_agree op.Sub t at) (g s) (h s)
-  binary_same op.Shl t at a b c d g h s = two_same at (binary_value Plain op.Shl t) (binary_value Wrap op.Shl t) (a s) (b s) (c s) (d s) (operators_agree op.Shl t at) (g s) (h s)
-  binary_same op.Shr t at a b c d g h s = two_same at (binary_value Plain op.Shr t) (binary_value Wrap op.Shr t) (a s) (b s) (c s) (d s) (operators_agree op.Shr t at) (g s) (h s)
-  binary_same op.Lt t at a b c d g h s = two_same at (binary_value Plain op.Lt t) (binary_value Wrap op.Lt t) (a s) (b s) (c s) (d s) (operators_agree op.Lt t at) (g s) (h s)
-  binary_same op.Gt t at a b c d g h s = two_same at (binary_value Plain op.Gt t) (binary_value Wrap op.Gt t) (a s) (b s) (c s) (d s) (operators_agree op.Gt t at) (g s) (h s)
-  binary_same op.Le t at a b c d g h s = two_same at (binary_value Plain op.Le t) (binary_value Wrap op.Le t) (a s) (b s) (c s) (d s) (operators_agree op.Le t at) (g s) (h s)
-  binary_same op.Ge t at a b c d g h s = two_same at (binary_value Plain op.Ge t) (binary_value Wrap op.Ge t) (a s) (b s) (c s) (d s) (operators_agree op.Ge t at) (g s) (h s)
-  binary_same op.Eq t at a b c d g h s = two_same at (binary_value Plain op.Eq t) (binary_value Wrap op.Eq t) (a s) (b s) (c s) (d s) (operators_agree op.Eq t at) (g s) (h s)
-  binary_same op.Ne t at a b c d g h s = two_same at (binary_value Plain op.Ne t) (binary_value Wrap op.Ne t) (a s) (b s) (c s) (d s) (operators_agree op.Ne t at) (g s) (h s)
-  binary_same op.And t at a b c d g h s = two_same at (binary_value Plain op.And t) (binary_value Wrap op.And t) (a s) (b s) (c s) (d s) (operators_agree op.And t at) (g s) (h s)
-  binary_same op.Xor t at a b c d g h s = two_same at (binary_value Plain op.Xor t) (binary_value Wrap op.Xor t) (a s) (b s) (c s) (d s) (operators_agree op.Xor t at) (g s) (h s)
-  binary_same op.Or t at a b c d g h s = two_same at (binary_value Plain op.Or t) (binary_value Wrap op.Or t) (a s) (b s) (c s) (d s) (operators_agree op.Or t at) (g s) (h s)
+  binary_same o t at a b c d g h s = two_same at (binary_value Plain o t) (binary_value Wrap o t) (a s) (b s) (c s) (d s) (operators_agree o t at) (g s) (h s)
 
   -- ---- whole trees
 

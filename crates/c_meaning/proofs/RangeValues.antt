@@ -98,24 +98,9 @@ module _ (laws : PatternLaws) (k : Objects) where
   strict_in o t a b at v w h i = two_in t a at (binary_value k.profile o t) v w (λ x y r. binary_in laws k.profile o t a b x y h.0 h.2 r) i
 
   binary_val : (o : Binary) (t a b : Ty) (at : Span) (m n : Meaning) (s : Store) → AreOperands o a b t → ValIn a (m s) → ValIn t (binary_meaning k.profile o t at m n s)
-  binary_val op.Mul t a b at m n s h i = strict_in op.Mul t a b at (m s) (n s) h i
-  binary_val op.Div t a b at m n s h i = strict_in op.Div t a b at (m s) (n s) h i
-  binary_val op.Rem t a b at m n s h i = strict_in op.Rem t a b at (m s) (n s) h i
-  binary_val op.Add t a b at m n s h i = strict_in op.Add t a b at (m s) (n s) h i
-  binary_val op.Sub t a b at m n s h i = strict_in op.Sub t a b at (m s) (n s) h i
-  binary_val op.Shl t a b at m n s h i = strict_in op.Shl t a b at (m s) (n s) h i
-  binary_val op.Shr t a b at m n s h i = strict_in op.Shr t a b at (m s) (n s) h i
-  binary_val op.Lt t a b at m n s h i = strict_in op.Lt t a b at (m s) (n s) h i
-  binary_val op.Gt t a b at m n s h i = strict_in op.Gt t a b at (m s) (n s) h i
-  binary_val op.Le t a b at m n s h i = strict_in op.Le t a b at (m s) (n s) h i
-  binary_val op.Ge t a b at m n s h i = strict_in op.Ge t a b at (m s) (n s) h i
-  binary_val op.Eq t a b at m n s h i = strict_in op.Eq t a b at (m s) (n s) h i
-  binary_val op.Ne t a b at m n s h i = strict_in op.Ne t a b at (m s) (n s) h i
-  binary_val op.And t a b at m n s h i = strict_in op.And t a b at (m s) (n s) h i
-  binary_val op.Xor t a b at m n s h i = strict_in op.Xor t a b at (m s) (n s) h i
-  binary_val op.Or t a b at m n s h i = strict_in op.Or t a b at (m s) (n s) h i
   binary_val op.Both t a b at m n s h i = chosen_in t (m s) (λ r. as_truth (n r)) (always (pos 0)) s (truth_val t (n s) h.2) (sides_in laws t false h.2)
   binary_val op.Either t a b at m n s h i = chosen_in t (m s) (always (pos 1)) (λ r. as_truth (n r)) s (sides_in laws t true h.2) (truth_val t (n s) h.2)
+  binary_val o t a b at m n s h i = strict_in o t a b at (m s) (n s) h i
 
   pub kind_in : (e : TypedExprKind) (t : Ty) (at : Span) → LawfulKind k e t → MeansIn k t (kind_meaning k e t at)
   kind_in (tree.Number n) t at h s f = h

@@ -43,24 +43,9 @@ module _ (s r : Store) where
   two_agrees at f a b g h = ap (λ v. on_two at f v (b s)) g ∙ ap (λ v. on_two at f (a r) v) h
 
   binary_agrees : (p : Profile) (o : Binary) (t : Ty) (at : Span) (a b : Meaning) → a s ≡ a r → b s ≡ b r → binary_meaning p o t at a b s ≡ binary_meaning p o t at a b r
-  binary_agrees p op.Mul t at a b g h = two_agrees at (binary_value p op.Mul t) a b g h
-  binary_agrees p op.Div t at a b g h = two_agrees at (binary_value p op.Div t) a b g h
-  binary_agrees p op.Rem t at a b g h = two_agrees at (binary_value p op.Rem t) a b g h
-  binary_agrees p op.Add t at a b g h = two_agrees at (binary_value p op.Add t) a b g h
-  binary_agrees p op.Sub t at a b g h = two_agrees at (binary_value p op.Sub t) a b g h
-  binary_agrees p op.Shl t at a b g h = two_agrees at (binary_value p op.Shl t) a b g h
-  binary_agrees p op.Shr t at a b g h = two_agrees at (binary_value p op.Shr t) a b g h
-  binary_agrees p op.Lt t at a b g h = two_agrees at (binary_value p op.Lt t) a b g h
-  binary_agrees p op.Gt t at a b g h = two_agrees at (binary_value p op.Gt t) a b g h
-  binary_agrees p op.Le t at a b g h = two_agrees at (binary_value p op.Le t) a b g h
-  binary_agrees p op.Ge t at a b g h = two_agrees at (binary_value p op.Ge t) a b g h
-  binary_agrees p op.Eq t at a b g h = two_agrees at (binary_value p op.Eq t) a b g h
-  binary_agrees p op.Ne t at a b g h = two_agrees at (binary_value p op.Ne t) a b g h
-  binary_agrees p op.And t at a b g h = two_agrees at (binary_value p op.And t) a b g h
-  binary_agrees p op.Xor t at a b g h = two_agrees at (binary_value p op.Xor t) a b g h
-  binary_agrees p op.Or t at a b g h = two_agrees at (binary_value p op.Or t) a b g h
   binary_agrees p op.Both t at a b g h = choice_agrees a (λ x. as_truth (b x)) (always (pos 0)) g (ap as_truth h) refl
   binary_agrees p op.Either t at a b g h = choice_agrees a (always (pos 1)) (λ x. as_truth (b x)) g refl (ap as_truth h)
+  binary_agrees p o t at a b g h = two_agrees at (binary_value p o t) a b g h
 
   -- the elements of a store are those of its arrays
   abbrev element_of : List (List ℤ) → ℕ → Option ℕ → Option ℤ

@@ -5,11 +5,12 @@ use Rattle.std.specs.Prelude.{Bool, true, false, Option, Some, None, if◌then�
 use Rattle.el_base.specs.declared.ty.Ty.{Ty}
 use Rattle.el_base.specs.declared.ty.Ty.TheVariants.{I8, U8, I16, U16, I32, U32, I64, U64}
 use Rattle.c_ast.specs.declared.tree.Binary.{Binary}
-use Rattle.c_ast.specs.declared.tree.Binary.TheVariants as op
+use Rattle.c_ast.specs.declared.tree.Family.{Family}
+use Rattle.c_ast.specs.declared.tree.Family.TheVariants.{Arithmetic, Shift, Bits, Comparison, Logical}
 use Rattle.c_ast.specs.declared.typed.TypedExpr.{TypedExpr}
 use Rattle.c_ast.specs.declared.typed.TypedExprKind.TheVariants as typed
-use Rattle.c_ast.specs.Casts.{same_type, of_type, converted, left_type, right_type, assigned_type}
-use Rattle.c_ast.specs.ResultTypes.{promoted, usual, joint_type, result_type}
+use Rattle.c_ast.specs.Casts.{same_type, of_type, converted, left_of_family, left_type, right_of_family, right_type, assigned_type}
+use Rattle.c_ast.specs.ResultTypes.{promoted, usual, family, joint_of_family, joint_type, result_of_family, result_type}
 use Rattle.c_meaning.specs.Lawful.{AreOperands}
 
 pub promoted_twice : (t : Ty) → promoted (promoted t) ≡ promoted t
@@ -58,49 +59,27 @@ truth_operands a b t = (sym (usual_self a b), sym (usual_self a b), refl)
 shift_operands : (a b : Ty) → (promoted a ≡ promoted (promoted a)) × (promoted b ≡ promoted (promoted b)) × (promoted a ≡ promoted (promoted a))
 shift_operands a b = (sym (promoted_twice a), sym (promoted_twice b), sym (promoted_twice a))
 
-pub operands_are : (o : Binary) (a b : Ty) → AreOperands o (left_type o a b) (right_type o a b) (result_type o (joint_type o a b))
-operands_are op.Mul a b = number_operands a b
-operands_are op.Div a b = number_operands a b
-operands_are op.Rem a b = number_operands a b
-operands_are op.Add a b = number_operands a b
-operands_are op.Sub a b = number_operands a b
-operands_are op.Shl a b = shift_operands a b
-operands_are op.Shr a b = shift_operands a b
-operands_are op.Lt a b = truth_operands a b I32
-operands_are op.Gt a b = truth_operands a b I32
-operands_are op.Le a b = truth_operands a b I32
-operands_are op.Ge a b = truth_operands a b I32
-operands_are op.Eq a b = truth_operands a b I32
-operands_are op.Ne a b = truth_operands a b I32
-operands_are op.And a b = number_operands a b
-operands_are op.Xor a b = number_operands a b
-operands_are op.Or a b = number_operands a b
-operands_are op.Both a b = (refl, refl, refl)
-operands_are op.Either a b = (refl, refl, refl)
+operands_in : (f : Family) (a b : Ty) → (left_of_family f a b ≡ left_of_family f (left_of_family f a b) (right_of_family f a b))
+    × (right_of_family f a b ≡ right_of_family f (left_of_family f a b) (right_of_family f a b)) × (result_of_family f (joint_of_family f a b) ≡ result_of_family f (joint_of_family f (left_of_family f a b) (right_of_family f a b)))
+operands_in Arithmetic a b = number_operands a b
+operands_in Shift a b = shift_operands a b
+operands_in Bits a b = number_operands a b
+operands_in Comparison a b = truth_operands a b I32
+operands_in Logical a b = (refl, refl, refl)
 
-right_twice : (o : Binary) (t u : Ty) → right_type o t u ≡ right_type o t (right_type o t u)
-right_twice op.Both t u = refl
-right_twice op.Either t u = refl
-right_twice op.Shl t u = sym (promoted_twice u)
-right_twice op.Shr t u = sym (promoted_twice u)
-right_twice op.Mul t u = sym (usual_right t u)
-right_twice op.Div t u = sym (usual_right t u)
-right_twice op.Rem t u = sym (usual_right t u)
-right_twice op.Add t u = sym (usual_right t u)
-right_twice op.Sub t u = sym (usual_right t u)
-right_twice op.Lt t u = sym (usual_right t u)
-right_twice op.Gt t u = sym (usual_right t u)
-right_twice op.Le t u = sym (usual_right t u)
-right_twice op.Ge t u = sym (usual_right t u)
-right_twice op.Eq t u = sym (usual_right t u)
-right_twice op.Ne t u = sym (usual_right t u)
-right_twice op.And t u = sym (usual_right t u)
-right_twice op.Xor t u = sym (usual_right t u)
-right_twice op.Or t u = sym (usual_right t u)
+pub operands_are : (o : Binary) (a b : Ty) → AreOperands o (left_type o a b) (right_type o a b) (result_type o (joint_type o a b))
+operands_are o a b = operands_in (family o) a b
+
+right_twice : (f : Family) (t u : Ty) → right_of_family f t u ≡ right_of_family f t (right_of_family f t u)
+right_twice Arithmetic t u = sym (usual_right t u)
+right_twice Shift t u = sym (promoted_twice u)
+right_twice Bits t u = sym (usual_right t u)
+right_twice Comparison t u = sym (usual_right t u)
+right_twice Logical t u = refl
 
 pub assigned_twice : (o : Option Binary) (t u : Ty) → assigned_type o t u ≡ assigned_type o t (assigned_type o t u)
 assigned_twice None t u = refl
-assigned_twice (Some o) t u = right_twice o t u
+assigned_twice (Some o) t u = right_twice (family o) t u
 
 -- ---- conversions
 

@@ -2,7 +2,9 @@
 use Rattle.std.specs.Prelude.{◌≡◌, ℕ, zero, suc, ◌+◌, List, [], ◌∷◌, map, flat_map, ℤ, Bool, true, false, Option, Some, None}
 use mathlib.Core.Former.{Count}
 use Rattle.c_ast.specs.declared.tree.Binary.{Binary}
-use Rattle.c_ast.specs.declared.tree.Binary.TheVariants.{Mul, Div, Rem, Add, Sub, Shl, Shr, Lt, Gt, Le, Ge, Eq, Ne, And, Xor, Or, Both, Either}
+use Rattle.c_ast.specs.declared.tree.Family.{Family}
+use Rattle.c_ast.specs.declared.tree.Family.TheVariants.{Arithmetic, Shift, Bits, Comparison, Logical}
+use Rattle.c_ast.specs.ResultTypes.{family}
 use Rattle.c_ast.specs.declared.typed.TypedTarget.{TypedTarget}
 use Rattle.c_ast.specs.declared.typed.TypedExpr.{TypedExpr}
 use Rattle.c_ast.specs.declared.typed.TypedExprKind.{TypedExprKind, Row_of-TypedExpr, end_of-TypedExpr, more_of-TypedExpr}
@@ -24,25 +26,15 @@ use Rattle.c_meaning.specs.Bounds.{IsOver}
 -- ---- the price of expressions
 
 -- what an operator costs besides its node: 1 for a shift, and 2 for each side of && and ||
+abbrev pub price_of_family : Family → ℕ
+price_of_family Arithmetic = 0
+price_of_family Shift = 1
+price_of_family Bits = 0
+price_of_family Comparison = 0
+price_of_family Logical = 4
+
 abbrev pub operator_price : Binary → ℕ
-operator_price Mul = 0
-operator_price Div = 0
-operator_price Rem = 0
-operator_price Add = 0
-operator_price Sub = 0
-operator_price Shl = 1
-operator_price Shr = 1
-operator_price Lt = 0
-operator_price Gt = 0
-operator_price Le = 0
-operator_price Ge = 0
-operator_price Eq = 0
-operator_price Ne = 0
-operator_price And = 0
-operator_price Xor = 0
-operator_price Or = 0
-operator_price Both = 4
-operator_price Either = 4
+operator_price op = price_of_family (family op)
 
 abbrev mutual
   -- 1 for each node, casts that are implied among them, and 2 more for the first part of ?:

@@ -5,7 +5,8 @@ use Rattle.el_base.specs.declared.ty.Ty.{Ty}
 use Rattle.el_base.specs.Limits.{max_dimensions, max_elements}
 use Rattle.el_base.specs.Numbers.{IsInRange}
 use Rattle.c_ast.specs.declared.tree.Binary.{Binary as BinaryOp}
-use Rattle.c_ast.specs.declared.tree.Binary.TheVariants.{Mul, Div, Rem, Add, Sub, Shl, Shr, Lt, Gt, Le, Ge, Eq, Ne, And, Xor, Or, Both, Either}
+use Rattle.c_ast.specs.declared.tree.Family.{Family}
+use Rattle.c_ast.specs.declared.tree.Family.TheVariants.{Arithmetic, Shift, Bits, Comparison, Logical}
 use Rattle.c_ast.specs.declared.tree.Param.{Param}
 use Rattle.c_ast.specs.declared.typed.ArrayOf.{ArrayOf}
 use Rattle.c_ast.specs.declared.typed.Object.{Object}
@@ -22,7 +23,7 @@ use Rattle.c_ast.specs.declared.normal.Normal.{Normal}
 use Rattle.c_ast.specs.declared.normal.NormalStmt.{NormalStmt}
 use Rattle.c_ast.specs.declared.normal.NormalStmtKind.{NormalStmtKind, Row_of-NormalStmt, end_of-NormalStmt, more_of-NormalStmt, Held-NormalStmtKind-If-3}
 use Rattle.c_ast.specs.declared.normal.NormalStmtKind as step
-use Rattle.c_ast.specs.ResultTypes.{promoted, usual, joint_type, result_type, unary_type}
+use Rattle.c_ast.specs.ResultTypes.{family, promoted, usual, joint_type, result_type, unary_type}
 use Rattle.c_meaning.specs.declared.profile.Profile.{Profile}
 use Rattle.c_meaning.specs.Quiet.{Quiet}
 use Rattle.c_meaning.specs.Stores.{Objects, elements, scalar_types}
@@ -180,25 +181,15 @@ abbrev mutual
   ReadsNone (tree.Choose' b (more_of-TypedExpr e u at end_of-TypedExpr) b2 (more_of-TypedExpr e2 u2 at2 end_of-TypedExpr) b3 (more_of-TypedExpr e3 u3 at3 end_of-TypedExpr)) =
       ReadsNone e × ReadsNone e2 × ReadsNone e3
 
+abbrev pub is_logical : Family → Bool
+is_logical Arithmetic = false
+is_logical Shift = false
+is_logical Bits = false
+is_logical Comparison = false
+is_logical Logical = true
+
 abbrev pub both_or_either : BinaryOp → Bool
-both_or_either Mul = false
-both_or_either Div = false
-both_or_either Rem = false
-both_or_either Add = false
-both_or_either Sub = false
-both_or_either Shl = false
-both_or_either Shr = false
-both_or_either Lt = false
-both_or_either Gt = false
-both_or_either Le = false
-both_or_either Ge = false
-both_or_either Eq = false
-both_or_either Ne = false
-both_or_either And = false
-both_or_either Xor = false
-both_or_either Or = false
-both_or_either Both = true
-both_or_either Either = true
+both_or_either op = is_logical (family op)
 
 -- a side of && or || reads no array
 abbrev pub SidesReadNone : Bool → TypedExprKind → TypedExprKind → Type 0

@@ -3,34 +3,26 @@ use Rattle.std.proofs.Common.{◌≡◌, ℕ, ◌+◌, ◌*◌, ◌≤◌, refl,
 use Rattle.std.specs.Prelude.{Bool, true, false}
 use mathlib.Core.Former.{Count}
 use Rattle.c_ast.specs.declared.tree.Binary.{Binary}
-use Rattle.c_ast.specs.declared.tree.Binary.TheVariants.{Mul, Div, Rem, Add, Sub, Shl, Shr, Lt, Gt, Le, Ge, Eq, Ne, And, Xor, Or, Both, Either}
+use Rattle.c_ast.specs.declared.tree.Family.{Family}
+use Rattle.c_ast.specs.declared.tree.Family.TheVariants.{Arithmetic, Shift, Bits, Comparison, Logical}
+use Rattle.c_ast.specs.ResultTypes.{family}
 use Rattle.c_ast.specs.declared.typed.TypedExprKind.{TypedExprKind, Row_of-TypedExpr, end_of-TypedExpr, more_of-TypedExpr}
 use Rattle.c_ast.specs.declared.typed.TypedExprKind as tree
 use Rattle.c_ast.specs.Nodes.{typed_kind_nodes, typed_row_nodes}
 use Rattle.c_meaning.specs.Stores.{Objects}
-use Rattle.c_meaning.specs.Counts.{operator_price, kind_price, indices_price}
+use Rattle.c_meaning.specs.Counts.{price_of_family, operator_price, kind_price, indices_price}
 use Rattle.c_meaning.specs.Lawful.{is_implied, LawfulKind, LawfulRow}
 
 -- && and ||: the condition 2; one side v = b ? 1 : 0, 2 and 3 and 2; the other side, 3; and the use of v, 1. Where it stays whole it costs 5.
+abbrev pub cost_in : Family → ℕ
+cost_in Arithmetic = 1
+cost_in Shift = 2
+cost_in Bits = 1
+cost_in Comparison = 1
+cost_in Logical = 13
+
 abbrev pub operator_cost : Binary → ℕ
-operator_cost Mul = 1
-operator_cost Div = 1
-operator_cost Rem = 1
-operator_cost Add = 1
-operator_cost Sub = 1
-operator_cost Shl = 2
-operator_cost Shr = 2
-operator_cost Lt = 1
-operator_cost Gt = 1
-operator_cost Le = 1
-operator_cost Ge = 1
-operator_cost Eq = 1
-operator_cost Ne = 1
-operator_cost And = 1
-operator_cost Xor = 1
-operator_cost Or = 1
-operator_cost Both = 13
-operator_cost Either = 13
+operator_cost op = cost_in (family op)
 
 abbrev mutual
   pub kind_cost : TypedExprKind → ℕ
@@ -52,13 +44,19 @@ implied_root true = 1
 implied_root false = 0
 
 pub operator_at_most : (op : Binary) → operator_cost op ≤ 13
-operator_at_most Mul = omega arith
-operator_at_most op = omega arith
+operator_at_most op = by_family (family op)
+  where
+    by_family : (f : Family) → cost_in f ≤ 13
+    by_family Logical = omega arith
+    by_family f = omega arith
 
 -- an operator that stays costs its price
 pub operator_kept : (op : Binary) → 1 + operator_price op ≤ operator_cost op
-operator_kept Mul = omega arith
-operator_kept op = omega arith
+operator_kept op = by_family (family op)
+  where
+    by_family : (f : Family) → 1 + price_of_family f ≤ cost_in f
+    by_family Logical = omega arith
+    by_family f = omega arith
 
 pub root_at_most : (b : Bool) → implied_root b ≤ 1
 root_at_most true = omega arith

@@ -167,22 +167,7 @@ pub(crate) fn decided_by(op: Binary) -> Option<bool>
     match op {
         Binary::Both => Some(false),
         Binary::Either => Some(true),
-        Binary::Mul
-        | Binary::Div
-        | Binary::Rem
-        | Binary::Add
-        | Binary::Sub
-        | Binary::Shl
-        | Binary::Shr
-        | Binary::Lt
-        | Binary::Gt
-        | Binary::Le
-        | Binary::Ge
-        | Binary::Eq
-        | Binary::Ne
-        | Binary::And
-        | Binary::Xor
-        | Binary::Or => None,
+        _ => None,
     }
 }
 

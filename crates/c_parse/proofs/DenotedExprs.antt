@@ -1,5 +1,5 @@
 -- What types and expressions stand for: each move of the table serves what its symbol means.
-use Rattle.std.proofs.Common.{◌≡◌, ℕ, zero, suc, ◌-◌, ◌≤◌, ◌==◌, List, [], ◌∷◌, ◌++◌, Bool, true, false, if◌then◌else◌, Some, arith, zero-le, eqb-true, refl, sym, ◌∙◌, ap, subst, append_assoc}
+use Rattle.std.proofs.Common.{◌≡◌, ℕ, zero, suc, ◌-◌, ◌≤◌, ◌==◌, List, [], ◌∷◌, ◌++◌, Bool, true, false, if◌then◌else◌, Option, Some, None, arith, zero-le, eqb-true, refl, sym, ◌∙◌, ap, subst, append_assoc}
 use Rattle.std.proofs.lemmas.List.{append-nil}
 use Rattle.el_base.specs.declared.span.Span.{Span}
 use Rattle.el_base.specs.declared.ty.Ty.{Ty}
@@ -14,11 +14,13 @@ use Rattle.c_ast.specs.declared.mark.Mark.TheVariants as mark
 use Rattle.c_ast.specs.declared.tree.Unary.{Unary}
 use Rattle.c_ast.specs.declared.tree.Unary.TheVariants as unary
 use Rattle.c_ast.specs.declared.tree.Binary.{Binary}
-use Rattle.c_ast.specs.declared.tree.Binary.TheVariants as binary
 use Rattle.c_ast.specs.declared.tree.Expr.{Expr}
 use Rattle.c_ast.specs.declared.tree.ExprKind.TheVariants as expr
 use Rattle.c_ast.specs.Derives.{marked, keyed, named, numbered, between, expr_of, IsBinary, IsUnary, DerivesType, DerivesExpr, DerivesIndices, DerivesArgs, DerivesMoreArgs}
 use Rattle.c_parse.specs.Symbols.{Symbol, Reduction, Fixed, Move, spelled, takes, fixed_move, type_move, maybe_int_move, looser, tails, expression_move, inside_move, operator_move, operators_move, indices_move, postfix_move, arguments_move, more_arguments_move, followed}
+use Rattle.c_parse.specs.Tables.{operator_of}
+use Rattle.c_parse.proofs.Rules.{operator_is}
+use Rattle.c_parse.proofs.Climbing.{known_level}
 use Rattle.c_parse.proofs.Denotations.{Has, IsEmpty, Is, Before, Means, Denotes, Serves, token, base, has, both, skip, ends, last, last_reduced, after_word, by_word, by_mark, denotes_apart, serves_followed, serves_as}
 
 -- ---- words and types
@@ -160,24 +162,11 @@ operator_serves n l k m op s operator small = by_level (k == suc l) refl
 pub operators_serves : (n l : ℕ) (w : Word) (s : Span) → Serves true (Means (Symbol.operators n l)) (operators_move n l w) (token w s)
 operators_serves n zero (word.Mark mark.Question) s = choice_of n s
 operators_serves n zero w s = refl
-operators_serves n (suc l) (word.Mark mark.OrOr) s = operator_serves n l 1 mark.OrOr binary.Either s IsBinary.or_else (omega arith)
-operators_serves n (suc l) (word.Mark mark.AndAnd) s = operator_serves n l 2 mark.AndAnd binary.Both s IsBinary.and_also (omega arith)
-operators_serves n (suc l) (word.Mark mark.Bar) s = operator_serves n l 3 mark.Bar binary.Or s IsBinary.bits_or (omega arith)
-operators_serves n (suc l) (word.Mark mark.Caret) s = operator_serves n l 4 mark.Caret binary.Xor s IsBinary.bits_xor (omega arith)
-operators_serves n (suc l) (word.Mark mark.Ampersand) s = operator_serves n l 5 mark.Ampersand binary.And s IsBinary.bits_and (omega arith)
-operators_serves n (suc l) (word.Mark mark.EqualEqual) s = operator_serves n l 6 mark.EqualEqual binary.Eq s IsBinary.equal (omega arith)
-operators_serves n (suc l) (word.Mark mark.NotEqual) s = operator_serves n l 6 mark.NotEqual binary.Ne s IsBinary.unequal (omega arith)
-operators_serves n (suc l) (word.Mark mark.Less) s = operator_serves n l 7 mark.Less binary.Lt s IsBinary.less (omega arith)
-operators_serves n (suc l) (word.Mark mark.Greater) s = operator_serves n l 7 mark.Greater binary.Gt s IsBinary.greater (omega arith)
-operators_serves n (suc l) (word.Mark mark.LessEqual) s = operator_serves n l 7 mark.LessEqual binary.Le s IsBinary.at_most (omega arith)
-operators_serves n (suc l) (word.Mark mark.GreaterEqual) s = operator_serves n l 7 mark.GreaterEqual binary.Ge s IsBinary.at_least (omega arith)
-operators_serves n (suc l) (word.Mark mark.Shl) s = operator_serves n l 8 mark.Shl binary.Shl s IsBinary.left_shift (omega arith)
-operators_serves n (suc l) (word.Mark mark.Shr) s = operator_serves n l 8 mark.Shr binary.Shr s IsBinary.right_shift (omega arith)
-operators_serves n (suc l) (word.Mark mark.Plus) s = operator_serves n l 9 mark.Plus binary.Add s IsBinary.plus (omega arith)
-operators_serves n (suc l) (word.Mark mark.Minus) s = operator_serves n l 9 mark.Minus binary.Sub s IsBinary.minus (omega arith)
-operators_serves n (suc l) (word.Mark mark.Star) s = operator_serves n l 10 mark.Star binary.Mul s IsBinary.times (omega arith)
-operators_serves n (suc l) (word.Mark mark.Slash) s = operator_serves n l 10 mark.Slash binary.Div s IsBinary.divided (omega arith)
-operators_serves n (suc l) (word.Mark mark.Percent) s = operator_serves n l 10 mark.Percent binary.Rem s IsBinary.modulo (omega arith)
+operators_serves n (suc l) (word.Mark m) s = of_operator (operator_of m) refl
+  where
+    of_operator : (o : Option (Binary × ℕ)) → operator_of m ≡ o → Serves true (Means (Symbol.operators n (suc l))) (operator_move n (suc l) o) (marked m s)
+    of_operator None e = refl
+    of_operator (Some (op, k)) e = operator_serves n l k m op s (operator_is m op k e) (known_level m op k e)
 operators_serves n (suc l) w s = refl
 
 -- ---- indices

@@ -9,12 +9,13 @@ use Rattle.c_ast.specs.declared.key.Key.TheVariants as key
 use Rattle.c_ast.specs.declared.mark.Mark.{Mark}
 use Rattle.c_ast.specs.declared.mark.Mark.TheVariants as mark
 use Rattle.c_ast.specs.declared.tree.Binary.{Binary}
-use Rattle.c_ast.specs.declared.tree.Binary.TheVariants as binary
 use Rattle.c_ast.specs.declared.tree.Expr.{Expr}
 use Rattle.c_ast.specs.declared.tree.Stmt.{Stmt}
 use Rattle.c_ast.specs.declared.tree.StmtKind.TheVariants as stmt
 use Rattle.c_ast.specs.Derives.{marked, keyed, named, place_of, between, stmt_of, if_tokens, while_tokens, do_tokens, for_tokens, IsAssigning, IsStep, DerivesType, DerivesExpr, DerivesIndices, DerivesTarget, DerivesSimple, DerivesOption, DerivesStep, DerivesDeclared, DerivesDeclarators, DerivesDeclaration, DerivesFirst, DerivesStmt, DerivesItems}
-use Rattle.c_parse.specs.Symbols.{Symbol, Reduction, Fixed, followed, name_move, type_move, expression_move, simple_move, assigning_move, value_move, more_declared_move, declarators, declaration_move, plain_first_move, first_move, condition_move, last_move, in_group, statement_move, other_move, statement_item_move, body_move}
+use Rattle.c_parse.specs.Symbols.{Symbol, Reduction, Fixed, followed, name_move, type_move, expression_move, simple_move, assign_move, assigning_move, value_move, more_declared_move, declarators, declaration_move, plain_first_move, first_move, condition_move, last_move, in_group, statement_move, other_move, statement_item_move, body_move}
+use Rattle.c_parse.specs.Tables.{assigning_of}
+use Rattle.c_parse.proofs.Rules.{assigning_is}
 use Rattle.c_parse.proofs.Denotations.{Has, HasStmt, IsEmpty, Joined, Before, Means, Denotes, Serves, token, has, has_stmt, both, skip, ends, last, last_reduced, after_word, after_name, after_mark, by_word, by_mark, after_group, serves_followed, serves_as}
 use Rattle.c_parse.proofs.DenotedExprs.{type_serves, expression_serves}
 
@@ -51,20 +52,17 @@ step_after_of : (n : ℕ) (m : Mark) (s : Span) (up : Bool) → IsStep m up → 
 step_after_of n m s up h us d ts t dt = ends (λ vs. Has DerivesSimple (ts ++ marked m s ∷ vs)) us (skip us d)
     (has DerivesSimple (ts ++ marked m s ∷ []) (stmt_of (stmt.Step t up) (ts ++ marked m s ∷ [])) (DerivesSimple.step_after ts m s t up dt h))
 
+steps_serve : (n : ℕ) (m : Mark) (s : Span) → Serves false (Means (Symbol.assigning n)) (assign_move n m None) (marked m s)
+steps_serve n mark.Increment s = step_after_of n mark.Increment s true IsStep.up
+steps_serve n mark.Decrement s = step_after_of n mark.Decrement s false IsStep.down
+steps_serve n m s = tt
+
 pub assigning_serves : (n : ℕ) (w : Word) (s : Span) → Serves false (Means (Symbol.assigning n)) (assigning_move n w) (token w s)
-assigning_serves n (word.Mark mark.Assign) s = assigned_of n mark.Assign s None IsAssigning.plain
-assigning_serves n (word.Mark mark.MulAssign) s = assigned_of n mark.MulAssign s (Some binary.Mul) IsAssigning.times
-assigning_serves n (word.Mark mark.DivAssign) s = assigned_of n mark.DivAssign s (Some binary.Div) IsAssigning.divided
-assigning_serves n (word.Mark mark.RemAssign) s = assigned_of n mark.RemAssign s (Some binary.Rem) IsAssigning.modulo
-assigning_serves n (word.Mark mark.AddAssign) s = assigned_of n mark.AddAssign s (Some binary.Add) IsAssigning.plus
-assigning_serves n (word.Mark mark.SubAssign) s = assigned_of n mark.SubAssign s (Some binary.Sub) IsAssigning.minus
-assigning_serves n (word.Mark mark.ShlAssign) s = assigned_of n mark.ShlAssign s (Some binary.Shl) IsAssigning.left_shift
-assigning_serves n (word.Mark mark.ShrAssign) s = assigned_of n mark.ShrAssign s (Some binary.Shr) IsAssigning.right_shift
-assigning_serves n (word.Mark mark.AndAssign) s = assigned_of n mark.AndAssign s (Some binary.And) IsAssigning.bits_and
-assigning_serves n (word.Mark mark.XorAssign) s = assigned_of n mark.XorAssign s (Some binary.Xor) IsAssigning.bits_xor
-assigning_serves n (word.Mark mark.OrAssign) s = assigned_of n mark.OrAssign s (Some binary.Or) IsAssigning.bits_or
-assigning_serves n (word.Mark mark.Increment) s = step_after_of n mark.Increment s true IsStep.up
-assigning_serves n (word.Mark mark.Decrement) s = step_after_of n mark.Decrement s false IsStep.down
+assigning_serves n (word.Mark m) s = of_mark (assigning_of m) refl
+  where
+    of_mark : (o : Option (Option Binary)) → assigning_of m ≡ o → Serves false (Means (Symbol.assigning n)) (assign_move n m o) (marked m s)
+    of_mark None e = steps_serve n m s
+    of_mark (Some op) e = assigned_of n m s op (assigning_is m op e)
 assigning_serves n w s = tt
 
 -- ---- declarations

@@ -198,21 +198,6 @@ fn may_in_right(op: Binary, may: bool) -> bool
 {
     match op {
         Binary::Both | Binary::Either => false,
-        Binary::Mul
-        | Binary::Div
-        | Binary::Rem
-        | Binary::Add
-        | Binary::Sub
-        | Binary::Shl
-        | Binary::Shr
-        | Binary::Lt
-        | Binary::Gt
-        | Binary::Le
-        | Binary::Ge
-        | Binary::Eq
-        | Binary::Ne
-        | Binary::And
-        | Binary::Xor
-        | Binary::Or => may,
+        _ => may,
     }
 }

@@ -7,8 +7,8 @@ ghost use Rattle.c_ast.specs.ProgramCasts.{prog_of, prog_converted};
 ghost use Rattle.c_types.specs.ProgramNodes.{prog_unary_of, prog_binary_of, prog_choice_of};
 
 use c_ast::{
-    Binary, Boxed, ProgExpr, ProgExprKind, Span, Ty, Unary, joint_type, promoted, result_type,
-    unary_type, usual,
+    Binary, Boxed, Family, ProgExpr, ProgExprKind, Span, Ty, Unary, family, joint_type, promoted,
+    result_type, unary_type, usual,
 };
 use el_base::Memory;
 use std::alloc::Global;
@@ -16,46 +16,20 @@ use std::alloc::Global;
 fn left_type(op: Binary, left: Ty, right: Ty) -> Ty
     ensures { result ≡ left_type op left right }
 {
-    match op {
-        Binary::Both | Binary::Either => left,
-        Binary::Shl | Binary::Shr => promoted(left),
-        Binary::Mul
-        | Binary::Div
-        | Binary::Rem
-        | Binary::Add
-        | Binary::Sub
-        | Binary::Lt
-        | Binary::Gt
-        | Binary::Le
-        | Binary::Ge
-        | Binary::Eq
-        | Binary::Ne
-        | Binary::And
-        | Binary::Xor
-        | Binary::Or => usual(left, right),
+    match family(op) {
+        Family::Logical => left,
+        Family::Shift => promoted(left),
+        Family::Arithmetic | Family::Bits | Family::Comparison => usual(left, right),
     }
 }
 
 fn right_type(op: Binary, left: Ty, right: Ty) -> Ty
     ensures { result ≡ right_type op left right }
 {
-    match op {
-        Binary::Both | Binary::Either => right,
-        Binary::Shl | Binary::Shr => promoted(right),
-        Binary::Mul
-        | Binary::Div
-        | Binary::Rem
-        | Binary::Add
-        | Binary::Sub
-        | Binary::Lt
-        | Binary::Gt
-        | Binary::Le
-        | Binary::Ge
-        | Binary::Eq
-        | Binary::Ne
-        | Binary::And
-        | Binary::Xor
-        | Binary::Or => usual(left, right),
+    match family(op) {
+        Family::Logical => right,
+        Family::Shift => promoted(right),
+        Family::Arithmetic | Family::Bits | Family::Comparison => usual(left, right),
     }
 }
 

@@ -8,8 +8,10 @@ use Rattle.el_base.specs.declared.ty.Ty.TheVariants.{I8, I32}
 use Rattle.el_base.specs.Numbers.{number}
 use Rattle.el_base.specs.Widths.{ty_width}
 use Rattle.c_ast.specs.declared.tree.Binary.{Binary}
-use Rattle.c_ast.specs.declared.tree.Binary.TheVariants.{Mul, Div, Rem, Add, Sub, Shl, Shr, Lt, Gt, Le, Ge, Eq, Ne, And, Xor, Or, Both, Either}
-use Rattle.c_ast.specs.ResultTypes.{promoted, usual, joint_type, result_type}
+use Rattle.c_ast.specs.declared.tree.Binary.TheVariants.{Both, Either}
+use Rattle.c_ast.specs.declared.tree.Family.{Family}
+use Rattle.c_ast.specs.declared.tree.Family.TheVariants.{Shift}
+use Rattle.c_ast.specs.ResultTypes.{promoted, usual, family, joint_of_family, joint_type, result_type}
 use Rattle.c_ast.specs.Casts.{assigned_type}
 use Rattle.c_ast.specs.declared.typed.ArrayOf.{ArrayOf}
 use Rattle.c_ast.specs.declared.typed.Object.{Object}
@@ -24,7 +26,7 @@ use Rattle.c_meaning.specs.Expressions.{Val, undefined_value, value, Meaning, af
 use Rattle.c_meaning.specs.Runs.{undefined, out_of_turns, normally, ends, with_val}
 use Rattle.c_meaning.specs.Statements.{Place, of_var, of_element, Placed, no_place, placed, place_by, read_place, write_place, object_type, array_type, MeantTarget, target_place, meant_target, storing, stored, assigned, assigned_to, updated, updated_at, joined_in, joined_with, step_operator}
 use Rattle.c_meaning.specs.Lawful.{LawfulExpr, LawfulTarget, IsObject, IsElement}
-use Rattle.c_meaning.proofs.TypeLemmas.{promoted_usual}
+use Rattle.c_meaning.proofs.TypeLemmas.{promoted_twice, promoted_usual}
 use Rattle.c_meaning.proofs.StoreParts.{array_type_is}
 use Rattle.ref_interp.specs.declared.cells.Cells.{Cells}
 use Rattle.ref_interp.specs.declared.cells.Trace.{Trace}
@@ -253,32 +255,11 @@ join_answers k t j by at op p w u m x y z cx s mid new laws cast pj rt g used an
 
 -- types of a compound assignment
 pub joint_promoted : (op : Binary) (a b : Ty) → joint_type op a b ≡ promoted (joint_type op a b)
-joint_promoted Mul a b = sym (promoted_usual a b)
-joint_promoted Div a b = sym (promoted_usual a b)
-joint_promoted Rem a b = sym (promoted_usual a b)
-joint_promoted Add a b = sym (promoted_usual a b)
-joint_promoted Sub a b = sym (promoted_usual a b)
-joint_promoted Shl a b = twice a
+joint_promoted op a b = in_family (family op)
   where
-    twice : (a : Ty) → promoted a ≡ promoted (promoted a)
-    twice I8 = refl
-    twice a = refl
-joint_promoted Shr a b = twice a
-  where
-    twice : (a : Ty) → promoted a ≡ promoted (promoted a)
-    twice I8 = refl
-    twice a = refl
-joint_promoted Lt a b = sym (promoted_usual a b)
-joint_promoted Gt a b = sym (promoted_usual a b)
-joint_promoted Le a b = sym (promoted_usual a b)
-joint_promoted Ge a b = sym (promoted_usual a b)
-joint_promoted Eq a b = sym (promoted_usual a b)
-joint_promoted Ne a b = sym (promoted_usual a b)
-joint_promoted And a b = sym (promoted_usual a b)
-joint_promoted Xor a b = sym (promoted_usual a b)
-joint_promoted Or a b = sym (promoted_usual a b)
-joint_promoted Both a b = sym (promoted_usual a b)
-joint_promoted Either a b = sym (promoted_usual a b)
+    in_family : (f : Family) → joint_of_family f a b ≡ promoted (joint_of_family f a b)
+    in_family Shift = sym (promoted_twice a)
+    in_family f = sym (promoted_usual a b)
 
 pub right_of : (op : Binary) (t b : Ty) → b ≡ assigned_type (Some op) t b → IsRightType op (joint_type op t b) b
 right_of Both t b e = tt

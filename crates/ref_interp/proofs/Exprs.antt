@@ -11,8 +11,11 @@ use Rattle.el_base.specs.Widths.{ty_width}
 use Rattle.c_ast.specs.declared.tree.Unary.{Unary}
 use Rattle.c_ast.specs.declared.tree.Unary.TheVariants.{Plus}
 use Rattle.c_ast.specs.declared.tree.Binary.{Binary}
-use Rattle.c_ast.specs.declared.tree.Binary.TheVariants.{Mul, Div, Rem, Add, Sub, Shl, Shr, Lt, Gt, Le, Ge, Eq, Ne, And, Xor, Or, Both, Either}
-use Rattle.c_ast.specs.ResultTypes.{promoted, usual, result_type, unary_type}
+use Rattle.c_ast.specs.declared.tree.Binary.TheVariants.{Mul, Both, Either}
+use Rattle.c_ast.specs.declared.tree.Family.{Family}
+use Rattle.c_ast.specs.declared.tree.Family.TheVariants.{Shift, Logical}
+use Rattle.c_ast.specs.ResultTypes.{promoted, usual, family, joint_of_family, result_of_family, result_type, unary_type}
+use Rattle.c_ast.specs.Casts.{left_of_family, right_of_family}
 use Rattle.c_ast.specs.declared.typed.TypedExpr.{TypedExpr}
 use Rattle.c_ast.specs.declared.typed.TypedExprKind.{TypedExprKind}
 use Rattle.c_ast.specs.declared.typed.TypedExprKind.TheVariants as expr
@@ -33,7 +36,7 @@ use Rattle.ref_interp.specs.Answers.{most, plus_turns, Gives, Answered, Answers}
 use Rattle.ref_interp.specs.Cells.{store_of}
 use Rattle.ref_interp.specs.Evaluations.{IsReady, EvalGives, UnaryGives, StrictGives, PlaceGives, ElementGives, element_of}
 use Rattle.ref_interp.specs.Laws.{PatternLaws}
-use Rattle.ref_interp.specs.Operators.{IsRightType}
+use Rattle.ref_interp.specs.Operators.{IsRightIn, IsRightType}
 use Rattle.ref_interp.proofs.Values.{failed_is, gives_is, fails, gives, answers_as, first_answers, second_answers, truth_answers, always_gives}
 
 -- ---- types
@@ -48,30 +51,21 @@ pub record OperandTypes (op : Binary) (a b t : Ty) : Type 0 where
 usual_types : (a b c : Ty) → c ≡ promoted c → a ≡ c → b ≡ c → (a ≡ promoted a) × (b ≡ promoted b) × (b ≡ a)
 usual_types a b c p e f = (subst (λ x. x ≡ promoted x) (sym e) p, subst (λ x. x ≡ promoted x) (sym f) p, f ∙ sym e)
 
-plain_types : (op : Binary) (a b t : Ty) → AreOperands op a b t → a ≡ usual a b → b ≡ usual a b → (b ≡ a → IsRightType op a b) → t ≡ result_type op (usual a b) → OperandTypes op a b t
-plain_types op a b t h e f i r =
-    let u = usual_types a b (usual a b) (sym (promoted_usual a b)) e f in
-    record { left = u.0; same = i u.2; result = r ∙ ap (result_type op) (sym e) }
+types_in : (f : Family) (a b t : Ty) → ¬ (f ≡ Logical) → (a ≡ left_of_family f a b) × (b ≡ right_of_family f a b) × (t ≡ result_of_family f (joint_of_family f a b))
+    → (a ≡ promoted a) × IsRightIn f a b × (t ≡ result_of_family f a)
+types_in Shift a b t n h = (h.0, h.1, h.2 ∙ sym h.0)
+types_in Logical a b t n h = absurd (n refl)
+types_in f a b t n h =
+    let u = usual_types a b (usual a b) (sym (promoted_usual a b)) h.0 h.1 in
+    (u.0, u.2, h.2 ∙ ap (result_of_family f) (sym h.0))
+
+not_logical : (op : Binary) → (op ≡ Both → ⊥) → (op ≡ Either → ⊥) → ¬ (family op ≡ Logical)
+not_logical Both n m e = n refl
+not_logical Either n m e = m refl
+not_logical op n m e = cc
 
 pub operand_types : (op : Binary) (a b t : Ty) → (op ≡ Both → ⊥) → (op ≡ Either → ⊥) → AreOperands op a b t → OperandTypes op a b t
-operand_types Mul a b t n m h = plain_types Mul a b t h h.0 h.1 (λ e. e) h.2
-operand_types Div a b t n m h = plain_types Div a b t h h.0 h.1 (λ e. e) h.2
-operand_types Rem a b t n m h = plain_types Rem a b t h h.0 h.1 (λ e. e) h.2
-operand_types Add a b t n m h = plain_types Add a b t h h.0 h.1 (λ e. e) h.2
-operand_types Sub a b t n m h = plain_types Sub a b t h h.0 h.1 (λ e. e) h.2
-operand_types Shl a b t n m h = record { left = h.0; same = h.1; result = h.2 ∙ sym h.0 }
-operand_types Shr a b t n m h = record { left = h.0; same = h.1; result = h.2 ∙ sym h.0 }
-operand_types Lt a b t n m h = plain_types Lt a b t h h.0 h.1 (λ e. e) h.2
-operand_types Gt a b t n m h = plain_types Gt a b t h h.0 h.1 (λ e. e) h.2
-operand_types Le a b t n m h = plain_types Le a b t h h.0 h.1 (λ e. e) h.2
-operand_types Ge a b t n m h = plain_types Ge a b t h h.0 h.1 (λ e. e) h.2
-operand_types Eq a b t n m h = plain_types Eq a b t h h.0 h.1 (λ e. e) h.2
-operand_types Ne a b t n m h = plain_types Ne a b t h h.0 h.1 (λ e. e) h.2
-operand_types And a b t n m h = plain_types And a b t h h.0 h.1 (λ e. e) h.2
-operand_types Xor a b t n m h = plain_types Xor a b t h h.0 h.1 (λ e. e) h.2
-operand_types Or a b t n m h = plain_types Or a b t h h.0 h.1 (λ e. e) h.2
-operand_types Both a b t n m h = absurd (n refl)
-operand_types Either a b t n m h = absurd (m refl)
+operand_types op a b t n m h = let u = types_in (family op) a b t (not_logical op n m) h in record { left = u.0; same = u.1; result = u.2 }
 
 -- an operator means the same in the type of its operands as in that of its result
 pub same_unary : (p : Profile) (op : Unary) (t : Ty) → unary_value p op (unary_type op t) ≡ unary_value p op t
@@ -236,22 +230,7 @@ first_gives k c kind t op a b x y old mid p is e f h q ev clear =
 binary_undefined : (k : Objects) (op : Binary) (t : Ty) (at p : Span) (s : Store) (a b : TypedExpr) → meaning k a s ≡ undefined_value p → kind_meaning k (expr.Binary op a b) t at s ≡ undefined_value p
 binary_undefined k Both t at p s a b e = means_both k (expr.Binary Both a b) t at s a b refl ∙ ap (λ v. chosen v (λ s. as_truth (meaning k b s)) (always (pos 0)) s) e
 binary_undefined k Either t at p s a b e = means_either k (expr.Binary Either a b) t at s a b refl ∙ ap (λ v. chosen v (always (pos 1)) (λ s. as_truth (meaning k b s)) s) e
-binary_undefined k Mul t at p s a b e = joins_both k Mul t at s a b (λ e. cc) (λ e. cc) ∙ ap (λ v. on_two at (binary_value k.profile Mul t) v (meaning k b s)) e
-binary_undefined k Div t at p s a b e = joins_both k Div t at s a b (λ e. cc) (λ e. cc) ∙ ap (λ v. on_two at (binary_value k.profile Div t) v (meaning k b s)) e
-binary_undefined k Rem t at p s a b e = joins_both k Rem t at s a b (λ e. cc) (λ e. cc) ∙ ap (λ v. on_two at (binary_value k.profile Rem t) v (meaning k b s)) e
-binary_undefined k Add t at p s a b e = joins_both k Add t at s a b (λ e. cc) (λ e. cc) ∙ ap (λ v. on_two at (binary_value k.profile Add t) v (meaning k b s)) e
-binary_undefined k Sub t at p s a b e = joins_both k Sub t at s a b (λ e. cc) (λ e. cc) ∙ ap (λ v. on_two at (binary_value k.profile Sub t) v (meaning k b s)) e
-binary_undefined k Shl t at p s a b e = joins_both k Shl t at s a b (λ e. cc) (λ e. cc) ∙ ap (λ v. on_two at (binary_value k.profile Shl t) v (meaning k b s)) e
-binary_undefined k Shr t at p s a b e = joins_both k Shr t at s a b (λ e. cc) (λ e. cc) ∙ ap (λ v. on_two at (binary_value k.profile Shr t) v (meaning k b s)) e
-binary_undefined k Lt t at p s a b e = joins_both k Lt t at s a b (λ e. cc) (λ e. cc) ∙ ap (λ v. on_two at (binary_value k.profile Lt t) v (meaning k b s)) e
-binary_undefined k Gt t at p s a b e = joins_both k Gt t at s a b (λ e. cc) (λ e. cc) ∙ ap (λ v. on_two at (binary_value k.profile Gt t) v (meaning k b s)) e
-binary_undefined k Le t at p s a b e = joins_both k Le t at s a b (λ e. cc) (λ e. cc) ∙ ap (λ v. on_two at (binary_value k.profile Le t) v (meaning k b s)) e
-binary_undefined k Ge t at p s a b e = joins_both k Ge t at s a b (λ e. cc) (λ e. cc) ∙ ap (λ v. on_two at (binary_value k.profile Ge t) v (meaning k b s)) e
-binary_undefined k Eq t at p s a b e = joins_both k Eq t at s a b (λ e. cc) (λ e. cc) ∙ ap (λ v. on_two at (binary_value k.profile Eq t) v (meaning k b s)) e
-binary_undefined k Ne t at p s a b e = joins_both k Ne t at s a b (λ e. cc) (λ e. cc) ∙ ap (λ v. on_two at (binary_value k.profile Ne t) v (meaning k b s)) e
-binary_undefined k And t at p s a b e = joins_both k And t at s a b (λ e. cc) (λ e. cc) ∙ ap (λ v. on_two at (binary_value k.profile And t) v (meaning k b s)) e
-binary_undefined k Xor t at p s a b e = joins_both k Xor t at s a b (λ e. cc) (λ e. cc) ∙ ap (λ v. on_two at (binary_value k.profile Xor t) v (meaning k b s)) e
-binary_undefined k Or t at p s a b e = joins_both k Or t at s a b (λ e. cc) (λ e. cc) ∙ ap (λ v. on_two at (binary_value k.profile Or t) v (meaning k b s)) e
+binary_undefined k op t at p s a b e = joins_both k op t at s a b (λ e. cc) (λ e. cc) ∙ ap (λ v. on_two at (binary_value k.profile op t) v (meaning k b s)) e
 
 pub binary_fails : (k : Objects) (c : Cells) (kind : TypedExprKind) (t : Ty) (at : Span) (op : Binary) (a b x : TypedExpr) (old mid : Trace) (p r : ℕ)
     → kind ≡ expr.Binary op a b → x ≡ a → LawfulKind k kind t → IsReady k c old → EvalGives k c x old mid p → mid.failed ≡ true → Answers t (kind_meaning k kind t at (store_of k c)) old mid r

@@ -11,7 +11,7 @@ use Rattle.el_base.specs.Numbers.{number, pattern, IsInRange}
 use Rattle.el_base.specs.Widths.{ty_width}
 use Rattle.c_ast.specs.declared.tree.Unary.{Unary}
 use Rattle.c_ast.specs.declared.tree.Binary.{Binary}
-use Rattle.c_ast.specs.declared.tree.Binary.TheVariants.{Mul, Div, Rem, Add, Sub, Shl, Shr, Lt, Gt, Le, Ge, Eq, Ne, And, Xor, Or, Both, Either}
+use Rattle.c_ast.specs.declared.tree.Binary.TheVariants.{Shl, Shr, Both, Either}
 use Rattle.c_ast.specs.ResultTypes.{promoted, usual, result_type, unary_type}
 use Rattle.c_ast.specs.declared.typed.TypedExpr.{TypedExpr}
 use Rattle.c_ast.specs.declared.typed.TypedExprKind.TheVariants as expr
@@ -159,30 +159,12 @@ shift_joins laws op t by x y keeps nb ne rt types pt pby bx byy am p z e =
     (ap (λ x. on_patterns op t x y) (sym (laws.round t x bx)) ∙ ap (on_patterns op t (pattern t (number t x))) (sym (amount_pattern laws t by y k.0 pt pby byy k.1)) ∙ keeps p (number t x) (number by y) z rx e))
 
 pub joins : OpLaws → (op : Binary) (t by : Ty) (x y : ℕ) → t ≡ promoted t → IsRightType op t by → x < 2 ^ ty_width t → y < 2 ^ ty_width by → Joins op t by x y
-joins laws Mul t by x y pt r a b = plain_joins laws Mul t by x y refl (λ e. cc) (λ e. cc) (the_usual t pt, the_usual t pt, the_usual t pt) pt r a b
-joins laws Div t by x y pt r a b = plain_joins laws Div t by x y refl (λ e. cc) (λ e. cc) (the_usual t pt, the_usual t pt, the_usual t pt) pt r a b
-joins laws Rem t by x y pt r a b = plain_joins laws Rem t by x y refl (λ e. cc) (λ e. cc) (the_usual t pt, the_usual t pt, the_usual t pt) pt r a b
-joins laws Add t by x y pt r a b = plain_joins laws Add t by x y refl (λ e. cc) (λ e. cc) (the_usual t pt, the_usual t pt, the_usual t pt) pt r a b
-joins laws Sub t by x y pt r a b = plain_joins laws Sub t by x y refl (λ e. cc) (λ e. cc) (the_usual t pt, the_usual t pt, the_usual t pt) pt r a b
 joins laws Shl t by x y pt r a b = shift_joins laws Shl t by x y (subst (ShiftKeepsPatterns Shl) (sym pt) (laws.left_shifts t)) (λ e. cc) (λ e. cc) refl (pt, r, pt) pt r a b (λ p z e. amount_of t (left_shift p t (number t x)) (number by y) z e)
 joins laws Shr t by x y pt r a b = shift_joins laws Shr t by x y (subst (ShiftKeepsPatterns Shr) (sym pt) (laws.right_shifts t)) (λ e. cc) (λ e. cc) refl (pt, r, pt) pt r a b (λ p z e. amount_of t (right_shift (number t x)) (number by y) z e)
-joins laws Lt t by x y pt r a b = plain_joins laws Lt t by x y refl (λ e. cc) (λ e. cc) (the_usual t pt, the_usual t pt, refl) pt r a b
-joins laws Gt t by x y pt r a b = plain_joins laws Gt t by x y refl (λ e. cc) (λ e. cc) (the_usual t pt, the_usual t pt, refl) pt r a b
-joins laws Le t by x y pt r a b = plain_joins laws Le t by x y refl (λ e. cc) (λ e. cc) (the_usual t pt, the_usual t pt, refl) pt r a b
-joins laws Ge t by x y pt r a b = plain_joins laws Ge t by x y refl (λ e. cc) (λ e. cc) (the_usual t pt, the_usual t pt, refl) pt r a b
-joins laws Eq t by x y pt r a b = plain_joins laws Eq t by x y refl (λ e. cc) (λ e. cc) (the_usual t pt, the_usual t pt, refl) pt r a b
-joins laws Ne t by x y pt r a b = plain_joins laws Ne t by x y refl (λ e. cc) (λ e. cc) (the_usual t pt, the_usual t pt, refl) pt r a b
-joins laws And t by x y pt r a b = plain_joins laws And t by x y refl (λ e. cc) (λ e. cc) (the_usual t pt, the_usual t pt, the_usual t pt) pt r a b
-joins laws Xor t by x y pt r a b = plain_joins laws Xor t by x y refl (λ e. cc) (λ e. cc) (the_usual t pt, the_usual t pt, the_usual t pt) pt r a b
-joins laws Or t by x y pt r a b = plain_joins laws Or t by x y refl (λ e. cc) (λ e. cc) (the_usual t pt, the_usual t pt, the_usual t pt) pt r a b
-joins laws Both t by x y pt r a b = λ p z e. absurd (never z e)
-  where
-    never : (z : ℤ) → None ≡ Some z → ⊥
-    never z e = cc
-joins laws Either t by x y pt r a b = λ p z e. absurd (never z e)
-  where
-    never : (z : ℤ) → None ≡ Some z → ⊥
-    never z e = cc
+joins laws Both t by x y pt r a b = λ p z e. absurd (cc)
+joins laws Either t by x y pt r a b = λ p z e. absurd (cc)
+joins laws op t by x y pt r a b =
+    plain_joins laws op t by x y refl (λ e. cc) (λ e. cc) (the_usual t pt, the_usual t pt, ap (result_type op) (the_usual t pt)) pt r a b
 
 pub makes : OpLaws → (op : Unary) (t : Ty) (x : ℕ) → t ≡ promoted t → x < 2 ^ ty_width t → MakesOf op t x
 makes laws op t x pt b p z e =

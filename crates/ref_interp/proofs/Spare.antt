@@ -105,11 +105,7 @@ go_on_over h c s k o = tt
 
 go_on_same : (N : ℕ) (h : How) (c d : Run) → Spare N c d → (s : Store) (k m : ℕ) → k < N → IsOver (go_on h c s (k + m)).how → m ≤ (go_on h c s (k + m)).left → go_on h c s (k + m) ≡ with_more m (go_on h d s k)
 go_on_same N normally c d h s k m lt o le = h.same s k m lt o le
-go_on_same N by_break c d h s k m lt o le = refl
-go_on_same N by_continue c d h s k m lt o le = refl
-go_on_same N (by_return v) c d h s k m lt o le = refl
-go_on_same N (undefined at) c d h s k m lt o le = refl
-go_on_same N out_of_turns c d h s k m lt o le = refl
+go_on_same N h c d g s k m lt o le = refl
 
 both_same : (N : ℕ) (a b c d : Run) → Spare N a b → Spare N c d → (s : Store) (n m : ℕ) → n < N → IsOver (both_runs a c s (n + m)).how → m ≤ (both_runs a c s (n + m)).left → both_runs a c s (n + m) ≡ with_more m (both_runs b d s n)
 both_same N a b c d g h s n m lt o le =
@@ -141,10 +137,7 @@ after_over h c s k o = tt
 after_same : (N : ℕ) (h : How) (c d : Run) → Spare N c d → (s : Store) (k m : ℕ) → k < N → IsOver (after_body h c s (k + m)).how → m ≤ (after_body h c s (k + m)).left → after_body h c s (k + m) ≡ with_more m (after_body h d s k)
 after_same N normally c d h s k m lt o le = h.same s k m lt o le
 after_same N by_continue c d h s k m lt o le = h.same s k m lt o le
-after_same N by_break c d h s k m lt o le = refl
-after_same N (by_return v) c d h s k m lt o le = refl
-after_same N (undefined at) c d h s k m lt o le = refl
-after_same N out_of_turns c d h s k m lt o le = refl
+after_same N h c d g s k m lt o le = refl
 
 looped_same : (N : ℕ) (a b c d : Run) → Spare N a b → Spare N c d → (s : Store) (n m : ℕ) → n < N → IsOver (looped a c s (n + m)).how → m ≤ (looped a c s (n + m)).left → looped a c s (n + m) ≡ with_more m (looped b d s n)
 looped_same N a b c d g h s n m lt o le =

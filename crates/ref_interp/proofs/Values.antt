@@ -35,36 +35,12 @@ answers_as b t t2 v v2 u p new e f h = subst (λ t. Answered b t v2 u new p) (sy
 
 -- ---- what is undefined, and what is not
 
-pub is_none : (o : Option ℤ) → is_some o ≡ false → o ≡ None
-is_none None e = refl
-is_none (Some z) e = absurd (cc)
-
 pub the_some : (o : Option ℤ) → is_some o ≡ true → (z : ℤ) × (o ≡ Some z)
 the_some None e = absurd (cc)
 the_some (Some z) e = (z, refl)
 
-pub one_none : (at : Span) (f : ℤ → Option ℤ) (t : Ty) (v : Val) (x u m : ℕ) → Gives t x u m v → f (number t x) ≡ None → on_one at f v ≡ undefined_value at
-one_none at f t v x u m g e = ap (on_one at f) g.is ∙ ap (after_turns at g.turns) e
-
-pub one_some : (at : Span) (f : ℤ → Option ℤ) (t r : Ty) (v : Val) (x u m q : ℕ) (z : ℤ) → Gives t x u m v → f (number t x) ≡ Some z → IsPattern r q z → Gives r q u m (on_one at f v)
-one_some at f t r v x u m q z g e i = record {
-  turns = g.turns;
-  is = ap (on_one at f) g.is ∙ ap (after_turns at g.turns) e ∙ ap (λ z. value z g.turns) (sym i.0);
-  below = i.1;
-  used = g.used;
-}
-
-pub two_left : (at p : Span) (f : ℤ → ℤ → Option ℤ) (v w : Val) → v ≡ undefined_value p → on_two at f v w ≡ undefined_value p
-two_left at p f v w e = ap (λ v. on_two at f v w) e
-
-pub two_right : (at p : Span) (f : ℤ → ℤ → Option ℤ) (t : Ty) (v w : Val) (x u m : ℕ) → Gives t x u m v → w ≡ undefined_value p → on_two at f v w ≡ undefined_value p
-two_right at p f t v w x u m g e = ap (λ v. on_two at f v w) g.is ∙ ap (on_two at f (value (number t x) g.turns)) e
-
 two_values : (at : Span) (f : ℤ → ℤ → Option ℤ) (t by : Ty) (v w : Val) (x y u m o : ℕ) (g : Gives t x u m v) (h : Gives by y m o w) → on_two at f v w ≡ after_turns at (g.turns + h.turns) (f (number t x) (number by y))
 two_values at f t by v w x y u m o g h = ap (λ v. on_two at f v w) g.is ∙ ap (on_two at f (value (number t x) g.turns)) h.is
-
-pub two_none : (at : Span) (f : ℤ → ℤ → Option ℤ) (t by : Ty) (v w : Val) (x y u m o : ℕ) → Gives t x u m v → Gives by y m o w → f (number t x) (number by y) ≡ None → on_two at f v w ≡ undefined_value at
-two_none at f t by v w x y u m o g h e = two_values at f t by v w x y u m o g h ∙ ap (after_turns at (g.turns + h.turns)) e
 
 pub two_some : (at : Span) (f : ℤ → ℤ → Option ℤ) (t by r : Ty) (v w : Val) (x y u m o q : ℕ) (z : ℤ) → Gives t x u m v → Gives by y m o w → f (number t x) (number by y) ≡ Some z → IsPattern r q z → Gives r q u o (on_two at f v w)
 two_some at f t by r v w x y u m o q z g h e i = record {
@@ -86,44 +62,34 @@ not_zero_number t p b e = grind (arith, ints)
 
 -- ---- sides
 
--- a condition that is 0: the second side is what counts, with one turn more
-pub second_side : (t ta : Ty) (v : Val) (a b : Meaning) (s : Store) (x u m n o q : ℕ) → Gives ta x u m v → x ≡ 0 → n ≡ plus_turns m 1 → Gives t q n o (b s) → Gives t q u o (chosen v a b s)
-second_side t ta v a b s x u m n o q g z e h = record {
-  turns = g.turns + 1 + h.turns;
-  is = ap (λ v. chosen v a b s) g.is ∙ ap (λ c. later (g.turns + 1) (one_of c b a s)) (zero_number ta x g.below z) ∙ ap (later (g.turns + 1)) h.is;
-  below = h.below;
-  used = (let i = g.used in let j = h.used in omega arith);
-}
-
-pub first_side : (t ta : Ty) (v : Val) (a b : Meaning) (s : Store) (x u m n o q : ℕ) → Gives ta x u m v → (x ≡ 0 → ⊥) → n ≡ plus_turns m 1 → Gives t q n o (a s) → Gives t q u o (chosen v a b s)
-first_side t ta v a b s x u m n o q g z e h = record {
-  turns = g.turns + 1 + h.turns;
-  is = ap (λ v. chosen v a b s) g.is ∙ ap (λ c. later (g.turns + 1) (one_of c b a s)) (not_zero_number ta x g.below z) ∙ ap (later (g.turns + 1)) h.is;
-  below = h.below;
-  used = (let i = g.used in let j = h.used in omega arith);
-}
-
--- the side that counts is undefined
-pub second_undefined : (ta : Ty) (v : Val) (a b : Meaning) (s : Store) (p : Span) (x u m : ℕ) → Gives ta x u m v → x ≡ 0 → b s ≡ undefined_value p → chosen v a b s ≡ undefined_value p
-second_undefined ta v a b s p x u m g z h = ap (λ v. chosen v a b s) g.is ∙ ap (λ c. later (g.turns + 1) (one_of c b a s)) (zero_number ta x g.below z) ∙ ap (later (g.turns + 1)) h
-
-pub first_undefined : (ta : Ty) (v : Val) (a b : Meaning) (s : Store) (p : Span) (x u m : ℕ) → Gives ta x u m v → (x ≡ 0 → ⊥) → a s ≡ undefined_value p → chosen v a b s ≡ undefined_value p
-first_undefined ta v a b s p x u m g z h = ap (λ v. chosen v a b s) g.is ∙ ap (λ c. later (g.turns + 1) (one_of c b a s)) (not_zero_number ta x g.below z) ∙ ap (later (g.turns + 1)) h
-
--- both at once, by the trace after the side
-pub second_answers : (t ta : Ty) (v : Val) (a b : Meaning) (s : Store) (x u m q : ℕ) (mid new : Trace) → Gives ta x u m v → x ≡ 0 → mid.turns ≡ plus_turns m 1 → Answered new.failed t (b s) mid.turns new q → Answered new.failed t (chosen v a b s) u new q
-second_answers t ta v a b s x u m q mid new g z e h = by_cases new.failed refl
+-- the side that counts, with one turn more
+side_answers : (c : Bool) (t ta : Ty) (v : Val) (a b : Meaning) (s : Store) (x u m q : ℕ) (mid new : Trace) → Gives ta x u m v
+    → is_zero (number ta x) ≡ c → mid.turns ≡ plus_turns m 1
+    → Answered new.failed t (one_of c b a s) mid.turns new q → Answered new.failed t (chosen v a b s) u new q
+side_answers c t ta v a b s x u m q mid new g z e h = by_cases new.failed refl
   where
-    by_cases : (f : Bool) → new.failed ≡ f → Answered new.failed t (chosen v a b s) u new q
-    by_cases true is = fails new.failed t _ u q new is (second_undefined ta v a b s new.at x u m g z (failed_is new.failed t (b s) mid.turns q new is h))
-    by_cases false is = gives new.failed t _ u q new is (second_side t ta v a b s x u m mid.turns new.turns q g z e (gives_is new.failed t (b s) mid.turns q new is h))
+    is : chosen v a b s ≡ later (g.turns + 1) (one_of c b a s)
+    is = ap (λ v. chosen v a b s) g.is ∙ ap (λ c. later (g.turns + 1) (one_of c b a s)) z
 
-pub first_answers : (t ta : Ty) (v : Val) (a b : Meaning) (s : Store) (x u m q : ℕ) (mid new : Trace) → Gives ta x u m v → (x ≡ 0 → ⊥) → mid.turns ≡ plus_turns m 1 → Answered new.failed t (a s) mid.turns new q → Answered new.failed t (chosen v a b s) u new q
-first_answers t ta v a b s x u m q mid new g z e h = by_cases new.failed refl
-  where
     by_cases : (f : Bool) → new.failed ≡ f → Answered new.failed t (chosen v a b s) u new q
-    by_cases true is = fails new.failed t _ u q new is (first_undefined ta v a b s new.at x u m g z (failed_is new.failed t (a s) mid.turns q new is h))
-    by_cases false is = gives new.failed t _ u q new is (first_side t ta v a b s x u m mid.turns new.turns q g z e (gives_is new.failed t (a s) mid.turns q new is h))
+    by_cases true f =
+        fails new.failed t _ u q new f (is ∙ ap (later (g.turns + 1)) (failed_is new.failed t (one_of c b a s) mid.turns q new f h))
+    by_cases false f =
+        let i = gives_is new.failed t (one_of c b a s) mid.turns q new f h in
+        gives new.failed t _ u q new f (record {
+          turns = g.turns + 1 + i.turns;
+          is = is ∙ ap (later (g.turns + 1)) i.is;
+          below = i.below;
+          used = (let j = g.used in let l = i.used in omega arith);
+        })
+
+pub second_answers : (t ta : Ty) (v : Val) (a b : Meaning) (s : Store) (x u m q : ℕ) (mid new : Trace) → Gives ta x u m v
+    → x ≡ 0 → mid.turns ≡ plus_turns m 1 → Answered new.failed t (b s) mid.turns new q → Answered new.failed t (chosen v a b s) u new q
+second_answers t ta v a b s x u m q mid new g z e h = side_answers true t ta v a b s x u m q mid new g (zero_number ta x g.below z) e h
+
+pub first_answers : (t ta : Ty) (v : Val) (a b : Meaning) (s : Store) (x u m q : ℕ) (mid new : Trace) → Gives ta x u m v
+    → (x ≡ 0 → ⊥) → mid.turns ≡ plus_turns m 1 → Answered new.failed t (a s) mid.turns new q → Answered new.failed t (chosen v a b s) u new q
+first_answers t ta v a b s x u m q mid new g z e h = side_answers false t ta v a b s x u m q mid new g (not_zero_number ta x g.below z) e h
 
 -- ---- truth values
 

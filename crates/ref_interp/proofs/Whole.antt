@@ -210,18 +210,9 @@ ended_how : (k : Typed) (p : Profile) (i : Inputs) (n : ℕ) (arrays : List (Lis
 ended_how k p i n arrays value turns keeps needs e = (ends_at_bound k.result (kernel_run k p i) e.out e.r turns n (keeps k p i) (needs k p i) e.within e.ends).result
 
 not_first : (t : Option Ty) (w : How) (r : Option ℤ) (at : Span) → IsResult t w r → first_of w ≡ Some at → ⊥
-not_first None normally r at h e = cc
-not_first (Some t) normally r at h e = absurd h
-not_first None by_break r at h e = absurd h
-not_first (Some t) by_break r at h e = absurd h
-not_first None by_continue r at h e = absurd h
-not_first (Some t) by_continue r at h e = absurd h
-not_first None (by_return v) r at h e = cc
-not_first (Some t) (by_return v) r at h e = cc
-not_first None (undefined p) r at h e = absurd h
-not_first (Some t) (undefined p) r at h e = absurd h
-not_first None out_of_turns r at h e = absurd h
-not_first (Some t) out_of_turns r at h e = absurd h
+not_first None (undefined p) r at h e = h
+not_first (Some t) (undefined p) r at h e = h
+not_first t w r at h e = cc
 
 not_starved : (t : Option Ty) (w : How) (r : Option ℤ) → IsResult t w r → w ≡ out_of_turns → ⊥
 not_starved None w r h e = subst (λ w. IsResult None w r) e h

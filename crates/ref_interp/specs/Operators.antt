@@ -3,8 +3,9 @@ use Rattle.std.specs.Prelude.{◌≡◌, Bool, true, not}
 use Rattle.el_base.specs.declared.ty.Ty.{Ty}
 use Rattle.el_base.specs.Widths.{ty_signed}
 use Rattle.c_ast.specs.declared.tree.Binary.{Binary}
-use Rattle.c_ast.specs.declared.tree.Binary.TheVariants.{Mul, Div, Rem, Add, Sub, Shl, Shr, Lt, Gt, Le, Ge, Eq, Ne, And, Xor, Or, Both, Either}
-use Rattle.c_ast.specs.ResultTypes.{promoted}
+use Rattle.c_ast.specs.declared.tree.Family.{Family}
+use Rattle.c_ast.specs.declared.tree.Family.TheVariants.{Arithmetic, Shift, Bits, Comparison, Logical}
+use Rattle.c_ast.specs.ResultTypes.{promoted, family}
 use Rattle.c_meaning.specs.declared.profile.Profile.{Profile}
 use Rattle.c_meaning.specs.declared.profile.Profile.TheVariants.{Plain, Wrap}
 
@@ -14,22 +15,12 @@ is_lenient Plain t = not (ty_signed t)
 is_lenient Wrap t = true
 
 -- the right operand has the type of the left one; a shift amount has its own; && and || do not join their sides
+abbrev pub IsRightIn : Family → Ty → Ty → Type 0
+IsRightIn Arithmetic t by = by ≡ t
+IsRightIn Shift t by = by ≡ promoted by
+IsRightIn Bits t by = by ≡ t
+IsRightIn Comparison t by = by ≡ t
+IsRightIn Logical t by = Unit {0}
+
 abbrev pub IsRightType : Binary → Ty → Ty → Type 0
-IsRightType Shl t by = by ≡ promoted by
-IsRightType Shr t by = by ≡ promoted by
-IsRightType Mul t by = by ≡ t
-IsRightType Div t by = by ≡ t
-IsRightType Rem t by = by ≡ t
-IsRightType Add t by = by ≡ t
-IsRightType Sub t by = by ≡ t
-IsRightType Lt t by = by ≡ t
-IsRightType Gt t by = by ≡ t
-IsRightType Le t by = by ≡ t
-IsRightType Ge t by = by ≡ t
-IsRightType Eq t by = by ≡ t
-IsRightType Ne t by = by ≡ t
-IsRightType And t by = by ≡ t
-IsRightType Xor t by = by ≡ t
-IsRightType Or t by = by ≡ t
-IsRightType Both t by = Unit {0}
-IsRightType Either t by = Unit {0}
+IsRightType op t by = IsRightIn (family op) t by
