@@ -12,8 +12,11 @@ use crate::swept::Swept;
 use crate::tables::Tables;
 use crate::worker::Worker;
 
-/// How often a sweep looks at least before it tries all its units.
+/// How often a sweep looks at least before it tries all its units, where it looks at few channels.
 const LEAST_LOOKS: u32 = 256;
+
+/// How many channels it looks at, the looks taken together, where it looks at many and the least often.
+const LEAST_LOOKED: usize = 262_144;
 
 /// How often it looks at most before that.
 const MOST_LOOKS: u32 = 1024;
@@ -84,10 +87,11 @@ impl Worker {
         let units = self.portion.own().len();
         let looked = self.ins.len() + 1;
         let looks = u32::try_from(units / looked).unwrap_or(MOST_LOOKS);
+        let least = u32::try_from(LEAST_LOOKED / looked).unwrap_or(LEAST_LOOKS);
         if self.resting {
             looks.min(MOST_RESTING).max(1)
         } else {
-            looks.min(MOST_LOOKS).max(LEAST_LOOKS)
+            looks.min(MOST_LOOKS).max(least.min(LEAST_LOOKS)).max(1)
         }
     }
 
