@@ -1,20 +1,17 @@
 -- The first fault of a statement from those of its parts, and the names in force after it.
 use Rattle.std.proofs.Common.{◌≡◌, ℕ, ◌<◌, Bool, true, false, List, [], ◌∷◌, ◌++◌, length, Option, refl, sym, ap, ◌∙◌, arith, append-nil}
 use Rattle.el_base.specs.declared.ty.Ty.{Ty}
-use Rattle.c_ast.specs.declared.tree.Binary.{Binary}
-use Rattle.c_ast.specs.declared.tree.Target.{Target}
 use Rattle.c_ast.specs.declared.tree.Expr.{Expr}
 use Rattle.c_ast.specs.declared.tree.Stmt.{Stmt}
 use Rattle.c_ast.specs.declared.tree.StmtKind.{StmtKind, end_of-Stmt, more_of-Stmt}
 use Rattle.c_ast.specs.declared.tree.StmtKind as row
 use Rattle.c_ast.specs.declared.tree.StmtKind.TheVariants as stmt
-use Rattle.c_types.specs.declared.fault.Rule.TheVariants as rule
 use Rattle.c_types.specs.declared.fault.Fault.{Fault}
 use Rattle.c_types.specs.declared.sort.Sort.{Sort}
 use Rattle.c_types.specs.declared.sort.Sort.TheVariants as sort
-use Rattle.c_types.specs.Places.{first_bytes, earlier, first_of}
-use Rattle.c_types.specs.Scopes.{is_new_in, with_entry, without_innermost}
-use Rattle.c_types.specs.Faults.{Sorts, expr_faults, option_faults, target_faults, unless, is_returnable, act_faults, stmt_faults, stmts_faults, inner_faults, sorts_after, sorts_after_all}
+use Rattle.c_types.specs.Places.{earlier, first_of}
+use Rattle.c_types.specs.Scopes.{with_entry, without_innermost}
+use Rattle.c_types.specs.Faults.{Sorts, expr_faults, option_faults, act_faults, stmt_faults, stmts_faults, inner_faults, sorts_after, sorts_after_all}
 use Rattle.c_types.proofs.FirstFaults.{of_two, of_three}
 use Rattle.c_types.proofs.Layers.{in_block, in_if, in_while, in_do, in_for, stmts_faults-append, sorts_after_all-append}
 
@@ -66,13 +63,6 @@ pub block_scopes : (s : Stmt) (ss us : List Stmt) (v w x y : Sorts) → s.kind �
     → y ≡ sorts_after v s.kind
 block_scopes s ss us v w x y is entered some after left = after_scope v w x y us entered some after left ∙ sym (ap (sorts_after v) is)
 
-pub assign_arm : (s : Stmt) (t : Target) (op : Option Binary) (e : Expr) (r : Option Ty) (loop : Bool) (v : Sorts) (a b o : Option Fault) → s.kind ≡ stmt.Assign t op e
-    → a ≡ first_of (target_faults v t) → b ≡ first_of (expr_faults v e) → o ≡ earlier a b → o ≡ first_of (stmt_faults s r loop v)
-assign_arm s t op e r loop v a b o is p q h = of_two (target_faults v t) (expr_faults v e) (stmt_faults s r loop v) a b o (ap (λ k. act_faults k s.at r loop v) is) p q h
-
-pub step_arm : (s : Stmt) (t : Target) (up : Bool) (r : Option Ty) (loop : Bool) (v : Sorts) (o : Option Fault) → s.kind ≡ stmt.Step t up → o ≡ first_of (target_faults v t) → o ≡ first_of (stmt_faults s r loop v)
-step_arm s t up r loop v o is h = h ∙ sym (ap (λ k. first_of (act_faults k s.at r loop v)) is)
-
 pub if_arm : (s : Stmt) (e : Expr) (st : Stmt) (other : Option Stmt) (r : Option Ty) (loop : Bool) (v v2 v3 : Sorts) (a b d n o : Option Fault) → s.kind ≡ stmt.If e st other
     → a ≡ first_of (expr_faults v e) → b ≡ first_of (stmt_faults st r loop ([] ∷ v)) → v2 ≡ v → d ≡ first_of (inner_faults other r loop v2) → n ≡ earlier b d → o ≡ earlier a n
     → o ≡ first_of (stmt_faults s r loop v)
@@ -109,18 +99,6 @@ pub for_scopes : (s : Stmt) (ss us : List Stmt) (e : Option Expr) (o : Option St
     → w2 ≡ sorts_after_all w us → w3 ≡ w2 → w4 ≡ w3 → y ≡ without_innermost w4 → y ≡ sorts_after v s.kind
 for_scopes s ss us e o st v w w2 w3 w4 y is entered some after stay stay2 left =
     after_scope v w w4 y us entered some (stay2 ∙ stay ∙ after) left ∙ sym (ap (sorts_after v) is)
-
-pub return_arm : (s : Stmt) (e : Option Expr) (r : Option Ty) (loop : Bool) (v : Sorts) (right : Bool) (a b o : Option Fault) → s.kind ≡ stmt.Return e
-    → right ≡ is_returnable r e → a ≡ first_of (unless right rule.ReturnKind (first_bytes 6 s.at)) → b ≡ first_of (option_faults v e) → o ≡ earlier a b → o ≡ first_of (stmt_faults s r loop v)
-return_arm s e r loop v right a b o is right_is p q h =
-    of_two (unless (is_returnable r e) rule.ReturnKind (first_bytes 6 s.at)) (option_faults v e) (stmt_faults s r loop v) a b o (ap (λ k. act_faults k s.at r loop v) is)
-    (p ∙ ap (λ b. first_of (unless b rule.ReturnKind (first_bytes 6 s.at))) right_is) q h
-
-pub declare_arm : (s : Stmt) (x : List ℕ) (t : Ty) (e : Option Expr) (r : Option Ty) (loop : Bool) (v w : Sorts) (new : Bool) (a b o : Option Fault) → s.kind ≡ stmt.Declare x t e
-    → new ≡ is_new_in v x → w ≡ with_entry x sort.Scalar v → a ≡ first_of (unless new rule.Redeclared s.at) → b ≡ first_of (option_faults w e) → o ≡ earlier a b → o ≡ first_of (stmt_faults s r loop v)
-declare_arm s x t e r loop v w new a b o is new_is after p q h =
-    of_two (unless (is_new_in v x) rule.Redeclared s.at) (option_faults (with_entry x sort.Scalar v) e) (stmt_faults s r loop v) a b o (ap (λ k. act_faults k s.at r loop v) is)
-    (p ∙ ap (λ b. first_of (unless b rule.Redeclared s.at)) new_is) (q ∙ ap (λ w. first_of (option_faults w e)) after) h
 
 -- ---- one more statement of a list
 

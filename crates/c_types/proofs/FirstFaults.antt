@@ -50,13 +50,13 @@ earlier-earlier (Some f) (Some g) (Some h) = by (is_before g f) (is_before h g) 
         ap (λ b. if b then Some h else Some f) (before_by_key h f ∙ higher (key f) (key g) (key h) (sym (before_by_key g f) ∙ p) (sym (before_by_key h g) ∙ q))
         ∙ sym (ap (λ b. if b then Some g else Some f) p)
 
-pub first_of-append : (fs gs : List Fault) → first_of (fs ++ gs) ≡ earlier (first_of fs) (first_of gs)
-first_of-append [] gs = refl
-first_of-append (f ∷ fs) gs = ap (earlier (Some f)) (first_of-append fs gs) ∙ sym (earlier-earlier (Some f) (first_of fs) (first_of gs))
+pub first_of_both : (fs gs : List Fault) → first_of (fs ++ gs) ≡ earlier (first_of fs) (first_of gs)
+first_of_both [] gs = refl
+first_of_both (f ∷ fs) gs = ap (earlier (Some f)) (first_of_both fs gs) ∙ sym (earlier-earlier (Some f) (first_of fs) (first_of gs))
 
 -- a node with two parts, and one with three
 pub of_two : (fs gs hs : List Fault) (a b o : Option Fault) → hs ≡ fs ++ gs → a ≡ first_of fs → b ≡ first_of gs → o ≡ earlier a b → o ≡ first_of hs
-of_two fs gs hs a b o is p q r = r ∙ ap (λ x. earlier x b) p ∙ ap (earlier (first_of fs)) q ∙ sym (first_of-append fs gs) ∙ sym (ap first_of is)
+of_two fs gs hs a b o is p q r = r ∙ ap (λ x. earlier x b) p ∙ ap (earlier (first_of fs)) q ∙ sym (first_of_both fs gs) ∙ sym (ap first_of is)
 
 pub of_three : (fs gs hs us : List Fault) (a b d o n : Option Fault) → us ≡ fs ++ (gs ++ hs) → a ≡ first_of fs → b ≡ first_of gs → d ≡ first_of hs → n ≡ earlier b d → o ≡ earlier a n → o ≡ first_of us
 of_three fs gs hs us a b d o n is p q r s t = of_two fs (gs ++ hs) us a n o is p (of_two gs hs (gs ++ hs) b d n refl q r s) t

@@ -3,7 +3,6 @@ use Rattle.std.proofs.Common.{◌≡◌, ℕ, suc, ◌+◌, arith, Bool, true, f
 use denote.Hole.Carrier.{hidden}
 use Rattle.el_base.specs.declared.span.Span.{Span}
 use Rattle.el_base.specs.declared.ty.Ty.{Ty}
-use Rattle.c_ast.specs.declared.tree.Unary.{Unary}
 use Rattle.c_ast.specs.declared.tree.Binary.{Binary}
 use Rattle.c_ast.specs.declared.tree.Expr.{Expr}
 use Rattle.c_ast.specs.declared.tree.ExprKind.TheVariants as expr
@@ -55,14 +54,6 @@ pub in_call : (names : Sorts) (x : List ℕ) (es : List Expr) (at : Span) → ki
 unfolding shape-the_row-Expr-0 hidden-the_row-Expr-0 shape-the_row-Expr-1 hidden-the_row-Expr-1 hidden
 in_call names x es at =
     ap (λ n. call_faults names x n at ++ row_faults names (hidden-the_row-Expr-0 es)) (row_is_long es) ∙ ap (λ fs. call_faults names x (length es) at ++ fs) (row_is_list names es)
-
-pub in_unary : (names : Sorts) (op : Unary) (e : Expr) (at : Span) → kind_faults names (expr.Unary op e) at ≡ expr_faults names e
-unfolding shape-the_row-Expr-0 hidden-the_row-Expr-0 shape-the_row-Expr-1 hidden-the_row-Expr-1 hidden
-in_unary names op e at = refl
-
-pub in_cast : (names : Sorts) (t : Ty) (e : Expr) (at : Span) → kind_faults names (expr.Cast t e) at ≡ expr_faults names e
-unfolding shape-the_row-Expr-0 hidden-the_row-Expr-0 shape-the_row-Expr-1 hidden-the_row-Expr-1 hidden
-in_cast names t e at = refl
 
 pub in_binary : (names : Sorts) (op : Binary) (e g : Expr) (at : Span) → kind_faults names (expr.Binary op e g) at ≡ expr_faults names e ++ expr_faults names g
 unfolding shape-the_row-Expr-0 hidden-the_row-Expr-0 shape-the_row-Expr-1 hidden-the_row-Expr-1 hidden

@@ -22,6 +22,7 @@ pub mod ProgramNames
 pub mod ProgramStatementParts
 pub mod Refusals
 pub mod Renamed
+pub mod TreeRows
 pub mod TypingRows
 pub mod UsedNames
 pub mod Worked

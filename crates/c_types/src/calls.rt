@@ -22,6 +22,7 @@ use crate::faults::unless;
 use c_ast::{Binary, Boxed, Expr, ExprKind, Helper, Name, Program, Span, Stmt, StmtKind, Target};
 
 // The call of a program that stands where none may, and of several the one that goes first.
+#[tactic(auto, using(crate::proofs::FirstFaults::first_of_both))]
 pub(crate) fn first_misplaced(program: &Program) -> Option<Fault>
     ensures { result ≡ first_of (program_places program.now) }
 {
@@ -40,6 +41,7 @@ fn of_helpers(helpers: &[Helper]) -> Option<Fault>
     first
 }
 
+#[tactic(auto, using(crate::proofs::FirstFaults::first_of_both))]
 fn of_helper(helper: &Helper) -> Option<Fault>
     ensures { result ≡ first_of (helper_places helper.now) }
 {
@@ -62,6 +64,7 @@ fn of_stmts(stmts: &[Stmt]) -> Option<Fault>
 }
 
 #[cycle(stmt_places)]
+#[tactic(auto, using(crate::proofs::FirstFaults::first_of_both, crate::proofs::CallLayers::acts_are_list, crate::proofs::CallLayers::held_is_inner), unfolding(crate::proofs::TreeRows::tree_rows))]
 fn of_stmt(stmt: &Stmt) -> Option<Fault>
     ensures { result ≡ first_of (stmt_places stmt.now) }
 {
@@ -156,6 +159,7 @@ fn of_exprs(exprs: &[Expr], may: bool) -> Option<Fault>
 }
 
 #[cycle(expr_places)]
+#[tactic(auto, using(crate::proofs::FirstFaults::first_of_both, crate::proofs::CallLayers::row_is_list), unfolding(crate::proofs::TreeRows::tree_rows))]
 fn of_expr(expr: &Expr, may: bool) -> Option<Fault>
     ensures { result ≡ first_of (expr_places may expr.now) }
 {

@@ -81,6 +81,7 @@ fn of_params(scopes: &mut Scopes<Sort>, params: &[Param]) -> Result<Option<Fault
 }
 
 // A parameter that is new or not, where the arrays up to it have so many elements.
+#[tactic(auto, using(crate::proofs::FirstFaults::first_of_both))]
 fn of_param(param: &Param, new: bool, total: u64) -> Option<Fault>
     ensures { result ≡ first_of (param_faults param.now new total) }
 {
@@ -159,6 +160,7 @@ fn of_stmts(
 }
 
 #[cycle(stmt_faults)]
+#[tactic(auto, using(crate::proofs::FirstFaults::first_of_both))]
 fn of_stmt(
     scopes: &mut Scopes<Sort>,
     stmt: &Stmt,
@@ -335,6 +337,7 @@ fn of_exprs(scopes: &Scopes<Sort>, exprs: &[Expr]) -> Option<Fault>
 }
 
 #[cycle(expr_faults)]
+#[tactic(auto, unfolding(crate::proofs::TreeRows::tree_rows))]
 pub(crate) fn of_expr(scopes: &Scopes<Sort>, expr: &Expr) -> Option<Fault>
     ensures { result ≡ first_of (expr_faults scopes.now expr.now) }
 {

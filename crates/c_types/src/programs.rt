@@ -22,6 +22,7 @@ use el_base::Memory;
 use std::alloc::Global;
 
 // The fault of a program that goes first, if it breaks any rule.
+#[tactic(auto, using(crate::proofs::FirstFaults::first_of_both))]
 pub(crate) fn first_program_fault(alloc: Global, program: &Program) -> Result<Option<Fault>, Memory>
     ensures { IfOk result (λ f. f ≡ first_of (program_faults program.now)) }
 {
@@ -31,6 +32,7 @@ pub(crate) fn first_program_fault(alloc: Global, program: &Program) -> Result<Op
 }
 
 // The same, but for calls where none may stand.
+#[tactic(auto, using(crate::proofs::FirstFaults::first_of_both))]
 fn first_declared(alloc: Global, program: &Program) -> Result<Option<Fault>, Memory>
     ensures { IfOk result (λ f. f ≡ first_of (declared_faults program.now)) }
 {

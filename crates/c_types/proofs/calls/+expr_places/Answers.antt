@@ -3,7 +3,7 @@ use Rattle.c_ast.specs.Programs.{joins_both, where_whole}
 use Rattle.c_types.specs.Places.{first_of}
 use Rattle.c_types.specs.CallPlaces.{call_places, kind_places, expr_places, exprs_places}
 use Rattle.c_types.proofs.FirstFaults.{of_two, of_three, one_more, item_more}
-use Rattle.c_types.proofs.CallLayers.{in_element, in_call, in_unary, in_cast, in_binary, in_choice}
+use Rattle.c_types.proofs.CallLayers.{in_element, in_call, in_binary, in_choice}
 use Rattle.c_types.proofs.calls.+expr_places.Goals as goal
 
 pub of_exprs-loop-expr-preserved : goal.of_exprs-loop-expr-preserved
@@ -21,16 +21,6 @@ of_expr-returns-in-Call t c =
     of_two (call_places c.args.may c.in-Call.name c.args.expr.now.at) (exprs_places c.args.may c.in-Call.args) (expr_places c.args.may c.args.expr.now) _ _ _
     (ap (λ k. kind_places c.args.may k c.args.expr.now.at) c.in-Call.is ∙ in_call c.args.may c.in-Call.name c.in-Call.args c.args.expr.now.at)
     c.of_call-here.ensures (c.of_exprs-in_args.ensures ∙ ap (λ es. first_of (exprs_places c.args.may es)) c.as_slice-in-Call.ensures) c.earlier.ensures
-
-pub of_expr-returns-in-Unary : goal.of_expr-returns-in-Unary
-of_expr-returns-in-Unary t c =
-    c.of_expr.ensures ∙ ap (λ e. first_of (expr_places c.args.may e)) c.get.ensures
-    ∙ sym (ap first_of (ap (λ k. kind_places c.args.may k c.args.expr.now.at) c.in-Unary.is ∙ in_unary c.args.may c.in-Unary.field-0 c.in-Unary.arg c.args.expr.now.at))
-
-pub of_expr-returns-in-Cast : goal.of_expr-returns-in-Cast
-of_expr-returns-in-Cast t c =
-    c.of_expr-in-Cast.ensures ∙ ap (λ e. first_of (expr_places c.args.may e)) c.get-in-Cast.ensures
-    ∙ sym (ap first_of (ap (λ k. kind_places c.args.may k c.args.expr.now.at) c.in-Cast.is ∙ in_cast c.args.may c.in-Cast.field-0 c.in-Cast.arg c.args.expr.now.at))
 
 pub of_expr-returns-in-Binary : goal.of_expr-returns-in-Binary
 of_expr-returns-in-Binary t c =

@@ -1,22 +1,14 @@
-use Rattle.std.proofs.Common.{true, false, ◌++◌, sym, ap, ◌∙◌, refl, take}
+use Rattle.std.proofs.Common.{true, false, ◌++◌, ap, ◌∙◌, refl, take}
 use Rattle.c_types.specs.Places.{first_of}
-use Rattle.c_types.specs.CallPlaces.{expr_places, option_places, target_places, act_places, stmt_places, stmts_places, inner_places}
+use Rattle.c_types.specs.CallPlaces.{expr_places, option_places, act_places, stmt_places, stmts_places, inner_places}
 use Rattle.c_types.proofs.FirstFaults.{of_two, of_three, one_more, item_more}
-use Rattle.c_types.proofs.CallLayers.{in_block, in_if, in_while, in_do, in_for}
+use Rattle.c_types.proofs.CallLayers.{in_if, in_while, in_for}
 use Rattle.c_types.proofs.calls.+stmt_places.Goals as goal
 
 pub of_stmts-loop-stmt-preserved : goal.of_stmts-loop-stmt-preserved
 of_stmts-loop-stmt-preserved t c =
     one_more stmts_places stmt_places refl (λ s ss. refl) (take c.loop-stmt.stmt-index c.args.stmts.now) _ c.stmt-item.result c.loop-stmt.first c.of_stmt.result _
     (item_more c.args.stmts.now c.loop-stmt.stmt-index c.stmt-item.result c.loop-stmt-test.true c.stmt-item.is) c.loop-stmt.invariant c.of_stmt.ensures c.earlier-first.ensures
-
-pub of_stmt-returns-in-Block : goal.of_stmt-returns-in-Block
-of_stmt-returns-in-Block t c = c.of_stmts.ensures ∙ ap (λ ss. first_of (stmts_places ss)) c.as_slice.ensures ∙ sym (ap first_of (ap act_places c.in-Block.is ∙ in_block c.in-Block.body))
-
-pub of_stmt-returns-in-Assign : goal.of_stmt-returns-in-Assign
-of_stmt-returns-in-Assign t c =
-    of_two (target_places c.in-Assign.target) (expr_places true c.in-Assign.value) (stmt_places c.args.stmt.now) _ _ _ (ap act_places c.in-Assign.is)
-    c.of_target-in_target.ensures c.of_boxed-in_value.ensures c.earlier.ensures
 
 pub of_stmt-returns-in-If : goal.of_stmt-returns-in-If
 of_stmt-returns-in-If t c =
@@ -28,11 +20,6 @@ pub of_stmt-returns-in-While : goal.of_stmt-returns-in-While
 of_stmt-returns-in-While t c =
     of_two (expr_places false c.in-While.cond) (stmt_places c.in-While.body) (stmt_places c.args.stmt.now) _ _ _ (ap act_places c.in-While.is ∙ in_while c.in-While.cond c.in-While.body)
     c.of_boxed-in_cond-in-While.ensures (c.of_stmt-in_body.ensures ∙ ap (λ s. first_of (stmt_places s)) c.get-in-While.ensures) c.earlier-in-While.ensures
-
-pub of_stmt-returns-in-DoWhile : goal.of_stmt-returns-in-DoWhile
-of_stmt-returns-in-DoWhile t c =
-    of_two (stmt_places c.in-DoWhile.body) (expr_places false c.in-DoWhile.cond) (stmt_places c.args.stmt.now) _ _ _ (ap act_places c.in-DoWhile.is ∙ in_do c.in-DoWhile.body c.in-DoWhile.cond)
-    (c.of_stmt-in_body-in-DoWhile.ensures ∙ ap (λ s. first_of (stmt_places s)) c.get-in-DoWhile.ensures) c.of_boxed-in_cond-in-DoWhile.ensures c.earlier-in-DoWhile.ensures
 
 pub of_stmt-returns-in-For : goal.of_stmt-returns-in-For
 of_stmt-returns-in-For t c =

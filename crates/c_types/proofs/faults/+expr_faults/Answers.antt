@@ -1,8 +1,8 @@
-use Rattle.std.proofs.Common.{length, refl, sym, ap, ◌∙◌, take}
+use Rattle.std.proofs.Common.{length, refl, ap, ◌∙◌, take}
 use Rattle.c_types.specs.Places.{first_of}
 use Rattle.c_types.specs.Faults.{use_faults, call_faults, kind_faults, expr_faults, exprs_faults}
 use Rattle.c_types.proofs.FirstFaults.{of_two, of_three, one_more, item_more}
-use Rattle.c_types.proofs.Layers.{in_element, in_call, in_unary, in_cast, in_binary, in_choice}
+use Rattle.c_types.proofs.Layers.{in_element, in_call, in_binary, in_choice}
 use Rattle.c_types.proofs.faults.+expr_faults.Goals as goal
 
 pub of_exprs-loop-expr-preserved : goal.of_exprs-loop-expr-preserved
@@ -42,13 +42,3 @@ of_expr-returns-in-Choose t c =
     (c.of_expr-in_then.ensures ∙ ap (λ e. first_of (expr_faults c.args.scopes.now e)) c.get-in-Choose-2.ensures)
     (c.of_expr-in_other.ensures ∙ ap (λ e. first_of (expr_faults c.args.scopes.now e)) c.get-in-Choose-3.ensures)
     c.earlier-sides.ensures c.earlier-in-Choose.ensures
-
-pub of_expr-returns-in-Unary : goal.of_expr-returns-in-Unary
-of_expr-returns-in-Unary t c =
-    c.of_expr.ensures ∙ ap (λ e. first_of (expr_faults c.args.scopes.now e)) c.get.ensures
-    ∙ sym (ap first_of (ap (λ k. kind_faults c.args.scopes.now k c.args.expr.now.at) c.in-Unary.is ∙ in_unary c.args.scopes.now c.in-Unary.field-0 c.in-Unary.arg c.args.expr.now.at))
-
-pub of_expr-returns-in-Cast : goal.of_expr-returns-in-Cast
-of_expr-returns-in-Cast t c =
-    c.of_expr-in-Cast.ensures ∙ ap (λ e. first_of (expr_faults c.args.scopes.now e)) c.get-in-Cast.ensures
-    ∙ sym (ap first_of (ap (λ k. kind_faults c.args.scopes.now k c.args.expr.now.at) c.in-Cast.is ∙ in_cast c.args.scopes.now c.in-Cast.field-0 c.in-Cast.arg c.args.expr.now.at))

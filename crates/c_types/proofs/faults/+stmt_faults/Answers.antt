@@ -1,9 +1,7 @@
 use Rattle.std.proofs.Common.{◌≡◌, ◌+◌, [], ◌∷◌, ◌++◌, take, sym, ap, ◌∙◌}
-use Rattle.c_types.specs.declared.fault.Rule.TheVariants as rule
-use Rattle.c_types.specs.Places.{first_of}
-use Rattle.c_types.specs.Faults.{unless, sorts_after}
+use Rattle.c_types.specs.Faults.{sorts_after}
 use Rattle.c_types.proofs.FirstFaults.{item_more}
-use Rattle.c_types.proofs.Arms.{after_inner, block_arm, block_scopes, declare_arm, assign_arm, step_arm, if_arm, while_arm, do_arm, for_arm, for_scopes, return_arm, one_more_stmt, one_more_after}
+use Rattle.c_types.proofs.Arms.{after_inner, block_arm, block_scopes, if_arm, while_arm, do_arm, for_arm, for_scopes, one_more_stmt, one_more_after}
 use Rattle.c_types.proofs.faults.+stmt_faults.Goals as goal
 
 pub of_inner-returns-clause-scopes : goal.of_inner-returns-clause-scopes
@@ -16,25 +14,6 @@ of_stmt-returns-in_ok-fault-in-Block-clause-fault t c =
 pub of_stmt-returns-in_ok-fault-in-Block-clause-scopes : goal.of_stmt-returns-in_ok-fault-in-Block-clause-scopes
 of_stmt-returns-in_ok-fault-in-Block-clause-scopes t c =
     block_scopes c.args.stmt.now c.in-Block.body c.as_slice.result.now _ _ _ _ c.in-Block.is c.in_ok-enter-in-Block.ensures.entered c.enter.ensures.some c.in_ok-fault-in-Block.ensures.scopes c.leave.ensures
-
-pub of_stmt-returns-in-Assign-clause-fault : goal.of_stmt-returns-in-Assign-clause-fault
-of_stmt-returns-in-Assign-clause-fault t c = assign_arm _ _ _ _ _ _ _ _ _ _ c.in-Assign.is c.of_target-in_target.ensures c.of_boxed-in_value.ensures c.earlier-in-Assign.ensures
-
-pub of_stmt-returns-in_ok-new-in-Declare-clause-fault : goal.of_stmt-returns-in_ok-new-in-Declare-clause-fault
-of_stmt-returns-in_ok-new-in-Declare-clause-fault t c =
-    declare_arm c.args.stmt.now _ _ _ c.args.returned c.args.in_loop c.args.scopes.now _ _ _ _ _ c.in-Declare.is c.in_ok-new-in-Declare.ensures.is c.in_ok-new-in-Declare.ensures.scopes c.unless-again.ensures
-    c.of_option-in_init.ensures c.earlier.ensures
-
-pub of_stmt-returns-in_ok-new-in-Declare-clause-scopes : goal.of_stmt-returns-in_ok-new-in-Declare-clause-scopes
-of_stmt-returns-in_ok-new-in-Declare-clause-scopes t c = c.in_ok-new-in-Declare.ensures.scopes ∙ sym (ap (sorts_after c.args.scopes.now) c.in-Declare.is)
-
-pub of_stmt-returns-in-Step-clause-fault : goal.of_stmt-returns-in-Step-clause-fault
-of_stmt-returns-in-Step-clause-fault t c = step_arm c.args.stmt.now _ _ c.args.returned c.args.in_loop c.args.scopes.now _ c.in-Step.is c.of_target.ensures
-
-pub of_stmt-returns-in-Return-clause-fault : goal.of_stmt-returns-in-Return-clause-fault
-of_stmt-returns-in-Return-clause-fault t c =
-    return_arm c.args.stmt.now _ c.args.returned c.args.in_loop c.args.scopes.now c.is_returnable.result _ _ _ c.in-Return.is c.is_returnable.ensures
-    (c.unless-kind.ensures ∙ ap (λ s. first_of (unless c.is_returnable.result rule.ReturnKind s)) c.first_bytes-word.ensures) c.of_option-in_value.ensures c.earlier-in-Return.ensures
 
 pub of_stmt-returns-in_ok-in_other-in-If-clause-scopes : goal.of_stmt-returns-in_ok-in_other-in-If-clause-scopes
 of_stmt-returns-in_ok-in_other-in-If-clause-scopes t c = c.in_ok-in_other-in-If.ensures.scopes ∙ c.in_ok-in_then-in-If.ensures.scopes ∙ sym (ap (sorts_after c.args.scopes.now) c.in-If.is)
