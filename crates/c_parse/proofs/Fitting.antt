@@ -8,19 +8,15 @@ use Rattle.c_ast.specs.declared.token.Token.{Token}
 use Rattle.c_ast.specs.declared.mark.Mark.{Mark}
 use Rattle.c_ast.specs.declared.mark.Mark.TheVariants as mark
 use Rattle.c_ast.specs.declared.key.Key.TheVariants as key
-use Rattle.c_ast.specs.declared.tree.Unary.{Unary}
-use Rattle.c_ast.specs.declared.tree.Binary.{Binary}
 use Rattle.c_ast.specs.declared.tree.Target.{Target}
 use Rattle.c_ast.specs.declared.tree.Expr.{Expr}
-use Rattle.c_ast.specs.declared.tree.ExprKind.TheVariants as expr
 use Rattle.c_ast.specs.declared.tree.ExprKind.TheBlock.{shape-the_row-Expr-0, hidden-the_row-Expr-0, shape-the_row-Expr-1, hidden-the_row-Expr-1}
 use Rattle.c_ast.specs.declared.tree.Stmt.{Stmt}
-use Rattle.c_ast.specs.declared.tree.StmtKind.TheVariants as stmt
 use Rattle.c_ast.specs.declared.tree.StmtKind.TheBlock.{shape-the_row-Stmt-0, hidden-the_row-Stmt-0, shape-the_row-Stmt-1, hidden-the_row-Stmt-1, back-StmtKind-If-2}
 use Rattle.c_ast.specs.declared.tree.Tree.{Tree}
 use Rattle.c_ast.specs.Derives.{marked, keyed, named, between, if_tokens, do_tokens, DerivesExpr, DerivesIndices, DerivesArgs, DerivesMoreArgs, DerivesTarget, DerivesSimple, DerivesOption, DerivesStep, DerivesDeclared, DerivesDeclarators, DerivesDeclaration, DerivesFirst, DerivesStmt, DerivesItems, Derives}
 use Rattle.c_parse.proofs.EachToken.{Each, each_of, each_front, each_back, each_inside}
-use Rattle.c_ast.specs.Constants.{NumberFits, NumbersFitKind, NumbersFitRow, NumbersFitExpr, NumbersFitOption, NumbersFitTarget, NumbersFitStmt, NumbersFitStmts, NumbersFitHeld, NumbersFit}
+use Rattle.c_ast.specs.Constants.{NumberFits, NumbersFitRow, NumbersFitExpr, NumbersFitOption, NumbersFitTarget, NumbersFitStmt, NumbersFitStmts, NumbersFitHeld, NumbersFit}
 
 -- ---- tokens
 
@@ -43,43 +39,25 @@ unfolding shape-the_row-Expr-0 hidden-the_row-Expr-0 shape-the_row-Expr-1 hidden
 row_fits [] h = tt
 row_fits (e ∷ es) h = (All-head NumbersFitExpr e es h, row_fits es (All-tail NumbersFitExpr e es h))
 
-element_fits : (x : List ℕ) (es : List Expr) → All NumbersFitExpr es → NumbersFitKind (expr.Element x es)
-element_fits x es h = row_fits es h
-
-call_fits : (x : List ℕ) (es : List Expr) → All NumbersFitExpr es → NumbersFitKind (expr.Call x es)
-call_fits x es h = row_fits es h
-
-unary_fits : (op : Unary) (a : Expr) → NumbersFitExpr a → NumbersFitKind (expr.Unary op a)
-unfolding shape-the_row-Expr-0 hidden-the_row-Expr-0 shape-the_row-Expr-1 hidden-the_row-Expr-1 hidden
-unary_fits op a h = h
-
-cast_fits : (t : Ty) (a : Expr) → NumbersFitExpr a → NumbersFitKind (expr.Cast t a)
-unfolding shape-the_row-Expr-0 hidden-the_row-Expr-0 shape-the_row-Expr-1 hidden-the_row-Expr-1 hidden
-cast_fits t a h = h
-
-binary_fits : (op : Binary) (a b : Expr) → NumbersFitExpr a → NumbersFitExpr b → NumbersFitKind (expr.Binary op a b)
-unfolding shape-the_row-Expr-0 hidden-the_row-Expr-0 shape-the_row-Expr-1 hidden-the_row-Expr-1 hidden
-binary_fits op a b p q = (p, q)
-
-choice_fits : (a b d : Expr) → NumbersFitExpr a → NumbersFitExpr b → NumbersFitExpr d → NumbersFitKind (expr.Choose a b d)
-unfolding shape-the_row-Expr-0 hidden-the_row-Expr-0 shape-the_row-Expr-1 hidden-the_row-Expr-1 hidden
-choice_fits a b d p q r = (p, q, r)
-
 mutual
+  unfolding shape-the_row-Expr-0 hidden-the_row-Expr-0 shape-the_row-Expr-1 hidden-the_row-Expr-1 hidden
+
   pub expr_fits : (l : ℕ) (ts : List Token) (e : Expr) → DerivesExpr l ts e → AreFitting ts → NumbersFitExpr e
   expr_fits l ts e (DerivesExpr.tighter k us a below d) h = expr_fits (suc k) us a d h
   expr_fits l ts e (DerivesExpr.choice us ws xs q c a b x cond chosen other) h =
-      let behind = back us (marked mark.Question q ∷ (ws ++ marked mark.Colon c ∷ xs)) h in
-      choice_fits a b x (expr_fits 1 us a cond (front us (marked mark.Question q ∷ (ws ++ marked mark.Colon c ∷ xs)) h))
-      (expr_fits 0 ws b chosen (front ws (marked mark.Colon c ∷ xs) behind.1)) (expr_fits 0 xs x other (back ws (marked mark.Colon c ∷ xs) behind.1).1)
+      let behind = back us (marked mark.Question q ∷ (ws ++ marked mark.Colon c ∷ xs)) h in (
+        expr_fits 1 us a cond (front us (marked mark.Question q ∷ (ws ++ marked mark.Colon c ∷ xs)) h),
+        expr_fits 0 ws b chosen (front ws (marked mark.Colon c ∷ xs) behind.1),
+        expr_fits 0 xs x other (back ws (marked mark.Colon c ∷ xs) behind.1).1,
+      )
   expr_fits l ts e (DerivesExpr.joined k m op us ws s a b operator left right) h =
-      binary_fits op a b (expr_fits k us a left (front us (marked m s ∷ ws) h)) (expr_fits (suc k) ws b right (back us (marked m s ∷ ws) h).1)
-  expr_fits l ts e (DerivesExpr.prefixed m op us s a sign d) h = unary_fits op a (expr_fits 11 us a d h.1)
-  expr_fits l ts e (DerivesExpr.cast us ws s z t a type d) h = cast_fits t a (expr_fits 11 ws a d (back (between mark.Open s us mark.Close z) ws h))
+      (expr_fits k us a left (front us (marked m s ∷ ws) h), expr_fits (suc k) ws b right (back us (marked m s ∷ ws) h).1)
+  expr_fits l ts e (DerivesExpr.prefixed m op us s a sign d) h = expr_fits 11 us a d h.1
+  expr_fits l ts e (DerivesExpr.cast us ws s z t a type d) h = expr_fits 11 ws a d (back (between mark.Open s us mark.Close z) ws h)
   expr_fits l ts e (DerivesExpr.number n t s) h = h.0
   expr_fits l ts e (DerivesExpr.name x s) h = tt
-  expr_fits l ts e (DerivesExpr.element x s us a es d) h = element_fits x (a ∷ es) (indices_fit us (a ∷ es) d h.1)
-  expr_fits l ts e (DerivesExpr.call x s a z us es d) h = call_fits x es (args_fit us es d (inside mark.Open mark.Close a z us h.1))
+  expr_fits l ts e (DerivesExpr.element x s us a es d) h = row_fits (a ∷ es) (indices_fit us (a ∷ es) d h.1)
+  expr_fits l ts e (DerivesExpr.call x s a z us es d) h = row_fits es (args_fit us es d (inside mark.Open mark.Close a z us h.1))
   expr_fits l ts e (DerivesExpr.parens us s z a d) h = expr_fits 0 us a d (inside mark.Open mark.Close s z us h)
 
   indices_fit : (ts : List Token) (es : List Expr) → DerivesIndices ts es → AreFitting ts → All NumbersFitExpr es
@@ -154,50 +132,41 @@ unfolding shape-the_row-Stmt-0 hidden-the_row-Stmt-0 shape-the_row-Stmt-1 hidden
 held_fits None h = tt
 held_fits (Some s) h = h
 
-block_fits : (ss : List Stmt) → All Fits ss → NumbersFitStmt (stmt.Block ss)
-block_fits ss h = stmts_fit ss h
-
-if_fits : (c : Expr) (b : Stmt) (o : Option Stmt) → NumbersFitExpr c → Fits b → FitsIfAny o → NumbersFitStmt (stmt.If c b o)
-unfolding shape-the_row-Stmt-0 hidden-the_row-Stmt-0 shape-the_row-Stmt-1 hidden-the_row-Stmt-1 hidden
-if_fits c b o p q r = (p, q, held_fits o r)
-
-while_fits : (c : Expr) (b : Stmt) → NumbersFitExpr c → Fits b → NumbersFitStmt (stmt.While c b)
-unfolding shape-the_row-Stmt-0 hidden-the_row-Stmt-0 shape-the_row-Stmt-1 hidden-the_row-Stmt-1 hidden
-while_fits c b p q = (p, q)
-
-do_fits : (b : Stmt) (c : Expr) → Fits b → NumbersFitExpr c → NumbersFitStmt (stmt.DoWhile b c)
-unfolding shape-the_row-Stmt-0 hidden-the_row-Stmt-0 shape-the_row-Stmt-1 hidden-the_row-Stmt-1 hidden
-do_fits b c p q = (p, q)
-
-for_fits : (ss : List Stmt) (c : Option Expr) (o : Option Stmt) (b : Stmt) → All Fits ss → NumbersFitOption c → FitsIfAny o → Fits b → NumbersFitStmt (stmt.For ss c o b)
-unfolding shape-the_row-Stmt-0 hidden-the_row-Stmt-0 shape-the_row-Stmt-1 hidden-the_row-Stmt-1 hidden
-for_fits ss c o b p q r s = (stmts_fit ss p, q, held_fits o r, s)
-
 mutual
+  unfolding shape-the_row-Stmt-0 hidden-the_row-Stmt-0 shape-the_row-Stmt-1 hidden-the_row-Stmt-1 hidden
+
   stmt_fits : (f : Bool) (ts : List Token) (s : Stmt) → DerivesStmt f ts s → AreFitting ts → Fits s
-  stmt_fits f ts s (DerivesStmt.block us a z ss d) h = block_fits ss (items_fit us ss d (inside mark.OpenBrace mark.CloseBrace a z us h))
+  stmt_fits f ts s (DerivesStmt.block us a z ss d) h = stmts_fit ss (items_fit us ss d (inside mark.OpenBrace mark.CloseBrace a z us h))
   stmt_fits f ts s (DerivesStmt.empty a) h = tt
   stmt_fits f ts s (DerivesStmt.simple us z b d) h = simple_fits us b d (front us (marked mark.Semicolon z ∷ []) h)
-  stmt_fits f ts s (DerivesStmt.without_else g i a z us ws c b cond body) h =
-      if_fits c b None (expr_fits 0 us c cond (inside mark.Open mark.Close a z us (front (between mark.Open a us mark.Close z) ws h.1)))
-      (stmt_fits g ws b body (back (between mark.Open a us mark.Close z) ws h.1)) tt
+  stmt_fits f ts s (DerivesStmt.without_else g i a z us ws c b cond body) h = (
+    expr_fits 0 us c cond (inside mark.Open mark.Close a z us (front (between mark.Open a us mark.Close z) ws h.1)),
+    stmt_fits g ws b body (back (between mark.Open a us mark.Close z) ws h.1),
+    tt,
+  )
   stmt_fits f ts s (DerivesStmt.with_else g i a z e us ws xs c b d cond body other) h =
-      let start = front (if_tokens i a us z ws) (keyed key.Else e ∷ xs) h in
-      if_fits c b (Some d) (expr_fits 0 us c cond (inside mark.Open mark.Close a z us (front (between mark.Open a us mark.Close z) ws start.1)))
-      (stmt_fits false ws b body (back (between mark.Open a us mark.Close z) ws start.1)) (stmt_fits g xs d other (back (if_tokens i a us z ws) (keyed key.Else e ∷ xs) h).1)
-  stmt_fits f ts s (DerivesStmt.while_loop g w a z us ws c b cond body) h =
-      while_fits c b (expr_fits 0 us c cond (inside mark.Open mark.Close a z us (front (between mark.Open a us mark.Close z) ws h.1)))
-      (stmt_fits g ws b body (back (between mark.Open a us mark.Close z) ws h.1))
+      let start = front (if_tokens i a us z ws) (keyed key.Else e ∷ xs) h in (
+        expr_fits 0 us c cond (inside mark.Open mark.Close a z us (front (between mark.Open a us mark.Close z) ws start.1)),
+        stmt_fits false ws b body (back (between mark.Open a us mark.Close z) ws start.1),
+        stmt_fits g xs d other (back (if_tokens i a us z ws) (keyed key.Else e ∷ xs) h).1,
+      )
+  stmt_fits f ts s (DerivesStmt.while_loop g w a z us ws c b cond body) h = (
+    expr_fits 0 us c cond (inside mark.Open mark.Close a z us (front (between mark.Open a us mark.Close z) ws h.1)),
+    stmt_fits g ws b body (back (between mark.Open a us mark.Close z) ws h.1),
+  )
   stmt_fits f ts s (DerivesStmt.do_loop g i w a z y us ws c b body cond) h =
-      let start = front (do_tokens i ws w a us z) (marked mark.Semicolon y ∷ []) h in
-      do_fits b c (stmt_fits g ws b body (front ws (keyed key.While w ∷ between mark.Open a us mark.Close z) start.1))
-      (expr_fits 0 us c cond (inside mark.Open mark.Close a z us (back ws (keyed key.While w ∷ between mark.Open a us mark.Close z) start.1).1))
+      let start = front (do_tokens i ws w a us z) (marked mark.Semicolon y ∷ []) h in (
+        stmt_fits g ws b body (front ws (keyed key.While w ∷ between mark.Open a us mark.Close z) start.1),
+        expr_fits 0 us c cond (inside mark.Open mark.Close a z us (back ws (keyed key.While w ∷ between mark.Open a us mark.Close z) start.1).1),
+      )
   stmt_fits f ts s (DerivesStmt.for_loop g i a b z us ws xs ys first c step body one two three four) h =
       let behind = back us (ws ++ marked mark.Semicolon b ∷ (xs ++ marked mark.Close z ∷ ys)) h.1.1 in
-      let last = back ws (marked mark.Semicolon b ∷ (xs ++ marked mark.Close z ∷ ys)) behind in
-      for_fits first c step body (first_fits us first one (front us (ws ++ marked mark.Semicolon b ∷ (xs ++ marked mark.Close z ∷ ys)) h.1.1))
-      (option_fits ws c two (front ws (marked mark.Semicolon b ∷ (xs ++ marked mark.Close z ∷ ys)) behind))
-      (step_fits xs step three (front xs (marked mark.Close z ∷ ys) last.1)) (stmt_fits g ys body four (back xs (marked mark.Close z ∷ ys) last.1).1)
+      let last = back ws (marked mark.Semicolon b ∷ (xs ++ marked mark.Close z ∷ ys)) behind in (
+        stmts_fit first (first_fits us first one (front us (ws ++ marked mark.Semicolon b ∷ (xs ++ marked mark.Close z ∷ ys)) h.1.1)),
+        option_fits ws c two (front ws (marked mark.Semicolon b ∷ (xs ++ marked mark.Close z ∷ ys)) behind),
+        held_fits step (step_fits xs step three (front xs (marked mark.Close z ∷ ys) last.1)),
+        stmt_fits g ys body four (back xs (marked mark.Close z ∷ ys) last.1).1,
+      )
   stmt_fits f ts s (DerivesStmt.leaving a z) h = tt
   stmt_fits f ts s (DerivesStmt.continuing a z) h = tt
   stmt_fits f ts s (DerivesStmt.returning a z us e d) h = option_fits us e d (front us (marked mark.Semicolon z ∷ []) h.1)

@@ -6,9 +6,7 @@ use Rattle.el_base.specs.declared.ty.Ty.{Ty}
 use Rattle.c_ast.specs.declared.token.Token.{Token}
 use Rattle.c_ast.specs.declared.key.Key.TheVariants as key
 use Rattle.c_ast.specs.declared.mark.Mark.TheVariants as mark
-use Rattle.c_ast.specs.declared.tree.Expr.{Expr}
 use Rattle.c_ast.specs.declared.tree.Stmt.{Stmt}
-use Rattle.c_ast.specs.declared.tree.StmtKind.TheVariants as stmt
 use Rattle.c_ast.specs.declared.tree.StmtKind.TheBlock.{shape-the_row-Stmt-0, hidden-the_row-Stmt-0, shape-the_row-Stmt-1, hidden-the_row-Stmt-1, back-StmtKind-If-2}
 use Rattle.c_ast.specs.Derives.{marked, keyed, between, if_tokens, do_tokens, DerivesSimple, DerivesStep, DerivesDeclared, DerivesDeclarators, DerivesDeclaration, DerivesFirst, DerivesStmt, DerivesItems}
 use Rattle.c_ast.specs.OfTexts.{ReturnsWhere, RowReturnsWhere, HeldReturnsWhere}
@@ -48,25 +46,6 @@ unfolding shape-the_row-Stmt-0 hidden-the_row-Stmt-0 shape-the_row-Stmt-1 hidden
 held_stays None h = tt
 held_stays (Some s) h = h
 
-block_stays : (ss : List Stmt) → All Stays ss → ReturnsWhere false (stmt.Block ss)
-block_stays ss h = row_stays ss h
-
-if_stays : (c : Expr) (b : Stmt) (o : Option Stmt) → Stays b → StaysIfAny o → ReturnsWhere false (stmt.If c b o)
-unfolding shape-the_row-Stmt-0 hidden-the_row-Stmt-0 shape-the_row-Stmt-1 hidden-the_row-Stmt-1 hidden
-if_stays c b o p q = (p, held_stays o q)
-
-while_stays : (c : Expr) (b : Stmt) → Stays b → ReturnsWhere false (stmt.While c b)
-unfolding shape-the_row-Stmt-0 hidden-the_row-Stmt-0 shape-the_row-Stmt-1 hidden-the_row-Stmt-1 hidden
-while_stays c b p = p
-
-do_stays : (b : Stmt) (c : Expr) → Stays b → ReturnsWhere false (stmt.DoWhile b c)
-unfolding shape-the_row-Stmt-0 hidden-the_row-Stmt-0 shape-the_row-Stmt-1 hidden-the_row-Stmt-1 hidden
-do_stays b c p = p
-
-for_stays : (ss : List Stmt) (c : Option Expr) (o : Option Stmt) (b : Stmt) → All Stays ss → StaysIfAny o → Stays b → ReturnsWhere false (stmt.For ss c o b)
-unfolding shape-the_row-Stmt-0 hidden-the_row-Stmt-0 shape-the_row-Stmt-1 hidden-the_row-Stmt-1 hidden
-for_stays ss c o b p q r = (row_stays ss p, held_stays o q, r)
-
 -- ---- statements that never return
 
 simple_stays : (ts : List Token) (s : Stmt) → DerivesSimple ts s → Stays s
@@ -97,22 +76,24 @@ first_stays ts ss (DerivesFirst.declares us ds d) = declaration_stays us ds d
 -- ---- statements
 
 mutual
+  unfolding shape-the_row-Stmt-0 hidden-the_row-Stmt-0 shape-the_row-Stmt-1 hidden-the_row-Stmt-1 hidden
+
   stmt_stays : (f : Bool) (ts : List Token) (s : Stmt) → DerivesStmt f ts s → AreFree ts → Stays s
-  stmt_stays f ts s (DerivesStmt.block us a z ss d) h = block_stays ss (items_stay us ss d (front us (marked mark.CloseBrace z ∷ []) h.1))
+  stmt_stays f ts s (DerivesStmt.block us a z ss d) h = row_stays ss (items_stay us ss d (front us (marked mark.CloseBrace z ∷ []) h.1))
   stmt_stays f ts s (DerivesStmt.empty a) h = tt
   stmt_stays f ts s (DerivesStmt.simple us z b d) h = simple_stays us b d
-  stmt_stays f ts s (DerivesStmt.without_else g i a z us ws c b cond body) h = if_stays c b None (stmt_stays g ws b body (back (between mark.Open a us mark.Close z) ws h.1)) tt
+  stmt_stays f ts s (DerivesStmt.without_else g i a z us ws c b cond body) h = (stmt_stays g ws b body (back (between mark.Open a us mark.Close z) ws h.1), tt)
   stmt_stays f ts s (DerivesStmt.with_else g i a z e us ws xs c b d cond body other) h =
       let start = front (if_tokens i a us z ws) (keyed key.Else e ∷ xs) h in
-      if_stays c b (Some d) (stmt_stays false ws b body (back (between mark.Open a us mark.Close z) ws start.1)) (stmt_stays g xs d other (back (if_tokens i a us z ws) (keyed key.Else e ∷ xs) h).1)
-  stmt_stays f ts s (DerivesStmt.while_loop g w a z us ws c b cond body) h = while_stays c b (stmt_stays g ws b body (back (between mark.Open a us mark.Close z) ws h.1))
+      (stmt_stays false ws b body (back (between mark.Open a us mark.Close z) ws start.1), stmt_stays g xs d other (back (if_tokens i a us z ws) (keyed key.Else e ∷ xs) h).1)
+  stmt_stays f ts s (DerivesStmt.while_loop g w a z us ws c b cond body) h = stmt_stays g ws b body (back (between mark.Open a us mark.Close z) ws h.1)
   stmt_stays f ts s (DerivesStmt.do_loop g i w a z y us ws c b body cond) h =
       let start = front (do_tokens i ws w a us z) (marked mark.Semicolon y ∷ []) h in
-      do_stays b c (stmt_stays g ws b body (front ws (keyed key.While w ∷ between mark.Open a us mark.Close z) start.1))
+      stmt_stays g ws b body (front ws (keyed key.While w ∷ between mark.Open a us mark.Close z) start.1)
   stmt_stays f ts s (DerivesStmt.for_loop g i a b z us ws xs ys first c step body one two three four) h =
       let behind = back us (ws ++ marked mark.Semicolon b ∷ (xs ++ marked mark.Close z ∷ ys)) h.1.1 in
       let last = back ws (marked mark.Semicolon b ∷ (xs ++ marked mark.Close z ∷ ys)) behind in
-      for_stays first c step body (first_stays us first one) (step_stays xs step three) (stmt_stays g ys body four (back xs (marked mark.Close z ∷ ys) last.1).1)
+      (row_stays first (first_stays us first one), held_stays step (step_stays xs step three), stmt_stays g ys body four (back xs (marked mark.Close z ∷ ys) last.1).1)
   stmt_stays f ts s (DerivesStmt.leaving a z) h = tt
   stmt_stays f ts s (DerivesStmt.continuing a z) h = tt
   stmt_stays f ts s (DerivesStmt.returning a z us e d) h = absurd (h.0 refl)

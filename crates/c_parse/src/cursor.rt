@@ -223,6 +223,7 @@ impl<'a> Cursor<'a> {
     }
 
     /// Goes past a binary operator of a level or a tighter one, if one comes next; also its level.
+    #[tactic(auto, using(crate::proofs::Rules::operates, crate::proofs::Climbing::known_level))]
     pub fn operator(&mut self, level: u32) -> Option<(Binary, u32)>
         ensures some { IfSome result (λ o. Operates o.0 o.1 self.old.rest.now self.new.rest.now) }
         ensures tight { IfSome result (λ o. level ≤ o.1) }
@@ -259,6 +260,7 @@ impl<'a> Cursor<'a> {
     }
 
     /// Goes past the mark of an assignment, if one comes next.
+    #[tactic(auto, using(crate::proofs::Rules::assigns))]
     pub fn assigning(&mut self) -> Option<Option<Binary>>
         ensures some { IfSome result (λ op. Assigns op self.old.rest.now self.new.rest.now) }
         ensures none { IfNone result (self.new.rest.now ≡ self.old.rest.now) }

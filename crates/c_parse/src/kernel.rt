@@ -52,6 +52,7 @@ pub fn tokens_have_one_tree()
 {}
 
 /// The tree of tokens whose numbers lie in the ranges of their types has numbers in the ranges of their types.
+#[tactic(auto, using(crate::proofs::Fitting::tree_fits))]
 pub fn trees_have_the_numbers_of_their_tokens()
     ensures { (tokens : List Token) (tree : Tree) → Derives tokens tree → All NumberFits tokens
         → NumbersFit tree }

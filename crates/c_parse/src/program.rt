@@ -65,6 +65,7 @@ pub fn tokens_have_one_program()
 
 /// The program of tokens whose numbers lie in the ranges of their types is a program of a text: its numbers lie in
 /// the ranges of their types, and its helpers have scalars alone and return nothing before their values.
+#[tactic(auto, using(crate::proofs::ProgramFitting::program_fits))]
 pub fn programs_of_tokens_are_of_texts()
     ensures { (tokens : List Token) (program : Program) → DerivesProgram tokens program
         → All NumberFits tokens → IsProgramOfText program }
